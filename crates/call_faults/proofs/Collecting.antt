@@ -6,7 +6,8 @@ use Rattle.std.proofs.Common.{append_assoc, arith, get_or, Option, ap, ◌∙◌
 use Rattle.std.proofs.Common.{zero}
 use Rattle.std.proofs.lemmas.Bool.{or_left, or_right}
 use Rattle.std.specs.List.{cons_option, filter_map, list_any}
-use Rattle.std.proofs.lemmas.List.{map-append, take_min, take_more}
+use Rattle.std.proofs.lemmas.List.{map-append, take_more}
+use Rattle.std.proofs.lemmas.Option.{slice_get-map}
 use Rattle.std.proofs.lemmas.List.Elements.{filter_map-append}
 use Rattle.std.proofs.lemmas.List.Folds.{list_any-append}
 
@@ -70,4 +71,4 @@ map-take f zero xs = refl
 map-take f (suc n) [] = refl
 map-take f (suc n) (x ∷ xs) = ap (λ ys. f x ∷ ys) (map-take f n xs)
 
-pub ruleset fronts = (map-take, take_min)
+pub ruleset at_index = (slice_get-map)

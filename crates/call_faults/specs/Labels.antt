@@ -23,12 +23,13 @@ use Rattle.call_faults.specs.declared.spots.Spot.TheVariants.{Name as NameOf}
 use Rattle.call_faults.specs.declared.spots.Spot.TheVariants.{Value, ValueUpToNext, Literal}
 
 -- What is known of a call where a fault of it is shown: the arguments that are given, and the
--- indices of those that count; the pieces; the places of their placeholders; how many arguments
--- these take one after the other; and the faults.
+-- indices of those that count; the pieces, and of each how many placeholders stand before it; the
+-- places of these; how many arguments they take one after the other; and the faults.
 pub record Call : Type 0 where
   pub given : List Given
   pub kept : List ℕ
   pub pieces : List (Piece Place)
+  pub counts : List ℕ
   pub places : List Place
   pub taken : ℕ
   pub faults : List CallFault
@@ -196,7 +197,8 @@ use_text w = codes "this formatting argument uses named argument "
 abbrev pub by_index_labels : Call → Reference → ℕ → List Label
 by_index_labels c r i =
     primary (NameOf i) by_index_text
-    ∷ secondary (use_spot c.pieces c.places r) (use_text (name_of (slice_get c.given i))) ∷ []
+    ∷ secondary (use_spot c.pieces c.counts c.places r)
+    (use_text (name_of (slice_get c.given i))) ∷ []
 
 -- What is said of an argument with a name in front of one without.
 unfoldable pub named_text : List ℕ

@@ -116,7 +116,12 @@ seen_note n = record { text = string_bytes n.text; spots = n.spots.items }
 
 -- An edit as a contract sees it.
 abbrev pub seen_edit : CallEdit → Edit
-seen_edit e = record { spot = e.spot; text = string_bytes e.text }
+seen_edit e = record {
+  spot = e.spot;
+  text = string_bytes e.text;
+  copied = e.copied;
+  rest = e.rest.now;
+}
 
 -- A help as a contract sees it.
 abbrev pub seen_help : CallHelp → Help
@@ -128,6 +133,7 @@ seen_call c = record {
   given = map seen_given c.given.now;
   kept = c.kept.items;
   pieces = map seen c.pieces.items;
+  counts = c.counts.items;
   places = c.parser.arg_places;
   taken = c.parser.next;
   faults = map seen_fault c.faults.items;

@@ -1,5 +1,5 @@
 -- The places of a call that something is said of, and what is said of them, with texts as bytes.
-use Rattle.std.specs.Prelude.{ℕ, zero, suc, ◌+◌, min, Bool, true, false, List, [], ◌∷◌, drop, take}
+use Rattle.std.specs.Prelude.{ℕ, zero, suc, ◌+◌, min, Bool, true, false, List, [], ◌∷◌, drop}
 use Rattle.std.specs.Prelude.{Option, Some, None, option_and_then}
 use Rattle.std.specs.Option.{option_map_or}
 use Rattle.std.specs.List.{slice_get}
@@ -35,10 +35,17 @@ pub record Note : Type 0 where
 abbrev pub plain : List ℕ → Note
 plain t = record { text = t; spots = [] }
 
--- An edit of a help: where the text is that it replaces, and the new text.
+-- An edit of a help: where the text is that it replaces, and the new text, which may have the
+-- source of a place in it, between two others.
 pub record Edit : Type 0 where
   pub spot : Spot
   pub text : List ℕ
+  pub copied : Option Spot
+  pub rest : List ℕ
+
+-- An edit that copies no source.
+abbrev pub edit : Spot → List ℕ → Edit
+edit s t = record { spot = s; text = t; copied = None; rest = [] }
 
 -- A help: what to do, and the edits that do it.
 pub record Help : Type 0 where
@@ -100,14 +107,20 @@ abbrev pub behind : Piece Place → List Place → List Place
 behind (Lit t) places = places
 behind (NextArgument a) places = drop 1 places
 
--- The places of the placeholders behind these pieces, from those from the first of them on.
-abbrev pub behind_all : List (Piece Place) → List Place → List Place
-behind_all [] places = places
-behind_all (p ∷ ps) places = behind_all ps (behind p places)
+-- The number of placeholders up to a piece, where n stand before it.
+abbrev pub count_with : ℕ → Piece Place → ℕ
+count_with n (Lit t) = n
+count_with n (NextArgument a) = n + 1
 
--- The place of the placeholder k among these pieces, whose placeholders have these places.
-abbrev pub place_of : List (Piece Place) → List Place → ℕ → Option Place
-place_of ps places k = slice_get (behind_all (take k ps) places) 0
+-- Of each of these pieces, how many placeholders stand before it, where n stand before them all.
+abbrev pub counts_before : ℕ → List (Piece Place) → List ℕ
+counts_before n [] = []
+counts_before n (p ∷ ps) = n ∷ counts_before (count_with n p) ps
+
+-- The place of the placeholder k among the pieces, before each of which so many placeholders stand,
+-- which have these places.
+abbrev pub place_of : List ℕ → List Place → ℕ → Option Place
+place_of counts places k = option_and_then (slice_get places) (slice_get counts k)
 
 -- A range without its first byte, which is the dot of a precision.
 abbrev pub behind_dot : Option Place → Spot
@@ -121,9 +134,9 @@ shown_part Position place a = spot_of place
 shown_part Precision place a = behind_dot a.format.precision_span
 shown_part Width place a = spot_of a.format.width_span
 
--- Where a use by index is shown, in a string with these pieces and places.
-abbrev pub use_spot : List (Piece Place) → List Place → Reference → Spot
-use_spot ps places r = option_map_or (shown_part r.part (place_of ps places r.piece))
+-- Where a use by index is shown, in a string with these pieces, counts and places.
+abbrev pub use_spot : List (Piece Place) → List ℕ → List Place → Reference → Spot
+use_spot ps counts places r = option_map_or (shown_part r.part (place_of counts places r.piece))
     (placeholder_at ps r.piece) Literal
 
 -- Where the index is written: the position, or the width or the precision without its dot.

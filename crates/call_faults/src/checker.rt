@@ -13,12 +13,14 @@ ghost use Rattle.call_faults.specs.Clean.{IsClean};
 ghost use Rattle.placeholder_check.specs.Seen.{text as seen_text};
 ghost use Rattle.rustc_parse_format.specs.SeenFaults.{seen_fault as seen_text_fault};
 ghost use Rattle.call_faults.specs.Seen.{seen_fault, seen_given, start};
+ghost use Rattle.call_faults.specs.Spots.{counts_before};
 ghost use Rattle.call_faults.specs.Texts.{text_fault};
 
 use crate::arguments::{Given, arguments_of};
 use crate::compared::{compare, indices_of};
 use crate::faults::CallFault;
 use crate::lookups::lookups_of;
+use crate::spots::counts_before;
 use crate::text::text_fault;
 use rustc_parse_format::{Fault, ParseMode, Parser, Piece, read_all};
 use std::alloc::{AllocError, Global};
@@ -49,6 +51,8 @@ pub struct Checked<'a> {
     pub kept: Vec<usize>,
     /// The pieces of the format string.
     pub pieces: Vec<Piece<'a>>,
+    /// Of each piece, how many placeholders stand before it.
+    pub counts: Vec<usize>,
     /// The parser after them, which has the places of the placeholders.
     pub parser: Parser<'a>,
     /// What is wrong, in the order in which rustc tells it.
@@ -144,6 +148,7 @@ pub fn call_faults<'a>(
         × (x.parser ≡ after_all s (calls s))) }
     ensures given { IfOk result (λ x. x.given ≡ given.entry) }
     ensures kept { IfOk result (λ x. x.kept.items ≡ kept_indices (map seen_given given.now)) }
+    ensures counts { IfOk result (λ x. x.counts.items ≡ counts_before 0 (map seen x.pieces.items)) }
     ensures faults { IfOk result (λ x. map seen_fault x.faults.items
         ≡ call_faults string.entry.captures (map seen_given given.now)
         (text_fault (start string.entry)) (map seen x.pieces.items)) }
@@ -165,10 +170,12 @@ pub fn call_faults<'a>(
     let is_read = parser.errors().is_empty();
     let mut kept = Vec::new(alloc);
     let faults = faults_of(alloc, string, is_read, &pieces, given, &mut kept)?;
+    let counts = counts_before(alloc, &pieces)?;
     Ok(Checked {
         given,
         kept,
         pieces,
+        counts,
         parser,
         faults,
     })

@@ -1,10 +1,10 @@
 //! The places of a call that something is said of, and what is said of them, as plain data.
 
-ghost use Rattle.std.specs.Prelude.{◌≡◌, ◌++◌, ◌∷◌, [], OnOk, map, option_map};
+ghost use Rattle.std.specs.Prelude.{◌≡◌, ◌+◌, ◌<◌, ◌^◌, ◌++◌, ◌∷◌, [], IfOk, OnOk, map, option_map};
 ghost use Rattle.std.specs.List.{slice_get};
 ghost use Rattle.rustc_parse_format.specs.Seen.{pair, seen, seen_argument, seen_count};
-ghost use Rattle.call_faults.specs.Spots.{behind, behind_all, behind_dot, bytes_at, count_spot};
-ghost use Rattle.call_faults.specs.Spots.{index_spot};
+ghost use Rattle.call_faults.specs.Spots.{behind, behind_dot, bytes_at, count_spot, count_with};
+ghost use Rattle.call_faults.specs.Spots.{counts_before, index_spot};
 ghost use Rattle.call_faults.specs.Spots.{name_spot, named_spot, part_spot, place_of};
 ghost use Rattle.call_faults.specs.Spots.{placeholder_at, primary, reference_spot, secondary};
 ghost use Rattle.call_faults.specs.Spots.{spot_of, type_spot, use_spot};
@@ -12,7 +12,7 @@ ghost use Rattle.call_faults.specs.Seen.{seen_label};
 
 use crate::faults::{Part, Reference};
 use rustc_parse_format::{Argument, Count, Piece};
-use std::alloc::AllocError;
+use std::alloc::{AllocError, Global};
 use std::ops::Range;
 
 /// A place in the source of a call, which is a byte range there. An argument is named by its index
@@ -27,10 +27,16 @@ pub enum Spot {
     Value(usize),
     /// The value of an argument, and what is behind it up to the value of the next one.
     ValueUpToNext(usize),
+    /// The empty range after the value of an argument.
+    ValueEnd(usize),
     /// The literal of the format string.
     Literal,
     /// The empty range in front of the closing quote of that literal.
     LiteralEnd,
+    /// The empty range after that literal.
+    AfterLiteral,
+    /// The call, from the path of its macro to the delimiter that closes it.
+    Call,
     /// These bytes of that literal, as the spans of the parser count them.
     Bytes {
         /// The offset of the first byte.
@@ -66,8 +72,13 @@ pub struct CallNote {
 pub struct CallEdit {
     /// Where the other text is. That range is empty where text is only inserted.
     pub spot: Spot,
-    /// The new text, which is empty where text is only removed.
+    /// The new text, or what stands in it before the source that it copies. It is empty where text
+    /// is only removed.
     pub text: String,
+    /// The place whose source the new text copies, if it copies any.
+    pub copied: Option<Spot>,
+    /// What stands in the new text after that.
+    pub rest: &'static str,
 }
 
 /// A help of a fault.
@@ -231,15 +242,29 @@ pub(crate) fn behind<'p>(piece: &Piece<'_>, places: &'p [Range<usize>]) -> &'p [
     }
 }
 
-/// Returns the places of the placeholders behind pieces, from those from the first of them on.
-fn behind_all<'p>(pieces: &[Piece<'_>], places: &'p [Range<usize>]) -> &'p [Range<usize>]
-    ensures { map pair result.now ≡ behind_all (map seen pieces.now) (map pair places.now) }
+/// Returns the number of placeholders up to a piece, where so many stand before it.
+fn count_with(count: usize, piece: &Piece<'_>) -> usize
+    requires { count + 1 < 2 ^ 64 }
+    ensures { result ≡ count_with count (seen piece.now) }
 {
-    let mut left = places;
-    for piece in pieces {
-        left = behind(piece, left);
+    match piece {
+        Piece::Lit(_) => count,
+        Piece::NextArgument(_) => count + 1,
     }
-    left
+}
+
+/// Returns of each of these pieces how many placeholders stand before it. Returns `Err` if an
+/// allocation fails.
+pub(crate) fn counts_before(alloc: Global, pieces: &[Piece<'_>]) -> Result<Vec<usize>, AllocError>
+    ensures { IfOk result (λ v. v.items ≡ counts_before 0 (map seen pieces.now)) }
+{
+    let mut counts = Vec::with_capacity(alloc, pieces.len())?;
+    let mut count = 0;
+    for piece in pieces {
+        counts.push(count)?;
+        count = count_with(count, piece);
+    }
+    Ok(counts)
 }
 
 /// Returns the first one of places, or the whole literal if there is none.
@@ -252,14 +277,19 @@ pub(crate) fn first_spot(places: &[Range<usize>]) -> Spot
     }
 }
 
-/// Returns the place of the placeholder with an index among pieces, or the whole literal if it has
-/// none.
-#[tactic(auto, using(crate::proofs::Collecting::fronts))]
-fn place_spot(pieces: &[Piece<'_>], places: &[Range<usize>], index: usize) -> Spot
-    ensures { result ≡ spot_of (place_of (map seen pieces.now) (map pair places.now) index) }
+/// Returns the place of the placeholder with an index among pieces, before each of which so many
+/// stand, or the whole literal if it has none.
+#[tactic(auto, using(crate::proofs::Collecting::at_index))]
+fn place_spot(counts: &[usize], places: &[Range<usize>], index: usize) -> Spot
+    ensures { result ≡ spot_of (place_of counts.now (map pair places.now) index) }
 {
-    let front = &pieces[..index.min(pieces.len())];
-    first_spot(behind_all(front, places))
+    let Some(count) = counts.get(index) else {
+        return Spot::Literal;
+    };
+    match places.get(*count) {
+        None => Spot::Literal,
+        Some(place) => bytes_at(place),
+    }
 }
 
 /// Returns a range without its first byte, which is the dot of a precision.
@@ -277,13 +307,18 @@ fn behind_dot(span: &Option<Range<usize>>) -> Spot
 
 /// Returns where a use by index is shown: the whole placeholder, or the width or the precision
 /// without its dot.
-pub(crate) fn use_spot(pieces: &[Piece<'_>], places: &[Range<usize>], reference: Reference) -> Spot
-    ensures { result ≡ use_spot (map seen pieces.now) (map pair places.now) reference }
+pub(crate) fn use_spot(
+    pieces: &[Piece<'_>],
+    counts: &[usize],
+    places: &[Range<usize>],
+    reference: Reference,
+) -> Spot
+    ensures { result ≡ use_spot (map seen pieces.now) counts.now (map pair places.now) reference }
 {
     match placeholder_at(pieces, reference.piece) {
         None => Spot::Literal,
         Some(argument) => match reference.part {
-            Part::Position => place_spot(pieces, places, reference.piece),
+            Part::Position => place_spot(counts, places, reference.piece),
             Part::Precision => behind_dot(&argument.format.precision_span),
             Part::Width => spot_of(&argument.format.width_span),
         },

@@ -15,5 +15,5 @@ pub use listing::{Call, calls};
 pub use marks::{is_mark_of, is_word, token_at, word};
 pub use parts::next_part;
 pub use split::{Argument, arguments};
-pub use strings::{Reason, format_string};
-pub use table::{Row, Rule, Table};
+pub use strings::{Reason, format_string, is_text_leaf};
+pub use table::{Row, Rule, Table, is_standard};

@@ -31,7 +31,7 @@ pub enum Reason {
 }
 
 /// Returns whether a token is a string literal that has its end and no suffix.
-fn is_text_leaf(token: &Token<'_>) -> bool
+pub fn is_text_leaf(token: &Token<'_>) -> bool
     ensures { result ≡ is_text_leaf (leaf token.now) }
 {
     matches!(token.kind, Kind::Str | Kind::RawStr) && token.is_ended && !token.has_suffix

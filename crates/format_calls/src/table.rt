@@ -1,6 +1,6 @@
 //! Macros that take a format string.
 
-ghost use Rattle.std.specs.Prelude.{◌≡◌, ◌∷◌, IfOk, OnErr, OnOk, map};
+ghost use Rattle.std.specs.Prelude.{◌≡◌, ◌∷◌, IfOk, OnErr, OnOk, is_some, map};
 ghost use Rattle.format_calls.specs.Rows.{entry, rule_of};
 ghost use Rattle.format_calls.specs.Standard.{of_crates, standard};
 
@@ -222,4 +222,11 @@ pub fn rule_of(rows: &[Row<'_>], word: &[u8]) -> Option<Rule>
         }
     }
     None
+}
+
+/// Returns whether a macro of this name is one of the standard library that takes a format string.
+pub fn is_standard(word: &[u8]) -> bool
+    ensures { result ≡ is_some (rule_of standard word.now) }
+{
+    rule_of(&STANDARD, word).is_some()
 }

@@ -11,14 +11,12 @@ use Rattle.rust_trees.specs.Forests.{IsPair}
 use Rattle.rust_trees.specs.Leaves.{Leaf}
 use Rattle.rust_trees.proofs.Nested.{nested}
 use Rattle.format_calls.specs.Arguments.{AreArguments}
-use Rattle.format_calls.specs.Strings.{format_string}
 use Rattle.format_calls.specs.declared.listing.Call.{Call}
 use Rattle.format_calls.specs.declared.split.Argument.{Argument}
-use Rattle.format_calls.specs.declared.strings.Reason.{Reason}
 use Rattle.call_faults.specs.Arguments.{Given}
 use Rattle.source_lint.specs.declared.report.CallReading.{CallReading}
 use Rattle.source_lint.specs.declared.report.Finding.{Finding}
-use Rattle.source_lint.specs.Readings.{ReadsBy, ReadsLiteral, ReadsUnless}
+use Rattle.source_lint.specs.Readings.{ReadsBy, ReadsLiteral, ReadsUnless, index_or}
 
 -- One token opens the pair that a token closes.
 pub opening-once : (xs : List Leaf) (m n c : ℕ) → IsPair xs m c → IsPair xs n c → m ≡ n
@@ -57,8 +55,8 @@ reads-by t a b p q m n gs hs r fs e f g h k =
 
 -- The reading of a call whose macro the file does not define.
 pub reads-here : (is_new t : Bool) (xs : List Leaf) (c : Call) (bs : List Argument)
-    (o : Result ℕ Reason) (r : CallReading) (fs : List Finding) → false ≡ t
-    → AreArguments xs (c.name + 3) bs c.close → o ≡ format_string xs c.rule bs is_new
+    (o : Result ℕ CallReading) (r : CallReading) (fs : List Finding) → false ≡ t
+    → AreArguments xs (c.name + 3) bs c.close → o ≡ index_or is_new xs c.rule bs
     → ReadsBy is_new xs c bs o r fs → ReadsUnless t is_new xs c r fs
 reads-here is_new t xs c bs o r fs n a e h =
     subst (λ v. ReadsUnless v is_new xs c r fs) n

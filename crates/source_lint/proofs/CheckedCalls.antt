@@ -10,6 +10,7 @@ use Rattle.call_faults.specs.Arguments.{Given}
 use Rattle.call_faults.specs.Calls.{call_faults, kept_indices}
 use Rattle.call_faults.specs.Labels.{Call}
 use Rattle.call_faults.specs.Seen.{seen_call, seen_fault, seen_given}
+use Rattle.call_faults.specs.Spots.{counts_before}
 use Rattle.call_faults.specs.Texts.{text_fault}
 use Rattle.call_faults.specs.declared.checker.Checked.{Checked}
 use Rattle.source_lint.specs.Readings.{call_of, pieces, start_of}
@@ -17,17 +18,20 @@ use Rattle.source_lint.specs.Readings.{call_of, pieces, start_of}
 -- A checked call is that of the string at whose start the parser was.
 pub call-same : (s : State) (x : Checked) (gs : List Given) (captures : Bool)
     → map seen_given x.given.now ≡ gs → x.kept.items ≡ kept_indices gs
-    → map seen x.pieces.items ≡ pieces s → x.parser ≡ after_all s (calls s)
+    → map seen x.pieces.items ≡ pieces s
+    → x.counts.items ≡ counts_before 0 (map seen x.pieces.items) → x.parser ≡ after_all s (calls s)
     → map seen_fault x.faults.items
     ≡ call_faults captures gs (text_fault s) (map seen x.pieces.items)
     → ◌≡◌ {A = Call} (seen_call x) (call_of captures s gs)
-call-same s x gs captures e f h k l =
+call-same s x gs captures e f h n k l =
+    let counts : x.counts.items ≡ counts_before 0 (pieces s) =
+    n ∙ ap (λ v. counts_before 0 v) h in
     let faults : map seen_fault x.faults.items
     ≡ call_faults captures gs (text_fault s) (pieces s) =
     l ∙ ap (λ v. call_faults captures gs (text_fault s) v) h in
     let places = ap (λ (v : State). v.arg_places) k in
     let taken = ap (λ (v : State). v.next) k in
-    rw (e, f, h, places, taken, faults) refl
+    rw (e, f, h, counts, places, taken, faults) refl
 
 -- A parser at the start of a literal that was read.
 pub start-same : (snippet text t lines : Text) (style : Option ℕ) (appended : Bool)

@@ -7,6 +7,7 @@ pub mod Embedding
 pub mod Joining
 pub mod Merging
 pub mod MovedArguments
+pub mod MovedForms
 pub mod MovedReadings
 pub mod MovedStrings
 pub mod Reporting

@@ -1,8 +1,8 @@
 -- The reading of a call among other tokens.
-use Rattle.std.proofs.Common.{◌≡◌, ◌<◌, ◌+◌, ℕ, Bool, true, false, List, ap, sym}
-use Rattle.std.proofs.Common.{subst, ◌∙◌, length, arith, map}
-use Rattle.std.specs.Prelude.{Result, Ok, Err, not, option_map}
-use Rattle.std.specs.List.{list_any}
+use Rattle.std.proofs.Common.{◌≡◌, ◌<◌, ◌+◌, ◌∷◌, ◌||◌, [], ℕ, Bool, true, false, List, ap, refl}
+use Rattle.std.proofs.Common.{sym, subst, ◌∙◌, length, arith, map}
+use Rattle.std.specs.Prelude.{Result, Ok, Err, is_some, not, option_map}
+use Rattle.std.specs.List.{AllByRecursion, list_any}
 use Rattle.std.specs.Str.{bytes_eq}
 use Rattle.std.proofs.lemmas.Option.{slice_get-map}
 use Rattle.rust_trees.specs.Leaves.{Leaf}
@@ -13,16 +13,19 @@ use Rattle.format_calls.specs.Parts.{moved}
 use Rattle.format_calls.specs.Strings.{format_string}
 use Rattle.format_calls.specs.declared.listing.Call.{Call}
 use Rattle.format_calls.specs.declared.split.Argument.{Argument}
-use Rattle.format_calls.specs.declared.strings.Reason.{Reason}
+use Rattle.format_calls.specs.declared.table.Rule.{Rule}
 use Rattle.source_lint.specs.declared.report.CallReading.{CallReading}
 use Rattle.source_lint.specs.declared.report.Finding.{Finding}
 use Rattle.source_lint.specs.Literals.{appends_newline}
-use Rattle.source_lint.specs.Readings.{Reads, ReadsAt, ReadsBy, ReadsUnless, captures, name_at}
-use Rattle.source_lint.specs.Readings.{name_of_leaf}
+use Rattle.source_lint.specs.FormWords.{TellsForms}
+use Rattle.source_lint.specs.Forms.{form_here, joined, part}
+use Rattle.source_lint.specs.Readings.{Reads, ReadsAt, ReadsBy, ReadsUnless, captures, index_if}
+use Rattle.source_lint.specs.Readings.{index_or, is_empty, name_at, name_of_leaf}
 use Rattle.source_lint.proofs.Calling.{reads-by}
 use Rattle.source_lint.proofs.Embedding.{Embeds}
 use Rattle.source_lint.proofs.MovedArguments.{LiesIn, arguments-at, arguments-lie, counted-at}
 use Rattle.source_lint.proofs.MovedArguments.{shifted, trees-at}
+use Rattle.source_lint.proofs.MovedForms.{form-same, parts-same, same-length}
 use Rattle.source_lint.proofs.MovedStrings.{lies-get, others-same, string-same}
 
 name-same : (xs ys : List Leaf) (g i : ℕ) → Embeds xs ys g → i < length xs
@@ -59,12 +62,42 @@ at-same is_new xs ys g c bs n r fs e p k h =
     }
 
 by-same : (is_new : Bool) (xs ys : List Leaf) (g : ℕ) (c : Call) (bs : List Argument)
-    (o : Result ℕ Reason) (r : CallReading) (fs : List Finding) → Embeds xs ys g
+    (o : Result ℕ CallReading) (r : CallReading) (fs : List Finding) → Embeds xs ys g
     → IsPair xs (c.name + 2) c.close → AreArguments xs (c.name + 3) bs c.close
     → ReadsBy is_new xs c bs o r fs
     → ReadsBy is_new ys (moved g c) (map (shifted g) bs) o r fs
 by-same is_new xs ys g c bs (Ok n) r fs e p k h = at-same is_new xs ys g c bs n r fs e p k h
-by-same is_new xs ys g c bs (Err x) r fs e p k h = h
+by-same is_new xs ys g c bs (Err q) r fs e p k h =
+    let w = (pair-within xs (c.name + 2) c.close p).1 in
+    let s = p.ends in (
+      h.0,
+      subst (λ o. TellsForms o fs)
+          (ap (λ v. form_here is_new v c.rule c.close bs (map (part xs) bs))
+          (sym (name-same xs ys g c.name e (omega (arith, w, s))))
+          ∙ sym (form-same is_new (name_at ys (g + c.name)) c.rule xs ys g (c.name + 3) c.close bs
+          e w (arguments-lie xs (c.name + 3) c.close bs k)))
+          h.1,
+    )
+
+empty-same : (g : ℕ) (bs : List Argument)
+    → list_any is_empty (map (shifted g) bs) ≡ list_any is_empty bs
+empty-same g [] = refl
+empty-same g (b ∷ bs) =
+    ap (λ t. t || list_any is_empty (map (shifted g) bs)) (same-length g b.start b.end)
+    ∙ ap (λ t. is_empty b || t) (empty-same g bs)
+
+-- the same argument is the format string
+index-same : (xs ys : List Leaf) (g from to : ℕ) (r : Rule) (bs : List Argument) (is_new : Bool)
+    → Embeds xs ys g → to < length xs → AllByRecursion (λ a. LiesIn from to a) bs
+    → index_or is_new ys r (map (shifted g) bs) ≡ index_or is_new xs r bs
+index-same xs ys g from to r bs is_new e w l =
+    ap (λ b. index_if b (list_any (λ p. is_some (joined p)) (map (part ys) (map (shifted g) bs)))
+    (format_string ys r (map (shifted g) bs) is_new)) (empty-same g bs)
+    ∙ (ap (λ ps. index_if (list_any is_empty bs) (list_any (λ p. is_some (joined p)) ps)
+    (format_string ys r (map (shifted g) bs) is_new)) (parts-same xs ys g from to bs e w l)
+    ∙ ap (λ o. index_if (list_any is_empty bs)
+    (list_any (λ p. is_some (joined p)) (map (part xs) bs)) o)
+    (string-same xs ys g from to r bs is_new e w l))
 
 unless-same : (b is_new : Bool) (xs ys : List Leaf) (g : ℕ) (c : Call) (r : CallReading)
     (fs : List Finding) → Embeds xs ys g → IsPair xs (c.name + 2) c.close
@@ -77,9 +110,9 @@ unless-same false is_new xs ys g c r fs e p h =
       subst (λ v. AreArguments ys v (map (shifted g) h.0) (g + c.close)) n
           (arguments-at xs ys g (c.name + 2) c.close (c.name + 3) h.0 e p (omega arith) h.1),
       subst (λ v. ReadsBy is_new ys (moved g c) (map (shifted g) h.0) v r fs)
-          (sym (string-same xs ys g (c.name + 3) c.close c.rule h.0 is_new e w
+          (sym (index-same xs ys g (c.name + 3) c.close c.rule h.0 is_new e w
           (arguments-lie xs (c.name + 3) c.close h.0 h.1)))
-          (by-same is_new xs ys g c h.0 (format_string xs c.rule h.0 is_new) r fs e p h.1 h.2),
+          (by-same is_new xs ys g c h.0 (index_or is_new xs c.rule h.0) r fs e p h.1 h.2),
     )
 
 -- The same is read, and the same is found.

@@ -1,5 +1,7 @@
 pub mod Files
 pub mod Findings
+pub mod FormWords
+pub mod Forms
 pub mod Givens
 pub mod Literals
 pub mod Macros

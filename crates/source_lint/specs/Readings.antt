@@ -1,7 +1,7 @@
 -- The reading of a call, and the findings in it.
 use Rattle.std.specs.Prelude.{◌≡◌, ◌+◌, ◌++◌, ◌⊎◌, ◌||◌, not, ℕ, Bool, true, false, List, [], ◌∷◌}
 use Rattle.std.specs.Prelude.{Option, Some, None, Result, Ok, Err, chars, codes, drop, map}
-use Rattle.std.specs.Prelude.{slice_get}
+use Rattle.std.specs.Prelude.{slice_get, ◌==◌, if◌then◌else◌, is_some}
 use Rattle.std.specs.List.{list_any}
 use Rattle.std.specs.Str.{bytes_eq}
 use Rattle.rustc_parse_format.specs.Characters.{Text}
@@ -23,12 +23,16 @@ use Rattle.format_calls.specs.declared.table.Rule.TheVariants.{At, ByEdition, Af
 use Rattle.call_faults.specs.Arguments.{Given}
 use Rattle.call_faults.specs.Calls.{call_faults, kept_indices}
 use Rattle.call_faults.specs.Labels.{Call as CheckedCall}
+use Rattle.call_faults.specs.Spots.{counts_before}
 use Rattle.call_faults.specs.Texts.{text_fault}
 use Rattle.source_lint.specs.declared.report.CallReading.{CallReading}
 use Rattle.source_lint.specs.declared.report.CallReading.TheVariants.{Whole, StringAlone, Redefined}
-use Rattle.source_lint.specs.declared.report.CallReading.TheVariants.{Unread, Malformed}
+use Rattle.source_lint.specs.declared.report.CallReading.TheVariants.{NoExpression, NoComma, Unread}
+use Rattle.source_lint.specs.declared.report.CallReading.TheVariants.{Malformed}
 use Rattle.source_lint.specs.declared.report.Finding.{Finding}
 use Rattle.source_lint.specs.Findings.{AreFindings}
+use Rattle.source_lint.specs.FormWords.{TellsForms}
+use Rattle.source_lint.specs.Forms.{form_here, joined, part}
 use Rattle.source_lint.specs.Givens.{given}
 use Rattle.source_lint.specs.Literals.{appends_newline, without_crs}
 
@@ -48,6 +52,7 @@ call_of captures s gs = record {
   given = gs;
   kept = kept_indices gs;
   pieces = pieces s;
+  counts = counts_before 0 (pieces s);
   places = (after_all s (calls s)).arg_places;
   taken = (after_all s (calls s)).next;
   faults = call_faults captures gs (text_fault s) (pieces s);
@@ -106,18 +111,39 @@ pub record ReadsAt (is_new : Bool) (xs : List Leaf) (c : Call) (args : List Argu
       (captures is_new c.rule (name_at xs c.name)) (not (list_any (is_uncounted xs) trees))
       (map (given xs) (drop (n + 1) args)) r fs
 
--- The same where the argument n is the format string, or where none is for this reason.
-abbrev pub ReadsBy : Bool → List Leaf → Call → List Argument → Result ℕ Reason → CallReading
+-- The same where the argument n is the format string, or where this is the reading, since none is:
+-- then the finding is what is wrong with the arguments, if that is known.
+abbrev pub ReadsBy : Bool → List Leaf → Call → List Argument → Result ℕ CallReading → CallReading
     → List Finding → Type 0
 ReadsBy is_new xs c args (Ok n) r fs = ReadsAt is_new xs c args n r fs
-ReadsBy is_new xs c args (Err e) r fs = (r ≡ Unread e) × (fs ≡ [])
+ReadsBy is_new xs c args (Err q) r fs = (r ≡ q) × TellsForms
+    (form_here is_new (name_at xs c.name) c.rule c.close args (map (part xs) args)) fs
+
+-- No token stands where the argument should.
+abbrev pub is_empty : Argument → Bool
+is_empty a = a.start == a.end
+
+abbrev pub index_by : Result ℕ Reason → Result ℕ CallReading
+index_by (Ok n) = Ok n
+index_by (Err e) = Err (Unread e)
+
+abbrev pub index_if : Bool → Bool → Result ℕ Reason → Result ℕ CallReading
+index_if lacks joins o =
+    if lacks then Err NoExpression else (if joins then Err NoComma else index_by o)
+
+-- The index of the argument that is the format string, or the reading if none is read: where no
+-- token stands where an argument should, where no comma stands between two expressions, or where no
+-- argument is one.
+abbrev pub index_or : Bool → List Leaf → Rule → List Argument → Result ℕ CallReading
+index_or is_new xs r args = index_if (list_any is_empty args)
+    (list_any (λ p. is_some (joined p)) (map (part xs) args)) (format_string xs r args is_new)
 
 -- The same, unless the file defines a macro of this name.
 abbrev pub ReadsUnless : Bool → Bool → List Leaf → Call → CallReading → List Finding → Type 0
 ReadsUnless true is_new xs c r fs = (r ≡ Redefined) × (fs ≡ [])
 ReadsUnless false is_new xs c r fs = (args : List Argument)
     × AreArguments xs (c.name + 3) args c.close
-    × ReadsBy is_new xs c args (format_string xs c.rule args is_new) r fs
+    × ReadsBy is_new xs c args (index_or is_new xs c.rule args) r fs
 
 -- This is the reading of a call, and these are the findings in it, where the file defines macros of
 -- these names, and its edition is from 2021 on or not.

@@ -2,6 +2,8 @@
 #![tactic(auto)]
 
 mod findings;
+mod form_words;
+mod forms;
 mod givens;
 mod labels;
 mod lint;

@@ -2,7 +2,7 @@
 
 ghost use Rattle.std.specs.Prelude.{◌≡◌, ◌+◌, ◌<◌, ◌^◌, ◌++◌, List, IfOk, IsTrue, OnOk, Some};
 ghost use Rattle.std.specs.Prelude.{chars, length, map, slice_get};
-ghost use Rattle.std.specs.List.{All};
+ghost use Rattle.std.specs.List.{All, list_any};
 ghost use Rattle.rustc_parse_format.specs.World.{hashes};
 ghost use Rattle.rust_trees.specs.Forests.{IsPair};
 ghost use Rattle.rust_trees.specs.Leaves.{leaf};
@@ -13,13 +13,17 @@ ghost use Rattle.call_faults.specs.Seen.{seen_given, start};
 ghost use Rattle.source_lint.specs.Findings.{AreFindings, HasSpans};
 ghost use Rattle.source_lint.specs.Givens.{given};
 ghost use Rattle.source_lint.specs.Literals.{without_crs};
+ghost use Rattle.source_lint.specs.Macros.{names_in};
 ghost use Rattle.source_lint.specs.Readings.{Reads, ReadsAt, ReadsLiteral, call_of};
-ghost use Rattle.source_lint.specs.Readings.{captures, counted_givens, name_at, reading_of};
+ghost use Rattle.source_lint.specs.Readings.{captures, counted_givens, index_or, is_empty, name_at};
+ghost use Rattle.source_lint.specs.Readings.{reading_of};
 ghost use Rattle.source_lint.specs.declared.report.Finding.{Finding as FindingValue};
 
 use crate::findings::put_findings;
+use crate::form_words::put_form;
+use crate::forms::{form_here, have_joined};
 use crate::givens::givens;
-use crate::literals::{appends_newline, read_literal};
+use crate::literals::{appends_newline, dropped_crs, read_literal};
 use crate::macros::is_defined;
 use crate::report::{CallReading, Finding};
 use crate::spans::Site;
@@ -27,6 +31,7 @@ use call_faults::{FormatString, Given, call_faults};
 use format_calls::{Argument, Call, Rule, are_counted, arguments, format_string, token_at, word};
 use rust_trees::{Source, Token};
 use std::alloc::{AllocError, Global};
+use std::collections::BTreeSet;
 
 /// A file, with what its calls are read by.
 #[derive(Clone, Copy)]
@@ -34,7 +39,7 @@ pub struct File<'s, 'a> {
     /// The text.
     pub text: &'a str,
     /// The names of the macros that it defines.
-    pub macros: &'s [&'a [u8]],
+    pub macros: &'s BTreeSet<&'a [u8]>,
     /// Whether its edition is 2021 or a later one.
     pub is_from_2021: bool,
 }
@@ -186,12 +191,15 @@ fn read_at(
         return Ok(CallReading::Malformed);
     };
     let others = &arguments[index + 1..];
+    let crs = dropped_crs(alloc, literal.text)?;
     let site = Site {
         text: file.text,
         tokens,
         literal,
-        has_crs: literal.text.contains('\r'),
+        crs: &crs,
         arguments: others,
+        name: call.name,
+        close: call.close,
     };
     let name = name_at(tokens, call.name);
     let appended_newline = appends_newline(name);
@@ -208,23 +216,68 @@ fn read_at(
     Ok(reading)
 }
 
-/// Reads a call, and adds its findings. Returns `Err` if an allocation fails.
-pub fn read_call(
-    alloc: Global,
-    findings: &mut Vec<Finding>,
+/// Returns whether no token stands where an argument should.
+fn is_empty(argument: &Argument) -> bool
+    ensures { result ≡ is_empty argument.now }
+{
+    argument.start == argument.end
+}
+
+/// Returns whether no token stands where one of these arguments should.
+fn has_empty(arguments: &[Argument]) -> bool
+    ensures { result ≡ list_any is_empty arguments.now }
+{
+    for argument in arguments {
+        if is_empty(argument) {
+            return true;
+        }
+    }
+    false
+}
+
+/// Returns the index of the argument that is the format string of a call, or the reading of the
+/// call if none is read.
+fn index_or(
     file: File<'_, '_>,
     part: &Source<'_>,
+    call: &Call,
+    arguments: &[Argument],
+) -> Result<usize, CallReading>
+    ensures value { result ≡ index_or file.entry.is_from_2021 part.now call.now.rule
+        arguments.now }
+    ensures literal { IfOk result (λ n. (a : ArgumentValue) × (slice_get arguments.now n ≡ Some a)
+        × IsTrue (is_text part.now a)) }
+{
+    if has_empty(arguments) {
+        return Err(CallReading::NoExpression);
+    }
+    if have_joined(part.tokens(), arguments) {
+        return Err(CallReading::NoComma);
+    }
+    match format_string(part, call.rule, arguments, file.is_from_2021) {
+        Ok(index) => Ok(index),
+        Err(reason) => Err(CallReading::Unread(reason)),
+    }
+}
+
+/// Reads a call, and adds its findings. Returns `Err` if an allocation fails.
+pub fn read_call<'a>(
+    alloc: Global,
+    findings: &mut Vec<Finding>,
+    file: File<'_, 'a>,
+    part: &Source<'a>,
     call: &Call,
 ) -> Result<CallReading, AllocError>
     requires { IsPair part.now (call.now.name + 2) call.now.close }
     ensures read { IfOk result (λ r. (xs : List FindingValue)
         × (findings.new.items ≡ findings.old.items ++ xs)
-        × Reads (map (λ w. w.now) file.entry.macros.now) file.entry.is_from_2021 part.now call.now
+        × Reads (names_in file.entry.macros.now) file.entry.is_from_2021 part.now call.now
         r xs) }
     ensures spans { OnOk result (All (HasSpans file.entry.text.now) findings.old.items
         → All (HasSpans file.entry.text.now) findings.new.items) }
 {
-    let name = name_at(part.tokens(), call.name);
+    let tokens = part.tokens();
+    let name = name_at(tokens, call.name);
     if is_defined(file.macros, name) {
         return Ok(CallReading::Redefined);
     }
@@ -232,10 +285,14 @@ pub fn read_call(
         return Ok(CallReading::Whole);
     };
     let list = arguments.as_slice();
-    match format_string(part, call.rule, list, file.is_from_2021) {
-        Err(reason) => Ok(CallReading::Unread(reason)),
+    match index_or(file, part, call, list) {
         Ok(index) => {
             let reading = read_at(alloc, findings, file, part, call, list, index)?;
+            Ok(reading)
+        }
+        Err(reading) => {
+            let form = form_here(tokens, name, call.rule, file.is_from_2021, list, call.close);
+            put_form(findings, file.text, tokens, call, list, form)?;
             Ok(reading)
         }
     }

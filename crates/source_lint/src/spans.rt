@@ -1,5 +1,6 @@
 //! The places of a call in its file.
 
+ghost use Rattle.std.specs.Prelude.{◌≤◌, length};
 ghost use Rattle.source_lint.specs.Findings.{IsSpan};
 
 use crate::literals::offset_in;
@@ -17,10 +18,14 @@ pub struct Site<'s, 'a> {
     pub tokens: &'s [Token<'a>],
     /// The literal of its format string.
     pub literal: Token<'a>,
-    /// Whether the literal has a CR.
-    pub has_crs: bool,
+    /// Its CRs that stand before LF, as `dropped_crs` returns them.
+    pub crs: &'s [usize],
     /// The arguments after its format string.
     pub arguments: &'s [Argument],
+    /// The index of the name of its macro.
+    pub name: usize,
+    /// The index of the delimiter that closes it.
+    pub close: usize,
 }
 
 /// Returns the range between two byte offsets of a text. An offset within a character goes back to
@@ -38,7 +43,7 @@ pub fn range_in(text: &str, from: usize, to: usize) -> Range<usize>
 }
 
 /// Returns the bytes from one token to the one before another.
-fn tokens_range(tokens: &[Token<'_>], from: usize, to: usize) -> Range<usize> {
+pub fn tokens_range(tokens: &[Token<'_>], from: usize, to: usize) -> Range<usize> {
     let Some(first) = token_at(tokens, from) else {
         return 0..0;
     };
@@ -46,6 +51,40 @@ fn tokens_range(tokens: &[Token<'_>], from: usize, to: usize) -> Range<usize> {
         Some(last) => first.start..last.start.saturating_add(last.text.len()),
         None => first.start..first.start,
     }
+}
+
+/// Returns whether a byte of a text may stand in a path beside `::`.
+fn is_in_path(byte: u8) -> bool {
+    byte.is_ascii_alphanumeric() || byte == b'_' || byte == b'$' || byte >= 0x80
+}
+
+/// Returns the offset of the word that ends at an offset of a text, or that offset if none does.
+fn word_start(bytes: &[u8], end: usize) -> usize
+    requires { end ≤ length bytes.now }
+    ensures { result ≤ end }
+{
+    let mut start = end;
+    while start > 0 && is_in_path(bytes[start - 1]) {
+        start -= 1;
+    }
+    start
+}
+
+/// Returns the offset of the path whose last word starts at an offset of a text, where no white
+/// space stands in it.
+fn path_start(text: &str, name: usize) -> usize {
+    let bytes = text.as_bytes();
+    let mut start = name.min(bytes.len());
+    while start > 1 && bytes[start - 1] == b':' && bytes[start - 2] == b':' {
+        start = word_start(bytes, start - 2);
+    }
+    start
+}
+
+/// Returns the bytes of a call, from the path of its macro to the delimiter that closes it.
+pub fn call_range(text: &str, tokens: &[Token<'_>], name: usize, close: usize) -> Range<usize> {
+    let range = tokens_range(tokens, name, close.saturating_add(1));
+    path_start(text, range.start)..range.end
 }
 
 /// Returns the bytes of an argument, or none if there is no such argument.
@@ -95,6 +134,16 @@ fn range_up_to_next(site: Site<'_, '_>, index: usize) -> Range<usize> {
     }
 }
 
+/// Returns the empty range after a range.
+fn end_of(range: Range<usize>) -> Range<usize> {
+    range.end..range.end
+}
+
+/// Returns the bytes of the literal.
+fn whole_literal(literal: Token<'_>) -> Range<usize> {
+    literal.start..literal.start.saturating_add(literal.text.len())
+}
+
 /// Returns the empty range before the closing quote of the literal.
 fn literal_end(literal: Token<'_>) -> Range<usize> {
     let quote = match literal.text.rfind('"') {
@@ -109,8 +158,8 @@ fn literal_end(literal: Token<'_>) -> Range<usize> {
 /// that end with LF.
 fn literal_range(site: Site<'_, '_>, from: usize, to: usize) -> Range<usize> {
     let literal = site.literal;
-    let start = offset_in(literal.text, site.has_crs, from);
-    let end = offset_in(literal.text, site.has_crs, to);
+    let start = offset_in(site.crs, from);
+    let end = offset_in(site.crs, to);
     literal.start.saturating_add(start)..literal.start.saturating_add(end)
 }
 
@@ -124,8 +173,11 @@ pub fn spot_range(site: Site<'_, '_>, spot: Spot) -> Range<usize>
         Spot::Name(index) => name_range(site, index),
         Spot::Value(index) => value_range(site, index),
         Spot::ValueUpToNext(index) => range_up_to_next(site, index),
-        Spot::Literal => literal.start..literal.start.saturating_add(literal.text.len()),
+        Spot::ValueEnd(index) => end_of(value_range(site, index)),
+        Spot::Literal => whole_literal(literal),
         Spot::LiteralEnd => literal_end(literal),
+        Spot::AfterLiteral => end_of(whole_literal(literal)),
+        Spot::Call => call_range(site.text, site.tokens, site.name, site.close),
         Spot::Bytes { start, end } => literal_range(site, start, end),
     };
     range_in(site.text, range.start, range.end)

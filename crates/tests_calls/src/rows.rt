@@ -13,7 +13,7 @@ pub struct Row {
 
 /// What `rustc --edition 2021` says of `format!("TEXT", ARGUMENTS)`, where `a`, `b`, `c`, `d` and
 /// `w` are variables.
-pub const ROWS: [Row; 60] = [
+pub const ROWS: [Row; 61] = [
     Row {
         text: "{}",
         arguments: "",
@@ -320,6 +320,11 @@ pub const ROWS: [Row; 60] = [
     Row {
         text: "{a:a$} {b:.b$}",
         arguments: "a = 1, c = 2",
+        titles: "named argument never used",
+    },
+    Row {
+        text: "{a}",
+        arguments: "b = a",
         titles: "named argument never used",
     },
 ];

@@ -37,13 +37,8 @@ fn places(alloc: Global, start: usize, list: &str) -> Result<Vec<Place>, AllocEr
     Ok(places)
 }
 
-/// Adds a place as a byte range.
-fn put_spot(
-    out: &mut String,
-    literal: usize,
-    places: &[Place],
-    spot: Spot,
-) -> Result<(), AllocError> {
+/// Returns the byte range of a place of a call, from the start of its literal.
+fn range_of(literal: usize, places: &[Place], spot: Spot) -> (usize, usize) {
     let none = Place {
         start: 0,
         name_end: 0,
@@ -51,15 +46,32 @@ fn put_spot(
         end: 0,
     };
     let at = |index: usize| *places.get(index).unwrap_or(&none);
-    let (start, end) = match spot {
+    match spot {
         Spot::Argument(index) => (at(index).start, at(index).end),
         Spot::Name(index) => (at(index).start, at(index).name_end),
         Spot::Value(index) => (at(index).value, at(index).end),
         Spot::ValueUpToNext(index) => (at(index).value, at(index + 1).value),
+        Spot::ValueEnd(index) => (at(index).end, at(index).end),
         Spot::Literal => (0, literal),
         Spot::LiteralEnd => (literal - 1, literal - 1),
+        Spot::AfterLiteral => (literal, literal),
+        Spot::Call => (0, 0),
         Spot::Bytes { start, end } => (start, end),
-    };
+    }
+}
+
+/// Adds a place as a byte range, or as `call` if it is the whole call.
+fn put_spot(
+    out: &mut String,
+    literal: usize,
+    places: &[Place],
+    spot: Spot,
+) -> Result<(), AllocError> {
+    if matches!(spot, Spot::Call) {
+        out.push_str("call")?;
+        return Ok(());
+    }
+    let (start, end) = range_of(literal, places, spot);
     write!(out, "{start}..{end}")?;
     Ok(())
 }
@@ -115,9 +127,10 @@ fn put_note(
     Ok(())
 }
 
-/// Adds a help, and its edits.
+/// Adds a help, and its edits. `source` is the call from its literal on.
 fn put_help(
     out: &mut String,
+    source: &str,
     literal: usize,
     places: &[Place],
     help: &CallHelp,
@@ -126,7 +139,11 @@ fn put_help(
     for edit in &help.edits {
         out.push(' ')?;
         put_spot(out, literal, places, edit.spot)?;
-        write!(out, " `{}`", edit.text)?;
+        let (start, end) = match edit.copied {
+            Some(spot) => range_of(literal, places, spot),
+            None => (0, 0),
+        };
+        write!(out, " `{}{}{}`", edit.text, &source[start..end], edit.rest)?;
     }
     out.push('\n')?;
     Ok(())
@@ -138,6 +155,7 @@ fn shown(alloc: Global, text: &str, list: &str) -> Result<String, AllocError> {
     literal.push_str(text)?;
     literal.push('"')?;
     let places = places(alloc, literal.len() + 2, list)?;
+    let source = format!(in alloc; "{literal}, {list}")?;
     let given = arguments(alloc, list)?;
     let mut string = plain(text);
     string.snippet = Some(literal.as_str());
@@ -150,7 +168,7 @@ fn shown(alloc: Global, text: &str, list: &str) -> Result<String, AllocError> {
             put_note(&mut out, literal.len(), &places, note)?;
         }
         if let Some(help) = &checked.help(alloc, fault)? {
-            put_help(&mut out, literal.len(), &places, help)?;
+            put_help(&mut out, &source, literal.len(), &places, help)?;
         }
     }
     Ok(out)

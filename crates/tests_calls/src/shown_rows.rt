@@ -10,14 +10,13 @@ pub struct Shown {
     /// Of each fault its labels, whose lines are sorted, its notes and its helps, one on a line.
     /// Byte ranges count from the start of the literal. A label has the sign `^` or `-`, its range
     /// and its text; a note has `=`, and the ranges that it shows; a help has `?`, and its edits,
-    /// each a range and the new text.
+    /// each a range, or `call` for the whole call, and the new text.
     pub shown: &'static str,
 }
 
 /// What `rustc --edition 2021 --error-format=json` says of `format!("TEXT", ARGUMENTS)`, where `a`,
-/// `b`, `c`, `d` and `w` are variables, without the helps for which the source is needed: to pass a
-/// field as an argument.
-pub const SHOWN: [Shown; 98] = [
+/// `b`, `c`, `d` and `w` are variables.
+pub const SHOWN: [Shown; 105] = [
     Shown {
         text: "{}",
         arguments: "",
@@ -258,9 +257,61 @@ pub const SHOWN: [Shown; 98] = [
     },
     Shown {
         text: "{a.b}",
+        arguments: "",
+        shown: "^2..5 not supported in format string\n\
+            = consider moving this expression to a local variable and then using the local here instead\n\
+            ? consider using a positional formatting argument instead 2..5 `0` 7..7 `, a.b`\n",
+    },
+    Shown {
+        text: "{a.b}",
         arguments: "a",
         shown: "^2..5 not supported in format string\n\
-            = consider moving this expression to a local variable and then using the local here instead\n",
+            = consider moving this expression to a local variable and then using the local here instead\n\
+            ? consider using a positional formatting argument instead 2..5 `1` 10..10 `, a.b`\n",
+    },
+    Shown {
+        text: "{a.b} {}",
+        arguments: "a, b",
+        shown: "^2..5 not supported in format string\n\
+            = consider moving this expression to a local variable and then using the local here instead\n\
+            ? consider using a positional formatting argument instead 2..5 `2` 16..16 `, a.b`\n",
+    },
+    Shown {
+        text: "{a.0}",
+        arguments: "a, w = b",
+        shown: "^2..5 not supported in format string\n\
+            = consider moving this expression to a local variable and then using the local here instead\n\
+            ? consider using a positional formatting argument instead 2..5 `1` 10..10 `, a.0`\n",
+    },
+    Shown {
+        text: "{a.b}",
+        arguments: "w = a",
+        shown: "^2..5 not supported in format string\n\
+            = consider moving this expression to a local variable and then using the local here instead\n\
+            ? consider using a positional formatting argument instead 2..5 `0` 7..7 `, a.b`\n",
+    },
+    Shown {
+        text: "{a=}",
+        arguments: "a",
+        shown: "-1..2 because of this opening brace\n\
+            ^3..4 expected `}` in format string\n\
+            = to print `{`, you can escape it using `{{`\n\
+            ? use rust debug printing macro call `dbg!(a)`\n",
+    },
+    Shown {
+        text: "{=}",
+        arguments: "w = a",
+        shown: "-1..2 because of this opening brace\n\
+            ^2..3 expected `}` in format string\n\
+            = to print `{`, you can escape it using `{{`\n\
+            ? use rust debug printing macro call `dbg!(a)`\n",
+    },
+    Shown {
+        text: "{a=}",
+        arguments: "a, b",
+        shown: "-1..2 because of this opening brace\n\
+            ^3..4 expected `}` in format string\n\
+            = to print `{`, you can escape it using `{{`\n",
     },
     Shown {
         text: "{a?}",

@@ -7,6 +7,7 @@ use Rattle.rustc_parse_format.specs.Types.{Format}
 use Rattle.rustc_parse_format.specs.World.{pieces_in}
 use Rattle.call_faults.specs.Calls.{call_faults}
 use Rattle.call_faults.specs.Seen.{seen_fault, seen_given, start}
+use Rattle.call_faults.specs.Spots.{counts_before}
 use Rattle.call_faults.specs.Texts.{text_fault}
 use Rattle.call_faults.proofs.Checking.{clean-is, map-nil}
 use Rattle.call_faults.proofs.TextFaults.{read-is}
@@ -37,6 +38,8 @@ returns c =
       walk = (pieces, parser);
       given = refl;
       kept = c.in_ok-faults.ensures.kept c.new-kept.ensures.items;
+      counts = c.in_ok-counts.ensures
+          ∙ ap (counts_before 0) (ap (map seen) c.deref-2.ensures.value);
       faults = faults;
       clean = clean-is c.args.string.captures (map seen_given c.args.given.now)
           (chars c.args.string.text.now) s (map seen c.in_ok-pieces.pieces.items)
