@@ -1,0 +1,10 @@
+pub mod AsmFaults
+pub mod Operands
+pub mod Lookups
+pub mod Templates
+pub mod Compared
+pub mod Calls
+pub mod Words
+pub mod Labels
+pub mod Notes
+pub mod Seen
