@@ -3,7 +3,9 @@ use Rattle.std.specs.Prelude.{ℕ, ◌++◌, List, [], ◌∷◌, Bool, false, i
 use Rattle.std.specs.Str.{bytes_eq}
 use Rattle.fault_rules.specs.declared.rules.Rule.{Rule}
 
--- The ids of all kinds: first of faults of format strings, and then of calls.
+-- The ids of all kinds: first of faults of format strings, then of calls, of calls whose format
+-- string is not read, of inline assembly, and of texts of attributes. One that an earlier kind has
+-- too is not listed again.
 abbrev pub ids : List (List ℕ)
 ids =
     codes "unmatched-closing-brace" ∷
@@ -31,6 +33,17 @@ ids =
     codes "unused-argument" ∷
     codes "redundant-argument" ∷
     codes "name-used-by-index" ∷
+    codes "missing-format-string" ∷
+    codes "no-string-literal" ∷
+    codes "missing-comma" ∷
+    codes "missing-expression" ∷
+    codes "operand-order" ∷
+    codes "register-name" ∷
+    codes "wrong-operand" ∷
+    codes "long-modifier" ∷
+    codes "specifier-in-message" ∷
+    codes "positional-in-message" ∷
+    codes "missing-parameter" ∷
     []
 
 -- The text is one of these ids.

@@ -4,9 +4,12 @@ use crate::forms::Form;
 use clap::ArgMatches;
 use format_calls::{Row, Rule, Table};
 use format_lint::task::{Show, Task};
-use lint_words::When;
+use lint_words::{When, wants_colours};
+use rust_tokens::{Kind, first_token};
 use rustc_parse_format::ParseMode;
 use std::alloc::{AllocError, Global};
+use std::env;
+use std::io::IsTerminal;
 
 /// Returns the word for the mode.
 fn mode_word<'a>(matches: &ArgMatches<'a>) -> &'a str {
@@ -24,7 +27,7 @@ fn mode_of(matches: &ArgMatches<'_>) -> ParseMode {
 }
 
 /// Returns when colours are written.
-pub fn when_of(matches: &ArgMatches<'_>) -> When {
+fn when_of(matches: &ArgMatches<'_>) -> When {
     match matches.get_str("color").unwrap_or("auto") {
         "always" => When::Always,
         "never" => When::Never,
@@ -32,14 +35,26 @@ pub fn when_of(matches: &ArgMatches<'_>) -> When {
     }
 }
 
-/// Returns the form of messages.
-pub fn form_of(matches: &ArgMatches<'_>) -> Form {
+/// Returns whether what is written to standard output is in colours.
+pub fn has_colours(rt: &HostRuntime, matches: &ArgMatches<'_>) -> bool {
+    let no_color = env::var(rt, "NO_COLOR").ok();
+    let term = env::var(rt, "TERM").ok();
+    wants_colours(
+        when_of(matches),
+        rt.stdout().is_terminal(),
+        no_color.as_deref(),
+        term.as_deref(),
+    )
+}
+
+/// Returns the form of messages, drawn in colours or not.
+pub fn form_of(matches: &ArgMatches<'_>, colours: bool) -> Form {
     match matches.get_str("message-format").unwrap_or("human") {
         "short" => Form::Short,
         "json" => Form::Json,
         "github" => Form::Github,
         "sarif" => Form::Sarif,
-        _ => Form::Human,
+        _ => Form::Human { colours },
     }
 }
 
@@ -52,27 +67,26 @@ pub fn file_of<'a>(matches: &ArgMatches<'a>) -> Option<&'a str> {
 }
 
 /// Returns which answer is shown for one string.
-fn show_of(matches: &ArgMatches<'_>, has_colours: bool) -> Show {
+fn show_of(matches: &ArgMatches<'_>) -> Show {
     if matches.get_flag("fix") {
         Show::Fix
     } else if matches.get_flag("all") {
         Show::All
-    } else if !matches.get_flag("tokens") {
-        Show::Fault
-    } else if has_colours {
-        Show::Colours
-    } else {
+    } else if matches.get_flag("tokens") {
         Show::Tokens
+    } else {
+        Show::Fault
     }
 }
 
 /// Returns the task for one string, where the input has this path.
-pub fn task_of<'a>(matches: &ArgMatches<'_>, path: &'a str, has_colours: bool) -> Task<'a> {
+pub fn task_of<'a>(matches: &ArgMatches<'_>, path: &'a str, colours: bool) -> Task<'a> {
     Task {
         mode: mode_of(matches),
         is_literal: !matches.get_flag("text"),
         path,
-        show: show_of(matches, has_colours),
+        show: show_of(matches),
+        colours,
     }
 }
 
@@ -91,13 +105,11 @@ pub fn list_words(alloc: Global, matches: &ArgMatches<'_>) -> Result<Vec<String>
     Ok(words)
 }
 
-/// Returns whether a text can be the name of a macro.
+/// Returns whether a text can be the name of a macro: whether it is an identifier.
 fn is_name(text: &str) -> bool {
-    match text.chars().next() {
-        Some(first) if !first.is_ascii_digit() => {
-            text.chars().all(|c| c == '_' || c.is_alphanumeric())
-        }
-        _ => false,
+    match first_token(text) {
+        Some(token) => matches!(token.kind, Kind::Ident) && token.span.end == text.len(),
+        None => false,
     }
 }
 

@@ -238,6 +238,7 @@ fn level(finding: &Finding) -> Level {
 /// Appends the drawing of a finding under these lines. Returns `Err` if an allocation fails.
 fn put_drawn<'x>(
     out: &mut String,
+    colours: bool,
     path: &'x str,
     excerpt: &'x Excerpt<'_>,
     finding: &'x Finding,
@@ -253,6 +254,7 @@ fn put_drawn<'x>(
         source: excerpt.source.as_str(),
         line_start: excerpt.number,
         literal_start: 0,
+        colours,
     };
     let diagnostic = Diagnostic {
         level: level(finding),
@@ -264,10 +266,15 @@ fn put_drawn<'x>(
     put_labels(out, &picture, &diagnostic)
 }
 
-/// Appends the drawing of a finding, and returns whether there is one: none is made of more than
-/// 20 labels, of lines with more than 4,096 bytes, or of a line with more than 400. Returns `Err`
-/// if an allocation fails.
-pub fn put_drawing(out: &mut String, file: &File<'_>, finding: &Finding) -> Result<bool, AllocError>
+/// Appends the drawing of a finding, maybe in colours, and returns whether there is one: none is
+/// made of more than 20 labels, of lines with more than 4,096 bytes, or of a line with more than
+/// 400. Returns `Err` if an allocation fails.
+pub fn put_drawing(
+    out: &mut String,
+    colours: bool,
+    file: &File<'_>,
+    finding: &Finding,
+) -> Result<bool, AllocError>
     requires { file.now.places ≡ file.now.text.now }
 {
     if finding.labels.len() > MOST_LABELS {
@@ -276,6 +283,6 @@ pub fn put_drawing(out: &mut String, file: &File<'_>, finding: &Finding) -> Resu
     let Some(excerpt) = excerpt_of(*out.allocator(), file, &extent(finding))? else {
         return Ok(false);
     };
-    put_drawn(out, file.path, &excerpt, finding)?;
+    put_drawn(out, colours, file.path, &excerpt, finding)?;
     Ok(true)
 }

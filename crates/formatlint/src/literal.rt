@@ -1,19 +1,19 @@
 //! The run over one string: a literal, or a text.
 
-use crate::arguments::{file_of, list_words, task_of, when_of};
+use crate::arguments::{file_of, has_colours, list_words, task_of};
 use crate::failure::Failure;
 use crate::recorder::Recorder;
 use clap::ArgMatches;
 use drawn_faults::put_glyphs;
 use format_lint::run::run;
-use lint_words::{put_failure, put_not_literal, system_words, wants_colours};
+use lint_words::{put_failure, put_not_literal, system_words};
 use listing_json::{Listing, list};
 use literal_faults::{file_fault, snippet_of};
 use piece_listing::run::{read_input, run as list_as_text, write_whole};
 use piece_listing::verdict::RunFault;
 use std::alloc::{AllocError, Global};
+use std::fs;
 use std::io::{IsTerminal, Read, Write};
-use std::{env, fs};
 
 /// Reads a stream to its end.
 fn read<R: Read + Drop>(rt: &HostRuntime, stream: R) -> Result<Vec<u8>, Failure> {
@@ -44,18 +44,6 @@ pub fn tell_of_terminal(rt: &HostRuntime) {
     if rt.stdin().is_terminal() {
         let _ = rt.eprintln("formatlint: reads what is typed here, up to Ctrl-D; --help says more");
     }
-}
-
-/// Returns whether what is written to standard output is in colours.
-fn has_colours(rt: &HostRuntime, matches: &ArgMatches<'_>) -> bool {
-    let no_color = env::var(rt, "NO_COLOR").ok();
-    let term = env::var(rt, "TERM").ok();
-    wants_colours(
-        when_of(matches),
-        rt.stdout().is_terminal(),
-        no_color.as_deref(),
-        term.as_deref(),
-    )
 }
 
 /// Returns the bytes of an input that are listed: all of a text, or the literal in a file.

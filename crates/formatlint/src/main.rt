@@ -13,7 +13,7 @@ mod recorder;
 mod totals;
 mod walk;
 
-use arguments::{form_of, table_of};
+use arguments::{form_of, has_colours, table_of};
 use clap::error::ErrorKind;
 use clap::{ArgMatches, Error};
 use fault_rules::{RULES, put_explanation, rule_of};
@@ -133,7 +133,7 @@ fn files_status(rt: &HostRuntime, matches: &ArgMatches<'_>) -> Result<u8, Error>
         paths: matches.get_strs("path").unwrap_or(&[]),
         excluded: matches.get_strs("exclude").unwrap_or(&[]),
         stdin_path: matches.get_str("stdin-path"),
-        form: form_of(matches),
+        form: form_of(matches, has_colours(rt, matches)),
         edition: matches.get_str("edition"),
         version: VERSION,
     };

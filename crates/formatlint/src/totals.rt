@@ -16,6 +16,8 @@ struct Unread {
     suffix: usize,
     inner: usize,
     expression: usize,
+    empty: usize,
+    joined: usize,
     redefined: usize,
     malformed: usize,
 }
@@ -61,7 +63,7 @@ impl Unread {
     }
 
     /// Returns how many calls there are for each reason, with the reason.
-    fn rows(&self) -> [(usize, &'static str); 8] {
+    fn rows(&self) -> [(usize, &'static str); 10] {
         [
             (self.missing, "no format string"),
             (self.edition, "a lone message, before the edition 2021"),
@@ -70,6 +72,8 @@ impl Unread {
             (self.inner, "a macro inside"),
             (self.expression, "another expression"),
             (self.suffix, "a literal with a suffix"),
+            (self.empty, "no expression before a comma"),
+            (self.joined, "no comma between two expressions"),
             (self.malformed, "a literal with a wrong escape"),
         ]
     }
@@ -90,6 +94,8 @@ impl Totals {
                 suffix: 0,
                 inner: 0,
                 expression: 0,
+                empty: 0,
+                joined: 0,
                 redefined: 0,
                 malformed: 0,
             },
@@ -106,6 +112,8 @@ impl Totals {
             CallReading::Whole => count(&mut self.whole),
             CallReading::StringAlone => count(&mut self.alone),
             CallReading::Redefined => count(&mut self.unread.redefined),
+            CallReading::NoExpression => count(&mut self.unread.empty),
+            CallReading::NoComma => count(&mut self.unread.joined),
             CallReading::Malformed => count(&mut self.unread.malformed),
             CallReading::Unread(reason) => self.unread.add(reason),
         }
