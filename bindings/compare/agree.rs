@@ -134,6 +134,10 @@ fn compare(case: &Case, random: &mut Random, counts: &mut Counts) {
             3 => drop((a.errors.pop(), b.errors.pop())),
             4 => drop((a.line_spans.pop(), b.line_spans.pop())),
             5 => (a.arg_places, b.arg_places) = (vec![3..4], vec![3..4]),
+            7 if a.line_spans.len() < 9 => {
+                a.line_spans.extend_from_within(..);
+                b.line_spans.extend_from_within(..)
+            }
             6 if random.one_in(8) => {
                 let set = random.one_in(2);
                 (a.is_source_literal, b.is_source_literal) = (set, set)

@@ -71,7 +71,8 @@ const UNITS: &[(&str, &str)] = &[
     ("\\u{10ffff}", "\u{10ffff}"), ("\\u{110000}", "\u{fffd}"), ("\\u{1F600}", "😀"),
     ("\\u{g}", "g"), ("\\u41", "A"), ("\\u{41", "A"), ("\\u 41}", "A"), ("\\\n  ", ""),
     ("\\\n\t \n \r ", ""), ("\\\n\u{a0}", "\u{a0}"), ("\\\n\u{c}", "\u{c}"), ("\\\r\n ", ""),
-    ("\\\r ", ""), ("\\ ", " "), ("", ""),
+    ("\\\r ", ""), ("\\ ", " "), ("", ""), ("a", ""), ("\\x41", ""), ("\\u{41}", ""), ("\\n", ""),
+    ("{x}", "{x}"),
     ("sixteen bytes {} of text", "sixteen bytes {} of text"), ("{\\n}", "{\n}"),
     ("{\\x7d", "{}"), ("{\\x7d\\x7d", "{}}"), ("{a\t}", "{a\t}"), ("{a:\t", "{a:\t"),
     ("\n \t b \u{a0} c", "\n \t b \u{a0} c"),
@@ -134,6 +135,11 @@ pub fn case(random: &mut Random, modes: usize) -> Case {
         _ => random.below(10),
     };
     let mut input: String = (0..parts).map(|_| random.of(PARTS)).collect();
+    if random.one_in(400) {
+        // (many alike: lines, faults, edits, implicit arguments)
+        let times = if random.one_in(10) { 1200 } else { 8 + random.below(100) };
+        input = random.of(PARTS).repeat(times);
+    }
     if random.one_in(6) {
         input.push('\n');
     }

@@ -5,6 +5,8 @@ use dephungo::ParseMode;
 
 #[path = "../../crates/tests_drawn/src/asm_rows.rt"]
 mod asm_rows;
+#[path = "../../crates/tests_drawn/src/coloured_rows.rt"]
+mod coloured_rows;
 #[path = "../../crates/tests_drawn/src/line_rows.rt"]
 mod line_rows;
 #[path = "../../crates/tests_drawn/src/row.rt"]
@@ -13,7 +15,7 @@ mod row;
 mod short_rows;
 
 /// The first fault of a row is drawn as it says.
-fn check(mode: ParseMode, row: &row::Row) {
+fn check(mode: ParseMode, colours: bool, row: &row::Row) {
     let snippet = Some(row.literal.to_string());
     let errors = errors_of(row.text, row.style, snippet, row.appended_newline, mode);
     let source = [row.before, row.literal, row.after].concat();
@@ -22,6 +24,7 @@ fn check(mode: ParseMode, row: &row::Row) {
         source: &source,
         line_start: row.line,
         literal_start: row.before.len(),
+        colours,
     };
     let wanted = row.lines.join("\n") + "\n\n";
     assert_eq!(draw(mode, &picture, &errors[0]), wanted, "{}", row.literal);
@@ -29,13 +32,14 @@ fn check(mode: ParseMode, row: &row::Row) {
 
 fn main() {
     let tables = [
-        (ParseMode::Format, short_rows::short_rows()),
-        (ParseMode::Format, line_rows::line_rows()),
-        (ParseMode::InlineAsm, asm_rows::asm_rows()),
+        (ParseMode::Format, false, short_rows::short_rows()),
+        (ParseMode::Format, false, line_rows::line_rows()),
+        (ParseMode::InlineAsm, false, asm_rows::asm_rows()),
+        (ParseMode::Format, true, coloured_rows::coloured_rows()),
     ];
-    for (mode, rows) in tables {
-        rows.iter().for_each(|row| check(mode, row));
+    for (mode, colours, rows) in tables {
+        rows.iter().for_each(|row| check(mode, colours, row));
     }
-    let count: usize = tables.iter().map(|(_, rows)| rows.len()).sum();
+    let count: usize = tables.iter().map(|(_, _, rows)| rows.len()).sum();
     println!("{count} drawings: all are those of rustc");
 }

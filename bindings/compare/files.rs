@@ -131,7 +131,11 @@ fn main() {
     let mut random = Random::new(seed as u64);
     let mut lines = 0;
     for _ in 0..count {
-        let file: String = (0..random.below(14)).map(|_| random.of(PARTS)).collect();
+        let mut file: String = (0..random.below(14)).map(|_| random.of(PARTS)).collect();
+        if random.one_in(100) {
+            let [holes, arguments] = [0; 2].map(|_| random.below(100));
+            file += &format!("print!(\"{}\"{})", "{}".repeat(holes), ", a".repeat(arguments));
+        }
         let is_from_2021 = !random.one_in(3);
         let seen = ours::seen(&file, is_from_2021);
         assert_eq!(seen, theirs::seen(&file, is_from_2021), "{file:?}");

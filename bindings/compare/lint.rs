@@ -71,7 +71,13 @@ fn drawings(
     mode: ParseMode,
     all: bool,
 ) -> String {
-    let picture = Picture { path: "<stdin>", source: snippet, line_start: 1, literal_start: 0 };
+    let picture = Picture {
+        path: "<stdin>",
+        source: snippet,
+        line_start: 1,
+        literal_start: 0,
+        colours: false,
+    };
     let calls = calls(snippet, text, style, mode);
     if !all {
         let first = calls.iter().flatten().next();

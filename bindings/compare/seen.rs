@@ -92,7 +92,13 @@ macro_rules! seen_by {
                 let mut made = format!("{:?}", edits(mode, &errors));
                 made += &format!("{:?}", fix(input, *style, source, *newline, mode));
                 made += &format!("{:?}", tokens(input, *style, snippet.clone(), *newline, mode));
-                let picture = Picture { path: "a.rs", source, line_start: 9, literal_start: 0 };
+                let picture = Picture {
+                    path: "a.rs",
+                    source,
+                    line_start: 9,
+                    literal_start: 0,
+                    colours: false,
+                };
                 errors.iter().for_each(|error| made += &draw(mode, &picture, error));
                 for error in &mut errors {
                     error.span = places[0]..places[1];

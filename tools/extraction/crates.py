@@ -1,6 +1,7 @@
 """Crates as a whole: which of their items are needed, and the sources in Rust that these make."""
 import re
 import subprocess
+import tempfile
 from pathlib import Path
 
 from extraction import ghosts, rules
@@ -21,52 +22,102 @@ NOTICE = """\
 """
 
 
-def extracted(crates, callers):
-    """The sources that crates make, `{name: folder}`, as pairs of a file's name and its text; of
-    all items those that the callers need, which are files in Rust."""
-    sources = []
-    for crate, folder in crates.items():
-        for path in sorted(folder.rglob("*.rt")):
-            name = str(path.relative_to(folder))
-            sources.append(in_place(f"{path}", Source, name, path.read_text()))
-            sources[-1].crate, sources[-1].path = crate, str(path)
-            in_place(str(path), ghosts.strip, sources[-1], sources[-1].items)
-    empty, fields = ghosts.empty_types(sources)
-    lookers = ghosts.lookers(sources)
-    for source in sources:
-        source.lookers = lookers
-        in_place(source.path, ghosts.erase, source, empty, fields)
-    needs = Needs(sources)
-    for path in callers:
-        needs.add_caller(in_place(str(path), Source, path.name, path.read_text(), False))
-    needs.follow()
-    cloned = {item.name for source in sources for item in source.items
-              if any(clones_in(source, part) for part in item.parts)}
-    head = "// The crates that are extracted. Made by tools/extract: not to be edited.\n\n"
-    made = [("mod.rs", head + "".join(f"pub mod {name};\n" for name in sorted(crates)
-                                       if needs.has(name)))]
-    for source in sources:
-        if needs.has(source.crate, *module_of(source.name)):
-            text = in_place(source.path, rust_of, source, needs, list(crates), empty, cloned)
-            target = source.name.replace(".rt", ".rs")
-            made.append((f"{source.crate}/{target if module_of(source.name) else 'mod.rs'}", text))
-    return made
+# What sources became, by all that decides that.
+TEXTS = {}
 
 
-def of_repository(crates=TOP / "crates"):
-    """The sources that the crates of the repository make for the crate for Rust, by their names."""
-    folders = {name: crates / name / "src" for name in CRATES}
+class Read:
+    """Crates that were read, `{name: folder}`, without what is there for the prover alone."""
+
+    def __init__(self, crates):
+        self.crates = list(crates)
+        self.sources = [source_of(crate, str(path.relative_to(folder)), path, path.read_text())
+                        for crate, folder in crates.items() for path in sorted(folder.rglob("*.rt"))]
+        self.empty, self.fields = ghosts.empty_types(self.sources)
+        self.lookers, self.functions = ghosts.lookers(self.sources), functions_of(self.sources)
+        for source in self.sources:
+            self.erase(source)
+
+    def erase(self, source):
+        source.lookers, source.functions = self.lookers, self.functions
+        in_place(source.path, ghosts.erase, source, self.empty, self.fields)
+
+    def replace(self, path, text):
+        """Reads another text in place of a file: bodies of functions are all that differs."""
+        at = next(at for at, it in enumerate(self.sources) if it.path == str(path))
+        self.sources[at] = source_of(self.sources[at].crate, self.sources[at].name, path, text)
+        self.erase(self.sources[at])
+
+    def made(self, callers):
+        """The sources in Rust, by their names, of all items that the callers need, which are files in
+        Rust. It can be asked once."""
+        needs = Needs(self.sources)
+        for path in callers:
+            needs.add_caller(in_place(str(path), Source, path.name, path.read_text(), False))
+        needs.follow()
+        cloned = {item.name for source in self.sources for item in source.items
+                  if any(clones_in(source, part) for part in item.parts)}
+        head = "// The crates that are extracted. Made by tools/extract: not to be edited.\n\n"
+        modules = (f"pub mod {name};\n" for name in sorted(self.crates) if needs.has(name))
+        made = {"mod.rs": head + "".join(modules)}
+        for source in self.sources:
+            module = module_of(source.name)
+            if needs.has(source.crate, *module):
+                target = source.name.replace(".rt", ".rs") if module else "mod.rs"
+                made[f"{source.crate}/{target}"] = self.text(source, needs, cloned)
+        return made
+
+    def text(self, source, needs, cloned):
+        """The text in Rust of a source."""
+        here = (source.crate, *module_of(source.name))
+        items = [it for item in source.items for it in (item, *item.parts)]
+        has = [needs.has(*here, it.name) for it in items if it.kind == "mod"]
+        passed = sorted(name for path, name in needs.passed if path == source.path)
+        key = (source.path, source.whole, *(it.is_kept for it in items), *has, *passed)
+        if key not in TEXTS:
+            words = (source, needs, self.crates, self.empty, cloned)
+            TEXTS[key] = in_place(source.path, rust_of, *words)
+        return TEXTS[key]
+
+
+def source_of(crate, name, path, text):
+    """A file of a crate, without clauses and ghost items."""
+    source = in_place(str(path), Source, name, text)
+    source.crate, source.path, source.whole = crate, str(path), text
+    in_place(str(path), ghosts.strip, source, source.items)
+    return source
+
+
+def functions_of(sources):
+    """The names of all functions and methods."""
+    items = [it for source in sources for item in source.items for it in (item, *item.parts)]
+    return {it.name for it in items if it.kind == "fn"}
+
+
+def read_repository():
+    """The crates of the repository that are extracted."""
+    return Read({name: TOP / "crates" / name / "src" for name in CRATES})
+
+
+def of_repository(read=None):
+    """The sources that these crates, or those of the repository, make for the crate for Rust, by
+    their names."""
     callers = [it for it in sorted(RUST.rglob("*.rs")) if RUST / "proved" not in it.parents]
-    return dict(extracted(folders, callers))
+    return (read or read_repository()).made(callers)
 
 
-def laid_out(text):
-    """A file as rustfmt lays it out."""
-    words = "rustfmt --edition 2021 --config max_width=100".split()
-    done = subprocess.run(words, input=text, capture_output=True, text=True)
-    if done.returncode != 0:
-        raise Refused(0, done.stderr)
-    return done.stdout
+def laid_out(files):
+    """Files, by their names, as rustfmt lays them out."""
+    with tempfile.TemporaryDirectory() as folder:
+        paths = {Path(folder) / name: text for name, text in files.items()}
+        for path, text in paths.items():
+            path.parent.mkdir(parents=True, exist_ok=True)
+            path.write_text(text)
+        words = "rustfmt --edition 2021 --config max_width=100".split()
+        done = subprocess.run([*words, *paths], capture_output=True, text=True)
+        if done.returncode != 0:
+            raise Refused(0, done.stderr)
+        return {name: (Path(folder) / name).read_text() for name in files}
 
 
 def in_place(path, call, *arguments):
@@ -269,6 +320,7 @@ def derives(source, item, cloned):
     if unknown:
         source.refuse(first, f"a derive of `{unknown.pop()}`")
     names = [name for name in names if name != "Drop"]
+    names += rules.ADDED.get((source.crate, item.name), ())
     if item.name in cloned:
         names = ["Clone"] + names
     source.cut(first, source.next(last) - 1)

@@ -5,6 +5,8 @@ import textwrap
 from extraction.rules import ATTRIBUTES, OPENED
 
 NUMBERS = ("bool", "char", "u8", "u16", "u32", "u64", "usize")
+# Words of an argument through which a function could do something.
+ACTING = {"mut", "Global", "HostRuntime", "dyn", "fn", "impl"}
 # Signs that may stand in what is left out.
 PLAIN = ("(", ")", "[", "]", ".", ",", ";", ":", "::", "&", "*")
 # Words that say what is done, and are no names.
@@ -134,9 +136,17 @@ def lookers(sources):
         for item in source.items:
             if item.kind == "fn":
                 words = source.texts(item.head, item.open - 1)
-                looks = words[-1] in NUMBERS and not {"mut", "Global", "fn", "impl"} & {*words[1:]}
+                looks = words[-1] in NUMBERS and not ACTING & {*words[1:]}
                 known.setdefault(item.name, []).append(looks)
     return {name for name, looks in known.items() if all(looks)}
+
+
+def refuse_acting(source, item):
+    """Refuses a method of a value that takes no bytes which could do something to another one."""
+    for part in [part for part in item.parts if part.kind == "fn"]:
+        words = " ".join(source.texts(part.head, part.open - 1)[1:])
+        if ACTING & {*words.replace("& mut self", "").split()}:
+            source.refuse(part.head, f"`{part.name}`, which could do more than is left out")
 
 
 def erase(source, empty, fields):
@@ -144,6 +154,7 @@ def erase(source, empty, fields):
     them."""
     for item in source.items:
         if item.name in empty and item.kind in ("struct", "impl"):
+            refuse_acting(source, item)
             source.cut(item.first, item.last)
     source.items = [item for item in source.items if source.text(item.last)]
     for item in source.items:
@@ -155,6 +166,8 @@ def erase(source, empty, fields):
 
 def erase_at(source, at, empty, fields, held):
     """Leaves out what begins at a place, in an impl of a struct that holds such members."""
+    if source.text(at) not in ("let", "self", *fields):
+        return
     text, before, behind = source.around(at)
     second, third = source.text(source.next(at, 2)), source.text(source.next(at, 3))
     if text in fields and behind == "{" and before not in ("for", "impl", "struct"):

@@ -1,5 +1,8 @@
 """The rules by which a source in Rattle becomes one in Rust: each leaves out what only the prover
 reads, or rewrites a form that Rust does not have. What no rule knows is refused by its name."""
+import re
+from pathlib import Path
+
 from extraction.source import Import
 
 # What of the library may be named, and what replaces it. A path that is not here is refused. What
@@ -21,8 +24,8 @@ LIBRARY = {"clap": "crate::shim::clap", "itoa": "crate::shim::itoa",
 # shim's traits.
 CONSTRUCTORS = {"new": "made_in", "with_capacity": "made_for", "from_str": "made_from"}
 # What of a module of the library may be named by itself or behind it.
-NAMED = {"env": {"args", "var"}, "fs": {"canonicalize", "metadata", "open", "read_dir"},
-         "io": {"Error", "ErrorKind", "Read", "Result", "Write"}}
+NAMED = {"env": {"args", "var"}, "fs": {"DirEntry", "canonicalize", "metadata", "open", "read_dir"},
+         "io": {"Error", "ErrorKind", "IsTerminal", "Read", "Result", "Write"}, "mem": {"replace"}}
 # Constructors that ask for no memory.
 PLAIN = ("from_utf8",)
 METHODS = {
@@ -47,8 +50,9 @@ METHODS = {
 }
 # Methods of `Option` that are only in younger libraries, and the value that they have for `None`.
 TESTS = {"is_some_and": "false", "is_none_or": "true"}
-# What a path may begin with besides what a file names.
+# What a path may begin with besides what a file names, and what of a plain type.
 KNOWN = ("super", "char", "u8", "u8x16", "u16", "u32", "u64", "usize")
+OF_PLAIN = {"MAX", "from", "from_slice", "from_u32", "is_whitespace", "splat"}
 MACROS = {"matches": "matches", "format": "crate::shim::format_in", "vec": "crate::shim::vec_in",
           "eprint": "crate::shim::eprint_in", "eprintln": "crate::shim::eprintln_in"}
 # Traits that are named only where they are imported, by the calls of their methods.
@@ -56,13 +60,30 @@ TRAITS = {(".", "width", 0): "UnicodeWidthChar", (".", "is_terminal", 0): "IsTer
           (".", "read_to_end", 1): "Read", (".", "read_to_string", 1): "Read"}
 ATTRIBUTES = {"cold", "default", "derive", "doc", "inline", "tactic"}
 DERIVES = {"Clone", "Copy", "Debug", "Default", "Drop", "Eq", "Ord", "PartialEq", "PartialOrd"}
+# Derives that only the crate for Rust has: none of these needs a proof there.
+ADDED = {("placeholder_check", "Report"): ("Clone", "Debug", "Eq", "PartialEq"),
+         ("rustc_parse_format", "Fault"): ("Clone", "Debug", "Eq", "PartialEq"),
+         ("drawn_faults", "Fixed"): ("Clone",),
+         **{(crate, name): ("Hash",) for crate in ("format_tokens", "rust_tokens")
+            for name in ("Kind", "Token")}}
 # Members that what calls the crates has to write, for which they have no call.
 OPENED = {"Cursor": {"source"}}
 # Words behind which an expression may begin.
 KEYWORDS = ("else", "if", "in", "match", "return", "while")
-# Methods that follow the Unicode version of a library, and those of types that are one in Rattle.
-VARYING = {"escape_debug", "into_iter", "is_alphabetic", "is_lowercase", "is_numeric", "is_uppercase",
-           "to_lowercase", "to_uppercase"}
+# Methods of the library that do the same in both languages, and on each Unicode version but for
+# white space. Others that are called are those of the crates or of the shim.
+PLAIN_METHODS = set("""
+all as_bytes as_deref as_ref as_slice as_str capacity chars checked_add contains copied ends_with
+enumerate error_len get is_ascii is_ascii_alphanumeric is_ascii_digit is_ascii_hexdigit
+is_ascii_lowercase is_dir is_empty is_err is_file is_none is_ok is_some is_whitespace iter kind last
+len len_utf8 lines map map_or max min next ok or pop read_to_end read_to_string remove rev reverse
+rfind rsplit_once saturating_add saturating_mul saturating_sub shrink_to_fit split split_at split_once
+starts_with strip_prefix strip_suffix then_some to_digit trailing_zeros trim trim_start unwrap_or
+valid_up_to zip
+""".split())
+SHIM = Path(__file__).resolve().parent.parent.parent / "bindings/rust/src/shim"
+SHIM_METHODS = {name for file in SHIM.rglob("*.rs")
+                for name in re.findall(r"\bfn (\w+)", file.read_text())}
 # Words of forms that are not known to mean the same in both languages, or are known not to.
 UNKNOWN = {"anyhow", "as_mut_ptr", "as_ptr", "async", "await", "dyn", "extern", "ghost",
            "macro_rules", "size_of", "spawn", "static", "trait", "try_from", "try_into", "try_recv",
@@ -89,8 +110,9 @@ def rewrite(source, item, crate, crates):
                 # of the type itself only since Rust 1.87
                 source.tokens[at].text = "std::str"
             elif text in NAMED and source.imports().get(text) == ["std", text]:
-                if source.text(source.next(at, 2)) not in NAMED[text]:
-                    source.refuse(at, f"`{text}::{source.text(source.next(at, 2))}`, which is not known")
+                refuse_other(source, at, NAMED[text])
+            elif text in KNOWN[1:]:
+                refuse_other(source, at, OF_PLAIN)
             elif text in ("Vec", "String", "Box", "BTreeMap", "BTreeSet"):
                 called = source.next(at, 2)
                 if source.text(source.next(called)) == "(" and source.text(called) in CONSTRUCTORS:
@@ -124,6 +146,13 @@ def rewrite(source, item, crate, crates):
         elif text != "static" or at != item.head:
             refuse_unknown(source, at)
     return uses_shim
+
+
+def refuse_other(source, at, known):
+    """Refuses what a path that begins at a place goes on with, if it is not known."""
+    name = source.text(source.next(at, 2))
+    if name not in known:
+        source.refuse(at, f"`{source.text(at)}::{name}`, which is not known")
 
 
 def known_traits(source, item):
@@ -162,6 +191,9 @@ def macro(source, at):
         if name == "vec" and not repeats(source, inner, source.close(opening)):
             source.refuse(at, "a `vec!` of other items than a plain one, again and again")
         source.cut(inner, source.next(inner) - 1)
+    texts = [it.text for it in source.tokens[opening : source.close(opening)] if it.kind == "string"]
+    if name != "matches" and any(re.search(r"\?\}", it) for it in texts):
+        source.refuse(at, f"a `{name}!` that shows a value as `Debug` does")
     if (name in ("eprint", "eprintln")
             and [source.text(inner), source.text(source.next(inner))] != ["rt", ";"]):
         source.refuse(at, f"an `{name}!` without the process")
@@ -232,8 +264,9 @@ def refuse_unknown(source, at):
     kind, (text, before, behind) = source.tokens[at].kind, source.around(at)
     if kind == "word" and text in UNKNOWN or kind == "sign" and not text.isascii():
         source.refuse(at, f"`{text}`")
-    elif kind == "word" and text in VARYING and before == "." and behind == "(":
-        source.refuse(at, f"a call of `{text}`")
+    elif (kind == "word" and before == "." and behind in ("(", "::")
+          and text not in PLAIN_METHODS | SHIM_METHODS | source.functions):
+        source.refuse(at, f"a call of `{text}`, which is not known")
     elif text == "fn" and behind == "(":
         source.refuse(at, "a pointer to a function")
     elif text == "impl" and before in (":", "->", "&", "<", "("):
@@ -294,7 +327,7 @@ def imported(source, item, crate, crates, named):
             continue
         known = in_library(path)
         if known is not None:
-            if known == "std::io" and path[2:] and path[2] not in NAMED["io"]:
+            if path[0] == "std" and path[2:] and path[2] not in NAMED.get(path[1], path):
                 source.refuse(item.head, f"`{'::'.join(path)}`, which is not known")
             if LIBRARY[known]:
                 path = LIBRARY[known].split("::") + path[len(known.split("::")) :]

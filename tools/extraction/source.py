@@ -25,7 +25,7 @@ class Source:
 
     def __init__(self, name, text, has_items=True):
         self.name, self.tokens, self.items, self.doubts = name, tokens_of(text), [], []
-        self.lookers, self.streams = set(), []
+        self.lookers, self.functions, self.streams, self.named = set(), set(), [], None
         at = 0
         while at < len(self.tokens) and (self.tokens[at].kind == "space"
                                          or self.tokens[at].text.startswith("//!")):
@@ -39,9 +39,10 @@ class Source:
 
     def next(self, at, count=1, step=1):
         """The place of the next token that counts, or of the one after it, and so on."""
+        tokens, end = self.tokens, len(self.tokens)
         for _ in range(count):
             at += step
-            while 0 <= at < len(self.tokens) and not self.is_real(at):
+            while 0 <= at < end and (tokens[at].text == "" or tokens[at].kind in TRIVIA):
                 at += step
         return at
 
@@ -229,8 +230,10 @@ class Source:
 
     def imports(self):
         """What this file calls by a name of its own, and by which path it is known."""
-        uses = [Import(self, self.next(it.head)) for it in self.items if it.kind == "use"]
-        return {called: path for it in uses for path, called in it.paths()}
+        if self.named is None:
+            uses = [Import(self, self.next(it.head)) for it in self.items if it.kind == "use"]
+            self.named = {called: path for it in uses for path, called in it.paths()}
+        return self.named
 
 
 class Import:

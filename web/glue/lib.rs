@@ -62,7 +62,13 @@ fn answer(input: &str, before: usize, start: usize, mode: usize, all: bool) -> O
     let report = check(&pieces, positional, &words.collect::<Vec<_>>());
     // what is not shown becomes a line in front
     let source = " ".repeat(before) + "\n" + if before > 0 { &text } else { literal };
-    let picture = Picture { path: "text", source: &source, line_start: 0, literal_start: 1 };
+    let picture = Picture {
+        path: "text",
+        source: &source,
+        line_start: 0,
+        literal_start: 1,
+        colours: false,
+    };
     let kind = |it: &Token| part(&format!("{:?}", it.kind), "", Some(&it.span));
     let lists = [
         format!("\"counts\":[{calls},{faults}]"),

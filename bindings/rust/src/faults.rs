@@ -9,13 +9,15 @@ use crate::proved::rustc_parse_format::messages::set_error;
 use crate::shim::alloc::{answer, Global};
 use crate::shim::parser::Parser;
 use crate::{Argument, ParseError, ParseMode};
+use std::error::Error;
+use std::fmt::{self, Display, Formatter};
 
 pub use crate::proved::drawn_faults::{Edit, Fixed, Picture};
 pub use crate::proved::rustc_parse_format::Fault;
 
 /// Returns the text that shows an error of a literal of this mode under its source, as rustc 1.95
-/// draws it without colours. The spans of the error are byte ranges of the literal: its parser had
-/// this literal as its snippet, and that was the source literal.
+/// draws it, in its colours if the picture has them. The spans of the error are byte ranges of the
+/// literal: its parser had this literal as its snippet, and that was the source literal.
 ///
 /// From top to bottom: what the error is, and its path, line and column, which counts characters;
 /// the lines with labels, each with its number and the signs of the labels under it; the note; the
@@ -35,7 +37,7 @@ pub use crate::proved::rustc_parse_format::Fault;
 ///
 /// let source = "println!(\"{a!}\");";
 /// let errors = errors_of("{a!}\n", None, Some("\"{a!}\"".to_string()), true, ParseMode::Format);
-/// let picture = Picture { path: "a.rs", source, line_start: 1, literal_start: 9 };
+/// let picture = Picture { path: "a.rs", source, line_start: 1, literal_start: 9, colours: false };
 /// let wanted = "\
 /// error: invalid format string: expected `}`, found `!`
 ///  --> a.rs:1:13
@@ -195,3 +197,12 @@ pub fn fix(
         mode,
     ))
 }
+
+/// Writes the description of the fault's error.
+impl Display for Fault<'_> {
+    fn fmt(&self, out: &mut Formatter<'_>) -> fmt::Result {
+        out.pad(&error_of(self).description)
+    }
+}
+
+impl Error for Fault<'_> {}

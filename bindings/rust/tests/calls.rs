@@ -233,12 +233,29 @@ fn places_and_lines_of_a_source_literal() {
         (1, &(5..11))
     );
     assert_eq!(parser.line_spans, [1..11, 15..16]);
+    // the last line is put there once, unless it is no longer the last one
+    parser.next();
+    assert_eq!(parser.line_spans, [1..11, 15..16]);
+    parser.line_spans.push(1..11);
+    parser.next();
+    assert_eq!(parser.line_spans, [1..11, 15..16, 1..11, 15..16]);
     parser.line_spans.clear();
     parser.next();
     assert_eq!(
         (parser.line_spans.len(), &parser.line_spans[0]),
         (1, &(15..16))
     );
+}
+
+/// A unit of a literal that the text has not stands in front of one that it has.
+#[test]
+fn units_that_the_text_has_not() {
+    for unit in ["\\x41", "\\u{41}", "\\n", "\\\\", "A", "\\q"] {
+        for snippet in [format!("\"a{unit}b{{x}}\""), format!("\"ab{{x{unit}}}\"")] {
+            assert!(!literal("ab{x}", &snippet).is_source_literal, "{snippet}");
+        }
+    }
+    assert!(literal("ab{x}", "\"a\\\n \\\n b{x\\\n}\"").is_source_literal);
 }
 
 #[test]

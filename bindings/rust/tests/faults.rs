@@ -176,6 +176,15 @@ fn ids() {
 
 /// The errors of faults, in the order of a parser's list, are the parser's.
 #[test]
+fn faults_are_errors_of_the_standard_library() {
+    let fault = faults_of("{}}", None, None, false, Format).remove(0);
+    assert_eq!(fault, faults_of("{}}", None, None, false, Format)[0]);
+    assert_eq!(format!("{fault:>20}"), " unmatched `}` found");
+    let error: Box<dyn std::error::Error + '_> = Box::new(fault.clone());
+    assert_eq!(error.to_string(), error_of(&fault).description);
+}
+
+#[test]
 fn errors_of_faults() {
     let text = "{r#a.b} {c?} {_} } {r#d";
     let mut made: Vec<ParseError> = Vec::new();
@@ -200,13 +209,64 @@ fn error(span: Range<usize>, second: Option<Range<usize>>, suggestion: Suggestio
 }
 
 #[test]
-fn edits_do_not_overlap() {
-    let errors = [4..6, 2..4, 1..3].map(|span| error(0..0, None, Suggestion::RemoveRawIdent(span)));
-    let spans: Vec<_> = edits(Format, &errors)
-        .iter()
-        .map(|edit| edit.span.clone())
-        .collect();
-    assert_eq!(spans, [1..3, 4..6]);
+fn edits_neither_overlap_nor_touch() {
+    let far = [2..4, 5..6];
+    for (given, wanted) in [
+        (&[4..6, 2..4, 1..3][..], &[1..3, 4..6][..]),
+        (&[4..6, 2..4], &far[..1]),
+        (&[5..6, 2..4], &far),
+    ] {
+        let suggested =
+            |span: &Range<usize>| error(0..0, None, Suggestion::RemoveRawIdent(span.clone()));
+        let errors: Vec<_> = given.iter().map(suggested).collect();
+        let spans: Vec<_> = edits(Format, &errors)
+            .iter()
+            .map(|edit| edit.span.clone())
+            .collect();
+        assert_eq!(spans, wanted);
+    }
+}
+
+/// More faults and edits than the first lists hold.
+#[test]
+fn many_faults() {
+    for count in [9, 10, 11, 1000] {
+        let (text, wanted) = ("{r#a}".repeat(count), "{a}".repeat(count));
+        let errors = errors_of(&text, None, None, false, Format);
+        assert_eq!(errors.len(), count);
+        assert!(errors
+            .windows(2)
+            .all(|two| two[0].span.start == two[1].span.start + 5));
+        assert_eq!(edits(Format, &errors).len(), count);
+        let found = fixed(Format, &text, Some(0), &format!("r\"{text}\""));
+        assert_eq!(found, Some((format!("r\"{wanted}\""), wanted)));
+    }
+}
+
+#[test]
+fn a_long_drawing() {
+    let source = format!("f(\"{}{{a!}}\");", "日".repeat(3000));
+    let errors = errors_of(
+        &source[3..source.len() - 3],
+        None,
+        Some(source[2..source.len() - 2].to_string()),
+        false,
+        Format,
+    );
+    let picture = Picture {
+        path: "a.rs",
+        source: &source,
+        line_start: 1,
+        literal_start: 2,
+        colours: false,
+    };
+    let before = " ".repeat(6003);
+    let wanted = format!(
+        "error: invalid format string: expected `}}`, found `!`\n --> a.rs:1:3006\n  |\n1 | {source}\n  \
+         | {before}- ^ expected `}}` in format string\n  | {before}|\n  | {before}because of this opening \
+         brace\n  |\n  = note: if you intended to print `{{`, you can escape it using `{{{{`\n\n"
+    );
+    assert_eq!(draw(Format, &picture, &errors[0]), wanted);
 }
 
 #[test]
@@ -287,6 +347,7 @@ fn spans() {
             source,
             line_start: 7,
             literal_start: 0,
+            colours: false,
         };
         let drawing = draw(Format, &picture, &error(span, second, Suggestion::None));
         assert_eq!(
@@ -312,6 +373,7 @@ fn what_a_terminal_obeys() {
         source: "\u{61c}\u{9b}\u{200e}\u{200d}ab",
         line_start: 7,
         literal_start: 2,
+        colours: false,
     };
     let wanted = "error: invalid format string: d\u{241b}[31m\n --> a\u{2407}.rs:7:5\n  |\n\
         7 | \u{fffd}\u{fffd}\u{fffd}ab\n  |    ^- \u{2421}s\n  |    |\n\

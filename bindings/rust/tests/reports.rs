@@ -103,3 +103,17 @@ fn many_names() {
         }
     }
 }
+
+/// More arguments than a block of marks or two hold.
+#[test]
+fn many_numbers() {
+    for count in [63, 64, 65, 71, 128, 129, 200] {
+        let text = "{}".repeat(count);
+        for given in [
+            0, 1, 62, 63, 64, 65, 70, 71, 72, 127, 128, 129, 199, 200, 201,
+        ] {
+            check_report(&text, given, &[]);
+            check_report(&format!("{text}{{0}}{{140}}"), given, &["n"]);
+        }
+    }
+}

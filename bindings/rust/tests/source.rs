@@ -197,6 +197,11 @@ fn reports() {
         "    panic!(x);",
         "    print!(\"\\q\");",
         "    format!(\"{} {}\", x);",
+        "    format!(\"{} {}}\", , x);",
+        "    format!(\"{} {}}\", x x);",
+        "    write!(x, );",
+        "    println!(\"{}\" x);",
+        "    print!();",
         "}",
     ]
     .join("\r\n");
@@ -211,6 +216,11 @@ fn reports() {
             CallReading::Unread(Reason::Expression),
             CallReading::Malformed,
             CallReading::Whole,
+            CallReading::NoExpression,
+            CallReading::NoComma,
+            CallReading::Redefined,
+            CallReading::NoComma,
+            CallReading::Unread(Reason::Missing),
         ]
     ));
     let places = Places::new(&text);
@@ -225,11 +235,25 @@ fn reports() {
     let wanted = [
         (2, 51, "missing-closing-brace", false),
         (5, 22, "name-used-by-index", true),
+        (7, 12, "no-string-literal", false),
         (9, 14, "missing-argument", false),
+        (10, 23, "missing-expression", false),
+        (13, 19, "missing-comma", false),
+        (14, 5, "missing-format-string", false),
     ];
     assert_eq!(shown, wanted);
-    let title = "2 positional arguments in format string, but there is 1 argument";
-    assert_eq!(report.findings[2].title, title);
+    let titles: Vec<_> = report.findings[2..].iter().map(|it| &it.title[..]).collect();
+    let wanted = [
+        "format argument must be a string literal",
+        "2 positional arguments in format string, but there is 1 argument",
+        "expected expression, found `,`",
+        "expected `,`, found `x`",
+        "requires at least a format string argument",
+    ];
+    assert_eq!(titles, wanted);
+    let help = report.findings[2].help.as_ref().unwrap();
+    assert_eq!(help.text, "you might be missing a string literal to format with");
+    assert_eq!(help.edits[0].text, "\"{}\", ");
 }
 
 /// Calls in front of the place where a file breaks are read.

@@ -118,17 +118,19 @@ mod tests {
             for others in [a, b, a ^ 1, a ^ 128, 0, 255] {
                 let mut bytes = [others; 17];
                 bytes[lane] = a;
-                let wanted = (0..16).filter(|&i| bytes[i] == b).map(|i| 1 << i).sum();
                 let (lanes, splat) = (u8x16::from_slice(&bytes), u8x16::splat(b));
-                assert_eq!(lanes.simd_eq(splat).to_bitmask(), wanted);
-                assert_eq!(lanes.simd_ne(splat).to_bitmask(), wanted ^ 0xffff);
-                let less = (0..16).filter(|&i| bytes[i] < b).map(|i| 1 << i).sum();
+                let mask = |is_lane: bool, are_others: bool| {
+                    (u64::from(is_lane) << lane) | (u64::from(are_others) * (0xffff ^ (1 << lane)))
+                };
+                let equal = mask(a == b, others == b);
+                assert_eq!(lanes.simd_eq(splat).to_bitmask(), equal);
+                assert_eq!(lanes.simd_ne(splat).to_bitmask(), equal ^ 0xffff);
+                let less = mask(a < b, others < b);
                 assert_eq!(lanes.simd_lt(splat).to_bitmask(), less);
-                let more = (0..16).filter(|&i| b < bytes[i]).map(|i| 1 << i).sum();
+                let more = mask(b < a, b < others);
                 assert_eq!(splat.simd_lt(lanes).to_bitmask(), more);
                 let either = lanes.simd_eq(splat) | lanes.simd_eq(u8x16::splat(others));
-                let other = (0..16).filter(|&i| bytes[i] == others).map(|i| 1 << i);
-                assert_eq!(either.to_bitmask(), wanted | other.sum::<u64>());
+                assert_eq!(either.to_bitmask(), equal | mask(a == others, true));
             }
         }
     }

@@ -8,6 +8,7 @@ use crate::proved::call_faults::arguments::{arguments_of, Given};
 use crate::proved::call_faults::compared::{compare, indices_of};
 use crate::proved::call_faults::faults::CallFault;
 use crate::proved::call_faults::lookups::lookups_of;
+use crate::proved::call_faults::spots::counts_before;
 use crate::proved::call_faults::text::text_fault;
 use crate::proved::rustc_parse_format::{Fault, ParseMode, Piece};
 use crate::shim::alloc::{AllocError, Global};
@@ -39,6 +40,8 @@ pub struct Checked<'a> {
     pub kept: Vec<usize>,
     /// The pieces of the format string.
     pub pieces: Vec<Piece<'a>>,
+    /// Of each piece, how many placeholders stand before it.
+    pub counts: Vec<usize>,
     /// The parser after them, which has the places of the placeholders.
     pub parser: Parser<'a>,
     /// What is wrong, in the order in which rustc tells it.
@@ -129,6 +132,7 @@ fn faults_of<'a>(
 //     × (x.parser ≡ after_all s (calls s))) }
 // ensures given { IfOk result (λ x. x.given ≡ given.entry) }
 // ensures kept { IfOk result (λ x. x.kept.items ≡ kept_indices (map seen_given given.now)) }
+// ensures counts { IfOk result (λ x. x.counts.items ≡ counts_before 0 (map seen x.pieces.items)) }
 // ensures faults { IfOk result (λ x. map seen_fault x.faults.items
 //     ≡ call_faults string.entry.captures (map seen_given given.now)
 //     (text_fault (start string.entry)) (map seen x.pieces.items)) }
@@ -154,10 +158,12 @@ pub fn call_faults<'a>(
     let is_read = parser.errors().is_empty();
     let mut kept = Vec::made_in(alloc);
     let faults = faults_of(alloc, string, is_read, &pieces, given, &mut kept)?;
+    let counts = counts_before(alloc, &pieces)?;
     Ok(Checked {
         given,
         kept,
         pieces,
+        counts,
         parser,
         faults,
     })

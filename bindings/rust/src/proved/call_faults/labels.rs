@@ -295,7 +295,8 @@ fn push_by_index(
     index: usize,
 ) -> Result<(), AllocError> {
     let text = use_text(*labels.own_allocator(), name_of(call.given, index))?;
-    let spot = use_spot(&call.pieces, call.parser.arg_places(), reference);
+    let places = call.parser.arg_places();
+    let spot = use_spot(&call.pieces, &call.counts, places, reference);
     push_primary(labels, Spot::Name(index), by_index_text())?;
     push_secondary(labels, spot, &text)?;
     Ok(())

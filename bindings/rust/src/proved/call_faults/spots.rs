@@ -6,7 +6,7 @@
 
 use crate::proved::call_faults::faults::{Part, Reference};
 use crate::proved::rustc_parse_format::{Argument, Count, Piece};
-use crate::shim::alloc::AllocError;
+use crate::shim::alloc::{AllocError, Global};
 use crate::shim::prelude::*;
 use std::ops::Range;
 
@@ -22,10 +22,16 @@ pub enum Spot {
     Value(usize),
     /// The value of an argument, and what is behind it up to the value of the next one.
     ValueUpToNext(usize),
+    /// The empty range after the value of an argument.
+    ValueEnd(usize),
     /// The literal of the format string.
     Literal,
     /// The empty range in front of the closing quote of that literal.
     LiteralEnd,
+    /// The empty range after that literal.
+    AfterLiteral,
+    /// The call, from the path of its macro to the delimiter that closes it.
+    Call,
     /// These bytes of that literal, as the spans of the parser count them.
     Bytes {
         /// The offset of the first byte.
@@ -61,8 +67,13 @@ pub struct CallNote {
 pub struct CallEdit {
     /// Where the other text is. That range is empty where text is only inserted.
     pub spot: Spot,
-    /// The new text, which is empty where text is only removed.
+    /// The new text, or what stands in it before the source that it copies. It is empty where text
+    /// is only removed.
     pub text: String,
+    /// The place whose source the new text copies, if it copies any.
+    pub copied: Option<Spot>,
+    /// What stands in the new text after that.
+    pub rest: &'static str,
 }
 
 /// A help of a fault.
@@ -228,15 +239,29 @@ pub(crate) fn behind<'p>(piece: &Piece<'_>, places: &'p [Range<usize>]) -> &'p [
     }
 }
 
-/// Returns the places of the placeholders behind pieces, from those from the first of them on.
-// ensures { map pair result.now ≡ behind_all (map seen pieces.now) (map pair places.now) }
+/// Returns the number of placeholders up to a piece, where so many stand before it.
+// requires { count + 1 < 2 ^ 64 }
+// ensures { result ≡ count_with count (seen piece.now) }
 #[inline]
-fn behind_all<'p>(pieces: &[Piece<'_>], places: &'p [Range<usize>]) -> &'p [Range<usize>] {
-    let mut left = places;
-    for piece in pieces {
-        left = behind(piece, left);
+fn count_with(count: usize, piece: &Piece<'_>) -> usize {
+    match piece {
+        Piece::Lit(_) => count,
+        Piece::NextArgument(_) => count + 1,
     }
-    left
+}
+
+/// Returns of each of these pieces how many placeholders stand before it. Returns `Err` if an
+/// allocation fails.
+// ensures { IfOk result (λ v. v.items ≡ counts_before 0 (map seen pieces.now)) }
+#[inline]
+pub(crate) fn counts_before(alloc: Global, pieces: &[Piece<'_>]) -> Result<Vec<usize>, AllocError> {
+    let mut counts = Vec::made_for(alloc, pieces.len())?;
+    let mut count = 0;
+    for piece in pieces {
+        counts.try_push(count)?;
+        count = count_with(count, piece);
+    }
+    Ok(counts)
 }
 
 /// Returns the first one of places, or the whole literal if there is none.
@@ -249,13 +274,18 @@ pub(crate) fn first_spot(places: &[Range<usize>]) -> Spot {
     }
 }
 
-/// Returns the place of the placeholder with an index among pieces, or the whole literal if it has
-/// none.
-// ensures { result ≡ spot_of (place_of (map seen pieces.now) (map pair places.now) index) }
+/// Returns the place of the placeholder with an index among pieces, before each of which so many
+/// stand, or the whole literal if it has none.
+// ensures { result ≡ spot_of (place_of counts.now (map pair places.now) index) }
 #[inline]
-fn place_spot(pieces: &[Piece<'_>], places: &[Range<usize>], index: usize) -> Spot {
-    let front = &pieces[..index.min(pieces.len())];
-    first_spot(behind_all(front, places))
+fn place_spot(counts: &[usize], places: &[Range<usize>], index: usize) -> Spot {
+    let Some(count) = counts.get(index) else {
+        return Spot::Literal;
+    };
+    match places.get(*count) {
+        None => Spot::Literal,
+        Some(place) => bytes_at(place),
+    }
 }
 
 /// Returns a range without its first byte, which is the dot of a precision.
@@ -273,17 +303,18 @@ fn behind_dot(span: &Option<Range<usize>>) -> Spot {
 
 /// Returns where a use by index is shown: the whole placeholder, or the width or the precision
 /// without its dot.
-// ensures { result ≡ use_spot (map seen pieces.now) (map pair places.now) reference }
+// ensures { result ≡ use_spot (map seen pieces.now) counts.now (map pair places.now) reference }
 #[inline]
 pub(crate) fn use_spot(
     pieces: &[Piece<'_>],
+    counts: &[usize],
     places: &[Range<usize>],
     reference: Reference,
 ) -> Spot {
     match placeholder_at(pieces, reference.piece) {
         None => Spot::Literal,
         Some(argument) => match reference.part {
-            Part::Position => place_spot(pieces, places, reference.piece),
+            Part::Position => place_spot(counts, places, reference.piece),
             Part::Precision => behind_dot(&argument.format.precision_span),
             Part::Width => spot_of(&argument.format.width_span),
         },

@@ -7,19 +7,9 @@
 
 use crate::proved::drawn_faults::glyphs::{glyph, glyph_count, split_first};
 use crate::proved::drawn_faults::mark::Mark;
+use crate::proved::drawn_faults::paint::{has_colours, put_change, put_reset, Palette, Style};
 use crate::shim::alloc::AllocError;
 use crate::shim::prelude::*;
-
-/// How a character is shown.
-#[derive(Clone, Copy)]
-pub enum Style {
-    /// As the text of the source.
-    Plain,
-    /// As a primary label.
-    Primary,
-    /// As another label.
-    Secondary,
-}
 
 /// A character in a row.
 #[derive(Clone, Copy)]
@@ -28,7 +18,7 @@ pub struct Cell {
     pub style: Style,
 }
 
-/// Returns the style of what a label writes.
+/// Returns the style of the signs of a label, and of its bar.
 // ensures { result ≡ style_of (seen_mark mark.now) }
 #[inline]
 pub fn style_of(mark: &Mark<'_>) -> Style {
@@ -39,10 +29,21 @@ pub fn style_of(mark: &Mark<'_>) -> Style {
     }
 }
 
+/// Returns the style of the text of a label.
+// ensures { result ≡ text_style (seen_mark mark.now) }
+#[inline]
+pub fn text_style(mark: &Mark<'_>) -> Style {
+    if mark.sign == '^' {
+        Style::PrimaryText
+    } else {
+        Style::SecondaryText
+    }
+}
+
 /// Returns a space.
 // ensures { result ≡ space }
 #[inline]
-fn space() -> Cell {
+pub fn space() -> Cell {
     Cell {
         character: ' ',
         style: Style::Plain,
@@ -119,10 +120,29 @@ pub fn put_from(
     Ok(())
 }
 
-/// Adds the characters of cells.
-// ensures { OnOk result (string_bytes out.new ≡ string_bytes out.old ++ written cells.now) }
+/// Adds the characters of cells in their styles.
+// ensures { OnOk result (string_bytes out.new ≡ string_bytes out.old
+//     ++ pieces_after palette Plain (cell_pieces cells.now)) }
 #[inline]
-pub fn put_written(out: &mut String, cells: &[Cell]) -> Result<(), AllocError> {
+fn put_in_styles(out: &mut String, palette: Palette, cells: &[Cell]) -> Result<(), AllocError> {
+    let mut style = Style::Plain;
+    for cell in cells {
+        put_change(out, palette, style, cell.style)?;
+        out.try_push(cell.character)?;
+        style = cell.style;
+    }
+    put_reset(out, style)?;
+    Ok(())
+}
+
+/// Adds the characters of cells, in their styles if there are colours.
+// ensures { OnOk result (string_bytes out.new
+//     ≡ string_bytes out.old ++ written palette cells.now) }
+#[inline]
+pub fn put_written(out: &mut String, palette: Palette, cells: &[Cell]) -> Result<(), AllocError> {
+    if has_colours(palette) {
+        return Ok(put_in_styles(out, palette, cells)?);
+    }
     for cell in cells {
         out.try_push(cell.character)?;
     }

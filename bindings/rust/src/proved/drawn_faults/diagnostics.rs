@@ -9,6 +9,7 @@ use crate::proved::drawn_faults::helps::{last_help_line, put_helps, SourceHelp};
 use crate::proved::drawn_faults::labels::{digits, Frame, Label};
 use crate::proved::drawn_faults::marked::{frame_of, last_label_line};
 use crate::proved::drawn_faults::notes::{last_note_line, put_notes, put_titled, SourceNote};
+use crate::proved::drawn_faults::paint::{palette_of, Gutter, Palette};
 use crate::proved::drawn_faults::places::Picture;
 use crate::proved::drawn_faults::suggestions::put_parting;
 use crate::shim::alloc::{AllocError, Global};
@@ -80,8 +81,7 @@ fn labels_of<'a>(
     Ok(list)
 }
 
-/// Returns the columns of the numbers of the lines of a diagnostic with these labels. Returns `Err`
-/// if an allocation fails.
+/// Returns the gutter of a diagnostic with these labels. Returns `Err` if an allocation fails.
 // requires source { length picture.now.source.now < 2 ^ 59 }
 // requires labels { map seen_label labels.now ≡ map (label_of (seen_picture picture.now))
 //     (seen_diagnostic diagnostic.now).labels }
@@ -93,11 +93,13 @@ fn gutter_of(
     picture: &Picture<'_>,
     diagnostic: &Diagnostic<'_>,
     labels: &[Label<'_>],
-) -> Result<usize, AllocError> {
+) -> Result<Gutter, AllocError> {
     let last = last_label_line(0, labels);
     let last = last_note_line(alloc, picture, last, diagnostic.notes)?;
     let last = last_help_line(alloc, picture, last, diagnostic.helps)?;
-    Ok(digits(picture.line_start as usize + last))
+    let columns = digits(picture.line_start as usize + last);
+    let palette = palette_of(picture.colours, level_of(diagnostic.level));
+    Ok(Gutter { columns, palette })
 }
 
 /// Adds the row between the labels and what is below them, if there is anything.
@@ -121,8 +123,18 @@ fn put_parting_above(
 #[inline]
 fn level_word(level: Level) -> &'static str {
     match level {
-        Level::Error => "error: ",
-        Level::Warning => "warning: ",
+        Level::Error => "error",
+        Level::Warning => "warning",
+    }
+}
+
+/// Returns the level whose colours a diagnostic has.
+// ensures { result ≡ level_of (is_warning level) }
+#[inline]
+fn level_of(level: Level) -> Palette {
+    match level {
+        Level::Error => Palette::Error,
+        Level::Warning => Palette::Warning,
     }
 }
 
@@ -142,6 +154,7 @@ fn put_drawn(
     put_titled(
         out,
         frame,
+        frame.gutter.palette,
         level_word(diagnostic.level),
         diagnostic.title,
         labels,
@@ -175,7 +188,10 @@ fn put_diagnostic(
 /// if the source has 2^59 bytes or more; a part of the text may then be in `out`.
 // ensures drawn { OnOk result (string_bytes out.new ≡ string_bytes out.old
 //     ++ diagnostic_text (seen_picture picture.now) (seen_diagnostic diagnostic.now)) }
-// ensures harmless { IsHarmless
+// ensures coloured { IsColourOf
+//     (diagnostic_text (seen_picture picture.now) (seen_diagnostic diagnostic.now))
+//     (diagnostic_text (uncoloured (seen_picture picture.now)) (seen_diagnostic diagnostic.now)) }
+// ensures harmless { IsHarmlessWith picture.now.colours
 //     (diagnostic_text (seen_picture picture.now) (seen_diagnostic diagnostic.now)) }
 #[inline]
 pub fn put_labels(

@@ -6,26 +6,52 @@
 // by results from outside, and beside what is proved (.ci/bindings) and the original (tools/agree).
 
 use crate::proved::drawn_faults::extent::Spot;
-use crate::proved::drawn_faults::glyphs::{put_glyphs_between, put_run};
+use crate::proved::drawn_faults::glyphs::{put_glyphs, put_run};
 use crate::proved::drawn_faults::labels::{
     edit_of, frame_for, mark, second, text_name, Edit, Frame, Label,
 };
 use crate::proved::drawn_faults::lines::{put_decimal, put_labelled, put_two_labels};
 use crate::proved::drawn_faults::long::put_long;
+use crate::proved::drawn_faults::paint::{
+    has_colours, put_closing, put_note_sign, put_opening, put_painted, Gutter, Palette, Style,
+};
 use crate::proved::drawn_faults::places::Picture;
 use crate::proved::drawn_faults::suggestions::{put_edit, put_parting};
 use crate::proved::rustc_parse_format::{ParseError, ParseMode};
 use crate::shim::alloc::{AllocError, Global};
 use crate::shim::prelude::*;
 
+/// Adds what all titles begin with, up to the name of the text, in which the style goes on.
+// ensures { OnOk result (string_bytes out.new ≡ string_bytes out.old
+//     ++ (painted palette Primary (codes "error") ++ (opening palette Bold
+//     ++ codes ": invalid "))) }
+#[inline]
+fn put_title_start(out: &mut String, palette: Palette) -> Result<(), AllocError> {
+    if !has_colours(palette) {
+        return Ok(out.try_push_str("error: invalid ")?);
+    }
+    put_painted(out, palette, Style::Primary, "error")?;
+    put_opening(out, palette, Style::Bold)?;
+    out.try_push_str(": invalid ")?;
+    Ok(())
+}
+
 /// Adds what the error is.
 // ensures { OnOk result (string_bytes out.new ≡ string_bytes out.old
-//     ++ title (seen_mode mode) description.now) }
+//     ++ title palette (seen_mode mode) description.now) }
 #[inline]
-fn put_title(out: &mut String, mode: ParseMode, description: &str) -> Result<(), AllocError> {
-    out.try_push_str("error: invalid ")?;
+fn put_title(
+    out: &mut String,
+    palette: Palette,
+    mode: ParseMode,
+    description: &str,
+) -> Result<(), AllocError> {
+    put_title_start(out, palette)?;
     out.try_push_str(text_name(mode))?;
-    put_glyphs_between(out, ": ", description, "\n")?;
+    out.try_push_str(": ")?;
+    put_glyphs(out, description, 0)?;
+    put_closing(out, palette)?;
+    out.try_push_str("\n")?;
     Ok(())
 }
 
@@ -38,8 +64,10 @@ fn put_title(out: &mut String, mode: ParseMode, description: &str) -> Result<(),
 pub fn put_arrow(out: &mut String, frame: &Frame<'_>, at: Spot) -> Result<(), AllocError> {
     let line = frame.picture.line_start as usize + at.line;
     let column = at.chars + 1;
-    put_run(out, ' ', frame.gutter)?;
-    put_glyphs_between(out, "--> ", frame.picture.path, ":")?;
+    put_run(out, ' ', frame.gutter.columns)?;
+    put_painted(out, frame.gutter.palette, Style::Secondary, "--> ")?;
+    put_glyphs(out, frame.picture.path, 0)?;
+    out.try_push_str(":")?;
     put_decimal(out, line)?;
     out.try_push_str(":")?;
     put_decimal(out, column)?;
@@ -60,7 +88,7 @@ fn put_head(
     description: &str,
     at: Spot,
 ) -> Result<(), AllocError> {
-    put_title(out, mode, description)?;
+    put_title(out, frame.gutter.palette, mode, description)?;
     put_arrow(out, frame, at)?;
     put_parting(out, frame)?;
     Ok(())
@@ -110,14 +138,24 @@ fn put_labels(
     Ok(())
 }
 
+/// Adds what a note begins with.
+// ensures { OnOk result (string_bytes out.new ≡ string_bytes out.old ++ note_word gutter) }
+#[inline]
+pub fn put_note_word(out: &mut String, gutter: Gutter) -> Result<(), AllocError> {
+    put_run(out, ' ', gutter.columns)?;
+    put_note_sign(out, gutter.palette)?;
+    Ok(())
+}
+
 /// Adds the row of a note, if there is one.
 // ensures { OnOk result (string_bytes out.new ≡ string_bytes out.old
 //     ++ note_row gutter (option_map string_bytes note.now)) }
 #[inline]
-fn put_note(out: &mut String, gutter: usize, note: &Option<String>) -> Result<(), AllocError> {
+fn put_note(out: &mut String, gutter: Gutter, note: &Option<String>) -> Result<(), AllocError> {
     if let Some(note) = note {
-        put_run(out, ' ', gutter)?;
-        put_glyphs_between(out, " = note: ", note.as_str(), "\n")?;
+        put_note_word(out, gutter)?;
+        put_glyphs(out, note.as_str(), 0)?;
+        out.try_push_str("\n")?;
     }
     Ok(())
 }
@@ -228,8 +266,9 @@ fn least_length(picture: &Picture<'_>, error: &ParseError) -> usize {
 }
 
 /// Returns the text that shows an error of a literal of this mode under its source, as rustc 1.95
-/// draws it without colours. The spans of the error are byte ranges of the literal: its parser had
-/// this literal as its snippet, and that was the source literal.
+/// draws it, with the colours that rustc gives it on a terminal if the picture has them. The spans
+/// of the error are byte ranges of the literal: its parser had this literal as its snippet, and
+/// that was the source literal.
 ///
 /// From top to bottom: what the error is, and its path, line and column, which counts characters;
 /// the lines with labels, each with its number and the signs of the labels under it; the note; the
@@ -248,7 +287,11 @@ fn least_length(picture: &Picture<'_>, error: &ParseError) -> usize {
 /// Returns `Err` if an allocation fails, or if the source has 2^59 bytes or more.
 // ensures drawn { IfOk result (λ s. string_bytes s
 //     ≡ drawing (seen_mode mode) (seen_picture picture.now) (seen_error error.now)) }
-// ensures harmless { IfOk result (λ s. IsHarmless (string_bytes s)) }
+// Without its colours it is the drawing without colours, and a terminal obeys nothing of it but
+// these.
+// ensures coloured { IfOk result (λ s. IsColourOf (string_bytes s)
+//     (drawing (seen_mode mode) (uncoloured (seen_picture picture.now)) (seen_error error.now))) }
+// ensures harmless { IfOk result (λ s. IsHarmlessWith picture.now.colours (string_bytes s)) }
 #[inline]
 pub fn draw(
     alloc: Global,
@@ -265,7 +308,10 @@ pub fn draw(
 /// source has 2^59 bytes or more; a part of the text may then be in `out`.
 // ensures drawn { OnOk result (string_bytes out.new ≡ string_bytes out.old
 //     ++ drawing (seen_mode mode) (seen_picture picture.now) (seen_error error.now)) }
-// ensures harmless { IsHarmless
+// ensures coloured { IsColourOf
+//     (drawing (seen_mode mode) (seen_picture picture.now) (seen_error error.now))
+//     (drawing (seen_mode mode) (uncoloured (seen_picture picture.now)) (seen_error error.now)) }
+// ensures harmless { IsHarmlessWith picture.now.colours
 //     (drawing (seen_mode mode) (seen_picture picture.now) (seen_error error.now)) }
 #[inline]
 pub fn put_drawing(

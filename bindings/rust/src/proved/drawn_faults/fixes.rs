@@ -22,7 +22,7 @@ pub struct Edit<'e> {
 }
 
 /// A literal with edits applied.
-#[derive(Debug, Eq, PartialEq)]
+#[derive(Debug, Eq, PartialEq, Clone)]
 pub struct Fixed {
     /// The literal, as it is to be in the source.
     pub snippet: String,

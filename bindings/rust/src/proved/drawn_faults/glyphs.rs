@@ -5,6 +5,9 @@
 // That source is proved, and each contract here is its. That this text means the same is tested:
 // by results from outside, and beside what is proved (.ci/bindings) and the original (tools/agree).
 
+use crate::proved::drawn_faults::paint::{
+    has_colours, put_change, put_closing, put_opening, Palette, Style,
+};
 use crate::proved::drawn_faults::printable::{split_as_is, split_printable};
 use crate::shim::alloc::AllocError;
 use crate::shim::prelude::*;
@@ -102,6 +105,25 @@ pub fn draws_nothing(text: &str) -> bool {
             return false;
         }
         rest = tail;
+    }
+    true
+}
+
+/// Returns whether nothing is drawn of the first characters of a text.
+// ensures { result ≡ (length (encode_utf8_all (glyphs (take count (chars text.now)))) == 0) }
+#[inline]
+fn front_draws_nothing(text: &str, count: usize) -> bool {
+    let mut rest = text;
+    let mut left = count;
+    while left > 0 {
+        let Some((c, tail)) = split_first(rest) else {
+            break;
+        };
+        if glyph_count(c) > 0 {
+            return false;
+        }
+        rest = tail;
+        left -= 1;
     }
     true
 }
@@ -211,20 +233,87 @@ pub fn put_glyphs(out: &mut String, text: &str, skipped: usize) -> Result<(), Al
     Ok(())
 }
 
-/// Adds a text as it is drawn, between two others.
+/// Adds a text as it is drawn, in a style.
 // ensures { OnOk result (string_bytes out.new
-//     ≡ string_bytes out.old ++ (a.now ++ (glyph_bytes text.now ++ b.now))) }
+//     ≡ string_bytes out.old ++ painted palette style (glyph_bytes text.now)) }
 #[inline]
-pub fn put_glyphs_between(
+pub fn put_painted_glyphs(
     out: &mut String,
-    a: &str,
+    palette: Palette,
+    style: Style,
     text: &str,
-    b: &str,
 ) -> Result<(), AllocError> {
-    out.try_push_str(a)?;
-    put_glyphs(out, text, 0)?;
-    out.try_push_str(b)?;
+    if !has_colours(palette) {
+        return Ok(put_glyphs(out, text, 0)?);
+    }
+    if !draws_nothing(text) {
+        put_opening(out, palette, style)?;
+        put_glyphs(out, text, 0)?;
+        put_closing(out, palette)?;
+    }
     Ok(())
+}
+
+/// Adds a character again and again, in a style.
+// ensures { OnOk result (string_bytes out.new
+//     ≡ string_bytes out.old ++ painted palette style (run count c)) }
+#[inline]
+pub fn put_painted_run(
+    out: &mut String,
+    palette: Palette,
+    style: Style,
+    c: char,
+    count: usize,
+) -> Result<(), AllocError> {
+    if count > 0 {
+        put_opening(out, palette, style)?;
+        put_run(out, c, count)?;
+        put_closing(out, palette)?;
+    }
+    Ok(())
+}
+
+/// Adds the first characters of a text, as they are drawn, in the style `after`, where a text of
+/// the style `before` is before them. Returns the style of the last text that is drawn.
+// ensures { IfOk result (λ s. (xs : List Piece) → string_bytes out.new
+//     ++ pieces_after palette s xs ≡ string_bytes out.old ++ pieces_after palette before
+//     (piece after (encode_utf8_all (glyphs (take count (chars text.now)))) ∷ xs)) }
+#[inline]
+pub fn put_front_after(
+    out: &mut String,
+    palette: Palette,
+    before: Style,
+    after: Style,
+    text: &str,
+    count: usize,
+) -> Result<Style, AllocError> {
+    if front_draws_nothing(text, count) {
+        return Ok(before);
+    }
+    put_change(out, palette, before, after)?;
+    put_front(out, text, count)?;
+    Ok(after)
+}
+
+/// Adds a text as it is drawn, in the style `after`, where a text of the style `before` is before
+/// it. Returns the style of the last text that is drawn.
+// ensures { IfOk result (λ s. (xs : List Piece) → string_bytes out.new
+//     ++ pieces_after palette s xs ≡ string_bytes out.old ++ pieces_after palette before
+//     (piece after (glyph_bytes text.now) ∷ xs)) }
+#[inline]
+pub fn put_glyphs_after(
+    out: &mut String,
+    palette: Palette,
+    before: Style,
+    after: Style,
+    text: &str,
+) -> Result<Style, AllocError> {
+    if draws_nothing(text) {
+        return Ok(before);
+    }
+    put_change(out, palette, before, after)?;
+    put_glyphs(out, text, 0)?;
+    Ok(after)
 }
 
 /// Adds the first characters of a text, as they are drawn.

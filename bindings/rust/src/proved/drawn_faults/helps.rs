@@ -7,14 +7,18 @@
 
 use crate::proved::drawn_faults::fixes::Edit as SourceEdit;
 use crate::proved::drawn_faults::glyphs::{
-    behind_chars, put_front, put_glyphs, put_glyphs_between, put_run, split_first, width,
+    behind_chars, put_front, put_front_after, put_glyphs, put_glyphs_after, put_painted_run,
+    put_run, split_first, width,
 };
 use crate::proved::drawn_faults::labels::{Edit, Frame};
 use crate::proved::drawn_faults::lines::put_line_number;
 use crate::proved::drawn_faults::marked::last_edit_line;
+use crate::proved::drawn_faults::paint::{
+    has_colours, put_reset, put_sign, Gutter, Palette, Style,
+};
 use crate::proved::drawn_faults::places::{line, Picture};
 use crate::proved::drawn_faults::rows::put_gutter;
-use crate::proved::drawn_faults::suggestions::{put_old, put_parting};
+use crate::proved::drawn_faults::suggestions::{put_help_word, put_old, put_parting};
 use crate::shim::alloc::{AllocError, Global};
 use crate::shim::prelude::*;
 
@@ -51,11 +55,55 @@ fn are_insertions(edits: &[Edit<'_>]) -> bool {
     true
 }
 
-/// Adds what edits in a line, from left to right, make of it.
+/// Adds what edits in a line, from left to right, make of it, after a sign of this style, in
+/// colours.
+// requires { (length sign.now == 0) ≡ false }
 // ensures { OnOk result (string_bytes out.new ≡ string_bytes out.old
-//     ++ edited_from 0 (map seen_edit edits.now) (chars line.now)) }
+//     ++ pieces_after palette Plain (piece style sign.now
+//     ∷ edited_from 0 (map seen_edit edits.now) (chars line.now))) }
 #[inline]
-fn put_edited(out: &mut String, line: &str, edits: &[Edit<'_>]) -> Result<(), AllocError> {
+fn put_coloured_edits(
+    out: &mut String,
+    palette: Palette,
+    style: Style,
+    sign: &str,
+    line: &str,
+    edits: &[Edit<'_>],
+) -> Result<(), AllocError> {
+    put_sign(out, palette, style, sign)?;
+    let mut last = style;
+    let mut passed = 0;
+    let mut rest = line;
+    for edit in edits {
+        let count = edit.extent.start.chars.saturating_sub(passed);
+        let before = put_front_after(out, palette, last, Style::Plain, rest, count)?;
+        last = put_glyphs_after(out, palette, before, Style::Addition, edit.text)?;
+        rest = behind_chars(rest, edit.extent.end.chars.saturating_sub(passed));
+        passed = edit.extent.end.chars;
+    }
+    let end = put_glyphs_after(out, palette, last, Style::Plain, rest)?;
+    put_reset(out, end)?;
+    Ok(())
+}
+
+/// Adds what edits in a line, from left to right, make of it, after a sign of this style.
+// requires { (length sign.now == 0) ≡ false }
+// ensures { OnOk result (string_bytes out.new ≡ string_bytes out.old
+//     ++ pieces palette (piece style sign.now
+//     ∷ edited_from 0 (map seen_edit edits.now) (chars line.now))) }
+#[inline]
+fn put_edited(
+    out: &mut String,
+    palette: Palette,
+    style: Style,
+    sign: &str,
+    line: &str,
+    edits: &[Edit<'_>],
+) -> Result<(), AllocError> {
+    if has_colours(palette) {
+        return Ok(put_coloured_edits(out, palette, style, sign, line, edits)?);
+    }
+    out.try_push_str(sign)?;
     let mut passed = 0;
     let mut rest = line;
     for edit in edits {
@@ -65,6 +113,28 @@ fn put_edited(out: &mut String, line: &str, edits: &[Edit<'_>]) -> Result<(), Al
         passed = edit.extent.end.chars;
     }
     put_glyphs(out, rest, 0)?;
+    Ok(())
+}
+
+/// Adds the row of a line with edits, after a sign of this style.
+// requires number { number < 2 ^ 59 }
+// requires sign { (length sign.now == 0) ≡ false }
+// ensures { OnOk result (string_bytes out.new ≡ string_bytes out.old
+//     ++ new_row (seen_frame frame.now) style sign.now number (map seen_edit edits.now)) }
+#[inline]
+fn put_new_row(
+    out: &mut String,
+    frame: &Frame<'_>,
+    style: Style,
+    sign: &str,
+    number: usize,
+    edits: &[Edit<'_>],
+) -> Result<(), AllocError> {
+    put_line_number(out, frame, number)?;
+    out.try_push_str(" ")?;
+    let line = line(frame.picture.source, number);
+    put_edited(out, frame.gutter.palette, style, sign, line, edits)?;
+    out.try_push_str("\n")?;
     Ok(())
 }
 
@@ -86,25 +156,26 @@ fn columns_of(text: &str) -> Result<usize, AllocError> {
 
 /// Adds the signs under what edits insert.
 // ensures { OnOk result (string_bytes out.new
-//     ≡ string_bytes out.old ++ pluses 0 (map seen_edit edits.now)) }
+//     ≡ string_bytes out.old ++ pluses palette 0 (map seen_edit edits.now)) }
 #[inline]
-fn put_pluses(out: &mut String, edits: &[Edit<'_>]) -> Result<(), AllocError> {
+fn put_pluses(out: &mut String, palette: Palette, edits: &[Edit<'_>]) -> Result<(), AllocError> {
     let mut column = 0;
     for edit in edits {
         put_run(out, ' ', edit.extent.start.column.saturating_sub(column))?;
-        put_run(out, '+', columns_of(edit.text)?)?;
+        let columns = columns_of(edit.text)?;
+        put_painted_run(out, palette, Style::Addition, '+', columns)?;
         column = edit.extent.start.column;
     }
     Ok(())
 }
 
 /// Adds the row of these signs.
-// ensures { OnOk result (string_bytes out.new
-//     ≡ string_bytes out.old ++ under gutter (pluses 0 (map seen_edit edits.now))) }
+// ensures { OnOk result (string_bytes out.new ≡ string_bytes out.old
+//     ++ under gutter (pluses gutter.palette 0 (map seen_edit edits.now))) }
 #[inline]
-fn put_plus_row(out: &mut String, gutter: usize, edits: &[Edit<'_>]) -> Result<(), AllocError> {
+fn put_plus_row(out: &mut String, gutter: Gutter, edits: &[Edit<'_>]) -> Result<(), AllocError> {
     put_gutter(out, gutter)?;
-    put_pluses(out, edits)?;
+    put_pluses(out, gutter.palette, edits)?;
     out.try_push_str("\n")?;
     Ok(())
 }
@@ -121,10 +192,7 @@ fn put_inserted(
     edits: &[Edit<'_>],
 ) -> Result<(), AllocError> {
     put_parting(out, frame)?;
-    put_line_number(out, frame, number)?;
-    out.try_push_str(" | ")?;
-    put_edited(out, line(frame.picture.source, number), edits)?;
-    out.try_push_str("\n")?;
+    put_new_row(out, frame, Style::Secondary, "| ", number, edits)?;
     put_plus_row(out, frame.gutter, edits)?;
     Ok(())
 }
@@ -141,12 +209,14 @@ fn put_replaced(
     edits: &[Edit<'_>],
 ) -> Result<(), AllocError> {
     put_parting(out, frame)?;
-    let old = line(frame.picture.source, number);
-    put_old(out, frame, number, old)?;
-    put_line_number(out, frame, number)?;
-    out.try_push_str(" + ")?;
-    put_edited(out, old, edits)?;
-    out.try_push_str("\n")?;
+    put_old(
+        out,
+        frame,
+        number,
+        line(frame.picture.source, number),
+        edits,
+    )?;
+    put_new_row(out, frame, Style::Addition, "+ ", number, edits)?;
     put_parting(out, frame)?;
     Ok(())
 }
@@ -237,7 +307,9 @@ pub fn last_help_line(
 //     ++ help_rows (seen_frame frame.now) (seen_help help.now)) }
 #[inline]
 fn put_help(out: &mut String, frame: &Frame<'_>, help: &SourceHelp<'_>) -> Result<(), AllocError> {
-    put_glyphs_between(out, "help: ", help.text, "\n")?;
+    put_help_word(out, frame.gutter.palette)?;
+    put_glyphs(out, help.text, 0)?;
+    out.try_push_str("\n")?;
     let edits = placed_edits(*out.own_allocator(), frame.picture, help.edits)?;
     put_edits(out, frame, &edits)?;
     Ok(())

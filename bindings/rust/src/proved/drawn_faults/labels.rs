@@ -8,6 +8,7 @@ use crate::proved::drawn_faults::extent::Extent;
 use crate::proved::drawn_faults::fixes::is_offered;
 use crate::proved::drawn_faults::glyphs::indent;
 use crate::proved::drawn_faults::mark::Mark;
+use crate::proved::drawn_faults::paint::{palette_of, Gutter, Palette};
 use crate::proved::drawn_faults::places::{behind_lines, Picture};
 use crate::proved::rustc_parse_format::{ParseError, ParseMode, Suggestion};
 use std::ops::Range;
@@ -37,8 +38,8 @@ pub struct Edit<'a> {
 pub struct Frame<'a> {
     /// The source.
     pub picture: &'a Picture<'a>,
-    /// How many columns the numbers of the lines have.
-    pub gutter: usize,
+    /// The columns of the numbers of the lines, and the colours.
+    pub gutter: Gutter,
     /// How many columns at the start of each line are cut.
     pub cut: usize,
 }
@@ -244,11 +245,12 @@ pub fn frame_for<'a>(
         .end
         .line
         .max(last_line(second).max(edit_line(edit)));
-    let gutter = digits(picture.line_start as usize + last);
+    let columns = digits(picture.line_start as usize + last);
+    let palette = palette_of(picture.colours, Palette::Error);
     let indent = least_indent(picture, label.extent.start.line, other_line(label, second));
     Frame {
         picture,
-        gutter,
+        gutter: Gutter { columns, palette },
         cut: cut_of(indent),
     }
 }

@@ -8,6 +8,9 @@
 use crate::proved::drawn_faults::glyphs::{draws_nothing, put_glyphs, put_run};
 use crate::proved::drawn_faults::labels::{digits, Frame};
 use crate::proved::drawn_faults::mark::Mark;
+use crate::proved::drawn_faults::paint::{
+    put_closing, put_gutter_bar, put_opening, put_painted, Palette, Style,
+};
 use crate::proved::drawn_faults::places::line;
 use crate::proved::drawn_faults::rows::{put_both, put_one};
 use crate::shim::alloc::AllocError;
@@ -30,21 +33,38 @@ pub fn put_decimal(out: &mut String, number: usize) -> Result<(), AllocError> {
 #[inline]
 pub fn put_line_number(out: &mut String, frame: &Frame<'_>, line: usize) -> Result<(), AllocError> {
     let number = frame.picture.line_start as usize + line;
-    put_run(out, ' ', frame.gutter.saturating_sub(digits(number)))?;
+    put_opening(out, frame.gutter.palette, Style::Secondary)?;
+    put_run(
+        out,
+        ' ',
+        frame.gutter.columns.saturating_sub(digits(number)),
+    )?;
     put_decimal(out, number)?;
+    put_closing(out, frame.gutter.palette)?;
+    Ok(())
+}
+
+/// Adds the number of a line of the source, and the bar after it.
+// requires { line < 2 ^ 61 }
+// ensures { OnOk result (string_bytes out.new ≡ string_bytes out.old
+//     ++ number_bar (seen_frame frame.now) line) }
+#[inline]
+pub fn put_number_bar(out: &mut String, frame: &Frame<'_>, line: usize) -> Result<(), AllocError> {
+    put_line_number(out, frame, line)?;
+    put_gutter_bar(out, frame.gutter.palette)?;
     Ok(())
 }
 
 /// Adds a line as it is drawn.
 // requires { cut < 2 ^ 62 }
 // ensures { OnOk result (string_bytes out.new
-//     ≡ string_bytes out.old ++ shown cut (chars text.now)) }
+//     ≡ string_bytes out.old ++ shown palette cut (chars text.now)) }
 #[inline]
-fn put_shown(out: &mut String, text: &str, cut: usize) -> Result<(), AllocError> {
+fn put_shown(out: &mut String, palette: Palette, text: &str, cut: usize) -> Result<(), AllocError> {
     if cut == 0 {
         put_glyphs(out, text, 0)?;
     } else {
-        out.try_push_str("...")?;
+        put_painted(out, palette, Style::Secondary, "...")?;
         put_glyphs(out, text, cut + 3)?;
     }
     Ok(())
@@ -53,33 +73,53 @@ fn put_shown(out: &mut String, text: &str, cut: usize) -> Result<(), AllocError>
 /// Adds what is behind a bar: a line, and what is in front of it.
 // requires { cut < 2 ^ 62 }
 // ensures { OnOk result (string_bytes out.new
-//     ≡ string_bytes out.old ++ behind_bar front.now (shown cut (chars text.now))) }
+//     ≡ string_bytes out.old ++ behind_bar palette front.now cut (chars text.now)) }
 #[inline]
-fn put_behind_bar(out: &mut String, front: &str, text: &str, cut: usize) -> Result<(), AllocError> {
+fn put_behind_bar(
+    out: &mut String,
+    palette: Palette,
+    front: &str,
+    text: &str,
+    cut: usize,
+) -> Result<(), AllocError> {
     if cut > 0 || !draws_nothing(text) {
         out.try_push_str(front)?;
-        put_shown(out, text, cut)?;
+        put_shown(out, palette, text, cut)?;
     }
     Ok(())
 }
 
-/// Adds a line of the source, with its number, a bar, and what is in front of it.
+/// Adds a line of the source, and what is in front of it.
+// requires { frame.now.cut < 2 ^ 62 }
+// ensures { OnOk result (string_bytes out.new ≡ string_bytes out.old
+//     ++ source_line (seen_frame frame.now) front.now number) }
+#[inline]
+pub fn put_source_line(
+    out: &mut String,
+    frame: &Frame<'_>,
+    front: &str,
+    number: usize,
+) -> Result<(), AllocError> {
+    let line = line(frame.picture.source, number);
+    put_behind_bar(out, frame.gutter.palette, front, line, frame.cut)?;
+    out.try_push_str("\n")?;
+    Ok(())
+}
+
+/// Adds a line of the source with its number, after what is in front of it.
 // requires number { number < 2 ^ 61 }
 // requires cut { frame.now.cut < 2 ^ 62 }
 // ensures { OnOk result (string_bytes out.new ≡ string_bytes out.old
-//     ++ source_row (seen_frame frame.now) bar.now front.now number) }
+//     ++ source_row (seen_frame frame.now) front.now number) }
 #[inline]
 pub fn put_source(
     out: &mut String,
     frame: &Frame<'_>,
-    bar: &str,
     front: &str,
     number: usize,
 ) -> Result<(), AllocError> {
-    put_line_number(out, frame, number)?;
-    out.try_push_str(bar)?;
-    put_behind_bar(out, front, line(frame.picture.source, number), frame.cut)?;
-    out.try_push_str("\n")?;
+    put_number_bar(out, frame, number)?;
+    put_source_line(out, frame, front, number)?;
     Ok(())
 }
 
@@ -90,7 +130,7 @@ pub fn put_source(
 //     ++ code_row (seen_frame frame.now) number) }
 #[inline]
 pub fn put_code(out: &mut String, frame: &Frame<'_>, number: usize) -> Result<(), AllocError> {
-    put_source(out, frame, " |", " ", number)?;
+    put_source(out, frame, " ", number)?;
     Ok(())
 }
 
@@ -125,7 +165,8 @@ pub fn put_gap(
     if last == first + 2 {
         put_code(out, frame, first + 1)?;
     } else if last > first + 2 {
-        out.try_push_str("...\n")?;
+        put_painted(out, frame.gutter.palette, Style::Secondary, "...")?;
+        out.try_push_str("\n")?;
     }
     Ok(())
 }

@@ -5,9 +5,12 @@
 // That source is proved, and each contract here is its. That this text means the same is tested:
 // by results from outside, and beside what is proved (.ci/bindings) and the original (tools/agree).
 
-use crate::proved::drawn_faults::glyphs::{put_glyphs_between, put_run, split_first};
+use crate::proved::drawn_faults::glyphs::{put_painted_glyphs, put_run, split_first};
 use crate::proved::drawn_faults::labels::{Frame, Label};
-use crate::proved::drawn_faults::lines::put_source;
+use crate::proved::drawn_faults::lines::{put_number_bar, put_source, put_source_line};
+use crate::proved::drawn_faults::paint::{
+    put_closing, put_opening, put_painted, Gutter, Palette, Style,
+};
 use crate::proved::drawn_faults::places::line;
 use crate::proved::drawn_faults::rows::put_gutter;
 use crate::shim::alloc::AllocError;
@@ -91,6 +94,25 @@ fn without_bare(frame: &Frame<'_>, first: usize, count: usize) -> usize {
     left
 }
 
+/// Adds a line of the source at the right of a sign of the label.
+// requires number { number < 2 ^ 61 }
+// requires cut { frame.now.cut < 2 ^ 62 }
+// ensures { OnOk result (string_bytes out.new ≡ string_bytes out.old
+//     ++ signed_row (seen_frame frame.now) sign.now number) }
+#[inline]
+fn put_signed_row(
+    out: &mut String,
+    frame: &Frame<'_>,
+    sign: &str,
+    number: usize,
+) -> Result<(), AllocError> {
+    put_number_bar(out, frame, number)?;
+    out.try_push_str(" ")?;
+    put_painted(out, frame.gutter.palette, Style::Primary, sign)?;
+    put_source_line(out, frame, " ", number)?;
+    Ok(())
+}
+
 /// Adds a line between the first and the last one.
 // requires number { number < 2 ^ 61 }
 // requires cut { frame.now.cut < 2 ^ 62 }
@@ -98,7 +120,7 @@ fn without_bare(frame: &Frame<'_>, first: usize, count: usize) -> usize {
 //     ++ bar_row (seen_frame frame.now) number) }
 #[inline]
 fn put_bar_row(out: &mut String, frame: &Frame<'_>, number: usize) -> Result<(), AllocError> {
-    put_source(out, frame, " | |", " ", number)?;
+    put_signed_row(out, frame, "|", number)?;
     Ok(())
 }
 
@@ -135,28 +157,40 @@ fn put_bar_gap(
     if last == first + 2 {
         put_bar_row(out, frame, first + 1)?;
     } else if last > first + 2 {
-        out.try_push_str("...")?;
-        put_run(out, ' ', frame.gutter)?;
-        out.try_push_str("|\n")?;
+        put_painted(out, frame.gutter.palette, Style::Secondary, "...")?;
+        put_run(out, ' ', frame.gutter.columns)?;
+        put_painted(out, frame.gutter.palette, Style::Primary, "|")?;
+        out.try_push_str("\n")?;
     }
     Ok(())
 }
 
-/// Adds a row under a line: a text, a line to a column behind it, and a text.
-// ensures { OnOk result (string_bytes out.new ≡ string_bytes out.old
-//     ++ under gutter (front.now ++ (run columns 95 ++ text.now))) }
+/// Adds a text, a line to a column behind it, and the sign at its end.
+// requires { length front.now ≡ 1 }
+// ensures { OnOk result (string_bytes out.new
+//     ≡ string_bytes out.old ++ lead palette front.now columns) }
 #[inline]
 fn put_lead(
     out: &mut String,
-    gutter: usize,
+    palette: Palette,
     front: &str,
     columns: usize,
-    text: &str,
 ) -> Result<(), AllocError> {
-    put_gutter(out, gutter)?;
+    put_opening(out, palette, Style::Primary)?;
     out.try_push_str(front)?;
     put_run(out, '_', columns)?;
-    out.try_push_str(text)?;
+    out.try_push_str("^")?;
+    put_closing(out, palette)?;
+    Ok(())
+}
+
+/// Adds the row under the first line of a label.
+// ensures { OnOk result (string_bytes out.new ≡ string_bytes out.old
+//     ++ under gutter (lead gutter.palette (codes " ") columns)) }
+#[inline]
+fn put_start(out: &mut String, gutter: Gutter, columns: usize) -> Result<(), AllocError> {
+    put_gutter(out, gutter)?;
+    put_lead(out, gutter.palette, " ", columns)?;
     out.try_push_str("\n")?;
     Ok(())
 }
@@ -175,24 +209,26 @@ fn put_first_rows(
 ) -> Result<(), AllocError> {
     let start = label.extent.start;
     if start.is_indent {
-        put_source(out, frame, " | /", " ", start.line)?;
+        put_signed_row(out, frame, "/", start.line)?;
     } else {
-        put_source(out, frame, " |", "   ", start.line)?;
+        put_source(out, frame, "   ", start.line)?;
         let columns = start.column.saturating_sub(frame.cut) + 1;
-        put_lead(out, frame.gutter, " ", columns, "^")?;
+        put_start(out, frame.gutter, columns)?;
     }
     Ok(())
 }
 
 /// Adds the row under the last line of a label.
 // ensures { OnOk result (string_bytes out.new ≡ string_bytes out.old
-//     ++ under gutter (codes "|" ++ (run columns 95 ++ (codes "^ " ++ glyph_bytes text.now)))) }
+//     ++ under gutter (lead gutter.palette (codes "|") columns
+//     ++ (codes " " ++ painted gutter.palette PrimaryText (glyph_bytes text.now)))) }
 #[inline]
-fn put_end(out: &mut String, gutter: usize, columns: usize, text: &str) -> Result<(), AllocError> {
+fn put_end(out: &mut String, gutter: Gutter, columns: usize, text: &str) -> Result<(), AllocError> {
     put_gutter(out, gutter)?;
-    out.try_push_str("|")?;
-    put_run(out, '_', columns)?;
-    put_glyphs_between(out, "^ ", text, "\n")?;
+    put_lead(out, gutter.palette, "|", columns)?;
+    out.try_push_str(" ")?;
+    put_painted_glyphs(out, gutter.palette, Style::PrimaryText, text)?;
+    out.try_push_str("\n")?;
     Ok(())
 }
 

@@ -12,6 +12,7 @@ use crate::proved::drawn_faults::long::put_long;
 use crate::proved::drawn_faults::mark::Mark;
 use crate::proved::drawn_faults::marks::put_mark_rows;
 use crate::proved::drawn_faults::order::from_right;
+use crate::proved::drawn_faults::paint::Gutter;
 use crate::proved::drawn_faults::places::{Picture, ORIGIN};
 use crate::shim::alloc::{AllocError, Global};
 use crate::shim::prelude::*;
@@ -91,7 +92,7 @@ fn lowest_indent(picture: &Picture<'_>, labels: &[Label<'_>]) -> usize {
 // ensures cut { result.cut < 2 ^ 62 }
 // ensures source { length result.picture.now.source.now < 2 ^ 59 }
 #[inline]
-pub fn frame_of<'a>(picture: &'a Picture<'a>, gutter: usize, labels: &[Label<'_>]) -> Frame<'a> {
+pub fn frame_of<'a>(picture: &'a Picture<'a>, gutter: Gutter, labels: &[Label<'_>]) -> Frame<'a> {
     Frame {
         picture,
         gutter,

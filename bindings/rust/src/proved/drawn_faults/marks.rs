@@ -6,11 +6,12 @@
 // by results from outside, and beside what is proved (.ci/bindings) and the original (tools/agree).
 
 use crate::proved::drawn_faults::cells::{
-    put_after, put_at, put_from, put_run_at, put_written, style_of, Cell,
+    put_after, put_at, put_from, put_run_at, put_written, style_of, text_style, Cell,
 };
 use crate::proved::drawn_faults::hanging::{depth, hang, has_text, Hung};
 use crate::proved::drawn_faults::mark::Mark;
 use crate::proved::drawn_faults::order::covered_first;
+use crate::proved::drawn_faults::paint::Gutter;
 use crate::proved::drawn_faults::rows::put_gutter;
 use crate::shim::alloc::{AllocError, Global};
 use crate::shim::prelude::*;
@@ -21,7 +22,7 @@ use crate::shim::prelude::*;
 fn put_side_text(row: &mut Vec<Cell>, hung: &Hung<'_>) -> Result<(), AllocError> {
     let mark = &hung.mark;
     if has_text(mark) && hung.down == 0 {
-        put_after(row, mark.to, style_of(mark), mark.text)?;
+        put_after(row, mark.to, text_style(mark), mark.text)?;
     }
     Ok(())
 }
@@ -101,7 +102,7 @@ fn put_bars(row: &mut Vec<Cell>, n: usize, hung: &[Hung<'_>]) -> Result<(), Allo
 fn put_hung_text(row: &mut Vec<Cell>, n: usize, hung: &Hung<'_>) -> Result<(), AllocError> {
     let mark = &hung.mark;
     if has_text(mark) && hung.down > 0 && n == hung.down {
-        put_from(row, mark.from, style_of(mark), mark.text)?;
+        put_from(row, mark.from, text_style(mark), mark.text)?;
     }
     Ok(())
 }
@@ -128,11 +129,11 @@ fn hung_row(alloc: Global, n: usize, hung: &[Hung<'_>]) -> Result<Vec<Cell>, All
 
 /// Adds a row under a line.
 // ensures { OnOk result (string_bytes out.new
-//     ≡ string_bytes out.old ++ under gutter (written row.now)) }
+//     ≡ string_bytes out.old ++ under gutter (written gutter.palette row.now)) }
 #[inline]
-fn put_row(out: &mut String, gutter: usize, row: &[Cell]) -> Result<(), AllocError> {
+fn put_row(out: &mut String, gutter: Gutter, row: &[Cell]) -> Result<(), AllocError> {
     put_gutter(out, gutter)?;
-    put_written(out, row)?;
+    put_written(out, gutter.palette, row)?;
     out.try_push_str("\n")?;
     Ok(())
 }
@@ -143,7 +144,7 @@ fn put_row(out: &mut String, gutter: usize, row: &[Cell]) -> Result<(), AllocErr
 #[inline]
 fn put_hung_rows(
     out: &mut String,
-    gutter: usize,
+    gutter: Gutter,
     count: usize,
     hung: &[Hung<'_>],
 ) -> Result<(), AllocError> {
@@ -161,7 +162,7 @@ fn put_hung_rows(
 #[inline]
 fn put_rows_below(
     out: &mut String,
-    gutter: usize,
+    gutter: Gutter,
     most: usize,
     hung: &[Hung<'_>],
 ) -> Result<(), AllocError> {
@@ -180,7 +181,7 @@ fn put_rows_below(
 #[inline]
 fn put_rows_of(
     out: &mut String,
-    gutter: usize,
+    gutter: Gutter,
     marks: &[Mark<'_>],
     hung: &[Hung<'_>],
 ) -> Result<(), AllocError> {
@@ -196,7 +197,7 @@ fn put_rows_of(
 #[inline]
 pub fn put_mark_rows(
     out: &mut String,
-    gutter: usize,
+    gutter: Gutter,
     marks: &[Mark<'_>],
 ) -> Result<(), AllocError> {
     let hung = hang(*out.own_allocator(), marks)?;

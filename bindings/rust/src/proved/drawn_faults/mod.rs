@@ -21,6 +21,7 @@ pub(crate) mod marked;
 pub(crate) mod marks;
 pub(crate) mod notes;
 pub(crate) mod order;
+pub(crate) mod paint;
 pub(crate) mod places;
 pub(crate) mod printable;
 pub(crate) mod rounds;

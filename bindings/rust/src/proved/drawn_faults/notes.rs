@@ -5,12 +5,13 @@
 // That source is proved, and each contract here is its. That this text means the same is tested:
 // by results from outside, and beside what is proved (.ci/bindings) and the original (tools/agree).
 
-use crate::proved::drawn_faults::drawing::put_arrow;
-use crate::proved::drawn_faults::glyphs::{
-    glyph, glyph_count, put_glyphs_between, put_run, split_first,
-};
+use crate::proved::drawn_faults::drawing::{put_arrow, put_note_word};
+use crate::proved::drawn_faults::glyphs::{glyph, glyph_count, put_glyphs, put_run, split_first};
 use crate::proved::drawn_faults::labels::{Frame, Label};
 use crate::proved::drawn_faults::marked::{first_spot, frame_of, last_label_line, put_labels_rows};
+use crate::proved::drawn_faults::paint::{
+    palette_of, put_closing, put_opening, put_painted, Gutter, Palette, Style,
+};
 use crate::proved::drawn_faults::places::Picture;
 use crate::proved::drawn_faults::suggestions::put_parting;
 use crate::shim::alloc::{AllocError, Global};
@@ -69,19 +70,25 @@ pub fn last_note_line(
     Ok(line)
 }
 
-/// Adds a title, and labels under it.
+/// Adds a title, in these colours, after a word, and labels under it.
 // requires { frame.now.cut < 2 ^ 62 }
 // ensures { OnOk result (string_bytes out.new ≡ string_bytes out.old
-//     ++ titled (seen_frame frame.now) start.now title.now (map seen_label labels.now)) }
+//     ++ titled (seen_frame frame.now) palette word.now title.now (map seen_label labels.now)) }
 #[inline]
 pub fn put_titled(
     out: &mut String,
     frame: &Frame<'_>,
-    start: &str,
+    palette: Palette,
+    word: &str,
     title: &str,
     labels: &[Label<'_>],
 ) -> Result<(), AllocError> {
-    put_glyphs_between(out, start, title, "\n")?;
+    put_painted(out, frame.gutter.palette, Style::Primary, word)?;
+    put_opening(out, palette, Style::Bold)?;
+    out.try_push_str(": ")?;
+    put_glyphs(out, title, 0)?;
+    put_closing(out, palette)?;
+    out.try_push_str("\n")?;
     put_arrow(out, frame, first_spot(labels))?;
     put_parting(out, frame)?;
     put_labels_rows(out, frame, labels)?;
@@ -91,9 +98,9 @@ pub fn put_titled(
 /// Adds what is after a character of a note: after a line feed the margin of the next line.
 // ensures { OnOk result (string_bytes out.new ≡ string_bytes out.old ++ margin gutter c) }
 #[inline]
-fn put_margin(out: &mut String, gutter: usize, c: char) -> Result<(), AllocError> {
+fn put_margin(out: &mut String, gutter: Gutter, c: char) -> Result<(), AllocError> {
     if c == '\n' {
-        put_run(out, ' ', gutter)?;
+        put_run(out, ' ', gutter.columns)?;
         out.try_push_str("         ")?;
     }
     Ok(())
@@ -103,7 +110,7 @@ fn put_margin(out: &mut String, gutter: usize, c: char) -> Result<(), AllocError
 // ensures { OnOk result (string_bytes out.new
 //     ≡ string_bytes out.old ++ indented gutter (chars text.now)) }
 #[inline]
-fn put_indented(out: &mut String, gutter: usize, text: &str) -> Result<(), AllocError> {
+fn put_indented(out: &mut String, gutter: Gutter, text: &str) -> Result<(), AllocError> {
     let mut rest = text;
     while let Some((c, tail)) = split_first(rest) {
         put_run(out, glyph(c), glyph_count(c))?;
@@ -117,9 +124,8 @@ fn put_indented(out: &mut String, gutter: usize, text: &str) -> Result<(), Alloc
 // ensures { OnOk result (string_bytes out.new
 //     ≡ string_bytes out.old ++ plain_note gutter text.now) }
 #[inline]
-fn put_plain_note(out: &mut String, gutter: usize, text: &str) -> Result<(), AllocError> {
-    put_run(out, ' ', gutter)?;
-    out.try_push_str(" = note: ")?;
+fn put_plain_note(out: &mut String, gutter: Gutter, text: &str) -> Result<(), AllocError> {
+    put_note_word(out, gutter)?;
     put_indented(out, gutter, text)?;
     out.try_push_str("\n")?;
     Ok(())
@@ -133,15 +139,17 @@ fn put_plain_note(out: &mut String, gutter: usize, text: &str) -> Result<(), All
 fn put_shown_note(
     out: &mut String,
     picture: &Picture<'_>,
-    gutter: usize,
+    gutter: Gutter,
     text: &str,
     labels: &[Label<'_>],
 ) -> Result<(), AllocError> {
     match labels {
         [] => put_plain_note(out, gutter, text)?,
         _ => {
-            let frame = frame_of(picture, gutter, labels);
-            put_titled(out, &frame, "note: ", text, labels)?;
+            let columns = gutter.columns;
+            let palette = palette_of(picture.colours, Palette::Note);
+            let frame = frame_of(picture, Gutter { columns, palette }, labels);
+            put_titled(out, &frame, Palette::Colourless, "note", text, labels)?;
         }
     }
     Ok(())
@@ -155,7 +163,7 @@ fn put_shown_note(
 pub fn put_notes(
     out: &mut String,
     picture: &Picture<'_>,
-    gutter: usize,
+    gutter: Gutter,
     notes: &[SourceNote<'_>],
 ) -> Result<(), AllocError> {
     let alloc = *out.own_allocator();

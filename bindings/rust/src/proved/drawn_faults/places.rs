@@ -20,6 +20,8 @@ pub struct Picture<'a> {
     pub line_start: u32,
     /// The byte offset in `source` at which the literal begins.
     pub literal_start: usize,
+    /// Whether the drawing has colours, as rustc gives them to a terminal.
+    pub colours: bool,
 }
 
 /// The place at the start of a text.

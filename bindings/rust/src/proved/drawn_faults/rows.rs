@@ -5,61 +5,97 @@
 // That source is proved, and each contract here is its. That this text means the same is tested:
 // by results from outside, and beside what is proved (.ci/bindings) and the original (tools/agree).
 
-use crate::proved::drawn_faults::glyphs::{put_glyphs, put_glyphs_between, put_run};
+use crate::proved::drawn_faults::cells::{put_written, space, style_of, text_style, Cell};
+use crate::proved::drawn_faults::glyphs::{put_painted_glyphs, put_painted_run, put_run};
 use crate::proved::drawn_faults::mark::Mark;
+use crate::proved::drawn_faults::paint::{
+    has_colours, put_gutter_bar, put_painted, Gutter, Palette, Style,
+};
 use crate::shim::alloc::AllocError;
 use crate::shim::prelude::*;
 
 /// Returns the sign in a column under two labels, of which `m` covers `n`.
 // ensures { result ≡ sign_at (seen_mark m.now) (seen_mark n.now) column }
 #[inline]
-fn sign_at(m: &Mark<'_>, n: &Mark<'_>, column: usize) -> char {
+fn sign_at(m: &Mark<'_>, n: &Mark<'_>, column: usize) -> Cell {
     if m.from <= column && column < m.to {
-        m.sign
+        let (character, style) = (m.sign, style_of(m));
+        Cell { character, style }
     } else if n.from <= column && column < n.to {
-        n.sign
+        let (character, style) = (n.sign, style_of(n));
+        Cell { character, style }
     } else {
-        ' '
+        space()
     }
 }
 
-/// Adds the first columns of a row of signs, where `m` covers `n`.
+/// Adds the first columns of a row of signs, where `m` covers `n`, in colours.
 // ensures { OnOk result (string_bytes out.new ≡ string_bytes out.old
-//     ++ signs (seen_mark m.now) (seen_mark n.now) columns) }
+//     ++ signs palette (seen_mark m.now) (seen_mark n.now) columns) }
 #[inline]
-fn put_signs(
+fn put_coloured_signs(
     out: &mut String,
+    palette: Palette,
     m: &Mark<'_>,
     n: &Mark<'_>,
     columns: usize,
 ) -> Result<(), AllocError> {
+    let mut row = Vec::made_in(*out.own_allocator());
+    for column in 0..columns {
+        row.try_push(sign_at(m, n, column))?;
+    }
+    put_written(out, palette, &row)?;
+    Ok(())
+}
+
+/// Adds the first columns of a row of signs, where `m` covers `n`.
+// ensures { OnOk result (string_bytes out.new ≡ string_bytes out.old
+//     ++ signs palette (seen_mark m.now) (seen_mark n.now) columns) }
+#[inline]
+fn put_signs(
+    out: &mut String,
+    palette: Palette,
+    m: &Mark<'_>,
+    n: &Mark<'_>,
+    columns: usize,
+) -> Result<(), AllocError> {
+    if has_colours(palette) {
+        return Ok(put_coloured_signs(out, palette, m, n, columns)?);
+    }
     let lead = m.from.min(n.from).min(columns);
     put_run(out, ' ', lead)?;
     for column in lead..columns {
-        out.try_push(sign_at(m, n, column))?;
+        out.try_push(sign_at(m, n, column).character)?;
     }
     Ok(())
 }
 
-/// Adds the first columns of a row with a bar.
-// ensures { OnOk result (string_bytes out.new ≡ string_bytes out.old ++ bars at columns) }
+/// Adds the first columns of a row with the bar of a label.
+// ensures { OnOk result (string_bytes out.new
+//     ≡ string_bytes out.old ++ bars palette (seen_mark m.now) columns) }
 #[inline]
-fn put_bars(out: &mut String, at: usize, columns: usize) -> Result<(), AllocError> {
-    if columns <= at {
-        return Ok(put_run(out, ' ', columns)?);
+fn put_bars(
+    out: &mut String,
+    palette: Palette,
+    m: &Mark<'_>,
+    columns: usize,
+) -> Result<(), AllocError> {
+    if m.from < columns {
+        put_run(out, ' ', m.from)?;
+        put_painted(out, palette, style_of(m), "|")?;
+        put_run(out, ' ', columns - m.from - 1)?;
+    } else {
+        put_run(out, ' ', columns)?;
     }
-    put_run(out, ' ', at)?;
-    out.try_push_str("|")?;
-    put_run(out, ' ', columns - at - 1)?;
     Ok(())
 }
 
 /// Adds the gutter of a row that has no number.
 // ensures { OnOk result (string_bytes out.new ≡ string_bytes out.old ++ blank gutter) }
 #[inline]
-pub fn put_blank(out: &mut String, gutter: usize) -> Result<(), AllocError> {
-    put_run(out, ' ', gutter)?;
-    out.try_push_str(" |")?;
+pub fn put_blank(out: &mut String, gutter: Gutter) -> Result<(), AllocError> {
+    put_run(out, ' ', gutter.columns)?;
+    put_gutter_bar(out, gutter.palette)?;
     Ok(())
 }
 
@@ -67,74 +103,121 @@ pub fn put_blank(out: &mut String, gutter: usize) -> Result<(), AllocError> {
 // ensures { OnOk result (string_bytes out.new
 //     ≡ string_bytes out.old ++ (blank gutter ++ codes " ")) }
 #[inline]
-pub fn put_gutter(out: &mut String, gutter: usize) -> Result<(), AllocError> {
+pub fn put_gutter(out: &mut String, gutter: Gutter) -> Result<(), AllocError> {
     put_blank(out, gutter)?;
     out.try_push_str(" ")?;
     Ok(())
 }
 
+/// Adds the text of a label.
+// ensures { OnOk result (string_bytes out.new
+//     ≡ string_bytes out.old ++ label_text palette (seen_mark m.now)) }
+#[inline]
+fn put_label_text(out: &mut String, palette: Palette, m: &Mark<'_>) -> Result<(), AllocError> {
+    put_painted_glyphs(out, palette, text_style(m), m.text)?;
+    Ok(())
+}
+
 /// Adds the signs of a label and its text behind them.
 // ensures { OnOk result (string_bytes out.new
-//     ≡ string_bytes out.old ++ pointed (seen_mark m.now)) }
+//     ≡ string_bytes out.old ++ pointed palette (seen_mark m.now)) }
 #[inline]
-fn put_pointed(out: &mut String, m: &Mark<'_>) -> Result<(), AllocError> {
-    put_run(out, m.sign, m.to.saturating_sub(m.from))?;
-    put_glyphs_between(out, " ", m.text, "")?;
+fn put_pointed(out: &mut String, palette: Palette, m: &Mark<'_>) -> Result<(), AllocError> {
+    let columns = m.to.saturating_sub(m.from);
+    put_painted_run(out, palette, style_of(m), m.sign, columns)?;
+    out.try_push_str(" ")?;
+    put_label_text(out, palette, m)?;
     Ok(())
 }
 
 /// Adds a label that is alone, from the first column on.
 // ensures { OnOk result (string_bytes out.new
-//     ≡ string_bytes out.old ++ alone (seen_mark m.now)) }
+//     ≡ string_bytes out.old ++ alone palette (seen_mark m.now)) }
 #[inline]
-fn put_alone(out: &mut String, m: &Mark<'_>) -> Result<(), AllocError> {
+fn put_alone(out: &mut String, palette: Palette, m: &Mark<'_>) -> Result<(), AllocError> {
     put_run(out, ' ', m.from)?;
-    put_pointed(out, m)?;
+    put_pointed(out, palette, m)?;
     Ok(())
 }
 
 /// Adds the row of a label that is alone in its line.
 // ensures { OnOk result (string_bytes out.new
-//     ≡ string_bytes out.old ++ under gutter (alone (seen_mark m.now))) }
+//     ≡ string_bytes out.old ++ under gutter (alone gutter.palette (seen_mark m.now))) }
 #[inline]
-pub fn put_one(out: &mut String, gutter: usize, m: &Mark<'_>) -> Result<(), AllocError> {
+pub fn put_one(out: &mut String, gutter: Gutter, m: &Mark<'_>) -> Result<(), AllocError> {
     put_gutter(out, gutter)?;
-    put_alone(out, m)?;
+    put_alone(out, gutter.palette, m)?;
     out.try_push_str("\n")?;
     Ok(())
 }
 
-/// Adds a row with a text in a column.
-// ensures { OnOk result (string_bytes out.new
-//     ≡ string_bytes out.old ++ under gutter (run column 32 ++ glyph_bytes text.now)) }
+/// Adds a row with the bar of a label.
+// ensures { OnOk result (string_bytes out.new ≡ string_bytes out.old ++ under gutter
+//     (run m.now.from 32 ++ painted gutter.palette (style_of (seen_mark m.now)) (codes "|"))) }
 #[inline]
-fn put_text_at(
+fn put_bar_alone(out: &mut String, gutter: Gutter, m: &Mark<'_>) -> Result<(), AllocError> {
+    put_gutter(out, gutter)?;
+    put_run(out, ' ', m.from)?;
+    put_painted(out, gutter.palette, style_of(m), "|")?;
+    out.try_push_str("\n")?;
+    Ok(())
+}
+
+/// Adds a row with the text of a label.
+// ensures { OnOk result (string_bytes out.new ≡ string_bytes out.old ++ under gutter
+//     (run m.now.from 32 ++ label_text gutter.palette (seen_mark m.now))) }
+#[inline]
+fn put_text_alone(out: &mut String, gutter: Gutter, m: &Mark<'_>) -> Result<(), AllocError> {
+    put_gutter(out, gutter)?;
+    put_run(out, ' ', m.from)?;
+    put_label_text(out, gutter.palette, m)?;
+    out.try_push_str("\n")?;
+    Ok(())
+}
+
+/// Returns the style of the bar of the label `r`, where there is one of `l` too.
+// ensures { result ≡ bar_style (seen_mark l.now) (seen_mark r.now) }
+#[inline]
+fn bar_style(l: &Mark<'_>, r: &Mark<'_>) -> Style {
+    if l.from < r.from {
+        style_of(r)
+    } else {
+        style_of(l)
+    }
+}
+
+/// Adds a row with the bars of two labels.
+// ensures { OnOk result (string_bytes out.new ≡ string_bytes out.old ++ under gutter
+//     (bars gutter.palette (seen_mark l.now) r.now.from ++ painted gutter.palette
+//     (bar_style (seen_mark l.now) (seen_mark r.now)) (codes "|"))) }
+#[inline]
+fn put_two_bars(
     out: &mut String,
-    gutter: usize,
-    column: usize,
-    text: &str,
+    gutter: Gutter,
+    l: &Mark<'_>,
+    r: &Mark<'_>,
 ) -> Result<(), AllocError> {
     put_gutter(out, gutter)?;
-    put_run(out, ' ', column)?;
-    put_glyphs(out, text, 0)?;
+    put_bars(out, gutter.palette, l, r.from)?;
+    put_painted(out, gutter.palette, bar_style(l, r), "|")?;
     out.try_push_str("\n")?;
     Ok(())
 }
 
-/// Adds a row with a bar, and a text in a column.
-// ensures { OnOk result (string_bytes out.new
-//     ≡ string_bytes out.old ++ under gutter (bars bar column ++ glyph_bytes text.now)) }
+/// Adds a row with the bar of the label `l`, and the text of `r`.
+// ensures { OnOk result (string_bytes out.new ≡ string_bytes out.old ++ under gutter
+//     (bars gutter.palette (seen_mark l.now) r.now.from
+//     ++ label_text gutter.palette (seen_mark r.now))) }
 #[inline]
 fn put_bar_and_text(
     out: &mut String,
-    gutter: usize,
-    bar: usize,
-    column: usize,
-    text: &str,
+    gutter: Gutter,
+    l: &Mark<'_>,
+    r: &Mark<'_>,
 ) -> Result<(), AllocError> {
     put_gutter(out, gutter)?;
-    put_bars(out, bar, column)?;
-    put_glyphs(out, text, 0)?;
+    put_bars(out, gutter.palette, l, r.from)?;
+    put_label_text(out, gutter.palette, r)?;
     out.try_push_str("\n")?;
     Ok(())
 }
@@ -149,30 +232,35 @@ pub fn is_covered(m: &Mark<'_>, n: &Mark<'_>) -> bool {
 
 /// Adds the signs of two labels that overlap, of which `l` begins first.
 // ensures { OnOk result (string_bytes out.new ≡ string_bytes out.old
-//     ++ covering (seen_mark l.now) (seen_mark r.now)) }
+//     ++ covering palette (seen_mark l.now) (seen_mark r.now)) }
 #[inline]
-fn put_covering(out: &mut String, l: &Mark<'_>, r: &Mark<'_>) -> Result<(), AllocError> {
+fn put_covering(
+    out: &mut String,
+    palette: Palette,
+    l: &Mark<'_>,
+    r: &Mark<'_>,
+) -> Result<(), AllocError> {
     let columns = l.to.max(r.to);
     if is_covered(r, l) {
-        put_signs(out, l, r, columns)?;
+        put_signs(out, palette, l, r, columns)?;
     } else {
-        put_signs(out, r, l, columns)?;
+        put_signs(out, palette, r, l, columns)?;
     }
     Ok(())
 }
 
 /// Adds the row of these signs.
 // ensures { OnOk result (string_bytes out.new ≡ string_bytes out.old
-//     ++ under gutter (covering (seen_mark l.now) (seen_mark r.now))) }
+//     ++ under gutter (covering gutter.palette (seen_mark l.now) (seen_mark r.now))) }
 #[inline]
 fn put_covering_row(
     out: &mut String,
-    gutter: usize,
+    gutter: Gutter,
     l: &Mark<'_>,
     r: &Mark<'_>,
 ) -> Result<(), AllocError> {
     put_gutter(out, gutter)?;
-    put_covering(out, l, r)?;
+    put_covering(out, gutter.palette, l, r)?;
     out.try_push_str("\n")?;
     Ok(())
 }
@@ -183,31 +271,33 @@ fn put_covering_row(
 #[inline]
 fn put_overlapping(
     out: &mut String,
-    gutter: usize,
+    gutter: Gutter,
     l: &Mark<'_>,
     r: &Mark<'_>,
 ) -> Result<(), AllocError> {
     put_covering_row(out, gutter, l, r)?;
-    put_bar_and_text(out, gutter, l.from, r.from, "|")?;
-    put_bar_and_text(out, gutter, l.from, r.from, r.text)?;
-    put_text_at(out, gutter, l.from, l.text)?;
+    put_two_bars(out, gutter, l, r)?;
+    put_bar_and_text(out, gutter, l, r)?;
+    put_text_alone(out, gutter, l)?;
     Ok(())
 }
 
 /// Adds the row of the signs of two labels beside each other, with the text of the second one.
 // ensures { OnOk result (string_bytes out.new ≡ string_bytes out.old ++ under gutter
-//     (signs (seen_mark l.now) (seen_mark r.now) r.now.to
-//     ++ (codes " " ++ glyph_bytes r.now.text.now))) }
+//     (signs gutter.palette (seen_mark l.now) (seen_mark r.now) r.now.to
+//     ++ (codes " " ++ label_text gutter.palette (seen_mark r.now)))) }
 #[inline]
 fn put_signs_and_text(
     out: &mut String,
-    gutter: usize,
+    gutter: Gutter,
     l: &Mark<'_>,
     r: &Mark<'_>,
 ) -> Result<(), AllocError> {
     put_gutter(out, gutter)?;
-    put_signs(out, l, r, r.to)?;
-    put_glyphs_between(out, " ", r.text, "\n")?;
+    put_signs(out, gutter.palette, l, r, r.to)?;
+    out.try_push_str(" ")?;
+    put_label_text(out, gutter.palette, r)?;
+    out.try_push_str("\n")?;
     Ok(())
 }
 
@@ -217,13 +307,13 @@ fn put_signs_and_text(
 #[inline]
 fn put_hanging(
     out: &mut String,
-    gutter: usize,
+    gutter: Gutter,
     l: &Mark<'_>,
     r: &Mark<'_>,
 ) -> Result<(), AllocError> {
     put_signs_and_text(out, gutter, l, r)?;
-    put_text_at(out, gutter, l.from, "|")?;
-    put_text_at(out, gutter, l.from, l.text)?;
+    put_bar_alone(out, gutter, l)?;
+    put_text_alone(out, gutter, l)?;
     Ok(())
 }
 
@@ -241,14 +331,14 @@ fn columns_between(l: &Mark<'_>, r: &Mark<'_>) -> usize {
 #[inline]
 fn put_beside(
     out: &mut String,
-    gutter: usize,
+    gutter: Gutter,
     l: &Mark<'_>,
     r: &Mark<'_>,
 ) -> Result<(), AllocError> {
     put_gutter(out, gutter)?;
-    put_alone(out, l)?;
+    put_alone(out, gutter.palette, l)?;
     put_run(out, ' ', columns_between(l, r))?;
-    put_pointed(out, r)?;
+    put_pointed(out, gutter.palette, r)?;
     out.try_push_str("\n")?;
     Ok(())
 }
@@ -257,7 +347,12 @@ fn put_beside(
 // ensures { OnOk result (string_bytes out.new ≡ string_bytes out.old
 //     ++ pair_rows gutter (seen_mark l.now) (seen_mark r.now)) }
 #[inline]
-fn put_pair(out: &mut String, gutter: usize, l: &Mark<'_>, r: &Mark<'_>) -> Result<(), AllocError> {
+fn put_pair(
+    out: &mut String,
+    gutter: Gutter,
+    l: &Mark<'_>,
+    r: &Mark<'_>,
+) -> Result<(), AllocError> {
     if r.from < l.to {
         put_overlapping(out, gutter, l, r)?;
     } else if (r.from - l.to).saturating_sub(1) <= l.text.len() {
@@ -274,7 +369,7 @@ fn put_pair(out: &mut String, gutter: usize, l: &Mark<'_>, r: &Mark<'_>) -> Resu
 #[inline]
 pub fn put_both(
     out: &mut String,
-    gutter: usize,
+    gutter: Gutter,
     m: &Mark<'_>,
     n: &Mark<'_>,
 ) -> Result<(), AllocError> {

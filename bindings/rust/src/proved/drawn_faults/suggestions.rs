@@ -6,10 +6,13 @@
 // by results from outside, and beside what is proved (.ci/bindings) and the original (tools/agree).
 
 use crate::proved::drawn_faults::glyphs::{
-    behind_chars, put_front, put_glyphs, put_glyphs_between,
+    behind_chars, put_front, put_front_after, put_glyphs, put_glyphs_after,
 };
 use crate::proved::drawn_faults::labels::{Edit, Frame};
 use crate::proved::drawn_faults::lines::put_line_number;
+use crate::proved::drawn_faults::paint::{
+    has_colours, put_painted, put_reset, put_sign, Palette, Style,
+};
 use crate::proved::drawn_faults::places::{behind_lines, line, split_line};
 use crate::proved::drawn_faults::rows::put_blank;
 use crate::shim::alloc::AllocError;
@@ -25,28 +28,115 @@ pub fn put_parting(out: &mut String, frame: &Frame<'_>) -> Result<(), AllocError
     Ok(())
 }
 
-/// Adds what a suggestion is.
-// ensures { OnOk result (string_bytes out.new ≡ string_bytes out.old ++ help_title text.now) }
+/// Adds the word that a help begins with.
+// ensures { OnOk result (string_bytes out.new ≡ string_bytes out.old ++ help_word palette) }
 #[inline]
-fn put_help_title(out: &mut String, text: &str) -> Result<(), AllocError> {
-    put_glyphs_between(out, "help: did you mean `", text, "`?\n")?;
+pub fn put_help_word(out: &mut String, palette: Palette) -> Result<(), AllocError> {
+    put_painted(out, palette, Style::Help, "help")?;
+    out.try_push_str(": ")?;
     Ok(())
 }
 
-/// Adds a line of the source without its edit.
+/// Adds what a suggestion is.
+// ensures { OnOk result (string_bytes out.new
+//     ≡ string_bytes out.old ++ help_title palette text.now) }
+#[inline]
+fn put_help_title(out: &mut String, palette: Palette, text: &str) -> Result<(), AllocError> {
+    put_help_word(out, palette)?;
+    out.try_push_str("did you mean `")?;
+    put_glyphs(out, text, 0)?;
+    out.try_push_str("`?\n")?;
+    Ok(())
+}
+
+/// Returns the first character of the line with a number that an edit replaces.
+// ensures { result ≡ first_in number (seen_edit edit.now) }
+#[inline]
+fn first_in(number: usize, edit: &Edit<'_>) -> usize {
+    if edit.extent.start.line == number {
+        edit.extent.start.chars
+    } else {
+        0
+    }
+}
+
+/// Returns how many characters of the line with a number are up to the end of the text that an edit
+/// replaces, where the line has so many bytes.
+// ensures { result ≡ last_in number bytes (seen_edit edit.now) }
+#[inline]
+fn last_in(number: usize, bytes: usize, edit: &Edit<'_>) -> usize {
+    if edit.extent.end.line == number {
+        edit.extent.end.chars
+    } else {
+        bytes
+    }
+}
+
+/// Adds a line of the source without its edits, in colours.
+// ensures { OnOk result (string_bytes out.new ≡ string_bytes out.old
+//     ++ pieces_after palette Plain (piece Removal (codes "- ")
+//     ∷ old_pieces number (length line.now) 0 (map seen_edit edits.now) (chars line.now))) }
+#[inline]
+fn put_removed(
+    out: &mut String,
+    palette: Palette,
+    number: usize,
+    line: &str,
+    edits: &[Edit<'_>],
+) -> Result<(), AllocError> {
+    put_sign(out, palette, Style::Removal, "- ")?;
+    let mut style = Style::Removal;
+    let mut passed = 0;
+    let mut rest = line;
+    for edit in edits {
+        let from = first_in(number, edit).max(passed);
+        let to = last_in(number, line.len(), edit).max(from);
+        let before = put_front_after(out, palette, style, Style::Plain, rest, from - passed)?;
+        let removed = behind_chars(rest, from - passed);
+        style = put_front_after(out, palette, before, Style::Removal, removed, to - from)?;
+        rest = behind_chars(removed, to - from);
+        passed = to;
+    }
+    let last = put_glyphs_after(out, palette, style, Style::Plain, rest)?;
+    put_reset(out, last)?;
+    Ok(())
+}
+
+/// Adds a line of the source without its edits, after a sign.
+// ensures { OnOk result (string_bytes out.new ≡ string_bytes out.old
+//     ++ pieces palette (piece Removal (codes "- ")
+//     ∷ old_pieces number (length line.now) 0 (map seen_edit edits.now) (chars line.now))) }
+#[inline]
+fn put_old_line(
+    out: &mut String,
+    palette: Palette,
+    number: usize,
+    line: &str,
+    edits: &[Edit<'_>],
+) -> Result<(), AllocError> {
+    if has_colours(palette) {
+        return Ok(put_removed(out, palette, number, line, edits)?);
+    }
+    out.try_push_str("- ")?;
+    put_glyphs(out, line, 0)?;
+    Ok(())
+}
+
+/// Adds the row of a line of the source without its edits.
 // requires { number < 2 ^ 60 }
 // ensures { OnOk result (string_bytes out.new ≡ string_bytes out.old
-//     ++ old_row (seen_frame frame.now) number line.now) }
+//     ++ old_row (seen_frame frame.now) number (map seen_edit edits.now) line.now) }
 #[inline]
 pub fn put_old(
     out: &mut String,
     frame: &Frame<'_>,
     number: usize,
     line: &str,
+    edits: &[Edit<'_>],
 ) -> Result<(), AllocError> {
     put_line_number(out, frame, number)?;
-    out.try_push_str(" - ")?;
-    put_glyphs(out, line, 0)?;
+    out.try_push_str(" ")?;
+    put_old_line(out, frame.gutter.palette, number, line, edits)?;
     out.try_push_str("\n")?;
     Ok(())
 }
@@ -54,11 +144,12 @@ pub fn put_old(
 /// Adds the first lines of a text without the edit, from the line with the number `first` on.
 // requires { first + count < 2 ^ 60 }
 // ensures { OnOk result (string_bytes out.new ≡ string_bytes out.old
-//     ++ old_rows (seen_frame frame.now) first count text.now) }
+//     ++ old_rows (seen_frame frame.now) (seen_edit edit.now) first count text.now) }
 #[inline]
 fn put_old_rows(
     out: &mut String,
     frame: &Frame<'_>,
+    edit: &Edit<'_>,
     first: usize,
     count: usize,
     text: &str,
@@ -68,7 +159,7 @@ fn put_old_rows(
     let mut left = count;
     while left > 0 {
         let (line, behind) = split_line(rest);
-        put_old(out, frame, number, line)?;
+        put_old(out, frame, number, line, &[*edit])?;
         rest = behind;
         number += 1;
         left -= 1;
@@ -76,16 +167,44 @@ fn put_old_rows(
     Ok(())
 }
 
-/// Adds the line that an edit makes of its first and its last line.
+/// Adds the line that an edit makes of its first and its last line, after a sign, in colours.
 // ensures { OnOk result (string_bytes out.new ≡ string_bytes out.old
-//     ++ edited (seen_edit edit.now) first.now last.now) }
+//     ++ pieces_after palette Plain (piece Addition (codes "+ ")
+//     ∷ edited (seen_edit edit.now) first.now last.now)) }
 #[inline]
-fn put_edited(
+fn put_coloured_edit(
     out: &mut String,
+    palette: Palette,
     edit: &Edit<'_>,
     first: &str,
     last: &str,
 ) -> Result<(), AllocError> {
+    put_sign(out, palette, Style::Addition, "+ ")?;
+    let count = edit.extent.start.chars;
+    let style = put_front_after(out, palette, Style::Addition, Style::Plain, first, count)?;
+    let style = put_glyphs_after(out, palette, style, Style::Addition, edit.text)?;
+    let rest = behind_chars(last, edit.extent.end.chars);
+    let style = put_glyphs_after(out, palette, style, Style::Plain, rest)?;
+    put_reset(out, style)?;
+    Ok(())
+}
+
+/// Adds the line that an edit makes of its first and its last line, after a sign.
+// ensures { OnOk result (string_bytes out.new ≡ string_bytes out.old
+//     ++ pieces palette (piece Addition (codes "+ ")
+//     ∷ edited (seen_edit edit.now) first.now last.now)) }
+#[inline]
+fn put_edited(
+    out: &mut String,
+    palette: Palette,
+    edit: &Edit<'_>,
+    first: &str,
+    last: &str,
+) -> Result<(), AllocError> {
+    if has_colours(palette) {
+        return Ok(put_coloured_edit(out, palette, edit, first, last)?);
+    }
+    out.try_push_str("+ ")?;
     put_front(out, first, edit.extent.start.chars)?;
     put_glyphs(out, edit.text, 0)?;
     put_glyphs(out, behind_chars(last, edit.extent.end.chars), 0)?;
@@ -105,8 +224,8 @@ fn put_new(out: &mut String, frame: &Frame<'_>, edit: &Edit<'_>) -> Result<(), A
         line(frame.picture.source, edit.extent.end.line)
     };
     put_line_number(out, frame, edit.extent.start.line)?;
-    out.try_push_str(" + ")?;
-    put_edited(out, edit, first, last)?;
+    out.try_push_str(" ")?;
+    put_edited(out, frame.gutter.palette, edit, first, last)?;
     out.try_push_str("\n")?;
     Ok(())
 }
@@ -120,11 +239,12 @@ fn put_new(out: &mut String, frame: &Frame<'_>, edit: &Edit<'_>) -> Result<(), A
 pub fn put_edit(out: &mut String, frame: &Frame<'_>, edit: &Edit<'_>) -> Result<(), AllocError> {
     let first = edit.extent.start.line;
     let count = edit.extent.end.line.saturating_sub(first) + 1;
-    put_help_title(out, edit.text)?;
+    put_help_title(out, frame.gutter.palette, edit.text)?;
     put_parting(out, frame)?;
     put_old_rows(
         out,
         frame,
+        edit,
         first,
         count,
         behind_lines(frame.picture.source, first),

@@ -18,5 +18,5 @@ pub use listing::{calls, Call};
 pub use marks::{is_mark_of, is_word, token_at, word};
 pub use parts::next_part;
 pub use split::{arguments, Argument};
-pub use strings::{format_string, Reason};
-pub use table::{Row, Rule, Table};
+pub use strings::{format_string, is_text_leaf, Reason};
+pub use table::{is_standard, Row, Rule, Table};

@@ -30,7 +30,7 @@ pub enum Reason {
 /// Returns whether a token is a string literal that has its end and no suffix.
 // ensures { result ≡ is_text_leaf (leaf token.now) }
 #[inline]
-fn is_text_leaf(token: &Token<'_>) -> bool {
+pub fn is_text_leaf(token: &Token<'_>) -> bool {
     matches!(token.kind, Kind::Str | Kind::RawStr) && token.is_ended && !token.has_suffix
 }
 

@@ -223,3 +223,10 @@ pub fn rule_of(rows: &[Row<'_>], word: &[u8]) -> Option<Rule> {
     }
     None
 }
+
+/// Returns whether a macro of this name is one of the standard library that takes a format string.
+// ensures { result ≡ is_some (rule_of standard word.now) }
+#[inline]
+pub fn is_standard(word: &[u8]) -> bool {
+    rule_of(&STANDARD, word).is_some()
+}

@@ -148,6 +148,7 @@ fn put_faults(
         source: source.lines,
         line_start: source.line_start,
         literal_start: source.start,
+        colours: task.colours,
     };
     put_drawings(alloc, out, all, task.mode, &picture, faults)
 }
@@ -229,22 +230,21 @@ fn put_fixed(
 /// to a text. Returns how many mistakes it has, and `Err` if an allocation fails.
 // requires { hashes source.style ≤ limit }
 // ensures lexed { OnOk result (string_bytes out.new ≡ string_bytes out.old
-//     ++ (lexed colours (seen_task task.entry) (seen_source source.entry)).0) }
+//     ++ (lexed (seen_task task.entry) (seen_source source.entry)).0) }
 // ensures told { IfOk result (λ told. told
-//     ≡ (lexed colours (seen_task task.entry) (seen_source source.entry)).1) }
+//     ≡ (lexed (seen_task task.entry) (seen_source source.entry)).1) }
 #[inline]
 fn put_lexed(
     alloc: Global,
     out: &mut String,
-    colours: bool,
     task: Task<'_>,
     source: Source<'_>,
 ) -> Result<usize, AllocError> {
     let written = source.literal.unwrap_or(source.text);
     let snippet = source.literal.unwrap_or(source.lines);
     let (found, faults) = tokens_in(alloc, task.mode, source, snippet)?;
-    put_tokens(out, colours, written, found.as_slice())?;
-    if colours {
+    put_tokens(out, task.colours, written, found.as_slice())?;
+    if task.colours {
         out.try_push_str("\n")?;
     }
     let told = put_faults(alloc, out, false, task, source, &faults)?;
@@ -266,8 +266,7 @@ fn shown_of(
     let told = match task.show {
         Show::Fault => put_drawn(alloc, &mut out, false, task, source)?,
         Show::All => put_drawn(alloc, &mut out, true, task, source)?,
-        Show::Tokens => put_lexed(alloc, &mut out, false, task, source)?,
-        Show::Colours => put_lexed(alloc, &mut out, true, task, source)?,
+        Show::Tokens => put_lexed(alloc, &mut out, task, source)?,
         Show::Fix => put_fixed(alloc, &mut out, task, source)?,
     };
     Ok((out, told))

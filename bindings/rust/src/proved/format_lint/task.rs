@@ -13,10 +13,9 @@ pub enum Show {
     Fault,
     /// All its faults, each with its id and whether it follows from an earlier one.
     All,
-    /// Its tokens, each in a line, and then the fault that the compiler shows.
+    /// Its tokens, each in a line or as its text in their colours, and then the fault that the
+    /// compiler shows.
     Tokens,
-    /// Its text in the colours of its tokens, and then the fault that the compiler shows.
-    Colours,
     /// The literal with the edits that its faults suggest, and the fault that the compiler shows of
     /// that.
     Fix,
@@ -31,4 +30,6 @@ pub struct Task<'a> {
     /// The path that is shown for the input.
     pub path: &'a str,
     pub show: Show,
+    /// Whether the output has colours, for a terminal.
+    pub colours: bool,
 }

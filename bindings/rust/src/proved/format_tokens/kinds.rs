@@ -8,7 +8,7 @@ use std::ops::Range;
 
 /// The kind of a token. The names are those of rust-analyzer's lexer of format strings where it has
 /// one.
-#[derive(Clone, Copy, Debug, Eq, PartialEq)]
+#[derive(Clone, Copy, Debug, Eq, PartialEq, Hash)]
 pub enum Kind {
     /// Literal text without braces.
     Text,
@@ -58,7 +58,7 @@ pub enum Kind {
 }
 
 /// A token: a kind and a byte range of the source.
-#[derive(Clone, Debug, Eq, PartialEq)]
+#[derive(Clone, Debug, Eq, PartialEq, Hash)]
 pub struct Token {
     /// The kind.
     pub kind: Kind,

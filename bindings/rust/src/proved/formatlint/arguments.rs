@@ -7,10 +7,13 @@
 use crate::proved::format_calls::{Row, Rule, Table};
 use crate::proved::format_lint::task::{Show, Task};
 use crate::proved::formatlint::forms::Form;
-use crate::proved::lint_words::When;
+use crate::proved::lint_words::{wants_colours, When};
+use crate::proved::rust_tokens::{first_token, Kind};
 use crate::proved::rustc_parse_format::ParseMode;
 use crate::shim::alloc::{AllocError, Global};
 use crate::shim::clap::ArgMatches;
+use crate::shim::host::env;
+use crate::shim::host::IsTerminal;
 use crate::shim::prelude::*;
 
 /// Returns the word for the mode.
@@ -32,7 +35,7 @@ fn mode_of(matches: &ArgMatches<'_>) -> ParseMode {
 
 /// Returns when colours are written.
 #[inline]
-pub fn when_of(matches: &ArgMatches<'_>) -> When {
+fn when_of(matches: &ArgMatches<'_>) -> When {
     match matches.get_str("color").unwrap_or("auto") {
         "always" => When::Always,
         "never" => When::Never,
@@ -40,15 +43,28 @@ pub fn when_of(matches: &ArgMatches<'_>) -> When {
     }
 }
 
-/// Returns the form of messages.
+/// Returns whether what is written to standard output is in colours.
 #[inline]
-pub fn form_of(matches: &ArgMatches<'_>) -> Form {
+pub fn has_colours(rt: &crate::shim::host::HostRuntime, matches: &ArgMatches<'_>) -> bool {
+    let no_color = env::var(rt, "NO_COLOR").ok();
+    let term = env::var(rt, "TERM").ok();
+    wants_colours(
+        when_of(matches),
+        rt.stdout().is_terminal(),
+        no_color.as_deref(),
+        term.as_deref(),
+    )
+}
+
+/// Returns the form of messages, drawn in colours or not.
+#[inline]
+pub fn form_of(matches: &ArgMatches<'_>, colours: bool) -> Form {
     match matches.get_str("message-format").unwrap_or("human") {
         "short" => Form::Short,
         "json" => Form::Json,
         "github" => Form::Github,
         "sarif" => Form::Sarif,
-        _ => Form::Human,
+        _ => Form::Human { colours },
     }
 }
 
@@ -63,28 +79,27 @@ pub fn file_of<'a>(matches: &ArgMatches<'a>) -> Option<&'a str> {
 
 /// Returns which answer is shown for one string.
 #[inline]
-fn show_of(matches: &ArgMatches<'_>, has_colours: bool) -> Show {
+fn show_of(matches: &ArgMatches<'_>) -> Show {
     if matches.get_flag("fix") {
         Show::Fix
     } else if matches.get_flag("all") {
         Show::All
-    } else if !matches.get_flag("tokens") {
-        Show::Fault
-    } else if has_colours {
-        Show::Colours
-    } else {
+    } else if matches.get_flag("tokens") {
         Show::Tokens
+    } else {
+        Show::Fault
     }
 }
 
 /// Returns the task for one string, where the input has this path.
 #[inline]
-pub fn task_of<'a>(matches: &ArgMatches<'_>, path: &'a str, has_colours: bool) -> Task<'a> {
+pub fn task_of<'a>(matches: &ArgMatches<'_>, path: &'a str, colours: bool) -> Task<'a> {
     Task {
         mode: mode_of(matches),
         is_literal: !matches.get_flag("text"),
         path,
-        show: show_of(matches, has_colours),
+        show: show_of(matches),
+        colours,
     }
 }
 
@@ -104,14 +119,12 @@ pub fn list_words(alloc: Global, matches: &ArgMatches<'_>) -> Result<Vec<String>
     Ok(words)
 }
 
-/// Returns whether a text can be the name of a macro.
+/// Returns whether a text can be the name of a macro: whether it is an identifier.
 #[inline]
 fn is_name(text: &str) -> bool {
-    match text.chars().next() {
-        Some(first) if !first.is_ascii_digit() => {
-            text.chars().all(|c| c == '_' || c.is_alphanumeric())
-        }
-        _ => false,
+    match first_token(text) {
+        Some(token) => matches!(token.kind, Kind::Ident) && token.span.end == text.len(),
+        None => false,
     }
 }
 

@@ -253,6 +253,7 @@ fn level(finding: &Finding) -> Level {
 #[inline]
 fn put_drawn<'x>(
     out: &mut String,
+    colours: bool,
     path: &'x str,
     excerpt: &'x Excerpt<'_>,
     finding: &'x Finding,
@@ -268,6 +269,7 @@ fn put_drawn<'x>(
         source: excerpt.source.as_str(),
         line_start: excerpt.number,
         literal_start: 0,
+        colours,
     };
     let diagnostic = Diagnostic {
         level: level(finding),
@@ -279,13 +281,14 @@ fn put_drawn<'x>(
     put_labels(out, &picture, &diagnostic)
 }
 
-/// Appends the drawing of a finding, and returns whether there is one: none is made of more than
-/// 20 labels, of lines with more than 4,096 bytes, or of a line with more than 400. Returns `Err`
-/// if an allocation fails.
+/// Appends the drawing of a finding, maybe in colours, and returns whether there is one: none is
+/// made of more than 20 labels, of lines with more than 4,096 bytes, or of a line with more than
+/// 400. Returns `Err` if an allocation fails.
 // requires { file.now.places ≡ file.now.text.now }
 #[inline]
 pub fn put_drawing(
     out: &mut String,
+    colours: bool,
     file: &File<'_>,
     finding: &Finding,
 ) -> Result<bool, AllocError> {
@@ -295,6 +298,6 @@ pub fn put_drawing(
     let Some(excerpt) = excerpt_of(*out.own_allocator(), file, &extent(finding))? else {
         return Ok(false);
     };
-    put_drawn(out, file.path, &excerpt, finding)?;
+    put_drawn(out, colours, file.path, &excerpt, finding)?;
     Ok(true)
 }

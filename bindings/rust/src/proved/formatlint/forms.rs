@@ -20,7 +20,10 @@ use std::ops::Range;
 #[derive(Clone, Copy, PartialEq)]
 pub enum Form {
     /// As rustc draws them.
-    Human,
+    Human {
+        /// Whether the drawings have colours.
+        colours: bool,
+    },
     /// A line for an editor.
     Short,
     /// A line of JSON.
@@ -180,17 +183,18 @@ fn children<'a, 's>(
     Ok(children)
 }
 
-/// Appends a message in the form for people: drawn, or else in a line. Returns `Err` if an
-/// allocation fails.
+/// Appends a message in the form for people: drawn, maybe in colours, or else in a line. Returns
+/// `Err` if an allocation fails.
 // requires { file.now.places ≡ file.now.text.now }
 #[inline]
 fn put_human(
     out: &mut String,
+    colours: bool,
     file: &File<'_>,
     finding: &Finding,
     message: &Message<'_>,
 ) -> Result<(), AllocError> {
-    if put_drawing(out, file, finding)? {
+    if put_drawing(out, colours, file, finding)? {
         return Ok(());
     }
     put_short(out, message)
@@ -207,7 +211,7 @@ fn put_line<'a>(
 ) -> Result<(), AllocError> {
     let alloc = *out.own_allocator();
     let mut rendered = String::made_in(alloc);
-    put_human(&mut rendered, file, finding, message)?;
+    put_human(&mut rendered, false, file, finding, message)?;
     let spans = label_spans(alloc, file, finding)?;
     let ranges = child_spans(alloc, file, finding)?;
     let children = children(alloc, finding, ranges.as_slice())?;
@@ -238,7 +242,7 @@ pub fn put_finding<'a>(
         primary: span_of(file, form, &finding.span),
     };
     match form {
-        Form::Human => put_human(out, file, finding, &message),
+        Form::Human { colours } => put_human(out, colours, file, finding, &message),
         Form::Short => put_short(out, &message),
         Form::Json => put_line(out, file, finding, &message),
         Form::Github => put_github(out, &message),

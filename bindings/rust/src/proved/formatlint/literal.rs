@@ -6,18 +6,18 @@
 
 use crate::proved::drawn_faults::put_glyphs;
 use crate::proved::format_lint::run::run;
-use crate::proved::formatlint::arguments::{file_of, list_words, task_of, when_of};
+use crate::proved::formatlint::arguments::{file_of, has_colours, list_words, task_of};
 use crate::proved::formatlint::failure::Failure;
 use crate::proved::formatlint::recorder::Recorder;
-use crate::proved::lint_words::{put_failure, put_not_literal, system_words, wants_colours};
+use crate::proved::lint_words::{put_failure, put_not_literal, system_words};
 use crate::proved::listing_json::{list, Listing};
 use crate::proved::literal_faults::{file_fault, snippet_of};
 use crate::proved::piece_listing::run::{read_input, run as list_as_text, write_whole};
 use crate::proved::piece_listing::verdict::RunFault;
 use crate::shim::alloc::{AllocError, Global};
 use crate::shim::clap::ArgMatches;
+use crate::shim::host::fs;
 use crate::shim::host::IsTerminal;
-use crate::shim::host::{env, fs};
 use crate::shim::prelude::*;
 use std::io::{Read, Write};
 
@@ -53,19 +53,6 @@ pub fn tell_of_terminal(rt: &crate::shim::host::HostRuntime) {
     if rt.stdin().is_terminal() {
         let _ = rt.eprintln("formatlint: reads what is typed here, up to Ctrl-D; --help says more");
     }
-}
-
-/// Returns whether what is written to standard output is in colours.
-#[inline]
-fn has_colours(rt: &crate::shim::host::HostRuntime, matches: &ArgMatches<'_>) -> bool {
-    let no_color = env::var(rt, "NO_COLOR").ok();
-    let term = env::var(rt, "TERM").ok();
-    wants_colours(
-        when_of(matches),
-        rt.stdout().is_terminal(),
-        no_color.as_deref(),
-        term.as_deref(),
-    )
 }
 
 /// Returns the bytes of an input that are listed: all of a text, or the literal in a file.

@@ -23,7 +23,7 @@ use crate::shim::alloc::AllocError;
 use crate::shim::clap::error::ErrorKind;
 use crate::shim::clap::{ArgMatches, Error};
 use crate::shim::host::env;
-use arguments::{form_of, table_of};
+use arguments::{form_of, has_colours, table_of};
 use files::{lint, write, Request};
 use forms::Form;
 use literal::{literal_status, tell};
@@ -149,7 +149,7 @@ fn files_status(
         paths: matches.get_strs("path").unwrap_or(&[]),
         excluded: matches.get_strs("exclude").unwrap_or(&[]),
         stdin_path: matches.get_str("stdin-path"),
-        form: form_of(matches),
+        form: form_of(matches, has_colours(rt, matches)),
         edition: matches.get_str("edition"),
         version: VERSION,
     };

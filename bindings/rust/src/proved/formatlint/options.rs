@@ -205,7 +205,7 @@ fn with_others<'a>(alloc: Global, command: Command<'a>) -> Result<Command<'a>, A
         alloc,
         "color",
         "WHEN",
-        "Whether tokens have colours; auto: if standard output is a terminal that has them",
+        "Whether tokens and drawings have colours; auto: if standard output is a terminal that has them",
     );
     let ids = flag(alloc, "list-ids", "List the ids of all kinds of faults");
     let explain = option(

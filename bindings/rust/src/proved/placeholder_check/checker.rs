@@ -11,6 +11,7 @@ use crate::proved::rustc_parse_format::Piece;
 use crate::shim::alloc::{AllocError, Global};
 
 /// The arguments that are missing or unused. No list has an entry twice.
+#[derive(Clone, Debug, Eq, PartialEq)]
 pub struct Report<'a> {
     /// The indices that are used and not given, in ascending order.
     pub missing_index: Vec<usize>,

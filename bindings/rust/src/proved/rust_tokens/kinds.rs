@@ -8,7 +8,7 @@ use std::ops::Range;
 
 /// The kind of a token. The names are those of `rustc_lexer` where it has one, and else those of
 /// the Rust Reference.
-#[derive(Clone, Copy, Debug, Eq, PartialEq)]
+#[derive(Clone, Copy, Debug, Eq, PartialEq, Hash)]
 pub enum Kind {
     /// White space: Unicode's `Pattern_White_Space`.
     Whitespace,
@@ -71,7 +71,7 @@ pub enum Kind {
 }
 
 /// A token of a text.
-#[derive(Clone, Debug, Eq, PartialEq)]
+#[derive(Clone, Debug, Eq, PartialEq, Hash)]
 pub struct Token {
     /// The byte range of the text.
     pub span: Range<usize>,

@@ -86,6 +86,19 @@ pub fn split_first_token(text: &str) -> Option<(Token, &str)> {
     Some((token, step.rest))
 }
 
+/// Returns the first token of a text that is not the start of a file, or `None` if the text is
+/// empty.
+// ensures begins { IfSome result (λ t. (x : Lexeme) × (r : Text) × Begins x (chars text.now) r
+//     × (t ≡ token_at 0 x)) }
+// ensures none { IsNone result → chars text.now ≡ [] }
+#[inline]
+pub fn first_token(text: &str) -> Option<Token> {
+    match split_first_token(text) {
+        Some((token, _)) => Some(token),
+        None => None,
+    }
+}
+
 /// Returns whether a token is white space or a comment that documents nothing.
 // ensures { result ≡ is_gap kind }
 #[inline]

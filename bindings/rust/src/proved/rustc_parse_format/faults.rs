@@ -11,6 +11,7 @@ use std::ops::Range;
 
 /// A fault of an input: what is wrong there, as plain data, of which a parser makes an error. The
 /// ranges are byte ranges of the source.
+#[derive(Clone, Debug, Eq, PartialEq)]
 pub enum Fault<'input> {
     /// A closing brace that closes nothing.
     UnmatchedBrace(Range<usize>),

@@ -5,6 +5,8 @@
 // by results from outside, and beside what is proved (.ci/bindings) and the original (tools/agree).
 
 pub(crate) mod findings;
+pub(crate) mod form_words;
+pub(crate) mod forms;
 pub(crate) mod givens;
 pub(crate) mod labels;
 pub(crate) mod lint;

@@ -10,13 +10,16 @@ use crate::proved::format_calls::{
 };
 use crate::proved::rust_trees::{Source, Token};
 use crate::proved::source_lint::findings::put_findings;
+use crate::proved::source_lint::form_words::put_form;
+use crate::proved::source_lint::forms::{form_here, have_joined};
 use crate::proved::source_lint::givens::givens;
-use crate::proved::source_lint::literals::{appends_newline, read_literal};
+use crate::proved::source_lint::literals::{appends_newline, dropped_crs, read_literal};
 use crate::proved::source_lint::macros::is_defined;
 use crate::proved::source_lint::report::{CallReading, Finding};
 use crate::proved::source_lint::spans::Site;
 use crate::shim::alloc::{AllocError, Global};
 use crate::shim::prelude::*;
+use std::collections::BTreeSet;
 
 /// A file, with what its calls are read by.
 #[derive(Clone, Copy)]
@@ -24,7 +27,7 @@ pub struct File<'s, 'a> {
     /// The text.
     pub text: &'a str,
     /// The names of the macros that it defines.
-    pub macros: &'s [&'a [u8]],
+    pub macros: &'s BTreeSet<&'a [u8]>,
     /// Whether its edition is 2021 or a later one.
     pub is_from_2021: bool,
 }
@@ -176,12 +179,15 @@ fn read_at(
         return Ok(CallReading::Malformed);
     };
     let others = &arguments[index + 1..];
+    let crs = dropped_crs(alloc, literal.text)?;
     let site = Site {
         text: file.text,
         tokens,
         literal,
-        has_crs: literal.text.contains('\r'),
+        crs: &crs,
         arguments: others,
+        name: call.name,
+        close: call.close,
     };
     let name = name_at(tokens, call.name);
     let appended_newline = appends_newline(name);
@@ -198,23 +204,68 @@ fn read_at(
     Ok(reading)
 }
 
+/// Returns whether no token stands where an argument should.
+// ensures { result ≡ is_empty argument.now }
+#[inline]
+fn is_empty(argument: &Argument) -> bool {
+    argument.start == argument.end
+}
+
+/// Returns whether no token stands where one of these arguments should.
+// ensures { result ≡ list_any is_empty arguments.now }
+#[inline]
+fn has_empty(arguments: &[Argument]) -> bool {
+    for argument in arguments {
+        if is_empty(argument) {
+            return true;
+        }
+    }
+    false
+}
+
+/// Returns the index of the argument that is the format string of a call, or the reading of the
+/// call if none is read.
+// ensures value { result ≡ index_or file.entry.is_from_2021 part.now call.now.rule
+//     arguments.now }
+// ensures literal { IfOk result (λ n. (a : ArgumentValue) × (slice_get arguments.now n ≡ Some a)
+//     × IsTrue (is_text part.now a)) }
+#[inline]
+fn index_or(
+    file: File<'_, '_>,
+    part: &Source<'_>,
+    call: &Call,
+    arguments: &[Argument],
+) -> Result<usize, CallReading> {
+    if has_empty(arguments) {
+        return Err(CallReading::NoExpression);
+    }
+    if have_joined(part.tokens(), arguments) {
+        return Err(CallReading::NoComma);
+    }
+    match format_string(part, call.rule, arguments, file.is_from_2021) {
+        Ok(index) => Ok(index),
+        Err(reason) => Err(CallReading::Unread(reason)),
+    }
+}
+
 /// Reads a call, and adds its findings. Returns `Err` if an allocation fails.
 // requires { IsPair part.now (call.now.name + 2) call.now.close }
 // ensures read { IfOk result (λ r. (xs : List FindingValue)
 //     × (findings.new.items ≡ findings.old.items ++ xs)
-//     × Reads (map (λ w. w.now) file.entry.macros.now) file.entry.is_from_2021 part.now call.now
+//     × Reads (names_in file.entry.macros.now) file.entry.is_from_2021 part.now call.now
 //     r xs) }
 // ensures spans { OnOk result (All (HasSpans file.entry.text.now) findings.old.items
 //     → All (HasSpans file.entry.text.now) findings.new.items) }
 #[inline]
-pub fn read_call(
+pub fn read_call<'a>(
     alloc: Global,
     findings: &mut Vec<Finding>,
-    file: File<'_, '_>,
-    part: &Source<'_>,
+    file: File<'_, 'a>,
+    part: &Source<'a>,
     call: &Call,
 ) -> Result<CallReading, AllocError> {
-    let name = name_at(part.tokens(), call.name);
+    let tokens = part.tokens();
+    let name = name_at(tokens, call.name);
     if is_defined(file.macros, name) {
         return Ok(CallReading::Redefined);
     }
@@ -222,10 +273,14 @@ pub fn read_call(
         return Ok(CallReading::Whole);
     };
     let list = arguments.as_slice();
-    match format_string(part, call.rule, list, file.is_from_2021) {
-        Err(reason) => Ok(CallReading::Unread(reason)),
+    match index_or(file, part, call, list) {
         Ok(index) => {
             let reading = read_at(alloc, findings, file, part, call, list, index)?;
+            Ok(reading)
+        }
+        Err(reading) => {
+            let form = form_here(tokens, name, call.rule, file.is_from_2021, list, call.close);
+            put_form(findings, file.text, tokens, call, list, form)?;
             Ok(reading)
         }
     }

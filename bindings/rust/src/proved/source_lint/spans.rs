@@ -20,10 +20,14 @@ pub struct Site<'s, 'a> {
     pub tokens: &'s [Token<'a>],
     /// The literal of its format string.
     pub literal: Token<'a>,
-    /// Whether the literal has a CR.
-    pub has_crs: bool,
+    /// Its CRs that stand before LF, as `dropped_crs` returns them.
+    pub crs: &'s [usize],
     /// The arguments after its format string.
     pub arguments: &'s [Argument],
+    /// The index of the name of its macro.
+    pub name: usize,
+    /// The index of the delimiter that closes it.
+    pub close: usize,
 }
 
 /// Returns the range between two byte offsets of a text. An offset within a character goes back to
@@ -42,7 +46,7 @@ pub fn range_in(text: &str, from: usize, to: usize) -> Range<usize> {
 
 /// Returns the bytes from one token to the one before another.
 #[inline]
-fn tokens_range(tokens: &[Token<'_>], from: usize, to: usize) -> Range<usize> {
+pub fn tokens_range(tokens: &[Token<'_>], from: usize, to: usize) -> Range<usize> {
     let Some(first) = token_at(tokens, from) else {
         return 0..0;
     };
@@ -50,6 +54,43 @@ fn tokens_range(tokens: &[Token<'_>], from: usize, to: usize) -> Range<usize> {
         Some(last) => first.start..last.start.saturating_add(last.text.len()),
         None => first.start..first.start,
     }
+}
+
+/// Returns whether a byte of a text may stand in a path beside `::`.
+#[inline]
+fn is_in_path(byte: u8) -> bool {
+    byte.is_ascii_alphanumeric() || byte == b'_' || byte == b'$' || byte >= 0x80
+}
+
+/// Returns the offset of the word that ends at an offset of a text, or that offset if none does.
+// requires { end ≤ length bytes.now }
+// ensures { result ≤ end }
+#[inline]
+fn word_start(bytes: &[u8], end: usize) -> usize {
+    let mut start = end;
+    while start > 0 && is_in_path(bytes[start - 1]) {
+        start -= 1;
+    }
+    start
+}
+
+/// Returns the offset of the path whose last word starts at an offset of a text, where no white
+/// space stands in it.
+#[inline]
+fn path_start(text: &str, name: usize) -> usize {
+    let bytes = text.as_bytes();
+    let mut start = name.min(bytes.len());
+    while start > 1 && bytes[start - 1] == b':' && bytes[start - 2] == b':' {
+        start = word_start(bytes, start - 2);
+    }
+    start
+}
+
+/// Returns the bytes of a call, from the path of its macro to the delimiter that closes it.
+#[inline]
+pub fn call_range(text: &str, tokens: &[Token<'_>], name: usize, close: usize) -> Range<usize> {
+    let range = tokens_range(tokens, name, close.saturating_add(1));
+    path_start(text, range.start)..range.end
 }
 
 /// Returns the bytes of an argument, or none if there is no such argument.
@@ -103,6 +144,18 @@ fn range_up_to_next(site: Site<'_, '_>, index: usize) -> Range<usize> {
     }
 }
 
+/// Returns the empty range after a range.
+#[inline]
+fn end_of(range: Range<usize>) -> Range<usize> {
+    range.end..range.end
+}
+
+/// Returns the bytes of the literal.
+#[inline]
+fn whole_literal(literal: Token<'_>) -> Range<usize> {
+    literal.start..literal.start.saturating_add(literal.text.len())
+}
+
 /// Returns the empty range before the closing quote of the literal.
 #[inline]
 fn literal_end(literal: Token<'_>) -> Range<usize> {
@@ -119,8 +172,8 @@ fn literal_end(literal: Token<'_>) -> Range<usize> {
 #[inline]
 fn literal_range(site: Site<'_, '_>, from: usize, to: usize) -> Range<usize> {
     let literal = site.literal;
-    let start = offset_in(literal.text, site.has_crs, from);
-    let end = offset_in(literal.text, site.has_crs, to);
+    let start = offset_in(site.crs, from);
+    let end = offset_in(site.crs, to);
     literal.start.saturating_add(start)..literal.start.saturating_add(end)
 }
 
@@ -134,8 +187,11 @@ pub fn spot_range(site: Site<'_, '_>, spot: Spot) -> Range<usize> {
         Spot::Name(index) => name_range(site, index),
         Spot::Value(index) => value_range(site, index),
         Spot::ValueUpToNext(index) => range_up_to_next(site, index),
-        Spot::Literal => literal.start..literal.start.saturating_add(literal.text.len()),
+        Spot::ValueEnd(index) => end_of(value_range(site, index)),
+        Spot::Literal => whole_literal(literal),
         Spot::LiteralEnd => literal_end(literal),
+        Spot::AfterLiteral => end_of(whole_literal(literal)),
+        Spot::Call => call_range(site.text, site.tokens, site.name, site.close),
         Spot::Bytes { start, end } => literal_range(site, start, end),
     };
     range_in(site.text, range.start, range.end)

@@ -1,0 +1,30 @@
+//! A highlighter: `highlighter [LITERAL]` writes a string literal of a format string with a colour
+//! for each kind of token.
+use dephungo::tokens::{tokens, Kind};
+use dephungo::{literal, ParseMode};
+
+/// The number of the colour of a kind on a terminal.
+fn colour(kind: Kind) -> u8 {
+    match kind {
+        Kind::Quote | Kind::Text => 32,
+        Kind::Open | Kind::Close => 35,
+        Kind::Identifier => 36,
+        _ => 33,
+    }
+}
+
+fn main() {
+    let source = std::env::args().nth(1);
+    let source = source.unwrap_or_else(|| r#""{} of {\x74otal:>8}\n""#.to_string());
+    let content = literal::between_quotes(&source).and_then(literal::read_content);
+    let Some(content) = content else {
+        return eprintln!("no ordinary string literal: {source}");
+    };
+    let text: String = content.iter().map(|(_, character)| *character).collect();
+    let snippet = Some(source.clone());
+    for token in tokens(&text, None, snippet, false, ParseMode::Format) {
+        let (number, text) = (colour(token.kind), &source[token.span]);
+        print!("\x1b[{number}m{text}\x1b[0m");
+    }
+    println!();
+}

@@ -1,0 +1,227 @@
+//! Texts in the styles that rustc gives them on a terminal. What begins with `put_` appends to
+//! `out`, and returns `Err` if an allocation fails.
+
+// Extracted from crates/drawn_faults/src/paint.rt by tools/extract: not to be edited.
+// That source is proved, and each contract here is its. That this text means the same is tested:
+// by results from outside, and beside what is proved (.ci/bindings) and the original (tools/agree).
+
+use crate::shim::alloc::AllocError;
+use crate::shim::prelude::*;
+
+/// The colours of a drawing.
+#[derive(Clone, Copy)]
+pub enum Palette {
+    Colourless,
+    /// Those of an error.
+    Error,
+    /// Those of a warning.
+    Warning,
+    /// Those of a note that shows something.
+    Note,
+}
+
+/// How a text is shown.
+#[derive(Clone, Copy)]
+pub enum Style {
+    /// As the text of the source.
+    Plain,
+    /// As the signs of a primary label, and as the word that a title begins with.
+    Primary,
+    /// As the text of a primary label.
+    PrimaryText,
+    /// As the signs of another label, and as the numbers of lines.
+    Secondary,
+    /// As the text of another label.
+    SecondaryText,
+    /// As a title.
+    Bold,
+    /// As the word that a help begins with.
+    Help,
+    /// As a text that is new.
+    Addition,
+    /// As a text that is left out.
+    Removal,
+}
+
+/// The gutter of a drawing, and its colours.
+#[derive(Clone, Copy)]
+pub struct Gutter {
+    /// How many columns the numbers of the lines have.
+    pub columns: usize,
+    pub palette: Palette,
+}
+
+/// Returns the colours of this level, if there are colours.
+// ensures { result ≡ palette_of colours level }
+#[inline]
+pub fn palette_of(colours: bool, level: Palette) -> Palette {
+    if colours {
+        level
+    } else {
+        Palette::Colourless
+    }
+}
+
+/// Returns whether there are colours.
+// ensures { result ≡ has_colours palette }
+#[inline]
+pub fn has_colours(palette: Palette) -> bool {
+    !matches!(palette, Palette::Colourless)
+}
+
+/// Returns the escapes that set the colour of a level.
+// ensures { result.now ≡ level_escape palette }
+#[inline]
+fn level_escape(palette: Palette) -> &'static str {
+    match palette {
+        Palette::Colourless => "",
+        Palette::Error => "\u{1b}[1m\u{1b}[91m",
+        Palette::Warning => "\u{1b}[1m\u{1b}[33m",
+        Palette::Note => "\u{1b}[1m\u{1b}[92m",
+    }
+}
+
+/// Returns the escapes that set a style.
+// ensures { result.now ≡ escape palette style }
+#[inline]
+pub fn escape(palette: Palette, style: Style) -> &'static str {
+    match style {
+        Style::Plain => "",
+        Style::Primary | Style::PrimaryText => level_escape(palette),
+        Style::Secondary | Style::SecondaryText => "\u{1b}[1m\u{1b}[94m",
+        Style::Bold => "\u{1b}[1m",
+        Style::Help => "\u{1b}[1m\u{1b}[96m",
+        Style::Addition => "\u{1b}[92m",
+        Style::Removal => "\u{1b}[91m",
+    }
+}
+
+/// Returns a number of a style.
+// ensures { result ≡ rank style }
+#[inline]
+fn rank(style: Style) -> u8 {
+    match style {
+        Style::Plain => 0,
+        Style::Primary => 1,
+        Style::PrimaryText => 2,
+        Style::Secondary => 3,
+        Style::SecondaryText => 4,
+        Style::Bold => 5,
+        Style::Help => 6,
+        Style::Addition => 7,
+        Style::Removal => 8,
+    }
+}
+
+/// Adds the escape that ends a style, if it has one.
+// ensures { OnOk result (string_bytes out.new ≡ string_bytes out.old ++ reset_of style) }
+#[inline]
+pub fn put_reset(out: &mut String, style: Style) -> Result<(), AllocError> {
+    if rank(style) != 0 {
+        out.try_push_str("\u{1b}[0m")?;
+    }
+    Ok(())
+}
+
+/// Adds the escapes between a text of one style and a text of another.
+// ensures { OnOk result (string_bytes out.new
+//     ≡ string_bytes out.old ++ change palette before after) }
+#[inline]
+pub fn put_change(
+    out: &mut String,
+    palette: Palette,
+    before: Style,
+    after: Style,
+) -> Result<(), AllocError> {
+    if rank(before) == rank(after) {
+        return Ok(());
+    }
+    put_reset(out, before)?;
+    out.try_push_str(escape(palette, after))?;
+    Ok(())
+}
+
+/// Adds a text in a style, without its end.
+// requires { (length sign.now == 0) ≡ false }
+// ensures { OnOk result ((xs : List Piece) → string_bytes out.new
+//     ++ pieces_after palette style xs
+//     ≡ string_bytes out.old ++ pieces_after palette Plain (piece style sign.now ∷ xs)) }
+#[inline]
+pub fn put_sign(
+    out: &mut String,
+    palette: Palette,
+    style: Style,
+    sign: &str,
+) -> Result<(), AllocError> {
+    put_change(out, palette, Style::Plain, style)?;
+    out.try_push_str(sign)?;
+    Ok(())
+}
+
+/// Adds what is before a text in a style.
+// ensures { OnOk result (string_bytes out.new
+//     ≡ string_bytes out.old ++ opening palette style) }
+#[inline]
+pub fn put_opening(out: &mut String, palette: Palette, style: Style) -> Result<(), AllocError> {
+    if has_colours(palette) {
+        out.try_push_str(escape(palette, style))?;
+    }
+    Ok(())
+}
+
+/// Adds what is after a text in a style.
+// ensures { OnOk result (string_bytes out.new ≡ string_bytes out.old ++ closing palette) }
+#[inline]
+pub fn put_closing(out: &mut String, palette: Palette) -> Result<(), AllocError> {
+    if has_colours(palette) {
+        out.try_push_str("\u{1b}[0m")?;
+    }
+    Ok(())
+}
+
+/// Adds a text in a style.
+// ensures { OnOk result (string_bytes out.new
+//     ≡ string_bytes out.old ++ painted palette style text.now) }
+#[inline]
+pub fn put_painted(
+    out: &mut String,
+    palette: Palette,
+    style: Style,
+    text: &str,
+) -> Result<(), AllocError> {
+    if !text.is_empty() {
+        put_opening(out, palette, style)?;
+        out.try_push_str(text)?;
+        put_closing(out, palette)?;
+    }
+    Ok(())
+}
+
+/// Adds a space and the bar of a gutter.
+// ensures { OnOk result (string_bytes out.new
+//     ≡ string_bytes out.old ++ (codes " " ++ painted palette Secondary (codes "|"))) }
+#[inline]
+pub fn put_gutter_bar(out: &mut String, palette: Palette) -> Result<(), AllocError> {
+    match palette {
+        Palette::Colourless => out.try_push_str(" |")?,
+        Palette::Error | Palette::Warning | Palette::Note => {
+            out.try_push_str(" \u{1b}[1m\u{1b}[94m|\u{1b}[0m")?;
+        }
+    }
+    Ok(())
+}
+
+/// Adds what a note begins with, after the columns of the gutter.
+// ensures { OnOk result (string_bytes out.new ≡ string_bytes out.old
+//     ++ (codes " " ++ (painted palette Secondary (codes "= ")
+//     ++ (painted palette Bold (codes "note") ++ codes ": ")))) }
+#[inline]
+pub fn put_note_sign(out: &mut String, palette: Palette) -> Result<(), AllocError> {
+    match palette {
+        Palette::Colourless => out.try_push_str(" = note: ")?,
+        Palette::Error | Palette::Warning | Palette::Note => {
+            out.try_push_str(" \u{1b}[1m\u{1b}[94m= \u{1b}[0m\u{1b}[1mnote\u{1b}[0m: ")?;
+        }
+    }
+    Ok(())
+}
