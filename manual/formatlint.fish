@@ -15,7 +15,7 @@ complete -c formatlint -l list -d 'List the pieces and the faults of the string,
 complete -c formatlint -l args -x -d 'With --list: name arguments, as in 2,w, and list those that are missing or unused'
 complete -c formatlint -l format -x -a 'text json' -d 'With --list: text, as formatread writes it, or json, an object in each line'
 complete -c formatlint -l mode -x -a 'format asm diagnostic diagnostic-named' -d 'What the string is'
-complete -c formatlint -l color -x -a 'auto always never' -d 'Whether tokens have colours; auto: if standard output is a terminal that has them'
+complete -c formatlint -l color -x -a 'auto always never' -d 'Whether tokens and drawings have colours; auto: if standard output is a terminal that has them'
 complete -c formatlint -l list-ids -d 'List the ids of all kinds of faults'
 complete -c formatlint -l explain -x -d 'Say what a kind of fault is, with an example'
 complete -c formatlint -s h -l help -d 'Print help'
