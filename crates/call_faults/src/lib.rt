@@ -18,3 +18,4 @@ pub use arguments::Given;
 pub use checker::{Checked, FormatString, call_faults};
 pub use faults::{CallFault, Missing, Part, Reference};
 pub use spots::{CallEdit, CallHelp, CallLabel, CallNote, Spot};
+pub use text::text_fault;

@@ -49,9 +49,9 @@ fn first_faults<'a>(alloc: Global, parser: &mut Parser<'a>) -> Result<Vec<Fault<
     Ok(faults)
 }
 
-/// Returns the fault that is shown of all calls of a parser, or `None` if they find none. Returns
-/// `Err` if an allocation fails.
-pub(crate) fn text_fault<'a>(
+/// Returns the fault of a text that rustc shows: of the calls of a parser from where it is, up to
+/// the first one that finds any. Returns `None` if they find none, and `Err` if an allocation fails.
+pub fn text_fault<'a>(
     alloc: Global,
     parser: &mut Parser<'a>,
 ) -> Result<Option<Fault<'a>>, AllocError>

@@ -1,0 +1,17 @@
+use Rattle.std.proofs.Common.{◌≡◌, ◌≤◌, ◌++◌, drop, length, map}
+use Rattle.rustc_parse_format.specs.Seen.{pair, seen}
+use Rattle.asm_faults.specs.Lookups.{next_behind, piece_lookups}
+use Rattle.asm_faults.specs.Seen.{seen_lookup}
+use Rattle.asm_faults.proofs.lookups.push_pieces.Given as goal
+
+-- What is in the list, and then what is looked up for the pieces that are left, is all.
+abbrev pub invariant-loop-piece : goal.invariant-loop-piece
+invariant-loop-piece l = record {
+  lookups : map seen_lookup l.walk.lookups.items ++ piece_lookups l.template l.walk.next
+      (map pair l.places) (map seen (drop l.piece-index l.pieces))
+      ≡ map seen_lookup l.fn.walk.lookups.items
+      ++ piece_lookups l.template l.fn.walk.next (map pair l.fn.places) (map seen l.pieces);
+  next : next_behind l.walk.next (map seen (drop l.piece-index l.pieces))
+      ≡ next_behind l.fn.walk.next (map seen l.pieces);
+  few : l.walk.next ≤ length l.walk.lookups.items;
+}

@@ -1,0 +1,9 @@
+pub mod AsmFaults
+pub mod Operands
+pub mod Lookups
+pub mod Templates
+pub mod Compared
+pub mod Calls
+pub mod Words
+pub mod Labels
+pub mod Seen

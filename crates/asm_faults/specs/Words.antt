@@ -1,0 +1,55 @@
+-- The ids and the titles of faults, in rustc's words, as bytes.
+use Rattle.std.specs.Prelude.{ℕ, ◌++◌, List, [], ◌∷◌, Option, Some, None, codes, decimal}
+use Rattle.std.specs.List.{slice_get}
+use Rattle.rustc_parse_format.specs.Characters.{Text}
+use Rattle.rustc_parse_format.specs.FaultIds.{fault_id}
+use Rattle.rustc_parse_format.specs.Faults.{message}
+use Rattle.call_faults.specs.Words.{quoted}
+use Rattle.asm_faults.specs.AsmFaults.{AsmFault, PositionalAfter, RepeatedName, RegisterName}
+use Rattle.asm_faults.specs.AsmFaults.{WrongIndex, MissingName, LongModifier, TemplateFault}
+use Rattle.asm_faults.specs.AsmFaults.{UnusedOperands}
+use Rattle.asm_faults.specs.Operands.{Operand, Named, Register, Unnamed}
+
+-- The id of a fault. That of a template has its own.
+unfoldable pub asm_id : AsmFault → List ℕ
+asm_id (PositionalAfter i) = codes "operand-order"
+asm_id (RepeatedName i f) = codes "repeated-name"
+asm_id (RegisterName i) = codes "register-name"
+asm_id (WrongIndex s n) = codes "wrong-operand"
+asm_id (MissingName s w) = codes "missing-name"
+asm_id (LongModifier s) = codes "long-modifier"
+asm_id (TemplateFault k f) = fault_id f
+asm_id (UnusedOperands is) = codes "unused-argument"
+
+-- The name of an operand, or an empty text if it has none.
+abbrev pub name_of : Option Operand → Text
+name_of None = []
+name_of (Some Unnamed) = []
+name_of (Some (Named w)) = w
+name_of (Some (Register b)) = []
+
+-- The words for an operand that is not used.
+abbrev pub never_used : Option Operand → List ℕ
+never_used None = codes "argument never used"
+never_used (Some Unnamed) = codes "argument never used"
+never_used (Some (Named w)) = codes "named argument never used"
+never_used (Some (Register b)) = codes "argument never used"
+
+-- The title of operands that are not used.
+abbrev pub unused_title : List Operand → List ℕ → List ℕ
+unused_title ss [] = codes "multiple unused asm arguments"
+unused_title ss (i ∷ []) = never_used (slice_get ss i)
+unused_title ss (i ∷ j ∷ is) = codes "multiple unused asm arguments"
+
+-- The title of a fault of a call with the operands ss, as placeholders refer to them.
+unfoldable pub title : List Operand → AsmFault → List ℕ
+title ss (PositionalAfter i) =
+    codes "positional arguments cannot follow named arguments or explicit register arguments"
+title ss (RepeatedName i f) =
+    codes "duplicate argument named " ++ quoted (name_of (slice_get ss f))
+title ss (RegisterName i) = codes "explicit register arguments cannot have names"
+title ss (WrongIndex s n) = codes "invalid reference to argument at index " ++ decimal n
+title ss (MissingName s w) = codes "there is no argument named " ++ quoted w
+title ss (LongModifier s) = codes "asm template modifier must be a single character"
+title ss (TemplateFault k f) = codes "invalid asm template string: " ++ (message f).description
+title ss (UnusedOperands is) = unused_title ss is

@@ -1,0 +1,123 @@
+//! The comparison of lookups with the operands.
+
+ghost use Rattle.std.specs.Prelude.{◌≡◌, ◌==◌, ◌++◌, ℕ, List, IfOk, OnOk, false, get_or, map};
+ghost use Rattle.std.specs.Prelude.{option_map};
+ghost use Rattle.std.specs.Option.{option_map_or};
+ghost use Rattle.std.specs.List.{filter_map, list_any};
+ghost use Rattle.asm_faults.specs.Operands.{Operand as OperandValue};
+ghost use Rattle.asm_faults.specs.Compared.{fault_of, means, unused, unused_faults, unused_from};
+ghost use Rattle.asm_faults.specs.Seen.{Holds, seen_fault, seen_lookup, seen_operand};
+
+use crate::faults::AsmFault;
+use crate::lookups::Lookup;
+use crate::operands::{Operand, Operands, index_of};
+use std::alloc::{AllocError, Global};
+
+/// Returns the index of the operand that a lookup means, or `None` if it means none.
+fn meant<'a>(operands: &Operands<'a>, lookup: &Lookup<'a>) -> Option<usize>
+    ensures { (ss : List OperandValue) → Holds ss operands.now → (i : ℕ)
+        → option_map_or (λ j. i == j) result false ≡ means ss i (seen_lookup lookup.now) }
+{
+    match *lookup {
+        Lookup::Index(_, index) => match operands.slots.get(index) {
+            Some(Operand::Unnamed) => Some(index),
+            Some(Operand::Named(_)) | Some(Operand::Register { .. }) | None => None,
+        },
+        Lookup::Name(_, name) => index_of(&operands.names, name),
+        Lookup::LongModifier(_) => None,
+    }
+}
+
+/// Returns of each operand whether a lookup means it. Returns `Err` if an allocation fails.
+fn marks<'a>(
+    alloc: Global,
+    operands: &Operands<'a>,
+    lookups: &[Lookup<'a>],
+) -> Result<Vec<bool>, AllocError>
+    ensures { IfOk result (λ v. (ss : List OperandValue) → Holds ss operands.now → (i : ℕ)
+        → get_or v.items i false ≡ list_any (means ss i) (map seen_lookup lookups.now)) }
+{
+    let mut marks = vec![in alloc; false; operands.slots.len()]?;
+    for lookup in lookups {
+        if let Some(index) = meant(operands, lookup) {
+            if index < marks.len() {
+                marks[index] = true;
+            }
+        }
+    }
+    Ok(marks)
+}
+
+/// Returns the indices of the operands that are not marked, but for those with a register of their
+/// own. Returns `Err` if an allocation fails.
+fn unmarked(alloc: Global, slots: &[Operand<'_>], marks: &[bool]) -> Result<Vec<usize>, AllocError>
+    ensures { IfOk result (λ v. v.items
+        ≡ unused_from (λ i. get_or marks.now i false) 0 (map seen_operand slots.now)) }
+{
+    let mut left = Vec::new(alloc);
+    for (index, slot) in slots.iter().enumerate() {
+        let is_register = matches!(slot, Operand::Register { .. });
+        if !is_register && !matches!(marks.get(index), Some(true)) {
+            left.push(index)?;
+        }
+    }
+    Ok(left)
+}
+
+/// Returns the fault of a lookup, or `None` if there is none.
+fn fault_of<'a>(operands: &Operands<'a>, lookup: &Lookup<'a>) -> Option<AsmFault<'a>>
+    ensures { (ss : List OperandValue) → Holds ss operands.now
+        → option_map seen_fault result ≡ fault_of ss (seen_lookup lookup.now) }
+{
+    match *lookup {
+        Lookup::Index(spot, index) => match operands.slots.get(index) {
+            Some(Operand::Unnamed) => None,
+            Some(Operand::Named(_)) | Some(Operand::Register { .. }) | None => {
+                Some(AsmFault::WrongIndex { spot, index })
+            }
+        },
+        Lookup::Name(spot, name) => match index_of(&operands.names, name) {
+            Some(_) => None,
+            None => Some(AsmFault::MissingName { spot, name }),
+        },
+        Lookup::LongModifier(spot) => Some(AsmFault::LongModifier { spot }),
+    }
+}
+
+/// Adds the faults of lookups. Returns `Err` if an allocation fails.
+pub(crate) fn look_up<'a>(
+    faults: &mut Vec<AsmFault<'a>>,
+    operands: &Operands<'a>,
+    lookups: &[Lookup<'a>],
+) -> Result<(), AllocError>
+    ensures { OnOk result ((ss : List OperandValue) → Holds ss operands.now
+        → map seen_fault faults.new.items ≡ map seen_fault faults.old.items
+        ++ filter_map (fault_of ss) (map seen_lookup lookups.now)) }
+{
+    for lookup in lookups {
+        if let Some(fault) = fault_of(operands, lookup) {
+            faults.push(fault)?;
+        }
+    }
+    Ok(())
+}
+
+/// Adds the fault of the operands that no lookup means, if there are any. Returns `Err` if an
+/// allocation fails.
+pub(crate) fn tell_unused<'a>(
+    alloc: Global,
+    faults: &mut Vec<AsmFault<'a>>,
+    operands: &Operands<'a>,
+    lookups: &[Lookup<'a>],
+) -> Result<(), AllocError>
+    ensures { OnOk result ((ss : List OperandValue) → Holds ss operands.now
+        → map seen_fault faults.new.items ≡ map seen_fault faults.old.items
+        ++ unused_faults (unused ss (map seen_lookup lookups.now))) }
+{
+    let marks = marks(alloc, operands, lookups)?;
+    let unused = unmarked(alloc, &operands.slots, &marks)?;
+    if !unused.is_empty() {
+        faults.push(AsmFault::UnusedOperands(unused))?;
+    }
+    Ok(())
+}

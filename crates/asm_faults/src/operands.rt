@@ -1,0 +1,183 @@
+//! The list of operands of a call.
+
+ghost use Rattle.std.specs.Prelude.{◌≡◌, ◌∷◌, ◌++◌, [], List, IfOk, OnOk, Some, chars, length};
+ghost use Rattle.std.specs.Prelude.{if◌then◌else◌, map};
+ghost use Rattle.std.specs.Str.{bytes_eq};
+ghost use Rattle.rustc_parse_format.specs.Characters.{Text};
+ghost use Rattle.asm_faults.specs.Operands.{Named, Operand as OperandValue, Register, Unnamed};
+ghost use Rattle.asm_faults.specs.Operands.{faults_from, faults_of, slot, slots_after};
+ghost use Rattle.asm_faults.specs.Seen.{Holds, found_in, seen_fault, seen_operand};
+
+use crate::faults::AsmFault;
+use std::alloc::{AllocError, Global};
+use std::collections::BTreeMap;
+
+/// An operand of a call, as far as placeholders can tell it from others.
+#[derive(Clone, Copy)]
+pub enum Operand<'a> {
+    /// It has no name and no register of its own, as `in(reg) x`.
+    Unnamed,
+    /// It has this name, without the `r#` of a raw identifier, as `a` in `a = in(reg) x`.
+    Named(&'a str),
+    /// It has a register of its own, as `in("eax") x`, so no placeholder may refer to it.
+    Register {
+        /// Whether it has a name too, which is a fault.
+        has_name: bool,
+    },
+}
+
+/// The operands of a call so far.
+#[derive(Drop)]
+pub(crate) struct Operands<'a> {
+    /// The operands, of which those whose name is that of an earlier one count as unnamed.
+    pub slots: Vec<Operand<'a>>,
+    /// The index of the operand with each name.
+    pub names: BTreeMap<&'a str, usize>,
+    /// Whether any has a name or a register of its own.
+    pub has_others: bool,
+}
+
+/// Returns no operands. Does not allocate.
+fn no_operands<'a>(alloc: Global) -> Operands<'a>
+    ensures { Holds [] result }
+{
+    Operands {
+        slots: Vec::new(alloc),
+        names: BTreeMap::new(alloc),
+        has_others: false,
+    }
+}
+
+/// Returns the index that a map has for a name, or `None` if it has none.
+pub(crate) fn index_of<'a>(names: &BTreeMap<&'a str, usize>, name: &'a str) -> Option<usize>
+    ensures { result ≡ found_in names.now (chars name.now) }
+{
+    names.get(&name).copied()
+}
+
+/// Puts a name into a map that does not have it. Returns `Err` if an allocation fails.
+fn insert<'a>(
+    names: &mut BTreeMap<&'a str, usize>,
+    name: &'a str,
+    index: usize,
+) -> Result<(), AllocError>
+    ensures { OnOk result ((w : Text) → found_in names.new w
+        ≡ (if bytes_eq w (chars name.now) then Some index else found_in names.old w)) }
+{
+    names.insert(name, index)?;
+    Ok(())
+}
+
+/// Adds an operand without a name and without a register of its own, and its fault if it stands
+/// behind one that has one of them. Returns `Err` if an allocation fails.
+fn add_unnamed<'a>(
+    operands: &mut Operands<'a>,
+    faults: &mut Vec<AsmFault<'a>>,
+    index: usize,
+) -> Result<(), AllocError>
+    ensures held { OnOk result ((ss : List OperandValue) → Holds ss operands.old
+        → Holds (ss ++ Unnamed ∷ []) operands.new) }
+    ensures told { OnOk result ((ss : List OperandValue) → Holds ss operands.old
+        → map seen_fault faults.new.items ≡ map seen_fault faults.old.items
+        ++ faults_of ss index Unnamed) }
+{
+    if operands.has_others {
+        faults.push(AsmFault::PositionalAfter { operand: index })?;
+    }
+    operands.slots.push(Operand::Unnamed)?;
+    Ok(())
+}
+
+/// Adds an operand with a name, or its fault if that is the name of an earlier one, and the operand
+/// then counts as unnamed. Returns `Err` if an allocation fails.
+fn add_named<'a>(
+    operands: &mut Operands<'a>,
+    faults: &mut Vec<AsmFault<'a>>,
+    index: usize,
+    name: &'a str,
+) -> Result<(), AllocError>
+    ensures held { OnOk result ((ss : List OperandValue) → Holds ss operands.old
+        → index ≡ length ss
+        → Holds (ss ++ slot ss (Named (chars name.now)) ∷ []) operands.new) }
+    ensures told { OnOk result ((ss : List OperandValue) → Holds ss operands.old
+        → map seen_fault faults.new.items ≡ map seen_fault faults.old.items
+        ++ faults_of ss index (Named (chars name.now))) }
+{
+    match index_of(&operands.names, name) {
+        Some(first) => {
+            faults.push(AsmFault::RepeatedName {
+                operand: index,
+                first,
+            })?;
+            operands.slots.push(Operand::Unnamed)?;
+        }
+        None => {
+            insert(&mut operands.names, name, index)?;
+            operands.has_others = true;
+            operands.slots.push(Operand::Named(name))?;
+        }
+    }
+    Ok(())
+}
+
+/// Adds an operand with a register of its own, and its fault if it has a name. Returns `Err` if an
+/// allocation fails.
+fn add_register<'a>(
+    operands: &mut Operands<'a>,
+    faults: &mut Vec<AsmFault<'a>>,
+    index: usize,
+    has_name: bool,
+) -> Result<(), AllocError>
+    ensures held { OnOk result ((ss : List OperandValue) → Holds ss operands.old
+        → Holds (ss ++ Register has_name ∷ []) operands.new) }
+    ensures told { OnOk result ((ss : List OperandValue) → Holds ss operands.old
+        → map seen_fault faults.new.items ≡ map seen_fault faults.old.items
+        ++ faults_of ss index (Register has_name)) }
+{
+    if has_name {
+        faults.push(AsmFault::RegisterName { operand: index })?;
+    }
+    operands.has_others = true;
+    operands.slots.push(Operand::Register { has_name })?;
+    Ok(())
+}
+
+/// Adds an operand, and its fault if it has one. Returns `Err` if an allocation fails.
+fn add<'a>(
+    operands: &mut Operands<'a>,
+    faults: &mut Vec<AsmFault<'a>>,
+    index: usize,
+    operand: Operand<'a>,
+) -> Result<(), AllocError>
+    ensures held { OnOk result ((ss : List OperandValue) → Holds ss operands.old
+        → index ≡ length ss
+        → Holds (ss ++ slot ss (seen_operand operand.entry) ∷ []) operands.new) }
+    ensures told { OnOk result ((ss : List OperandValue) → Holds ss operands.old
+        → map seen_fault faults.new.items ≡ map seen_fault faults.old.items
+        ++ faults_of ss index (seen_operand operand.entry)) }
+{
+    match operand {
+        Operand::Unnamed => add_unnamed(operands, faults, index)?,
+        Operand::Named(name) => add_named(operands, faults, index, name)?,
+        Operand::Register { has_name } => add_register(operands, faults, index, has_name)?,
+    }
+    Ok(())
+}
+
+/// Returns operands as placeholders refer to them, and adds the faults of their list. Returns `Err`
+/// if an allocation fails.
+pub(crate) fn operands_of<'a>(
+    alloc: Global,
+    faults: &mut Vec<AsmFault<'a>>,
+    given: &[Operand<'a>],
+) -> Result<Operands<'a>, AllocError>
+    ensures held { IfOk result (λ a. Holds (slots_after [] (map seen_operand given.now)) a) }
+    ensures told { OnOk result (map seen_fault faults.new.items ≡ map seen_fault faults.old.items
+        ++ faults_from [] 0 (map seen_operand given.now)) }
+{
+    let mut operands = no_operands(alloc);
+    for (index, operand) in given.iter().enumerate() {
+        add(&mut operands, faults, index, *operand)?;
+    }
+    Ok(operands)
+}

@@ -1,0 +1,162 @@
+//! The ids and the titles of faults, in rustc's words. What begins with `put_` appends to `out`,
+//! and returns `Err` if an allocation fails.
+
+ghost use Rattle.std.specs.Prelude.{◌≡◌, ◌++◌, OnOk, chars, codes, decimal, map, string_bytes};
+ghost use Rattle.std.specs.List.{slice_get};
+ghost use Rattle.rustc_parse_format.specs.Faults.{message};
+ghost use Rattle.rustc_parse_format.specs.SeenFaults.{seen_fault as seen_text_fault};
+ghost use Rattle.call_faults.specs.Words.{quoted};
+ghost use Rattle.asm_faults.specs.Seen.{seen_fault, seen_operand};
+ghost use Rattle.asm_faults.specs.Words.{asm_id, name_of, never_used, title, unused_title};
+
+use crate::checker::AsmCall;
+use crate::faults::AsmFault;
+use crate::operands::Operand;
+use itoa::Buffer;
+use rustc_parse_format::Fault;
+use std::alloc::{AllocError, Global};
+
+impl AsmFault<'_> {
+    ghost use Rattle.std.specs.Prelude.{◌≡◌};
+    ghost use Rattle.asm_faults.specs.Seen.{seen_fault};
+    ghost use Rattle.asm_faults.specs.Words.{asm_id};
+
+    /// Returns the id of the fault in kebab case, as `wrong-operand`: the same for all faults of a
+    /// kind. That of a fault of a template is the id of [`Fault`]. Does not allocate.
+    #[tactic(auto, unfolding(crate::specs::Words::asm_id))]
+    pub fn id(&self) -> &'static str
+        ensures { result.now ≡ asm_id (seen_fault self.now) }
+    {
+        match self {
+            AsmFault::PositionalAfter { .. } => "operand-order",
+            AsmFault::RepeatedName { .. } => "repeated-name",
+            AsmFault::RegisterName { .. } => "register-name",
+            AsmFault::WrongIndex { .. } => "wrong-operand",
+            AsmFault::MissingName { .. } => "missing-name",
+            AsmFault::LongModifier { .. } => "long-modifier",
+            AsmFault::Text { fault, .. } => fault.id(),
+            AsmFault::UnusedOperands(_) => "unused-argument",
+        }
+    }
+}
+
+/// Adds a number in decimal digits.
+pub(crate) fn put_number(out: &mut String, number: usize) -> Result<(), AllocError>
+    ensures { OnOk result (string_bytes out.new ≡ string_bytes out.old ++ decimal number) }
+{
+    let mut digits = Buffer::new();
+    out.push_str(digits.format(number))?;
+    Ok(())
+}
+
+/// Adds a text and a name between backquotes.
+fn put_named(out: &mut String, text: &str, name: &str) -> Result<(), AllocError>
+    ensures { OnOk result (string_bytes out.new
+        ≡ string_bytes out.old ++ (text.now ++ quoted (chars name.now))) }
+{
+    out.push_str(text)?;
+    out.push('`')?;
+    out.push_str(name)?;
+    out.push('`')?;
+    Ok(())
+}
+
+/// Returns the name of an operand, or an empty text if it has none.
+fn name_of<'a>(operands: &[Operand<'a>], index: usize) -> &'a str
+    ensures { chars result.now ≡ name_of (slice_get (map seen_operand operands.now) index) }
+{
+    match operands.get(index) {
+        Some(Operand::Named(name)) => name,
+        Some(Operand::Unnamed) | Some(Operand::Register { .. }) | None => "",
+    }
+}
+
+/// Returns what is said of an operand that is not used.
+pub(crate) fn never_used(operands: &[Operand<'_>], index: usize) -> &'static str
+    ensures { result.now ≡ never_used (slice_get (map seen_operand operands.now) index) }
+{
+    match operands.get(index) {
+        Some(Operand::Named(_)) => "named argument never used",
+        Some(Operand::Unnamed) | Some(Operand::Register { .. }) | None => "argument never used",
+    }
+}
+
+/// Returns the title of operands that are not used.
+fn unused_title(operands: &[Operand<'_>], unused: &[usize]) -> &'static str
+    ensures { result.now ≡ unused_title (map seen_operand operands.now) unused.now }
+{
+    match unused {
+        [index] => never_used(operands, *index),
+        _ => "multiple unused asm arguments",
+    }
+}
+
+/// Adds the title of a fault of a template.
+fn put_text_title(alloc: Global, out: &mut String, fault: &Fault<'_>) -> Result<(), AllocError>
+    ensures { OnOk result (string_bytes out.new ≡ string_bytes out.old
+        ++ (codes "invalid asm template string: "
+        ++ (message (seen_text_fault fault.now)).description)) }
+{
+    let error = fault.error(alloc)?;
+    out.push_str("invalid asm template string: ")?;
+    out.push_str(&error.description)?;
+    Ok(())
+}
+
+/// Adds the title of a wrong index.
+fn put_index_title(out: &mut String, index: usize) -> Result<(), AllocError>
+    ensures { OnOk result (string_bytes out.new ≡ string_bytes out.old
+        ++ (codes "invalid reference to argument at index " ++ decimal index)) }
+{
+    out.push_str("invalid reference to argument at index ")?;
+    put_number(out, index)?;
+    Ok(())
+}
+
+impl<'a> AsmCall<'a> {
+    ghost use Rattle.std.specs.Prelude.{◌≡◌, ◌++◌, OnOk, map, string_bytes};
+    ghost use Rattle.asm_faults.specs.Seen.{seen_fault, seen_operand};
+    ghost use Rattle.asm_faults.specs.Words.{title};
+
+    /// Adds the title of one of the faults to the end of `out`, as rustc has it. Returns `Err` if
+    /// an allocation fails; a part may then be at the end of `out`.
+    #[tactic(auto, unfolding(crate::specs::Words::title))]
+    pub fn put_title(&self, out: &mut String, fault: &AsmFault<'a>) -> Result<(), AllocError>
+        ensures { OnOk result (string_bytes out.new ≡ string_bytes out.old
+            ++ title (map seen_operand self.now.operands.items) (seen_fault fault.now)) }
+    {
+        match fault {
+            AsmFault::PositionalAfter { .. } => {
+                out.push_str(
+                    "positional arguments cannot follow named arguments or explicit register \
+                     arguments",
+                )?;
+                Ok(())
+            }
+            AsmFault::RepeatedName { first, .. } => {
+                put_named(
+                    out,
+                    "duplicate argument named ",
+                    name_of(&self.operands, *first),
+                )
+            }
+            AsmFault::RegisterName { .. } => {
+                out.push_str("explicit register arguments cannot have names")?;
+                Ok(())
+            }
+            AsmFault::WrongIndex { index, .. } => put_index_title(out, *index),
+            AsmFault::MissingName { name, .. } => {
+                put_named(out, "there is no argument named ", name)
+            }
+            AsmFault::LongModifier { .. } => {
+                out.push_str("asm template modifier must be a single character")?;
+                Ok(())
+            }
+            AsmFault::Text { fault, .. } => { put_text_title(*self.faults.allocator(), out, fault) }
+            AsmFault::UnusedOperands(unused) => {
+                out.push_str(unused_title(&self.operands, unused))?;
+                Ok(())
+            }
+        }
+    }
+}

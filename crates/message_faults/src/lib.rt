@@ -1,0 +1,9 @@
+//! What is wrong with a text of the attribute `diagnostic::on_unimplemented`, as rustc tells it.
+#![tactic(auto)]
+
+mod checker;
+mod faults;
+mod words;
+
+pub use checker::{Message, message_faults};
+pub use faults::MessageFault;

@@ -1,0 +1,173 @@
+//! Calls that are checked, and what is said of them.
+
+use crate::rows::ROWS;
+use asm_faults::{AsmCall, AsmFault, AsmLabel, AsmSpot, Operand, Template, asm_faults};
+use std::alloc::{AllocError, Global};
+use std::test::Fail;
+
+/// The arguments of a call, and the byte ranges where they are.
+#[derive(Drop)]
+struct Parts<'a> {
+    templates: Vec<Template<'a>>,
+    operands: Vec<Operand<'a>>,
+    /// The start of each template.
+    template_starts: Vec<usize>,
+    /// The start of each operand, and after it its end.
+    operand_ends: Vec<(usize, usize)>,
+}
+
+/// Returns the operand that an argument is.
+fn operand(argument: &str) -> Operand<'_> {
+    let name = argument.split_once(" = ").map(|(name, _)| name);
+    if argument.contains("(\"") {
+        let has_name = name.is_some();
+        return Operand::Register { has_name };
+    }
+    match name {
+        Some(name) => Operand::Named(name),
+        None => Operand::Unnamed,
+    }
+}
+
+/// Returns the arguments of a call.
+fn parts<'a>(alloc: Global, call: &'a str) -> Result<Parts<'a>, AllocError> {
+    let mut found = Parts {
+        templates: Vec::new(alloc),
+        operands: Vec::new(alloc),
+        template_starts: Vec::new(alloc),
+        operand_ends: Vec::new(alloc),
+    };
+    let mut at = 0;
+    for argument in call.split(", ") {
+        if argument.starts_with('"') {
+            found.templates.push(Template {
+                text: &argument[1..argument.len() - 1],
+                style: None,
+                snippet: Some(argument),
+            })?;
+            found.template_starts.push(at)?;
+        } else {
+            found.operands.push(operand(argument))?;
+            found.operand_ends.push((at, at + argument.len()))?;
+        }
+        at += argument.len() + 2;
+    }
+    Ok(found)
+}
+
+/// Adds a place as a byte range.
+fn put_spot(out: &mut String, parts: &Parts<'_>, spot: AsmSpot) -> Result<(), AllocError> {
+    let (start, end) = match spot {
+        AsmSpot::Operand(index) => parts.operand_ends[index],
+        AsmSpot::Template(index) => {
+            let start = parts.template_starts[index];
+            (start, start + parts.templates[index].text.len() + 2)
+        }
+        AsmSpot::Bytes {
+            template,
+            start,
+            end,
+        } => {
+            let from = parts.template_starts[template];
+            (from + start, from + end)
+        }
+    };
+    write!(out, "{start}..{end}")?;
+    Ok(())
+}
+
+/// Adds the lines of labels, sorted.
+fn put_labels(out: &mut String, parts: &Parts<'_>, labels: &[AsmLabel]) -> Result<(), AllocError> {
+    let alloc = *out.allocator();
+    let mut lines = Vec::new(alloc);
+    for label in labels {
+        let mut line = String::new(alloc);
+        line.push(if label.is_primary { '^' } else { '-' })?;
+        put_spot(&mut line, parts, label.spot)?;
+        write!(&mut line, " {}\n", label.text)?;
+        lines.push(line)?;
+    }
+    lines.sort()?;
+    for line in &lines {
+        out.push_str(line)?;
+    }
+    Ok(())
+}
+
+/// Adds what is said of a fault.
+fn put_fault<'a>(
+    out: &mut String,
+    parts: &Parts<'_>,
+    call: &AsmCall<'a>,
+    fault: &AsmFault<'a>,
+) -> Result<(), AllocError> {
+    let alloc = *out.allocator();
+    call.put_title(out, fault)?;
+    out.push('\n')?;
+    put_labels(out, parts, &call.labels(alloc, fault)?)?;
+    for note in &call.notes(alloc, fault)? {
+        out.push_str(if note.is_help { "? " } else { "= " })?;
+        out.push_str(&note.text)?;
+        if let Some(spot) = note.spot {
+            out.push(' ')?;
+            put_spot(out, parts, spot)?;
+        }
+        out.push('\n')?;
+    }
+    Ok(())
+}
+
+/// Returns what is said of a call.
+fn said(alloc: Global, call: &str) -> Result<String, AllocError> {
+    let parts = parts(alloc, call)?;
+    let checked = asm_faults(alloc, &parts.templates, &parts.operands)?;
+    let mut out = String::new(alloc);
+    for fault in &checked.faults {
+        put_fault(&mut out, &parts, &checked, fault)?;
+    }
+    Ok(out)
+}
+
+/// Returns the ids of what is wrong with a call, each on a line.
+fn ids(alloc: Global, call: &str) -> Result<String, AllocError> {
+    let parts = parts(alloc, call)?;
+    let mut out = String::new(alloc);
+    for fault in &asm_faults(alloc, &parts.templates, &parts.operands)?.faults {
+        if !out.is_empty() {
+            out.push('\n')?;
+        }
+        out.push_str(fault.id())?;
+    }
+    Ok(out)
+}
+
+#[test]
+fn calls_are_as_rustc_says(rt: HostRuntime) -> Result<(), Fail> {
+    let alloc = rt.alloc();
+    for row in ROWS {
+        let said = said(alloc, row.call)?;
+        assert_eq!(&rt; said.as_str(), row.said, "{}", row.call);
+    }
+    Ok(())
+}
+
+#[test]
+fn each_kind_has_its_id(rt: HostRuntime) -> Result<(), Fail> {
+    let alloc = rt.alloc();
+    // the call, and the ids
+    let rows = [
+        (
+            "\"{a}{0}\", a = in(reg) x, in(reg) y",
+            "operand-order\nwrong-operand\nunused-argument",
+        ),
+        ("\"{a}{1}\", a = in(reg) x, a = in(reg) y", "repeated-name"),
+        ("\"{a}\", a = in(\"eax\") x", "register-name\nmissing-name"),
+        ("\"{0:eax}\", in(reg) x", "long-modifier"),
+        ("\"{\", in(reg) x", "missing-closing-brace"),
+    ];
+    for (call, expected) in rows {
+        let said = ids(alloc, call)?;
+        assert_eq!(&rt; said.as_str(), expected, "{}", call);
+    }
+    Ok(())
+}
