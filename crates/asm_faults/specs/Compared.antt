@@ -1,5 +1,5 @@
 -- What is wrong between the placeholders of templates and the operands of their call.
-use Rattle.std.specs.Prelude.{ℕ, suc, Bool, true, false, ◌==◌, ◌&&◌, ◌||◌, if◌then◌else◌}
+use Rattle.std.specs.Prelude.{ℕ, suc, Bool, true, false, ◌==◌, ◌&&◌, ◌||◌, ◌++◌, if◌then◌else◌}
 use Rattle.std.specs.Prelude.{List, [], ◌∷◌, Option, Some, None, is_some}
 use Rattle.std.specs.Option.{option_map_or}
 use Rattle.std.specs.List.{list_any, slice_get}
@@ -28,12 +28,15 @@ fault_of ss (ByIndex s n) = if is_unnamed (slice_get ss n) then None else Some (
 fault_of ss (ByName s w) = if is_some (index_of ss w) then None else Some (MissingName s w)
 fault_of ss (Long s) = Some (LongModifier s)
 
+-- The index i of an operand, if it is not used and has no register of its own.
+abbrev pub unused_one : (ℕ → Bool) → ℕ → Operand → List ℕ
+unused_one used i s = if is_register s || used i then [] else i ∷ []
+
 -- The indices of those of the operands ss, of which the first has the index i, that are not used
 -- and have no register of their own.
 abbrev pub unused_from : (ℕ → Bool) → ℕ → List Operand → List ℕ
 unused_from used i [] = []
-unused_from used i (s ∷ ss) = if is_register s || used i then unused_from used (suc i) ss
-    else i ∷ unused_from used (suc i) ss
+unused_from used i (s ∷ ss) = unused_one used i s ++ unused_from used (suc i) ss
 
 -- The indices of the operands that no lookup means and that have no register of their own.
 abbrev pub unused : List Operand → List Lookup → List ℕ

@@ -6,4 +6,5 @@ pub mod Compared
 pub mod Calls
 pub mod Words
 pub mod Labels
+pub mod Notes
 pub mod Seen

@@ -22,6 +22,7 @@ use Rattle.asm_faults.specs.declared.labels.AsmLabel.{AsmLabel}
 use Rattle.asm_faults.specs.declared.lookups.Lookup.{Lookup as DeclaredLookup}
 use Rattle.asm_faults.specs.declared.lookups.Lookup.TheVariants.{Index as IndexIn, Name as NameIn}
 use Rattle.asm_faults.specs.declared.lookups.Lookup.TheVariants.{LongModifier as LongLookupIn}
+use Rattle.asm_faults.specs.declared.notes.AsmNote.{AsmNote}
 use Rattle.asm_faults.specs.declared.operands.Operand.{Operand as DeclaredOperand}
 use Rattle.asm_faults.specs.declared.operands.Operand.TheVariants.{Unnamed as UnnamedIn}
 use Rattle.asm_faults.specs.declared.operands.Operand.TheVariants.{Named as NamedIn}
@@ -33,6 +34,7 @@ use Rattle.asm_faults.specs.AsmFaults.{WrongIndex, MissingName, LongModifier, Te
 use Rattle.asm_faults.specs.AsmFaults.{UnusedOperands}
 use Rattle.asm_faults.specs.Labels.{Label, label}
 use Rattle.asm_faults.specs.Lookups.{Lookup, ByIndex, ByName, Long}
+use Rattle.asm_faults.specs.Notes.{Note, note}
 use Rattle.asm_faults.specs.Operands.{Operand, Named, Register, Unnamed, index_of, is_other}
 use Rattle.asm_faults.specs.Templates.{Template}
 
@@ -70,6 +72,10 @@ seen_fault (UnusedIn is) = UnusedOperands is.items
 -- A label as a contract sees it.
 abbrev pub seen_label : AsmLabel → Label
 seen_label l = label l.spot l.is_primary (string_bytes l.text)
+
+-- A note or a help as a contract sees it.
+abbrev pub seen_note : AsmNote → Note
+seen_note n = note n.is_help (string_bytes n.text) n.spot
 
 -- What a map has for a name.
 abbrev pub found_in : BTreeMap (Bor (List ℕ)) ℕ → Text → Option ℕ

@@ -1,11 +1,12 @@
 //! The comparison of lookups with the operands.
 
-ghost use Rattle.std.specs.Prelude.{◌≡◌, ◌==◌, ◌++◌, ℕ, List, IfOk, OnOk, false, get_or, map};
-ghost use Rattle.std.specs.Prelude.{option_map};
+ghost use Rattle.std.specs.Prelude.{◌≡◌, ◌==◌, ◌++◌, ◌||◌, ℕ, List, IfOk, OnOk, false, get_or};
+ghost use Rattle.std.specs.Prelude.{map, option_map};
 ghost use Rattle.std.specs.Option.{option_map_or};
 ghost use Rattle.std.specs.List.{filter_map, list_any};
-ghost use Rattle.asm_faults.specs.Operands.{Operand as OperandValue};
+ghost use Rattle.asm_faults.specs.Operands.{Operand as OperandValue, is_register};
 ghost use Rattle.asm_faults.specs.Compared.{fault_of, means, unused, unused_faults, unused_from};
+ghost use Rattle.asm_faults.specs.Compared.{unused_one};
 ghost use Rattle.asm_faults.specs.Seen.{Holds, seen_fault, seen_lookup, seen_operand};
 
 use crate::faults::AsmFault;
@@ -48,6 +49,30 @@ fn marks<'a>(
     Ok(marks)
 }
 
+/// Returns whether an operand is marked, or has a register of its own.
+fn is_settled(marks: &[bool], index: usize, slot: &Operand<'_>) -> bool
+    ensures { result ≡ (is_register (seen_operand slot.now) || get_or marks.now index false) }
+{
+    matches!(slot, Operand::Register { .. }) || matches!(marks.get(index), Some(true))
+}
+
+/// Adds the index of an operand, unless it is marked or has a register of its own. Returns `Err` if
+/// an allocation fails.
+fn push_unmarked(
+    left: &mut Vec<usize>,
+    marks: &[bool],
+    index: usize,
+    slot: &Operand<'_>,
+) -> Result<(), AllocError>
+    ensures { OnOk result (left.new.items ≡ left.old.items
+        ++ unused_one (λ i. get_or marks.now i false) index (seen_operand slot.now)) }
+{
+    if !is_settled(marks, index, slot) {
+        left.push(index)?;
+    }
+    Ok(())
+}
+
 /// Returns the indices of the operands that are not marked, but for those with a register of their
 /// own. Returns `Err` if an allocation fails.
 fn unmarked(alloc: Global, slots: &[Operand<'_>], marks: &[bool]) -> Result<Vec<usize>, AllocError>
@@ -56,10 +81,7 @@ fn unmarked(alloc: Global, slots: &[Operand<'_>], marks: &[bool]) -> Result<Vec<
 {
     let mut left = Vec::new(alloc);
     for (index, slot) in slots.iter().enumerate() {
-        let is_register = matches!(slot, Operand::Register { .. });
-        if !is_register && !matches!(marks.get(index), Some(true)) {
-            left.push(index)?;
-        }
+        push_unmarked(&mut left, marks, index, slot)?;
     }
     Ok(left)
 }

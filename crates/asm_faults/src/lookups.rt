@@ -35,7 +35,7 @@ pub(crate) struct Walk<'a> {
 }
 
 /// Returns a range of a template.
-fn bytes_at(template: usize, span: &Range<usize>) -> AsmSpot
+pub(crate) fn bytes_at(template: usize, span: &Range<usize>) -> AsmSpot
     ensures { result ≡ spot_of template (Some (pair span.now)) }
 {
     AsmSpot::Bytes {

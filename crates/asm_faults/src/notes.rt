@@ -1,6 +1,15 @@
 //! The notes and helps of faults, in rustc's words. What begins with `push_` or `put_` adds to the
 //! end of a list or a text, and returns `Err` if an allocation fails.
 
+ghost use Rattle.std.specs.Prelude.{◌≡◌, ◌++◌, ◌∷◌, [], OnOk, map, string_bytes};
+ghost use Rattle.std.specs.List.{slice_get};
+ghost use Rattle.rustc_parse_format.specs.Faults.{message};
+ghost use Rattle.rustc_parse_format.specs.SeenFaults.{seen_fault as seen_text_fault};
+ghost use Rattle.asm_faults.specs.Notes.{count_text, count_unnamed, kind_notes, note, noun};
+ghost use Rattle.asm_faults.specs.Notes.{placeholders, reference, text_notes, unused_help};
+ghost use Rattle.asm_faults.specs.Notes.{unused_start, wrong_notes};
+ghost use Rattle.asm_faults.specs.Seen.{seen_note, seen_operand};
+
 use crate::checker::AsmCall;
 use crate::faults::{AsmFault, AsmSpot};
 use crate::operands::Operand;
@@ -26,7 +35,10 @@ fn push_note(
     is_help: bool,
     text: &str,
     spot: Option<AsmSpot>,
-) -> Result<(), AllocError> {
+) -> Result<(), AllocError>
+    ensures { OnOk result (map seen_note notes.new.items
+        ≡ map seen_note notes.old.items ++ note is_help text.now spot ∷ []) }
+{
     let text = String::from_str(*notes.allocator(), text)?;
     notes.push(AsmNote {
         is_help,
@@ -37,51 +49,67 @@ fn push_note(
 }
 
 /// Returns how many operands have neither a name nor a register of their own.
-fn count_unnamed(operands: &[Operand<'_>]) -> usize {
-    operands
-        .iter()
-        .filter(|operand| matches!(operand, Operand::Unnamed))
-        .count()
+fn count_unnamed(operands: &[Operand<'_>]) -> usize
+    ensures { result ≡ count_unnamed (map seen_operand operands.now) }
+{
+    let mut count = 0;
+    for operand in operands {
+        if let Operand::Unnamed = operand {
+            count += 1;
+        }
+    }
+    count
 }
 
-/// Adds how many operands may be referred to by an index.
-fn put_count(out: &mut String, operands: &[Operand<'_>]) -> Result<(), AllocError> {
-    let count = count_unnamed(operands);
-    let noun = if count == operands.len() {
+/// Returns what the operands are that an index may mean.
+fn noun(operands: &[Operand<'_>]) -> &'static str
+    ensures { result.now ≡ noun (map seen_operand operands.now) }
+{
+    if count_unnamed(operands) == operands.len() {
         "argument"
     } else {
         "positional argument"
-    };
+    }
+}
+
+/// Adds so many operands in words.
+fn put_count(out: &mut String, count: usize, word: &str) -> Result<(), AllocError>
+    ensures { OnOk result (string_bytes out.new
+        ≡ string_bytes out.old ++ count_text count word.now) }
+{
     if count == 0 {
         out.push_str("no ")?;
-        out.push_str(noun)?;
+        out.push_str(word)?;
         out.push_str("s were given")?;
         return Ok(());
     }
-    out.push_str(if count == 1 {
-        "there is "
-    } else {
-        "there are "
-    })?;
-    put_number(out, count)?;
-    out.push(' ')?;
-    out.push_str(noun)?;
-    if count != 1 {
-        out.push('s')?;
+    if count == 1 {
+        out.push_str("there is 1 ")?;
+        out.push_str(word)?;
+        return Ok(());
     }
+    out.push_str("there are ")?;
+    put_number(out, count)?;
+    out.push_str(" ")?;
+    out.push_str(word)?;
+    out.push_str("s")?;
     Ok(())
 }
 
-/// Adds the notes of a wrong index.
-fn push_wrong(
-    alloc: Global,
+/// Adds the notes and the help of an operand that an index does not mean, if there are any.
+#[tactic(
+    auto,
+    using(std::proofs::Common::append_assoc),
+    unfolding(crate::specs::Notes::kind_notes)
+)]
+fn push_kind(
     notes: &mut Vec<AsmNote>,
     operands: &[Operand<'_>],
     index: usize,
-) -> Result<(), AllocError> {
-    let mut text = String::new(alloc);
-    put_count(&mut text, operands)?;
-    push_note(notes, false, &text, None)?;
+) -> Result<(), AllocError>
+    ensures { OnOk result (map seen_note notes.new.items ≡ map seen_note notes.old.items
+        ++ kind_notes index (slice_get (map seen_operand operands.now) index)) }
+{
     let spot = Some(AsmSpot::Operand(index));
     match operands.get(index) {
         Some(Operand::Named(_)) => {
@@ -99,11 +127,48 @@ fn push_wrong(
     Ok(())
 }
 
-/// Adds the note of a fault of a template.
-fn push_text(alloc: Global, notes: &mut Vec<AsmNote>, fault: &Fault<'_>) -> Result<(), AllocError> {
+/// Adds the notes and the help of a wrong index.
+#[tactic(auto, using(std::proofs::Common::append_assoc))]
+fn push_wrong(
+    alloc: Global,
+    notes: &mut Vec<AsmNote>,
+    operands: &[Operand<'_>],
+    index: usize,
+) -> Result<(), AllocError>
+    ensures { OnOk result (map seen_note notes.new.items ≡ map seen_note notes.old.items
+        ++ wrong_notes (map seen_operand operands.now) index) }
+{
+    let mut text = String::new(alloc);
+    put_count(&mut text, count_unnamed(operands), noun(operands))?;
+    push_note(notes, false, &text, None)?;
+    push_kind(notes, operands, index)?;
+    Ok(())
+}
+
+/// Adds the note of a fault of a template, if it has one.
+fn push_text(alloc: Global, notes: &mut Vec<AsmNote>, fault: &Fault<'_>) -> Result<(), AllocError>
+    ensures { OnOk result (map seen_note notes.new.items ≡ map seen_note notes.old.items
+        ++ text_notes (message (seen_text_fault fault.now)).note) }
+{
     let error = fault.error(alloc)?;
     if let Some(note) = &error.note {
         push_note(notes, false, note, None)?;
+    }
+    Ok(())
+}
+
+/// Adds what a placeholder has for an operand.
+fn put_reference(
+    out: &mut String,
+    operands: &[Operand<'_>],
+    index: usize,
+) -> Result<(), AllocError>
+    ensures { OnOk result (string_bytes out.new ≡ string_bytes out.old
+        ++ reference index (slice_get (map seen_operand operands.now) index)) }
+{
+    match operands.get(index) {
+        Some(Operand::Named(name)) => out.push_str(name)?,
+        Some(Operand::Unnamed) | Some(Operand::Register { .. }) | None => put_number(out, index)?,
     }
     Ok(())
 }
@@ -112,19 +177,31 @@ fn push_text(alloc: Global, notes: &mut Vec<AsmNote>, fault: &Fault<'_>) -> Resu
 fn put_placeholders(
     out: &mut String,
     operands: &[Operand<'_>],
-    unused: &[usize],
-) -> Result<(), AllocError> {
-    for index in unused {
+    indices: &[usize],
+) -> Result<(), AllocError>
+    ensures { OnOk result (string_bytes out.new ≡ string_bytes out.old
+        ++ placeholders (map seen_operand operands.now) indices.now) }
+{
+    let mut rest = indices;
+    while let Some((index, others)) = rest.split_first() {
         out.push_str(" {")?;
-        match operands.get(*index) {
-            Some(Operand::Named(name)) => out.push_str(name)?,
-            Some(Operand::Unnamed) | Some(Operand::Register { .. }) | None => {
-                put_number(out, *index)?;
-            }
-        }
-        out.push('}')?;
+        put_reference(out, operands, *index)?;
+        out.push_str("}")?;
+        rest = others;
     }
     Ok(())
+}
+
+/// Returns how the help of so many operands that are not used begins.
+#[tactic(auto, unfolding(crate::specs::Notes::unused_start))]
+fn unused_start(count: usize) -> &'static str
+    ensures { result.now ≡ unused_start count }
+{
+    if count == 1 {
+        "if this argument is intentionally unused, consider using it in an asm comment: `\"/*"
+    } else {
+        "if these arguments are intentionally unused, consider using them in an asm comment: `\"/*"
+    }
 }
 
 /// Adds the help of operands that are not used.
@@ -133,14 +210,11 @@ fn push_unused(
     notes: &mut Vec<AsmNote>,
     operands: &[Operand<'_>],
     unused: &[usize],
-) -> Result<(), AllocError> {
-    let mut text = String::new(alloc);
-    if unused.len() == 1 {
-        text.push_str("if this argument is intentionally unused, consider using it")?;
-    } else {
-        text.push_str("if these arguments are intentionally unused, consider using them")?;
-    }
-    text.push_str(" in an asm comment: `\"/*")?;
+) -> Result<(), AllocError>
+    ensures { OnOk result (map seen_note notes.new.items ≡ map seen_note notes.old.items
+        ++ unused_help (map seen_operand operands.now) unused.now ∷ []) }
+{
+    let mut text = String::from_str(alloc, unused_start(unused.len()))?;
     put_placeholders(&mut text, operands, unused)?;
     text.push_str(" */\"`")?;
     push_note(notes, true, &text, None)?;
@@ -148,9 +222,17 @@ fn push_unused(
 }
 
 impl<'a> AsmCall<'a> {
+    ghost use Rattle.std.specs.Prelude.{◌≡◌, IfOk, map};
+    ghost use Rattle.asm_faults.specs.Notes.{notes};
+    ghost use Rattle.asm_faults.specs.Seen.{seen_fault, seen_note, seen_operand};
+
     /// Returns the notes and helps of one of the faults, in rustc's order. Returns `Err` if an
     /// allocation fails.
-    pub fn notes(&self, alloc: Global, fault: &AsmFault<'a>) -> Result<Vec<AsmNote>, AllocError> {
+    #[tactic(auto, unfolding(crate::specs::Notes::notes))]
+    pub fn notes(&self, alloc: Global, fault: &AsmFault<'a>) -> Result<Vec<AsmNote>, AllocError>
+        ensures { IfOk result (λ v. map seen_note v.items
+            ≡ notes (map seen_operand self.now.operands.items) (seen_fault fault.now)) }
+    {
         let mut notes = Vec::new(alloc);
         match fault {
             AsmFault::WrongIndex { index, .. } => {

@@ -55,9 +55,9 @@ fn put_named(out: &mut String, text: &str, name: &str) -> Result<(), AllocError>
         ≡ string_bytes out.old ++ (text.now ++ quoted (chars name.now))) }
 {
     out.push_str(text)?;
-    out.push('`')?;
+    out.push_str("`")?;
     out.push_str(name)?;
-    out.push('`')?;
+    out.push_str("`")?;
     Ok(())
 }
 

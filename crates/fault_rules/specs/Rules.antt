@@ -3,7 +3,8 @@ use Rattle.std.specs.Prelude.{ℕ, ◌++◌, List, [], ◌∷◌, Bool, false, i
 use Rattle.std.specs.Str.{bytes_eq}
 use Rattle.fault_rules.specs.declared.rules.Rule.{Rule}
 
--- The ids of all kinds: first of faults of format strings, and then of calls.
+-- The ids of all kinds: first of faults of format strings, then of calls, of inline assembly, and of
+-- texts of attributes. One that an earlier kind has too is not there again.
 abbrev pub ids : List (List ℕ)
 ids =
     codes "unmatched-closing-brace" ∷
@@ -31,6 +32,13 @@ ids =
     codes "unused-argument" ∷
     codes "redundant-argument" ∷
     codes "name-used-by-index" ∷
+    codes "operand-order" ∷
+    codes "register-name" ∷
+    codes "wrong-operand" ∷
+    codes "long-modifier" ∷
+    codes "specifier-in-message" ∷
+    codes "positional-in-message" ∷
+    codes "missing-parameter" ∷
     []
 
 -- The text is one of these ids.

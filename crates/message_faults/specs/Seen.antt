@@ -1,5 +1,6 @@
 -- What a contract sees of the values of this crate.
-use Rattle.std.specs.Prelude.{None, option_map, false}
+use Rattle.std.specs.Prelude.{ℕ, List, None, Option, false, map, option_map}
+use denote.Ref.{Bor}
 use Rattle.rustc_parse_format.specs.SeenFaults.{seen_fault as seen_text_fault}
 use Rattle.rustc_parse_format.specs.State.{State, first_state}
 use Rattle.rustc_parse_format.specs.Types.{Diagnostic}
@@ -16,6 +17,10 @@ use Rattle.message_faults.specs.Messages.{MissingParameter}
 -- A parser at the start of a text.
 abbrev pub start : Message → State
 start m = first_state Diagnostic (text m.text) None (option_map text m.snippet) false
+
+-- The parameters of a trait as a contract sees them, if they are given.
+abbrev pub seen_parameters : Option (Bor (List (Bor (List ℕ)))) → Option (List (List ℕ))
+seen_parameters ps = option_map (λ xs. map (λ p. p.now) xs.now) ps
 
 -- A fault as a contract sees it.
 abbrev pub seen_fault : DeclaredFault → MessageFault

@@ -1,14 +1,17 @@
 //! What is wrong with a text.
 
-ghost use Rattle.std.specs.Prelude.{◌≡◌, ◌+◌, ◌<◌, ◌^◌, ◌++◌, IfOk, OnOk, chars, length, map};
-ghost use Rattle.std.specs.Prelude.{option_map};
-ghost use Rattle.rustc_parse_format.specs.Seen.{pair, seen_argument, seen_snippet};
+ghost use Rattle.std.specs.Prelude.{◌≡◌, ◌+◌, ◌<◌, ◌^◌, ◌++◌, IfOk, None, OnOk, chars, length};
+ghost use Rattle.std.specs.Prelude.{map, option_map};
+ghost use Rattle.std.specs.List.{list_any};
+ghost use Rattle.std.specs.Str.{bytes_eq};
+ghost use Rattle.rustc_parse_format.specs.Seen.{pair, seen, seen_argument, seen_snippet};
 ghost use Rattle.rustc_parse_format.specs.SeenFaults.{seen_fault as seen_text_fault};
 ghost use Rattle.placeholder_check.specs.Seen.{text as seen_text};
 ghost use Rattle.call_faults.specs.Texts.{text_fault};
-ghost use Rattle.message_faults.specs.Messages.{is_parameter, message_faults, name_faults, spot_of};
-ghost use Rattle.message_faults.specs.Messages.{placeholder_faults, specifier_faults};
-ghost use Rattle.message_faults.specs.Seen.{seen_fault, start};
+ghost use Rattle.message_faults.specs.Messages.{faults_of, faults_or, is_parameter};
+ghost use Rattle.message_faults.specs.Messages.{message_faults, name_faults, piece_faults};
+ghost use Rattle.message_faults.specs.Messages.{placeholder_faults, specifier_faults, spot_of};
+ghost use Rattle.message_faults.specs.Seen.{seen_fault, seen_parameters, start};
 
 use crate::faults::MessageFault;
 use call_faults::{Spot, text_fault};
@@ -59,19 +62,23 @@ fn fault_of<'a>(alloc: Global, message: Message<'a>) -> Result<Option<Fault<'a>>
     Ok(fault)
 }
 
-/// Returns whether a name is `Self` or that of a parameter.
-fn is_parameter(parameters: &[&str], name: &str) -> bool
-    ensures { result ≡ is_parameter (map seen_text parameters.now) (chars name.now) }
+/// Returns whether a name is one of these parameters.
+fn is_one_of(parameters: &[&str], name: &str) -> bool
+    ensures { result ≡ list_any (λ p. bytes_eq p name.now) (map (λ p. p.now) parameters.now) }
 {
-    if name == "Self" {
-        return true;
-    }
     for parameter in parameters {
         if *parameter == name {
             return true;
         }
     }
     false
+}
+
+/// Returns whether a name is `Self` or that of a parameter.
+fn is_parameter(parameters: &[&str], name: &str) -> bool
+    ensures { result ≡ is_parameter (map (λ p. p.now) parameters.now) name.now }
+{
+    name == "Self" || is_one_of(parameters, name)
 }
 
 /// Returns a range of the literal, or all of it where its ranges are not known.
@@ -113,7 +120,7 @@ fn push_name<'a>(
     name: &'a str,
 ) -> Result<(), AllocError>
     ensures { OnOk result (map seen_fault faults.new.items ≡ map seen_fault faults.old.items
-        ++ name_faults (option_map (λ ps. map seen_text ps.now) parameters.entry) spot (chars name.now)) }
+        ++ name_faults (seen_parameters parameters.entry) spot (chars name.now)) }
 {
     if let Some(parameters) = parameters {
         if !is_parameter(parameters, name) {
@@ -131,8 +138,8 @@ fn push_placeholder<'a>(
     argument: &Argument<'a>,
 ) -> Result<(), AllocError>
     ensures { OnOk result (map seen_fault faults.new.items ≡ map seen_fault faults.old.items
-        ++ placeholder_faults (option_map (λ ps. map seen_text ps.now) parameters.entry)
-        is_known (seen_argument argument.now)) }
+        ++ placeholder_faults (seen_parameters parameters.entry) is_known
+        (seen_argument argument.now)) }
 {
     push_specifier(faults, is_known, &argument.format.ty_span)?;
     let spot = spot_of(is_known, &argument.position_span);
@@ -145,24 +152,48 @@ fn push_placeholder<'a>(
     Ok(())
 }
 
-/// Checks a text of the attribute `diagnostic::on_unimplemented`, and returns what is wrong, in the
-/// order of its placeholders. Their specifications and positions are both looked at.
-///
-/// The length of the text in bytes and 2 must together fit into a `usize`. Returns `Err` if an allocation fails.
-pub fn message_faults<'a>(
-    alloc: Global,
-    message: Message<'a>,
-) -> Result<Vec<MessageFault<'a>>, AllocError>
-    requires { length message.text.now + 2 < 2 ^ 64 }
-    ensures { IfOk result (λ v. map seen_fault v.items ≡ message_faults
-        (option_map (λ ps. map seen_text ps.now) message.entry.parameters)
-        (start message.entry)) }
+/// Adds the faults of a piece. Returns `Err` if an allocation fails.
+fn push_piece<'a>(
+    faults: &mut Vec<MessageFault<'a>>,
+    parameters: Option<&[&str]>,
+    is_known: bool,
+    piece: &Piece<'a>,
+) -> Result<(), AllocError>
+    ensures { OnOk result (map seen_fault faults.new.items ≡ map seen_fault faults.old.items
+        ++ piece_faults (seen_parameters parameters.entry) is_known (seen piece.now)) }
 {
-    let mut faults = Vec::new(alloc);
-    if let Some(fault) = fault_of(alloc, message)? {
-        faults.push(MessageFault::Text(fault))?;
-        return Ok(faults);
+    match piece {
+        Piece::Lit(_) => Ok(()),
+        Piece::NextArgument(argument) => push_placeholder(faults, parameters, is_known, argument),
     }
+}
+
+/// Adds the faults of pieces. Returns `Err` if an allocation fails.
+fn push_pieces<'a>(
+    faults: &mut Vec<MessageFault<'a>>,
+    parameters: Option<&[&str]>,
+    is_known: bool,
+    pieces: &[Piece<'a>],
+) -> Result<(), AllocError>
+    ensures { OnOk result (map seen_fault faults.new.items ≡ map seen_fault faults.old.items
+        ++ faults_of (seen_parameters parameters.entry) is_known (map seen pieces.now)) }
+{
+    for piece in pieces {
+        push_piece(faults, parameters, is_known, piece)?;
+    }
+    Ok(())
+}
+
+/// Adds the faults of the placeholders of a text. Returns `Err` if an allocation fails.
+fn push_placeholders<'a>(
+    alloc: Global,
+    faults: &mut Vec<MessageFault<'a>>,
+    message: Message<'a>,
+) -> Result<(), AllocError>
+    requires { length message.text.now + 2 < 2 ^ 64 }
+    ensures { OnOk result (map seen_fault faults.new.items ≡ map seen_fault faults.old.items
+        ++ faults_or (seen_parameters message.entry.parameters) (start message.entry) None) }
+{
     let snippet = owned(alloc, message.snippet)?;
     let (pieces, parser) = read_all(
         alloc,
@@ -173,10 +204,27 @@ pub fn message_faults<'a>(
         ParseMode::Diagnostic,
     )?;
     let is_known = parser.is_source_literal();
-    for piece in &pieces {
-        if let Piece::NextArgument(argument) = piece {
-            push_placeholder(&mut faults, message.parameters, is_known, argument)?;
-        }
+    push_pieces(faults, message.parameters, is_known, &pieces)?;
+    Ok(())
+}
+
+/// Checks a text of the attribute `diagnostic::on_unimplemented`, and returns what is wrong, in the
+/// order of its placeholders. Their specifications and positions are both looked at.
+///
+/// The length of the text in bytes and 2 must together be less than 2^64. Returns `Err` if an
+/// allocation fails.
+pub fn message_faults<'a>(
+    alloc: Global,
+    message: Message<'a>,
+) -> Result<Vec<MessageFault<'a>>, AllocError>
+    requires { length message.text.now + 2 < 2 ^ 64 }
+    ensures { IfOk result (λ v. map seen_fault v.items ≡ message_faults
+        (seen_parameters message.entry.parameters) (start message.entry)) }
+{
+    let mut faults = Vec::new(alloc);
+    match fault_of(alloc, message)? {
+        Some(fault) => faults.push(MessageFault::Text(fault))?,
+        None => push_placeholders(alloc, &mut faults, message)?,
     }
     Ok(faults)
 }

@@ -1,0 +1,93 @@
+-- The notes and helps of faults, in rustc's words and order, as bytes.
+use Rattle.std.specs.Prelude.{ℕ, suc, ◌==◌, ◌++◌, Bool, true, false, if◌then◌else◌, List, [], ◌∷◌}
+use Rattle.std.specs.Prelude.{Option, Some, None, codes, decimal, encode_utf8_all, length}
+use Rattle.std.specs.List.{slice_get}
+use Rattle.rustc_parse_format.specs.Faults.{message}
+use Rattle.asm_faults.specs.AsmFaults.{AsmFault, PositionalAfter, RepeatedName, RegisterName}
+use Rattle.asm_faults.specs.AsmFaults.{WrongIndex, MissingName, LongModifier, TemplateFault}
+use Rattle.asm_faults.specs.AsmFaults.{UnusedOperands}
+use Rattle.asm_faults.specs.Operands.{Operand, Named, Register, Unnamed, is_other}
+use Rattle.asm_faults.specs.declared.faults.AsmSpot.{AsmSpot}
+use Rattle.asm_faults.specs.declared.faults.AsmSpot.TheVariants.{Operand as WholeOperand}
+
+-- A note or a help: its text, and the place that it shows, if it shows one.
+pub record Note : Type 0 where
+  pub is_help : Bool
+  pub text : List ℕ
+  pub spot : Option AsmSpot
+
+-- A note or a help of these parts.
+abbrev pub note : Bool → List ℕ → Option AsmSpot → Note
+note b t s = record { is_help = b; text = t; spot = s }
+
+-- How many operands have neither a name nor a register of their own.
+abbrev pub count_unnamed : List Operand → ℕ
+count_unnamed [] = 0
+count_unnamed (s ∷ ss) = if is_other s then count_unnamed ss else suc (count_unnamed ss)
+
+-- The operands that an index may mean, which are all or only some.
+abbrev pub noun : List Operand → List ℕ
+noun ss = if count_unnamed ss == length ss then codes "argument" else codes "positional argument"
+
+-- So many operands in words.
+abbrev pub count_text : ℕ → List ℕ → List ℕ
+count_text n w = if n == 0 then codes "no " ++ (w ++ codes "s were given")
+    else (if n == 1 then codes "there is 1 " ++ w
+    else codes "there are " ++ (decimal n ++ (codes " " ++ (w ++ codes "s"))))
+
+-- The notes and the help of an operand of the index i that an index does not mean.
+unfoldable pub kind_notes : ℕ → Option Operand → List Note
+kind_notes i None = []
+kind_notes i (Some Unnamed) = []
+kind_notes i (Some (Named w)) = note false (codes "named arguments cannot be referenced by position")
+    (Some (WholeOperand i)) ∷ []
+kind_notes i (Some (Register b)) =
+    note false (codes "explicit register arguments cannot be used in the asm template")
+    (Some (WholeOperand i))
+    ∷ note true (codes "use the register name directly in the assembly code")
+    (Some (WholeOperand i)) ∷ []
+
+-- The notes and the help of a wrong index.
+abbrev pub wrong_notes : List Operand → ℕ → List Note
+wrong_notes ss i = note false (count_text (count_unnamed ss) (noun ss)) None
+    ∷ kind_notes i (slice_get ss i)
+
+-- The note of an error of a template, if it has one.
+abbrev pub text_notes : Option (List ℕ) → List Note
+text_notes None = []
+text_notes (Some t) = note false t None ∷ []
+
+-- What a placeholder has for an operand of the index i: its name, or its index.
+abbrev pub reference : ℕ → Option Operand → List ℕ
+reference i None = decimal i
+reference i (Some Unnamed) = decimal i
+reference i (Some (Named w)) = encode_utf8_all w
+reference i (Some (Register b)) = decimal i
+
+-- Placeholders of operands.
+abbrev pub placeholders : List Operand → List ℕ → List ℕ
+placeholders ss [] = []
+placeholders ss (i ∷ is) =
+    codes " {" ++ (reference i (slice_get ss i) ++ (codes "}" ++ placeholders ss is))
+
+-- How the help of so many operands that are not used begins.
+unfoldable pub unused_start : ℕ → List ℕ
+unused_start n = if n == 1
+    then codes "if this argument is intentionally unused, consider using it in an asm comment: `\"/*"
+    else codes "if these arguments are intentionally unused, consider using them in an asm comment: `\"/*"
+
+-- The help of operands that are not used.
+abbrev pub unused_help : List Operand → List ℕ → Note
+unused_help ss is =
+    note true (unused_start (length is) ++ (placeholders ss is ++ codes " */\"`")) None
+
+-- The notes and helps of a fault of a call with the operands ss, as placeholders refer to them.
+unfoldable pub notes : List Operand → AsmFault → List Note
+notes ss (PositionalAfter i) = []
+notes ss (RepeatedName i f) = []
+notes ss (RegisterName i) = []
+notes ss (WrongIndex s n) = wrong_notes ss n
+notes ss (MissingName s w) = []
+notes ss (LongModifier s) = []
+notes ss (TemplateFault k f) = text_notes (message f).note
+notes ss (UnusedOperands is) = unused_help ss is ∷ []

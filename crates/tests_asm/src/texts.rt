@@ -1,0 +1,101 @@
+//! Texts of attributes that are checked, and what is said of them.
+
+use crate::text_rows::TEXT_ROWS;
+use call_faults::{CallLabel, Spot};
+use message_faults::{Message, MessageFault, message_faults};
+use std::alloc::{AllocError, Global};
+use std::test::Fail;
+
+/// Adds the lines of labels in a literal of this length, sorted.
+fn put_labels(out: &mut String, length: usize, labels: &[CallLabel]) -> Result<(), AllocError> {
+    let alloc = *out.allocator();
+    let mut lines = Vec::new(alloc);
+    for label in labels {
+        let mut line = String::new(alloc);
+        line.push(if label.is_primary { '^' } else { '-' })?;
+        match label.spot {
+            Spot::Bytes { start, end } => write!(&mut line, "{start}..{end}")?,
+            _ => write!(&mut line, "0..{length}")?,
+        }
+        write!(&mut line, " {}\n", label.text)?;
+        lines.push(line)?;
+    }
+    lines.sort()?;
+    for line in &lines {
+        out.push_str(line)?;
+    }
+    Ok(())
+}
+
+/// Adds what is said of a fault in a literal of this length.
+fn put_fault(
+    out: &mut String,
+    length: usize,
+    fault: &MessageFault<'_>,
+) -> Result<(), AllocError> {
+    let alloc = *out.allocator();
+    fault.put_title(alloc, out, "T")?;
+    out.push('\n')?;
+    put_labels(out, length, &fault.labels(alloc)?)?;
+    if let Some(help) = fault.help() {
+        out.push_str("? ")?;
+        out.push_str(help)?;
+        out.push('\n')?;
+    }
+    Ok(())
+}
+
+/// Returns the faults of a text with this literal.
+fn faults<'a>(
+    alloc: Global,
+    text: &'a str,
+    literal: &'a str,
+    parameters: Option<&'a [&'a str]>,
+) -> Result<Vec<MessageFault<'a>>, AllocError> {
+    let message = Message {
+        text,
+        snippet: Some(literal),
+        parameters,
+    };
+    message_faults(alloc, message)
+}
+
+#[test]
+fn texts_are_as_rustc_says(rt: HostRuntime) -> Result<(), Fail> {
+    let alloc = rt.alloc();
+    for row in TEXT_ROWS {
+        let mut said = String::new(alloc);
+        let parameters = ["A", "B", "N"];
+        for fault in &faults(alloc, row.text, row.literal, Some(&parameters))? {
+            put_fault(&mut said, row.literal.len(), fault)?;
+        }
+        assert_eq!(&rt; said.as_str(), row.said, "{}", row.literal);
+    }
+    Ok(())
+}
+
+#[test]
+fn each_kind_of_text_has_its_id(rt: HostRuntime) -> Result<(), Fail> {
+    let alloc = rt.alloc();
+    // the text and its literal, and the ids
+    let rows = [
+        ("{A:?}{}{Z}", "\"{A:?}{}{Z}\"", "specifier-in-message positional-in-message missing-parameter "),
+        ("}", "\"}\"", "unmatched-closing-brace "),
+    ];
+    for (text, literal, expected) in rows {
+        let mut said = String::new(alloc);
+        for fault in &faults(alloc, text, literal, Some(&["A"]))? {
+            write!(&mut said, "{} ", fault.id())?;
+        }
+        assert_eq!(&rt; said.as_str(), expected, "{}", literal);
+    }
+    Ok(())
+}
+
+#[test]
+fn each_name_may_mean_something(rt: HostRuntime) -> Result<(), Fail> {
+    let alloc = rt.alloc();
+    assert_eq!(&rt; faults(alloc, "{Z}", "\"{Z}\"", None)?.len(), 0);
+    assert_eq!(&rt; faults(alloc, "{Z}{}", "\"{Z}{}\"", None)?.len(), 1);
+    Ok(())
+}
