@@ -12,13 +12,12 @@ use Rattle.asm_faults.specs.declared.faults.AsmSpot.TheVariants.{Operand as Whol
 
 -- A note or a help: its text, and the place that it shows, if it shows one.
 pub record Note : Type 0 where
-  pub is_help : Bool
   pub text : List ℕ
   pub spot : Option AsmSpot
 
 -- A note or a help of these parts.
-abbrev pub note : Bool → List ℕ → Option AsmSpot → Note
-note b t s = record { is_help = b; text = t; spot = s }
+abbrev pub note : List ℕ → Option AsmSpot → Note
+note t s = record { text = t; spot = s }
 
 -- How many operands have neither a name nor a register of their own.
 abbrev pub count_unnamed : List Operand → ℕ
@@ -35,27 +34,34 @@ count_text n w = if n == 0 then codes "no " ++ (w ++ codes "s were given")
     else (if n == 1 then codes "there is 1 " ++ w
     else codes "there are " ++ (decimal n ++ (codes " " ++ (w ++ codes "s"))))
 
--- The notes and the help of an operand of the index i that an index does not mean.
+-- The note of an operand of the index i that an index does not mean, if there is one.
 unfoldable pub kind_notes : ℕ → Option Operand → List Note
 kind_notes i None = []
 kind_notes i (Some Unnamed) = []
-kind_notes i (Some (Named w)) = note false (codes "named arguments cannot be referenced by position")
-    (Some (WholeOperand i)) ∷ []
+kind_notes i (Some (Named w)) =
+    note (codes "named arguments cannot be referenced by position") (Some (WholeOperand i)) ∷ []
 kind_notes i (Some (Register b)) =
-    note false (codes "explicit register arguments cannot be used in the asm template")
-    (Some (WholeOperand i))
-    ∷ note true (codes "use the register name directly in the assembly code")
+    note (codes "explicit register arguments cannot be used in the asm template")
     (Some (WholeOperand i)) ∷ []
 
--- The notes and the help of a wrong index.
+-- The notes of a wrong index.
 abbrev pub wrong_notes : List Operand → ℕ → List Note
-wrong_notes ss i = note false (count_text (count_unnamed ss) (noun ss)) None
+wrong_notes ss i = note (count_text (count_unnamed ss) (noun ss)) None
     ∷ kind_notes i (slice_get ss i)
+
+-- The help of a wrong index, if it is that of an operand with a register of its own.
+unfoldable pub wrong_help : ℕ → Option Operand → Option Note
+wrong_help i None = None
+wrong_help i (Some Unnamed) = None
+wrong_help i (Some (Named w)) = None
+wrong_help i (Some (Register b)) =
+    Some (note (codes "use the register name directly in the assembly code")
+    (Some (WholeOperand i)))
 
 -- The note of an error of a template, if it has one.
 abbrev pub text_notes : Option (List ℕ) → List Note
 text_notes None = []
-text_notes (Some t) = note false t None ∷ []
+text_notes (Some t) = note t None ∷ []
 
 -- What a placeholder has for an operand of the index i: its name, or its index.
 abbrev pub reference : ℕ → Option Operand → List ℕ
@@ -79,9 +85,9 @@ unused_start n = if n == 1
 -- The help of operands that are not used.
 abbrev pub unused_help : List Operand → List ℕ → Note
 unused_help ss is =
-    note true (unused_start (length is) ++ (placeholders ss is ++ codes " */\"`")) None
+    note (unused_start (length is) ++ (placeholders ss is ++ codes " */\"`")) None
 
--- The notes and helps of a fault of a call with the operands ss, as placeholders refer to them.
+-- The notes of a fault of a call with the operands ss, as placeholders refer to them.
 unfoldable pub notes : List Operand → AsmFault → List Note
 notes ss (PositionalAfter i) = []
 notes ss (RepeatedName i f) = []
@@ -90,4 +96,15 @@ notes ss (WrongIndex s n) = wrong_notes ss n
 notes ss (MissingName s w) = []
 notes ss (LongModifier s) = []
 notes ss (TemplateFault k f) = text_notes (message f).note
-notes ss (UnusedOperands is) = unused_help ss is ∷ []
+notes ss (UnusedOperands is) = []
+
+-- The help of a fault, if it has one.
+unfoldable pub help : List Operand → AsmFault → Option Note
+help ss (PositionalAfter i) = None
+help ss (RepeatedName i f) = None
+help ss (RegisterName i) = None
+help ss (WrongIndex s n) = wrong_help n (slice_get ss n)
+help ss (MissingName s w) = None
+help ss (LongModifier s) = None
+help ss (TemplateFault k f) = None
+help ss (UnusedOperands is) = Some (unused_help ss is)

@@ -75,7 +75,7 @@ seen_label l = label l.spot l.is_primary (string_bytes l.text)
 
 -- A note or a help as a contract sees it.
 abbrev pub seen_note : AsmNote → Note
-seen_note n = note n.is_help (string_bytes n.text) n.spot
+seen_note n = note (string_bytes n.text) n.spot
 
 -- What a map has for a name.
 abbrev pub found_in : BTreeMap (Bor (List ℕ)) ℕ → Text → Option ℕ

@@ -1,13 +1,14 @@
 //! The notes and helps of faults, in rustc's words. What begins with `push_` or `put_` adds to the
 //! end of a list or a text, and returns `Err` if an allocation fails.
 
-ghost use Rattle.std.specs.Prelude.{◌≡◌, ◌++◌, ◌∷◌, [], OnOk, map, string_bytes};
+ghost use Rattle.std.specs.Prelude.{◌≡◌, ◌++◌, ◌∷◌, [], IfOk, OnOk, map, option_map};
+ghost use Rattle.std.specs.Prelude.{string_bytes};
 ghost use Rattle.std.specs.List.{slice_get};
 ghost use Rattle.rustc_parse_format.specs.Faults.{message};
 ghost use Rattle.rustc_parse_format.specs.SeenFaults.{seen_fault as seen_text_fault};
 ghost use Rattle.asm_faults.specs.Notes.{count_text, count_unnamed, kind_notes, note, noun};
 ghost use Rattle.asm_faults.specs.Notes.{placeholders, reference, text_notes, unused_help};
-ghost use Rattle.asm_faults.specs.Notes.{unused_start, wrong_notes};
+ghost use Rattle.asm_faults.specs.Notes.{unused_start, wrong_help, wrong_notes};
 ghost use Rattle.asm_faults.specs.Seen.{seen_note, seen_operand};
 
 use crate::checker::AsmCall;
@@ -20,8 +21,6 @@ use std::alloc::{AllocError, Global};
 /// A note or a help of a fault.
 #[derive(Debug, PartialEq, Drop)]
 pub struct AsmNote {
-    /// Whether it is a help.
-    pub is_help: bool,
     /// Its text, in rustc's words.
     pub text: String,
     /// The place that it shows. A note without one is a row under the labels, and one with a place
@@ -29,22 +28,17 @@ pub struct AsmNote {
     pub spot: Option<AsmSpot>,
 }
 
-/// Adds a note or a help.
+/// Adds a note.
 fn push_note(
     notes: &mut Vec<AsmNote>,
-    is_help: bool,
     text: &str,
     spot: Option<AsmSpot>,
 ) -> Result<(), AllocError>
     ensures { OnOk result (map seen_note notes.new.items
-        ≡ map seen_note notes.old.items ++ note is_help text.now spot ∷ []) }
+        ≡ map seen_note notes.old.items ++ note text.now spot ∷ []) }
 {
     let text = String::from_str(*notes.allocator(), text)?;
-    notes.push(AsmNote {
-        is_help,
-        text,
-        spot,
-    })?;
+    notes.push(AsmNote { text, spot })?;
     Ok(())
 }
 
@@ -96,12 +90,8 @@ fn put_count(out: &mut String, count: usize, word: &str) -> Result<(), AllocErro
     Ok(())
 }
 
-/// Adds the notes and the help of an operand that an index does not mean, if there are any.
-#[tactic(
-    auto,
-    using(std::proofs::Common::append_assoc),
-    unfolding(crate::specs::Notes::kind_notes)
-)]
+/// Adds the note of an operand that an index does not mean, if there is one.
+#[tactic(auto, unfolding(crate::specs::Notes::kind_notes))]
 fn push_kind(
     notes: &mut Vec<AsmNote>,
     operands: &[Operand<'_>],
@@ -114,20 +104,18 @@ fn push_kind(
     match operands.get(index) {
         Some(Operand::Named(_)) => {
             let text = "named arguments cannot be referenced by position";
-            push_note(notes, false, text, spot)?;
+            push_note(notes, text, spot)?;
         }
         Some(Operand::Register { .. }) => {
             let text = "explicit register arguments cannot be used in the asm template";
-            push_note(notes, false, text, spot)?;
-            let text = "use the register name directly in the assembly code";
-            push_note(notes, true, text, spot)?;
+            push_note(notes, text, spot)?;
         }
         Some(Operand::Unnamed) | None => {}
     }
     Ok(())
 }
 
-/// Adds the notes and the help of a wrong index.
+/// Adds the notes of a wrong index.
 #[tactic(auto, using(std::proofs::Common::append_assoc))]
 fn push_wrong(
     alloc: Global,
@@ -140,9 +128,31 @@ fn push_wrong(
 {
     let mut text = String::new(alloc);
     put_count(&mut text, count_unnamed(operands), noun(operands))?;
-    push_note(notes, false, &text, None)?;
+    push_note(notes, &text, None)?;
     push_kind(notes, operands, index)?;
     Ok(())
+}
+
+/// Returns the help of a wrong index, or `None` if there is none. Returns `Err` if an allocation
+/// fails.
+#[tactic(auto, unfolding(crate::specs::Notes::wrong_help))]
+fn wrong_help(
+    alloc: Global,
+    operands: &[Operand<'_>],
+    index: usize,
+) -> Result<Option<AsmNote>, AllocError>
+    ensures { IfOk result (λ o. option_map seen_note o
+        ≡ wrong_help index (slice_get (map seen_operand operands.now) index)) }
+{
+    match operands.get(index) {
+        Some(Operand::Register { .. }) => {
+            let says = "use the register name directly in the assembly code";
+            let text = String::from_str(alloc, says)?;
+            let spot = Some(AsmSpot::Operand(index));
+            Ok(Some(AsmNote { text, spot }))
+        }
+        Some(Operand::Unnamed) | Some(Operand::Named(_)) | None => Ok(None),
+    }
 }
 
 /// Adds the note of a fault of a template, if it has one.
@@ -152,7 +162,7 @@ fn push_text(alloc: Global, notes: &mut Vec<AsmNote>, fault: &Fault<'_>) -> Resu
 {
     let error = fault.error(alloc)?;
     if let Some(note) = &error.note {
-        push_note(notes, false, note, None)?;
+        push_note(notes, note, None)?;
     }
     Ok(())
 }
@@ -204,30 +214,28 @@ fn unused_start(count: usize) -> &'static str
     }
 }
 
-/// Adds the help of operands that are not used.
-fn push_unused(
+/// Returns the help of operands that are not used. Returns `Err` if an allocation fails.
+fn unused_help(
     alloc: Global,
-    notes: &mut Vec<AsmNote>,
     operands: &[Operand<'_>],
     unused: &[usize],
-) -> Result<(), AllocError>
-    ensures { OnOk result (map seen_note notes.new.items ≡ map seen_note notes.old.items
-        ++ unused_help (map seen_operand operands.now) unused.now ∷ []) }
+) -> Result<AsmNote, AllocError>
+    ensures { IfOk result (λ n. seen_note n
+        ≡ unused_help (map seen_operand operands.now) unused.now) }
 {
     let mut text = String::from_str(alloc, unused_start(unused.len()))?;
     put_placeholders(&mut text, operands, unused)?;
     text.push_str(" */\"`")?;
-    push_note(notes, true, &text, None)?;
-    Ok(())
+    Ok(AsmNote { text, spot: None })
 }
 
 impl<'a> AsmCall<'a> {
-    ghost use Rattle.std.specs.Prelude.{◌≡◌, IfOk, map};
-    ghost use Rattle.asm_faults.specs.Notes.{notes};
+    ghost use Rattle.std.specs.Prelude.{◌≡◌, IfOk, map, option_map};
+    ghost use Rattle.asm_faults.specs.Notes.{help, notes};
     ghost use Rattle.asm_faults.specs.Seen.{seen_fault, seen_note, seen_operand};
 
-    /// Returns the notes and helps of one of the faults, in rustc's order. Returns `Err` if an
-    /// allocation fails.
+    /// Returns the notes of one of the faults, in rustc's order. Returns `Err` if an allocation
+    /// fails.
     #[tactic(auto, unfolding(crate::specs::Notes::notes))]
     pub fn notes(&self, alloc: Global, fault: &AsmFault<'a>) -> Result<Vec<AsmNote>, AllocError>
         ensures { IfOk result (λ v. map seen_note v.items
@@ -239,15 +247,35 @@ impl<'a> AsmCall<'a> {
                 push_wrong(alloc, &mut notes, &self.operands, *index)?;
             }
             AsmFault::Text { fault, .. } => push_text(alloc, &mut notes, fault)?,
+            AsmFault::PositionalAfter { .. }
+            | AsmFault::RepeatedName { .. }
+            | AsmFault::RegisterName { .. }
+            | AsmFault::MissingName { .. }
+            | AsmFault::LongModifier { .. }
+            | AsmFault::UnusedOperands(_) => {}
+        }
+        Ok(notes)
+    }
+
+    /// Returns the help of one of the faults, or `None` if it has none. rustc says it after the
+    /// notes. Returns `Err` if an allocation fails.
+    #[tactic(auto, unfolding(crate::specs::Notes::help))]
+    pub fn help(&self, alloc: Global, fault: &AsmFault<'a>) -> Result<Option<AsmNote>, AllocError>
+        ensures { IfOk result (λ o. option_map seen_note o
+            ≡ help (map seen_operand self.now.operands.items) (seen_fault fault.now)) }
+    {
+        match fault {
+            AsmFault::WrongIndex { index, .. } => wrong_help(alloc, &self.operands, *index),
             AsmFault::UnusedOperands(unused) => {
-                push_unused(alloc, &mut notes, &self.operands, unused)?;
+                let help = unused_help(alloc, &self.operands, unused)?;
+                Ok(Some(help))
             }
             AsmFault::PositionalAfter { .. }
             | AsmFault::RepeatedName { .. }
             | AsmFault::RegisterName { .. }
             | AsmFault::MissingName { .. }
-            | AsmFault::LongModifier { .. } => {}
+            | AsmFault::LongModifier { .. }
+            | AsmFault::Text { .. } => Ok(None),
         }
-        Ok(notes)
     }
 }

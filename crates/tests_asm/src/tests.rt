@@ -1,7 +1,7 @@
 //! Calls that are checked, and what is said of them.
 
 use crate::rows::ROWS;
-use asm_faults::{AsmCall, AsmFault, AsmLabel, AsmSpot, Operand, Template, asm_faults};
+use asm_faults::{AsmCall, AsmFault, AsmLabel, AsmNote, AsmSpot, Operand, Template, asm_faults};
 use std::alloc::{AllocError, Global};
 use std::test::Fail;
 
@@ -94,6 +94,23 @@ fn put_labels(out: &mut String, parts: &Parts<'_>, labels: &[AsmLabel]) -> Resul
     Ok(())
 }
 
+/// Adds a note or a help, after this sign.
+fn put_note(
+    out: &mut String,
+    parts: &Parts<'_>,
+    sign: &str,
+    note: &AsmNote,
+) -> Result<(), AllocError> {
+    out.push_str(sign)?;
+    out.push_str(&note.text)?;
+    if let Some(spot) = note.spot {
+        out.push(' ')?;
+        put_spot(out, parts, spot)?;
+    }
+    out.push('\n')?;
+    Ok(())
+}
+
 /// Adds what is said of a fault.
 fn put_fault<'a>(
     out: &mut String,
@@ -106,13 +123,10 @@ fn put_fault<'a>(
     out.push('\n')?;
     put_labels(out, parts, &call.labels(alloc, fault)?)?;
     for note in &call.notes(alloc, fault)? {
-        out.push_str(if note.is_help { "? " } else { "= " })?;
-        out.push_str(&note.text)?;
-        if let Some(spot) = note.spot {
-            out.push(' ')?;
-            put_spot(out, parts, spot)?;
-        }
-        out.push('\n')?;
+        put_note(out, parts, "= ", note)?;
+    }
+    if let Some(help) = &call.help(alloc, fault)? {
+        put_note(out, parts, "? ", help)?;
     }
     Ok(())
 }

@@ -1,5 +1,5 @@
 use Rattle.std.proofs.Common.{append_assoc}
-use Rattle.asm_faults.proofs.notes.push_unused.Goals as goal
+use Rattle.asm_faults.proofs.notes.unused_help.Goals as goal
 
 pub returns : goal.returns
 returns c = ?
