@@ -10,7 +10,7 @@ from extraction.tokens import Refused
 TOP = Path(__file__).resolve().parent.parent.parent
 RUST = TOP / "bindings/rust/src"
 CRATES = ("rustc_parse_format", "placeholder_check", "format_tokens", "drawn_faults", "rust_tokens",
-          "rust_trees", "format_calls", "call_faults", "piece_listing", "listing_json",
+          "rust_trees", "format_calls", "call_faults", "asm_faults", "message_faults", "piece_listing", "listing_json",
           "literal_faults", "format_lint", "lint_words", "source_lint", "fault_rules",
           "message_forms", "package_edition", "formatread", "formatlint")
 NOTICE = """\

@@ -1,6 +1,7 @@
 //! Calls of macros that take a format string, in Rust source text.
 #![tactic(auto)]
 
+mod assembly;
 mod counted;
 mod listing;
 mod marks;
@@ -10,6 +11,7 @@ mod split;
 mod strings;
 mod table;
 
+pub use assembly::{AsmPart, asm_part, template_count};
 pub use counted::are_counted;
 pub use listing::{Call, calls};
 pub use marks::{is_mark_of, is_word, token_at, word};

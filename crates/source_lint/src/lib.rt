@@ -1,6 +1,8 @@
 //! The faults of the format strings of a Rust source file, from its text ([`file_faults`]).
 #![tactic(auto)]
 
+mod assembly;
+mod attributes;
 mod findings;
 mod givens;
 mod labels;

@@ -11,6 +11,7 @@ ghost use Rattle.source_lint.specs.Reports.{IsReport, ReadsCalls};
 ghost use Rattle.source_lint.specs.declared.report.CallReading.{CallReading as ReadingValue};
 ghost use Rattle.source_lint.specs.declared.report.Finding.{Finding as FindingValue};
 
+use crate::attributes::read_attributes;
 use crate::macros::macro_names;
 use crate::readings::{File, read_call};
 use crate::report::{CallReading, Finding, Options, Report};
@@ -94,7 +95,8 @@ pub fn file_faults(alloc: Global, text: &str, options: &Options<'_>) -> Result<R
         is_from_2021: options.is_from_2021,
     };
     let mut balance = Balance::new(alloc);
-    let found = read_file(alloc, file, &options.table, &mut balance)?;
+    let mut found = read_file(alloc, file, &options.table, &mut balance)?;
+    read_attributes(alloc, &mut found.findings, text)?;
     Ok(Report {
         calls: found.calls,
         findings: found.findings,

@@ -17,6 +17,7 @@ ghost use Rattle.source_lint.specs.Readings.{Reads, ReadsAt, ReadsLiteral, call_
 ghost use Rattle.source_lint.specs.Readings.{captures, counted_givens, name_at, reading_of};
 ghost use Rattle.source_lint.specs.declared.report.Finding.{Finding as FindingValue};
 
+use crate::assembly::read_templates;
 use crate::findings::put_findings;
 use crate::givens::givens;
 use crate::literals::{appends_newline, read_literal};
@@ -142,7 +143,7 @@ fn captures(rule: Rule, name: &[u8], is_from_2021: bool) -> bool
 {
     match rule {
         Rule::ByEdition(_) => is_from_2021 || name != b"unreachable".as_slice(),
-        Rule::At(_) | Rule::AfterFields => true,
+        Rule::At(_) | Rule::AfterFields | Rule::Templates => true,
     }
 }
 
@@ -234,6 +235,10 @@ pub fn read_call(
     let list = arguments.as_slice();
     match format_string(part, call.rule, list, file.is_from_2021) {
         Err(reason) => Ok(CallReading::Unread(reason)),
+        Ok(_) if matches!(call.rule, Rule::Templates) => {
+            let reading = read_templates(alloc, findings, file, part, call, list)?;
+            Ok(reading)
+        }
         Ok(index) => {
             let reading = read_at(alloc, findings, file, part, call, list, index)?;
             Ok(reading)

@@ -1,5 +1,6 @@
 // The crates that are extracted. Made by tools/extract: not to be edited.
 
+pub mod asm_faults;
 pub mod call_faults;
 pub mod drawn_faults;
 pub mod fault_rules;
@@ -11,6 +12,7 @@ pub mod formatread;
 pub mod lint_words;
 pub mod listing_json;
 pub mod literal_faults;
+pub mod message_faults;
 pub mod message_forms;
 pub mod package_edition;
 pub mod piece_listing;

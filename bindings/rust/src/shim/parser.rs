@@ -25,6 +25,11 @@ impl<'input> Parser<'input> {
         })
     }
 
+    /// Returns whether the snippet is the source literal of the input.
+    pub fn is_source_literal(&self) -> bool {
+        self.parser.is_source_literal
+    }
+
     /// Returns the next piece.
     pub fn next(&mut self) -> Result<Option<Piece<'input>>, AllocError> {
         Ok(self.parser.next())

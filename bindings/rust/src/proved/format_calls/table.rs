@@ -18,6 +18,9 @@ pub enum Rule {
     ByEdition(usize),
     /// The first argument that is a string literal: fields may stand before it.
     AfterFields,
+    /// The first argument, and the string literals that follow it, are templates of inline
+    /// assembly. Operands follow.
+    Templates,
 }
 
 /// A macro of a table.
@@ -36,7 +39,7 @@ pub struct Table<'a> {
 }
 
 /// The macros of the standard library.
-const STANDARD: [Row<'static>; 20] = [
+const STANDARD: [Row<'static>; 23] = [
     Row {
         name: "format",
         rule: Rule::At(0),
@@ -116,6 +119,18 @@ const STANDARD: [Row<'static>; 20] = [
     Row {
         name: "debug_assert_matches",
         rule: Rule::At(2),
+    },
+    Row {
+        name: "asm",
+        rule: Rule::Templates,
+    },
+    Row {
+        name: "global_asm",
+        rule: Rule::Templates,
+    },
+    Row {
+        name: "naked_asm",
+        rule: Rule::Templates,
     },
 ];
 

@@ -6,6 +6,7 @@
 
 use crate::proved::format_calls::{calls, next_part, Table};
 use crate::proved::rust_trees::{Balance, Source, Tokens};
+use crate::proved::source_lint::attributes::read_attributes;
 use crate::proved::source_lint::macros::macro_names;
 use crate::proved::source_lint::readings::{read_call, File};
 use crate::proved::source_lint::report::{CallReading, Finding, Options, Report};
@@ -87,7 +88,8 @@ pub fn file_faults(alloc: Global, text: &str, options: &Options<'_>) -> Result<R
         is_from_2021: options.is_from_2021,
     };
     let mut balance = Balance::new(alloc);
-    let found = read_file(alloc, file, &options.table, &mut balance)?;
+    let mut found = read_file(alloc, file, &options.table, &mut balance)?;
+    read_attributes(alloc, &mut found.findings, text)?;
     Ok(Report {
         calls: found.calls,
         findings: found.findings,

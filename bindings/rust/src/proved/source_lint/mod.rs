@@ -4,6 +4,8 @@
 // That source is proved, and each contract here is its. That this text means the same is tested:
 // by results from outside, and beside what is proved (.ci/bindings) and the original (tools/agree).
 
+pub(crate) mod assembly;
+pub(crate) mod attributes;
 pub(crate) mod findings;
 pub(crate) mod givens;
 pub(crate) mod labels;

@@ -9,6 +9,7 @@ use crate::proved::format_calls::{
     are_counted, arguments, format_string, token_at, word, Argument, Call, Rule,
 };
 use crate::proved::rust_trees::{Source, Token};
+use crate::proved::source_lint::assembly::read_templates;
 use crate::proved::source_lint::findings::put_findings;
 use crate::proved::source_lint::givens::givens;
 use crate::proved::source_lint::literals::{appends_newline, read_literal};
@@ -132,7 +133,7 @@ fn read_string(
 fn captures(rule: Rule, name: &[u8], is_from_2021: bool) -> bool {
     match rule {
         Rule::ByEdition(_) => is_from_2021 || name != b"unreachable".as_slice(),
-        Rule::At(_) | Rule::AfterFields => true,
+        Rule::At(_) | Rule::AfterFields | Rule::Templates => true,
     }
 }
 
@@ -224,6 +225,10 @@ pub fn read_call(
     let list = arguments.as_slice();
     match format_string(part, call.rule, list, file.is_from_2021) {
         Err(reason) => Ok(CallReading::Unread(reason)),
+        Ok(_) if matches!(call.rule, Rule::Templates) => {
+            let reading = read_templates(alloc, findings, file, part, call, list)?;
+            Ok(reading)
+        }
         Ok(index) => {
             let reading = read_at(alloc, findings, file, part, call, list, index)?;
             Ok(reading)
