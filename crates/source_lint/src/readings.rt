@@ -196,6 +196,8 @@ fn read_at(
         literal,
         crs: &crs,
         arguments: others,
+        name: call.name,
+        close: call.close,
     };
     let name = name_at(tokens, call.name);
     let appended_newline = appends_newline(name);
