@@ -6,7 +6,7 @@ use Rattle.std.specs.Option.{option_map_or}
 use Rattle.std.specs.List.{cons_option, filter_map, list_any, slice_get}
 use Rattle.std.specs.Str.{bytes_eq, encode_utf8_all}
 use Rattle.rustc_parse_format.specs.Characters.{Text}
-use Rattle.rustc_parse_format.specs.Faults.{message, Suggestion, Nothing, UsePositional}
+use Rattle.rustc_parse_format.specs.Faults.{Message, message, Suggestion, Nothing, UsePositional}
 use Rattle.rustc_parse_format.specs.Faults.{RemoveRawIdent, ReorderFormatParameter, AddMissingColon}
 use Rattle.rustc_parse_format.specs.Faults.{UseRustDebugPrintingMacro}
 use Rattle.rustc_parse_format.specs.Types.{Alignment, Argument, Center, Count, Implied, Index}
@@ -18,7 +18,7 @@ use Rattle.call_faults.specs.CallFaults.{CallFault, PositionalAfterNamed, Repeat
 use Rattle.call_faults.specs.CallFaults.{MissingName, UnknownTrait, MissingArguments}
 use Rattle.call_faults.specs.CallFaults.{UnusedArguments, RedundantArguments, NameUsedByIndex}
 use Rattle.call_faults.specs.Labels.{Call, have_names, is_last, star_of}
-use Rattle.call_faults.specs.Spots.{Edit, Help, Note, bytes_at, index_spot, plain}
+use Rattle.call_faults.specs.Spots.{Edit, Help, Note, bytes_at, edit, index_spot, plain}
 use Rattle.call_faults.specs.Words.{has_number, name_of, plural, quoted}
 use Rattle.call_faults.specs.declared.faults.Part.{Part}
 use Rattle.call_faults.specs.declared.faults.Part.TheVariants.{Position as PositionPart}
@@ -27,7 +27,8 @@ use Rattle.call_faults.specs.declared.faults.Part.TheVariants.{Width as WidthPar
 use Rattle.call_faults.specs.declared.faults.Reference.{Reference}
 use Rattle.call_faults.specs.declared.spots.Spot.{Spot}
 use Rattle.call_faults.specs.declared.spots.Spot.TheVariants.{Value, ValueUpToNext, Literal}
-use Rattle.call_faults.specs.declared.spots.Spot.TheVariants.{LiteralEnd}
+use Rattle.call_faults.specs.declared.spots.Spot.TheVariants.{LiteralEnd, AfterLiteral, ValueEnd}
+use Rattle.call_faults.specs.declared.spots.Spot.TheVariants.{Call as WholeCall}
 
 -- The note of an error of the string.
 abbrev pub text_notes : Option (List ℕ) → List Note
@@ -142,7 +143,7 @@ abbrev pub unused_help : Call → ℕ → Option Help
 unused_help c n =
     if not (list_any are_missing c.faults) && n == length c.kept then Some (record {
       text = codes "format specifiers use curly braces, consider adding " ++ specifiers n;
-      edits = record { spot = LiteralEnd; text = placeholders n } ∷ [];
+      edits = edit LiteralEnd (placeholders n) ∷ [];
     }) else None
 
 -- The variable that an argument is, if it is one.
@@ -190,7 +191,7 @@ removed_spot gs i = if is_last gs i then Value i else ValueUpToNext i
 
 -- The edit that removes an argument.
 abbrev pub removal : List Given → ℕ → Edit
-removal gs i = record { spot = removed_spot gs i; text = [] }
+removal gs i = edit (removed_spot gs i) []
 
 -- The help for several redundant arguments. That for one alone is a label.
 abbrev pub redundant_help : List Given → List ℕ → Option Help
@@ -213,27 +214,64 @@ name_in p w = encode_utf8_all w ++ behind_name p
 abbrev pub by_index_help : Call → Reference → ℕ → Help
 by_index_help c r i = record {
   text = codes "use the named argument by name to avoid ambiguity";
-  edits = record {
-    spot = index_spot c.pieces r;
-    text = name_in r.part (name_of (slice_get c.given i));
-  } ∷ [];
+  edits = edit (index_spot c.pieces r) (name_in r.part (name_of (slice_get c.given i))) ∷ [];
 }
 
 -- The help that puts a text in the place of another one.
 abbrev pub replacing : Spot → List ℕ → Help
 replacing s t = record {
   text = codes "did you mean `" ++ (t ++ codes "`?");
-  edits = record { spot = s; text = t } ∷ [];
+  edits = edit s t ∷ [];
 }
 
--- The help for an error of the string, if it replaces something.
-abbrev pub text_help : Suggestion Place → Option Help
-text_help Nothing = None
-text_help UsePositional = None
-text_help (RemoveRawIdent s) = None
-text_help (ReorderFormatParameter s t) = Some (replacing (bytes_at s) t)
-text_help (AddMissingColon s) = None
-text_help UseRustDebugPrintingMacro = None
+-- How many of these arguments stand before the first one with a name.
+abbrev pub unnamed_count : List Given → ℕ
+unnamed_count [] = 0
+unnamed_count (g ∷ gs) = if is_some g.name then 0 else suc (unnamed_count gs)
+
+-- Where an argument without a name is added, if there are so many already: after the last of these.
+abbrev pub added_spot : ℕ → Spot
+added_spot zero = AfterLiteral
+added_spot (suc n) = ValueEnd n
+
+-- The help for an expression at this place of the string: it becomes an argument.
+abbrev pub positional_help : List Given → Place → Help
+positional_help gs s = record {
+  text = codes "consider using a positional formatting argument instead";
+  edits = edit (bytes_at s) (decimal (unnamed_count gs)) ∷ record {
+    spot = added_spot (unnamed_count gs);
+    text = codes ", ";
+    copied = Some (bytes_at s);
+    rest = [];
+  } ∷ [];
+}
+
+-- The help for `=` after the only argument: the macro that shows an expression and its value.
+abbrev pub debug_help : List ℕ → Option Help
+debug_help [] = None
+debug_help (i ∷ []) = Some (record {
+  text = codes "use rust's debug printing macro";
+  edits = record {
+    spot = WholeCall;
+    text = codes "dbg!(";
+    copied = Some (Value i);
+    rest = codes ")";
+  } ∷ [];
+})
+debug_help (i ∷ j ∷ is) = None
+
+-- The help for an error of the string at this place, with this suggestion.
+abbrev pub suggested : Call → Place → Suggestion Place → Option Help
+suggested c s Nothing = None
+suggested c s UsePositional = Some (positional_help c.given s)
+suggested c s (RemoveRawIdent r) = None
+suggested c s (ReorderFormatParameter r t) = Some (replacing (bytes_at r) t)
+suggested c s (AddMissingColon r) = None
+suggested c s UseRustDebugPrintingMacro = debug_help c.kept
+
+-- The help for an error of the string, if it is no label.
+abbrev pub text_help : Call → Message Place → Option Help
+text_help c m = suggested c m.span m.suggestion
 
 -- The notes of a fault.
 unfoldable pub notes : Call → CallFault → List Note
@@ -251,7 +289,7 @@ notes c (NameUsedByIndex r i) = []
 unfoldable pub help : Call → CallFault → Option Help
 help c (PositionalAfterNamed i ns) = None
 help c (RepeatedName i f) = None
-help c (TextFault f) = text_help (message f).suggestion
+help c (TextFault f) = text_help c (message f)
 help c (MissingName r w) = None
 help c (UnknownTrait k t) = None
 help c (MissingArguments ms) = None

@@ -116,7 +116,12 @@ seen_note n = record { text = string_bytes n.text; spots = n.spots.items }
 
 -- An edit as a contract sees it.
 abbrev pub seen_edit : CallEdit → Edit
-seen_edit e = record { spot = e.spot; text = string_bytes e.text }
+seen_edit e = record {
+  spot = e.spot;
+  text = string_bytes e.text;
+  copied = e.copied;
+  rest = e.rest.now;
+}
 
 -- A help as a contract sees it.
 abbrev pub seen_help : CallHelp → Help

@@ -35,10 +35,17 @@ pub record Note : Type 0 where
 abbrev pub plain : List ℕ → Note
 plain t = record { text = t; spots = [] }
 
--- An edit of a help: where the text is that it replaces, and the new text.
+-- An edit of a help: where the text is that it replaces, and the new text, which may have the source
+-- of a place in it, between two others.
 pub record Edit : Type 0 where
   pub spot : Spot
   pub text : List ℕ
+  pub copied : Option Spot
+  pub rest : List ℕ
+
+-- An edit that copies no source.
+abbrev pub edit : Spot → List ℕ → Edit
+edit s t = record { spot = s; text = t; copied = None; rest = [] }
 
 -- A help: what to do, and the edits that do it.
 pub record Help : Type 0 where

@@ -3,12 +3,15 @@
 ghost use Rattle.std.specs.Prelude.{◌≡◌, ◌++◌, ◌∷◌, [], IfOk, OnOk, chars, map, option_map};
 ghost use Rattle.std.specs.Prelude.{string_bytes};
 ghost use Rattle.rustc_parse_format.specs.Faults.{message};
+ghost use Rattle.rustc_parse_format.specs.Seen.{pair};
 ghost use Rattle.rustc_parse_format.specs.SeenFaults.{seen_fault as seen_text_fault};
-ghost use Rattle.call_faults.specs.Notes.{behind_name, by_index_help, name_in, placeholders};
+ghost use Rattle.call_faults.specs.Notes.{added_spot, behind_name, by_index_help, debug_help};
+ghost use Rattle.call_faults.specs.Notes.{name_in, placeholders, positional_help};
 ghost use Rattle.call_faults.specs.Notes.{redundant_help, removal, removed_spot};
 ghost use Rattle.call_faults.specs.Notes.{replacing, text_help};
-ghost use Rattle.call_faults.specs.Notes.{unused_help};
+ghost use Rattle.call_faults.specs.Notes.{unnamed_count, unused_help};
 ghost use Rattle.call_faults.specs.Seen.{seen_call, seen_edit, seen_given, seen_help};
+ghost use Rattle.call_faults.specs.Spots.{edit};
 
 use crate::arguments::Given;
 use crate::checker::Checked;
@@ -16,19 +19,32 @@ use crate::faults::{CallFault, Part, Reference};
 use crate::labels::{have_names, is_last};
 use crate::notes::{are_missing, put_specifiers};
 use crate::spots::{CallEdit, CallHelp, Spot, bytes_at, index_spot};
-use crate::titles::name_of;
+use crate::titles::{name_of, put_number};
 use rustc_parse_format::{Fault, Suggestion};
 use std::alloc::{AllocError, Global};
+use std::ops::Range;
+
+/// Returns an edit that copies no source.
+fn plain_edit(spot: Spot, text: String) -> CallEdit
+    ensures { seen_edit result ≡ edit spot (string_bytes text.entry) }
+{
+    CallEdit {
+        spot,
+        text,
+        copied: None,
+        rest: "",
+    }
+}
 
 /// Returns a help with one edit. Returns `Err` if an allocation fails.
 fn single(alloc: Global, text: String, spot: Spot, new: String) -> Result<CallHelp, AllocError>
     ensures { IfOk result (λ h. seen_help h ≡ record {
       text = string_bytes text;
-      edits = record { spot = spot; text = string_bytes new } ∷ [];
+      edits = edit spot (string_bytes new) ∷ [];
     }) }
 {
     let mut edits = Vec::new(alloc);
-    edits.push(CallEdit { spot, text: new })?;
+    edits.push(plain_edit(spot, new))?;
     Ok(CallHelp { text, edits })
 }
 
@@ -91,7 +107,7 @@ fn push_removals(
     while let Some((index, others)) = rest.split_first() {
         let text = String::new(alloc);
         let spot = removed_spot(given, *index);
-        edits.push(CallEdit { spot, text })?;
+        edits.push(plain_edit(spot, text))?;
         rest = others;
     }
     Ok(())
@@ -167,22 +183,101 @@ fn replacing(alloc: Global, spot: Spot, new: &str) -> Result<CallHelp, AllocErro
     Ok(help)
 }
 
-/// Returns the help for a fault of the string, or `None` if it has none that replaces something.
-/// Returns `Err` if an allocation fails.
-fn text_help(alloc: Global, fault: &Fault<'_>) -> Result<Option<CallHelp>, AllocError>
-    ensures { IfOk result (λ o. option_map seen_help o
-        ≡ text_help (message (seen_text_fault fault.now)).suggestion) }
+/// Returns how many of arguments stand before the first one with a name.
+fn unnamed_count(given: &[Given<'_>]) -> usize
+    ensures { result ≡ unnamed_count (map seen_given given.now) }
 {
-    match fault.suggestion(alloc)? {
+    for (index, argument) in given.iter().enumerate() {
+        if argument.name.is_some() {
+            return index;
+        }
+    }
+    given.len()
+}
+
+/// Returns where an argument without a name is added, if there are so many already.
+fn added_spot(count: usize) -> Spot
+    ensures { result ≡ added_spot count }
+{
+    if count == 0 {
+        Spot::AfterLiteral
+    } else {
+        Spot::ValueEnd(count - 1)
+    }
+}
+
+/// Returns the help for an expression at this place of the string. Returns `Err` if an allocation
+/// fails.
+fn positional_help(
+    alloc: Global,
+    given: &[Given<'_>],
+    span: &Range<usize>,
+) -> Result<CallHelp, AllocError>
+    ensures { IfOk result (λ h. seen_help h
+        ≡ positional_help (map seen_given given.now) (pair span.now)) }
+{
+    let count = unnamed_count(given);
+    let spot = bytes_at(span);
+    let mut index = String::new(alloc);
+    put_number(&mut index, count)?;
+    let comma = String::from_str(alloc, ", ")?;
+    let mut edits = Vec::new(alloc);
+    edits.push(plain_edit(spot, index))?;
+    edits.push(CallEdit {
+        spot: added_spot(count),
+        text: comma,
+        copied: Some(spot),
+        rest: "",
+    })?;
+    let says = "consider using a positional formatting argument instead";
+    let text = String::from_str(alloc, says)?;
+    Ok(CallHelp { text, edits })
+}
+
+/// Returns the help for `=` after an argument, or `None` unless one argument counts. Returns `Err`
+/// if an allocation fails.
+fn debug_help(alloc: Global, kept: &[usize]) -> Result<Option<CallHelp>, AllocError>
+    ensures { IfOk result (λ o. option_map seen_help o ≡ debug_help kept.now) }
+{
+    let [index] = kept else {
+        return Ok(None);
+    };
+    let text = String::from_str(alloc, "use rust's debug printing macro")?;
+    let opening = String::from_str(alloc, "dbg!(")?;
+    let mut edits = Vec::new(alloc);
+    edits.push(CallEdit {
+        spot: Spot::Call,
+        text: opening,
+        copied: Some(Spot::Value(*index)),
+        rest: ")",
+    })?;
+    Ok(Some(CallHelp { text, edits }))
+}
+
+/// Returns the help for a fault of the string, or `None` if it has none that is no label. Returns
+/// `Err` if an allocation fails.
+fn text_help(
+    alloc: Global,
+    call: &Checked<'_>,
+    fault: &Fault<'_>,
+) -> Result<Option<CallHelp>, AllocError>
+    ensures { IfOk result (λ o. option_map seen_help o
+        ≡ text_help (seen_call call.now) (message (seen_text_fault fault.now))) }
+{
+    let error = fault.error(alloc)?;
+    match &error.suggestion {
         Suggestion::ReorderFormatParameter(span, text) => {
-            let help = replacing(alloc, bytes_at(&span), &text)?;
+            let help = replacing(alloc, bytes_at(span), text)?;
             Ok(Some(help))
         }
-        Suggestion::None
-        | Suggestion::UsePositional
-        | Suggestion::RemoveRawIdent(_)
-        | Suggestion::AddMissingColon(_)
-        | Suggestion::UseRustDebugPrintingMacro => Ok(None),
+        Suggestion::UsePositional => {
+            let help = positional_help(alloc, call.given, &error.span)?;
+            Ok(Some(help))
+        }
+        Suggestion::UseRustDebugPrintingMacro => debug_help(alloc, &call.kept),
+        Suggestion::None | Suggestion::RemoveRawIdent(_) | Suggestion::AddMissingColon(_) => {
+            Ok(None)
+        }
     }
 }
 
@@ -192,9 +287,8 @@ impl<'a> Checked<'a> {
     ghost use Rattle.call_faults.specs.Seen.{seen_call, seen_fault, seen_help};
 
     /// Returns what rustc suggests for one of the faults, or `None` if it suggests nothing or does
-    /// so in a label. The suggestions for which the source of the call is needed are left out: to
-    /// pass a field as an argument, to use `dbg!`, and those for the directives of other languages.
-    /// Returns `Err` if an allocation fails.
+    /// so in a label. The suggestions for the directives of other languages are left out. Returns
+    /// `Err` if an allocation fails.
     #[tactic(auto, unfolding(crate::specs::Notes::help))]
     pub fn help(&self, alloc: Global, fault: &CallFault<'a>) -> Result<Option<CallHelp>, AllocError>
         ensures { IfOk result (λ o. option_map seen_help o
@@ -206,7 +300,7 @@ impl<'a> Checked<'a> {
             | CallFault::MissingName { .. }
             | CallFault::UnknownTrait { .. }
             | CallFault::MissingArguments(_) => Ok(None),
-            CallFault::Text(fault) => text_help(alloc, fault),
+            CallFault::Text(fault) => text_help(alloc, self, fault),
             CallFault::UnusedArguments(unused) => unused_help(alloc, self, unused.len()),
             CallFault::RedundantArguments(redundant) => {
                 redundant_help(alloc, self.given, redundant)

@@ -16,6 +16,7 @@ struct Unread {
     suffix: usize,
     inner: usize,
     expression: usize,
+    empty: usize,
     redefined: usize,
     malformed: usize,
 }
@@ -61,7 +62,7 @@ impl Unread {
     }
 
     /// Returns how many calls there are for each reason, with the reason.
-    fn rows(&self) -> [(usize, &'static str); 8] {
+    fn rows(&self) -> [(usize, &'static str); 9] {
         [
             (self.missing, "no format string"),
             (self.edition, "a lone message, before the edition 2021"),
@@ -70,6 +71,7 @@ impl Unread {
             (self.inner, "a macro inside"),
             (self.expression, "another expression"),
             (self.suffix, "a literal with a suffix"),
+            (self.empty, "no expression before a comma"),
             (self.malformed, "a literal with a wrong escape"),
         ]
     }
@@ -90,6 +92,7 @@ impl Totals {
                 suffix: 0,
                 inner: 0,
                 expression: 0,
+                empty: 0,
                 redefined: 0,
                 malformed: 0,
             },
@@ -106,6 +109,7 @@ impl Totals {
             CallReading::Whole => count(&mut self.whole),
             CallReading::StringAlone => count(&mut self.alone),
             CallReading::Redefined => count(&mut self.unread.redefined),
+            CallReading::NoExpression => count(&mut self.unread.empty),
             CallReading::Malformed => count(&mut self.unread.malformed),
             CallReading::Unread(reason) => self.unread.add(reason),
         }

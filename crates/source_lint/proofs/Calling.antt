@@ -1,7 +1,7 @@
 -- A call that is read.
 use Rattle.std.proofs.Common.{◌≡◌, ◌<◌, ◌≤◌, ◌+◌, ◌-◌, ◌⊎◌, ℕ, Bool, false, List, Option, None}
-use Rattle.std.proofs.Common.{Some, inl, inr, sym, subst, ◌∙◌, length, length-drop, arith, drop}
-use Rattle.std.proofs.Common.{take}
+use Rattle.std.proofs.Common.{Some, inl, inr, refl, sym, subst, ◌∙◌, length, length-drop, arith, drop}
+use Rattle.std.proofs.Common.{take, true, []}
 use Rattle.std.specs.Prelude.{Result, slice_get}
 use Rattle.std.proofs.lemmas.Bool.{cases_lt}
 use Rattle.std.proofs.lemmas.List.{take_all}
@@ -18,7 +18,9 @@ use Rattle.format_calls.specs.declared.strings.Reason.{Reason}
 use Rattle.call_faults.specs.Arguments.{Given}
 use Rattle.source_lint.specs.declared.report.CallReading.{CallReading}
 use Rattle.source_lint.specs.declared.report.Finding.{Finding}
-use Rattle.source_lint.specs.Readings.{ReadsBy, ReadsLiteral, ReadsUnless}
+use Rattle.source_lint.specs.declared.report.CallReading.TheVariants.{NoExpression}
+use Rattle.std.specs.List.{list_any}
+use Rattle.source_lint.specs.Readings.{ReadsBy, ReadsFull, ReadsLiteral, ReadsUnless, is_empty}
 
 -- One token opens the pair that a token closes.
 pub opening-once : (xs : List Leaf) (m n c : ℕ) → IsPair xs m c → IsPair xs n c → m ≡ n
@@ -58,11 +60,24 @@ reads-by t a b p q m n gs hs r fs e f g h k =
 -- The reading of a call whose macro the file does not define.
 pub reads-here : (is_new t : Bool) (xs : List Leaf) (c : Call) (bs : List Argument)
     (o : Result ℕ Reason) (r : CallReading) (fs : List Finding) → false ≡ t
-    → AreArguments xs (c.name + 3) bs c.close → o ≡ format_string xs c.rule bs is_new
+    → AreArguments xs (c.name + 3) bs c.close → false ≡ list_any is_empty bs
+    → o ≡ format_string xs c.rule bs is_new
     → ReadsBy is_new xs c bs o r fs → ReadsUnless t is_new xs c r fs
-reads-here is_new t xs c bs o r fs n a e h =
-    subst (λ v. ReadsUnless v is_new xs c r fs) n
-    (bs, a, subst (λ v. ReadsBy is_new xs c bs v r fs) e h)
+reads-here is_new t xs c bs o r fs n a g e h =
+    subst (λ v. ReadsUnless v is_new xs c r fs) n (
+      bs,
+      a,
+      subst (λ v. ReadsFull v is_new xs c bs r fs) g
+          (subst (λ v. ReadsBy is_new xs c bs v r fs) e h),
+    )
+
+-- The reading of a call that lacks an expression.
+pub lacks-here : (is_new t : Bool) (xs : List Leaf) (c : Call) (bs : List Argument) → false ≡ t
+    → AreArguments xs (c.name + 3) bs c.close → true ≡ list_any is_empty bs
+    → ReadsUnless t is_new xs c NoExpression []
+lacks-here is_new t xs c bs n a g =
+    subst (λ v. ReadsUnless v is_new xs c NoExpression []) n
+    (bs, a, subst (λ v. ReadsFull v is_new xs c bs NoExpression []) g (refl, refl))
 
 -- The arguments of a call, by the pair that its last token closes.
 pub arguments-here : (xs : List Leaf) (c : Call) (bs ds : List Argument) (n : ℕ) → ds ≡ bs

@@ -1,36 +1,128 @@
 -- The macros that a file defines, one token after the other.
-use Rattle.std.proofs.Common.{◌≡◌, ◌++◌, ℕ, List, [], ◌∷◌, Option, None, Some, ap, sym, ◌∙◌}
-use Rattle.std.proofs.lemmas.List.{append_assoc, append-nil}
+use Rattle.std.proofs.Common.{◌≡◌, ◌||◌, ℕ, List, [], ◌∷◌, Bool, true, false, Option, None, Some}
+use Rattle.std.proofs.Common.{ap, cond, map, refl, subst, sym, ◌∙◌}
+use Rattle.std.specs.BTreeMap.{is_at}
+use Rattle.std.specs.BTreeSet.{BTreeSet, UpdatesBy}
+use Rattle.std.specs.Cmp.Lexicographic.{nat_list_eq_equiv, slice_cmp}
+use Rattle.std.specs.List.{list_any}
+use Rattle.std.specs.Ordering.{is_eq, nat_cmp}
+use Rattle.std.specs.Str.{bytes_eq}
+use denote.Ref.{Bor}
+use Rattle.std.proofs.Math.Bool.{or_assoc}
+use Rattle.std.proofs.lemmas.List.Folds.{list_any-append}
+use Rattle.std.proofs.lemmas.Map.Text.{is_eq-slice_cmp}
 use Rattle.rust_trees.specs.Leaves.{AreLeft, Leaf, Unread}
-use Rattle.source_lint.specs.Macros.{definition, macro_names, names_after}
+use Rattle.format_calls.specs.declared.listing.Call.{Call}
+use Rattle.source_lint.specs.declared.report.CallReading.{CallReading}
+use Rattle.source_lint.specs.declared.report.Finding.{Finding}
+use Rattle.source_lint.specs.Macros.{begins_definition, definition, macro_names, names_after}
+use Rattle.source_lint.specs.Macros.{names_in}
+use Rattle.format_calls.specs.Marks.{is_word, word}
+use Rattle.source_lint.specs.Readings.{ReadsAll, ReadsUnless, name_at}
+use Rattle.source_lint.specs.Reports.{ReadsCalls}
+use Rattle.format_calls.specs.Rows.{Entry}
+
+-- These names are those that a set has.
+abbrev pub has : List (List ℕ) → List ℕ → Bool
+has ds n = list_any (bytes_eq n) ds
+
+keys-have : (n : List ℕ) (ks : List (Bor (List ℕ)))
+    → list_any (is_at (λ k. slice_cmp nat_cmp n k.now)) ks ≡ has (map (λ k. k.now) ks) n
+keys-have n [] = refl
+keys-have n (k ∷ ks) =
+    ap (λ b. b || list_any (is_at (λ j. slice_cmp nat_cmp n j.now)) ks) (is_eq-slice_cmp n k.now)
+    ∙ ap (λ b. bytes_eq n k.now || b) (keys-have n ks)
+
+-- whether a set has a name
+pub set-has : (s : BTreeSet (Bor (List ℕ))) (n : List ℕ)
+    → list_any (is_at (λ k. slice_cmp nat_cmp n k.now)) s.keys ≡ has (names_in s) n
+set-has s n = keys-have n s.keys
+
+cond-or : (a b : Bool) → cond a true b ≡ (b || (a || false))
+cond-or true true = refl
+cond-or true false = refl
+cond-or false true = refl
+cond-or false false = refl
+
+-- a set with a name more
+pub has-added : (old new : BTreeSet (Bor (List ℕ))) (w : Bor (List ℕ)) →
+    UpdatesBy (λ x y. slice_cmp nat_cmp x.now y.now)
+    (λ k. slice_cmp nat_cmp w.now k.now) old new true →
+    (n : List ℕ) → has (names_in new) n ≡ (has (names_in old) n || has (w.now ∷ []) n)
+has-added old new w h n = sym (set-has new n)
+    ∙ h.0 (record { ref_ptr = (0, 0); now = n })
+    ∙ cond-or (is_eq (slice_cmp nat_cmp w.now n)) _
+    ∙ ap (λ b. b || (is_eq (slice_cmp nat_cmp w.now n) || false)) (set-has old n)
+    ∙ ap (λ b. has (names_in old) n || (b || false))
+    (is_eq-slice_cmp w.now n ∙ nat_list_eq_equiv.symm w.now n)
+
+pub defined-here : (w m : Option Leaf) (x : Leaf) → begins_definition w m ≡ true
+    → is_word x ≡ true → definition w m x ≡ word x ∷ []
+defined-here w m x e f = rw (e, f) refl
 
 -- The names that were found of a file, where the tokens of u are left, and two stand before them.
 abbrev pub Defines : Unread → Unread → List (List ℕ) → Option Leaf → Option Leaf → Type 0
 Defines start u found w m = (left : List Leaf) → AreLeft u left → (all : List Leaf)
-    × AreLeft start all × (macro_names all ≡ found ++ names_after w m left)
+    × AreLeft start all
+    × ((n : List ℕ) → has (macro_names all) n ≡ (has found n || has (names_after w m left) n))
 
 pub defines-none : (u : Unread) (found : List (List ℕ)) → found ≡ []
     → Defines u u found None None
 defines-none u found e = λ left l. (
   left,
   l,
-  ap (λ v. v ++ names_after None None left) (sym e),
+  λ n. ap (λ v. has v n || has (names_after None None left) n) (sym e),
 )
 
 pub defines-more : (start u next : Unread) (found more : List (List ℕ)) (w m : Option Leaf)
     (x : Leaf) → Defines start u found w m
     → ((ls : List Leaf) → AreLeft next ls → AreLeft u (x ∷ ls))
-    → more ≡ found ++ definition w m x → Defines start next more m (Some x)
+    → ((n : List ℕ) → has more n ≡ (has found n || has (definition w m x) n))
+    → Defines start next more m (Some x)
 defines-more start u next found more w m x h step e = λ left l.
     let t = h (x ∷ left) (step left l) in (
       t.0,
       t.1,
-      t.2 ∙ (sym (append_assoc found (definition w m x) (names_after m (Some x) left))
-          ∙ ap (λ v. v ++ names_after m (Some x) left) (sym e)),
+      λ n. t.2 n
+          ∙ ap (λ b. has found n || b)
+          (list_any-append (bytes_eq n) (definition w m x) (names_after m (Some x) left))
+          ∙ sym (or_assoc (has found n) (has (definition w m x) n)
+          (has (names_after m (Some x) left) n))
+          ∙ ap (λ b. b || has (names_after m (Some x) left) n) (sym (e n)),
     )
+
+or-none : (b : Bool) → (b || false) ≡ b
+or-none true = refl
+or-none false = refl
 
 pub defines-all : (start u : Unread) (found : List (List ℕ)) (w m : Option Leaf)
     → Defines start u found w m → AreLeft u []
-    → (all : List Leaf) × AreLeft start all × (found ≡ macro_names all)
+    → (all : List Leaf) × AreLeft start all
+    × ((n : List ℕ) → has found n ≡ has (macro_names all) n)
 defines-all start u found w m h l =
-    let t = h [] l in (t.0, t.1, sym (t.2 ∙ append-nil found))
+    let t = h [] l in (t.0, t.1, λ n. sym (t.2 n ∙ or-none (has found n)))
+
+-- the calls of a file are read in the same way by names that are the same
+all-same : (ds es : List (List ℕ)) (is_new : Bool) (xs : List Leaf)
+    → ((n : List ℕ) → has ds n ≡ has es n) → (cs : List Call) (rs : List CallReading)
+    (fs : List Finding) → ReadsAll ds is_new xs cs rs fs → ReadsAll es is_new xs cs rs fs
+all-same ds es is_new xs e [] rs fs h = h
+all-same ds es is_new xs e (c ∷ cs) rs fs h = (
+  h.0,
+  h.1,
+  h.2,
+  h.3,
+  h.4,
+  h.5,
+  subst (λ t. ReadsUnless t is_new xs c h.0 h.2) (e (name_at xs c.name)) h.6,
+  all-same ds es is_new xs e cs h.1 h.3 h.7,
+)
+
+pub calls-same : (entries : List Entry) (ds es : List (List ℕ)) (is_new : Bool) (xs : List Leaf)
+    (rs : List CallReading) (fs : List Finding) → ((n : List ℕ) → has ds n ≡ has es n)
+    → ReadsCalls entries ds is_new xs rs fs → ReadsCalls entries es is_new xs rs fs
+calls-same entries ds es is_new xs rs fs e h = record {
+  calls = h.calls;
+  are_calls = h.are_calls;
+  reads = all-same ds es is_new xs e h.calls rs fs h.reads;
+}

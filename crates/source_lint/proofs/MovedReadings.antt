@@ -1,9 +1,10 @@
 -- The reading of a call among other tokens.
-use Rattle.std.proofs.Common.{◌≡◌, ◌<◌, ◌+◌, ℕ, Bool, true, false, List, ap, sym}
+use Rattle.std.proofs.Common.{◌≡◌, ◌<◌, ◌+◌, ◌∷◌, ◌||◌, [], ℕ, Bool, true, false, List, ap, refl, sym}
 use Rattle.std.proofs.Common.{subst, ◌∙◌, length, arith, map}
-use Rattle.std.specs.Prelude.{Result, Ok, Err, not, option_map}
+use Rattle.std.specs.Prelude.{Result, Ok, Err, not, option_map, ◌==◌}
 use Rattle.std.specs.List.{list_any}
 use Rattle.std.specs.Str.{bytes_eq}
+use Rattle.std.proofs.lemmas.Bool.Decides.{Decides-eqb, Decides-like, same_from_decides}
 use Rattle.std.proofs.lemmas.Option.{slice_get-map}
 use Rattle.rust_trees.specs.Leaves.{Leaf}
 use Rattle.rust_trees.specs.Forests.{IsPair}
@@ -17,8 +18,8 @@ use Rattle.format_calls.specs.declared.strings.Reason.{Reason}
 use Rattle.source_lint.specs.declared.report.CallReading.{CallReading}
 use Rattle.source_lint.specs.declared.report.Finding.{Finding}
 use Rattle.source_lint.specs.Literals.{appends_newline}
-use Rattle.source_lint.specs.Readings.{Reads, ReadsAt, ReadsBy, ReadsUnless, captures, name_at}
-use Rattle.source_lint.specs.Readings.{name_of_leaf}
+use Rattle.source_lint.specs.Readings.{Reads, ReadsAt, ReadsBy, ReadsFull, ReadsUnless, captures}
+use Rattle.source_lint.specs.Readings.{is_empty, name_at, name_of_leaf}
 use Rattle.source_lint.proofs.Calling.{reads-by}
 use Rattle.source_lint.proofs.Embedding.{Embeds}
 use Rattle.source_lint.proofs.MovedArguments.{LiesIn, arguments-at, arguments-lie, counted-at}
@@ -66,6 +67,32 @@ by-same : (is_new : Bool) (xs ys : List Leaf) (g : ℕ) (c : Call) (bs : List Ar
 by-same is_new xs ys g c bs (Ok n) r fs e p k h = at-same is_new xs ys g c bs n r fs e p k h
 by-same is_new xs ys g c bs (Err x) r fs e p k h = h
 
+-- an argument is as long as before
+same-length : (g m n : ℕ) → ((g + m) == (g + n)) ≡ (m == n)
+same-length g m n = same_from_decides {P = m ≡ n} _ _
+    (Decides-like ((g + m) == (g + n)) (λ e. omega (arith, e)) (λ e. ap (λ v. g + v) e)
+    (Decides-eqb (g + m) (g + n)))
+    (Decides-eqb m n)
+
+empty-same : (g : ℕ) (bs : List Argument)
+    → list_any is_empty (map (shifted g) bs) ≡ list_any is_empty bs
+empty-same g [] = refl
+empty-same g (b ∷ bs) =
+    ap (λ t. t || list_any is_empty (map (shifted g) bs)) (same-length g b.start b.end)
+    ∙ ap (λ t. is_empty b || t) (empty-same g bs)
+
+full-same : (b is_new : Bool) (xs ys : List Leaf) (g : ℕ) (c : Call) (bs : List Argument)
+    (r : CallReading) (fs : List Finding) → Embeds xs ys g → IsPair xs (c.name + 2) c.close
+    → c.close < length xs → AreArguments xs (c.name + 3) bs c.close
+    → ReadsFull b is_new xs c bs r fs
+    → ReadsFull b is_new ys (moved g c) (map (shifted g) bs) r fs
+full-same true is_new xs ys g c bs r fs e p w k h = h
+full-same false is_new xs ys g c bs r fs e p w k h =
+    subst (λ v. ReadsBy is_new ys (moved g c) (map (shifted g) bs) v r fs)
+    (sym (string-same xs ys g (c.name + 3) c.close c.rule bs is_new e w
+    (arguments-lie xs (c.name + 3) c.close bs k)))
+    (by-same is_new xs ys g c bs (format_string xs c.rule bs is_new) r fs e p k h)
+
 unless-same : (b is_new : Bool) (xs ys : List Leaf) (g : ℕ) (c : Call) (r : CallReading)
     (fs : List Finding) → Embeds xs ys g → IsPair xs (c.name + 2) c.close
     → ReadsUnless b is_new xs c r fs → ReadsUnless b is_new ys (moved g c) r fs
@@ -76,10 +103,9 @@ unless-same false is_new xs ys g c r fs e p h =
       map (shifted g) h.0,
       subst (λ v. AreArguments ys v (map (shifted g) h.0) (g + c.close)) n
           (arguments-at xs ys g (c.name + 2) c.close (c.name + 3) h.0 e p (omega arith) h.1),
-      subst (λ v. ReadsBy is_new ys (moved g c) (map (shifted g) h.0) v r fs)
-          (sym (string-same xs ys g (c.name + 3) c.close c.rule h.0 is_new e w
-          (arguments-lie xs (c.name + 3) c.close h.0 h.1)))
-          (by-same is_new xs ys g c h.0 (format_string xs c.rule h.0 is_new) r fs e p h.1 h.2),
+      subst (λ v. ReadsFull v is_new ys (moved g c) (map (shifted g) h.0) r fs)
+          (sym (empty-same g h.0))
+          (full-same (list_any is_empty h.0) is_new xs ys g c h.0 r fs e p w h.1 h.2),
     )
 
 -- The same is read, and the same is found.

@@ -1,7 +1,9 @@
 -- The macros that a file defines by `macro_rules!`.
 use Prim.Native.Char.{code}
 use Rattle.std.specs.Prelude.{ℕ, Bool, false, ◌&&◌, ◌++◌, List, [], ◌∷◌, Option, Some, None}
-use Rattle.std.specs.Prelude.{codes, if◌then◌else◌}
+use Rattle.std.specs.Prelude.{codes, if◌then◌else◌, map}
+use Rattle.std.specs.BTreeSet.{BTreeSet}
+use denote.Ref.{Bor}
 use Rattle.rust_trees.specs.Leaves.{Leaf}
 use Rattle.format_calls.specs.Marks.{is_mark_of, is_word, word}
 use Rattle.format_calls.specs.Modes.{is_text}
@@ -28,3 +30,7 @@ names_after w m (x ∷ xs) = definition w m x ++ names_after m (Some x) xs
 -- The names of the macros that these tokens define.
 abbrev pub macro_names : List Leaf → List (List ℕ)
 macro_names xs = names_after None None xs
+
+-- The names that a set has.
+abbrev pub names_in : BTreeSet (Bor (List ℕ)) → List (List ℕ)
+names_in s = map (λ k. k.now) s.keys

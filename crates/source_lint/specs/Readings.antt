@@ -1,7 +1,7 @@
 -- The reading of a call, and the findings in it.
 use Rattle.std.specs.Prelude.{◌≡◌, ◌+◌, ◌++◌, ◌⊎◌, ◌||◌, not, ℕ, Bool, true, false, List, [], ◌∷◌}
 use Rattle.std.specs.Prelude.{Option, Some, None, Result, Ok, Err, chars, codes, drop, map}
-use Rattle.std.specs.Prelude.{slice_get}
+use Rattle.std.specs.Prelude.{slice_get, ◌==◌}
 use Rattle.std.specs.List.{list_any}
 use Rattle.std.specs.Str.{bytes_eq}
 use Rattle.rustc_parse_format.specs.Characters.{Text}
@@ -26,7 +26,7 @@ use Rattle.call_faults.specs.Labels.{Call as CheckedCall}
 use Rattle.call_faults.specs.Texts.{text_fault}
 use Rattle.source_lint.specs.declared.report.CallReading.{CallReading}
 use Rattle.source_lint.specs.declared.report.CallReading.TheVariants.{Whole, StringAlone, Redefined}
-use Rattle.source_lint.specs.declared.report.CallReading.TheVariants.{Unread, Malformed}
+use Rattle.source_lint.specs.declared.report.CallReading.TheVariants.{NoExpression, Unread, Malformed}
 use Rattle.source_lint.specs.declared.report.Finding.{Finding}
 use Rattle.source_lint.specs.Findings.{AreFindings}
 use Rattle.source_lint.specs.Givens.{given}
@@ -112,12 +112,23 @@ abbrev pub ReadsBy : Bool → List Leaf → Call → List Argument → Result �
 ReadsBy is_new xs c args (Ok n) r fs = ReadsAt is_new xs c args n r fs
 ReadsBy is_new xs c args (Err e) r fs = (r ≡ Unread e) × (fs ≡ [])
 
+-- No token stands where the argument should.
+abbrev pub is_empty : Argument → Bool
+is_empty a = a.start == a.end
+
+-- The same, unless no token stands where an argument should.
+abbrev pub ReadsFull : Bool → Bool → List Leaf → Call → List Argument → CallReading → List Finding
+    → Type 0
+ReadsFull true is_new xs c args r fs = (r ≡ NoExpression) × (fs ≡ [])
+ReadsFull false is_new xs c args r fs =
+    ReadsBy is_new xs c args (format_string xs c.rule args is_new) r fs
+
 -- The same, unless the file defines a macro of this name.
 abbrev pub ReadsUnless : Bool → Bool → List Leaf → Call → CallReading → List Finding → Type 0
 ReadsUnless true is_new xs c r fs = (r ≡ Redefined) × (fs ≡ [])
 ReadsUnless false is_new xs c r fs = (args : List Argument)
     × AreArguments xs (c.name + 3) args c.close
-    × ReadsBy is_new xs c args (format_string xs c.rule args is_new) r fs
+    × ReadsFull (list_any is_empty args) is_new xs c args r fs
 
 -- This is the reading of a call, and these are the findings in it, where the file defines macros of
 -- these names, and its edition is from 2021 on or not.

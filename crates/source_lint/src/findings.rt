@@ -1,17 +1,17 @@
 //! The findings of a call: its faults, in words and with their places in the file.
 
-ghost use Rattle.std.specs.Prelude.{◌≡◌, ◌++◌, ◌∷◌, [], List, IfOk, OnOk, map};
+ghost use Rattle.std.specs.Prelude.{◌≡◌, ◌++◌, ◌∷◌, [], List, IfOk, OnOk, map, option_map};
 ghost use Rattle.std.specs.List.{All};
 ghost use Rattle.call_faults.specs.CallFaults.{is_warning};
-ghost use Rattle.call_faults.specs.Seen.{seen_call, seen_fault};
+ghost use Rattle.call_faults.specs.Seen.{seen_call, seen_edit, seen_fault, seen_help};
 ghost use Rattle.source_lint.specs.Findings.{AreFindings, HasSpans, TellAll, Tells};
-ghost use Rattle.source_lint.specs.Findings.{counted_faults, is_text_fault};
+ghost use Rattle.source_lint.specs.Findings.{copies, counted_faults, counted_help, is_text_fault};
 ghost use Rattle.source_lint.specs.declared.report.Finding.{Finding as FindingValue};
 
 use crate::labels::{help, labels, notes, primary_span};
 use crate::report::Finding;
 use crate::spans::Site;
-use call_faults::{CallFault, Checked};
+use call_faults::{CallEdit, CallFault, CallHelp, Checked};
 use std::alloc::{AllocError, Global};
 
 /// Returns whether a fault is only a warning.
@@ -28,14 +28,46 @@ fn is_text_fault(fault: &CallFault<'_>) -> bool
     matches!(fault, CallFault::Text(_))
 }
 
-/// Returns the finding of a fault of a call. Returns `Err` if an allocation fails.
+/// Returns whether one of these edits copies source.
+fn copies(edits: &[CallEdit]) -> bool
+    ensures { result ≡ copies (map seen_edit edits.now) }
+{
+    for edit in edits {
+        if edit.copied.is_some() {
+            return true;
+        }
+    }
+    false
+}
+
+/// Returns the help that counts where the number of arguments is known, and where it is not.
+fn counted_help(help: Option<CallHelp>, is_whole: bool) -> Option<CallHelp>
+    ensures { option_map seen_help result
+        ≡ counted_help is_whole (option_map seen_help help.entry) }
+{
+    match help {
+        None => None,
+        Some(help) => {
+            if is_whole || !copies(&help.edits) {
+                Some(help)
+            } else {
+                None
+            }
+        }
+    }
+}
+
+/// Returns the finding of a fault of a call, whose number of arguments is known or not. Returns
+/// `Err` if an allocation fails.
 fn finding<'c>(
     alloc: Global,
     site: Site<'_, '_>,
     checked: &Checked<'c>,
     fault: &CallFault<'c>,
+    is_whole: bool,
 ) -> Result<Finding, AllocError>
-    ensures tells { IfOk result (λ x. Tells (seen_call checked.now) (seen_fault fault.now) x) }
+    ensures tells { IfOk result (λ x.
+        Tells is_whole (seen_call checked.now) (seen_fault fault.now) x) }
     ensures spans { IfOk result (λ x. HasSpans site.entry.text.now x) }
 {
     let mut title = String::new(alloc);
@@ -43,7 +75,8 @@ fn finding<'c>(
     let labels = labels(alloc, site, checked.labels(alloc, fault)?)?;
     let span = primary_span(site, &labels);
     let notes = notes(alloc, site, checked.notes(alloc, fault)?)?;
-    let help = help(alloc, site, checked.help(alloc, fault)?)?;
+    let counted = counted_help(checked.help(alloc, fault)?, is_whole);
+    let help = help(alloc, site, counted)?;
     Ok(Finding {
         is_warning: is_warning(fault),
         id: fault.id(),
@@ -67,13 +100,13 @@ fn put_finding<'c>(
 ) -> Result<(), AllocError>
     ensures told { OnOk result ((xs : List FindingValue)
         × (findings.new.items ≡ findings.old.items ++ xs)
-        × TellAll (seen_call checked.now) (counted_faults is_whole (seen_fault fault.now ∷ []))
-        xs) }
+        × TellAll is_whole (seen_call checked.now)
+        (counted_faults is_whole (seen_fault fault.now ∷ [])) xs) }
     ensures spans { OnOk result (All (HasSpans site.entry.text.now) findings.old.items
         → All (HasSpans site.entry.text.now) findings.new.items) }
 {
     if is_whole || is_text_fault(fault) {
-        findings.push(finding(alloc, site, checked, fault)?)?;
+        findings.push(finding(alloc, site, checked, fault, is_whole)?)?;
     }
     Ok(())
 }

@@ -1,9 +1,10 @@
 //! The labels, notes and helps of findings, with their ranges in the file.
 
-ghost use Rattle.std.specs.Prelude.{◌≡◌, IfOk, IfSome, length, map, option_map, string_bytes};
+ghost use Rattle.std.specs.Prelude.{◌≡◌, ◌++◌, ℕ, List, IfOk, IfSome, OnOk, length, map, option_map};
+ghost use Rattle.std.specs.Prelude.{string_bytes};
 ghost use Rattle.std.specs.List.{All};
 ghost use Rattle.call_faults.specs.Seen.{seen_edit, seen_help, seen_label, seen_note};
-ghost use Rattle.source_lint.specs.Findings.{IsSpan};
+ghost use Rattle.source_lint.specs.Findings.{Copies, HasText, IsSpan, TellEdits, TellsHelp};
 
 use crate::report::{Edit, Help, Label, Note};
 use crate::spans::{Site, range_in, spot_range};
@@ -74,18 +75,43 @@ pub fn notes(
     Ok(found)
 }
 
+/// Appends the source of a place of a call, if there is one. Returns `Err` if an allocation fails.
+fn put_copied(
+    out: &mut String,
+    site: Site<'_, '_>,
+    copied: Option<Spot>,
+) -> Result<(), AllocError>
+    ensures { OnOk result ((s : List ℕ) × (string_bytes out.new ≡ string_bytes out.old ++ s)
+        × Copies copied s) }
+{
+    if let Some(spot) = copied {
+        let range = spot_range(site, spot);
+        out.push_str(&site.text[range.start..range.end])?;
+    }
+    Ok(())
+}
+
+/// Returns the new text of an edit, from that before the source that it copies, that source and the
+/// rest. Returns `Err` if an allocation fails.
+fn edit_text(site: Site<'_, '_>, edit: CallEdit) -> Result<String, AllocError>
+    ensures { IfOk result (λ t. HasText (seen_edit edit.entry) (string_bytes t)) }
+{
+    let mut text = edit.text;
+    put_copied(&mut text, site, edit.copied)?;
+    text.push_str(edit.rest)?;
+    Ok(text)
+}
+
 /// Returns edits of a call with their ranges. Returns `Err` if an allocation fails.
 fn edits(alloc: Global, site: Site<'_, '_>, edits: Vec<CallEdit>) -> Result<Vec<Edit>, AllocError>
-    ensures texts { IfOk result (λ v. map (λ x. string_bytes x.text) v.items
-        ≡ map (λ e. e.text) (map seen_edit edits.items)) }
+    ensures told { IfOk result (λ v. TellEdits (map seen_edit edits.items) v.items) }
     ensures spans { IfOk result (λ v. All (λ x. IsSpan site.entry.text.now x.range) v.items) }
 {
     let mut found = Vec::new(alloc);
     for edit in edits {
-        found.push(Edit {
-            range: spot_range(site, edit.spot),
-            text: edit.text,
-        })?;
+        let range = spot_range(site, edit.spot);
+        let text = edit_text(site, edit)?;
+        found.push(Edit { range, text })?;
     }
     Ok(found)
 }
@@ -96,10 +122,7 @@ pub fn help(
     site: Site<'_, '_>,
     help: Option<CallHelp>,
 ) -> Result<Option<Help>, AllocError>
-    ensures text { IfOk result (λ o. option_map (λ x. string_bytes x.text) o
-        ≡ option_map (λ h. h.text) (option_map seen_help help)) }
-    ensures edits { IfOk result (λ o. option_map (λ x. map (λ e. string_bytes e.text) x.edits.items)
-        o ≡ option_map (λ h. map (λ e. e.text) h.edits) (option_map seen_help help)) }
+    ensures told { IfOk result (λ o. TellsHelp (option_map seen_help help) o) }
     ensures spans { IfOk result (λ o. IfSome o (λ x. All (λ e. IsSpan site.entry.text.now e.range)
         x.edits.items)) }
 {

@@ -7,6 +7,7 @@ ghost use Rattle.rust_trees.specs.Leaves.{Leaf};
 ghost use Rattle.format_calls.specs.Rows.{entry};
 ghost use Rattle.source_lint.specs.Files.{AreLeaves};
 ghost use Rattle.source_lint.specs.Findings.{HasSpans};
+ghost use Rattle.source_lint.specs.Macros.{names_in};
 ghost use Rattle.source_lint.specs.Reports.{IsReport, ReadsCalls};
 ghost use Rattle.source_lint.specs.declared.report.CallReading.{CallReading as ReadingValue};
 ghost use Rattle.source_lint.specs.declared.report.Finding.{Finding as FindingValue};
@@ -28,17 +29,17 @@ struct Readings {
 
 /// Reads the calls of a part of a file, one after the other, and adds how much of each is read and
 /// its findings. Returns `Err` if an allocation fails.
-fn read_part(
+fn read_part<'a>(
     alloc: Global,
     found: &mut Readings,
-    file: File<'_, '_>,
-    part: &Source<'_>,
+    file: File<'_, 'a>,
+    part: &Source<'a>,
     table: &Table<'_>,
 ) -> Result<(), AllocError>
     ensures read { OnOk result ((rs : List ReadingValue) × (xs : List FindingValue)
         × (found.new.calls.items ≡ found.old.calls.items ++ rs)
         × (found.new.findings.items ≡ found.old.findings.items ++ xs)
-        × ReadsCalls (map entry table.now.rows.items) (map (λ w. w.now) file.entry.macros.now)
+        × ReadsCalls (map entry table.now.rows.items) (names_in file.entry.macros.now)
         file.entry.is_from_2021 part.now rs xs) }
     ensures spans { OnOk result (All (HasSpans file.entry.text.now)
         found.old.findings.items
@@ -63,7 +64,7 @@ fn read_file(
     balance: &mut Balance,
 ) -> Result<Readings, AllocError>
     ensures read { IfOk result (λ f. (ls : List Leaf) × AreLeaves file.entry.text.now ls
-        × ReadsCalls (map entry table.now.rows.items) (map (λ w. w.now) file.entry.macros.now)
+        × ReadsCalls (map entry table.now.rows.items) (names_in file.entry.macros.now)
         file.entry.is_from_2021 ls f.calls.items f.findings.items
         × ((w : List Leaf) → IsBalanced w balance.old → IsBalanced (w ++ ls) balance.new)) }
     ensures spans { IfOk result (λ f. All (HasSpans file.entry.text.now)
@@ -91,7 +92,7 @@ pub fn file_faults(alloc: Global, text: &str, options: &Options<'_>) -> Result<R
     let names = macro_names(alloc, text)?;
     let file = File {
         text,
-        macros: names.as_slice(),
+        macros: &names,
         is_from_2021: options.is_from_2021,
     };
     let mut balance = Balance::new(alloc);

@@ -102,29 +102,37 @@ pub fn read_literal(
     }))
 }
 
-/// Returns the byte offset in a token of a byte offset in its literal with lines that end with LF:
-/// the CRs before it count, if the token has any.
-pub fn offset_in(token: &str, has_crs: bool, offset: usize) -> usize {
-    if !has_crs {
-        return offset;
+/// Returns the CRs of a token that its literal with lines that end with LF does not have, each as
+/// the byte offset in that literal of the LF after it, in ascending order. Returns `Err` if an
+/// allocation fails.
+pub fn dropped_crs(alloc: Global, token: &str) -> Result<Vec<usize>, AllocError> {
+    let mut found = Vec::new(alloc);
+    if !token.contains('\r') {
+        return Ok(found);
     }
-    let mut passed = 0;
-    let mut left = offset;
     let mut rest = token;
     while let Some((c, more)) = split_first(rest) {
-        let width = rest.len() - more.len();
         if is_dropped(c, more) {
-            if left == 0 {
-                return passed;
-            }
-        } else {
-            if left < width {
-                return passed;
-            }
-            left -= width;
+            let passed = token.len().saturating_sub(rest.len());
+            found.push(passed.saturating_sub(found.len()))?;
         }
-        passed = token.len() - more.len();
         rest = more;
     }
-    passed
+    Ok(found)
+}
+
+/// Returns the byte offset in a token of a byte offset in its literal with lines that end with LF,
+/// which does not have these CRs: those before it count.
+pub fn offset_in(crs: &[usize], offset: usize) -> usize {
+    let mut low = 0;
+    let mut high = crs.len();
+    while low < high {
+        let middle = low + (high - low) / 2;
+        if crs[middle] < offset {
+            low = middle + 1;
+        } else {
+            high = middle;
+        }
+    }
+    offset.saturating_add(low)
 }

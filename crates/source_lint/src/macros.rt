@@ -1,10 +1,10 @@
 //! The macros that a file defines by `macro_rules!`.
 
-ghost use Rattle.std.specs.Prelude.{◌≡◌, ◌++◌, List, IfOk, OnOk, map, option_map};
+ghost use Rattle.std.specs.Prelude.{◌≡◌, ◌||◌, ℕ, List, IfOk, OnOk, option_map};
 ghost use Rattle.std.specs.List.{list_any};
 ghost use Rattle.std.specs.Str.{bytes_eq};
 ghost use Rattle.source_lint.specs.Macros.{begins_definition, definition, is_macro_rules};
-ghost use Rattle.source_lint.specs.Macros.{macro_names};
+ghost use Rattle.source_lint.specs.Macros.{macro_names, names_in};
 ghost use Rattle.source_lint.specs.Files.{AreLeaves};
 ghost use Rattle.rust_trees.specs.Leaves.{Leaf, leaf};
 
@@ -12,6 +12,7 @@ use format_calls::{is_mark_of, is_word, word};
 use rust_tokens::Kind;
 use rust_trees::{Token, Tokens};
 use std::alloc::{AllocError, Global};
+use std::collections::BTreeSet;
 
 /// Returns whether a token is the word `macro_rules`.
 fn is_macro_rules(token: &Token<'_>) -> bool
@@ -33,28 +34,30 @@ fn begins_definition(word: Option<Token<'_>>, mark: Option<Token<'_>>) -> bool
 /// Adds the name of the macro that a token defines after two others, if it does. Returns `Err` if
 /// an allocation fails.
 fn put_definition<'a>(
-    found: &mut Vec<&'a [u8]>,
+    found: &mut BTreeSet<&'a [u8]>,
     before: Option<Token<'a>>,
     last: Option<Token<'a>>,
     token: &Token<'a>,
 ) -> Result<(), AllocError>
-    ensures { OnOk result (map (λ w. w.now) found.new.items ≡ map (λ w. w.now) found.old.items
-        ++ definition (option_map leaf before.entry) (option_map leaf last.entry)
-        (leaf token.now)) }
+    ensures { OnOk result ((n : List ℕ) → list_any (bytes_eq n) (names_in found.new)
+        ≡ (list_any (bytes_eq n) (names_in found.old) || list_any (bytes_eq n)
+        (definition (option_map leaf before.entry) (option_map leaf last.entry)
+        (leaf token.now)))) }
 {
     if begins_definition(before, last) && is_word(token) {
-        found.push(word(token))?;
+        found.insert(word(token))?;
     }
     Ok(())
 }
 
 /// Returns the names of the macros that a file defines by `macro_rules!`, without `r#`. Returns
 /// `Err` if an allocation fails.
-pub fn macro_names<'a>(alloc: Global, text: &'a str) -> Result<Vec<&'a [u8]>, AllocError>
-    ensures { IfOk result (λ v. (ls : List Leaf) × AreLeaves text.now ls
-        × (map (λ w. w.now) v.items ≡ macro_names ls)) }
+pub fn macro_names<'a>(alloc: Global, text: &'a str) -> Result<BTreeSet<&'a [u8]>, AllocError>
+    ensures { IfOk result (λ s. (ls : List Leaf) × AreLeaves text.now ls
+        × ((n : List ℕ) → list_any (bytes_eq n) (names_in s)
+        ≡ list_any (bytes_eq n) (macro_names ls))) }
 {
-    let mut found = Vec::new(alloc);
+    let mut found = BTreeSet::new(alloc);
     let mut rest = Tokens::new(text);
     let mut before = None;
     let mut last = None;
@@ -67,13 +70,8 @@ pub fn macro_names<'a>(alloc: Global, text: &'a str) -> Result<Vec<&'a [u8]>, Al
 }
 
 /// Returns whether a word is one of these names.
-pub fn is_defined(names: &[&[u8]], word: &[u8]) -> bool
-    ensures { result ≡ list_any (bytes_eq word.now) (map (λ w. w.now) names.now) }
+pub fn is_defined<'a>(names: &BTreeSet<&'a [u8]>, word: &'a [u8]) -> bool
+    ensures { result ≡ list_any (bytes_eq word.now) (names_in names.now) }
 {
-    for name in names {
-        if word == *name {
-            return true;
-        }
-    }
-    false
+    names.contains(&word)
 }

@@ -2,7 +2,7 @@
 
 ghost use Rattle.std.specs.Prelude.{◌≡◌, ◌+◌, ◌<◌, ◌^◌, ◌++◌, List, IfOk, IsTrue, OnOk, Some};
 ghost use Rattle.std.specs.Prelude.{chars, length, map, slice_get};
-ghost use Rattle.std.specs.List.{All};
+ghost use Rattle.std.specs.List.{All, list_any};
 ghost use Rattle.rustc_parse_format.specs.World.{hashes};
 ghost use Rattle.rust_trees.specs.Forests.{IsPair};
 ghost use Rattle.rust_trees.specs.Leaves.{leaf};
@@ -13,14 +13,16 @@ ghost use Rattle.call_faults.specs.Seen.{seen_given, start};
 ghost use Rattle.source_lint.specs.Findings.{AreFindings, HasSpans};
 ghost use Rattle.source_lint.specs.Givens.{given};
 ghost use Rattle.source_lint.specs.Literals.{without_crs};
+ghost use Rattle.source_lint.specs.Macros.{names_in};
 ghost use Rattle.source_lint.specs.Readings.{Reads, ReadsAt, ReadsLiteral, call_of};
-ghost use Rattle.source_lint.specs.Readings.{captures, counted_givens, name_at, reading_of};
+ghost use Rattle.source_lint.specs.Readings.{captures, counted_givens, is_empty, name_at};
+ghost use Rattle.source_lint.specs.Readings.{reading_of};
 ghost use Rattle.source_lint.specs.declared.report.Finding.{Finding as FindingValue};
 
 use crate::assembly::read_templates;
 use crate::findings::put_findings;
 use crate::givens::givens;
-use crate::literals::{appends_newline, read_literal};
+use crate::literals::{appends_newline, dropped_crs, read_literal};
 use crate::macros::is_defined;
 use crate::report::{CallReading, Finding};
 use crate::spans::Site;
@@ -28,6 +30,7 @@ use call_faults::{FormatString, Given, call_faults};
 use format_calls::{Argument, Call, Rule, are_counted, arguments, format_string, token_at, word};
 use rust_trees::{Source, Token};
 use std::alloc::{AllocError, Global};
+use std::collections::BTreeSet;
 
 /// A file, with what its calls are read by.
 #[derive(Clone, Copy)]
@@ -35,7 +38,7 @@ pub struct File<'s, 'a> {
     /// The text.
     pub text: &'a str,
     /// The names of the macros that it defines.
-    pub macros: &'s [&'a [u8]],
+    pub macros: &'s BTreeSet<&'a [u8]>,
     /// Whether its edition is 2021 or a later one.
     pub is_from_2021: bool,
 }
@@ -187,12 +190,15 @@ fn read_at(
         return Ok(CallReading::Malformed);
     };
     let others = &arguments[index + 1..];
+    let crs = dropped_crs(alloc, literal.text)?;
     let site = Site {
         text: file.text,
         tokens,
         literal,
-        has_crs: literal.text.contains('\r'),
+        crs: &crs,
         arguments: others,
+        name: call.name,
+        close: call.close,
     };
     let name = name_at(tokens, call.name);
     let appended_newline = appends_newline(name);
@@ -209,18 +215,37 @@ fn read_at(
     Ok(reading)
 }
 
+/// Returns whether no token stands where an argument should.
+fn is_empty(argument: &Argument) -> bool
+    ensures { result ≡ is_empty argument.now }
+{
+    argument.start == argument.end
+}
+
+/// Returns whether no token stands where one of these arguments should.
+fn has_empty(arguments: &[Argument]) -> bool
+    ensures { result ≡ list_any is_empty arguments.now }
+{
+    for argument in arguments {
+        if is_empty(argument) {
+            return true;
+        }
+    }
+    false
+}
+
 /// Reads a call, and adds its findings. Returns `Err` if an allocation fails.
-pub fn read_call(
+pub fn read_call<'a>(
     alloc: Global,
     findings: &mut Vec<Finding>,
-    file: File<'_, '_>,
-    part: &Source<'_>,
+    file: File<'_, 'a>,
+    part: &Source<'a>,
     call: &Call,
 ) -> Result<CallReading, AllocError>
     requires { IsPair part.now (call.now.name + 2) call.now.close }
     ensures read { IfOk result (λ r. (xs : List FindingValue)
         × (findings.new.items ≡ findings.old.items ++ xs)
-        × Reads (map (λ w. w.now) file.entry.macros.now) file.entry.is_from_2021 part.now call.now
+        × Reads (names_in file.entry.macros.now) file.entry.is_from_2021 part.now call.now
         r xs) }
     ensures spans { OnOk result (All (HasSpans file.entry.text.now) findings.old.items
         → All (HasSpans file.entry.text.now) findings.new.items) }
@@ -233,6 +258,9 @@ pub fn read_call(
         return Ok(CallReading::Whole);
     };
     let list = arguments.as_slice();
+    if has_empty(list) {
+        return Ok(CallReading::NoExpression);
+    }
     match format_string(part, call.rule, list, file.is_from_2021) {
         Err(reason) => Ok(CallReading::Unread(reason)),
         Ok(_) if matches!(call.rule, Rule::Templates) => {

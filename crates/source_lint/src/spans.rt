@@ -17,10 +17,14 @@ pub struct Site<'s, 'a> {
     pub tokens: &'s [Token<'a>],
     /// The literal of its format string.
     pub literal: Token<'a>,
-    /// Whether the literal has a CR.
-    pub has_crs: bool,
+    /// Its CRs that stand before LF, as `dropped_crs` returns them.
+    pub crs: &'s [usize],
     /// The arguments after its format string.
     pub arguments: &'s [Argument],
+    /// The index of the name of its macro.
+    pub name: usize,
+    /// The index of the delimiter that closes it.
+    pub close: usize,
 }
 
 /// Returns the range between two byte offsets of a text. An offset within a character goes back to
@@ -95,6 +99,16 @@ fn range_up_to_next(site: Site<'_, '_>, index: usize) -> Range<usize> {
     }
 }
 
+/// Returns the empty range after a range.
+fn end_of(range: Range<usize>) -> Range<usize> {
+    range.end..range.end
+}
+
+/// Returns the bytes of the literal.
+fn whole_literal(literal: Token<'_>) -> Range<usize> {
+    literal.start..literal.start.saturating_add(literal.text.len())
+}
+
 /// Returns the empty range before the closing quote of the literal.
 fn literal_end(literal: Token<'_>) -> Range<usize> {
     let quote = match literal.text.rfind('"') {
@@ -109,8 +123,8 @@ fn literal_end(literal: Token<'_>) -> Range<usize> {
 /// that end with LF.
 fn literal_range(site: Site<'_, '_>, from: usize, to: usize) -> Range<usize> {
     let literal = site.literal;
-    let start = offset_in(literal.text, site.has_crs, from);
-    let end = offset_in(literal.text, site.has_crs, to);
+    let start = offset_in(site.crs, from);
+    let end = offset_in(site.crs, to);
     literal.start.saturating_add(start)..literal.start.saturating_add(end)
 }
 
@@ -124,8 +138,11 @@ pub fn spot_range(site: Site<'_, '_>, spot: Spot) -> Range<usize>
         Spot::Name(index) => name_range(site, index),
         Spot::Value(index) => value_range(site, index),
         Spot::ValueUpToNext(index) => range_up_to_next(site, index),
-        Spot::Literal => literal.start..literal.start.saturating_add(literal.text.len()),
+        Spot::ValueEnd(index) => end_of(value_range(site, index)),
+        Spot::Literal => whole_literal(literal),
         Spot::LiteralEnd => literal_end(literal),
+        Spot::AfterLiteral => end_of(whole_literal(literal)),
+        Spot::Call => tokens_range(site.tokens, site.name, site.close.saturating_add(1)),
         Spot::Bytes { start, end } => literal_range(site, start, end),
     };
     range_in(site.text, range.start, range.end)

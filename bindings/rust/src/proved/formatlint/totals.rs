@@ -20,6 +20,7 @@ struct Unread {
     suffix: usize,
     inner: usize,
     expression: usize,
+    empty: usize,
     redefined: usize,
     malformed: usize,
 }
@@ -72,7 +73,7 @@ impl Unread {
 
     /// Returns how many calls there are for each reason, with the reason.
     #[inline]
-    fn rows(&self) -> [(usize, &'static str); 8] {
+    fn rows(&self) -> [(usize, &'static str); 9] {
         [
             (self.missing, "no format string"),
             (self.edition, "a lone message, before the edition 2021"),
@@ -81,6 +82,7 @@ impl Unread {
             (self.inner, "a macro inside"),
             (self.expression, "another expression"),
             (self.suffix, "a literal with a suffix"),
+            (self.empty, "no expression before a comma"),
             (self.malformed, "a literal with a wrong escape"),
         ]
     }
@@ -102,6 +104,7 @@ impl Totals {
                 suffix: 0,
                 inner: 0,
                 expression: 0,
+                empty: 0,
                 redefined: 0,
                 malformed: 0,
             },
@@ -119,6 +122,7 @@ impl Totals {
             CallReading::Whole => count(&mut self.whole),
             CallReading::StringAlone => count(&mut self.alone),
             CallReading::Redefined => count(&mut self.unread.redefined),
+            CallReading::NoExpression => count(&mut self.unread.empty),
             CallReading::Malformed => count(&mut self.unread.malformed),
             CallReading::Unread(reason) => self.unread.add(reason),
         }

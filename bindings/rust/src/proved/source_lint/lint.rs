@@ -24,17 +24,17 @@ struct Readings {
 // ensures read { OnOk result ((rs : List ReadingValue) × (xs : List FindingValue)
 //     × (found.new.calls.items ≡ found.old.calls.items ++ rs)
 //     × (found.new.findings.items ≡ found.old.findings.items ++ xs)
-//     × ReadsCalls (map entry table.now.rows.items) (map (λ w. w.now) file.entry.macros.now)
+//     × ReadsCalls (map entry table.now.rows.items) (names_in file.entry.macros.now)
 //     file.entry.is_from_2021 part.now rs xs) }
 // ensures spans { OnOk result (All (HasSpans file.entry.text.now)
 //     found.old.findings.items
 //     → All (HasSpans file.entry.text.now) found.new.findings.items) }
 #[inline]
-fn read_part(
+fn read_part<'a>(
     alloc: Global,
     found: &mut Readings,
-    file: File<'_, '_>,
-    part: &Source<'_>,
+    file: File<'_, 'a>,
+    part: &Source<'a>,
     table: &Table<'_>,
 ) -> Result<(), AllocError> {
     let calls = calls(alloc, part, table)?;
@@ -50,7 +50,7 @@ fn read_part(
 /// Reads the calls of a file, part by part, and adds all its tokens to `balance`. Returns `Err` if
 /// an allocation fails.
 // ensures read { IfOk result (λ f. (ls : List Leaf) × AreLeaves file.entry.text.now ls
-//     × ReadsCalls (map entry table.now.rows.items) (map (λ w. w.now) file.entry.macros.now)
+//     × ReadsCalls (map entry table.now.rows.items) (names_in file.entry.macros.now)
 //     file.entry.is_from_2021 ls f.calls.items f.findings.items
 //     × ((w : List Leaf) → IsBalanced w balance.old → IsBalanced (w ++ ls) balance.new)) }
 // ensures spans { IfOk result (λ f. All (HasSpans file.entry.text.now)
@@ -84,7 +84,7 @@ pub fn file_faults(alloc: Global, text: &str, options: &Options<'_>) -> Result<R
     let names = macro_names(alloc, text)?;
     let file = File {
         text,
-        macros: names.as_slice(),
+        macros: &names,
         is_from_2021: options.is_from_2021,
     };
     let mut balance = Balance::new(alloc);

@@ -9,6 +9,7 @@ use crate::proved::rust_tokens::Kind;
 use crate::proved::rust_trees::{Token, Tokens};
 use crate::shim::alloc::{AllocError, Global};
 use crate::shim::prelude::*;
+use std::collections::BTreeSet;
 
 /// Returns whether a token is the word `macro_rules`.
 // ensures { result ≡ is_macro_rules (leaf token.now) }
@@ -29,29 +30,31 @@ fn begins_definition(word: Option<Token<'_>>, mark: Option<Token<'_>>) -> bool {
 
 /// Adds the name of the macro that a token defines after two others, if it does. Returns `Err` if
 /// an allocation fails.
-// ensures { OnOk result (map (λ w. w.now) found.new.items ≡ map (λ w. w.now) found.old.items
-//     ++ definition (option_map leaf before.entry) (option_map leaf last.entry)
-//     (leaf token.now)) }
+// ensures { OnOk result ((n : List ℕ) → list_any (bytes_eq n) (names_in found.new)
+//     ≡ (list_any (bytes_eq n) (names_in found.old) || list_any (bytes_eq n)
+//     (definition (option_map leaf before.entry) (option_map leaf last.entry)
+//     (leaf token.now)))) }
 #[inline]
 fn put_definition<'a>(
-    found: &mut Vec<&'a [u8]>,
+    found: &mut BTreeSet<&'a [u8]>,
     before: Option<Token<'a>>,
     last: Option<Token<'a>>,
     token: &Token<'a>,
 ) -> Result<(), AllocError> {
     if begins_definition(before, last) && is_word(token) {
-        found.try_push(word(token))?;
+        found.insert_in(word(token))?;
     }
     Ok(())
 }
 
 /// Returns the names of the macros that a file defines by `macro_rules!`, without `r#`. Returns
 /// `Err` if an allocation fails.
-// ensures { IfOk result (λ v. (ls : List Leaf) × AreLeaves text.now ls
-//     × (map (λ w. w.now) v.items ≡ macro_names ls)) }
+// ensures { IfOk result (λ s. (ls : List Leaf) × AreLeaves text.now ls
+//     × ((n : List ℕ) → list_any (bytes_eq n) (names_in s)
+//     ≡ list_any (bytes_eq n) (macro_names ls))) }
 #[inline]
-pub fn macro_names<'a>(alloc: Global, text: &'a str) -> Result<Vec<&'a [u8]>, AllocError> {
-    let mut found = Vec::made_in(alloc);
+pub fn macro_names<'a>(alloc: Global, text: &'a str) -> Result<BTreeSet<&'a [u8]>, AllocError> {
+    let mut found = BTreeSet::made_in(alloc);
     let mut rest = Tokens::new(text);
     let mut before = None;
     let mut last = None;
@@ -64,13 +67,8 @@ pub fn macro_names<'a>(alloc: Global, text: &'a str) -> Result<Vec<&'a [u8]>, Al
 }
 
 /// Returns whether a word is one of these names.
-// ensures { result ≡ list_any (bytes_eq word.now) (map (λ w. w.now) names.now) }
+// ensures { result ≡ list_any (bytes_eq word.now) (names_in names.now) }
 #[inline]
-pub fn is_defined(names: &[&[u8]], word: &[u8]) -> bool {
-    for name in names {
-        if word == *name {
-            return true;
-        }
-    }
-    false
+pub fn is_defined<'a>(names: &BTreeSet<&'a [u8]>, word: &'a [u8]) -> bool {
+    names.contains(&word)
 }

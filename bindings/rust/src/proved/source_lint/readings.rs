@@ -12,12 +12,13 @@ use crate::proved::rust_trees::{Source, Token};
 use crate::proved::source_lint::assembly::read_templates;
 use crate::proved::source_lint::findings::put_findings;
 use crate::proved::source_lint::givens::givens;
-use crate::proved::source_lint::literals::{appends_newline, read_literal};
+use crate::proved::source_lint::literals::{appends_newline, dropped_crs, read_literal};
 use crate::proved::source_lint::macros::is_defined;
 use crate::proved::source_lint::report::{CallReading, Finding};
 use crate::proved::source_lint::spans::Site;
 use crate::shim::alloc::{AllocError, Global};
 use crate::shim::prelude::*;
+use std::collections::BTreeSet;
 
 /// A file, with what its calls are read by.
 #[derive(Clone, Copy)]
@@ -25,7 +26,7 @@ pub struct File<'s, 'a> {
     /// The text.
     pub text: &'a str,
     /// The names of the macros that it defines.
-    pub macros: &'s [&'a [u8]],
+    pub macros: &'s BTreeSet<&'a [u8]>,
     /// Whether its edition is 2021 or a later one.
     pub is_from_2021: bool,
 }
@@ -177,11 +178,12 @@ fn read_at(
         return Ok(CallReading::Malformed);
     };
     let others = &arguments[index + 1..];
+    let crs = dropped_crs(alloc, literal.text)?;
     let site = Site {
         text: file.text,
         tokens,
         literal,
-        has_crs: literal.text.contains('\r'),
+        crs: &crs,
         arguments: others,
     };
     let name = name_at(tokens, call.name);
@@ -199,20 +201,39 @@ fn read_at(
     Ok(reading)
 }
 
+/// Returns whether no token stands where an argument should.
+// ensures { result ≡ is_empty argument.now }
+#[inline]
+fn is_empty(argument: &Argument) -> bool {
+    argument.start == argument.end
+}
+
+/// Returns whether no token stands where one of these arguments should.
+// ensures { result ≡ list_any is_empty arguments.now }
+#[inline]
+fn has_empty(arguments: &[Argument]) -> bool {
+    for argument in arguments {
+        if is_empty(argument) {
+            return true;
+        }
+    }
+    false
+}
+
 /// Reads a call, and adds its findings. Returns `Err` if an allocation fails.
 // requires { IsPair part.now (call.now.name + 2) call.now.close }
 // ensures read { IfOk result (λ r. (xs : List FindingValue)
 //     × (findings.new.items ≡ findings.old.items ++ xs)
-//     × Reads (map (λ w. w.now) file.entry.macros.now) file.entry.is_from_2021 part.now call.now
+//     × Reads (names_in file.entry.macros.now) file.entry.is_from_2021 part.now call.now
 //     r xs) }
 // ensures spans { OnOk result (All (HasSpans file.entry.text.now) findings.old.items
 //     → All (HasSpans file.entry.text.now) findings.new.items) }
 #[inline]
-pub fn read_call(
+pub fn read_call<'a>(
     alloc: Global,
     findings: &mut Vec<Finding>,
-    file: File<'_, '_>,
-    part: &Source<'_>,
+    file: File<'_, 'a>,
+    part: &Source<'a>,
     call: &Call,
 ) -> Result<CallReading, AllocError> {
     let name = name_at(part.tokens(), call.name);
@@ -223,6 +244,9 @@ pub fn read_call(
         return Ok(CallReading::Whole);
     };
     let list = arguments.as_slice();
+    if has_empty(list) {
+        return Ok(CallReading::NoExpression);
+    }
     match format_string(part, call.rule, list, file.is_from_2021) {
         Err(reason) => Ok(CallReading::Unread(reason)),
         Ok(_) if matches!(call.rule, Rule::Templates) => {

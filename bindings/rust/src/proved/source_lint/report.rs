@@ -26,6 +26,8 @@ pub enum CallReading {
     StringAlone,
     /// Nothing, since the file defines a macro of this name by `macro_rules!`.
     Redefined,
+    /// Nothing, since no expression stands where one of its arguments should, before a comma.
+    NoExpression,
     /// Nothing, for this reason.
     Unread(Reason),
     /// Nothing, since its literal stands for no text: an escape in it is wrong.

@@ -20,8 +20,8 @@ pub struct Site<'s, 'a> {
     pub tokens: &'s [Token<'a>],
     /// The literal of its format string.
     pub literal: Token<'a>,
-    /// Whether the literal has a CR.
-    pub has_crs: bool,
+    /// Its CRs that stand before LF, as `dropped_crs` returns them.
+    pub crs: &'s [usize],
     /// The arguments after its format string.
     pub arguments: &'s [Argument],
 }
@@ -119,8 +119,8 @@ fn literal_end(literal: Token<'_>) -> Range<usize> {
 #[inline]
 fn literal_range(site: Site<'_, '_>, from: usize, to: usize) -> Range<usize> {
     let literal = site.literal;
-    let start = offset_in(literal.text, site.has_crs, from);
-    let end = offset_in(literal.text, site.has_crs, to);
+    let start = offset_in(site.crs, from);
+    let end = offset_in(site.crs, to);
     literal.start.saturating_add(start)..literal.start.saturating_add(end)
 }
 

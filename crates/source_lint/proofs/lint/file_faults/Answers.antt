@@ -1,7 +1,8 @@
-use Rattle.std.proofs.Common.{◌∙◌, [], ap, map, subst}
-use Rattle.format_calls.specs.Rows.{entry}
+use Rattle.std.proofs.Common.{◌∙◌, [], ap}
+use Rattle.std.specs.List.{list_any}
+use Rattle.std.specs.Str.{bytes_eq}
 use Rattle.source_lint.specs.Macros.{macro_names}
-use Rattle.source_lint.specs.Reports.{ReadsCalls}
+use Rattle.source_lint.proofs.Defining.{calls-same}
 use Rattle.source_lint.proofs.Reporting.{same-leaves}
 use Rattle.source_lint.proofs.lint.file_faults.Goals as goal
 
@@ -13,9 +14,7 @@ returns-clause-report c =
     record {
       leaves = r.0;
       are_leaves = r.1;
-      reads = subst (λ v. ReadsCalls (map entry c.args.options.now.table.rows.items) v
-          c.args.options.now.is_from_2021 r.0 c.in_ok-found.found.calls.items
-          c.in_ok-found.found.findings.items)
-          (ap (map (λ w. w.now)) c.as_slice.ensures.value ∙ (n.2 ∙ ap macro_names same)) r.2;
+      reads = calls-same _ _ _ _ _ _ _
+          (λ w. n.2 w ∙ ap (λ v. list_any (bytes_eq w) (macro_names v)) same) r.2;
       breaks = c.broken.ensures r.0 (r.3 [] c.new-balance.ensures);
     }

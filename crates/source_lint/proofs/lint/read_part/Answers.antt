@@ -1,7 +1,8 @@
-use Rattle.std.proofs.Common.{◌≡◌, ◌∷◌, map, rules, subst, sym}
+use Rattle.std.proofs.Common.{◌≡◌, ◌∷◌, rules, subst, sym}
 use Rattle.std.specs.Prelude.{Contains}
 use Rattle.source_lint.proofs.Elements.{after-here, here}
 use Rattle.std.proofs.lemmas.List.{nil_from_length}
+use Rattle.source_lint.specs.Macros.{names_in}
 use Rattle.source_lint.specs.Readings.{ReadsAll}
 use Rattle.source_lint.proofs.Joining.{reading-all, reading-more, reading-none}
 use Rattle.source_lint.proofs.lint.read_part.Goals as goal
@@ -47,7 +48,7 @@ returns-clause-read c =
           each = c.in_ok-calls.ensures.each;
           in_order = c.in_ok-calls.ensures.in_order;
         };
-        reads = subst (λ v. ReadsAll (map (λ w. w.now) c.args.file.macros.now)
+        reads = subst (λ v. ReadsAll (names_in c.args.file.macros.now)
             c.args.file.is_from_2021 c.args.part.now v r.0 r.1) c.as_slice-rest.ensures.value r.4;
       },
     )

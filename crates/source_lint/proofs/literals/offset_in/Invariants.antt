@@ -1,13 +1,11 @@
-use Rattle.std.proofs.Common.{◌≤◌, length}
-use denote.Shadow.{shadow}
-use denote.Text.{Utf8}
+use Rattle.std.proofs.Common.{◌≤◌, ◌-◌, length}
 use Rattle.source_lint.proofs.literals.offset_in.Given as goal
 
-abbrev pub invariant-loop-c : goal.invariant-loop-c
-invariant-loop-c l = record {
-  is_text : shadow (Utf8 l.rest);
-  within : length l.rest ≤ length l.token;
+abbrev pub invariant-loop-low : goal.invariant-loop-low
+invariant-loop-low l = record {
+  in_order : l.low ≤ l.high;
+  within : l.high ≤ length l.crs;
 }
 
-abbrev pub decreases-loop-c : goal.decreases-loop-c
-decreases-loop-c l = length l.rest
+abbrev pub decreases-loop-low : goal.decreases-loop-low
+decreases-loop-low l = l.high - l.low

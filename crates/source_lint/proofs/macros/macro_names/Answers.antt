@@ -3,7 +3,7 @@ use Rattle.source_lint.proofs.Defining.{defines-all, defines-more, defines-none}
 use Rattle.source_lint.proofs.macros.macro_names.Goals as goal
 
 pub loop-token-init : goal.loop-token-init
-loop-token-init c = defines-none _ _ (ap (λ v. map (λ w. w.now) v) c.new-found.ensures.items)
+loop-token-init c = defines-none _ _ (ap (λ v. map (λ w. w.now) v) c.new-found.ensures.empty)
 
 pub loop-token-preserved : goal.loop-token-preserved
 loop-token-preserved c =

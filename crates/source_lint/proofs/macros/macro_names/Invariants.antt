@@ -1,11 +1,12 @@
-use Rattle.std.proofs.Common.{length, map}
+use Rattle.std.proofs.Common.{length}
 use Rattle.std.specs.Prelude.{option_map}
 use Rattle.rust_trees.specs.Leaves.{leaf}
+use Rattle.source_lint.specs.Macros.{names_in}
 use Rattle.source_lint.proofs.Defining.{Defines}
 use Rattle.source_lint.proofs.macros.macro_names.Given as goal
 
 abbrev pub invariant-loop-token : goal.invariant-loop-token
-invariant-loop-token l = Defines l.initial.rest l.rest (map (λ w. w.now) l.found.items)
+invariant-loop-token l = Defines l.initial.rest l.rest (names_in l.found)
     (option_map leaf l.before) (option_map leaf l.last)
 
 abbrev pub decreases-loop-token : goal.decreases-loop-token
