@@ -1,3 +1,5 @@
+pub mod AsmFindings
+pub mod Assembly
 pub mod Files
 pub mod Findings
 pub mod Givens

@@ -20,15 +20,18 @@ use Rattle.format_calls.specs.declared.split.Argument.{Argument}
 use Rattle.format_calls.specs.declared.strings.Reason.{Reason}
 use Rattle.format_calls.specs.declared.table.Rule.{Rule}
 use Rattle.format_calls.specs.declared.table.Rule.TheVariants.{At, ByEdition, AfterFields}
+use Rattle.format_calls.specs.declared.table.Rule.TheVariants.{Templates}
+use Rattle.format_calls.specs.Assembly.{template_count}
 use Rattle.call_faults.specs.Arguments.{Given}
 use Rattle.call_faults.specs.Calls.{call_faults, kept_indices}
 use Rattle.call_faults.specs.Labels.{Call as CheckedCall}
 use Rattle.call_faults.specs.Texts.{text_fault}
 use Rattle.source_lint.specs.declared.report.CallReading.{CallReading}
-use Rattle.source_lint.specs.declared.report.CallReading.TheVariants.{Whole, StringAlone, Redefined}
+use Rattle.source_lint.specs.declared.report.CallReading.TheVariants.{Redefined}
 use Rattle.source_lint.specs.declared.report.CallReading.TheVariants.{NoExpression, Unread, Malformed}
 use Rattle.source_lint.specs.declared.report.Finding.{Finding}
-use Rattle.source_lint.specs.Findings.{AreFindings}
+use Rattle.source_lint.specs.Assembly.{ReadsTemplates}
+use Rattle.source_lint.specs.Findings.{AreFindings, reading_of}
 use Rattle.source_lint.specs.Givens.{given}
 use Rattle.source_lint.specs.Literals.{appends_newline, without_crs}
 
@@ -58,11 +61,6 @@ abbrev pub counted_givens : Bool → List Given → List Given
 counted_givens true gs = gs
 counted_givens false gs = []
 
--- How much of a call is read where the number of its arguments is known, and where it is not.
-abbrev pub reading_of : Bool → CallReading
-reading_of true = Whole
-reading_of false = StringAlone
-
 -- This is the reading of a call with this format string and these arguments, and these are the
 -- findings. If the number of arguments is not known, only the fault of the string counts.
 abbrev pub Finds : Bool → Bool → State → List Given → CallReading → List Finding → Type 0
@@ -91,6 +89,7 @@ abbrev pub captures : Bool → Rule → List ℕ → Bool
 captures is_new (At n) w = true
 captures is_new (ByEdition n) w = is_new || not (bytes_eq w (codes "unreachable"))
 captures is_new AfterFields w = true
+captures is_new Templates w = true
 
 -- The same where the format string is the argument n of these, and the others after it are
 -- formatted.
@@ -106,10 +105,19 @@ pub record ReadsAt (is_new : Bool) (xs : List Leaf) (c : Call) (args : List Argu
       (captures is_new c.rule (name_at xs c.name)) (not (list_any (is_uncounted xs) trees))
       (map (given xs) (drop (n + 1) args)) r fs
 
+-- The same where the argument n is the format string by this rule, or where it is the first template.
+abbrev pub ReadsOne : Rule → Bool → List Leaf → Call → List Argument → ℕ → CallReading
+    → List Finding → Type 0
+ReadsOne (At m) is_new xs c args n r fs = ReadsAt is_new xs c args n r fs
+ReadsOne (ByEdition m) is_new xs c args n r fs = ReadsAt is_new xs c args n r fs
+ReadsOne AfterFields is_new xs c args n r fs = ReadsAt is_new xs c args n r fs
+ReadsOne Templates is_new xs c args n r fs =
+    ReadsTemplates xs c args (template_count xs args) r fs
+
 -- The same where the argument n is the format string, or where none is for this reason.
 abbrev pub ReadsBy : Bool → List Leaf → Call → List Argument → Result ℕ Reason → CallReading
     → List Finding → Type 0
-ReadsBy is_new xs c args (Ok n) r fs = ReadsAt is_new xs c args n r fs
+ReadsBy is_new xs c args (Ok n) r fs = ReadsOne c.rule is_new xs c args n r fs
 ReadsBy is_new xs c args (Err e) r fs = (r ≡ Unread e) × (fs ≡ [])
 
 -- No token stands where the argument should.

@@ -1,17 +1,51 @@
-//! The reading of a call of a macro for inline assembly, and its findings.
+//! The reading of a call of a macro for inline assembly.
 
+ghost use Rattle.std.specs.Prelude.{◌≡◌, ◌+◌, ◌<◌, ◌^◌, ◌++◌, ◌∷◌, ◌||◌, [], List, IfOk, IfSome};
+ghost use Rattle.std.specs.Prelude.{OnOk, length, map, option_map, string_bytes};
+ghost use Rattle.std.specs.List.{All, AllByRecursion};
+ghost use Rattle.std.specs.Option.{MatchOption};
+ghost use Rattle.rustc_parse_format.specs.World.{hashes};
+ghost use Rattle.rust_trees.specs.Forests.{IsPair};
+ghost use Rattle.rust_trees.specs.Leaves.{leaf};
+ghost use Rattle.format_calls.specs.Arguments.{AreArguments};
+ghost use Rattle.format_calls.specs.Assembly.{asm_part, template_count};
+ghost use Rattle.asm_faults.specs.Calls.{asm_faults};
+ghost use Rattle.asm_faults.specs.Operands.{slots_after};
+ghost use Rattle.asm_faults.specs.Seen.{seen_operand, seen_template};
+ghost use Rattle.source_lint.specs.AsmFindings.{TellAllAsm, counted_asm};
+ghost use Rattle.source_lint.specs.Assembly.{AreTemplates, HasNoText, HaveNoText, IsTemplate};
+ghost use Rattle.source_lint.specs.Assembly.{ReadsLiterals, ReadsTemplates, are_raw};
+ghost use Rattle.source_lint.specs.Assembly.{is_raw_part, is_unknown, is_unknown_part, operand_of};
+ghost use Rattle.source_lint.specs.Assembly.{operands, read_templates, seen_read};
+ghost use Rattle.source_lint.specs.Findings.{HasSpans};
+ghost use Rattle.source_lint.specs.declared.report.Finding.{Finding as FindingValue};
+
+use crate::asm_findings::{AsmSite, Read, put_findings};
+use crate::findings::reading_of;
 use crate::givens::name_of;
-use crate::labels::primary_span;
-use crate::literals::{Literal, read_literal};
-use crate::readings::File;
-use crate::report::{CallReading, Finding, Help, Label, Note};
-use crate::spans::{Site, spot_range};
-use asm_faults::{AsmCall, AsmFault, AsmLabel, AsmNote, AsmSpot, Operand, Template, asm_faults};
-use call_faults::Spot;
-use format_calls::{Argument, AsmPart, Call, are_counted, asm_part, template_count, token_at};
+use crate::literals::{dropped_crs, read_literal};
+use crate::report::{CallReading, Finding};
+use asm_faults::{Operand, Template, asm_faults};
+use format_calls::{Argument, AsmPart, Call, are_counted, asm_part, template_count};
 use rust_trees::{Source, Token};
 use std::alloc::{AllocError, Global};
-use std::ops::Range;
+
+/// Returns the operand that an argument is, or `None` if it is none.
+fn operand_of<'a>(tokens: &[Token<'a>], argument: &Argument, part: AsmPart) -> Option<Operand<'a>>
+    ensures { option_map seen_operand result
+        ≡ operand_of (map leaf tokens.now) argument.now part }
+{
+    match part {
+        AsmPart::Operand => match name_of(tokens, argument) {
+            Some(name) => Some(Operand::Named(name)),
+            None => Some(Operand::Unnamed),
+        },
+        AsmPart::Register => Some(Operand::Register {
+            has_name: argument.is_named,
+        }),
+        AsmPart::Raw | AsmPart::Setting | AsmPart::Unknown => None,
+    }
+}
 
 /// The arguments after the templates of a call.
 #[derive(Drop)]
@@ -21,35 +55,9 @@ struct Operands<'a> {
     /// The argument that each operand is.
     arguments: Vec<Argument>,
     /// Whether templates have no placeholders.
-    is_raw: bool,
-    /// Whether each argument is an operand, an option or an ABI.
-    are_known: bool,
-}
-
-/// A call of a macro for inline assembly in its file.
-#[derive(Clone, Copy)]
-struct AsmSite<'s, 'a> {
-    /// The text of the file.
-    text: &'a str,
-    /// The tokens of the part of the file that has the call.
-    tokens: &'s [Token<'a>],
-    /// The tokens that are its templates.
-    templates: &'s [Token<'a>],
-    /// The arguments that are its operands.
-    operands: &'s [Argument],
-}
-
-/// Returns an operand as placeholders refer to it.
-fn operand_of<'a>(tokens: &[Token<'a>], argument: &Argument, is_register: bool) -> Operand<'a> {
-    if is_register {
-        return Operand::Register {
-            has_name: argument.is_named,
-        };
-    }
-    match name_of(tokens, argument) {
-        Some(name) => Operand::Named(name),
-        None => Operand::Unnamed,
-    }
+    are_raw: bool,
+    /// Whether an argument is no operand, option or ABI.
+    is_unknown: bool,
 }
 
 /// Adds an argument after the templates. Returns `Err` if an allocation fails.
@@ -57,18 +65,23 @@ fn add<'a>(
     found: &mut Operands<'a>,
     tokens: &[Token<'a>],
     argument: &Argument,
-) -> Result<(), AllocError> {
+) -> Result<(), AllocError>
+    requires { argument.now.start < length tokens.now }
+    ensures list { OnOk result (map seen_operand found.new.list.items
+        ≡ map seen_operand found.old.list.items
+        ++ operands (map leaf tokens.now) (argument.now ∷ [])) }
+    ensures raw { OnOk result (found.new.are_raw
+        ≡ (found.old.are_raw || is_raw_part (asm_part (map leaf tokens.now) argument.now))) }
+    ensures unknown { OnOk result (found.new.is_unknown
+        ≡ (found.old.is_unknown || is_unknown_part (asm_part (map leaf tokens.now) argument.now))) }
+{
     let part = asm_part(tokens, argument);
-    match part {
-        AsmPart::Operand | AsmPart::Register => {
-            let is_register = matches!(part, AsmPart::Register);
-            found.list.push(operand_of(tokens, argument, is_register))?;
-            found.arguments.push(*argument)?;
-        }
-        AsmPart::Raw => found.is_raw = true,
-        AsmPart::Setting => {}
-        AsmPart::Unknown => found.are_known = false,
+    if let Some(operand) = operand_of(tokens, argument, part) {
+        found.list.push(operand)?;
+        found.arguments.push(*argument)?;
     }
+    found.are_raw = found.are_raw || matches!(part, AsmPart::Raw);
+    found.is_unknown = found.is_unknown || matches!(part, AsmPart::Unknown);
     Ok(())
 }
 
@@ -77,12 +90,19 @@ fn operands_of<'a>(
     alloc: Global,
     tokens: &[Token<'a>],
     arguments: &[Argument],
-) -> Result<Operands<'a>, AllocError> {
+) -> Result<Operands<'a>, AllocError>
+    requires { AllByRecursion (λ a. a.start < length tokens.now) arguments.now }
+    ensures list { IfOk result (λ o. map seen_operand o.list.items
+        ≡ operands (map leaf tokens.now) arguments.now) }
+    ensures raw { IfOk result (λ o. o.are_raw ≡ are_raw (map leaf tokens.now) arguments.now) }
+    ensures unknown { IfOk result (λ o. o.is_unknown
+        ≡ is_unknown (map leaf tokens.now) arguments.now) }
+{
     let mut found = Operands {
         list: Vec::new(alloc),
         arguments: Vec::new(alloc),
-        is_raw: false,
-        are_known: true,
+        are_raw: false,
+        is_unknown: false,
     };
     for argument in arguments {
         add(&mut found, tokens, argument)?;
@@ -90,197 +110,185 @@ fn operands_of<'a>(
     Ok(found)
 }
 
-/// Returns the tokens that arguments start with. Returns `Err` if an allocation fails.
-fn first_tokens<'a>(
+/// Reads the template that an argument is. Returns `None` if its literal stands for no text, and
+/// `Err` if an allocation fails.
+fn read_template<'a>(
+    alloc: Global,
+    tokens: &[Token<'a>],
+    argument: &Argument,
+) -> Result<Option<Read<'a>>, AllocError>
+    requires { argument.now.start < length tokens.now }
+    ensures read { IfOk result (λ o. MatchOption o
+        (HasNoText (map leaf tokens.now) argument.now)
+        (λ t. IsTemplate (map leaf tokens.now) argument.now (seen_read t))) }
+    ensures short { IfOk result (λ o. IfSome o (λ t.
+        hashes t.literal.style + length (string_bytes t.literal.text) + 2 < 2 ^ 64)) }
+{
+    let token = tokens[argument.start];
+    let Some(literal) = read_literal(alloc, token.text, false)? else {
+        return Ok(None);
+    };
+    let crs = dropped_crs(alloc, token.text)?;
+    Ok(Some(Read {
+        token,
+        crs,
+        literal,
+    }))
+}
+
+/// Reads the templates that arguments are. Returns `None` if a literal of them stands for no text,
+/// and `Err` if an allocation fails.
+fn read_templates<'a>(
     alloc: Global,
     tokens: &[Token<'a>],
     arguments: &[Argument],
-) -> Result<Vec<Token<'a>>, AllocError> {
+) -> Result<Option<Vec<Read<'a>>>, AllocError>
+    requires { AllByRecursion (λ a. a.start < length tokens.now) arguments.now }
+    ensures read { IfOk result (λ o. MatchOption o
+        (HaveNoText (map leaf tokens.now) arguments.now)
+        (λ v. AreTemplates (map leaf tokens.now) arguments.now (map seen_read v.items))) }
+    ensures short { IfOk result (λ o. IfSome o (λ v. AllByRecursion (λ t.
+        hashes t.literal.style + length (string_bytes t.literal.text) + 2 < 2 ^ 64) v.items)) }
+{
     let mut found = Vec::new(alloc);
     for argument in arguments {
-        if let Some(token) = token_at(tokens, argument.start) {
-            found.push(token)?;
-        }
-    }
-    Ok(found)
-}
-
-/// Returns the literals that tokens are, or `None` if one of them stands for no text. Returns `Err`
-/// if an allocation fails.
-fn literals(alloc: Global, tokens: &[Token<'_>]) -> Result<Option<Vec<Literal>>, AllocError> {
-    let mut found = Vec::new(alloc);
-    for token in tokens {
-        match read_literal(alloc, token.text, false)? {
-            Some(literal) => found.push(literal)?,
+        match read_template(alloc, tokens, argument)? {
+            Some(template) => found.push(template)?,
             None => return Ok(None),
         }
     }
     Ok(Some(found))
 }
 
-/// Returns the range of a place.
-fn asm_range(site: AsmSite<'_, '_>, spot: AsmSpot) -> Range<usize> {
-    let index = match spot {
-        AsmSpot::Operand(_) => 0,
-        AsmSpot::Template(template) => template,
-        AsmSpot::Bytes { template, .. } => template,
-    };
-    let Some(literal) = token_at(site.templates, index) else {
-        return 0..0;
-    };
-    let one = Site {
-        text: site.text,
-        tokens: site.tokens,
-        literal,
-        has_crs: literal.text.contains('\r'),
-        arguments: site.operands,
-    };
-    let spot = match spot {
-        AsmSpot::Operand(operand) => Spot::Argument(operand),
-        AsmSpot::Template(_) => Spot::Literal,
-        AsmSpot::Bytes { start, end, .. } => Spot::Bytes { start, end },
-    };
-    spot_range(one, spot)
-}
-
-/// Returns labels with their ranges. Returns `Err` if an allocation fails.
-fn labels_of(
-    alloc: Global,
-    site: AsmSite<'_, '_>,
-    labels: Vec<AsmLabel>,
-) -> Result<Vec<Label>, AllocError> {
+/// Returns templates as placeholders are read in them. Returns `Err` if an allocation fails.
+fn templates_of<'c>(alloc: Global, read: &'c [Read<'_>]) -> Result<Vec<Template<'c>>, AllocError>
+    requires { AllByRecursion (λ t.
+        hashes t.literal.style + length (string_bytes t.literal.text) + 2 < 2 ^ 64) read.now }
+    ensures seen { IfOk result (λ v. map seen_template v.items ≡ map seen_read read.now) }
+    ensures short { IfOk result (λ v. AllByRecursion (λ t.
+        hashes t.style + length t.text.now + 2 < 2 ^ 64) v.items) }
+{
     let mut found = Vec::new(alloc);
-    for label in labels {
-        found.push(Label {
-            range: asm_range(site, label.spot),
-            is_primary: label.is_primary,
-            text: label.text,
+    for template in read {
+        found.push(Template {
+            text: template.literal.text.as_str(),
+            style: template.literal.style,
+            snippet: Some(template.literal.snippet.as_str()),
         })?;
     }
     Ok(found)
 }
 
-/// Returns the finding of a fault. Returns `Err` if an allocation fails.
-fn finding<'c>(
-    alloc: Global,
-    site: AsmSite<'_, '_>,
-    call: &AsmCall<'c>,
-    fault: &AsmFault<'c>,
-) -> Result<Finding, AllocError> {
-    let mut title = String::new(alloc);
-    call.put_title(&mut title, fault)?;
-    let labels = labels_of(alloc, site, call.labels(alloc, fault)?)?;
-    let mut notes = Vec::new(alloc);
-    let mut help = None;
-    for note in call.notes(alloc, fault)? {
-        if note.is_help {
-            help = Some(Help {
-                text: note.text,
-                edits: Vec::new(alloc),
-            });
-        } else {
-            let mut ranges = Vec::new(alloc);
-            if let Some(spot) = note.spot {
-                ranges.push(asm_range(site, spot))?;
-            }
-            notes.push(Note {
-                text: note.text,
-                ranges,
-            })?;
-        }
-    }
-    let span = first_primary(&labels);
-    Ok(Finding {
-        is_warning: false,
-        id: fault.id(),
-        title,
-        span,
-        labels,
-        notes,
-        help,
-    })
-}
-
-/// Returns the range of the primary label that comes first in the file.
-fn first_primary(labels: &[Label]) -> Range<usize> {
-    let mut start = 0;
-    let mut end = 0;
-    let mut is_found = false;
-    for label in labels {
-        if label.is_primary && (!is_found || label.range.start < start) {
-            start = label.range.start;
-            end = label.range.end;
-            is_found = true;
-        }
-    }
-    start..end
-}
-
-/// Reads a call with these templates, and adds its findings: all, or only that of a template.
-/// Returns `Err` if an allocation fails.
-fn put_findings(
+/// Checks a call with these templates and operands, and adds its findings. Returns `Err` if an
+/// allocation fails.
+fn check_call<'c>(
     alloc: Global,
     findings: &mut Vec<Finding>,
     site: AsmSite<'_, '_>,
-    literals: &[Literal],
-    operands: &[Operand<'_>],
+    templates: &[Template<'c>],
+    operands: &[Operand<'c>],
     is_whole: bool,
-) -> Result<(), AllocError> {
-    let mut templates = Vec::new(alloc);
-    for literal in literals {
-        templates.push(Template {
-            text: literal.text.as_str(),
-            style: literal.style,
-            snippet: Some(literal.snippet.as_str()),
-        })?;
-    }
-    let call = asm_faults(alloc, &templates, operands)?;
-    for fault in &call.faults {
-        if is_whole || matches!(fault, AsmFault::Text { .. }) {
-            findings.push(finding(alloc, site, &call, fault)?)?;
-        }
-    }
+) -> Result<(), AllocError>
+    requires { AllByRecursion (λ t. hashes t.style + length t.text.now + 2 < 2 ^ 64)
+        templates.now }
+    ensures told { OnOk result ((xs : List FindingValue)
+        × (findings.new.items ≡ findings.old.items ++ xs)
+        × TellAllAsm (slots_after [] (map seen_operand operands.now)) (counted_asm is_whole
+        (asm_faults (map seen_template templates.now) (map seen_operand operands.now))) xs) }
+    ensures spans { OnOk result (All (HasSpans site.entry.text.now) findings.old.items
+        → All (HasSpans site.entry.text.now) findings.new.items) }
+{
+    let call = asm_faults(alloc, templates, operands)?;
+    put_findings(alloc, findings, site, &call, is_whole)?;
     Ok(())
+}
+
+/// Returns the templates whose placeholders count: none with `options(raw)`. Returns `Err` if an
+/// allocation fails.
+fn read_unless<'c>(
+    alloc: Global,
+    read: &'c [Read<'_>],
+    are_raw: bool,
+) -> Result<Vec<Template<'c>>, AllocError>
+    requires { AllByRecursion (λ t.
+        hashes t.literal.style + length (string_bytes t.literal.text) + 2 < 2 ^ 64) read.now }
+    ensures seen { IfOk result (λ v. map seen_template v.items
+        ≡ read_templates are_raw (map seen_read read.now)) }
+    ensures short { IfOk result (λ v. AllByRecursion (λ t.
+        hashes t.style + length t.text.now + 2 < 2 ^ 64) v.items) }
+{
+    if are_raw {
+        return Ok(Vec::new(alloc));
+    }
+    let found = templates_of(alloc, read)?;
+    Ok(found)
+}
+
+/// Reads a call whose templates are arguments, with the other arguments after them, and adds its
+/// findings. Returns `Err` if an allocation fails.
+fn read_literals(
+    alloc: Global,
+    findings: &mut Vec<Finding>,
+    text: &str,
+    tokens: &[Token<'_>],
+    templates: &[Argument],
+    operands: &Operands<'_>,
+    is_whole: bool,
+) -> Result<CallReading, AllocError>
+    requires { AllByRecursion (λ a. a.start < length tokens.now) templates.now }
+    ensures read { IfOk result (λ r. (xs : List FindingValue)
+        × (findings.new.items ≡ findings.old.items ++ xs)
+        × ReadsLiterals (map leaf tokens.now) templates.now operands.now.are_raw is_whole
+        (map seen_operand operands.now.list.items) r xs) }
+    ensures spans { OnOk result (All (HasSpans text.now) findings.old.items
+        → All (HasSpans text.now) findings.new.items) }
+{
+    let Some(read) = read_templates(alloc, tokens, templates)? else {
+        return Ok(CallReading::Malformed);
+    };
+    let site = AsmSite {
+        text,
+        tokens,
+        templates: &read,
+        operands: &operands.arguments,
+    };
+    let list = read_unless(alloc, &read, operands.are_raw)?;
+    check_call(alloc, findings, site, &list, &operands.list, is_whole)?;
+    Ok(reading_of(is_whole))
 }
 
 /// Reads a call of a macro for inline assembly, and adds its findings. Returns `Err` if an
 /// allocation fails.
-pub fn read_templates(
+pub fn read_asm(
     alloc: Global,
     findings: &mut Vec<Finding>,
-    file: File<'_, '_>,
+    text: &str,
     part: &Source<'_>,
     call: &Call,
     arguments: &[Argument],
-) -> Result<CallReading, AllocError> {
+) -> Result<CallReading, AllocError>
+    requires pair { IsPair part.now (call.now.name + 2) call.now.close }
+    requires split { AreArguments part.now (call.now.name + 3) arguments.now call.now.close }
+    ensures read { IfOk result (λ r. (xs : List FindingValue)
+        × (findings.new.items ≡ findings.old.items ++ xs)
+        × ReadsTemplates part.now call.now arguments.now
+        (template_count part.now arguments.now) r xs) }
+    ensures spans { OnOk result (All (HasSpans text.now) findings.old.items
+        → All (HasSpans text.now) findings.new.items) }
+{
     let tokens = part.tokens();
     let count = template_count(tokens, arguments);
-    let templates = first_tokens(alloc, tokens, &arguments[..count])?;
     let operands = operands_of(alloc, tokens, &arguments[count..])?;
-    let end = if count > 0 {
-        arguments[count - 1].end
-    } else {
-        call.close
-    };
-    let is_counted = operands.are_known && are_counted(part, call.name + 2, end, call.close);
-    let site = AsmSite {
-        text: file.text,
+    let is_counted = are_counted(part, call.name + 2, call.name + 3, call.close);
+    let is_whole = !operands.is_unknown && is_counted;
+    let reading = read_literals(
+        alloc,
+        findings,
+        text,
         tokens,
-        templates: &templates,
-        operands: &operands.arguments,
-    };
-    let Some(literals) = literals(alloc, &templates)? else {
-        return Ok(CallReading::Malformed);
-    };
-    let read = if operands.is_raw {
-        &literals[..0]
-    } else {
-        &literals[..]
-    };
-    put_findings(alloc, findings, site, read, &operands.list, is_counted)?;
-    Ok(if is_counted {
-        CallReading::Whole
-    } else {
-        CallReading::StringAlone
-    })
+        &arguments[..count],
+        &operands,
+        is_whole,
+    )?;
+    Ok(reading)
 }

@@ -1,6 +1,7 @@
 //! The faults of the format strings of a Rust source file, from its text ([`file_faults`]).
 #![tactic(auto)]
 
+mod asm_findings;
 mod assembly;
 mod attributes;
 mod findings;

@@ -14,13 +14,12 @@ ghost use Rattle.source_lint.specs.Findings.{AreFindings, HasSpans};
 ghost use Rattle.source_lint.specs.Givens.{given};
 ghost use Rattle.source_lint.specs.Literals.{without_crs};
 ghost use Rattle.source_lint.specs.Macros.{names_in};
-ghost use Rattle.source_lint.specs.Readings.{Reads, ReadsAt, ReadsLiteral, call_of};
+ghost use Rattle.source_lint.specs.Readings.{Reads, ReadsAt, ReadsLiteral, ReadsOne, call_of};
 ghost use Rattle.source_lint.specs.Readings.{captures, counted_givens, is_empty, name_at};
-ghost use Rattle.source_lint.specs.Readings.{reading_of};
 ghost use Rattle.source_lint.specs.declared.report.Finding.{Finding as FindingValue};
 
-use crate::assembly::read_templates;
-use crate::findings::put_findings;
+use crate::assembly::read_asm;
+use crate::findings::{put_findings, reading_of};
 use crate::givens::givens;
 use crate::literals::{appends_newline, dropped_crs, read_literal};
 use crate::macros::is_defined;
@@ -69,17 +68,6 @@ fn counted_givens<'a>(
     }
     let found = givens(alloc, tokens, arguments)?;
     Ok(found)
-}
-
-/// Returns how much of a call is read where the number of its arguments is known, and where not.
-fn reading_of(is_counted: bool) -> CallReading
-    ensures { result ≡ reading_of is_counted }
-{
-    if is_counted {
-        CallReading::Whole
-    } else {
-        CallReading::StringAlone
-    }
 }
 
 /// Checks a call with this format string and these arguments, and adds its findings. Returns `Err`
@@ -215,6 +203,40 @@ fn read_at(
     Ok(reading)
 }
 
+/// Reads a call whose format string is the argument of this index, or whose templates begin with it,
+/// and adds its findings. Returns `Err` if an allocation fails.
+fn read_one<'a>(
+    alloc: Global,
+    findings: &mut Vec<Finding>,
+    file: File<'_, 'a>,
+    part: &Source<'a>,
+    call: &Call,
+    arguments: &[Argument],
+    index: usize,
+) -> Result<CallReading, AllocError>
+    requires pair { IsPair part.now (call.now.name + 2) call.now.close }
+    requires split { AreArguments part.now (call.now.name + 3) arguments.now call.now.close }
+    requires literal { (a : ArgumentValue) × (slice_get arguments.now index ≡ Some a)
+        × IsTrue (is_text part.now a) }
+    ensures read { IfOk result (λ r. (xs : List FindingValue)
+        × (findings.new.items ≡ findings.old.items ++ xs)
+        × ReadsOne call.now.rule file.entry.is_from_2021 part.now call.now arguments.now index r
+        xs) }
+    ensures spans { OnOk result (All (HasSpans file.entry.text.now) findings.old.items
+        → All (HasSpans file.entry.text.now) findings.new.items) }
+{
+    match call.rule {
+        Rule::Templates => {
+            let reading = read_asm(alloc, findings, file.text, part, call, arguments)?;
+            Ok(reading)
+        }
+        Rule::At(_) | Rule::ByEdition(_) | Rule::AfterFields => {
+            let reading = read_at(alloc, findings, file, part, call, arguments, index)?;
+            Ok(reading)
+        }
+    }
+}
+
 /// Returns whether no token stands where an argument should.
 fn is_empty(argument: &Argument) -> bool
     ensures { result ≡ is_empty argument.now }
@@ -263,12 +285,8 @@ pub fn read_call<'a>(
     }
     match format_string(part, call.rule, list, file.is_from_2021) {
         Err(reason) => Ok(CallReading::Unread(reason)),
-        Ok(_) if matches!(call.rule, Rule::Templates) => {
-            let reading = read_templates(alloc, findings, file, part, call, list)?;
-            Ok(reading)
-        }
         Ok(index) => {
-            let reading = read_at(alloc, findings, file, part, call, list, index)?;
+            let reading = read_one(alloc, findings, file, part, call, list, index)?;
             Ok(reading)
         }
     }
