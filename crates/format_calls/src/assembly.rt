@@ -1,12 +1,14 @@
 //! The arguments of a macro for inline assembly: templates, and then operands and options.
 
-ghost use Rattle.std.specs.Prelude.{◌≡◌, ◌-◌, ◌<◌, ◌≤◌, codes, length, map, slice_get};
+ghost use Prim.Native.Char.{code};
+ghost use Rattle.std.specs.Prelude.{◌≡◌, ◌-◌, ◌<◌, ◌≤◌, codes, length, map, option_map, slice_get};
 ghost use Rattle.rust_trees.specs.Leaves.{leaf};
 ghost use Rattle.format_calls.specs.Assembly.{asm_part, has_raw, is_direction, is_string_at};
-ghost use Rattle.format_calls.specs.Assembly.{is_value, is_word_at, part_at, register_at};
-ghost use Rattle.format_calls.specs.Assembly.{setting_of, template_count};
+ghost use Rattle.format_calls.specs.Assembly.{is_value, is_word_at, part_of, register_at};
+ghost use Rattle.format_calls.specs.Assembly.{setting_of, template_count, token_in};
+ghost use Rattle.format_calls.specs.Marks.{is_mark_of};
 
-use crate::marks::{is_mark, token_at};
+use crate::marks::{is_mark_of, token_at};
 use crate::modes::is_text as is_text_of;
 use crate::split::Argument;
 use crate::strings::is_text;
@@ -34,13 +36,12 @@ pub fn template_count(tokens: &[Token<'_>], arguments: &[Argument]) -> usize
     ensures value { result ≡ template_count (map leaf tokens.now) arguments.now }
     ensures within { result ≤ length arguments.now }
 {
-    match arguments
-        .iter()
-        .position(|argument| !is_text(tokens, argument))
-    {
-        Some(index) => index,
-        None => arguments.len(),
+    for (index, argument) in arguments.iter().enumerate() {
+        if !is_text(tokens, argument) {
+            return index;
+        }
     }
+    arguments.len()
 }
 
 /// Returns whether a word is that of an operand that a register in parentheses follows.
@@ -61,12 +62,22 @@ fn is_value(token: &Token<'_>) -> bool
     is_text_of(token, "const") || is_text_of(token, "sym") || is_text_of(token, "label")
 }
 
-/// Returns whether the token of an index is a string literal, of whatever kind.
-fn is_string(tokens: &[Token<'_>], index: usize) -> bool
-    ensures { result ≡ is_string_at (slice_get (map leaf tokens.now) index) }
+/// Returns whether there is a token, and it is a string literal, of whatever kind.
+fn is_string(token: Option<Token<'_>>) -> bool
+    ensures { result ≡ is_string_at (option_map leaf token.entry) }
 {
-    match token_at(tokens, index) {
+    match token {
         Some(token) => matches!(token.kind, Kind::Str | Kind::RawStr),
+        None => false,
+    }
+}
+
+/// Returns whether there is a token, and it is an opening parenthesis.
+fn is_parenthesis(token: Option<Token<'_>>) -> bool
+    ensures { result ≡ is_mark_of (code "(") (option_map leaf token.entry) }
+{
+    match token {
+        Some(token) => is_mark_of(&token, b'('),
         None => false,
     }
 }
@@ -95,11 +106,11 @@ fn has_raw(tokens: &[Token<'_>], from: usize, to: usize) -> bool
     false
 }
 
-/// Returns which operand has its register at the token of an index, after a parenthesis.
-fn register_at(tokens: &[Token<'_>], index: usize) -> AsmPart
-    ensures { result ≡ register_at (slice_get (map leaf tokens.now) index) }
+/// Returns which operand has its register, in parentheses, at this token.
+fn register_at(token: Option<Token<'_>>) -> AsmPart
+    ensures { result ≡ register_at (option_map leaf token.entry) }
 {
-    if is_string(tokens, index) {
+    if is_string(token) {
         AsmPart::Register
     } else {
         AsmPart::Operand
@@ -124,24 +135,42 @@ fn setting_of(has_raw: bool, token: &Token<'_>) -> AsmPart
     }
 }
 
-/// Returns what an argument is whose value starts at the token of an index.
-fn part_at(tokens: &[Token<'_>], argument: &Argument, start: usize) -> AsmPart
-    ensures { result ≡ part_at (map leaf tokens.now) argument.now start
-        (slice_get (map leaf tokens.now) start) }
+/// Returns the token of an index, if it is one of an argument.
+fn token_in<'a>(tokens: &[Token<'a>], argument: &Argument, index: usize) -> Option<Token<'a>>
+    ensures { option_map leaf result ≡ token_in (map leaf tokens.now) argument.now index }
 {
-    let Some(token) = token_at(tokens, start) else {
+    if index < argument.end {
+        token_at(tokens, index)
+    } else {
+        None
+    }
+}
+
+/// Returns what an argument is whose value begins with the first one of these three tokens, if they
+/// are there. It has a name or not, and the word `raw` or not.
+fn part_of(
+    is_named: bool,
+    has_raw: bool,
+    first: Option<Token<'_>>,
+    second: Option<Token<'_>>,
+    third: Option<Token<'_>>,
+) -> AsmPart
+    ensures { result ≡ part_of is_named has_raw (option_map leaf first.entry)
+        (option_map leaf second.entry) (option_map leaf third.entry) }
+{
+    let Some(first) = first else {
         return AsmPart::Unknown;
     };
-    if is_direction(&token) && is_mark(tokens, start + 1, b'(') {
-        return register_at(tokens, start + 2);
+    if is_direction(&first) && is_parenthesis(second) {
+        return register_at(third);
     }
-    if is_value(&token) {
+    if is_value(&first) {
         return AsmPart::Operand;
     }
-    if argument.is_named {
+    if is_named {
         return AsmPart::Unknown;
     }
-    setting_of(has_raw(tokens, argument.start, argument.end), &token)
+    setting_of(has_raw, &first)
 }
 
 /// Returns what an argument after the templates is, which starts at one of the tokens.
@@ -149,9 +178,16 @@ pub fn asm_part(tokens: &[Token<'_>], argument: &Argument) -> AsmPart
     requires { argument.now.start < length tokens.now }
     ensures { result ≡ asm_part (map leaf tokens.now) argument.now }
 {
-    if argument.is_named {
-        part_at(tokens, argument, argument.start + 2)
+    let start = if argument.is_named {
+        argument.start + 2
     } else {
-        part_at(tokens, argument, argument.start)
-    }
+        argument.start
+    };
+    part_of(
+        argument.is_named,
+        has_raw(tokens, argument.start, argument.end),
+        token_in(tokens, argument, start),
+        token_in(tokens, argument, start + 1),
+        token_in(tokens, argument, start + 2),
+    )
 }

@@ -1,3 +1,4 @@
+pub mod AsmTelling
 pub mod Calling
 pub mod CheckedCalls
 pub mod Crs
@@ -7,6 +8,7 @@ pub mod Embedding
 pub mod Joining
 pub mod Merging
 pub mod MovedArguments
+pub mod MovedAssembly
 pub mod MovedReadings
 pub mod MovedStrings
 pub mod Reporting

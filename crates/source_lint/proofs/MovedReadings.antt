@@ -15,13 +15,17 @@ use Rattle.format_calls.specs.Strings.{format_string}
 use Rattle.format_calls.specs.declared.listing.Call.{Call}
 use Rattle.format_calls.specs.declared.split.Argument.{Argument}
 use Rattle.format_calls.specs.declared.strings.Reason.{Reason}
+use Rattle.format_calls.specs.declared.table.Rule.{Rule}
+use Rattle.format_calls.specs.declared.table.Rule.TheVariants.{At, ByEdition, AfterFields}
+use Rattle.format_calls.specs.declared.table.Rule.TheVariants.{Templates}
 use Rattle.source_lint.specs.declared.report.CallReading.{CallReading}
 use Rattle.source_lint.specs.declared.report.Finding.{Finding}
 use Rattle.source_lint.specs.Literals.{appends_newline}
-use Rattle.source_lint.specs.Readings.{Reads, ReadsAt, ReadsBy, ReadsFull, ReadsUnless, captures}
+use Rattle.source_lint.specs.Readings.{Reads, ReadsAt, ReadsBy, ReadsOne, ReadsFull, ReadsUnless, captures}
 use Rattle.source_lint.specs.Readings.{is_empty, name_at, name_of_leaf}
 use Rattle.source_lint.proofs.Calling.{reads-by}
 use Rattle.source_lint.proofs.Embedding.{Embeds}
+use Rattle.source_lint.proofs.MovedAssembly.{asm-same}
 use Rattle.source_lint.proofs.MovedArguments.{LiesIn, arguments-at, arguments-lie, counted-at}
 use Rattle.source_lint.proofs.MovedArguments.{shifted, trees-at}
 use Rattle.source_lint.proofs.MovedStrings.{lies-get, others-same, string-same}
@@ -59,12 +63,25 @@ at-same is_new xs ys g c bs n r fs e p k h =
           (sym (others-same xs ys g (c.name + 3) c.close (n + 1) bs e w all)) h.reads;
     }
 
+one-same : (rule : Rule) (is_new : Bool) (xs ys : List Leaf) (g : ℕ) (c : Call)
+    (bs : List Argument) (n : ℕ) (r : CallReading) (fs : List Finding) → Embeds xs ys g
+    → IsPair xs (c.name + 2) c.close → AreArguments xs (c.name + 3) bs c.close
+    → ReadsOne rule is_new xs c bs n r fs
+    → ReadsOne rule is_new ys (moved g c) (map (shifted g) bs) n r fs
+one-same (At m) is_new xs ys g c bs n r fs e p k h = at-same is_new xs ys g c bs n r fs e p k h
+one-same (ByEdition m) is_new xs ys g c bs n r fs e p k h =
+    at-same is_new xs ys g c bs n r fs e p k h
+one-same AfterFields is_new xs ys g c bs n r fs e p k h =
+    at-same is_new xs ys g c bs n r fs e p k h
+one-same Templates is_new xs ys g c bs n r fs e p k h = asm-same xs ys g c bs r fs e p k h
+
 by-same : (is_new : Bool) (xs ys : List Leaf) (g : ℕ) (c : Call) (bs : List Argument)
     (o : Result ℕ Reason) (r : CallReading) (fs : List Finding) → Embeds xs ys g
     → IsPair xs (c.name + 2) c.close → AreArguments xs (c.name + 3) bs c.close
     → ReadsBy is_new xs c bs o r fs
     → ReadsBy is_new ys (moved g c) (map (shifted g) bs) o r fs
-by-same is_new xs ys g c bs (Ok n) r fs e p k h = at-same is_new xs ys g c bs n r fs e p k h
+by-same is_new xs ys g c bs (Ok n) r fs e p k h =
+    one-same c.rule is_new xs ys g c bs n r fs e p k h
 by-same is_new xs ys g c bs (Err x) r fs e p k h = h
 
 -- an argument is as long as before

@@ -25,13 +25,14 @@ use Rattle.source_lint.specs.Findings.{reading_of}
 use Rattle.source_lint.specs.Givens.{name_of}
 use Rattle.source_lint.specs.Literals.{without_crs}
 
+-- An operand without a register of its own, with this name or none.
+abbrev pub named : Option Text → Operand
+named None = Unnamed
+named (Some w) = Named w
+
 -- The operand that an argument is, if it is one.
 abbrev pub operand_of : List Leaf → Argument → AsmPart → Option Operand
 operand_of xs a OperandPart = Some (named (name_of xs a))
-  where
-    named : Option Text → Operand
-    named None = Unnamed
-    named (Some w) = Named w
 operand_of xs a RegisterPart = Some (Register a.is_named)
 operand_of xs a Raw = None
 operand_of xs a Setting = None
