@@ -1,7 +1,9 @@
 pub mod AsmFindings
 pub mod Assembly
+pub mod Attributes
 pub mod Files
 pub mod Findings
+pub mod Generics
 pub mod Givens
 pub mod Literals
 pub mod Macros
