@@ -1,6 +1,6 @@
 -- The report on a file.
 use Rattle.std.specs.Prelude.{◌≡◌, ◌++◌, ◌↔◌, ◌⊎◌, ℕ, Bool, List, [], ◌∷◌, Contains, codes, length}
-use Rattle.std.specs.Str.{HasSubslice}
+use Rattle.std.specs.Str.Iter.{HasSubslice}
 use Rattle.rust_trees.specs.Balances.{BreaksAt}
 use Rattle.rust_trees.specs.Leaves.{Leaf}
 use Rattle.format_calls.specs.Calls.{IsCall, Rises}
