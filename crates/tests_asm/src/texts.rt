@@ -60,15 +60,27 @@ fn faults<'a>(
     message_faults(alloc, message)
 }
 
+/// Returns what is said of a text with this literal: of each fault, sorted.
+fn said(alloc: Global, text: &str, literal: &str) -> Result<String, AllocError> {
+    let mut parts = Vec::new(alloc);
+    for fault in &faults(alloc, text, literal, Some(&["A", "B", "N"]))? {
+        let mut part = String::new(alloc);
+        put_fault(&mut part, literal.len(), fault)?;
+        parts.push(part)?;
+    }
+    parts.sort()?;
+    let mut said = String::new(alloc);
+    for part in &parts {
+        said.push_str(part)?;
+    }
+    Ok(said)
+}
+
 #[test]
 fn texts_are_as_rustc_says(rt: HostRuntime) -> Result<(), Fail> {
     let alloc = rt.alloc();
     for row in TEXT_ROWS {
-        let mut said = String::new(alloc);
-        let parameters = ["A", "B", "N"];
-        for fault in &faults(alloc, row.text, row.literal, Some(&parameters))? {
-            put_fault(&mut said, row.literal.len(), fault)?;
-        }
+        let said = said(alloc, row.text, row.literal)?;
         assert_eq!(&rt; said.as_str(), row.said, "{}", row.literal);
     }
     Ok(())
