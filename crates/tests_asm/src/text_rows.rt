@@ -8,8 +8,8 @@ pub struct TextRow {
     /// The text that it stands for.
     pub text: &'static str,
     /// Of each fault its title, its labels, whose lines are sorted, and its help, each on a line,
-    /// and the faults are sorted. Byte ranges count from the start of the literal. A label has the sign `^` or `-`, its range
-    /// and its text, and a help has `?`.
+    /// and the faults are sorted. Byte ranges count from the start of the literal. A label has the
+    /// sign `^` or `-`, its range and its text, and a help has `?`.
     pub said: &'static str,
 }
 

@@ -28,11 +28,7 @@ fn put_labels(out: &mut String, length: usize, labels: &[CallLabel]) -> Result<(
 }
 
 /// Adds what is said of a fault in a literal of this length.
-fn put_fault(
-    out: &mut String,
-    length: usize,
-    fault: &MessageFault<'_>,
-) -> Result<(), AllocError> {
+fn put_fault(out: &mut String, length: usize, fault: &MessageFault<'_>) -> Result<(), AllocError> {
     let alloc = *out.allocator();
     fault.put_title(alloc, out, "T")?;
     out.push('\n')?;
@@ -91,7 +87,11 @@ fn each_kind_of_text_has_its_id(rt: HostRuntime) -> Result<(), Fail> {
     let alloc = rt.alloc();
     // the text and its literal, and the ids
     let rows = [
-        ("{A:?}{}{Z}", "\"{A:?}{}{Z}\"", "specifier-in-message positional-in-message missing-parameter "),
+        (
+            "{A:?}{}{Z}",
+            "\"{A:?}{}{Z}\"",
+            "specifier-in-message positional-in-message missing-parameter ",
+        ),
         ("}", "\"}\"", "unmatched-closing-brace "),
     ];
     for (text, literal, expected) in rows {
