@@ -48,11 +48,12 @@ fn first_faults<'a>(alloc: Global, parser: &mut Parser<'a>) -> Result<Vec<Fault<
     Ok(faults)
 }
 
-/// Returns the fault that is shown of all calls of a parser, or `None` if they find none. Returns
-/// `Err` if an allocation fails.
+/// Returns the fault of a text that rustc shows: of the calls of a parser from where it is, up to
+/// the first one that finds any. Returns `None` if they find none. The parser is then after these
+/// calls. Returns `Err` if an allocation fails, and the parser may then be after some of them.
 // ensures { IfOk result (λ o. option_map seen_fault o ≡ text_fault parser.old) }
 #[inline]
-pub(crate) fn text_fault<'a>(
+pub fn text_fault<'a>(
     alloc: Global,
     parser: &mut Parser<'a>,
 ) -> Result<Option<Fault<'a>>, AllocError> {
