@@ -58,8 +58,8 @@ abbrev pub late_labels : List Operand → ℕ → List Label
 late_labels ss i = primary (WholeOperand i) (codes "positional argument")
     ∷ (front_labels false i 0 ss ++ front_labels true i 0 ss)
 
--- The labels of a placeholder there that refers to an operand by a wrong index, and of this operand,
--- if there is one.
+-- The labels of a placeholder there that refers to an operand by a wrong index, and of this
+-- operand, if there is one.
 abbrev pub wrong_labels : AsmSpot → ℕ → Option Operand → List Label
 wrong_labels s i None = primary s (codes "from here") ∷ []
 wrong_labels s i (Some o) = primary s (codes "from here") ∷ kind_label i o

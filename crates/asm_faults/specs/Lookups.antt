@@ -58,8 +58,8 @@ modifier_lookups k f = if is_long f.ty then Long (spot_of k f.ty_span) ∷ [] el
 abbrev pub argument_lookups : ℕ → ℕ → AsmSpot → Argument Place → List Lookup
 argument_lookups k n s a = position_lookup k n s a ∷ modifier_lookups k a.format
 
--- What is looked up for a piece of the template k, where ps are the places of its placeholder and of
--- the later ones.
+-- What is looked up for a piece of the template k, where ps are the places of its placeholder and
+-- of the later ones.
 abbrev pub one_lookups : ℕ → ℕ → List Place → Piece Place → List Lookup
 one_lookups k n ps (Lit t) = []
 one_lookups k n ps (NextArgument a) = argument_lookups k n (first_spot k ps) a

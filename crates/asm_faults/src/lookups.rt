@@ -122,7 +122,8 @@ fn push_modifier<'a>(
     template: usize,
     argument: &Argument<'a>,
 ) -> Result<(), AllocError>
-    ensures lookups { OnOk result (map seen_lookup lookups.new.items ≡ map seen_lookup lookups.old.items
+    ensures lookups { OnOk result (map seen_lookup lookups.new.items
+        ≡ map seen_lookup lookups.old.items
         ++ modifier_lookups template (seen_argument argument.now).format) }
     ensures more { OnOk result (length lookups.old.items ≤ length lookups.new.items) }
 {

@@ -29,11 +29,7 @@ pub struct AsmNote {
 }
 
 /// Adds a note.
-fn push_note(
-    notes: &mut Vec<AsmNote>,
-    text: &str,
-    spot: Option<AsmSpot>,
-) -> Result<(), AllocError>
+fn push_note(notes: &mut Vec<AsmNote>, text: &str, spot: Option<AsmSpot>) -> Result<(), AllocError>
     ensures { OnOk result (map seen_note notes.new.items
         ≡ map seen_note notes.old.items ++ note text.now spot ∷ []) }
 {
@@ -168,11 +164,7 @@ fn push_text(alloc: Global, notes: &mut Vec<AsmNote>, fault: &Fault<'_>) -> Resu
 }
 
 /// Adds what a placeholder has for an operand.
-fn put_reference(
-    out: &mut String,
-    operands: &[Operand<'_>],
-    index: usize,
-) -> Result<(), AllocError>
+fn put_reference(out: &mut String, operands: &[Operand<'_>], index: usize) -> Result<(), AllocError>
     ensures { OnOk result (string_bytes out.new ≡ string_bytes out.old
         ++ reference index (slice_get (map seen_operand operands.now) index)) }
 {

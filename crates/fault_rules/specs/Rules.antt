@@ -3,8 +3,8 @@ use Rattle.std.specs.Prelude.{ℕ, ◌++◌, List, [], ◌∷◌, Bool, false, i
 use Rattle.std.specs.Str.{bytes_eq}
 use Rattle.fault_rules.specs.declared.rules.Rule.{Rule}
 
--- The ids of all kinds: first of faults of format strings, then of calls, of inline assembly, and of
--- texts of attributes. One that an earlier kind has too is not there again.
+-- The ids of all kinds: first of faults of format strings, then of calls, of inline assembly, and
+-- of texts of attributes. One that an earlier kind has too is not there again.
 abbrev pub ids : List (List ℕ)
 ids =
     codes "unmatched-closing-brace" ∷

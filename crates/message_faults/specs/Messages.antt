@@ -39,7 +39,8 @@ abbrev pub specifier_faults : Bool → Option Place → List MessageFault
 specifier_faults b None = []
 specifier_faults b (Some p) = Specifier (spot_of b p) ∷ []
 
--- The fault of a name, if it is none of these parameters. Without them each name may mean something.
+-- The fault of a name, if it is none of these parameters. Without them each name may mean
+-- something.
 abbrev pub name_faults : Option (List (List ℕ)) → Spot → Text → List MessageFault
 name_faults None s w = []
 name_faults (Some ps) s w =

@@ -19,7 +19,8 @@ message_id (MissingParameter s w) = codes "missing-parameter"
 
 -- The title of a name that is that of no parameter of a trait.
 abbrev pub parameter_title : Text → Text → List ℕ
-parameter_title w t = codes "there is no parameter " ++ (quoted w ++ (codes " on trait " ++ quoted t))
+parameter_title w t =
+    codes "there is no parameter " ++ (quoted w ++ (codes " on trait " ++ quoted t))
 
 -- The title of a fault, for a trait of this name.
 unfoldable pub title : Text → MessageFault → List ℕ
@@ -43,6 +44,7 @@ labels (MissingParameter s w) = primary s [] ∷ []
 unfoldable pub help : MessageFault → Option (List ℕ)
 help (TextFault f) = None
 help (Specifier s) = Some (codes "no format specifier are supported in this position")
-help (Positional s) = Some (codes "only named format arguments with the name of one of the generic types are allowed in this context")
+help (Positional s) = Some (codes
+    "only named format arguments with the name of one of the generic types are allowed in this context")
 help (MissingParameter s w) =
     Some (codes "expect either a generic argument name or `{Self}` as format argument")

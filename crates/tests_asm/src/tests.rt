@@ -24,13 +24,13 @@ fn operand(argument: &str) -> Operand<'_> {
         return Operand::Register { has_name };
     }
     match name {
-        Some(name) => Operand::Named(name),
+        Some(name) => Operand::Named(name.strip_prefix("r#").unwrap_or(name)),
         None => Operand::Unnamed,
     }
 }
 
 /// Returns the arguments of a call.
-fn parts<'a>(alloc: Global, call: &'a str) -> Result<Parts<'a>, AllocError> {
+fn parts_of<'a>(alloc: Global, call: &'a str) -> Result<Parts<'a>, AllocError> {
     let mut found = Parts {
         templates: Vec::new(alloc),
         operands: Vec::new(alloc),
@@ -133,7 +133,7 @@ fn put_fault<'a>(
 
 /// Returns what is said of a call.
 fn said(alloc: Global, call: &str) -> Result<String, AllocError> {
-    let parts = parts(alloc, call)?;
+    let parts = parts_of(alloc, call)?;
     let checked = asm_faults(alloc, &parts.templates, &parts.operands)?;
     let mut out = String::new(alloc);
     for fault in &checked.faults {
@@ -144,7 +144,7 @@ fn said(alloc: Global, call: &str) -> Result<String, AllocError> {
 
 /// Returns the ids of what is wrong with a call, each on a line.
 fn ids(alloc: Global, call: &str) -> Result<String, AllocError> {
-    let parts = parts(alloc, call)?;
+    let parts = parts_of(alloc, call)?;
     let mut out = String::new(alloc);
     for fault in &asm_faults(alloc, &parts.templates, &parts.operands)?.faults {
         if !out.is_empty() {

@@ -13,16 +13,17 @@ pub struct Rule {
     pub summary: &'static str,
     /// The rule of the language, and how the fault is avoided.
     pub explanation: &'static str,
-    /// A call that has the fault, or a string of a message of the compiler.
+    /// A call or an attribute that has the fault, or a string of a message of the compiler.
     pub example: &'static str,
     /// The example without the fault.
     pub correction: &'static str,
 }
 
 /// The number of kinds of faults.
-pub const COUNT: usize = 25;
+pub const COUNT: usize = 32;
 
-/// A rule for each kind of fault: first those of format strings, and then those of calls.
+/// A rule for each kind of fault: first those of format strings, then those of calls, of inline
+/// assembly, and of texts of attributes.
 pub const RULES: [Rule; COUNT] = [
     Rule {
         id: "unmatched-closing-brace",
@@ -215,6 +216,62 @@ pub const RULES: [Rule; COUNT] = [
         explanation: "This is a warning: the program compiles, and the name is of no use.",
         example: "println!(\"{}\", x = 1);",
         correction: "println!(\"{x}\", x = 1);",
+    },
+    Rule {
+        id: "operand-order",
+        summary: "an operand after others, which has neither a name nor a register of its own",
+        explanation: "In inline assembly an index counts the operands from 0. Those that have \
+            neither a name nor a register of their own come first.",
+        example: "asm!(\"mov {1}, {a}\", a = in(reg) x, out(reg) y);",
+        correction: "asm!(\"mov {0}, {a}\", out(reg) y, a = in(reg) x);",
+    },
+    Rule {
+        id: "register-name",
+        summary: "an operand with a name and a register of its own",
+        explanation: "A name in a template stands for a register that the compiler chooses. A \
+            register of its own is written as it is.",
+        example: "asm!(\"inc eax\", a = inout(\"eax\") x);",
+        correction: "asm!(\"inc eax\", inout(\"eax\") x);",
+    },
+    Rule {
+        id: "wrong-operand",
+        summary: "an index of no operand, or of one with a name or a register of its own",
+        explanation: "In inline assembly an index counts the operands from 0, and means one that \
+            has neither a name nor a register of its own.",
+        example: "asm!(\"mov {0}, {1}\", out(reg) y);",
+        correction: "asm!(\"mov {0}, {1}\", out(reg) y, in(reg) x);",
+    },
+    Rule {
+        id: "long-modifier",
+        summary: "a modifier of several characters",
+        explanation: "In inline assembly one character after a colon says in which form the name \
+            of a register is written.",
+        example: "asm!(\"mov {0:eax}, 1\", out(reg) y);",
+        correction: "asm!(\"mov {0:e}, 1\", out(reg) y);",
+    },
+    Rule {
+        id: "specifier-in-message",
+        summary: "a colon in a placeholder, in a text of an attribute",
+        explanation: "This is a warning. In a text of `diagnostic::on_unimplemented` nothing \
+            follows the name of a placeholder.",
+        example: "#[diagnostic::on_unimplemented(message = \"no {T:?}\")] trait A<T> {}",
+        correction: "#[diagnostic::on_unimplemented(message = \"no {T}\")] trait A<T> {}",
+    },
+    Rule {
+        id: "positional-in-message",
+        summary: "a position that is not a name, in a text of an attribute",
+        explanation: "This is a warning. In a text of `diagnostic::on_unimplemented` each \
+            placeholder is a name.",
+        example: "#[diagnostic::on_unimplemented(message = \"no {}\")] trait A<T> {}",
+        correction: "#[diagnostic::on_unimplemented(message = \"no {T}\")] trait A<T> {}",
+    },
+    Rule {
+        id: "missing-parameter",
+        summary: "a name of no parameter, in a text of an attribute",
+        explanation: "This is a warning. In a text of `diagnostic::on_unimplemented` a name is \
+            that of a type parameter or a constant parameter of the trait, or `Self`.",
+        example: "#[diagnostic::on_unimplemented(message = \"no {U}\")] trait A<T> {}",
+        correction: "#[diagnostic::on_unimplemented(message = \"no {T}\")] trait A<T> {}",
     },
 ];
 
