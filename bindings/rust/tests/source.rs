@@ -197,6 +197,7 @@ fn reports() {
         "    panic!(x);",
         "    print!(\"\\q\");",
         "    format!(\"{} {}\", x);",
+        "    format!(\"{} {}}\", , x);",
         "}",
     ]
     .join("\r\n");
@@ -211,6 +212,7 @@ fn reports() {
             CallReading::Unread(Reason::Expression),
             CallReading::Malformed,
             CallReading::Whole,
+            CallReading::NoExpression,
         ]
     ));
     let places = Places::new(&text);
