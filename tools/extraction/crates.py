@@ -10,9 +10,10 @@ from extraction.tokens import Refused
 TOP = Path(__file__).resolve().parent.parent.parent
 RUST = TOP / "bindings/rust/src"
 CRATES = ("rustc_parse_format", "placeholder_check", "format_tokens", "drawn_faults", "rust_tokens",
-          "rust_trees", "format_calls", "call_faults", "asm_faults", "message_faults", "piece_listing", "listing_json",
-          "literal_faults", "format_lint", "lint_words", "source_lint", "fault_rules",
-          "message_forms", "package_edition", "formatread", "formatlint")
+          "rust_trees", "format_calls", "call_faults", "asm_faults", "message_faults",
+          "piece_listing", "listing_json", "literal_faults", "format_lint", "lint_words",
+          "source_lint", "fault_rules", "message_forms", "package_edition", "formatread",
+          "formatlint")
 NOTICE = """\
 // Extracted from {place} by tools/extract: not to be edited.
 // That source is proved, and each contract here is its. That this text means the same is tested:

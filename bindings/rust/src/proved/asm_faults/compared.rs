@@ -45,6 +45,30 @@ fn marks<'a>(
     Ok(marks)
 }
 
+/// Returns whether an operand is marked, or has a register of its own.
+// ensures { result ≡ (is_register (seen_operand slot.now) || get_or marks.now index false) }
+#[inline]
+fn is_settled(marks: &[bool], index: usize, slot: &Operand<'_>) -> bool {
+    matches!(slot, Operand::Register { .. }) || matches!(marks.get(index), Some(true))
+}
+
+/// Adds the index of an operand, unless it is marked or has a register of its own. Returns `Err` if
+/// an allocation fails.
+// ensures { OnOk result (left.new.items ≡ left.old.items
+//     ++ unused_one (λ i. get_or marks.now i false) index (seen_operand slot.now)) }
+#[inline]
+fn push_unmarked(
+    left: &mut Vec<usize>,
+    marks: &[bool],
+    index: usize,
+    slot: &Operand<'_>,
+) -> Result<(), AllocError> {
+    if !is_settled(marks, index, slot) {
+        left.try_push(index)?;
+    }
+    Ok(())
+}
+
 /// Returns the indices of the operands that are not marked, but for those with a register of their
 /// own. Returns `Err` if an allocation fails.
 // ensures { IfOk result (λ v. v.items
@@ -57,10 +81,7 @@ fn unmarked(
 ) -> Result<Vec<usize>, AllocError> {
     let mut left = Vec::made_in(alloc);
     for (index, slot) in slots.iter().enumerate() {
-        let is_register = matches!(slot, Operand::Register { .. });
-        if !is_register && !matches!(marks.get(index), Some(true)) {
-            left.try_push(index)?;
-        }
+        push_unmarked(&mut left, marks, index, slot)?;
     }
     Ok(left)
 }

@@ -7,9 +7,10 @@
 
 use crate::proved::asm_faults::checker::AsmCall;
 use crate::proved::asm_faults::faults::{AsmFault, AsmSpot};
+use crate::proved::asm_faults::lookups::bytes_at;
 use crate::proved::asm_faults::operands::Operand;
 use crate::proved::asm_faults::titles::never_used;
-use crate::proved::rustc_parse_format::Fault;
+use crate::proved::rustc_parse_format::{Fault, ParseError};
 use crate::shim::alloc::{AllocError, Global};
 use crate::shim::prelude::*;
 
@@ -43,42 +44,88 @@ fn push_label(
     Ok(())
 }
 
-/// Adds the labels of those of operands in front of an index that have a name.
+/// Adds the label of an operand that an index does not mean.
+// ensures { OnOk result (map seen_label labels.new.items
+//     ≡ map seen_label labels.old.items ++ kind_label index (seen_operand operand.now)) }
 #[inline]
-fn push_named(
+fn push_kind(
     labels: &mut Vec<AsmLabel>,
-    operands: &[Operand<'_>],
-    before: usize,
+    index: usize,
+    operand: &Operand<'_>,
 ) -> Result<(), AllocError> {
-    for (index, operand) in operands.iter().enumerate() {
-        if index < before {
-            if let Operand::Named(_) = operand {
-                push_label(labels, AsmSpot::Operand(index), false, "named argument")?;
-            }
-        }
+    let spot = AsmSpot::Operand(index);
+    match operand {
+        Operand::Unnamed => {}
+        Operand::Named(_) => push_label(labels, spot, false, "named argument")?,
+        Operand::Register { .. } => push_label(labels, spot, false, "explicit register argument")?,
     }
     Ok(())
 }
 
-/// Adds the labels of those of operands in front of an index that have a register of their own.
+/// Returns whether an operand has a register of its own, or else a name.
+// ensures { result ≡ is_kind is_register (seen_operand operand.now) }
 #[inline]
-fn push_registers(
+fn is_kind(is_register: bool, operand: &Operand<'_>) -> bool {
+    match operand {
+        Operand::Unnamed => false,
+        Operand::Named(_) => !is_register,
+        Operand::Register { .. } => is_register,
+    }
+}
+
+/// Adds the label of an operand, if it is in front of an index and has a register of its own, or
+/// else a name.
+// ensures { OnOk result (map seen_label labels.new.items ≡ map seen_label labels.old.items
+//     ++ front_label is_register before index (seen_operand operand.now)) }
+#[inline]
+fn push_front(
     labels: &mut Vec<AsmLabel>,
-    operands: &[Operand<'_>],
+    is_register: bool,
     before: usize,
+    index: usize,
+    operand: &Operand<'_>,
+) -> Result<(), AllocError> {
+    if index < before && is_kind(is_register, operand) {
+        push_kind(labels, index, operand)?;
+    }
+    Ok(())
+}
+
+/// Adds the labels of those of operands in front of an index that have a register of their own, or
+/// else of those that have a name.
+// ensures { OnOk result (map seen_label labels.new.items ≡ map seen_label labels.old.items
+//     ++ front_labels is_register before 0 (map seen_operand operands.now)) }
+#[inline]
+fn push_fronts(
+    labels: &mut Vec<AsmLabel>,
+    is_register: bool,
+    before: usize,
+    operands: &[Operand<'_>],
 ) -> Result<(), AllocError> {
     for (index, operand) in operands.iter().enumerate() {
-        if index < before {
-            if let Operand::Register { .. } = operand {
-                let text = "explicit register argument";
-                push_label(labels, AsmSpot::Operand(index), false, text)?;
-            }
-        }
+        push_front(labels, is_register, before, index, operand)?;
     }
+    Ok(())
+}
+
+/// Adds the labels of an operand that stands too late.
+// ensures { OnOk result (map seen_label labels.new.items ≡ map seen_label labels.old.items
+//     ++ late_labels (map seen_operand operands.now) index) }
+#[inline]
+fn push_late(
+    labels: &mut Vec<AsmLabel>,
+    operands: &[Operand<'_>],
+    index: usize,
+) -> Result<(), AllocError> {
+    push_label(labels, AsmSpot::Operand(index), true, "positional argument")?;
+    push_fronts(labels, false, index, operands)?;
+    push_fronts(labels, true, index, operands)?;
     Ok(())
 }
 
 /// Adds the labels of a wrong index of the placeholder at `spot`.
+// ensures { OnOk result (map seen_label labels.new.items ≡ map seen_label labels.old.items
+//     ++ wrong_labels spot index (slice_get (map seen_operand operands.now) index)) }
 #[inline]
 fn push_wrong(
     labels: &mut Vec<AsmLabel>,
@@ -87,20 +134,31 @@ fn push_wrong(
     index: usize,
 ) -> Result<(), AllocError> {
     push_label(labels, spot, true, "from here")?;
-    match operands.get(index) {
-        Some(Operand::Named(_)) => {
-            push_label(labels, AsmSpot::Operand(index), false, "named argument")?;
-        }
-        Some(Operand::Register { .. }) => {
-            let text = "explicit register argument";
-            push_label(labels, AsmSpot::Operand(index), false, text)?;
-        }
-        Some(Operand::Unnamed) | None => {}
+    if let Some(operand) = operands.get(index) {
+        push_kind(labels, index, operand)?;
+    }
+    Ok(())
+}
+
+/// Adds the label of the second range of an error of a template, if it has one.
+// ensures { OnOk result (map seen_label labels.new.items ≡ map seen_label labels.old.items
+//     ++ second_labels template (seen_error error.now).span (seen_error error.now).second) }
+#[inline]
+fn push_second(
+    labels: &mut Vec<AsmLabel>,
+    template: usize,
+    error: &ParseError,
+) -> Result<(), AllocError> {
+    if let Some((text, span)) = &error.secondary_label {
+        let is_same = span.start == error.span.start && span.end == error.span.end;
+        push_label(labels, bytes_at(template, span), is_same, text)?;
     }
     Ok(())
 }
 
 /// Adds the labels of a fault of a template.
+// ensures { OnOk result (map seen_label labels.new.items ≡ map seen_label labels.old.items
+//     ++ text_labels template (message (seen_text_fault fault.now))) }
 #[inline]
 fn push_text(
     alloc: Global,
@@ -111,34 +169,25 @@ fn push_text(
     let error = fault.error(alloc)?;
     let mut text = String::made_from(alloc, &error.label)?;
     text.try_push_str(" in asm template string")?;
-    let spot = AsmSpot::Bytes {
-        template,
-        start: error.span.start,
-        end: error.span.end,
-    };
-    push_label(labels, spot, true, &text)?;
-    if let Some((text, span)) = &error.secondary_label {
-        let is_same = span.start == error.span.start && span.end == error.span.end;
-        let second = AsmSpot::Bytes {
-            template,
-            start: span.start,
-            end: span.end,
-        };
-        push_label(labels, second, is_same, text)?;
-    }
+    push_label(labels, bytes_at(template, &error.span), true, &text)?;
+    push_second(labels, template, &error)?;
     Ok(())
 }
 
 /// Adds the labels of operands that are not used.
+// ensures { OnOk result (map seen_label labels.new.items ≡ map seen_label labels.old.items
+//     ++ unused_labels (map seen_operand operands.now) unused.now) }
 #[inline]
 fn push_unused(
     labels: &mut Vec<AsmLabel>,
     operands: &[Operand<'_>],
     unused: &[usize],
 ) -> Result<(), AllocError> {
-    for index in unused {
+    let mut rest = unused;
+    while let Some((index, others)) = rest.split_first() {
         let text = never_used(operands, *index);
         push_label(labels, AsmSpot::Operand(*index), true, text)?;
+        rest = others;
     }
     Ok(())
 }
@@ -146,33 +195,20 @@ fn push_unused(
 impl<'a> AsmCall<'a> {
     /// Returns the labels of one of the faults, in rustc's order. Returns `Err` if an allocation
     /// fails.
+    // ensures { IfOk result (λ v. map seen_label v.items
+    //     ≡ labels (map seen_operand self.now.operands.items) (seen_fault fault.now)) }
     #[inline]
     pub fn labels(&self, alloc: Global, fault: &AsmFault<'a>) -> Result<Vec<AsmLabel>, AllocError> {
         let mut labels = Vec::made_in(alloc);
         match fault {
             AsmFault::PositionalAfter { operand } => {
-                push_label(
-                    &mut labels,
-                    AsmSpot::Operand(*operand),
-                    true,
-                    "positional argument",
-                )?;
-                push_named(&mut labels, &self.operands, *operand)?;
-                push_registers(&mut labels, &self.operands, *operand)?;
+                push_late(&mut labels, &self.operands, *operand)?;
             }
             AsmFault::RepeatedName { operand, first } => {
-                push_label(
-                    &mut labels,
-                    AsmSpot::Operand(*operand),
-                    true,
-                    "duplicate argument",
-                )?;
-                push_label(
-                    &mut labels,
-                    AsmSpot::Operand(*first),
-                    false,
-                    "previously here",
-                )?;
+                let spot = AsmSpot::Operand(*operand);
+                push_label(&mut labels, spot, true, "duplicate argument")?;
+                let spot = AsmSpot::Operand(*first);
+                push_label(&mut labels, spot, false, "previously here")?;
             }
             AsmFault::RegisterName { operand } => {
                 push_label(&mut labels, AsmSpot::Operand(*operand), true, "")?;

@@ -32,7 +32,7 @@ pub(crate) struct Walk<'a> {
 /// Returns a range of a template.
 // ensures { result ≡ spot_of template (Some (pair span.now)) }
 #[inline]
-fn bytes_at(template: usize, span: &Range<usize>) -> AsmSpot {
+pub(crate) fn bytes_at(template: usize, span: &Range<usize>) -> AsmSpot {
     AsmSpot::Bytes {
         template,
         start: span.start,
@@ -97,16 +97,23 @@ fn position_lookup<'a>(
     }
 }
 
+/// Returns the number of characters of a text.
+// ensures { result ≡ length (chars text.now) }
+#[inline]
+fn length_of(text: &str) -> usize {
+    text.chars().count()
+}
+
 /// Returns whether a modifier has several characters.
 // ensures { result ≡ is_long (chars ty.now) }
 #[inline]
 fn is_long(ty: &str) -> bool {
-    let mut characters = ty.chars();
-    characters.next().is_some() && characters.next().is_some()
+    length_of(ty) > 1
 }
 
 /// Adds what is looked up for the modifier of a placeholder. Returns `Err` if an allocation fails.
-// ensures lookups { OnOk result (map seen_lookup lookups.new.items ≡ map seen_lookup lookups.old.items
+// ensures lookups { OnOk result (map seen_lookup lookups.new.items
+//     ≡ map seen_lookup lookups.old.items
 //     ++ modifier_lookups template (seen_argument argument.now).format) }
 // ensures more { OnOk result (length lookups.old.items ≤ length lookups.new.items) }
 #[inline]
@@ -148,6 +155,39 @@ fn push_argument<'a>(
     Ok(())
 }
 
+/// Adds what is looked up for a piece, where `places` are those of its placeholder and of the later
+/// ones. Returns `Err` if an allocation fails.
+// requires { walk.old.next ≤ length walk.old.lookups.items }
+// ensures lookups { OnOk result (map seen_lookup walk.new.lookups.items
+//     ≡ map seen_lookup walk.old.lookups.items
+//     ++ one_lookups template walk.old.next (map pair places.now) (seen piece.now)) }
+// ensures next { OnOk result (walk.new.next ≡ next_of walk.old.next (seen piece.now)) }
+// ensures few { OnOk result (walk.new.next ≤ length walk.new.lookups.items) }
+#[inline]
+fn push_piece<'a>(
+    walk: &mut Walk<'a>,
+    template: usize,
+    places: &[Range<usize>],
+    piece: &Piece<'a>,
+) -> Result<(), AllocError> {
+    match piece {
+        Piece::Lit(_) => Ok(()),
+        Piece::NextArgument(argument) => {
+            push_argument(walk, template, first_spot(template, places), argument)
+        }
+    }
+}
+
+/// Returns the places after that of a piece, if it is a placeholder.
+// ensures { map pair result.now ≡ places_after (map pair places.now) (seen piece.now) }
+#[inline]
+fn places_after<'p>(places: &'p [Range<usize>], piece: &Piece<'_>) -> &'p [Range<usize>] {
+    match piece {
+        Piece::Lit(_) => places,
+        Piece::NextArgument(_) => others(places),
+    }
+}
+
 /// Adds what is looked up for the pieces of a template, whose placeholders have these places, in
 /// their order. Returns `Err` if an allocation fails.
 // requires { walk.old.next ≤ length walk.old.lookups.items }
@@ -165,13 +205,10 @@ pub(crate) fn push_pieces<'a>(
     places: &[Range<usize>],
 ) -> Result<(), AllocError> {
     let mut places = places;
-    let mut rest = pieces;
-    while let Some((piece, behind)) = rest.split_first() {
-        if let Piece::NextArgument(argument) = piece {
-            push_argument(walk, template, first_spot(template, places), argument)?;
-            places = others(places);
-        }
-        rest = behind;
+    for piece in pieces {
+        let after = places_after(places, piece);
+        push_piece(walk, template, places, piece)?;
+        places = after;
     }
     Ok(())
 }

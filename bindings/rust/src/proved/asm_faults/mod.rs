@@ -18,5 +18,6 @@ pub(crate) mod titles;
 pub use checker::{asm_faults, AsmCall};
 pub use faults::{AsmFault, AsmSpot};
 pub use labels::AsmLabel;
+pub use notes::AsmNote;
 pub use operands::Operand;
 pub use templates::Template;

@@ -16,8 +16,6 @@ use crate::shim::prelude::*;
 /// A note or a help of a fault.
 #[derive(Debug, PartialEq)]
 pub struct AsmNote {
-    /// Whether it is a help.
-    pub is_help: bool,
     /// Its text, in rustc's words.
     pub text: String,
     /// The place that it shows. A note without one is a row under the labels, and one with a place
@@ -25,62 +23,95 @@ pub struct AsmNote {
     pub spot: Option<AsmSpot>,
 }
 
-/// Adds a note or a help.
+/// Adds a note.
+// ensures { OnOk result (map seen_note notes.new.items
+//     ≡ map seen_note notes.old.items ++ note text.now spot ∷ []) }
 #[inline]
 fn push_note(
     notes: &mut Vec<AsmNote>,
-    is_help: bool,
     text: &str,
     spot: Option<AsmSpot>,
 ) -> Result<(), AllocError> {
     let text = String::made_from(*notes.own_allocator(), text)?;
-    notes.try_push(AsmNote {
-        is_help,
-        text,
-        spot,
-    })?;
+    notes.try_push(AsmNote { text, spot })?;
     Ok(())
 }
 
 /// Returns how many operands have neither a name nor a register of their own.
+// ensures { result ≡ count_unnamed (map seen_operand operands.now) }
 #[inline]
 fn count_unnamed(operands: &[Operand<'_>]) -> usize {
-    operands
-        .iter()
-        .filter(|operand| matches!(operand, Operand::Unnamed))
-        .count()
+    let mut count = 0;
+    for operand in operands {
+        if let Operand::Unnamed = operand {
+            count += 1;
+        }
+    }
+    count
 }
 
-/// Adds how many operands may be referred to by an index.
+/// Returns what the operands are that an index may mean.
+// ensures { result.now ≡ noun (map seen_operand operands.now) }
 #[inline]
-fn put_count(out: &mut String, operands: &[Operand<'_>]) -> Result<(), AllocError> {
-    let count = count_unnamed(operands);
-    let noun = if count == operands.len() {
+fn noun(operands: &[Operand<'_>]) -> &'static str {
+    if count_unnamed(operands) == operands.len() {
         "argument"
     } else {
         "positional argument"
-    };
+    }
+}
+
+/// Adds so many operands in words.
+// ensures { OnOk result (string_bytes out.new
+//     ≡ string_bytes out.old ++ count_text count word.now) }
+#[inline]
+fn put_count(out: &mut String, count: usize, word: &str) -> Result<(), AllocError> {
     if count == 0 {
         out.try_push_str("no ")?;
-        out.try_push_str(noun)?;
+        out.try_push_str(word)?;
         out.try_push_str("s were given")?;
         return Ok(());
     }
-    out.try_push_str(if count == 1 {
-        "there is "
-    } else {
-        "there are "
-    })?;
+    if count == 1 {
+        out.try_push_str("there is 1 ")?;
+        out.try_push_str(word)?;
+        return Ok(());
+    }
+    out.try_push_str("there are ")?;
     put_number(out, count)?;
-    out.try_push(' ')?;
-    out.try_push_str(noun)?;
-    if count != 1 {
-        out.try_push('s')?;
+    out.try_push_str(" ")?;
+    out.try_push_str(word)?;
+    out.try_push_str("s")?;
+    Ok(())
+}
+
+/// Adds the note of an operand that an index does not mean, if there is one.
+// ensures { OnOk result (map seen_note notes.new.items ≡ map seen_note notes.old.items
+//     ++ kind_notes index (slice_get (map seen_operand operands.now) index)) }
+#[inline]
+fn push_kind(
+    notes: &mut Vec<AsmNote>,
+    operands: &[Operand<'_>],
+    index: usize,
+) -> Result<(), AllocError> {
+    let spot = Some(AsmSpot::Operand(index));
+    match operands.get(index) {
+        Some(Operand::Named(_)) => {
+            let text = "named arguments cannot be referenced by position";
+            push_note(notes, text, spot)?;
+        }
+        Some(Operand::Register { .. }) => {
+            let text = "explicit register arguments cannot be used in the asm template";
+            push_note(notes, text, spot)?;
+        }
+        Some(Operand::Unnamed) | None => {}
     }
     Ok(())
 }
 
 /// Adds the notes of a wrong index.
+// ensures { OnOk result (map seen_note notes.new.items ≡ map seen_note notes.old.items
+//     ++ wrong_notes (map seen_operand operands.now) index) }
 #[inline]
 fn push_wrong(
     alloc: Global,
@@ -89,79 +120,111 @@ fn push_wrong(
     index: usize,
 ) -> Result<(), AllocError> {
     let mut text = String::made_in(alloc);
-    put_count(&mut text, operands)?;
-    push_note(notes, false, &text, None)?;
-    let spot = Some(AsmSpot::Operand(index));
-    match operands.get(index) {
-        Some(Operand::Named(_)) => {
-            let text = "named arguments cannot be referenced by position";
-            push_note(notes, false, text, spot)?;
-        }
-        Some(Operand::Register { .. }) => {
-            let text = "explicit register arguments cannot be used in the asm template";
-            push_note(notes, false, text, spot)?;
-            let text = "use the register name directly in the assembly code";
-            push_note(notes, true, text, spot)?;
-        }
-        Some(Operand::Unnamed) | None => {}
-    }
+    put_count(&mut text, count_unnamed(operands), noun(operands))?;
+    push_note(notes, &text, None)?;
+    push_kind(notes, operands, index)?;
     Ok(())
 }
 
-/// Adds the note of a fault of a template.
+/// Returns the help of a wrong index, or `None` if there is none. Returns `Err` if an allocation
+/// fails.
+// ensures { IfOk result (λ o. option_map seen_note o
+//     ≡ wrong_help index (slice_get (map seen_operand operands.now) index)) }
+#[inline]
+fn wrong_help(
+    alloc: Global,
+    operands: &[Operand<'_>],
+    index: usize,
+) -> Result<Option<AsmNote>, AllocError> {
+    match operands.get(index) {
+        Some(Operand::Register { .. }) => {
+            let says = "use the register name directly in the assembly code";
+            let text = String::made_from(alloc, says)?;
+            let spot = Some(AsmSpot::Operand(index));
+            Ok(Some(AsmNote { text, spot }))
+        }
+        Some(Operand::Unnamed) | Some(Operand::Named(_)) | None => Ok(None),
+    }
+}
+
+/// Adds the note of a fault of a template, if it has one.
+// ensures { OnOk result (map seen_note notes.new.items ≡ map seen_note notes.old.items
+//     ++ text_notes (message (seen_text_fault fault.now)).note) }
 #[inline]
 fn push_text(alloc: Global, notes: &mut Vec<AsmNote>, fault: &Fault<'_>) -> Result<(), AllocError> {
     let error = fault.error(alloc)?;
     if let Some(note) = &error.note {
-        push_note(notes, false, note, None)?;
+        push_note(notes, note, None)?;
+    }
+    Ok(())
+}
+
+/// Adds what a placeholder has for an operand.
+// ensures { OnOk result (string_bytes out.new ≡ string_bytes out.old
+//     ++ reference index (slice_get (map seen_operand operands.now) index)) }
+#[inline]
+fn put_reference(
+    out: &mut String,
+    operands: &[Operand<'_>],
+    index: usize,
+) -> Result<(), AllocError> {
+    match operands.get(index) {
+        Some(Operand::Named(name)) => out.try_push_str(name)?,
+        Some(Operand::Unnamed) | Some(Operand::Register { .. }) | None => put_number(out, index)?,
     }
     Ok(())
 }
 
 /// Adds placeholders of operands.
+// ensures { OnOk result (string_bytes out.new ≡ string_bytes out.old
+//     ++ placeholders (map seen_operand operands.now) indices.now) }
 #[inline]
 fn put_placeholders(
     out: &mut String,
     operands: &[Operand<'_>],
-    unused: &[usize],
+    indices: &[usize],
 ) -> Result<(), AllocError> {
-    for index in unused {
+    let mut rest = indices;
+    while let Some((index, others)) = rest.split_first() {
         out.try_push_str(" {")?;
-        match operands.get(*index) {
-            Some(Operand::Named(name)) => out.try_push_str(name)?,
-            Some(Operand::Unnamed) | Some(Operand::Register { .. }) | None => {
-                put_number(out, *index)?;
-            }
-        }
-        out.try_push('}')?;
+        put_reference(out, operands, *index)?;
+        out.try_push_str("}")?;
+        rest = others;
     }
     Ok(())
 }
 
-/// Adds the help of operands that are not used.
+/// Returns how the help of so many operands that are not used begins.
+// ensures { result.now ≡ unused_start count }
 #[inline]
-fn push_unused(
+fn unused_start(count: usize) -> &'static str {
+    if count == 1 {
+        "if this argument is intentionally unused, consider using it in an asm comment: `\"/*"
+    } else {
+        "if these arguments are intentionally unused, consider using them in an asm comment: `\"/*"
+    }
+}
+
+/// Returns the help of operands that are not used. Returns `Err` if an allocation fails.
+// ensures { IfOk result (λ n. seen_note n
+//     ≡ unused_help (map seen_operand operands.now) unused.now) }
+#[inline]
+fn unused_help(
     alloc: Global,
-    notes: &mut Vec<AsmNote>,
     operands: &[Operand<'_>],
     unused: &[usize],
-) -> Result<(), AllocError> {
-    let mut text = String::made_in(alloc);
-    if unused.len() == 1 {
-        text.try_push_str("if this argument is intentionally unused, consider using it")?;
-    } else {
-        text.try_push_str("if these arguments are intentionally unused, consider using them")?;
-    }
-    text.try_push_str(" in an asm comment: `\"/*")?;
+) -> Result<AsmNote, AllocError> {
+    let mut text = String::made_from(alloc, unused_start(unused.len()))?;
     put_placeholders(&mut text, operands, unused)?;
     text.try_push_str(" */\"`")?;
-    push_note(notes, true, &text, None)?;
-    Ok(())
+    Ok(AsmNote { text, spot: None })
 }
 
 impl<'a> AsmCall<'a> {
-    /// Returns the notes and helps of one of the faults, in rustc's order. Returns `Err` if an
-    /// allocation fails.
+    /// Returns the notes of one of the faults, in rustc's order. Returns `Err` if an allocation
+    /// fails.
+    // ensures { IfOk result (λ v. map seen_note v.items
+    //     ≡ notes (map seen_operand self.now.operands.items) (seen_fault fault.now)) }
     #[inline]
     pub fn notes(&self, alloc: Global, fault: &AsmFault<'a>) -> Result<Vec<AsmNote>, AllocError> {
         let mut notes = Vec::made_in(alloc);
@@ -170,15 +233,34 @@ impl<'a> AsmCall<'a> {
                 push_wrong(alloc, &mut notes, &self.operands, *index)?;
             }
             AsmFault::Text { fault, .. } => push_text(alloc, &mut notes, fault)?,
+            AsmFault::PositionalAfter { .. }
+            | AsmFault::RepeatedName { .. }
+            | AsmFault::RegisterName { .. }
+            | AsmFault::MissingName { .. }
+            | AsmFault::LongModifier { .. }
+            | AsmFault::UnusedOperands(_) => {}
+        }
+        Ok(notes)
+    }
+
+    /// Returns the help of one of the faults, or `None` if it has none. rustc says it after the
+    /// notes. Returns `Err` if an allocation fails.
+    // ensures { IfOk result (λ o. option_map seen_note o
+    //     ≡ help (map seen_operand self.now.operands.items) (seen_fault fault.now)) }
+    #[inline]
+    pub fn help(&self, alloc: Global, fault: &AsmFault<'a>) -> Result<Option<AsmNote>, AllocError> {
+        match fault {
+            AsmFault::WrongIndex { index, .. } => wrong_help(alloc, &self.operands, *index),
             AsmFault::UnusedOperands(unused) => {
-                push_unused(alloc, &mut notes, &self.operands, unused)?;
+                let help = unused_help(alloc, &self.operands, unused)?;
+                Ok(Some(help))
             }
             AsmFault::PositionalAfter { .. }
             | AsmFault::RepeatedName { .. }
             | AsmFault::RegisterName { .. }
             | AsmFault::MissingName { .. }
-            | AsmFault::LongModifier { .. } => {}
+            | AsmFault::LongModifier { .. }
+            | AsmFault::Text { .. } => Ok(None),
         }
-        Ok(notes)
     }
 }

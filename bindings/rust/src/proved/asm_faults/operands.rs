@@ -120,7 +120,7 @@ fn add_named<'a>(
 /// allocation fails.
 // ensures held { OnOk result ((ss : List OperandValue) → Holds ss operands.old
 //     → Holds (ss ++ Register has_name ∷ []) operands.new) }
-// ensures told { OnOk result ((ss : List OperandValue)
+// ensures told { OnOk result ((ss : List OperandValue) → Holds ss operands.old
 //     → map seen_fault faults.new.items ≡ map seen_fault faults.old.items
 //     ++ faults_of ss index (Register has_name)) }
 #[inline]

@@ -47,9 +47,9 @@ pub(crate) fn put_number(out: &mut String, number: usize) -> Result<(), AllocErr
 #[inline]
 fn put_named(out: &mut String, text: &str, name: &str) -> Result<(), AllocError> {
     out.try_push_str(text)?;
-    out.try_push('`')?;
+    out.try_push_str("`")?;
     out.try_push_str(name)?;
-    out.try_push('`')?;
+    out.try_push_str("`")?;
     Ok(())
 }
 

@@ -10,20 +10,33 @@ use crate::proved::call_faults::faults::{CallFault, Part, Reference};
 use crate::proved::call_faults::labels::{have_names, is_last};
 use crate::proved::call_faults::notes::{are_missing, put_specifiers};
 use crate::proved::call_faults::spots::{bytes_at, index_spot, CallEdit, CallHelp, Spot};
-use crate::proved::call_faults::titles::name_of;
+use crate::proved::call_faults::titles::{name_of, put_number};
 use crate::proved::rustc_parse_format::{Fault, Suggestion};
 use crate::shim::alloc::{AllocError, Global};
 use crate::shim::prelude::*;
+use std::ops::Range;
+
+/// Returns an edit that copies no source.
+// ensures { seen_edit result ≡ edit spot (string_bytes text.entry) }
+#[inline]
+fn plain_edit(spot: Spot, text: String) -> CallEdit {
+    CallEdit {
+        spot,
+        text,
+        copied: None,
+        rest: "",
+    }
+}
 
 /// Returns a help with one edit. Returns `Err` if an allocation fails.
 // ensures { IfOk result (λ h. seen_help h ≡ record {
 //   text = string_bytes text;
-//   edits = record { spot = spot; text = string_bytes new } ∷ [];
+//   edits = edit spot (string_bytes new) ∷ [];
 // }) }
 #[inline]
 fn single(alloc: Global, text: String, spot: Spot, new: String) -> Result<CallHelp, AllocError> {
     let mut edits = Vec::made_in(alloc);
-    edits.try_push(CallEdit { spot, text: new })?;
+    edits.try_push(plain_edit(spot, new))?;
     Ok(CallHelp { text, edits })
 }
 
@@ -86,7 +99,7 @@ fn push_removals(
     while let Some((index, others)) = rest.split_first() {
         let text = String::made_in(alloc);
         let spot = removed_spot(given, *index);
-        edits.try_push(CallEdit { spot, text })?;
+        edits.try_push(plain_edit(spot, text))?;
         rest = others;
     }
     Ok(())
@@ -162,30 +175,108 @@ fn replacing(alloc: Global, spot: Spot, new: &str) -> Result<CallHelp, AllocErro
     Ok(help)
 }
 
-/// Returns the help for a fault of the string, or `None` if it has none that replaces something.
-/// Returns `Err` if an allocation fails.
-// ensures { IfOk result (λ o. option_map seen_help o
-//     ≡ text_help (message (seen_text_fault fault.now)).suggestion) }
+/// Returns how many of arguments stand before the first one with a name.
+// ensures { result ≡ unnamed_count (map seen_given given.now) }
 #[inline]
-fn text_help(alloc: Global, fault: &Fault<'_>) -> Result<Option<CallHelp>, AllocError> {
-    match fault.suggestion(alloc)? {
+fn unnamed_count(given: &[Given<'_>]) -> usize {
+    for (index, argument) in given.iter().enumerate() {
+        if argument.name.is_some() {
+            return index;
+        }
+    }
+    given.len()
+}
+
+/// Returns where an argument without a name is added, if there are so many already.
+// ensures { result ≡ added_spot count }
+#[inline]
+fn added_spot(count: usize) -> Spot {
+    if count == 0 {
+        Spot::AfterLiteral
+    } else {
+        Spot::ValueEnd(count - 1)
+    }
+}
+
+/// Returns the help for an expression at this place of the string. Returns `Err` if an allocation
+/// fails.
+// ensures { IfOk result (λ h. seen_help h
+//     ≡ positional_help (map seen_given given.now) (pair span.now)) }
+#[inline]
+fn positional_help(
+    alloc: Global,
+    given: &[Given<'_>],
+    span: &Range<usize>,
+) -> Result<CallHelp, AllocError> {
+    let count = unnamed_count(given);
+    let spot = bytes_at(span);
+    let mut index = String::made_in(alloc);
+    put_number(&mut index, count)?;
+    let comma = String::made_from(alloc, ", ")?;
+    let mut edits = Vec::made_in(alloc);
+    edits.try_push(plain_edit(spot, index))?;
+    edits.try_push(CallEdit {
+        spot: added_spot(count),
+        text: comma,
+        copied: Some(spot),
+        rest: "",
+    })?;
+    let says = "consider using a positional formatting argument instead";
+    let text = String::made_from(alloc, says)?;
+    Ok(CallHelp { text, edits })
+}
+
+/// Returns the help for `=` after an argument, or `None` unless one argument counts. Returns `Err`
+/// if an allocation fails.
+// ensures { IfOk result (λ o. option_map seen_help o ≡ debug_help kept.now) }
+#[inline]
+fn debug_help(alloc: Global, kept: &[usize]) -> Result<Option<CallHelp>, AllocError> {
+    let [index] = kept else {
+        return Ok(None);
+    };
+    let text = String::made_from(alloc, "use rust's debug printing macro")?;
+    let opening = String::made_from(alloc, "dbg!(")?;
+    let mut edits = Vec::made_in(alloc);
+    edits.try_push(CallEdit {
+        spot: Spot::Call,
+        text: opening,
+        copied: Some(Spot::Value(*index)),
+        rest: ")",
+    })?;
+    Ok(Some(CallHelp { text, edits }))
+}
+
+/// Returns the help for a fault of the string, or `None` if it has none that is no label. Returns
+/// `Err` if an allocation fails.
+// ensures { IfOk result (λ o. option_map seen_help o
+//     ≡ text_help (seen_call call.now) (message (seen_text_fault fault.now))) }
+#[inline]
+fn text_help(
+    alloc: Global,
+    call: &Checked<'_>,
+    fault: &Fault<'_>,
+) -> Result<Option<CallHelp>, AllocError> {
+    let error = fault.error(alloc)?;
+    match &error.suggestion {
         Suggestion::ReorderFormatParameter(span, text) => {
-            let help = replacing(alloc, bytes_at(&span), &text)?;
+            let help = replacing(alloc, bytes_at(span), text)?;
             Ok(Some(help))
         }
-        Suggestion::None
-        | Suggestion::UsePositional
-        | Suggestion::RemoveRawIdent(_)
-        | Suggestion::AddMissingColon(_)
-        | Suggestion::UseRustDebugPrintingMacro => Ok(None),
+        Suggestion::UsePositional => {
+            let help = positional_help(alloc, call.given, &error.span)?;
+            Ok(Some(help))
+        }
+        Suggestion::UseRustDebugPrintingMacro => debug_help(alloc, &call.kept),
+        Suggestion::None | Suggestion::RemoveRawIdent(_) | Suggestion::AddMissingColon(_) => {
+            Ok(None)
+        }
     }
 }
 
 impl<'a> Checked<'a> {
     /// Returns what rustc suggests for one of the faults, or `None` if it suggests nothing or does
-    /// so in a label. The suggestions for which the source of the call is needed are left out: to
-    /// pass a field as an argument, to use `dbg!`, and those for the directives of other languages.
-    /// Returns `Err` if an allocation fails.
+    /// so in a label. The suggestions for the directives of other languages are left out. Returns
+    /// `Err` if an allocation fails.
     // ensures { IfOk result (λ o. option_map seen_help o
     //     ≡ help (seen_call self.now) (seen_fault fault.now)) }
     #[inline]
@@ -200,7 +291,7 @@ impl<'a> Checked<'a> {
             | CallFault::MissingName { .. }
             | CallFault::UnknownTrait { .. }
             | CallFault::MissingArguments(_) => Ok(None),
-            CallFault::Text(fault) => text_help(alloc, fault),
+            CallFault::Text(fault) => text_help(alloc, self, fault),
             CallFault::UnusedArguments(unused) => unused_help(alloc, self, unused.len()),
             CallFault::RedundantArguments(redundant) => {
                 redundant_help(alloc, self.given, redundant)

@@ -22,10 +22,16 @@ pub enum Spot {
     Value(usize),
     /// The value of an argument, and what is behind it up to the value of the next one.
     ValueUpToNext(usize),
+    /// The empty range after the value of an argument.
+    ValueEnd(usize),
     /// The literal of the format string.
     Literal,
     /// The empty range in front of the closing quote of that literal.
     LiteralEnd,
+    /// The empty range after that literal.
+    AfterLiteral,
+    /// The call, from the name of its macro to the delimiter that closes it.
+    Call,
     /// These bytes of that literal, as the spans of the parser count them.
     Bytes {
         /// The offset of the first byte.
@@ -61,8 +67,13 @@ pub struct CallNote {
 pub struct CallEdit {
     /// Where the other text is. That range is empty where text is only inserted.
     pub spot: Spot,
-    /// The new text, which is empty where text is only removed.
+    /// The new text, or what stands in it before the source that it copies. Empty where text is only
+    /// removed.
     pub text: String,
+    /// The place whose source the new text copies, if it copies any.
+    pub copied: Option<Spot>,
+    /// What stands in the new text after that.
+    pub rest: &'static str,
 }
 
 /// A help of a fault.

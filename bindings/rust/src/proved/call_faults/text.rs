@@ -49,7 +49,8 @@ fn first_faults<'a>(alloc: Global, parser: &mut Parser<'a>) -> Result<Vec<Fault<
 }
 
 /// Returns the fault of a text that rustc shows: of the calls of a parser from where it is, up to
-/// the first one that finds any. Returns `None` if they find none, and `Err` if an allocation fails.
+/// the first one that finds any. Returns `None` if they find none. The parser is then after these
+/// calls. Returns `Err` if an allocation fails, and the parser may then be after some of them.
 // ensures { IfOk result (λ o. option_map seen_fault o ≡ text_fault parser.old) }
 #[inline]
 pub fn text_fault<'a>(

@@ -55,19 +55,23 @@ fn fault_of<'a>(alloc: Global, message: Message<'a>) -> Result<Option<Fault<'a>>
     Ok(fault)
 }
 
-/// Returns whether a name is `Self` or that of a parameter.
-// ensures { result ≡ is_parameter (map seen_text parameters.now) (chars name.now) }
+/// Returns whether a name is one of these parameters.
+// ensures { result ≡ list_any (λ p. bytes_eq p name.now) (map (λ p. p.now) parameters.now) }
 #[inline]
-fn is_parameter(parameters: &[&str], name: &str) -> bool {
-    if name == "Self" {
-        return true;
-    }
+fn is_one_of(parameters: &[&str], name: &str) -> bool {
     for parameter in parameters {
         if *parameter == name {
             return true;
         }
     }
     false
+}
+
+/// Returns whether a name is `Self` or that of a parameter.
+// ensures { result ≡ is_parameter (map (λ p. p.now) parameters.now) name.now }
+#[inline]
+fn is_parameter(parameters: &[&str], name: &str) -> bool {
+    name == "Self" || is_one_of(parameters, name)
 }
 
 /// Returns a range of the literal, or all of it where its ranges are not known.
@@ -103,7 +107,7 @@ fn push_specifier<'a>(
 
 /// Adds the fault of a name, if it is that of no parameter. Returns `Err` if an allocation fails.
 // ensures { OnOk result (map seen_fault faults.new.items ≡ map seen_fault faults.old.items
-//     ++ name_faults (option_map (λ ps. map seen_text ps.now) parameters.entry) spot (chars name.now)) }
+//     ++ name_faults (seen_parameters parameters.entry) spot (chars name.now)) }
 #[inline]
 fn push_name<'a>(
     faults: &mut Vec<MessageFault<'a>>,
@@ -121,8 +125,8 @@ fn push_name<'a>(
 
 /// Adds the faults of a placeholder. Returns `Err` if an allocation fails.
 // ensures { OnOk result (map seen_fault faults.new.items ≡ map seen_fault faults.old.items
-//     ++ placeholder_faults (option_map (λ ps. map seen_text ps.now) parameters.entry)
-//     is_known (seen_argument argument.now)) }
+//     ++ placeholder_faults (seen_parameters parameters.entry) is_known
+//     (seen_argument argument.now)) }
 #[inline]
 fn push_placeholder<'a>(
     faults: &mut Vec<MessageFault<'a>>,
@@ -141,24 +145,48 @@ fn push_placeholder<'a>(
     Ok(())
 }
 
-/// Checks a text of the attribute `diagnostic::on_unimplemented`, and returns what is wrong, in the
-/// order of its placeholders. Their specifications and positions are both looked at.
-///
-/// The length of the text in bytes and 2 must together fit into a `usize`. Returns `Err` if an allocation fails.
-// requires { length message.text.now + 2 < 2 ^ 64 }
-// ensures { IfOk result (λ v. map seen_fault v.items ≡ message_faults
-//     (option_map (λ ps. map seen_text ps.now) message.entry.parameters)
-//     (start message.entry)) }
+/// Adds the faults of a piece. Returns `Err` if an allocation fails.
+// ensures { OnOk result (map seen_fault faults.new.items ≡ map seen_fault faults.old.items
+//     ++ piece_faults (seen_parameters parameters.entry) is_known (seen piece.now)) }
 #[inline]
-pub fn message_faults<'a>(
-    alloc: Global,
-    message: Message<'a>,
-) -> Result<Vec<MessageFault<'a>>, AllocError> {
-    let mut faults = Vec::made_in(alloc);
-    if let Some(fault) = fault_of(alloc, message)? {
-        faults.try_push(MessageFault::Text(fault))?;
-        return Ok(faults);
+fn push_piece<'a>(
+    faults: &mut Vec<MessageFault<'a>>,
+    parameters: Option<&[&str]>,
+    is_known: bool,
+    piece: &Piece<'a>,
+) -> Result<(), AllocError> {
+    match piece {
+        Piece::Lit(_) => Ok(()),
+        Piece::NextArgument(argument) => push_placeholder(faults, parameters, is_known, argument),
     }
+}
+
+/// Adds the faults of pieces. Returns `Err` if an allocation fails.
+// ensures { OnOk result (map seen_fault faults.new.items ≡ map seen_fault faults.old.items
+//     ++ faults_of (seen_parameters parameters.entry) is_known (map seen pieces.now)) }
+#[inline]
+fn push_pieces<'a>(
+    faults: &mut Vec<MessageFault<'a>>,
+    parameters: Option<&[&str]>,
+    is_known: bool,
+    pieces: &[Piece<'a>],
+) -> Result<(), AllocError> {
+    for piece in pieces {
+        push_piece(faults, parameters, is_known, piece)?;
+    }
+    Ok(())
+}
+
+/// Adds the faults of the placeholders of a text. Returns `Err` if an allocation fails.
+// requires { length message.text.now + 2 < 2 ^ 64 }
+// ensures { OnOk result (map seen_fault faults.new.items ≡ map seen_fault faults.old.items
+//     ++ faults_or (seen_parameters message.entry.parameters) (start message.entry) None) }
+#[inline]
+fn push_placeholders<'a>(
+    alloc: Global,
+    faults: &mut Vec<MessageFault<'a>>,
+    message: Message<'a>,
+) -> Result<(), AllocError> {
     let snippet = owned(alloc, message.snippet)?;
     let (pieces, parser) = read_all(
         alloc,
@@ -169,10 +197,27 @@ pub fn message_faults<'a>(
         ParseMode::Diagnostic,
     )?;
     let is_known = parser.is_source_literal();
-    for piece in &pieces {
-        if let Piece::NextArgument(argument) = piece {
-            push_placeholder(&mut faults, message.parameters, is_known, argument)?;
-        }
+    push_pieces(faults, message.parameters, is_known, &pieces)?;
+    Ok(())
+}
+
+/// Checks a text of the attribute `diagnostic::on_unimplemented`, and returns what is wrong, in the
+/// order of its placeholders. Their specifications and positions are both looked at.
+///
+/// The length of the text in bytes and 2 must together be less than 2^64. Returns `Err` if an
+/// allocation fails.
+// requires { length message.text.now + 2 < 2 ^ 64 }
+// ensures { IfOk result (λ v. map seen_fault v.items ≡ message_faults
+//     (seen_parameters message.entry.parameters) (start message.entry)) }
+#[inline]
+pub fn message_faults<'a>(
+    alloc: Global,
+    message: Message<'a>,
+) -> Result<Vec<MessageFault<'a>>, AllocError> {
+    let mut faults = Vec::made_in(alloc);
+    match fault_of(alloc, message)? {
+        Some(fault) => faults.try_push(MessageFault::Text(fault))?,
+        None => push_placeholders(alloc, &mut faults, message)?,
     }
     Ok(faults)
 }

@@ -1,25 +1,36 @@
-//! The reading of a call of a macro for inline assembly, and its findings.
+//! The reading of a call of a macro for inline assembly.
 
 // Extracted from crates/source_lint/src/assembly.rt by tools/extract: not to be edited.
 // That source is proved, and each contract here is its. That this text means the same is tested:
 // by results from outside, and beside what is proved (.ci/bindings) and the original (tools/agree).
 
-use crate::proved::asm_faults::{
-    asm_faults, AsmCall, AsmFault, AsmLabel, AsmSpot, Operand, Template,
-};
-use crate::proved::call_faults::Spot;
-use crate::proved::format_calls::{
-    are_counted, asm_part, template_count, token_at, Argument, AsmPart, Call,
-};
+use crate::proved::asm_faults::{asm_faults, Operand, Template};
+use crate::proved::format_calls::{are_counted, asm_part, template_count, Argument, AsmPart, Call};
 use crate::proved::rust_trees::{Source, Token};
+use crate::proved::source_lint::asm_findings::{put_findings, AsmSite, Read};
+use crate::proved::source_lint::findings::reading_of;
 use crate::proved::source_lint::givens::name_of;
-use crate::proved::source_lint::literals::{read_literal, Literal};
-use crate::proved::source_lint::readings::File;
-use crate::proved::source_lint::report::{CallReading, Finding, Help, Label, Note};
-use crate::proved::source_lint::spans::{spot_range, Site};
+use crate::proved::source_lint::literals::{dropped_crs, read_literal};
+use crate::proved::source_lint::report::{CallReading, Finding};
 use crate::shim::alloc::{AllocError, Global};
 use crate::shim::prelude::*;
-use std::ops::Range;
+
+/// Returns the operand that an argument is, or `None` if it is none.
+// ensures { option_map seen_operand result
+//     ≡ operand_of (map leaf tokens.now) argument.now part }
+#[inline]
+fn operand_of<'a>(tokens: &[Token<'a>], argument: &Argument, part: AsmPart) -> Option<Operand<'a>> {
+    match part {
+        AsmPart::Operand => match name_of(tokens, argument) {
+            Some(name) => Some(Operand::Named(name)),
+            None => Some(Operand::Unnamed),
+        },
+        AsmPart::Register => Some(Operand::Register {
+            has_name: argument.is_named,
+        }),
+        AsmPart::Raw | AsmPart::Setting | AsmPart::Unknown => None,
+    }
+}
 
 /// The arguments after the templates of a call.
 struct Operands<'a> {
@@ -28,39 +39,20 @@ struct Operands<'a> {
     /// The argument that each operand is.
     arguments: Vec<Argument>,
     /// Whether templates have no placeholders.
-    is_raw: bool,
-    /// Whether each argument is an operand, an option or an ABI.
-    are_known: bool,
-}
-
-/// A call of a macro for inline assembly in its file.
-#[derive(Clone, Copy)]
-struct AsmSite<'s, 'a> {
-    /// The text of the file.
-    text: &'a str,
-    /// The tokens of the part of the file that has the call.
-    tokens: &'s [Token<'a>],
-    /// The tokens that are its templates.
-    templates: &'s [Token<'a>],
-    /// The arguments that are its operands.
-    operands: &'s [Argument],
-}
-
-/// Returns an operand as placeholders refer to it.
-#[inline]
-fn operand_of<'a>(tokens: &[Token<'a>], argument: &Argument, is_register: bool) -> Operand<'a> {
-    if is_register {
-        return Operand::Register {
-            has_name: argument.is_named,
-        };
-    }
-    match name_of(tokens, argument) {
-        Some(name) => Operand::Named(name),
-        None => Operand::Unnamed,
-    }
+    are_raw: bool,
+    /// Whether an argument is no operand, option or ABI.
+    is_unknown: bool,
 }
 
 /// Adds an argument after the templates. Returns `Err` if an allocation fails.
+// requires { argument.now.start < length tokens.now }
+// ensures list { OnOk result (map seen_operand found.new.list.items
+//     ≡ map seen_operand found.old.list.items
+//     ++ operands (map leaf tokens.now) (argument.now ∷ [])) }
+// ensures raw { OnOk result (found.new.are_raw
+//     ≡ (found.old.are_raw || is_raw_part (asm_part (map leaf tokens.now) argument.now))) }
+// ensures unknown { OnOk result (found.new.is_unknown
+//     ≡ (found.old.is_unknown || is_unknown_part (asm_part (map leaf tokens.now) argument.now))) }
 #[inline]
 fn add<'a>(
     found: &mut Operands<'a>,
@@ -68,22 +60,22 @@ fn add<'a>(
     argument: &Argument,
 ) -> Result<(), AllocError> {
     let part = asm_part(tokens, argument);
-    match part {
-        AsmPart::Operand | AsmPart::Register => {
-            let is_register = matches!(part, AsmPart::Register);
-            found
-                .list
-                .try_push(operand_of(tokens, argument, is_register))?;
-            found.arguments.try_push(*argument)?;
-        }
-        AsmPart::Raw => found.is_raw = true,
-        AsmPart::Setting => {}
-        AsmPart::Unknown => found.are_known = false,
+    if let Some(operand) = operand_of(tokens, argument, part) {
+        found.list.try_push(operand)?;
+        found.arguments.try_push(*argument)?;
     }
+    found.are_raw = found.are_raw || matches!(part, AsmPart::Raw);
+    found.is_unknown = found.is_unknown || matches!(part, AsmPart::Unknown);
     Ok(())
 }
 
 /// Returns the arguments after the templates. Returns `Err` if an allocation fails.
+// requires { AllByRecursion (λ a. a.start < length tokens.now) arguments.now }
+// ensures list { IfOk result (λ o. map seen_operand o.list.items
+//     ≡ operands (map leaf tokens.now) arguments.now) }
+// ensures raw { IfOk result (λ o. o.are_raw ≡ are_raw (map leaf tokens.now) arguments.now) }
+// ensures unknown { IfOk result (λ o. o.is_unknown
+//     ≡ is_unknown (map leaf tokens.now) arguments.now) }
 #[inline]
 fn operands_of<'a>(
     alloc: Global,
@@ -93,8 +85,8 @@ fn operands_of<'a>(
     let mut found = Operands {
         list: Vec::made_in(alloc),
         arguments: Vec::made_in(alloc),
-        is_raw: false,
-        are_known: true,
+        are_raw: false,
+        is_unknown: false,
     };
     for argument in arguments {
         add(&mut found, tokens, argument)?;
@@ -102,205 +94,185 @@ fn operands_of<'a>(
     Ok(found)
 }
 
-/// Returns the tokens that arguments start with. Returns `Err` if an allocation fails.
+/// Reads the template that an argument is. Returns `None` if its literal stands for no text, and
+/// `Err` if an allocation fails.
+// requires { argument.now.start < length tokens.now }
+// ensures read { IfOk result (λ o. MatchOption o
+//     (HasNoText (map leaf tokens.now) argument.now)
+//     (λ t. IsTemplate (map leaf tokens.now) argument.now (seen_read t))) }
+// ensures short { IfOk result (λ o. IfSome o (λ t.
+//     hashes t.literal.style + length (string_bytes t.literal.text) + 2 < 2 ^ 64)) }
 #[inline]
-fn first_tokens<'a>(
+fn read_template<'a>(
+    alloc: Global,
+    tokens: &[Token<'a>],
+    argument: &Argument,
+) -> Result<Option<Read<'a>>, AllocError> {
+    let token = tokens[argument.start];
+    let Some(literal) = read_literal(alloc, token.text, false)? else {
+        return Ok(None);
+    };
+    let crs = dropped_crs(alloc, token.text)?;
+    Ok(Some(Read {
+        token,
+        crs,
+        literal,
+    }))
+}
+
+/// Reads the templates that arguments are. Returns `None` if a literal of them stands for no text,
+/// and `Err` if an allocation fails.
+// requires { AllByRecursion (λ a. a.start < length tokens.now) arguments.now }
+// ensures read { IfOk result (λ o. MatchOption o
+//     (HaveNoText (map leaf tokens.now) arguments.now)
+//     (λ v. AreTemplates (map leaf tokens.now) arguments.now (map seen_read v.items))) }
+// ensures short { IfOk result (λ o. IfSome o (λ v. AllByRecursion (λ t.
+//     hashes t.literal.style + length (string_bytes t.literal.text) + 2 < 2 ^ 64) v.items)) }
+#[inline]
+fn read_templates<'a>(
     alloc: Global,
     tokens: &[Token<'a>],
     arguments: &[Argument],
-) -> Result<Vec<Token<'a>>, AllocError> {
+) -> Result<Option<Vec<Read<'a>>>, AllocError> {
     let mut found = Vec::made_in(alloc);
     for argument in arguments {
-        if let Some(token) = token_at(tokens, argument.start) {
-            found.try_push(token)?;
-        }
-    }
-    Ok(found)
-}
-
-/// Returns the literals that tokens are, or `None` if one of them stands for no text. Returns `Err`
-/// if an allocation fails.
-#[inline]
-fn literals(alloc: Global, tokens: &[Token<'_>]) -> Result<Option<Vec<Literal>>, AllocError> {
-    let mut found = Vec::made_in(alloc);
-    for token in tokens {
-        match read_literal(alloc, token.text, false)? {
-            Some(literal) => found.try_push(literal)?,
+        match read_template(alloc, tokens, argument)? {
+            Some(template) => found.try_push(template)?,
             None => return Ok(None),
         }
     }
     Ok(Some(found))
 }
 
-/// Returns the range of a place.
+/// Returns templates as placeholders are read in them. Returns `Err` if an allocation fails.
+// requires { AllByRecursion (λ t.
+//     hashes t.literal.style + length (string_bytes t.literal.text) + 2 < 2 ^ 64) read.now }
+// ensures seen { IfOk result (λ v. map seen_template v.items ≡ map seen_read read.now) }
+// ensures short { IfOk result (λ v. AllByRecursion (λ t.
+//     hashes t.style + length t.text.now + 2 < 2 ^ 64) v.items) }
 #[inline]
-fn asm_range(site: AsmSite<'_, '_>, spot: AsmSpot) -> Range<usize> {
-    let index = match spot {
-        AsmSpot::Operand(_) => 0,
-        AsmSpot::Template(template) => template,
-        AsmSpot::Bytes { template, .. } => template,
-    };
-    let Some(literal) = token_at(site.templates, index) else {
-        return 0..0;
-    };
-    let one = Site {
-        text: site.text,
-        tokens: site.tokens,
-        literal,
-        has_crs: literal.text.contains('\r'),
-        arguments: site.operands,
-    };
-    let spot = match spot {
-        AsmSpot::Operand(operand) => Spot::Argument(operand),
-        AsmSpot::Template(_) => Spot::Literal,
-        AsmSpot::Bytes { start, end, .. } => Spot::Bytes { start, end },
-    };
-    spot_range(one, spot)
-}
-
-/// Returns labels with their ranges. Returns `Err` if an allocation fails.
-#[inline]
-fn labels_of(
-    alloc: Global,
-    site: AsmSite<'_, '_>,
-    labels: Vec<AsmLabel>,
-) -> Result<Vec<Label>, AllocError> {
+fn templates_of<'c>(alloc: Global, read: &'c [Read<'_>]) -> Result<Vec<Template<'c>>, AllocError> {
     let mut found = Vec::made_in(alloc);
-    for label in labels {
-        found.try_push(Label {
-            range: asm_range(site, label.spot),
-            is_primary: label.is_primary,
-            text: label.text,
+    for template in read {
+        found.try_push(Template {
+            text: template.literal.text.as_str(),
+            style: template.literal.style,
+            snippet: Some(template.literal.snippet.as_str()),
         })?;
     }
     Ok(found)
 }
 
-/// Returns the finding of a fault. Returns `Err` if an allocation fails.
+/// Checks a call with these templates and operands, and adds its findings. Returns `Err` if an
+/// allocation fails.
+// requires { AllByRecursion (λ t. hashes t.style + length t.text.now + 2 < 2 ^ 64)
+//     templates.now }
+// ensures told { OnOk result ((xs : List FindingValue)
+//     × (findings.new.items ≡ findings.old.items ++ xs)
+//     × TellAllAsm (slots_after [] (map seen_operand operands.now)) (counted_asm is_whole
+//     (asm_faults (map seen_template templates.now) (map seen_operand operands.now))) xs) }
+// ensures spans { OnOk result (All (HasSpans site.entry.text.now) findings.old.items
+//     → All (HasSpans site.entry.text.now) findings.new.items) }
 #[inline]
-fn finding<'c>(
-    alloc: Global,
-    site: AsmSite<'_, '_>,
-    call: &AsmCall<'c>,
-    fault: &AsmFault<'c>,
-) -> Result<Finding, AllocError> {
-    let mut title = String::made_in(alloc);
-    call.put_title(&mut title, fault)?;
-    let labels = labels_of(alloc, site, call.labels(alloc, fault)?)?;
-    let mut notes = Vec::made_in(alloc);
-    let mut help = None;
-    for note in call.notes(alloc, fault)? {
-        if note.is_help {
-            help = Some(Help {
-                text: note.text,
-                edits: Vec::made_in(alloc),
-            });
-        } else {
-            let mut ranges = Vec::made_in(alloc);
-            if let Some(spot) = note.spot {
-                ranges.try_push(asm_range(site, spot))?;
-            }
-            notes.try_push(Note {
-                text: note.text,
-                ranges,
-            })?;
-        }
-    }
-    let span = first_primary(&labels);
-    Ok(Finding {
-        is_warning: false,
-        id: fault.id(),
-        title,
-        span,
-        labels,
-        notes,
-        help,
-    })
-}
-
-/// Returns the range of the primary label that comes first in the file.
-#[inline]
-fn first_primary(labels: &[Label]) -> Range<usize> {
-    let mut start = 0;
-    let mut end = 0;
-    let mut is_found = false;
-    for label in labels {
-        if label.is_primary && (!is_found || label.range.start < start) {
-            start = label.range.start;
-            end = label.range.end;
-            is_found = true;
-        }
-    }
-    start..end
-}
-
-/// Reads a call with these templates, and adds its findings: all, or only that of a template.
-/// Returns `Err` if an allocation fails.
-#[inline]
-fn put_findings(
+fn check_call<'c>(
     alloc: Global,
     findings: &mut Vec<Finding>,
     site: AsmSite<'_, '_>,
-    literals: &[Literal],
-    operands: &[Operand<'_>],
+    templates: &[Template<'c>],
+    operands: &[Operand<'c>],
     is_whole: bool,
 ) -> Result<(), AllocError> {
-    let mut templates = Vec::made_in(alloc);
-    for literal in literals {
-        templates.try_push(Template {
-            text: literal.text.as_str(),
-            style: literal.style,
-            snippet: Some(literal.snippet.as_str()),
-        })?;
-    }
-    let call = asm_faults(alloc, &templates, operands)?;
-    for fault in &call.faults {
-        if is_whole || matches!(fault, AsmFault::Text { .. }) {
-            findings.try_push(finding(alloc, site, &call, fault)?)?;
-        }
-    }
+    let call = asm_faults(alloc, templates, operands)?;
+    put_findings(alloc, findings, site, &call, is_whole)?;
     Ok(())
+}
+
+/// Returns the templates whose placeholders count: none with `options(raw)`. Returns `Err` if an
+/// allocation fails.
+// requires { AllByRecursion (λ t.
+//     hashes t.literal.style + length (string_bytes t.literal.text) + 2 < 2 ^ 64) read.now }
+// ensures seen { IfOk result (λ v. map seen_template v.items
+//     ≡ read_templates are_raw (map seen_read read.now)) }
+// ensures short { IfOk result (λ v. AllByRecursion (λ t.
+//     hashes t.style + length t.text.now + 2 < 2 ^ 64) v.items) }
+#[inline]
+fn read_unless<'c>(
+    alloc: Global,
+    read: &'c [Read<'_>],
+    are_raw: bool,
+) -> Result<Vec<Template<'c>>, AllocError> {
+    if are_raw {
+        return Ok(Vec::made_in(alloc));
+    }
+    let found = templates_of(alloc, read)?;
+    Ok(found)
+}
+
+/// Reads a call whose templates are arguments, with the other arguments after them, and adds its
+/// findings. Returns `Err` if an allocation fails.
+// requires { AllByRecursion (λ a. a.start < length tokens.now) templates.now }
+// ensures read { IfOk result (λ r. (xs : List FindingValue)
+//     × (findings.new.items ≡ findings.old.items ++ xs)
+//     × ReadsLiterals (map leaf tokens.now) templates.now operands.now.are_raw is_whole
+//     (map seen_operand operands.now.list.items) r xs) }
+// ensures spans { OnOk result (All (HasSpans text.now) findings.old.items
+//     → All (HasSpans text.now) findings.new.items) }
+#[inline]
+fn read_literals(
+    alloc: Global,
+    findings: &mut Vec<Finding>,
+    text: &str,
+    tokens: &[Token<'_>],
+    templates: &[Argument],
+    operands: &Operands<'_>,
+    is_whole: bool,
+) -> Result<CallReading, AllocError> {
+    let Some(read) = read_templates(alloc, tokens, templates)? else {
+        return Ok(CallReading::Malformed);
+    };
+    let site = AsmSite {
+        text,
+        tokens,
+        templates: &read,
+        operands: &operands.arguments,
+    };
+    let list = read_unless(alloc, &read, operands.are_raw)?;
+    check_call(alloc, findings, site, &list, &operands.list, is_whole)?;
+    Ok(reading_of(is_whole))
 }
 
 /// Reads a call of a macro for inline assembly, and adds its findings. Returns `Err` if an
 /// allocation fails.
+// requires pair { IsPair part.now (call.now.name + 2) call.now.close }
+// requires split { AreArguments part.now (call.now.name + 3) arguments.now call.now.close }
+// ensures read { IfOk result (λ r. (xs : List FindingValue)
+//     × (findings.new.items ≡ findings.old.items ++ xs)
+//     × ReadsTemplates part.now call.now arguments.now
+//     (template_count part.now arguments.now) r xs) }
+// ensures spans { OnOk result (All (HasSpans text.now) findings.old.items
+//     → All (HasSpans text.now) findings.new.items) }
 #[inline]
-pub fn read_templates(
+pub fn read_asm(
     alloc: Global,
     findings: &mut Vec<Finding>,
-    file: File<'_, '_>,
+    text: &str,
     part: &Source<'_>,
     call: &Call,
     arguments: &[Argument],
 ) -> Result<CallReading, AllocError> {
     let tokens = part.tokens();
     let count = template_count(tokens, arguments);
-    let templates = first_tokens(alloc, tokens, &arguments[..count])?;
     let operands = operands_of(alloc, tokens, &arguments[count..])?;
-    let end = if count > 0 {
-        arguments[count - 1].end
-    } else {
-        call.close
-    };
-    let is_counted = operands.are_known && are_counted(part, call.name + 2, end, call.close);
-    let site = AsmSite {
-        text: file.text,
+    let is_counted = are_counted(part, call.name + 2, call.name + 3, call.close);
+    let is_whole = !operands.is_unknown && is_counted;
+    let reading = read_literals(
+        alloc,
+        findings,
+        text,
         tokens,
-        templates: &templates,
-        operands: &operands.arguments,
-    };
-    let Some(literals) = literals(alloc, &templates)? else {
-        return Ok(CallReading::Malformed);
-    };
-    let read = if operands.is_raw {
-        &literals[..0]
-    } else {
-        &literals[..]
-    };
-    put_findings(alloc, findings, site, read, &operands.list, is_counted)?;
-    Ok(if is_counted {
-        CallReading::Whole
-    } else {
-        CallReading::StringAlone
-    })
+        &arguments[..count],
+        &operands,
+        is_whole,
+    )?;
+    Ok(reading)
 }

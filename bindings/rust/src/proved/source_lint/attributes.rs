@@ -1,322 +1,310 @@
-//! The texts of the attributes `diagnostic::on_unimplemented` and `rustc_on_unimplemented` of a
-//! file, and their findings.
+//! The texts of the attributes `diagnostic::on_unimplemented` of a file.
 
 // Extracted from crates/source_lint/src/attributes.rt by tools/extract: not to be edited.
 // That source is proved, and each contract here is its. That this text means the same is tested:
 // by results from outside, and beside what is proved (.ci/bindings) and the original (tools/agree).
 
-use crate::proved::format_calls::{is_mark_of, is_word, token_at};
-use crate::proved::message_faults::{message_faults, Message, MessageFault};
+use crate::proved::format_calls::{arguments, is_mark, is_text, token_at, Argument};
 use crate::proved::rust_tokens::Kind;
 use crate::proved::rust_trees::{Source, Token};
-use crate::proved::source_lint::labels::{labels, primary_span};
-use crate::proved::source_lint::literals::read_literal;
-use crate::proved::source_lint::report::{Finding, Help};
-use crate::proved::source_lint::spans::Site;
+use crate::proved::source_lint::generics::parameters;
+use crate::proved::source_lint::messages::{read_text, Item};
+use crate::proved::source_lint::report::Finding;
 use crate::shim::alloc::{AllocError, Global};
 use crate::shim::prelude::*;
 
-/// A trait that an attribute stands before.
-struct Trait<'a> {
-    name: &'a str,
-    /// Its parameters that are types or constants.
-    parameters: Vec<&'a str>,
+/// Returns whether the token of an index is this word.
+// ensures value { result ≡ is_word_there (map leaf tokens.now) index word.now }
+// ensures within { IsTrue result → index < length tokens.now }
+#[inline]
+fn is_word_there(tokens: &[Token<'_>], index: usize, word: &str) -> bool {
+    match token_at(tokens, index) {
+        Some(token) => is_text(&token, word),
+        None => false,
+    }
+}
+
+/// Returns whether `#[diagnostic::on_unimplemented(` stands from a token on.
+// ensures value { result ≡ begins_attribute (map leaf tokens.now) index }
+// ensures within { IsTrue result → index + 6 < length tokens.now }
+#[inline]
+fn begins_attribute(tokens: &[Token<'_>], index: usize) -> bool {
+    is_mark(tokens, index, b'#')
+        && is_mark(tokens, index + 1, b'[')
+        && is_word_there(tokens, index + 2, "diagnostic")
+        && is_mark(tokens, index + 3, b':')
+        && is_mark(tokens, index + 4, b':')
+        && is_word_there(tokens, index + 5, "on_unimplemented")
+        && is_mark(tokens, index + 6, b'(')
+}
+
+/// Returns the token that closes the pair that a token opens, or `None` if it opens none.
+// ensures some { IfSome result (λ j. IsPair source.now index j) }
+// ensures none { IsNone result → (j : ℕ) → IsPair source.now index j → ⊥ }
+#[inline]
+fn closing(source: &Source<'_>, index: usize) -> Option<usize> {
+    match source.partner(index) {
+        Some(partner) if partner > index => Some(partner),
+        _ => None,
+    }
 }
 
 /// An attribute with texts.
 #[derive(Clone, Copy)]
 struct Attribute {
-    /// The token after its opening parenthesis.
-    start: usize,
-    /// The token that closes the attribute.
+    /// The token that closes its list.
+    close: usize,
+    /// The token that closes all of it.
     end: usize,
-    /// Whether it is that of the compiler itself, where more names mean something.
-    is_internal: bool,
 }
 
-/// Returns whether the token of an index is this character of punctuation.
-#[inline]
-fn is_mark(tokens: &[Token<'_>], index: usize, mark: u8) -> bool {
-    match token_at(tokens, index) {
-        Some(token) => is_mark_of(&token, mark),
-        None => false,
-    }
-}
-
-/// Returns whether the token of an index is this word.
-#[inline]
-fn is_text(tokens: &[Token<'_>], index: usize, word: &str) -> bool {
-    match token_at(tokens, index) {
-        Some(token) => matches!(token.kind, Kind::Ident) && token.text == word,
-        None => false,
-    }
-}
-
-/// Returns the attribute that begins with the token of an index, or `None` if none of these does.
+/// Returns the attribute that stands at a token, or `None` if none does.
+// ensures some { IfSome result (λ a. IsAttribute source.now index a.close a.end) }
+// ensures none { IsNone result → (c e : ℕ) → IsAttribute source.now index c e → ⊥ }
 #[inline]
 fn attribute_at(source: &Source<'_>, index: usize) -> Option<Attribute> {
-    let tokens = source.tokens();
-    if !is_mark(tokens, index, b'#') || !is_mark(tokens, index + 1, b'[') {
+    if !begins_attribute(source.tokens(), index) {
         return None;
     }
-    let end = source.partner(index + 1)?;
-    let is_internal = is_text(tokens, index + 2, "rustc_on_unimplemented");
-    let is_public = is_text(tokens, index + 2, "diagnostic")
-        && is_mark(tokens, index + 3, b':')
-        && is_mark(tokens, index + 4, b':')
-        && is_text(tokens, index + 5, "on_unimplemented");
-    let opening = if is_internal { index + 3 } else { index + 6 };
-    if (is_internal || is_public) && is_mark(tokens, opening, b'(') {
-        Some(Attribute {
-            start: opening + 1,
-            end,
-            is_internal,
-        })
-    } else {
-        None
+    match (closing(source, index + 6), closing(source, index + 1)) {
+        (Some(close), Some(end)) => Some(Attribute { close, end }),
+        _ => None,
     }
 }
 
-/// Returns the token after an attribute or the visibility of an item that starts at a token, or the
-/// token itself if none of these does.
+/// Returns whether two tokens from one on are of the front of an item, of which the second opens a
+/// pair.
+// ensures value { result ≡ opens_front (map leaf tokens.now) index }
+// ensures within { IsTrue result → index + 1 < length tokens.now }
 #[inline]
-fn after_front(source: &Source<'_>, index: usize) -> usize {
+fn opens_front(tokens: &[Token<'_>], index: usize) -> bool {
+    is_mark(tokens, index, b'#') && is_mark(tokens, index + 1, b'[')
+        || is_word_there(tokens, index, "pub") && is_mark(tokens, index + 1, b'(')
+}
+
+/// Returns whether a token is a word of the front of an item.
+// ensures value { result ≡ is_modifier (map leaf tokens.now) index }
+// ensures within { IsTrue result → index < length tokens.now }
+#[inline]
+fn is_modifier(tokens: &[Token<'_>], index: usize) -> bool {
+    is_word_there(tokens, index, "pub") && !is_mark(tokens, index + 1, b'(')
+        || is_word_there(tokens, index, "unsafe")
+        || is_word_there(tokens, index, "auto")
+        || is_word_there(tokens, index, "const")
+}
+
+/// Returns the token after the part of the front of an item that stands at a token, or `None` if no
+/// such part does.
+// ensures some { IfSome result (λ j. IsFront source.now index j) }
+// ensures forward { IfSome result (λ j. (index < j) × (j ≤ length source.now)) }
+// ensures none { IsNone result → (j : ℕ) → IsFront source.now index j → ⊥ }
+#[inline]
+fn after_front(source: &Source<'_>, index: usize) -> Option<usize> {
     let tokens = source.tokens();
-    if is_mark(tokens, index, b'#') && is_mark(tokens, index + 1, b'[') {
-        return match source.partner(index + 1) {
-            Some(close) => close + 1,
-            None => index,
+    if opens_front(tokens, index) {
+        return match closing(source, index + 1) {
+            Some(close) => Some(close + 1),
+            None => None,
         };
     }
-    if is_text(tokens, index, "pub") {
-        return match source.partner(index + 1) {
-            Some(close) => close + 1,
-            None => index + 1,
-        };
+    if is_modifier(tokens, index) {
+        return Some(index + 1);
     }
-    if is_text(tokens, index, "unsafe")
-        || is_text(tokens, index, "auto")
-        || is_text(tokens, index, "const")
-    {
-        return index + 1;
+    None
+}
+
+/// Returns the token after the front of the item that starts at a token.
+// requires { start ≤ length source.now }
+// ensures item { IsItem source.now start result }
+// ensures within { result ≤ length source.now }
+#[inline]
+fn item_at(source: &Source<'_>, start: usize) -> usize {
+    let mut index = start;
+    while let Some(after) = after_front(source, index) {
+        index = after;
     }
     index
 }
 
-/// Returns the parameters of a trait whose list opens with the token of an index, but for
-/// lifetimes. Returns `Err` if an allocation fails.
+/// Returns whether an option sets this word.
+// ensures { result ≡ sets (map leaf tokens.now) option.now word.now }
 #[inline]
-fn parameters<'a>(
-    alloc: Global,
-    source: &Source<'a>,
-    opening: usize,
-) -> Result<Vec<&'a str>, AllocError> {
-    let tokens = source.tokens();
-    let mut found = Vec::made_in(alloc);
-    if !is_mark(tokens, opening, b'<') {
-        return Ok(found);
+fn sets(tokens: &[Token<'_>], option: &Argument, word: &str) -> bool {
+    option.is_named && is_word_there(tokens, option.start, word)
+}
+
+/// Returns whether a token is a string literal that has its end and no suffix.
+// ensures { result ≡ is_text_leaf (leaf token.now) }
+#[inline]
+fn is_literal(token: &Token<'_>) -> bool {
+    matches!(token.kind, Kind::Str | Kind::RawStr) && token.is_ended && !token.has_suffix
+}
+
+/// Returns the literal that an option sets, or `None` if it sets none.
+// requires { option.now.start < length tokens.now }
+// ensures { option_map leaf result ≡ literal_of (map leaf tokens.now) option.now }
+#[inline]
+fn literal_of<'a>(tokens: &[Token<'a>], option: &Argument) -> Option<Token<'a>> {
+    match token_at(tokens, option.start + 2) {
+        Some(token) if option.end == option.start + 3 && is_literal(&token) => Some(token),
+        _ => None,
     }
-    let mut depth = 1;
-    let mut is_first = true;
-    let mut index = opening + 1;
-    while depth > 0 && index < tokens.len() {
-        let token = tokens[index];
-        if is_mark_of(&token, b'<') {
-            depth += 1;
-        } else if is_mark_of(&token, b'>') && !is_mark(tokens, index - 1, b'-') {
-            depth -= 1;
-        } else if is_mark_of(&token, b',') && depth == 1 {
-            is_first = true;
-        } else if is_word(&token) && is_first && !is_text(tokens, index, "const") {
-            found.try_push(token.text)?;
-            is_first = false;
+}
+
+/// Returns whether an option counts, where a message and a label have been there or not.
+// ensures { result ≡ counts (map leaf tokens.now) has_message has_label option.now }
+#[inline]
+fn counts(tokens: &[Token<'_>], has_message: bool, has_label: bool, option: &Argument) -> bool {
+    sets(tokens, option, "message") && !has_message
+        || sets(tokens, option, "label") && !has_label
+        || sets(tokens, option, "note")
+}
+
+/// Adds the literal that an option sets, if it counts. Returns `Err` if an allocation fails.
+// requires { option.now.start < length tokens.now }
+// ensures { OnOk result (map leaf found.new.items ≡ map leaf found.old.items
+//     ++ literal_list (counts (map leaf tokens.now) has_message has_label option.now)
+//     (literal_of (map leaf tokens.now) option.now)) }
+#[inline]
+fn put_literal<'a>(
+    found: &mut Vec<Token<'a>>,
+    tokens: &[Token<'a>],
+    has_message: bool,
+    has_label: bool,
+    option: &Argument,
+) -> Result<(), AllocError> {
+    if let Some(literal) = literal_of(tokens, option) {
+        if counts(tokens, has_message, has_label, option) {
+            found.try_push(literal)?;
         }
-        index = match source.partner(index) {
-            Some(close) => {
-                if close > index {
-                    close + 1
-                } else {
-                    index + 1
-                }
-            }
-            None => index + 1,
-        };
+    }
+    Ok(())
+}
+
+/// Returns the literals of the options that count, in their order. Returns `Err` if an allocation
+/// fails.
+// requires { AllByRecursion (λ a. a.start < length tokens.now) options.now }
+// ensures { IfOk result (λ v. map leaf v.items
+//     ≡ texts_from (map leaf tokens.now) false false options.now) }
+#[inline]
+fn literals<'a>(
+    alloc: Global,
+    tokens: &[Token<'a>],
+    options: &[Argument],
+) -> Result<Vec<Token<'a>>, AllocError> {
+    let mut found = Vec::made_in(alloc);
+    let mut has_message = false;
+    let mut has_label = false;
+    for option in options {
+        put_literal(&mut found, tokens, has_message, has_label, option)?;
+        has_message = has_message || sets(tokens, option, "message");
+        has_label = has_label || sets(tokens, option, "label");
     }
     Ok(found)
 }
 
-/// Returns the trait that starts at a token, after other attributes and its visibility, or `None`
-/// if it is another item. Returns `Err` if an allocation fails.
+/// Returns the literals of the options that count, or none if the item is no trait. Returns `Err`
+/// if an allocation fails.
+// requires { AllByRecursion (λ a. a.start < length tokens.now) options.now }
+// ensures { IfOk result (λ v. map leaf v.items ≡ (if is_word_there (map leaf tokens.now) item
+//     (codes "trait") then texts_from (map leaf tokens.now) false false options.now else [])) }
 #[inline]
-fn trait_at<'a>(
+fn literals_before<'a>(
     alloc: Global,
-    source: &Source<'a>,
-    start: usize,
-) -> Result<Option<Trait<'a>>, AllocError> {
-    let tokens = source.tokens();
-    let mut index = start;
-    let mut next = after_front(source, index);
-    while next > index {
-        index = next;
-        next = after_front(source, index);
+    tokens: &[Token<'a>],
+    options: &[Argument],
+    item: usize,
+) -> Result<Vec<Token<'a>>, AllocError> {
+    if !is_word_there(tokens, item, "trait") {
+        return Ok(Vec::made_in(alloc));
     }
-    if !is_text(tokens, index, "trait") {
-        return Ok(None);
-    }
-    let Some(name) = token_at(tokens, index + 1) else {
-        return Ok(None);
-    };
-    let parameters = parameters(alloc, source, index + 2)?;
-    Ok(Some(Trait {
-        name: name.text,
-        parameters,
-    }))
+    let found = literals(alloc, tokens, options)?;
+    Ok(found)
 }
 
-/// Returns the literal that an option of an attribute sets, if the option starts at a token.
+/// Returns the text of a token, or an empty one if there is no such token.
+// ensures { chars result.now ≡ name_text (slice_get (map leaf tokens.now) index) }
 #[inline]
-fn option_at<'a>(tokens: &[Token<'a>], index: usize) -> Option<Token<'a>> {
-    if !is_text(tokens, index, "message")
-        && !is_text(tokens, index, "label")
-        && !is_text(tokens, index, "note")
-    {
-        return None;
-    }
-    if !is_mark(tokens, index + 1, b'=') {
-        return None;
-    }
-    let literal = token_at(tokens, index + 2)?;
-    if matches!(literal.kind, Kind::Str | Kind::RawStr) && literal.is_ended && !literal.has_suffix {
-        Some(literal)
-    } else {
-        None
+fn text_at<'a>(tokens: &[Token<'a>], index: usize) -> &'a str {
+    match token_at(tokens, index) {
+        Some(token) => token.text,
+        None => "",
     }
 }
 
-/// Returns the finding of a fault. Returns `Err` if an allocation fails.
+/// Reads the options of an attribute before an item, whose front ends before a token, and adds the
+/// findings. Returns `Err` if an allocation fails.
+// requires options { AllByRecursion (λ a. a.start < length tokens.now) options.now }
+// requires item { item ≤ length tokens.now }
+// ensures read { OnOk result ((xs : List FindingValue)
+//     × (findings.new.items ≡ findings.old.items ++ xs)
+//     × ReadsOptions (map leaf tokens.now) options.now item xs) }
+// ensures spans { OnOk result (All (HasSpans text.now) findings.old.items
+//     → All (HasSpans text.now) findings.new.items) }
 #[inline]
-fn finding<'c>(
-    alloc: Global,
-    site: Site<'_, '_>,
-    fault: &MessageFault<'c>,
-    name: &str,
-) -> Result<Finding, AllocError> {
-    let mut title = String::made_in(alloc);
-    fault.put_title(alloc, &mut title, name)?;
-    let labels = labels(alloc, site, fault.labels(alloc)?)?;
-    let span = primary_span(site, &labels);
-    let help = match fault.help() {
-        Some(text) => Some(Help {
-            text: String::made_from(alloc, text)?,
-            edits: Vec::made_in(alloc),
-        }),
-        None => None,
-    };
-    Ok(Finding {
-        is_warning: true,
-        id: fault.id(),
-        title,
-        span,
-        labels,
-        notes: Vec::made_in(alloc),
-        help,
-    })
-}
-
-/// Reads a text of an attribute, and adds its findings. Returns `Err` if an allocation fails.
-#[inline]
-fn read_text(
+fn read_options(
     alloc: Global,
     findings: &mut Vec<Finding>,
     text: &str,
     tokens: &[Token<'_>],
-    literal: Token<'_>,
-    item: &Trait<'_>,
-    is_internal: bool,
+    options: &[Argument],
+    item: usize,
 ) -> Result<(), AllocError> {
-    let Some(read) = read_literal(alloc, literal.text, false)? else {
-        return Ok(());
+    let literals = literals_before(alloc, tokens, options, item)?;
+    let names = parameters(alloc, tokens, item + 2)?;
+    let item = Item {
+        name: text_at(tokens, item + 1),
+        parameters: &names,
     };
-    let site = Site {
-        text,
-        tokens,
-        literal,
-        has_crs: literal.text.contains('\r'),
-        arguments: &[],
-    };
-    let message = Message {
-        text: read.text.as_str(),
-        snippet: Some(read.snippet.as_str()),
-        parameters: if is_internal {
-            None
-        } else {
-            Some(&item.parameters)
-        },
-    };
-    for fault in &message_faults(alloc, message)? {
-        findings.try_push(finding(alloc, site, fault, item.name)?)?;
+    for literal in &literals {
+        read_text(alloc, findings, text, item, literal)?;
     }
     Ok(())
 }
 
-/// Reads the texts of an attribute, and adds their findings. Of several messages or labels only the
-/// first counts. Returns `Err` if an allocation fails.
+/// Reads the attribute that stands at a token, if one does, and adds its findings. Returns `Err` if
+/// an allocation fails.
+// ensures read { OnOk result ((xs : List FindingValue)
+//     × (findings.new.items ≡ findings.old.items ++ xs) × ReadsAt source.now index xs) }
+// ensures spans { OnOk result (All (HasSpans text.now) findings.old.items
+//     → All (HasSpans text.now) findings.new.items) }
 #[inline]
-fn read_attribute(
+fn read_at(
     alloc: Global,
     findings: &mut Vec<Finding>,
     text: &str,
     source: &Source<'_>,
-    attribute: Attribute,
+    index: usize,
 ) -> Result<(), AllocError> {
-    let tokens = source.tokens();
-    let Some(item) = trait_at(alloc, source, attribute.end + 1)? else {
+    let Some(attribute) = attribute_at(source, index) else {
         return Ok(());
     };
-    let mut has_message = false;
-    let mut has_label = false;
-    let mut index = attribute.start;
-    while index < attribute.end {
-        if let Some(literal) = option_at(tokens, index) {
-            let is_message = is_text(tokens, index, "message");
-            let is_label = is_text(tokens, index, "label");
-            if !(is_message && has_message || is_label && has_label) || attribute.is_internal {
-                let is_internal = attribute.is_internal;
-                read_text(alloc, findings, text, tokens, literal, &item, is_internal)?;
-            }
-            has_message = has_message || is_message;
-            has_label = has_label || is_label;
-        }
-        index = match source.partner(index) {
-            Some(close) => {
-                if close > index && !attribute.is_internal {
-                    close + 1
-                } else {
-                    index + 1
-                }
-            }
-            None => index + 1,
-        };
-    }
+    let Some(options) = arguments(alloc, source, attribute.close)? else {
+        return Ok(());
+    };
+    let item = item_at(source, attribute.end + 1);
+    read_options(alloc, findings, text, source.tokens(), &options, item)?;
     Ok(())
 }
 
-/// Adds the findings of the texts of attributes of a file. Returns `Err` if an allocation fails.
+/// Reads the attributes of a file, which has these tokens, and adds their findings. Returns `Err`
+/// if an allocation fails.
+// ensures read { OnOk result ((xs : List FindingValue)
+//     × (findings.new.items ≡ findings.old.items ++ xs)
+//     × ReadsFrom source.now 0 (length source.now) xs) }
+// ensures spans { OnOk result (All (HasSpans text.now) findings.old.items
+//     → All (HasSpans text.now) findings.new.items) }
 #[inline]
 pub fn read_attributes(
     alloc: Global,
     findings: &mut Vec<Finding>,
     text: &str,
+    source: &Source<'_>,
 ) -> Result<(), AllocError> {
-    if !text.contains("on_unimplemented") {
-        return Ok(());
-    }
-    let source = Source::new(alloc, text)?;
+    let count = source.tokens().len();
     let mut index = 0;
-    while index < source.tokens().len() {
-        if let Some(attribute) = attribute_at(&source, index) {
-            read_attribute(alloc, findings, text, &source, attribute)?;
-        }
+    while index < count {
+        read_at(alloc, findings, text, source, index)?;
         index += 1;
     }
     Ok(())

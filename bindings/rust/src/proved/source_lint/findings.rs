@@ -4,12 +4,23 @@
 // That source is proved, and each contract here is its. That this text means the same is tested:
 // by results from outside, and beside what is proved (.ci/bindings) and the original (tools/agree).
 
-use crate::proved::call_faults::{CallFault, Checked};
+use crate::proved::call_faults::{CallEdit, CallFault, CallHelp, Checked};
 use crate::proved::source_lint::labels::{help, labels, notes, primary_span};
-use crate::proved::source_lint::report::Finding;
+use crate::proved::source_lint::report::{CallReading, Finding};
 use crate::proved::source_lint::spans::Site;
 use crate::shim::alloc::{AllocError, Global};
 use crate::shim::prelude::*;
+
+/// Returns how much of a call is read where the number of its arguments is known, and where not.
+// ensures { result ≡ reading_of is_counted }
+#[inline]
+pub fn reading_of(is_counted: bool) -> CallReading {
+    if is_counted {
+        CallReading::Whole
+    } else {
+        CallReading::StringAlone
+    }
+}
 
 /// Returns whether a fault is only a warning.
 // ensures { result ≡ is_warning (seen_fault fault.now) }
@@ -25,8 +36,39 @@ fn is_text_fault(fault: &CallFault<'_>) -> bool {
     matches!(fault, CallFault::Text(_))
 }
 
-/// Returns the finding of a fault of a call. Returns `Err` if an allocation fails.
-// ensures tells { IfOk result (λ x. Tells (seen_call checked.now) (seen_fault fault.now) x) }
+/// Returns whether one of these edits copies source.
+// ensures { result ≡ copies (map seen_edit edits.now) }
+#[inline]
+fn copies(edits: &[CallEdit]) -> bool {
+    for edit in edits {
+        if edit.copied.is_some() {
+            return true;
+        }
+    }
+    false
+}
+
+/// Returns the help that counts where the number of arguments is known, and where it is not.
+// ensures { option_map seen_help result
+//     ≡ counted_help is_whole (option_map seen_help help.entry) }
+#[inline]
+fn counted_help(help: Option<CallHelp>, is_whole: bool) -> Option<CallHelp> {
+    match help {
+        None => None,
+        Some(help) => {
+            if is_whole || !copies(&help.edits) {
+                Some(help)
+            } else {
+                None
+            }
+        }
+    }
+}
+
+/// Returns the finding of a fault of a call, whose number of arguments is known or not. Returns
+/// `Err` if an allocation fails.
+// ensures tells { IfOk result (λ x.
+//     Tells is_whole (seen_call checked.now) (seen_fault fault.now) x) }
 // ensures spans { IfOk result (λ x. HasSpans site.entry.text.now x) }
 #[inline]
 fn finding<'c>(
@@ -34,13 +76,15 @@ fn finding<'c>(
     site: Site<'_, '_>,
     checked: &Checked<'c>,
     fault: &CallFault<'c>,
+    is_whole: bool,
 ) -> Result<Finding, AllocError> {
     let mut title = String::made_in(alloc);
     checked.put_title(&mut title, fault)?;
     let labels = labels(alloc, site, checked.labels(alloc, fault)?)?;
     let span = primary_span(site, &labels);
     let notes = notes(alloc, site, checked.notes(alloc, fault)?)?;
-    let help = help(alloc, site, checked.help(alloc, fault)?)?;
+    let counted = counted_help(checked.help(alloc, fault)?, is_whole);
+    let help = help(alloc, site, counted)?;
     Ok(Finding {
         is_warning: is_warning(fault),
         id: fault.id(),
@@ -56,8 +100,8 @@ fn finding<'c>(
 /// an allocation fails.
 // ensures told { OnOk result ((xs : List FindingValue)
 //     × (findings.new.items ≡ findings.old.items ++ xs)
-//     × TellAll (seen_call checked.now) (counted_faults is_whole (seen_fault fault.now ∷ []))
-//     xs) }
+//     × TellAll is_whole (seen_call checked.now)
+//     (counted_faults is_whole (seen_fault fault.now ∷ [])) xs) }
 // ensures spans { OnOk result (All (HasSpans site.entry.text.now) findings.old.items
 //     → All (HasSpans site.entry.text.now) findings.new.items) }
 #[inline]
@@ -70,7 +114,7 @@ fn put_finding<'c>(
     is_whole: bool,
 ) -> Result<(), AllocError> {
     if is_whole || is_text_fault(fault) {
-        findings.try_push(finding(alloc, site, checked, fault)?)?;
+        findings.try_push(finding(alloc, site, checked, fault, is_whole)?)?;
     }
     Ok(())
 }

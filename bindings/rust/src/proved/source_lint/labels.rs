@@ -74,27 +74,49 @@ pub fn notes(
     Ok(found)
 }
 
+/// Appends the source of a place of a call, if there is one. Returns `Err` if an allocation fails.
+// ensures { OnOk result ((s : List ℕ) × (string_bytes out.new ≡ string_bytes out.old ++ s)
+//     × Copies copied s) }
+#[inline]
+fn put_copied(
+    out: &mut String,
+    site: Site<'_, '_>,
+    copied: Option<Spot>,
+) -> Result<(), AllocError> {
+    if let Some(spot) = copied {
+        let range = spot_range(site, spot);
+        out.try_push_str(&site.text[range.start..range.end])?;
+    }
+    Ok(())
+}
+
+/// Returns the new text of an edit, from that before the source that it copies, that source and the
+/// rest. Returns `Err` if an allocation fails.
+// ensures { IfOk result (λ t. HasText (seen_edit edit.entry) (string_bytes t)) }
+#[inline]
+fn edit_text(site: Site<'_, '_>, edit: CallEdit) -> Result<String, AllocError> {
+    let mut text = edit.text;
+    put_copied(&mut text, site, edit.copied)?;
+    text.try_push_str(edit.rest)?;
+    Ok(text)
+}
+
 /// Returns edits of a call with their ranges. Returns `Err` if an allocation fails.
-// ensures texts { IfOk result (λ v. map (λ x. string_bytes x.text) v.items
-//     ≡ map (λ e. e.text) (map seen_edit edits.items)) }
+// ensures told { IfOk result (λ v. TellEdits (map seen_edit edits.items) v.items) }
 // ensures spans { IfOk result (λ v. All (λ x. IsSpan site.entry.text.now x.range) v.items) }
 #[inline]
 fn edits(alloc: Global, site: Site<'_, '_>, edits: Vec<CallEdit>) -> Result<Vec<Edit>, AllocError> {
     let mut found = Vec::made_in(alloc);
     for edit in edits {
-        found.try_push(Edit {
-            range: spot_range(site, edit.spot),
-            text: edit.text,
-        })?;
+        let range = spot_range(site, edit.spot);
+        let text = edit_text(site, edit)?;
+        found.try_push(Edit { range, text })?;
     }
     Ok(found)
 }
 
 /// Returns a help of a call with the ranges of its edits. Returns `Err` if an allocation fails.
-// ensures text { IfOk result (λ o. option_map (λ x. string_bytes x.text) o
-//     ≡ option_map (λ h. h.text) (option_map seen_help help)) }
-// ensures edits { IfOk result (λ o. option_map (λ x. map (λ e. string_bytes e.text) x.edits.items)
-//     o ≡ option_map (λ h. map (λ e. e.text) h.edits) (option_map seen_help help)) }
+// ensures told { IfOk result (λ o. TellsHelp (option_map seen_help help) o) }
 // ensures spans { IfOk result (λ o. IfSome o (λ x. All (λ e. IsSpan site.entry.text.now e.range)
 //     x.edits.items)) }
 #[inline]

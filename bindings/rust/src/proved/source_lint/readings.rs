@@ -9,8 +9,8 @@ use crate::proved::format_calls::{
     are_counted, arguments, format_string, token_at, word, Argument, Call, Rule,
 };
 use crate::proved::rust_trees::{Source, Token};
-use crate::proved::source_lint::assembly::read_templates;
-use crate::proved::source_lint::findings::put_findings;
+use crate::proved::source_lint::assembly::read_asm;
+use crate::proved::source_lint::findings::{put_findings, reading_of};
 use crate::proved::source_lint::givens::givens;
 use crate::proved::source_lint::literals::{appends_newline, dropped_crs, read_literal};
 use crate::proved::source_lint::macros::is_defined;
@@ -57,17 +57,6 @@ fn counted_givens<'a>(
     }
     let found = givens(alloc, tokens, arguments)?;
     Ok(found)
-}
-
-/// Returns how much of a call is read where the number of its arguments is known, and where not.
-// ensures { result ≡ reading_of is_counted }
-#[inline]
-fn reading_of(is_counted: bool) -> CallReading {
-    if is_counted {
-        CallReading::Whole
-    } else {
-        CallReading::StringAlone
-    }
 }
 
 /// Checks a call with this format string and these arguments, and adds its findings. Returns `Err`
@@ -185,6 +174,8 @@ fn read_at(
         literal,
         crs: &crs,
         arguments: others,
+        name: call.name,
+        close: call.close,
     };
     let name = name_at(tokens, call.name);
     let appended_newline = appends_newline(name);
@@ -199,6 +190,40 @@ fn read_at(
         is_counted,
     )?;
     Ok(reading)
+}
+
+/// Reads a call whose format string is the argument of this index, or whose templates begin with it,
+/// and adds its findings. Returns `Err` if an allocation fails.
+// requires pair { IsPair part.now (call.now.name + 2) call.now.close }
+// requires split { AreArguments part.now (call.now.name + 3) arguments.now call.now.close }
+// requires literal { (a : ArgumentValue) × (slice_get arguments.now index ≡ Some a)
+//     × IsTrue (is_text part.now a) }
+// ensures read { IfOk result (λ r. (xs : List FindingValue)
+//     × (findings.new.items ≡ findings.old.items ++ xs)
+//     × ReadsOne call.now.rule file.entry.is_from_2021 part.now call.now arguments.now index r
+//     xs) }
+// ensures spans { OnOk result (All (HasSpans file.entry.text.now) findings.old.items
+//     → All (HasSpans file.entry.text.now) findings.new.items) }
+#[inline]
+fn read_one<'a>(
+    alloc: Global,
+    findings: &mut Vec<Finding>,
+    file: File<'_, 'a>,
+    part: &Source<'a>,
+    call: &Call,
+    arguments: &[Argument],
+    index: usize,
+) -> Result<CallReading, AllocError> {
+    match call.rule {
+        Rule::Templates => {
+            let reading = read_asm(alloc, findings, file.text, part, call, arguments)?;
+            Ok(reading)
+        }
+        Rule::At(_) | Rule::ByEdition(_) | Rule::AfterFields => {
+            let reading = read_at(alloc, findings, file, part, call, arguments, index)?;
+            Ok(reading)
+        }
+    }
 }
 
 /// Returns whether no token stands where an argument should.
@@ -249,12 +274,8 @@ pub fn read_call<'a>(
     }
     match format_string(part, call.rule, list, file.is_from_2021) {
         Err(reason) => Ok(CallReading::Unread(reason)),
-        Ok(_) if matches!(call.rule, Rule::Templates) => {
-            let reading = read_templates(alloc, findings, file, part, call, list)?;
-            Ok(reading)
-        }
         Ok(index) => {
-            let reading = read_at(alloc, findings, file, part, call, list, index)?;
+            let reading = read_one(alloc, findings, file, part, call, list, index)?;
             Ok(reading)
         }
     }

@@ -24,6 +24,10 @@ pub struct Site<'s, 'a> {
     pub crs: &'s [usize],
     /// The arguments after its format string.
     pub arguments: &'s [Argument],
+    /// The index of the name of its macro.
+    pub name: usize,
+    /// The index of the delimiter that closes it.
+    pub close: usize,
 }
 
 /// Returns the range between two byte offsets of a text. An offset within a character goes back to
@@ -103,6 +107,18 @@ fn range_up_to_next(site: Site<'_, '_>, index: usize) -> Range<usize> {
     }
 }
 
+/// Returns the empty range after a range.
+#[inline]
+fn end_of(range: Range<usize>) -> Range<usize> {
+    range.end..range.end
+}
+
+/// Returns the bytes of the literal.
+#[inline]
+fn whole_literal(literal: Token<'_>) -> Range<usize> {
+    literal.start..literal.start.saturating_add(literal.text.len())
+}
+
 /// Returns the empty range before the closing quote of the literal.
 #[inline]
 fn literal_end(literal: Token<'_>) -> Range<usize> {
@@ -134,8 +150,11 @@ pub fn spot_range(site: Site<'_, '_>, spot: Spot) -> Range<usize> {
         Spot::Name(index) => name_range(site, index),
         Spot::Value(index) => value_range(site, index),
         Spot::ValueUpToNext(index) => range_up_to_next(site, index),
-        Spot::Literal => literal.start..literal.start.saturating_add(literal.text.len()),
+        Spot::ValueEnd(index) => end_of(value_range(site, index)),
+        Spot::Literal => whole_literal(literal),
         Spot::LiteralEnd => literal_end(literal),
+        Spot::AfterLiteral => end_of(whole_literal(literal)),
+        Spot::Call => tokens_range(site.tokens, site.name, site.close.saturating_add(1)),
         Spot::Bytes { start, end } => literal_range(site, start, end),
     };
     range_in(site.text, range.start, range.end)
