@@ -1,7 +1,7 @@
 -- How the operands that lookups mean are marked, and the others left.
 use Rattle.std.proofs.Common.{◌≡◌, ℕ, suc, zero, ◌+◌, ◌<◌, ◌++◌, ◌==◌, ◌||◌, ◌&&◌, Bool, true}
 use Rattle.std.proofs.Common.{false, refl, List, [], ◌∷◌, length, map, take, get_or, cond}
-use Rattle.std.proofs.Common.{arith, ap, ◌∙◌, sym}
+use Rattle.std.proofs.Common.{Some, arith, ap, ◌∙◌, sym}
 use Rattle.std.proofs.Common.{eqb-true}
 use Rattle.std.specs.List.{list_any, slice_get}
 use Rattle.std.specs.Option.{option_map_or}

@@ -58,11 +58,15 @@ abbrev pub late_labels : List Operand → ℕ → List Label
 late_labels ss i = primary (WholeOperand i) (codes "positional argument")
     ∷ (front_labels false i 0 ss ++ front_labels true i 0 ss)
 
+-- The label of the operand of the index i, if there is one that an index does not mean.
+abbrev pub kind_at : ℕ → Option Operand → List Label
+kind_at i None = []
+kind_at i (Some o) = kind_label i o
+
 -- The labels of a placeholder there that refers to an operand by a wrong index, and of this
--- operand, if there is one.
+-- operand.
 abbrev pub wrong_labels : AsmSpot → ℕ → Option Operand → List Label
-wrong_labels s i None = primary s (codes "from here") ∷ []
-wrong_labels s i (Some o) = primary s (codes "from here") ∷ kind_label i o
+wrong_labels s i o = primary s (codes "from here") ∷ kind_at i o
 
 -- The label of a second range of an error of the template k whose range is s. It is primary if it
 -- has that range.

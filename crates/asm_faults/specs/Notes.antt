@@ -2,11 +2,13 @@
 use Rattle.std.specs.Prelude.{ℕ, suc, ◌==◌, ◌++◌, Bool, true, false, if◌then◌else◌, List, [], ◌∷◌}
 use Rattle.std.specs.Prelude.{Option, Some, None, codes, decimal, encode_utf8_all, length}
 use Rattle.std.specs.List.{slice_get}
+use Rattle.rustc_parse_format.specs.Characters.{Text}
 use Rattle.rustc_parse_format.specs.Faults.{message}
 use Rattle.asm_faults.specs.AsmFaults.{AsmFault, PositionalAfter, RepeatedName, RegisterName}
 use Rattle.asm_faults.specs.AsmFaults.{WrongIndex, MissingName, LongModifier, TemplateFault}
 use Rattle.asm_faults.specs.AsmFaults.{UnusedOperands}
 use Rattle.asm_faults.specs.Operands.{Operand, Named, Register, Unnamed, is_other}
+use Rattle.asm_faults.specs.Words.{given_name}
 use Rattle.asm_faults.specs.declared.faults.AsmSpot.{AsmSpot}
 use Rattle.asm_faults.specs.declared.faults.AsmSpot.TheVariants.{Operand as WholeOperand}
 
@@ -64,17 +66,15 @@ text_notes None = []
 text_notes (Some t) = note t None ∷ []
 
 -- What a placeholder has for an operand of the index i: its name, or its index.
-abbrev pub reference : ℕ → Option Operand → List ℕ
+abbrev pub reference : ℕ → Option Text → List ℕ
 reference i None = decimal i
-reference i (Some Unnamed) = decimal i
-reference i (Some (Named w)) = encode_utf8_all w
-reference i (Some (Register b)) = decimal i
+reference i (Some w) = encode_utf8_all w
 
 -- Placeholders of operands.
 abbrev pub placeholders : List Operand → List ℕ → List ℕ
 placeholders ss [] = []
 placeholders ss (i ∷ is) =
-    codes " {" ++ (reference i (slice_get ss i) ++ (codes "}" ++ placeholders ss is))
+    codes " {" ++ (reference i (given_name (slice_get ss i)) ++ (codes "}" ++ placeholders ss is))
 
 -- How the help of so many operands that are not used begins.
 unfoldable pub unused_start : ℕ → List ℕ

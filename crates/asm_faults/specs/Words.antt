@@ -1,5 +1,6 @@
 -- The ids and the titles of faults, in rustc's words, as bytes.
 use Rattle.std.specs.Prelude.{ℕ, ◌++◌, List, [], ◌∷◌, Option, Some, None, codes, decimal}
+use Rattle.std.specs.Prelude.{unwrap_or}
 use Rattle.std.specs.List.{slice_get}
 use Rattle.rustc_parse_format.specs.Characters.{Text}
 use Rattle.rustc_parse_format.specs.FaultIds.{fault_id}
@@ -21,12 +22,16 @@ asm_id (LongModifier s) = codes "long-modifier"
 asm_id (TemplateFault k f) = fault_id f
 asm_id (UnusedOperands is) = codes "unused-argument"
 
+-- The name of an operand, if it has one and no register of its own.
+abbrev pub given_name : Option Operand → Option Text
+given_name None = None
+given_name (Some Unnamed) = None
+given_name (Some (Named w)) = Some w
+given_name (Some (Register b)) = None
+
 -- The name of an operand, or an empty text if it has none.
 abbrev pub name_of : Option Operand → Text
-name_of None = []
-name_of (Some Unnamed) = []
-name_of (Some (Named w)) = w
-name_of (Some (Register b)) = []
+name_of o = unwrap_or (given_name o) []
 
 -- The words for an operand that is not used.
 abbrev pub never_used : Option Operand → List ℕ

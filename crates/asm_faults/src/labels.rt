@@ -1,20 +1,21 @@
 //! The labels of faults, in rustc's words. What begins with `push_` adds to the end of `labels`,
 //! and returns `Err` if an allocation fails.
 
-ghost use Rattle.std.specs.Prelude.{◌≡◌, ◌++◌, ◌∷◌, [], OnOk, map};
+ghost use Rattle.std.specs.Prelude.{◌≡◌, ◌++◌, ◌∷◌, [], IfOk, OnOk, codes, map, option_map};
+ghost use Rattle.std.specs.Prelude.{string_bytes};
 ghost use Rattle.std.specs.List.{slice_get};
 ghost use Rattle.rustc_parse_format.specs.Faults.{message};
 ghost use Rattle.rustc_parse_format.specs.Seen.{seen_error};
 ghost use Rattle.rustc_parse_format.specs.SeenFaults.{seen_fault as seen_text_fault};
-ghost use Rattle.asm_faults.specs.Labels.{front_label, front_labels, is_kind, kind_label, label};
-ghost use Rattle.asm_faults.specs.Labels.{late_labels, second_labels, text_labels};
+ghost use Rattle.asm_faults.specs.Labels.{front_label, front_labels, is_kind, kind_at, kind_label};
+ghost use Rattle.asm_faults.specs.Labels.{label, late_labels, second_labels, text_labels};
 ghost use Rattle.asm_faults.specs.Labels.{unused_labels, wrong_labels};
 ghost use Rattle.asm_faults.specs.Seen.{seen_label, seen_operand};
 
 use crate::checker::AsmCall;
 use crate::faults::{AsmFault, AsmSpot};
 use crate::lookups::bytes_at;
-use crate::operands::Operand;
+use crate::operands::{Operand, operand_at};
 use crate::titles::never_used;
 use rustc_parse_format::{Fault, ParseError};
 use std::alloc::{AllocError, Global};
@@ -114,7 +115,6 @@ fn push_fronts(
 }
 
 /// Adds the labels of an operand that stands too late.
-#[tactic(auto, using(std::proofs::Common::append_assoc))]
 fn push_late(
     labels: &mut Vec<AsmLabel>,
     operands: &[Operand<'_>],
@@ -129,8 +129,22 @@ fn push_late(
     Ok(())
 }
 
+/// Adds the label of the operand of an index, if there is one, and an index does not mean it.
+fn push_kind_at(
+    labels: &mut Vec<AsmLabel>,
+    index: usize,
+    operand: Option<Operand<'_>>,
+) -> Result<(), AllocError>
+    ensures { OnOk result (map seen_label labels.new.items ≡ map seen_label labels.old.items
+        ++ kind_at index (option_map seen_operand operand.entry)) }
+{
+    if let Some(operand) = operand {
+        push_kind(labels, index, &operand)?;
+    }
+    Ok(())
+}
+
 /// Adds the labels of a wrong index of the placeholder at `spot`.
-#[tactic(auto, using(std::proofs::Common::append_assoc))]
 fn push_wrong(
     labels: &mut Vec<AsmLabel>,
     operands: &[Operand<'_>],
@@ -141,9 +155,7 @@ fn push_wrong(
         ++ wrong_labels spot index (slice_get (map seen_operand operands.now) index)) }
 {
     push_label(labels, spot, true, "from here")?;
-    if let Some(operand) = operands.get(index) {
-        push_kind(labels, index, operand)?;
-    }
+    push_kind_at(labels, index, operand_at(operands, index))?;
     Ok(())
 }
 
@@ -163,8 +175,35 @@ fn push_second(
     Ok(())
 }
 
-/// Adds the labels of a fault of a template.
+/// Returns what is said of the place of an error of a template. Returns `Err` if an allocation
+/// fails.
+fn error_text(alloc: Global, error: &ParseError) -> Result<String, AllocError>
+    ensures { IfOk result (λ t. string_bytes t
+        ≡ (seen_error error.now).label ++ codes " in asm template string") }
+{
+    let mut text = String::from_str(alloc, &error.label)?;
+    text.push_str(" in asm template string")?;
+    Ok(text)
+}
+
+/// Adds the labels of an error of a template.
 #[tactic(auto, using(std::proofs::Common::append_assoc))]
+fn push_error(
+    alloc: Global,
+    labels: &mut Vec<AsmLabel>,
+    template: usize,
+    error: &ParseError,
+) -> Result<(), AllocError>
+    ensures { OnOk result (map seen_label labels.new.items ≡ map seen_label labels.old.items
+        ++ text_labels template (seen_error error.now)) }
+{
+    let text = error_text(alloc, error)?;
+    push_label(labels, bytes_at(template, &error.span), true, &text)?;
+    push_second(labels, template, error)?;
+    Ok(())
+}
+
+/// Adds the labels of a fault of a template.
 fn push_text(
     alloc: Global,
     labels: &mut Vec<AsmLabel>,
@@ -175,10 +214,7 @@ fn push_text(
         ++ text_labels template (message (seen_text_fault fault.now))) }
 {
     let error = fault.error(alloc)?;
-    let mut text = String::from_str(alloc, &error.label)?;
-    text.push_str(" in asm template string")?;
-    push_label(labels, bytes_at(template, &error.span), true, &text)?;
-    push_second(labels, template, &error)?;
+    push_error(alloc, labels, template, &error)?;
     Ok(())
 }
 

@@ -1,20 +1,21 @@
 //! The notes and helps of faults, in rustc's words. What begins with `push_` or `put_` adds to the
 //! end of a list or a text, and returns `Err` if an allocation fails.
 
-ghost use Rattle.std.specs.Prelude.{◌≡◌, ◌++◌, ◌∷◌, [], IfOk, OnOk, map, option_map};
-ghost use Rattle.std.specs.Prelude.{string_bytes};
+ghost use Rattle.std.specs.Prelude.{◌≡◌, ◌++◌, ◌∷◌, [], IfOk, OnOk, chars, encode_utf8_all, map};
+ghost use Rattle.std.specs.Prelude.{option_map, string_bytes};
 ghost use Rattle.std.specs.List.{slice_get};
 ghost use Rattle.rustc_parse_format.specs.Faults.{message};
 ghost use Rattle.rustc_parse_format.specs.SeenFaults.{seen_fault as seen_text_fault};
-ghost use Rattle.asm_faults.specs.Notes.{count_text, count_unnamed, kind_notes, note, noun};
-ghost use Rattle.asm_faults.specs.Notes.{placeholders, reference, text_notes, unused_help};
+ghost use Rattle.placeholder_check.specs.Seen.{text};
+ghost use Rattle.asm_faults.specs.Notes.{count_text, count_unnamed, kind_notes, note};
+ghost use Rattle.asm_faults.specs.Notes.{noun, placeholders, reference, text_notes, unused_help};
 ghost use Rattle.asm_faults.specs.Notes.{unused_start, wrong_help, wrong_notes};
 ghost use Rattle.asm_faults.specs.Seen.{seen_note, seen_operand};
 
 use crate::checker::AsmCall;
 use crate::faults::{AsmFault, AsmSpot};
-use crate::operands::Operand;
-use crate::titles::put_number;
+use crate::operands::{Operand, operand_at};
+use crate::titles::{given_name, put_number};
 use rustc_parse_format::Fault;
 use std::alloc::{AllocError, Global};
 
@@ -86,18 +87,18 @@ fn put_count(out: &mut String, count: usize, word: &str) -> Result<(), AllocErro
     Ok(())
 }
 
-/// Adds the note of an operand that an index does not mean, if there is one.
+/// Adds the note of the operand of an index, if there is one, and an index does not mean it.
 #[tactic(auto, unfolding(crate::specs::Notes::kind_notes))]
 fn push_kind(
     notes: &mut Vec<AsmNote>,
-    operands: &[Operand<'_>],
     index: usize,
+    operand: Option<Operand<'_>>,
 ) -> Result<(), AllocError>
     ensures { OnOk result (map seen_note notes.new.items ≡ map seen_note notes.old.items
-        ++ kind_notes index (slice_get (map seen_operand operands.now) index)) }
+        ++ kind_notes index (option_map seen_operand operand.entry)) }
 {
     let spot = Some(AsmSpot::Operand(index));
-    match operands.get(index) {
+    match operand {
         Some(Operand::Named(_)) => {
             let text = "named arguments cannot be referenced by position";
             push_note(notes, text, spot)?;
@@ -111,8 +112,17 @@ fn push_kind(
     Ok(())
 }
 
+/// Returns how many operands an index may mean, in words. Returns `Err` if an allocation fails.
+fn count_text(alloc: Global, operands: &[Operand<'_>]) -> Result<String, AllocError>
+    ensures { IfOk result (λ t. string_bytes t ≡ count_text
+        (count_unnamed (map seen_operand operands.now)) (noun (map seen_operand operands.now))) }
+{
+    let mut text = String::new(alloc);
+    put_count(&mut text, count_unnamed(operands), noun(operands))?;
+    Ok(text)
+}
+
 /// Adds the notes of a wrong index.
-#[tactic(auto, using(std::proofs::Common::append_assoc))]
 fn push_wrong(
     alloc: Global,
     notes: &mut Vec<AsmNote>,
@@ -122,10 +132,9 @@ fn push_wrong(
     ensures { OnOk result (map seen_note notes.new.items ≡ map seen_note notes.old.items
         ++ wrong_notes (map seen_operand operands.now) index) }
 {
-    let mut text = String::new(alloc);
-    put_count(&mut text, count_unnamed(operands), noun(operands))?;
+    let text = count_text(alloc, operands)?;
     push_note(notes, &text, None)?;
-    push_kind(notes, operands, index)?;
+    push_kind(notes, index, operand_at(operands, index))?;
     Ok(())
 }
 
@@ -163,16 +172,24 @@ fn push_text(alloc: Global, notes: &mut Vec<AsmNote>, fault: &Fault<'_>) -> Resu
     Ok(())
 }
 
-/// Adds what a placeholder has for an operand.
-fn put_reference(out: &mut String, operands: &[Operand<'_>], index: usize) -> Result<(), AllocError>
-    ensures { OnOk result (string_bytes out.new ≡ string_bytes out.old
-        ++ reference index (slice_get (map seen_operand operands.now) index)) }
+/// Adds a name.
+fn put_name(out: &mut String, name: &str) -> Result<(), AllocError>
+    ensures { OnOk result (string_bytes out.new
+        ≡ string_bytes out.old ++ encode_utf8_all (chars name.now)) }
 {
-    match operands.get(index) {
-        Some(Operand::Named(name)) => out.push_str(name)?,
-        Some(Operand::Unnamed) | Some(Operand::Register { .. }) | None => put_number(out, index)?,
-    }
+    out.push_str(name)?;
     Ok(())
+}
+
+/// Adds what a placeholder has for an operand with this name or this index.
+fn put_reference(out: &mut String, index: usize, name: Option<&str>) -> Result<(), AllocError>
+    ensures { OnOk result (string_bytes out.new ≡ string_bytes out.old
+        ++ reference index (option_map text name.entry)) }
+{
+    match name {
+        Some(name) => put_name(out, name),
+        None => put_number(out, index),
+    }
 }
 
 /// Adds placeholders of operands.
@@ -187,7 +204,7 @@ fn put_placeholders(
     let mut rest = indices;
     while let Some((index, others)) = rest.split_first() {
         out.push_str(" {")?;
-        put_reference(out, operands, *index)?;
+        put_reference(out, *index, given_name(operands, *index))?;
         out.push_str("}")?;
         rest = others;
     }

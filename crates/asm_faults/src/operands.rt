@@ -1,7 +1,8 @@
 //! The list of operands of a call.
 
 ghost use Rattle.std.specs.Prelude.{◌≡◌, ◌∷◌, ◌++◌, [], List, IfOk, OnOk, Some, chars, length};
-ghost use Rattle.std.specs.Prelude.{if◌then◌else◌, map};
+ghost use Rattle.std.specs.Prelude.{if◌then◌else◌, map, option_map};
+ghost use Rattle.std.specs.List.{slice_get};
 ghost use Rattle.std.specs.Str.{bytes_eq};
 ghost use Rattle.rustc_parse_format.specs.Characters.{Text};
 ghost use Rattle.asm_faults.specs.Operands.{Named, Operand as OperandValue, Register, Unnamed};
@@ -162,6 +163,16 @@ fn add<'a>(
         Operand::Register { has_name } => add_register(operands, faults, index, has_name)?,
     }
     Ok(())
+}
+
+/// Returns the operand of an index, or `None` if there is none.
+pub(crate) fn operand_at<'a>(operands: &[Operand<'a>], index: usize) -> Option<Operand<'a>>
+    ensures { option_map seen_operand result ≡ slice_get (map seen_operand operands.now) index }
+{
+    match operands.get(index) {
+        Some(operand) => Some(*operand),
+        None => None,
+    }
 }
 
 /// Returns operands as placeholders refer to them, and adds the faults of their list. Returns `Err`

@@ -1,13 +1,16 @@
 //! The ids and the titles of faults, in rustc's words. What begins with `put_` appends to `out`,
 //! and returns `Err` if an allocation fails.
 
-ghost use Rattle.std.specs.Prelude.{◌≡◌, ◌++◌, OnOk, chars, codes, decimal, map, string_bytes};
+ghost use Rattle.std.specs.Prelude.{◌≡◌, ◌++◌, OnOk, chars, codes, decimal, map, option_map};
+ghost use Rattle.std.specs.Prelude.{string_bytes};
 ghost use Rattle.std.specs.List.{slice_get};
 ghost use Rattle.rustc_parse_format.specs.Faults.{message};
 ghost use Rattle.rustc_parse_format.specs.SeenFaults.{seen_fault as seen_text_fault};
 ghost use Rattle.call_faults.specs.Words.{quoted};
 ghost use Rattle.asm_faults.specs.Seen.{seen_fault, seen_operand};
-ghost use Rattle.asm_faults.specs.Words.{asm_id, name_of, never_used, title, unused_title};
+ghost use Rattle.placeholder_check.specs.Seen.{text};
+ghost use Rattle.asm_faults.specs.Words.{asm_id, given_name, name_of, never_used, title};
+ghost use Rattle.asm_faults.specs.Words.{unused_title};
 
 use crate::checker::AsmCall;
 use crate::faults::AsmFault;
@@ -61,13 +64,23 @@ fn put_named(out: &mut String, text: &str, name: &str) -> Result<(), AllocError>
     Ok(())
 }
 
+/// Returns the name of an operand, or `None` if it has none or a register of its own.
+pub(crate) fn given_name<'a>(operands: &[Operand<'a>], index: usize) -> Option<&'a str>
+    ensures { option_map text result ≡ given_name (slice_get (map seen_operand operands.now) index) }
+{
+    match operands.get(index) {
+        Some(Operand::Named(name)) => Some(*name),
+        Some(Operand::Unnamed) | Some(Operand::Register { .. }) | None => None,
+    }
+}
+
 /// Returns the name of an operand, or an empty text if it has none.
 fn name_of<'a>(operands: &[Operand<'a>], index: usize) -> &'a str
     ensures { chars result.now ≡ name_of (slice_get (map seen_operand operands.now) index) }
 {
-    match operands.get(index) {
-        Some(Operand::Named(name)) => name,
-        Some(Operand::Unnamed) | Some(Operand::Register { .. }) | None => "",
+    match given_name(operands, index) {
+        Some(name) => name,
+        None => "",
     }
 }
 
@@ -146,7 +159,8 @@ impl<'a> AsmCall<'a> {
             }
             AsmFault::WrongIndex { index, .. } => put_index_title(out, *index),
             AsmFault::MissingName { name, .. } => {
-                put_named(out, "there is no argument named ", name)
+                put_named(out, "there is no argument named ", name)?;
+                Ok(())
             }
             AsmFault::LongModifier { .. } => {
                 out.push_str("asm template modifier must be a single character")?;

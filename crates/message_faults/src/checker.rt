@@ -1,7 +1,7 @@
 //! What is wrong with a text.
 
-ghost use Rattle.std.specs.Prelude.{◌≡◌, ◌+◌, ◌<◌, ◌^◌, ◌++◌, IfOk, None, OnOk, chars, length};
-ghost use Rattle.std.specs.Prelude.{map, option_map};
+ghost use Rattle.std.specs.Prelude.{◌≡◌, ◌+◌, ◌<◌, ◌^◌, ◌++◌, IfOk, None, OnOk, chars};
+ghost use Rattle.std.specs.Prelude.{encode_utf8_all, length, map, option_map};
 ghost use Rattle.std.specs.List.{list_any};
 ghost use Rattle.std.specs.Str.{bytes_eq};
 ghost use Rattle.rustc_parse_format.specs.Seen.{pair, seen, seen_argument, seen_snippet};
@@ -81,6 +81,14 @@ fn is_parameter(parameters: &[&str], name: &str) -> bool
     name == "Self" || is_one_of(parameters, name)
 }
 
+/// The same, in the words of the definition: its names are texts.
+fn is_known(parameters: &[&str], name: &str) -> bool
+    ensures { result ≡ is_parameter (map (λ p. p.now) parameters.now)
+        (encode_utf8_all (chars name.now)) }
+{
+    is_parameter(parameters, name)
+}
+
 /// Returns a range of the literal, or all of it where its ranges are not known.
 fn spot_of(is_known: bool, span: &Range<usize>) -> Spot
     ensures { result ≡ spot_of is_known (pair span.now) }
@@ -123,7 +131,7 @@ fn push_name<'a>(
         ++ name_faults (seen_parameters parameters.entry) spot (chars name.now)) }
 {
     if let Some(parameters) = parameters {
-        if !is_parameter(parameters, name) {
+        if !is_known(parameters, name) {
             faults.push(MessageFault::MissingParameter { spot, name })?;
         }
     }

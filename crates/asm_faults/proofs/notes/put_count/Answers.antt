@@ -6,9 +6,9 @@ returns c =
     rw (
       ne_eqb c.args.count 0 c.if-count-eq0.false,
       ne_eqb c.args.count 1 c.if-count-eq1.false,
+      c.in_ok-push_str-9.ensures.bytes,
       c.in_ok-push_str-8.ensures.bytes,
       c.in_ok-push_str-7.ensures.bytes,
-      c.in_ok-push_str-6.ensures.bytes,
       c.in_ok-put_number.ensures,
-      c.in_ok-push_str-5.ensures.bytes,
+      c.in_ok-push_str-6.ensures.bytes,
     ) (simp append_assoc)
