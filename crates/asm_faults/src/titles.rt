@@ -66,7 +66,8 @@ fn put_named(out: &mut String, text: &str, name: &str) -> Result<(), AllocError>
 
 /// Returns the name of an operand, or `None` if it has none or a register of its own.
 pub(crate) fn given_name<'a>(operands: &[Operand<'a>], index: usize) -> Option<&'a str>
-    ensures { option_map text result ≡ given_name (slice_get (map seen_operand operands.now) index) }
+    ensures { option_map text result
+        ≡ given_name (slice_get (map seen_operand operands.now) index) }
 {
     match operands.get(index) {
         Some(Operand::Named(name)) => Some(*name),
