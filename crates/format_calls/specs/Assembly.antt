@@ -1,5 +1,5 @@
--- The arguments of a macro for inline assembly: templates, and then operands and options. The public
--- rule is in the Rust Reference, on inline assembly.
+-- The arguments of a macro for inline assembly: templates, and then operands and options. The
+-- public rule is in the Rust Reference, on inline assembly.
 use Prim.Native.Char.{code}
 use Rattle.std.specs.Prelude.{ℕ, zero, suc, Bool, true, false, ◌&&◌, ◌||◌, ◌+◌, ◌-◌, List}
 use Rattle.std.specs.Prelude.{Option, Some, None, codes, nat_lt, slice_get}

@@ -21,7 +21,8 @@ use Rattle.format_calls.specs.declared.table.Rule.TheVariants.{Templates}
 use Rattle.source_lint.specs.declared.report.CallReading.{CallReading}
 use Rattle.source_lint.specs.declared.report.Finding.{Finding}
 use Rattle.source_lint.specs.Literals.{appends_newline}
-use Rattle.source_lint.specs.Readings.{Reads, ReadsAt, ReadsBy, ReadsOne, ReadsFull, ReadsUnless, captures}
+use Rattle.source_lint.specs.Readings.{Reads, ReadsAt, ReadsBy, ReadsOne, ReadsFull, ReadsUnless}
+use Rattle.source_lint.specs.Readings.{captures}
 use Rattle.source_lint.specs.Readings.{is_empty, name_at, name_of_leaf}
 use Rattle.source_lint.proofs.Calling.{reads-by}
 use Rattle.source_lint.proofs.Embedding.{Embeds}

@@ -27,7 +27,8 @@ pub record TellsAsm (ss : List Operand) (f : AsmFault) (x : Finding) : Type 0 wh
   pub note_texts : map (λ n. string_bytes n.text) x.notes.items ≡ map (λ n. n.text) (notes ss f)
   pub shown_counts : map (λ n. length n.ranges.items) x.notes.items
       ≡ map (λ n. shown_count n.spot) (notes ss f)
-  pub help_text : option_map (λ h. string_bytes h.text) x.help ≡ option_map (λ n. n.text) (help ss f)
+  pub help_text : option_map (λ h. string_bytes h.text) x.help
+      ≡ option_map (λ n. n.text) (help ss f)
   pub no_edits : IfSome x.help (λ h. h.edits.items ≡ [])
 
 -- These findings say what these faults are, one for each.

@@ -96,8 +96,8 @@ seen_read t = record {
   snippet = Some (chars (string_bytes t.literal.snippet));
 }
 
--- This is the reading of a call with these templates and operands, and these are the findings. If the
--- operands are not known, only the fault of a template counts.
+-- This is the reading of a call with these templates and operands, and these are the findings. If
+-- the operands are not known, only the fault of a template counts.
 abbrev pub FindsAsm : Bool → List Template → List Operand → CallReading → List Finding → Type 0
 FindsAsm counted ts os r fs = (r ≡ reading_of counted)
     × TellAllAsm (slots_after [] os) (counted_asm counted (asm_faults ts os)) fs

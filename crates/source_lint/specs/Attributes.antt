@@ -1,9 +1,9 @@
--- The texts of the attributes `diagnostic::on_unimplemented` of a file, and the findings in them. The
--- public rule is in the Rust Reference, on diagnostic attributes.
+-- The texts of the attributes `diagnostic::on_unimplemented` of a file, and the findings in them.
+-- The public rule is in the Rust Reference, on diagnostic attributes.
 use Prim.Native.Char.{code}
 use Rattle.std.specs.Prelude.{◌≡◌, ◌⊎◌, ◌+◌, ◌++◌, ◌&&◌, ◌||◌, ◌==◌, not, ℕ, zero, suc, Bool, true}
-use Rattle.std.specs.Prelude.{false, List, [], ◌∷◌, Option, Some, None, IfSome, IsTrue, chars, codes}
-use Rattle.std.specs.Prelude.{map, option_map, slice_get, string_bytes, if◌then◌else◌}
+use Rattle.std.specs.Prelude.{false, List, [], ◌∷◌, Option, Some, None, IfSome, IsTrue, chars}
+use Rattle.std.specs.Prelude.{codes, map, option_map, slice_get, string_bytes, if◌then◌else◌}
 use Rattle.rustc_parse_format.specs.Characters.{Text}
 use Rattle.rustc_parse_format.specs.Literal.{IsLiteral}
 use Rattle.rustc_parse_format.specs.State.{State, first_state}
@@ -130,12 +130,13 @@ ReadsTexts name ps [] fs = fs ≡ []
 ReadsTexts name ps (x ∷ xs) fs = (found others : List Finding) × (fs ≡ found ++ others)
     × ReadsText name ps (without_crs (chars x.text)) found × ReadsTexts name ps xs others
 
--- These are the findings in the texts of an attribute with these options, where the item after it has
--- its front up to k. Only the attribute of a trait counts.
+-- The text of a token, or none.
 abbrev pub name_text : Option Leaf → Text
 name_text None = []
 name_text (Some x) = chars x.text
 
+-- These are the findings in the texts of an attribute with these options, where the item after it
+-- has its front up to k. Only the attribute of a trait counts.
 abbrev pub ReadsOptions : List Leaf → List Argument → ℕ → List Finding → Type 0
 ReadsOptions xs bs k fs = ReadsTexts (name_text (slice_get xs (k + 1))) (parameters xs (k + 2))
     (if is_word_there xs k (codes "trait") then texts_from xs false false bs else []) fs

@@ -1,5 +1,5 @@
--- The parameters of a trait that are types or constants. The public rule is in the Rust Reference, on
--- generic parameters.
+-- The parameters of a trait that are types or constants. The public rule is in the Rust Reference,
+-- on generic parameters.
 use Prim.Native.Char.{code}
 use Rattle.std.specs.Prelude.{ℕ, Bool, true, false, not, ◌&&◌, ◌||◌, ◌==◌, ◌+◌, ◌-◌, ◌++◌, List, []}
 use Rattle.std.specs.Prelude.{◌∷◌, Some, codes, drop, if◌then◌else◌}

@@ -105,7 +105,8 @@ pub record ReadsAt (is_new : Bool) (xs : List Leaf) (c : Call) (args : List Argu
       (captures is_new c.rule (name_at xs c.name)) (not (list_any (is_uncounted xs) trees))
       (map (given xs) (drop (n + 1) args)) r fs
 
--- The same where the argument n is the format string by this rule, or where it is the first template.
+-- The same where the argument n is the format string by this rule, or where it is the first
+-- template.
 abbrev pub ReadsOne : Rule → Bool → List Leaf → Call → List Argument → ℕ → CallReading
     → List Finding → Type 0
 ReadsOne (At m) is_new xs c args n r fs = ReadsAt is_new xs c args n r fs

@@ -37,15 +37,15 @@ ReadsParts es ds is_new xs (p ∷ ps) rs fs = (gap left : List Leaf)
     × (fs ≡ found ++ others) × ReadsCalls es ds is_new p first found
     × ReadsParts es ds is_new left ps more others
 
--- These are the findings in the texts of attributes of a file, in bytes, with these tokens. There are
--- none where the name of the attribute does not stand in the file.
+-- These are the findings in the texts of attributes of a file, in bytes, with these tokens. There
+-- are none where the name of the attribute does not stand in the file.
 abbrev pub ReadsAttributes : List ℕ → List Leaf → List Finding → Type 0
 ReadsAttributes bs xs fs = (HasSubslice bs (codes "on_unimplemented")
     × ReadsFrom xs 0 (length xs) fs)
     ⊎ ((HasSubslice bs (codes "on_unimplemented") → ⊥) × (fs ≡ []))
 
--- The report on a file, in bytes: the readings of the calls among its tokens, the findings in them and
--- in attributes, and where the file breaks.
+-- The report on a file, in bytes: the readings of the calls among its tokens, the findings in them
+-- and in attributes, and where the file breaks.
 pub record IsReport (es : List Entry) (is_new : Bool) (bs : List ℕ) (r : Report) : Type 0 where
   pub leaves : List Leaf
   pub are_leaves : AreLeaves bs leaves

@@ -1,5 +1,5 @@
-//! The findings of a call of a macro for inline assembly: its faults, in words and with their places
-//! in the file.
+//! The findings of a call of a macro for inline assembly: its faults, in words and with their
+//! places in the file.
 
 ghost use Rattle.std.specs.Prelude.{◌≡◌, ◌++◌, ◌∷◌, [], List, IfOk, IfSome, OnOk, length, map};
 ghost use Rattle.std.specs.Prelude.{option_map, string_bytes};
@@ -112,11 +112,7 @@ fn ranges(
 }
 
 /// Returns notes with the ranges that they show. Returns `Err` if an allocation fails.
-fn notes(
-    alloc: Global,
-    site: AsmSite<'_, '_>,
-    notes: Vec<AsmNote>,
-) -> Result<Vec<Note>, AllocError>
+fn notes(alloc: Global, site: AsmSite<'_, '_>, notes: Vec<AsmNote>) -> Result<Vec<Note>, AllocError>
     ensures texts { IfOk result (λ v. map (λ x. string_bytes x.text) v.items
         ≡ map (λ n. n.text) (map seen_note notes.items)) }
     ensures counts { IfOk result (λ v. map (λ x. length x.ranges.items) v.items

@@ -9,7 +9,8 @@ ghost use Rattle.rust_trees.specs.Leaves.{leaf};
 ghost use Rattle.format_calls.specs.Strings.{is_text_leaf};
 ghost use Rattle.source_lint.specs.Attributes.{IsAttribute, IsFront, IsItem, ReadsAt, ReadsFrom};
 ghost use Rattle.source_lint.specs.Attributes.{ReadsOptions, begins_attribute, counts};
-ghost use Rattle.source_lint.specs.Attributes.{is_modifier, is_word_there, literal_list, literal_of};
+ghost use Rattle.source_lint.specs.Attributes.{is_modifier, is_word_there, literal_list};
+ghost use Rattle.source_lint.specs.Attributes.{literal_of};
 ghost use Rattle.source_lint.specs.Attributes.{name_text, opens_front, sets, texts_from};
 ghost use Rattle.source_lint.specs.Findings.{HasSpans};
 ghost use Rattle.source_lint.specs.declared.report.Finding.{Finding as FindingValue};
@@ -161,12 +162,7 @@ fn literal_of<'a>(tokens: &[Token<'a>], option: &Argument) -> Option<Token<'a>>
 }
 
 /// Returns whether an option counts, where a message and a label have been there or not.
-fn counts(
-    tokens: &[Token<'_>],
-    has_message: bool,
-    has_label: bool,
-    option: &Argument,
-) -> bool
+fn counts(tokens: &[Token<'_>], has_message: bool, has_label: bool, option: &Argument) -> bool
     ensures { result ≡ counts (map leaf tokens.now) has_message has_label option.now }
 {
     sets(tokens, option, "message") && !has_message

@@ -76,11 +76,7 @@ pub fn notes(
 }
 
 /// Appends the source of a place of a call, if there is one. Returns `Err` if an allocation fails.
-fn put_copied(
-    out: &mut String,
-    site: Site<'_, '_>,
-    copied: Option<Spot>,
-) -> Result<(), AllocError>
+fn put_copied(out: &mut String, site: Site<'_, '_>, copied: Option<Spot>) -> Result<(), AllocError>
     ensures { OnOk result ((s : List ℕ) × (string_bytes out.new ≡ string_bytes out.old ++ s)
         × Copies copied s) }
 {

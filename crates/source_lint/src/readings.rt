@@ -203,8 +203,8 @@ fn read_at(
     Ok(reading)
 }
 
-/// Reads a call whose format string is the argument of this index, or whose templates begin with it,
-/// and adds its findings. Returns `Err` if an allocation fails.
+/// Reads a call whose format string is the argument of this index, or whose templates begin with
+/// it, and adds its findings. Returns `Err` if an allocation fails.
 fn read_one<'a>(
     alloc: Global,
     findings: &mut Vec<Finding>,

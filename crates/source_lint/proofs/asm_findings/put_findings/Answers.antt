@@ -22,8 +22,8 @@ loop-fault-preserved c =
 
 pub returns-clause-told : goal.returns-clause-told
 returns-clause-told c =
-    subst (λ v. Telling (map seen_operand c.args.call.now.operands.items) c.args.is_whole (map seen_fault v)
-    c.args.findings.now.items c.loop-fault.findings.items)
+    subst (λ v. Telling (map seen_operand c.args.call.now.operands.items) c.args.is_whole
+    (map seen_fault v) c.args.findings.now.items c.loop-fault.findings.items)
     (take_all c.loop-fault.fault-index c.deref-fault-items.result.now c.loop-fault-test.false
     ∙ c.deref-fault-items.ensures.value)
     c.loop-fault.invariant.told
