@@ -42,6 +42,10 @@ abbrev pub is_string_at : Option Leaf → Bool
 is_string_at None = false
 is_string_at (Some x) = is_string x.kind
 
+-- There is a token, and it is an opening parenthesis.
+abbrev pub is_parenthesis : Option Leaf → Bool
+is_parenthesis o = is_mark_of (code "(") o
+
 -- An operand whose register in parentheses starts at this token: one of its own is a literal.
 abbrev pub register_at : Option Leaf → AsmPart
 register_at o = if is_string_at o then Register else Operand
@@ -59,7 +63,7 @@ token_in xs a i = if nat_lt i a.end then slice_get xs i else None
 -- there. It has a name or not, and the word `raw` or not.
 abbrev pub part_of : Bool → Bool → Option Leaf → Option Leaf → Option Leaf → AsmPart
 part_of named raw None o p = Unknown
-part_of named raw (Some x) o p = if is_direction x && is_mark_of (code "(") o
+part_of named raw (Some x) o p = if is_direction x && is_parenthesis o
     then register_at p else (if is_value x then Operand else
     (if named then Unknown else setting_of raw x))
 

@@ -1,12 +1,11 @@
 //! The arguments of a macro for inline assembly: templates, and then operands and options.
 
-ghost use Prim.Native.Char.{code};
 ghost use Rattle.std.specs.Prelude.{◌≡◌, ◌-◌, ◌<◌, ◌≤◌, codes, length, map, option_map, slice_get};
 ghost use Rattle.rust_trees.specs.Leaves.{leaf};
 ghost use Rattle.format_calls.specs.Assembly.{asm_part, has_raw, is_direction, is_string_at};
-ghost use Rattle.format_calls.specs.Assembly.{is_value, is_word_at, part_of, register_at};
+ghost use Rattle.format_calls.specs.Assembly.{is_parenthesis, is_value, is_word_at, part_of};
+ghost use Rattle.format_calls.specs.Assembly.{register_at};
 ghost use Rattle.format_calls.specs.Assembly.{setting_of, template_count, token_in};
-ghost use Rattle.format_calls.specs.Marks.{is_mark_of};
 
 use crate::marks::{is_mark_of, token_at};
 use crate::modes::is_text as is_text_of;
@@ -74,7 +73,7 @@ fn is_string(token: Option<Token<'_>>) -> bool
 
 /// Returns whether there is a token, and it is an opening parenthesis.
 fn is_parenthesis(token: Option<Token<'_>>) -> bool
-    ensures { result ≡ is_mark_of (code "(") (option_map leaf token.entry) }
+    ensures { result ≡ is_parenthesis (option_map leaf token.entry) }
 {
     match token {
         Some(token) => is_mark_of(&token, b'('),

@@ -1,6 +1,6 @@
 //! Macros that take a format string.
 
-ghost use Rattle.std.specs.Prelude.{◌≡◌, ◌∷◌, IfOk, OnErr, OnOk, map};
+ghost use Rattle.std.specs.Prelude.{◌≡◌, ◌∷◌, ◌++◌, IfOk, OnErr, OnOk, map};
 ghost use Rattle.format_calls.specs.Rows.{entry, rule_of};
 ghost use Rattle.format_calls.specs.Standard.{of_crates, standard};
 
@@ -190,15 +190,23 @@ const CRATES: [Row<'static>; 13] = [
     },
 ];
 
+/// Adds rows to the end of a list. Returns `Err` if an allocation fails.
+fn push_rows<'a>(rows: &mut Vec<Row<'a>>, more: &[Row<'static>]) -> Result<(), AllocError>
+    ensures { OnOk result (rows.new.items ≡ rows.old.items ++ more.now) }
+{
+    for row in more {
+        rows.push(*row)?;
+    }
+    Ok(())
+}
+
 impl<'a> Table<'a> {
     /// Returns the macros of the standard library. Returns `Err` if an allocation fails.
     pub fn standard(alloc: Global) -> Result<Self, AllocError>
         ensures { IfOk result (λ t. map entry t.rows.items ≡ standard) }
     {
         let mut rows = Vec::new(alloc);
-        for row in &STANDARD {
-            rows.push(*row)?;
-        }
+        push_rows(&mut rows, STANDARD.as_slice())?;
         Ok(Table { rows })
     }
 
@@ -208,9 +216,7 @@ impl<'a> Table<'a> {
         ensures { IfOk result (λ t. map entry t.rows.items ≡ of_crates) }
     {
         let mut rows = Vec::new(alloc);
-        for row in &CRATES {
-            rows.push(*row)?;
-        }
+        push_rows(&mut rows, CRATES.as_slice())?;
         Ok(Table { rows })
     }
 

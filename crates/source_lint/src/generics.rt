@@ -1,6 +1,5 @@
 //! The parameters of a trait that are types or constants.
 
-ghost use Prim.Native.Char.{code};
 ghost use Rattle.std.specs.Prelude.{◌≡◌, ◌+◌, ◌<◌, ◌^◌, ◌++◌, IfOk, OnOk, map};
 ghost use Rattle.rust_trees.specs.Leaves.{leaf};
 ghost use Rattle.source_lint.specs.Generics.{angles_after, ended, first_after, names, parameter};
