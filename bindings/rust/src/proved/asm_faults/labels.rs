@@ -8,7 +8,7 @@
 use crate::proved::asm_faults::checker::AsmCall;
 use crate::proved::asm_faults::faults::{AsmFault, AsmSpot};
 use crate::proved::asm_faults::lookups::bytes_at;
-use crate::proved::asm_faults::operands::Operand;
+use crate::proved::asm_faults::operands::{operand_at, Operand};
 use crate::proved::asm_faults::titles::never_used;
 use crate::proved::rustc_parse_format::{Fault, ParseError};
 use crate::shim::alloc::{AllocError, Global};
@@ -123,6 +123,21 @@ fn push_late(
     Ok(())
 }
 
+/// Adds the label of the operand of an index, if there is one, and an index does not mean it.
+// ensures { OnOk result (map seen_label labels.new.items ≡ map seen_label labels.old.items
+//     ++ kind_at index (option_map seen_operand operand.entry)) }
+#[inline]
+fn push_kind_at(
+    labels: &mut Vec<AsmLabel>,
+    index: usize,
+    operand: Option<Operand<'_>>,
+) -> Result<(), AllocError> {
+    if let Some(operand) = operand {
+        push_kind(labels, index, &operand)?;
+    }
+    Ok(())
+}
+
 /// Adds the labels of a wrong index of the placeholder at `spot`.
 // ensures { OnOk result (map seen_label labels.new.items ≡ map seen_label labels.old.items
 //     ++ wrong_labels spot index (slice_get (map seen_operand operands.now) index)) }
@@ -134,9 +149,7 @@ fn push_wrong(
     index: usize,
 ) -> Result<(), AllocError> {
     push_label(labels, spot, true, "from here")?;
-    if let Some(operand) = operands.get(index) {
-        push_kind(labels, index, operand)?;
-    }
+    push_kind_at(labels, index, operand_at(operands, index))?;
     Ok(())
 }
 
@@ -156,6 +169,33 @@ fn push_second(
     Ok(())
 }
 
+/// Returns what is said of the place of an error of a template. Returns `Err` if an allocation
+/// fails.
+// ensures { IfOk result (λ t. string_bytes t
+//     ≡ (seen_error error.now).label ++ codes " in asm template string") }
+#[inline]
+fn error_text(alloc: Global, error: &ParseError) -> Result<String, AllocError> {
+    let mut text = String::made_from(alloc, &error.label)?;
+    text.try_push_str(" in asm template string")?;
+    Ok(text)
+}
+
+/// Adds the labels of an error of a template.
+// ensures { OnOk result (map seen_label labels.new.items ≡ map seen_label labels.old.items
+//     ++ text_labels template (seen_error error.now)) }
+#[inline]
+fn push_error(
+    alloc: Global,
+    labels: &mut Vec<AsmLabel>,
+    template: usize,
+    error: &ParseError,
+) -> Result<(), AllocError> {
+    let text = error_text(alloc, error)?;
+    push_label(labels, bytes_at(template, &error.span), true, &text)?;
+    push_second(labels, template, error)?;
+    Ok(())
+}
+
 /// Adds the labels of a fault of a template.
 // ensures { OnOk result (map seen_label labels.new.items ≡ map seen_label labels.old.items
 //     ++ text_labels template (message (seen_text_fault fault.now))) }
@@ -167,10 +207,7 @@ fn push_text(
     fault: &Fault<'_>,
 ) -> Result<(), AllocError> {
     let error = fault.error(alloc)?;
-    let mut text = String::made_from(alloc, &error.label)?;
-    text.try_push_str(" in asm template string")?;
-    push_label(labels, bytes_at(template, &error.span), true, &text)?;
-    push_second(labels, template, &error)?;
+    push_error(alloc, labels, template, &error)?;
     Ok(())
 }
 

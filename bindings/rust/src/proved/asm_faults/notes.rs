@@ -7,8 +7,8 @@
 
 use crate::proved::asm_faults::checker::AsmCall;
 use crate::proved::asm_faults::faults::{AsmFault, AsmSpot};
-use crate::proved::asm_faults::operands::Operand;
-use crate::proved::asm_faults::titles::put_number;
+use crate::proved::asm_faults::operands::{operand_at, Operand};
+use crate::proved::asm_faults::titles::{given_name, put_number};
 use crate::proved::rustc_parse_format::Fault;
 use crate::shim::alloc::{AllocError, Global};
 use crate::shim::prelude::*;
@@ -85,17 +85,17 @@ fn put_count(out: &mut String, count: usize, word: &str) -> Result<(), AllocErro
     Ok(())
 }
 
-/// Adds the note of an operand that an index does not mean, if there is one.
+/// Adds the note of the operand of an index, if there is one, and an index does not mean it.
 // ensures { OnOk result (map seen_note notes.new.items ≡ map seen_note notes.old.items
-//     ++ kind_notes index (slice_get (map seen_operand operands.now) index)) }
+//     ++ kind_notes index (option_map seen_operand operand.entry)) }
 #[inline]
 fn push_kind(
     notes: &mut Vec<AsmNote>,
-    operands: &[Operand<'_>],
     index: usize,
+    operand: Option<Operand<'_>>,
 ) -> Result<(), AllocError> {
     let spot = Some(AsmSpot::Operand(index));
-    match operands.get(index) {
+    match operand {
         Some(Operand::Named(_)) => {
             let text = "named arguments cannot be referenced by position";
             push_note(notes, text, spot)?;
@@ -109,6 +109,16 @@ fn push_kind(
     Ok(())
 }
 
+/// Returns how many operands an index may mean, in words. Returns `Err` if an allocation fails.
+// ensures { IfOk result (λ t. string_bytes t ≡ count_text
+//     (count_unnamed (map seen_operand operands.now)) (noun (map seen_operand operands.now))) }
+#[inline]
+fn count_text(alloc: Global, operands: &[Operand<'_>]) -> Result<String, AllocError> {
+    let mut text = String::made_in(alloc);
+    put_count(&mut text, count_unnamed(operands), noun(operands))?;
+    Ok(text)
+}
+
 /// Adds the notes of a wrong index.
 // ensures { OnOk result (map seen_note notes.new.items ≡ map seen_note notes.old.items
 //     ++ wrong_notes (map seen_operand operands.now) index) }
@@ -119,10 +129,9 @@ fn push_wrong(
     operands: &[Operand<'_>],
     index: usize,
 ) -> Result<(), AllocError> {
-    let mut text = String::made_in(alloc);
-    put_count(&mut text, count_unnamed(operands), noun(operands))?;
+    let text = count_text(alloc, operands)?;
     push_note(notes, &text, None)?;
-    push_kind(notes, operands, index)?;
+    push_kind(notes, index, operand_at(operands, index))?;
     Ok(())
 }
 
@@ -159,20 +168,24 @@ fn push_text(alloc: Global, notes: &mut Vec<AsmNote>, fault: &Fault<'_>) -> Resu
     Ok(())
 }
 
-/// Adds what a placeholder has for an operand.
-// ensures { OnOk result (string_bytes out.new ≡ string_bytes out.old
-//     ++ reference index (slice_get (map seen_operand operands.now) index)) }
+/// Adds a name.
+// ensures { OnOk result (string_bytes out.new
+//     ≡ string_bytes out.old ++ encode_utf8_all (chars name.now)) }
 #[inline]
-fn put_reference(
-    out: &mut String,
-    operands: &[Operand<'_>],
-    index: usize,
-) -> Result<(), AllocError> {
-    match operands.get(index) {
-        Some(Operand::Named(name)) => out.try_push_str(name)?,
-        Some(Operand::Unnamed) | Some(Operand::Register { .. }) | None => put_number(out, index)?,
-    }
+fn put_name(out: &mut String, name: &str) -> Result<(), AllocError> {
+    out.try_push_str(name)?;
     Ok(())
+}
+
+/// Adds what a placeholder has for an operand with this name or this index.
+// ensures { OnOk result (string_bytes out.new ≡ string_bytes out.old
+//     ++ reference index (option_map text name.entry)) }
+#[inline]
+fn put_reference(out: &mut String, index: usize, name: Option<&str>) -> Result<(), AllocError> {
+    match name {
+        Some(name) => put_name(out, name),
+        None => put_number(out, index),
+    }
 }
 
 /// Adds placeholders of operands.
@@ -187,7 +200,7 @@ fn put_placeholders(
     let mut rest = indices;
     while let Some((index, others)) = rest.split_first() {
         out.try_push_str(" {")?;
-        put_reference(out, operands, *index)?;
+        put_reference(out, *index, given_name(operands, *index))?;
         out.try_push_str("}")?;
         rest = others;
     }

@@ -160,6 +160,16 @@ fn add<'a>(
     Ok(())
 }
 
+/// Returns the operand of an index, or `None` if there is none.
+// ensures { option_map seen_operand result ≡ slice_get (map seen_operand operands.now) index }
+#[inline]
+pub(crate) fn operand_at<'a>(operands: &[Operand<'a>], index: usize) -> Option<Operand<'a>> {
+    match operands.get(index) {
+        Some(operand) => Some(*operand),
+        None => None,
+    }
+}
+
 /// Returns operands as placeholders refer to them, and adds the faults of their list. Returns `Err`
 /// if an allocation fails.
 // ensures held { IfOk result (λ a. Holds (slots_after [] (map seen_operand given.now)) a) }

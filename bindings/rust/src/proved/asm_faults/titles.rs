@@ -53,13 +53,24 @@ fn put_named(out: &mut String, text: &str, name: &str) -> Result<(), AllocError>
     Ok(())
 }
 
+/// Returns the name of an operand, or `None` if it has none or a register of its own.
+// ensures { option_map text result
+//     ≡ given_name (slice_get (map seen_operand operands.now) index) }
+#[inline]
+pub(crate) fn given_name<'a>(operands: &[Operand<'a>], index: usize) -> Option<&'a str> {
+    match operands.get(index) {
+        Some(Operand::Named(name)) => Some(*name),
+        Some(Operand::Unnamed) | Some(Operand::Register { .. }) | None => None,
+    }
+}
+
 /// Returns the name of an operand, or an empty text if it has none.
 // ensures { chars result.now ≡ name_of (slice_get (map seen_operand operands.now) index) }
 #[inline]
 fn name_of<'a>(operands: &[Operand<'a>], index: usize) -> &'a str {
-    match operands.get(index) {
-        Some(Operand::Named(name)) => name,
-        Some(Operand::Unnamed) | Some(Operand::Register { .. }) | None => "",
+    match given_name(operands, index) {
+        Some(name) => name,
+        None => "",
     }
 }
 
@@ -131,7 +142,8 @@ impl<'a> AsmCall<'a> {
             }
             AsmFault::WrongIndex { index, .. } => put_index_title(out, *index),
             AsmFault::MissingName { name, .. } => {
-                put_named(out, "there is no argument named ", name)
+                put_named(out, "there is no argument named ", name)?;
+                Ok(())
             }
             AsmFault::LongModifier { .. } => {
                 out.try_push_str("asm template modifier must be a single character")?;

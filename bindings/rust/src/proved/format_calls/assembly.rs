@@ -69,7 +69,7 @@ fn is_string(token: Option<Token<'_>>) -> bool {
 }
 
 /// Returns whether there is a token, and it is an opening parenthesis.
-// ensures { result ≡ is_mark_of (code "(") (option_map leaf token.entry) }
+// ensures { result ≡ is_parenthesis (option_map leaf token.entry) }
 #[inline]
 fn is_parenthesis(token: Option<Token<'_>>) -> bool {
     match token {

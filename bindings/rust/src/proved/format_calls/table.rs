@@ -190,15 +190,23 @@ const CRATES: [Row<'static>; 13] = [
     },
 ];
 
+/// Adds rows to the end of a list. Returns `Err` if an allocation fails.
+// ensures { OnOk result (rows.new.items ≡ rows.old.items ++ more.now) }
+#[inline]
+fn push_rows<'a>(rows: &mut Vec<Row<'a>>, more: &[Row<'static>]) -> Result<(), AllocError> {
+    for row in more {
+        rows.try_push(*row)?;
+    }
+    Ok(())
+}
+
 impl<'a> Table<'a> {
     /// Returns the macros of the standard library. Returns `Err` if an allocation fails.
     // ensures { IfOk result (λ t. map entry t.rows.items ≡ standard) }
     #[inline]
     pub fn standard(alloc: Global) -> Result<Self, AllocError> {
         let mut rows = Vec::made_in(alloc);
-        for row in &STANDARD {
-            rows.try_push(*row)?;
-        }
+        push_rows(&mut rows, STANDARD.as_slice())?;
         Ok(Table { rows })
     }
 
@@ -208,9 +216,7 @@ impl<'a> Table<'a> {
     #[inline]
     pub fn of_crates(alloc: Global) -> Result<Self, AllocError> {
         let mut rows = Vec::made_in(alloc);
-        for row in &CRATES {
-            rows.try_push(*row)?;
-        }
+        push_rows(&mut rows, CRATES.as_slice())?;
         Ok(Table { rows })
     }
 

@@ -74,6 +74,14 @@ fn is_parameter(parameters: &[&str], name: &str) -> bool {
     name == "Self" || is_one_of(parameters, name)
 }
 
+/// The same, in the words of the definition: its names are texts.
+// ensures { result ≡ is_parameter (map (λ p. p.now) parameters.now)
+//     (encode_utf8_all (chars name.now)) }
+#[inline]
+fn is_known(parameters: &[&str], name: &str) -> bool {
+    is_parameter(parameters, name)
+}
+
 /// Returns a range of the literal, or all of it where its ranges are not known.
 // ensures { result ≡ spot_of is_known (pair span.now) }
 #[inline]
@@ -116,7 +124,7 @@ fn push_name<'a>(
     name: &'a str,
 ) -> Result<(), AllocError> {
     if let Some(parameters) = parameters {
-        if !is_parameter(parameters, name) {
+        if !is_known(parameters, name) {
             faults.try_push(MessageFault::MissingParameter { spot, name })?;
         }
     }

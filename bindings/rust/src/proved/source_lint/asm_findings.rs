@@ -1,5 +1,5 @@
-//! The findings of a call of a macro for inline assembly: its faults, in words and with their places
-//! in the file.
+//! The findings of a call of a macro for inline assembly: its faults, in words and with their
+//! places in the file.
 
 // Extracted from crates/source_lint/src/asm_findings.rt by tools/extract: not to be edited.
 // That source is proved, and each contract here is its. That this text means the same is tested:

@@ -73,7 +73,8 @@ fn read_file(
     Ok(found)
 }
 
-/// Adds the findings in the texts of the attributes of a file. Returns `Err` if an allocation fails.
+/// Adds the findings in the texts of the attributes of a file. Returns `Err` if an allocation
+/// fails.
 // ensures read { OnOk result ((ls : List Leaf) → AreLeaves text.now ls → (xs : List FindingValue)
 //     × (findings.new.items ≡ findings.old.items ++ xs) × ReadsAttributes text.now ls xs) }
 // ensures spans { OnOk result (All (HasSpans text.now) findings.old.items

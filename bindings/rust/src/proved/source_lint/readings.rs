@@ -192,8 +192,8 @@ fn read_at(
     Ok(reading)
 }
 
-/// Reads a call whose format string is the argument of this index, or whose templates begin with it,
-/// and adds its findings. Returns `Err` if an allocation fails.
+/// Reads a call whose format string is the argument of this index, or whose templates begin with
+/// it, and adds its findings. Returns `Err` if an allocation fails.
 // requires pair { IsPair part.now (call.now.name + 2) call.now.close }
 // requires split { AreArguments part.now (call.now.name + 3) arguments.now call.now.close }
 // requires literal { (a : ArgumentValue) × (slice_get arguments.now index ≡ Some a)
