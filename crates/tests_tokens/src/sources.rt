@@ -80,10 +80,10 @@ fn a_snippet_that_is_not_the_literal(rt: HostRuntime) -> Result<(), Fail> {
 #[test]
 fn a_mebibyte(rt: HostRuntime) -> Result<(), Fail> {
     let mut input = String::new(rt.alloc());
-    for _ in 0..16_132 {
-        input.push_str("{a:>8} and a text that goes on up to the next of the placeholders")?;
+    for _ in 0..149_797 {
+        input.push_str("{a:>8} ")?;
     }
-    assert!(rt; input.len() == 1_048_580);
+    assert!(rt; input.len() == 1_048_579);
     let found = tokens(
         rt.alloc(),
         input.as_str(),
@@ -92,14 +92,13 @@ fn a_mebibyte(rt: HostRuntime) -> Result<(), Fail> {
         false,
         ParseMode::Format,
     )?;
-    assert!(rt; found.len() == 7 * 16_132);
+    assert!(rt; found.len() == input.len());
     let kinds = [Open, Identifier, Colon, Align, Integer, Close, Text];
-    let lengths = [1, 1, 1, 1, 1, 1, 59];
     let mut at = 1;
     for (i, token) in found.iter().enumerate() {
         assert!(rt; token.kind == kinds[i % 7]);
         assert!(rt; token.span.start == at);
-        at += lengths[i % 7];
+        at = token.span.end;
     }
     Ok(())
 }
