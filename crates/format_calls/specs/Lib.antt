@@ -1,4 +1,5 @@
 pub mod Arguments
+pub mod Assembly
 pub mod Calls
 pub mod Counted
 pub mod Marks

@@ -1,7 +1,8 @@
--- The macros of the standard library that take a format string.
+-- The macros of the standard library that take a format string, or templates of assembly.
 use Rattle.std.specs.Prelude.{ℕ, List, [], ◌∷◌, codes}
 use Rattle.format_calls.specs.declared.table.Rule.{Rule}
 use Rattle.format_calls.specs.declared.table.Rule.TheVariants.{At, ByEdition, AfterFields}
+use Rattle.format_calls.specs.declared.table.Rule.TheVariants.{Templates}
 use Rattle.format_calls.specs.Rows.{Entry}
 
 -- A macro with its rule.
@@ -18,7 +19,8 @@ standard =
     ∷ at (codes "debug_assert") (ByEdition 1) ∷ at (codes "assert_eq") (At 2)
     ∷ at (codes "assert_ne") (At 2) ∷ at (codes "debug_assert_eq") (At 2)
     ∷ at (codes "debug_assert_ne") (At 2) ∷ at (codes "assert_matches") (At 2)
-    ∷ at (codes "debug_assert_matches") (At 2) ∷ []
+    ∷ at (codes "debug_assert_matches") (At 2) ∷ at (codes "asm") Templates
+    ∷ at (codes "global_asm") Templates ∷ at (codes "naked_asm") Templates ∷ []
 
 -- Macros of the crates log, tracing, slog, anyhow and eyre.
 abbrev pub of_crates : List Entry

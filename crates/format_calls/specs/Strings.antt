@@ -13,6 +13,7 @@ use Rattle.format_calls.specs.declared.strings.Reason.TheVariants.{Suffix}
 use Rattle.format_calls.specs.declared.strings.Reason.TheVariants.{Macro, Expression}
 use Rattle.format_calls.specs.declared.table.Rule.{Rule}
 use Rattle.format_calls.specs.declared.table.Rule.TheVariants.{At, ByEdition, AfterFields}
+use Rattle.format_calls.specs.declared.table.Rule.TheVariants.{Templates}
 use Rattle.format_calls.specs.Marks.{is_mark, is_word}
 
 abbrev pub is_string : Kind → Bool
@@ -57,9 +58,10 @@ argument_or xs n (Some a) b = if b then Err Edition else
     (if is_text xs a then Ok n else Err (reason_of xs a))
 
 -- The index of the argument that is the format string, by the rule. Before the edition 2021, where
--- `is_new` is false, the last argument is none for some.
+-- `is_new` is false, the last argument is none for some. Of several templates it is the first.
 abbrev pub format_string : List Leaf → Rule → List Argument → Bool → Result ℕ Reason
 format_string xs (At n) bs is_new = argument_or xs n (slice_get bs n) false
 format_string xs (ByEdition n) bs is_new =
     argument_or xs n (slice_get bs n) (not is_new && (n + 1) == length bs)
 format_string xs AfterFields bs is_new = text_or (first_text xs bs)
+format_string xs Templates bs is_new = argument_or xs 0 (slice_get bs 0) false

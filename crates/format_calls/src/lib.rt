@@ -1,6 +1,7 @@
 //! Calls of macros that take a format string, in Rust source text.
 #![tactic(auto)]
 
+mod assembly;
 mod counted;
 mod listing;
 mod marks;
@@ -10,9 +11,11 @@ mod split;
 mod strings;
 mod table;
 
+pub use assembly::{AsmPart, asm_part, template_count};
 pub use counted::are_counted;
 pub use listing::{Call, calls};
-pub use marks::{is_mark_of, is_word, token_at, word};
+pub use marks::{is_mark, is_mark_of, is_word, token_at, word};
+pub use modes::is_text;
 pub use parts::next_part;
 pub use split::{Argument, arguments};
 pub use strings::{Reason, format_string, is_text_leaf};

@@ -78,7 +78,7 @@ fn is_double(tokens: &[Token<'_>], index: usize) -> bool
 }
 
 /// Returns whether the token is this word, not a raw one.
-fn is_text(token: &Token<'_>, word: &str) -> bool
+pub fn is_text(token: &Token<'_>, word: &str) -> bool
     ensures { result ≡ is_text (leaf token.now) word.now }
 {
     matches!(token.kind, Kind::Ident) && token.text == word

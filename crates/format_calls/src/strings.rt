@@ -38,7 +38,7 @@ pub fn is_text_leaf(token: &Token<'_>) -> bool
 }
 
 /// Returns whether an argument is one string literal.
-fn is_text(tokens: &[Token<'_>], argument: &Argument) -> bool
+pub(crate) fn is_text(tokens: &[Token<'_>], argument: &Argument) -> bool
     ensures { result ≡ is_text (map leaf tokens.now) argument.now }
 {
     match token_at(tokens, argument.start) {
@@ -118,6 +118,7 @@ pub fn format_string(
     let tokens = source.tokens();
     match rule {
         Rule::At(index) => string_at(tokens, arguments, index, false),
+        Rule::Templates => string_at(tokens, arguments, 0, false),
         Rule::ByEdition(index) => string_at(tokens, arguments, index, !is_from_2021),
         Rule::AfterFields => match first_text(tokens, arguments) {
             Some(index) => Ok(index),

@@ -1,6 +1,6 @@
 //! Macros that take a format string.
 
-ghost use Rattle.std.specs.Prelude.{◌≡◌, ◌∷◌, IfOk, OnErr, OnOk, is_some, map};
+ghost use Rattle.std.specs.Prelude.{◌≡◌, ◌∷◌, ◌++◌, IfOk, OnErr, OnOk, is_some, map};
 ghost use Rattle.format_calls.specs.Rows.{entry, rule_of};
 ghost use Rattle.format_calls.specs.Standard.{of_crates, standard};
 
@@ -17,6 +17,9 @@ pub enum Rule {
     ByEdition(usize),
     /// The first argument that is a string literal: fields may stand before it.
     AfterFields,
+    /// The first argument, and the string literals that follow it, are templates of inline
+    /// assembly. Operands follow.
+    Templates,
 }
 
 /// A macro of a table.
@@ -36,7 +39,7 @@ pub struct Table<'a> {
 }
 
 /// The macros of the standard library.
-const STANDARD: [Row<'static>; 20] = [
+const STANDARD: [Row<'static>; 23] = [
     Row {
         name: "format",
         rule: Rule::At(0),
@@ -117,6 +120,18 @@ const STANDARD: [Row<'static>; 20] = [
         name: "debug_assert_matches",
         rule: Rule::At(2),
     },
+    Row {
+        name: "asm",
+        rule: Rule::Templates,
+    },
+    Row {
+        name: "global_asm",
+        rule: Rule::Templates,
+    },
+    Row {
+        name: "naked_asm",
+        rule: Rule::Templates,
+    },
 ];
 
 /// Macros of the crates log, tracing, slog, anyhow and eyre.
@@ -175,15 +190,23 @@ const CRATES: [Row<'static>; 13] = [
     },
 ];
 
+/// Adds rows to the end of a list. Returns `Err` if an allocation fails.
+fn push_rows<'a>(rows: &mut Vec<Row<'a>>, more: &[Row<'static>]) -> Result<(), AllocError>
+    ensures { OnOk result (rows.new.items ≡ rows.old.items ++ more.now) }
+{
+    for row in more {
+        rows.push(*row)?;
+    }
+    Ok(())
+}
+
 impl<'a> Table<'a> {
     /// Returns the macros of the standard library. Returns `Err` if an allocation fails.
     pub fn standard(alloc: Global) -> Result<Self, AllocError>
         ensures { IfOk result (λ t. map entry t.rows.items ≡ standard) }
     {
         let mut rows = Vec::new(alloc);
-        for row in &STANDARD {
-            rows.push(*row)?;
-        }
+        push_rows(&mut rows, STANDARD.as_slice())?;
         Ok(Table { rows })
     }
 
@@ -193,9 +216,7 @@ impl<'a> Table<'a> {
         ensures { IfOk result (λ t. map entry t.rows.items ≡ of_crates) }
     {
         let mut rows = Vec::new(alloc);
-        for row in &CRATES {
-            rows.push(*row)?;
-        }
+        push_rows(&mut rows, CRATES.as_slice())?;
         Ok(Table { rows })
     }
 

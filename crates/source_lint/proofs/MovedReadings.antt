@@ -1,7 +1,7 @@
 -- The reading of a call among other tokens.
 use Rattle.std.proofs.Common.{◌≡◌, ◌<◌, ◌+◌, ◌∷◌, ◌||◌, [], ℕ, Bool, true, false, List, ap, refl}
 use Rattle.std.proofs.Common.{sym, subst, ◌∙◌, length, arith, map}
-use Rattle.std.specs.Prelude.{Result, Ok, Err, is_some, not, option_map}
+use Rattle.std.specs.Prelude.{◌&&◌, Result, Ok, Err, is_some, not, option_map}
 use Rattle.std.specs.List.{AllByRecursion, list_any}
 use Rattle.std.specs.Str.{bytes_eq}
 use Rattle.std.proofs.lemmas.Option.{slice_get-map}
@@ -14,15 +14,19 @@ use Rattle.format_calls.specs.Strings.{format_string}
 use Rattle.format_calls.specs.declared.listing.Call.{Call}
 use Rattle.format_calls.specs.declared.split.Argument.{Argument}
 use Rattle.format_calls.specs.declared.table.Rule.{Rule}
+use Rattle.format_calls.specs.declared.table.Rule.TheVariants.{At, ByEdition, AfterFields}
+use Rattle.format_calls.specs.declared.table.Rule.TheVariants.{Templates}
 use Rattle.source_lint.specs.declared.report.CallReading.{CallReading}
 use Rattle.source_lint.specs.declared.report.Finding.{Finding}
 use Rattle.source_lint.specs.Literals.{appends_newline}
 use Rattle.source_lint.specs.FormWords.{TellsForms}
 use Rattle.source_lint.specs.Forms.{form_here, joined, part}
-use Rattle.source_lint.specs.Readings.{Reads, ReadsAt, ReadsBy, ReadsUnless, captures, index_if}
-use Rattle.source_lint.specs.Readings.{index_or, is_empty, name_at, name_of_leaf}
+use Rattle.source_lint.specs.Readings.{Reads, ReadsAt, ReadsBy, ReadsOne, ReadsUnless, captures}
+use Rattle.source_lint.specs.Readings.{has_expressions, index_if, index_or, is_empty, name_at}
+use Rattle.source_lint.specs.Readings.{name_of_leaf}
 use Rattle.source_lint.proofs.Calling.{reads-by}
 use Rattle.source_lint.proofs.Embedding.{Embeds}
+use Rattle.source_lint.proofs.MovedAssembly.{asm-same}
 use Rattle.source_lint.proofs.MovedArguments.{LiesIn, arguments-at, arguments-lie, counted-at}
 use Rattle.source_lint.proofs.MovedArguments.{shifted, trees-at}
 use Rattle.source_lint.proofs.MovedForms.{form-same, parts-same, same-length}
@@ -61,12 +65,25 @@ at-same is_new xs ys g c bs n r fs e p k h =
           (sym (others-same xs ys g (c.name + 3) c.close (n + 1) bs e w all)) h.reads;
     }
 
+one-same : (rule : Rule) (is_new : Bool) (xs ys : List Leaf) (g : ℕ) (c : Call)
+    (bs : List Argument) (n : ℕ) (r : CallReading) (fs : List Finding) → Embeds xs ys g
+    → IsPair xs (c.name + 2) c.close → AreArguments xs (c.name + 3) bs c.close
+    → ReadsOne rule is_new xs c bs n r fs
+    → ReadsOne rule is_new ys (moved g c) (map (shifted g) bs) n r fs
+one-same (At m) is_new xs ys g c bs n r fs e p k h = at-same is_new xs ys g c bs n r fs e p k h
+one-same (ByEdition m) is_new xs ys g c bs n r fs e p k h =
+    at-same is_new xs ys g c bs n r fs e p k h
+one-same AfterFields is_new xs ys g c bs n r fs e p k h =
+    at-same is_new xs ys g c bs n r fs e p k h
+one-same Templates is_new xs ys g c bs n r fs e p k h = asm-same xs ys g c bs r fs e p k h
+
 by-same : (is_new : Bool) (xs ys : List Leaf) (g : ℕ) (c : Call) (bs : List Argument)
     (o : Result ℕ CallReading) (r : CallReading) (fs : List Finding) → Embeds xs ys g
     → IsPair xs (c.name + 2) c.close → AreArguments xs (c.name + 3) bs c.close
     → ReadsBy is_new xs c bs o r fs
     → ReadsBy is_new ys (moved g c) (map (shifted g) bs) o r fs
-by-same is_new xs ys g c bs (Ok n) r fs e p k h = at-same is_new xs ys g c bs n r fs e p k h
+by-same is_new xs ys g c bs (Ok n) r fs e p k h =
+    one-same c.rule is_new xs ys g c bs n r fs e p k h
 by-same is_new xs ys g c bs (Err q) r fs e p k h =
     let w = (pair-within xs (c.name + 2) c.close p).1 in
     let s = p.ends in (
@@ -91,12 +108,14 @@ index-same : (xs ys : List Leaf) (g from to : ℕ) (r : Rule) (bs : List Argumen
     → Embeds xs ys g → to < length xs → AllByRecursion (λ a. LiesIn from to a) bs
     → index_or is_new ys r (map (shifted g) bs) ≡ index_or is_new xs r bs
 index-same xs ys g from to r bs is_new e w l =
-    ap (λ b. index_if b (list_any (λ p. is_some (joined p)) (map (part ys) (map (shifted g) bs)))
+    ap (λ b. index_if b (has_expressions r && list_any (λ p. is_some (joined p))
+    (map (part ys) (map (shifted g) bs)))
     (format_string ys r (map (shifted g) bs) is_new)) (empty-same g bs)
-    ∙ (ap (λ ps. index_if (list_any is_empty bs) (list_any (λ p. is_some (joined p)) ps)
+    ∙ (ap (λ ps. index_if (list_any is_empty bs)
+    (has_expressions r && list_any (λ p. is_some (joined p)) ps)
     (format_string ys r (map (shifted g) bs) is_new)) (parts-same xs ys g from to bs e w l)
     ∙ ap (λ o. index_if (list_any is_empty bs)
-    (list_any (λ p. is_some (joined p)) (map (part xs) bs)) o)
+    (has_expressions r && list_any (λ p. is_some (joined p)) (map (part xs) bs)) o)
     (string-same xs ys g from to r bs is_new e w l))
 
 unless-same : (b is_new : Bool) (xs ys : List Leaf) (g : ℕ) (c : Call) (r : CallReading)

@@ -18,6 +18,7 @@ use Rattle.format_calls.specs.declared.strings.Reason.TheVariants.{Variable, Suf
 use Rattle.format_calls.specs.declared.strings.Reason.TheVariants.{Edition, Expression}
 use Rattle.format_calls.specs.declared.table.Rule.{Rule}
 use Rattle.format_calls.specs.declared.table.Rule.TheVariants.{At, ByEdition, AfterFields}
+use Rattle.format_calls.specs.declared.table.Rule.TheVariants.{Templates}
 use Rattle.format_calls.specs.Marks.{is_mark, is_word}
 use Rattle.format_calls.specs.Strings.{argument_or, first_text, format_string, is_string, is_text}
 use Rattle.format_calls.specs.Strings.{is_text_at, is_text_leaf, reason_at, reason_of, text_or}
@@ -26,7 +27,7 @@ use Rattle.source_lint.proofs.Embedding.{Embeds, mark-at}
 use Rattle.source_lint.proofs.MovedArguments.{LiesIn, shifted}
 
 -- Both offsets are further on.
-less-same : (g s e : ℕ) → nat_lt (g + s) (g + e) ≡ nat_lt s e
+pub less-same : (g s e : ℕ) → nat_lt (g + s) (g + e) ≡ nat_lt s e
 less-same g s e = by_order (cases_lt s e)
   where
     by_order : (s < e) ⊎ (e ≤ s) → nat_lt (g + s) (g + e) ≡ nat_lt s e
@@ -149,9 +150,10 @@ string-same xs ys g from to (ByEdition n) bs is_new e h l =
     ∙ chosen-same xs ys g from to n bs (not is_new && (n + 1) == length bs) e h l
 string-same xs ys g from to AfterFields bs is_new e h l =
     ap (λ o. text_or o) (found-same xs ys g from to bs e h l)
+string-same xs ys g from to Templates bs is_new e h l = chosen-same xs ys g from to 0 bs false e h l
 
 -- An argument is the same to placeholders.
-name-same : (xs ys : List Leaf) (g from to : ℕ) (a : Argument) → Embeds xs ys g → to < length xs
+pub name-same : (xs ys : List Leaf) (g from to : ℕ) (a : Argument) → Embeds xs ys g → to < length xs
     → LiesIn from to a → name_of ys (shifted g a) ≡ name_of xs a
 name-same xs ys g from to a e h l =
     let s = l.stops in

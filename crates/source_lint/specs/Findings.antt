@@ -16,6 +16,8 @@ use Rattle.call_faults.specs.Spots.{Edit, Help}
 use Rattle.call_faults.specs.declared.spots.Spot.{Spot}
 use Rattle.call_faults.specs.Words.{Told, call_id, title}
 use Rattle.std.specs.declared.ops.Range.{Range}
+use Rattle.source_lint.specs.declared.report.CallReading.{CallReading}
+use Rattle.source_lint.specs.declared.report.CallReading.TheVariants.{Whole, StringAlone}
 use Rattle.source_lint.specs.declared.report.Edit.{Edit as FileEdit}
 use Rattle.source_lint.specs.declared.report.Finding.{Finding}
 use Rattle.source_lint.specs.declared.report.Help.{Help as FileHelp}
@@ -104,6 +106,11 @@ counted_faults false fs = filter is_text_fault fs
 -- These are the findings of the faults of a call that count.
 abbrev pub AreFindings : Bool → Call → List Finding → Type 0
 AreFindings b c xs = TellAll b c (counted_faults b c.faults) xs
+
+-- How much of a call is read where the number of its arguments is known, and where it is not.
+abbrev pub reading_of : Bool → CallReading
+reading_of true = Whole
+reading_of false = StringAlone
 
 -- A byte range of a text whose ends are at characters.
 pub record IsSpan (bs : List ℕ) (r : Range ℕ) : Type 0 where

@@ -21,6 +21,7 @@ use Rattle.format_calls.specs.Strings.{is_string, is_text_leaf}
 use Rattle.format_calls.specs.declared.split.Argument.{Argument}
 use Rattle.format_calls.specs.declared.table.Rule.{Rule}
 use Rattle.format_calls.specs.declared.table.Rule.TheVariants.{At, ByEdition, AfterFields}
+use Rattle.format_calls.specs.declared.table.Rule.TheVariants.{Templates}
 use Rattle.source_lint.specs.declared.forms.Form.{Form as DeclaredForm}
 use Rattle.source_lint.specs.declared.forms.Form.TheVariants.{NoString as NoStringIn}
 use Rattle.source_lint.specs.declared.forms.Form.TheVariants.{NoLiteral as NoLiteralIn}
@@ -199,11 +200,12 @@ lacks_string w close (a ∷ []) = bytes_eq w (codes "write") && not (a.end == cl
 lacks_string w close (a ∷ b ∷ bs) = false
 
 -- The index of the argument that should be the format string. Before the edition 2021 it may be any
--- expression for some macros.
+-- expression for some macros, and templates have rules of their own.
 abbrev pub index_of : Bool → Rule → Option ℕ
 index_of is_new (At n) = Some n
 index_of is_new (ByEdition n) = if is_new then Some n else None
 index_of is_new AfterFields = None
+index_of is_new Templates = None
 
 abbrev pub form_from : Bool → List (List Leaf) → Option ℕ → Option Form
 form_from b ps None = None

@@ -1,7 +1,11 @@
+pub mod AsmFindings
+pub mod Assembly
+pub mod Attributes
 pub mod Files
 pub mod Findings
 pub mod FormWords
 pub mod Forms
+pub mod Generics
 pub mod Givens
 pub mod Literals
 pub mod Macros

@@ -1,7 +1,7 @@
 -- The reading of a call, and the findings in it.
 use Rattle.std.specs.Prelude.{◌≡◌, ◌+◌, ◌++◌, ◌⊎◌, ◌||◌, not, ℕ, Bool, true, false, List, [], ◌∷◌}
 use Rattle.std.specs.Prelude.{Option, Some, None, Result, Ok, Err, chars, codes, drop, map}
-use Rattle.std.specs.Prelude.{slice_get, ◌==◌, if◌then◌else◌, is_some}
+use Rattle.std.specs.Prelude.{slice_get, ◌==◌, ◌&&◌, if◌then◌else◌, is_some}
 use Rattle.std.specs.List.{list_any}
 use Rattle.std.specs.Str.{bytes_eq}
 use Rattle.rustc_parse_format.specs.Characters.{Text}
@@ -20,17 +20,19 @@ use Rattle.format_calls.specs.declared.split.Argument.{Argument}
 use Rattle.format_calls.specs.declared.strings.Reason.{Reason}
 use Rattle.format_calls.specs.declared.table.Rule.{Rule}
 use Rattle.format_calls.specs.declared.table.Rule.TheVariants.{At, ByEdition, AfterFields}
+use Rattle.format_calls.specs.declared.table.Rule.TheVariants.{Templates}
+use Rattle.format_calls.specs.Assembly.{template_count}
 use Rattle.call_faults.specs.Arguments.{Given}
 use Rattle.call_faults.specs.Calls.{call_faults, kept_indices}
 use Rattle.call_faults.specs.Labels.{Call as CheckedCall}
 use Rattle.call_faults.specs.Spots.{counts_before}
 use Rattle.call_faults.specs.Texts.{text_fault}
 use Rattle.source_lint.specs.declared.report.CallReading.{CallReading}
-use Rattle.source_lint.specs.declared.report.CallReading.TheVariants.{Whole, StringAlone, Redefined}
-use Rattle.source_lint.specs.declared.report.CallReading.TheVariants.{NoExpression, NoComma, Unread}
-use Rattle.source_lint.specs.declared.report.CallReading.TheVariants.{Malformed}
+use Rattle.source_lint.specs.declared.report.CallReading.TheVariants.{Redefined, NoExpression}
+use Rattle.source_lint.specs.declared.report.CallReading.TheVariants.{NoComma, Unread, Malformed}
 use Rattle.source_lint.specs.declared.report.Finding.{Finding}
-use Rattle.source_lint.specs.Findings.{AreFindings}
+use Rattle.source_lint.specs.Assembly.{ReadsTemplates}
+use Rattle.source_lint.specs.Findings.{AreFindings, reading_of}
 use Rattle.source_lint.specs.FormWords.{TellsForms}
 use Rattle.source_lint.specs.Forms.{form_here, joined, part}
 use Rattle.source_lint.specs.Givens.{given}
@@ -63,11 +65,6 @@ abbrev pub counted_givens : Bool → List Given → List Given
 counted_givens true gs = gs
 counted_givens false gs = []
 
--- How much of a call is read where the number of its arguments is known, and where it is not.
-abbrev pub reading_of : Bool → CallReading
-reading_of true = Whole
-reading_of false = StringAlone
-
 -- This is the reading of a call with this format string and these arguments, and these are the
 -- findings. If the number of arguments is not known, only the fault of the string counts.
 abbrev pub Finds : Bool → Bool → State → List Given → CallReading → List Finding → Type 0
@@ -96,6 +93,7 @@ abbrev pub captures : Bool → Rule → List ℕ → Bool
 captures is_new (At n) w = true
 captures is_new (ByEdition n) w = is_new || not (bytes_eq w (codes "unreachable"))
 captures is_new AfterFields w = true
+captures is_new Templates w = true
 
 -- The same where the format string is the argument n of these, and the others after it are
 -- formatted.
@@ -111,11 +109,21 @@ pub record ReadsAt (is_new : Bool) (xs : List Leaf) (c : Call) (args : List Argu
       (captures is_new c.rule (name_at xs c.name)) (not (list_any (is_uncounted xs) trees))
       (map (given xs) (drop (n + 1) args)) r fs
 
+-- The same where the argument n is the format string by this rule, or where it is the first
+-- template.
+abbrev pub ReadsOne : Rule → Bool → List Leaf → Call → List Argument → ℕ → CallReading
+    → List Finding → Type 0
+ReadsOne (At m) is_new xs c args n r fs = ReadsAt is_new xs c args n r fs
+ReadsOne (ByEdition m) is_new xs c args n r fs = ReadsAt is_new xs c args n r fs
+ReadsOne AfterFields is_new xs c args n r fs = ReadsAt is_new xs c args n r fs
+ReadsOne Templates is_new xs c args n r fs =
+    ReadsTemplates xs c args (template_count xs args) r fs
+
 -- The same where the argument n is the format string, or where this is the reading, since none is:
 -- then the finding is what is wrong with the arguments, if that is known.
 abbrev pub ReadsBy : Bool → List Leaf → Call → List Argument → Result ℕ CallReading → CallReading
     → List Finding → Type 0
-ReadsBy is_new xs c args (Ok n) r fs = ReadsAt is_new xs c args n r fs
+ReadsBy is_new xs c args (Ok n) r fs = ReadsOne c.rule is_new xs c args n r fs
 ReadsBy is_new xs c args (Err q) r fs = (r ≡ q) × TellsForms
     (form_here is_new (name_at xs c.name) c.rule c.close args (map (part xs) args)) fs
 
@@ -131,12 +139,20 @@ abbrev pub index_if : Bool → Bool → Result ℕ Reason → Result ℕ CallRea
 index_if lacks joins o =
     if lacks then Err NoExpression else (if joins then Err NoComma else index_by o)
 
+-- The arguments of a macro with this rule are expressions: operands are none.
+abbrev pub has_expressions : Rule → Bool
+has_expressions (At n) = true
+has_expressions (ByEdition n) = true
+has_expressions AfterFields = true
+has_expressions Templates = false
+
 -- The index of the argument that is the format string, or the reading if none is read: where no
 -- token stands where an argument should, where no comma stands between two expressions, or where no
 -- argument is one.
 abbrev pub index_or : Bool → List Leaf → Rule → List Argument → Result ℕ CallReading
 index_or is_new xs r args = index_if (list_any is_empty args)
-    (list_any (λ p. is_some (joined p)) (map (part xs) args)) (format_string xs r args is_new)
+    (has_expressions r && list_any (λ p. is_some (joined p)) (map (part xs) args))
+    (format_string xs r args is_new)
 
 -- The same, unless the file defines a macro of this name.
 abbrev pub ReadsUnless : Bool → Bool → List Leaf → Call → CallReading → List Finding → Type 0

@@ -1,5 +1,6 @@
 -- The report on a file.
-use Rattle.std.specs.Prelude.{◌≡◌, ◌++◌, ◌↔◌, ℕ, Bool, List, [], ◌∷◌, Contains, length}
+use Rattle.std.specs.Prelude.{◌≡◌, ◌++◌, ◌↔◌, ◌⊎◌, ℕ, Bool, List, [], ◌∷◌, Contains, codes, length}
+use Rattle.std.specs.Str.Iter.{HasSubslice}
 use Rattle.rust_trees.specs.Balances.{BreaksAt}
 use Rattle.rust_trees.specs.Leaves.{Leaf}
 use Rattle.format_calls.specs.Calls.{IsCall, Rises}
@@ -9,6 +10,7 @@ use Rattle.format_calls.specs.declared.listing.Call.{Call}
 use Rattle.source_lint.specs.declared.report.CallReading.{CallReading}
 use Rattle.source_lint.specs.declared.report.Finding.{Finding}
 use Rattle.source_lint.specs.declared.report.Report.{Report}
+use Rattle.source_lint.specs.Attributes.{ReadsItems}
 use Rattle.source_lint.specs.Macros.{macro_names}
 use Rattle.source_lint.specs.Files.{AreLeaves}
 use Rattle.source_lint.specs.Readings.{ReadsAll}
@@ -35,10 +37,21 @@ ReadsParts es ds is_new xs (p ∷ ps) rs fs = (gap left : List Leaf)
     × (fs ≡ found ++ others) × ReadsCalls es ds is_new p first found
     × ReadsParts es ds is_new left ps more others
 
--- The report on a file, in bytes: the readings of the calls among its tokens, the findings, and
--- where the file breaks.
+-- These are the findings in the texts of attributes of a file, in bytes, with these tokens. There
+-- are none where the name of the attribute does not stand in the file.
+abbrev pub ReadsAttributes : List ℕ → List Leaf → List Finding → Type 0
+ReadsAttributes bs xs fs = (HasSubslice bs (codes "on_unimplemented")
+    × ((ks : List ℕ) × ReadsItems xs 0 ks fs))
+    ⊎ ((HasSubslice bs (codes "on_unimplemented") → ⊥) × (fs ≡ []))
+
+-- The report on a file, in bytes: the readings of the calls among its tokens, the findings in them
+-- and in attributes, and where the file breaks.
 pub record IsReport (es : List Entry) (is_new : Bool) (bs : List ℕ) (r : Report) : Type 0 where
   pub leaves : List Leaf
   pub are_leaves : AreLeaves bs leaves
-  pub reads : ReadsCalls es (macro_names leaves) is_new leaves r.calls.items r.findings.items
+  pub of_calls : List Finding
+  pub of_attributes : List Finding
+  pub findings : r.findings.items ≡ of_calls ++ of_attributes
+  pub reads : ReadsCalls es (macro_names leaves) is_new leaves r.calls.items of_calls
+  pub reads_attributes : ReadsAttributes bs leaves of_attributes
   pub breaks : BreaksAt leaves r.broken

@@ -370,7 +370,7 @@ fn index_of(rule: Rule, is_from_2021: bool) -> Option<usize>
     match rule {
         Rule::At(index) => Some(index),
         Rule::ByEdition(index) => { if is_from_2021 { Some(index) } else { None } }
-        Rule::AfterFields => None,
+        Rule::AfterFields | Rule::Templates => None,
     }
 }
 

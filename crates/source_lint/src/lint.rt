@@ -8,10 +8,11 @@ ghost use Rattle.format_calls.specs.Rows.{entry};
 ghost use Rattle.source_lint.specs.Files.{AreLeaves};
 ghost use Rattle.source_lint.specs.Findings.{HasSpans};
 ghost use Rattle.source_lint.specs.Macros.{names_in};
-ghost use Rattle.source_lint.specs.Reports.{IsReport, ReadsCalls};
+ghost use Rattle.source_lint.specs.Reports.{IsReport, ReadsAttributes, ReadsCalls};
 ghost use Rattle.source_lint.specs.declared.report.CallReading.{CallReading as ReadingValue};
 ghost use Rattle.source_lint.specs.declared.report.Finding.{Finding as FindingValue};
 
+use crate::attributes::read_attributes;
 use crate::macros::macro_names;
 use crate::readings::{File, read_call};
 use crate::report::{CallReading, Finding, Options, Report};
@@ -80,7 +81,24 @@ fn read_file(
     Ok(found)
 }
 
-/// Reads a source file, and returns the faults of its calls of macros that take a format string.
+/// Adds the findings in the texts of the attributes of a file. Returns `Err` if an allocation
+/// fails.
+fn put_attributes(alloc: Global, findings: &mut Vec<Finding>, text: &str) -> Result<(), AllocError>
+    ensures read { OnOk result ((ls : List Leaf) → AreLeaves text.now ls → (xs : List FindingValue)
+        × (findings.new.items ≡ findings.old.items ++ xs) × ReadsAttributes text.now ls xs) }
+    ensures spans { OnOk result (All (HasSpans text.now) findings.old.items
+        → All (HasSpans text.now) findings.new.items) }
+{
+    if !text.contains("on_unimplemented") {
+        return Ok(());
+    }
+    let source = Source::new(alloc, text)?;
+    read_attributes(alloc, findings, text, &source)?;
+    Ok(())
+}
+
+/// Reads a source file, and returns the faults of its calls of macros that take a format string or
+/// templates of assembly, and then those of the texts of its attributes.
 /// Lines may end with LF or CRLF, and a byte order mark may stand at the start. Returns `Err` if an
 /// allocation fails.
 pub fn file_faults(alloc: Global, text: &str, options: &Options<'_>) -> Result<Report, AllocError>
@@ -95,7 +113,8 @@ pub fn file_faults(alloc: Global, text: &str, options: &Options<'_>) -> Result<R
         is_from_2021: options.is_from_2021,
     };
     let mut balance = Balance::new(alloc);
-    let found = read_file(alloc, file, &options.table, &mut balance)?;
+    let mut found = read_file(alloc, file, &options.table, &mut balance)?;
+    put_attributes(alloc, &mut found.findings, text)?;
     Ok(Report {
         calls: found.calls,
         findings: found.findings,

@@ -58,6 +58,9 @@ pub fn macro_names<'a>(alloc: Global, text: &'a str) -> Result<BTreeSet<&'a [u8]
         ≡ list_any (bytes_eq n) (macro_names ls))) }
 {
     let mut found = BTreeSet::new(alloc);
+    if !text.contains("macro_rules") {
+        return Ok(found);
+    }
     let mut rest = Tokens::new(text);
     let mut before = None;
     let mut last = None;

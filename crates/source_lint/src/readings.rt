@@ -14,12 +14,13 @@ ghost use Rattle.source_lint.specs.Findings.{AreFindings, HasSpans};
 ghost use Rattle.source_lint.specs.Givens.{given};
 ghost use Rattle.source_lint.specs.Literals.{without_crs};
 ghost use Rattle.source_lint.specs.Macros.{names_in};
-ghost use Rattle.source_lint.specs.Readings.{Reads, ReadsAt, ReadsLiteral, call_of};
-ghost use Rattle.source_lint.specs.Readings.{captures, counted_givens, index_or, is_empty, name_at};
-ghost use Rattle.source_lint.specs.Readings.{reading_of};
+ghost use Rattle.source_lint.specs.Readings.{Reads, ReadsAt, ReadsLiteral, ReadsOne, call_of};
+ghost use Rattle.source_lint.specs.Readings.{captures, counted_givens, has_expressions, index_or};
+ghost use Rattle.source_lint.specs.Readings.{is_empty, name_at};
 ghost use Rattle.source_lint.specs.declared.report.Finding.{Finding as FindingValue};
 
-use crate::findings::put_findings;
+use crate::assembly::read_asm;
+use crate::findings::{put_findings, reading_of};
 use crate::form_words::put_form;
 use crate::forms::{form_here, have_joined};
 use crate::givens::givens;
@@ -70,17 +71,6 @@ fn counted_givens<'a>(
     }
     let found = givens(alloc, tokens, arguments)?;
     Ok(found)
-}
-
-/// Returns how much of a call is read where the number of its arguments is known, and where not.
-fn reading_of(is_counted: bool) -> CallReading
-    ensures { result ≡ reading_of is_counted }
-{
-    if is_counted {
-        CallReading::Whole
-    } else {
-        CallReading::StringAlone
-    }
 }
 
 /// Checks a call with this format string and these arguments, and adds its findings. Returns `Err`
@@ -147,7 +137,7 @@ fn captures(rule: Rule, name: &[u8], is_from_2021: bool) -> bool
 {
     match rule {
         Rule::ByEdition(_) => is_from_2021 || name != b"unreachable".as_slice(),
-        Rule::At(_) | Rule::AfterFields => true,
+        Rule::At(_) | Rule::AfterFields | Rule::Templates => true,
     }
 }
 
@@ -216,6 +206,40 @@ fn read_at(
     Ok(reading)
 }
 
+/// Reads a call whose format string is the argument of this index, or whose templates begin with
+/// it, and adds its findings. Returns `Err` if an allocation fails.
+fn read_one<'a>(
+    alloc: Global,
+    findings: &mut Vec<Finding>,
+    file: File<'_, 'a>,
+    part: &Source<'a>,
+    call: &Call,
+    arguments: &[Argument],
+    index: usize,
+) -> Result<CallReading, AllocError>
+    requires pair { IsPair part.now (call.now.name + 2) call.now.close }
+    requires split { AreArguments part.now (call.now.name + 3) arguments.now call.now.close }
+    requires literal { (a : ArgumentValue) × (slice_get arguments.now index ≡ Some a)
+        × IsTrue (is_text part.now a) }
+    ensures read { IfOk result (λ r. (xs : List FindingValue)
+        × (findings.new.items ≡ findings.old.items ++ xs)
+        × ReadsOne call.now.rule file.entry.is_from_2021 part.now call.now arguments.now index r
+        xs) }
+    ensures spans { OnOk result (All (HasSpans file.entry.text.now) findings.old.items
+        → All (HasSpans file.entry.text.now) findings.new.items) }
+{
+    match call.rule {
+        Rule::Templates => {
+            let reading = read_asm(alloc, findings, file.text, part, call, arguments)?;
+            Ok(reading)
+        }
+        Rule::At(_) | Rule::ByEdition(_) | Rule::AfterFields => {
+            let reading = read_at(alloc, findings, file, part, call, arguments, index)?;
+            Ok(reading)
+        }
+    }
+}
+
 /// Returns whether no token stands where an argument should.
 fn is_empty(argument: &Argument) -> bool
     ensures { result ≡ is_empty argument.now }
@@ -235,6 +259,13 @@ fn has_empty(arguments: &[Argument]) -> bool
     false
 }
 
+/// Returns whether the arguments of a macro with this rule are expressions: operands are none.
+fn has_expressions(rule: Rule) -> bool
+    ensures { result ≡ has_expressions rule }
+{
+    !matches!(rule, Rule::Templates)
+}
+
 /// Returns the index of the argument that is the format string of a call, or the reading of the
 /// call if none is read.
 fn index_or(
@@ -251,7 +282,7 @@ fn index_or(
     if has_empty(arguments) {
         return Err(CallReading::NoExpression);
     }
-    if have_joined(part.tokens(), arguments) {
+    if has_expressions(call.rule) && have_joined(part.tokens(), arguments) {
         return Err(CallReading::NoComma);
     }
     match format_string(part, call.rule, arguments, file.is_from_2021) {
@@ -287,7 +318,7 @@ pub fn read_call<'a>(
     let list = arguments.as_slice();
     match index_or(file, part, call, list) {
         Ok(index) => {
-            let reading = read_at(alloc, findings, file, part, call, list, index)?;
+            let reading = read_one(alloc, findings, file, part, call, list, index)?;
             Ok(reading)
         }
         Err(reading) => {

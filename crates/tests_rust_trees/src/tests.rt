@@ -2,7 +2,10 @@
 //! expected values are worked out by hand from the Rust Reference.
 
 use crate::strings::format_strings;
-use format_calls::{Reason, Row, Table, arguments, calls, format_string, next_part};
+use format_calls::{
+    AsmPart, Reason, Row, Table, arguments, asm_part, calls, format_string, is_mark, is_text,
+    next_part, template_count,
+};
 use rust_trees::{Balance, Break, Places, Source, Tokens, place_at};
 use std::alloc::{AllocError, Global};
 use std::io::Print;
@@ -268,6 +271,94 @@ fn strings_of_calls(rt: HostRuntime) -> Result<(), Fail> {
             );
         }
     }
+    Ok(())
+}
+
+/// The letter of what an argument after templates is.
+fn letter(part: AsmPart) -> char {
+    match part {
+        AsmPart::Operand => 'o',
+        AsmPart::Register => 'r',
+        AsmPart::Raw => 'w',
+        AsmPart::Setting => 's',
+        AsmPart::Unknown => '?',
+    }
+}
+
+#[test]
+fn operands(rt: HostRuntime) -> Result<(), Fail> {
+    let alloc = rt.alloc();
+    let table = Table::standard(alloc)?;
+    // a call, how many templates it has, and what the arguments after them are
+    let rows = [
+        ("asm!(\"a\", r#\"b\"#, in(reg) x, out(\"eax\") _,)", 2, "or"),
+        (
+            "asm!(\"a\", x = inout(reg) y => z, \"b\", const 1, z = sym f)",
+            1,
+            "o?oo",
+        ),
+        (
+            "asm!(\"\", lateout(r\"al\") a, inlateout(reg) _, label { b })",
+            1,
+            "roo",
+        ),
+        (
+            "global_asm!(\"\", options(raw), options(nomem, raw))",
+            1,
+            "ww",
+        ),
+        (
+            "naked_asm!(\"\", options(att_syntax), clobber_abi(\"C\"), in x)",
+            1,
+            "ss?",
+        ),
+        (
+            "asm!(\"\", a = options(raw), r#in(reg) x, $x, \"\"u8)",
+            1,
+            "????",
+        ),
+        ("asm!(a, \"b\")", 0, "??"),
+        ("asm!()", 0, ""),
+    ];
+    for (text, templates, parts) in rows {
+        let source = Source::new(alloc, text)?;
+        let tokens = source.tokens();
+        let found = calls(alloc, &source, &table)?;
+        assert!(&rt; !found.is_empty());
+        if let Some(call) = found.first() {
+            let list = match arguments(alloc, &source, call.close)? {
+                Some(list) => list,
+                None => Vec::new(alloc),
+            };
+            assert_eq!(&rt; template_count(tokens, &list), templates);
+            let mut letters = String::new(alloc);
+            for (index, argument) in list.iter().enumerate() {
+                if index >= templates && argument.start < tokens.len() {
+                    letters.push(letter(asm_part(tokens, argument)))?;
+                }
+            }
+            assert_eq!(&rt; letters.as_str(), parts);
+        }
+    }
+    Ok(())
+}
+
+#[test]
+fn words_and_punctuation(rt: HostRuntime) -> Result<(), Fail> {
+    let alloc = rt.alloc();
+    let source = Source::new(alloc, "in r#in \"in\" ! !=")?;
+    let tokens = source.tokens();
+    let mut words = 0;
+    for token in tokens {
+        if is_text(token, "in") {
+            words += 1;
+        }
+    }
+    assert_eq!(&rt; words, 1);
+    assert!(&rt; is_mark(tokens, 3, b'!') && is_mark(tokens, 4, b'!') && is_mark(tokens, 5, b'='));
+    assert!(&rt;
+        !is_mark(tokens, 3, b'=') && !is_mark(tokens, 0, b'i') && !is_mark(tokens, 6, b'!')
+    );
     Ok(())
 }
 

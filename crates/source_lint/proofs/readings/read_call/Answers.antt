@@ -26,8 +26,8 @@ returns-in_default-clause-read c =
     absurd ((rw c.in_default.is at c.in_ok-arguments.ensures.none) refl
     (c.args.call.now.name + 2) c.requires)
 
-pub read_at-requires-clause-split : goal.read_at-requires-clause-split
-read_at-requires-clause-split c =
+pub read_one-requires-clause-split : goal.read_one-requires-clause-split
+read_one-requires-clause-split c =
     let a = rw c.in-Some.is at c.in_ok-arguments.ensures.some in
     arguments-here c.args.part.now c.args.call.now c.in-Some.arguments.items
     c.as_slice-list.result.now a.0 c.as_slice-list.ensures.value c.requires a.1 a.2
