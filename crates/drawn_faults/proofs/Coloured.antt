@@ -173,7 +173,7 @@ abbrev pub AreQuiet : List Piece → Type 0
 AreQuiet [] = Unit {0}
 AreQuiet (x ∷ xs) = IsHarmless x.text × AreQuiet xs
 
-quiet-plain : (xs : List Piece) → AreQuiet xs → IsHarmless (plain_text xs)
+pub quiet-plain : (xs : List Piece) → AreQuiet xs → IsHarmless (plain_text xs)
 quiet-plain [] q = written_text [] refl
 quiet-plain (x ∷ xs) q = join_harmless q.0 (quiet-plain xs q.1)
 

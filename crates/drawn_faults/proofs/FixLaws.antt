@@ -23,7 +23,7 @@ use Rattle.drawn_faults.specs.Edits.{offered, suggested}
 use Rattle.drawn_faults.specs.Fixing.{all_errors, all_faults, fault_edits, literal_edits}
 use Rattle.drawn_faults.proofs.CallFaults.{all_faults-step}
 
--- What is behind a list that may begin with an element is behind the rest of it.
+-- What is after a list that may begin with an element is after the rest of it.
 pub cons_option-more : {A : Type 0} (o : Option A) (xs ys : List A)
     → cons_option o xs ++ ys ≡ cons_option o (xs ++ ys)
 cons_option-more None xs ys = refl

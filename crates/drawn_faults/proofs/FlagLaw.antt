@@ -59,7 +59,7 @@ all_stay : (fs : List (Fault Span)) → map (map_fault (λ x. x)) fs ≡ fs
 all_stay [] = refl
 all_stay (f ∷ fs) = let e = stays f in let g = all_stay fs in cc
 
--- A text of as many characters behind the colon moves nothing.
+-- A text of as many characters after the colon moves nothing.
 same-length : (p q : Text) → length p ≡ length q → Replaces (λ x. x) 58 p 58 q
 same-length p q e = record {
   old_stops = colon-stops;

@@ -38,7 +38,7 @@ question-ends f h z = record {
   no_fill = h;
 }
 
--- The flag `#`, where nothing is behind the sign.
+-- The flag `#`, where nothing is after the sign.
 number_sign-ends : (z : Text) → EndsSigns 35 (63 ∷ z)
 number_sign-ends z = record {
   no_align = refl;
@@ -72,7 +72,7 @@ number_sign-spec s d z h k =
 abbrev pub typed : Text → TypeText → FormatText
 typed s t = record (format_with s []).0 { type = t }
 
--- A flag f that is read with the `?` behind it, where all of s is in front of the type.
+-- A flag f that is read with the `?` after it, where all of s is in front of the type.
 pub record ReadsHex (f : ℕ) (h : DebugHex) : Type 0 where
   question : (z : Text) → EndsCounts 63 (f ∷ z)
   flag : (z : Text) → EndsCounts f (63 ∷ z)

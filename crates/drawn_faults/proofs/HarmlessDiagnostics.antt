@@ -1,9 +1,8 @@
 -- The drawing of a diagnostic without its colours is the one without colours, and a terminal obeys
 -- no character of that, but for line feeds.
 use Rattle.std.proofs.Common.{◌≡◌, ◌∙◌, ◌-◌, ◌∷◌, ◌&&◌, ◌==◌, ℕ, suc, zero, [], false, true}
-use Rattle.std.proofs.Common.{Bool, List, None, Option, Some, ap, chars, codes, cond, drop}
+use Rattle.std.proofs.Common.{Bool, List, None, Option, Some, ap, chars, codes, cond}
 use Rattle.std.proofs.Common.{◌+◌, if◌then◌else◌, length, map, nat_lt, refl, replicate, subst, sym}
-use Rattle.std.proofs.Common.{take}
 use Rattle.std.specs.Prelude.{decimal, unwrap_or}
 use Rattle.std.specs.Option.{option_map_or}
 use Rattle.std.specs.Str.{NonePass}
@@ -19,16 +18,14 @@ use Rattle.drawn_faults.specs.Diagnostics.{level_word, lower, lowest, marked_lin
 use Rattle.drawn_faults.specs.Diagnostics.{note_gutter, notes_rows, parting_above, placed_edit}
 use Rattle.drawn_faults.specs.Diagnostics.{plain_note, shown_label, shown_note, titled}
 use Rattle.drawn_faults.specs.Glyphs.{IsHarmless, glyph, glyph_count, glyphs, is_obeyed}
-use Rattle.drawn_faults.specs.Helps.{are_in_line, are_insertions, columns_of, edited_from}
-use Rattle.drawn_faults.specs.Helps.{edits_rows, inserted_rows, new_row, pluses, replaced_rows}
-use Rattle.drawn_faults.specs.Labels.{Edit, Frame, Label, cut_of, line_indent, mark}
+use Rattle.drawn_faults.specs.Labels.{Frame, Label, cut_of, line_indent, mark}
 use Rattle.drawn_faults.specs.Marks.{Hung, bars, cells, depth, hang, has_text, hung_row}
 use Rattle.drawn_faults.specs.Marks.{hung_rows, hung_texts, is_right_of, mark_rows, put_at}
 use Rattle.drawn_faults.specs.Marks.{put_from, rows_below, rows_of, side_texts, sign_row, signs_of}
 use Rattle.drawn_faults.specs.Marks.{sorted, with_bar, with_hung_text, with_mark}
 use Rattle.drawn_faults.specs.Marks.{with_side_text, with_signs}
-use Rattle.drawn_faults.specs.Painting.{IsColourOf, IsHarmlessWith, Piece, piece}
-use Rattle.drawn_faults.specs.Places.{Picture, extent, line, uncoloured}
+use Rattle.drawn_faults.specs.Painting.{IsColourOf, IsHarmlessWith}
+use Rattle.drawn_faults.specs.Places.{Picture, extent, uncoloured}
 use Rattle.drawn_faults.specs.Rows.{Mark, cell, is_covered, space, style_of, text_style, under}
 use Rattle.drawn_faults.specs.Rows.{written}
 use Rattle.drawn_faults.specs.declared.cells.Cell.{Cell}
@@ -36,16 +33,15 @@ use Rattle.drawn_faults.specs.declared.paint.Gutter.{Gutter}
 use Rattle.drawn_faults.specs.declared.paint.Palette.{Palette}
 use Rattle.drawn_faults.specs.declared.paint.Palette.TheVariants.{Colourless}
 use Rattle.drawn_faults.specs.declared.paint.Style.{Style}
-use Rattle.drawn_faults.specs.declared.paint.Style.TheVariants.{Addition, Bold, Primary}
-use Rattle.drawn_faults.specs.declared.paint.Style.TheVariants.{Secondary}
-use Rattle.drawn_faults.proofs.Coloured.{AreQuiet, Quiet, either, join, nothing, of_painted}
-use Rattle.drawn_faults.proofs.Coloured.{of_pieces, of_written, plain}
+use Rattle.drawn_faults.specs.declared.paint.Style.TheVariants.{Bold, Primary}
+use Rattle.drawn_faults.proofs.Coloured.{Quiet, either, join, nothing, of_painted}
+use Rattle.drawn_faults.proofs.Coloured.{of_written, plain}
 use Rattle.drawn_faults.proofs.Harmless.{glyph-harmless, glyphs-harmless, none-glyphs}
 use Rattle.drawn_faults.proofs.Harmless.{join as join_harmless, run-harmless, text as harmless_text}
 use Rattle.drawn_faults.proofs.Harmless.{written-harmless}
-use Rattle.drawn_faults.proofs.HarmlessDrawings.{harmless-with, of_arrow, of_help_word}
-use Rattle.drawn_faults.proofs.HarmlessDrawings.{of_note_word, of_old, of_parting}
-use Rattle.drawn_faults.proofs.HarmlessRows.{of_code, of_gap, of_glyphs, of_long, of_numbered}
+use Rattle.drawn_faults.proofs.HarmlessDrawings.{harmless-with, of_arrow, of_note_word}
+use Rattle.drawn_faults.proofs.HarmlessHelps.{of_edits, of_help_word, of_parting}
+use Rattle.drawn_faults.proofs.HarmlessRows.{of_code, of_gap, of_glyphs, of_long}
 use Rattle.drawn_faults.proofs.HarmlessRows.{of_under, off, plain_frame, spaces, text}
 
 -- rows of cells
@@ -280,58 +276,6 @@ of_notes p g (n ∷ ns) =
     (of_notes p g ns)
 
 -- helps
-quiet-edited : (n : ℕ) (es : List Edit) (t : Text) → AreQuiet (edited_from n es t)
-quiet-edited n [] t = (glyphs-harmless t, tt)
-quiet-edited n (e ∷ es) t = (
-  glyphs-harmless (take (e.extent.start.chars - n) t),
-  (
-    glyphs-harmless (chars e.text),
-    quiet-edited e.extent.end.chars es (drop (e.extent.end.chars - n) t),
-  ),
-)
-
-of_pluses : (p : Palette) (n : ℕ) (es : List Edit)
-    → IsColourOf (pluses p n es) (pluses Colourless n es)
-of_pluses p n [] = nothing
-of_pluses p n (e ∷ es) =
-    join (spaces (e.extent.start.column - n))
-    (join (of_painted p Addition
-    (run-harmless (columns_of 0 (chars e.text)) 43 (written-harmless 43 refl)))
-    (of_pluses p e.extent.start.column es))
-
-of_new_row : (f : Frame) (s : Style) {sign : List ℕ} (n : ℕ) (es : List Edit) → IsHarmless sign
-    → IsColourOf (new_row f s sign n es) (new_row (plain_frame f) s sign n es)
-unfolding new_row
-of_new_row f s {sign = sign} n es h =
-    let t = chars (line n f.picture.source) in
-    let xs : List Piece = piece s sign ∷ edited_from 0 es t in
-    let q : AreQuiet xs = (h, quiet-edited 0 es t) in
-    join (of_numbered f n) (join (text (codes " ") refl)
-    (join (of_pieces f.gutter.palette xs q) (text (codes "\n") refl)))
-
-of_inserted : (f : Frame) (n : ℕ) (es : List Edit)
-    → IsColourOf (inserted_rows f n es) (inserted_rows (plain_frame f) n es)
-unfolding inserted_rows
-of_inserted f n es =
-    join (of_parting f) (join (of_new_row f Secondary n es (harmless_text (codes "| ") refl))
-    (of_under f.gutter (of_pluses f.gutter.palette 0 es)))
-
-of_replaced : (f : Frame) (n : ℕ) (es : List Edit)
-    → IsColourOf (replaced_rows f n es) (replaced_rows (plain_frame f) n es)
-unfolding replaced_rows
-of_replaced f n es =
-    join (of_parting f) (join (of_old f n es (line n f.picture.source))
-    (join (of_new_row f Addition n es (harmless_text (codes "+ ") refl)) (of_parting f)))
-
-of_edits : (f : Frame) (es : List Edit)
-    → IsColourOf (edits_rows f es) (edits_rows (plain_frame f) es)
-of_edits f [] = nothing
-of_edits f (e ∷ es) =
-    let n = e.extent.start.line in
-    either (are_in_line n (e ∷ es))
-    (either (are_insertions (e ∷ es)) (of_inserted f n (e ∷ es)) (of_replaced f n (e ∷ es)))
-    nothing
-
 of_helps : (f : Frame) (hs : List Help)
     → IsColourOf (helps_rows f hs) (helps_rows (plain_frame f) hs)
 unfolding extent

@@ -1,10 +1,9 @@
 -- A drawing without its colours is the one without colours, and a terminal obeys no character of
 -- that, but for line feeds: its suggestion, its other parts, and the whole.
-use Rattle.std.proofs.Common.{◌≡◌, ◌+◌, ◌-◌, ◌∷◌, ℕ, suc, zero, false, true, Bool, List, None}
-use Rattle.std.proofs.Common.{Option, Some, ap, chars, codes, drop, length, max, [], if◌then◌else◌}
-use Rattle.std.proofs.Common.{option_map, refl, subst, sym, take}
+use Rattle.std.proofs.Common.{◌≡◌, ◌+◌, ◌∷◌, ℕ, false, true, Bool, List, None}
+use Rattle.std.proofs.Common.{Option, Some, ap, chars, codes, [], if◌then◌else◌}
+use Rattle.std.proofs.Common.{option_map, refl, subst, sym}
 use Rattle.std.specs.Prelude.{◌==◌}
-use Rattle.rustc_parse_format.specs.Characters.{Text}
 use Rattle.rustc_parse_format.specs.Faults.{Message, Suggestion, Nothing, UsePositional}
 use Rattle.rustc_parse_format.specs.Faults.{RemoveRawIdent, ReorderFormatParameter, AddMissingColon}
 use Rattle.rustc_parse_format.specs.Faults.{UseRustDebugPrintingMacro}
@@ -16,94 +15,34 @@ use Rattle.drawn_faults.specs.Edits.{offered}
 use Rattle.drawn_faults.specs.Glyphs.{IsHarmless, is_obeyed}
 use Rattle.drawn_faults.specs.Labels.{Edit, Frame, Label, edit_of, frame, is_same, mark, primary}
 use Rattle.drawn_faults.specs.Labels.{second, second_text, text_name}
-use Rattle.drawn_faults.specs.Painting.{IsColourOf, IsHarmlessWith, Piece, piece}
-use Rattle.drawn_faults.specs.Places.{Picture, behind_lines, extent, first_line, line, uncoloured}
-use Rattle.drawn_faults.specs.Suggestions.{edit_rows, edited, first_in, help_rows, help_title}
-use Rattle.drawn_faults.specs.Suggestions.{help_word, last_in, new_row, old_pieces, old_row}
-use Rattle.drawn_faults.specs.Suggestions.{old_rows, parting}
+use Rattle.drawn_faults.specs.Painting.{IsColourOf, IsHarmlessWith}
+use Rattle.drawn_faults.specs.Places.{Picture, extent, uncoloured}
+use Rattle.drawn_faults.specs.Suggestions.{edit_rows, help_rows, help_title}
 use Rattle.drawn_faults.specs.declared.extent.Spot.{Spot}
 use Rattle.drawn_faults.specs.declared.paint.Gutter.{Gutter}
 use Rattle.drawn_faults.specs.declared.paint.Palette.{Palette}
 use Rattle.drawn_faults.specs.declared.paint.Palette.TheVariants.{Colourless}
-use Rattle.drawn_faults.specs.declared.paint.Style.TheVariants.{Addition, Bold, Help, Primary}
-use Rattle.drawn_faults.specs.declared.paint.Style.TheVariants.{Removal, Secondary}
-use Rattle.drawn_faults.proofs.Coloured.{AreQuiet, coloured, either, join, nothing, of_painted}
-use Rattle.drawn_faults.proofs.Coloured.{of_pieces, plain, uncoloured-harmless}
+use Rattle.drawn_faults.specs.declared.paint.Style.TheVariants.{Bold, Primary}
+use Rattle.drawn_faults.specs.declared.paint.Style.TheVariants.{Secondary}
+use Rattle.drawn_faults.proofs.Coloured.{coloured, either, join, nothing, of_painted}
+use Rattle.drawn_faults.proofs.Coloured.{plain, uncoloured-harmless}
 use Rattle.drawn_faults.proofs.Harmless.{decimal-harmless, glyphs-harmless, join as join_harmless}
 use Rattle.drawn_faults.proofs.Harmless.{text as harmless_text, is_written, written-harmless}
 use Rattle.std.specs.List.{list_all}
-use Rattle.drawn_faults.proofs.HarmlessRows.{of_blank, of_glyphs, of_labelled, of_long}
-use Rattle.drawn_faults.proofs.HarmlessRows.{of_numbered, of_two, off, plain_frame, spaces, text}
+use Rattle.drawn_faults.proofs.HarmlessHelps.{of_edits, of_help_word, of_parting}
+use Rattle.drawn_faults.proofs.HarmlessRows.{of_glyphs, of_labelled, of_long}
+use Rattle.drawn_faults.proofs.HarmlessRows.{of_two, off, plain_frame, spaces, text}
 
 -- a suggestion
-pub of_parting : (f : Frame) → IsColourOf (parting f) (parting (plain_frame f))
-unfolding parting
-of_parting f = join (of_blank f.gutter) (text (codes "\n") refl)
-
-pub of_help_word : (p : Palette) → IsColourOf (help_word p) (help_word Colourless)
-unfolding help_word
-of_help_word p =
-    join (of_painted p Help (harmless_text (codes "help") refl)) (text (codes ": ") refl)
-
 of_title : (p : Palette) (bs : List ℕ) → IsColourOf (help_title p bs) (help_title Colourless bs)
 of_title p bs =
     join (of_help_word p) (join (text (codes "did you mean `") refl)
     (join (of_glyphs bs) (text (codes "`?\n") refl)))
 
-quiet-old : (n bytes k : ℕ) (es : List Edit) (t : Text) → AreQuiet (old_pieces n bytes k es t)
-quiet-old n bytes k [] t = (glyphs-harmless t, tt)
-quiet-old n bytes k (e ∷ es) t =
-    let from = max (first_in n e) k in
-    let to = max (last_in n bytes e) from in (
-      glyphs-harmless (take (from - k) t),
-      (
-        glyphs-harmless (take (to - from) (drop (from - k) t)),
-        quiet-old n bytes to es (drop (to - from) (drop (from - k) t)),
-      ),
-    )
-
-pub of_old : (f : Frame) (n : ℕ) (es : List Edit) (bs : List ℕ)
-    → IsColourOf (old_row f n es bs) (old_row (plain_frame f) n es bs)
-unfolding old_row
-of_old f n es bs =
-    let xs : List Piece = piece Removal (codes "- ") ∷ old_pieces n (length bs) 0 es (chars bs) in
-    let q : AreQuiet xs =
-    (harmless_text (codes "- ") refl, quiet-old n (length bs) 0 es (chars bs)) in
-    join (of_numbered f n) (join (text (codes " ") refl)
-    (join (of_pieces f.gutter.palette xs q) (text (codes "\n") refl)))
-
-of_old_rows : (f : Frame) (e : Edit) (n k : ℕ) (bs : List ℕ)
-    → IsColourOf (old_rows f e n k bs) (old_rows (plain_frame f) e n k bs)
-of_old_rows f e n zero bs = nothing
-of_old_rows f e n (suc k) bs =
-    join (of_old f n (e ∷ []) (first_line bs)) (of_old_rows f e (n + 1) k (behind_lines 1 bs))
-
-of_new : (f : Frame) (e : Edit) → IsColourOf (new_row f e) (new_row (plain_frame f) e)
-unfolding new_row
-of_new f e =
-    let first = line e.extent.start.line f.picture.source in
-    let last = line e.extent.end.line f.picture.source in
-    let xs : List Piece = piece Addition (codes "+ ") ∷ edited e first last in
-    let q : AreQuiet xs = (
-      harmless_text (codes "+ ") refl,
-      (
-        glyphs-harmless (take e.extent.start.chars (chars first)),
-        (
-          glyphs-harmless (chars e.text),
-          (glyphs-harmless (drop e.extent.end.chars (chars last)), tt),
-        ),
-      ),
-    ) in
-    join (of_numbered f e.extent.start.line) (join (text (codes " ") refl)
-    (join (of_pieces f.gutter.palette xs q) (text (codes "\n") refl)))
-
 of_edit : (f : Frame) (e : Edit) → IsColourOf (edit_rows f e) (edit_rows (plain_frame f) e)
 unfolding edit_rows
 of_edit f e =
-    join (of_title f.gutter.palette e.text) (join (of_parting f)
-    (join (of_old_rows f e e.extent.start.line (e.extent.end.line - e.extent.start.line + 1)
-    (behind_lines e.extent.start.line f.picture.source))
-    (join (of_new f e) (of_parting f))))
+    join (of_title f.gutter.palette e.text) (of_edits f (e ∷ []))
 
 of_help : (f : Frame) (e : Option Edit) → IsColourOf (help_rows f e) (help_rows (plain_frame f) e)
 of_help f None = nothing

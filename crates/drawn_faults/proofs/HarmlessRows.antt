@@ -153,11 +153,11 @@ of_numbered f n =
     (join (spaces (f.gutter.columns - length (decimal (f.picture.line_start + n))))
     (join (plain (decimal-harmless (f.picture.line_start + n))) (of_closing f.gutter.palette)))
 
-of_number_bar : (f : Frame) (n : ℕ) → IsColourOf (number_bar f n) (number_bar (plain_frame f) n)
+pub of_number_bar : (f : Frame) (n : ℕ) → IsColourOf (number_bar f n) (number_bar (plain_frame f) n)
 of_number_bar f n =
     join (of_numbered f n) (join (text (codes " ") refl) (of_bar f.gutter.palette Secondary))
 
-of_dots : (p : Palette)
+pub of_dots : (p : Palette)
     → IsColourOf (painted p Secondary (codes "...")) (painted Colourless Secondary (codes "..."))
 of_dots p = of_painted p Secondary (harmless_text (codes "...") refl)
 

@@ -1,4 +1,4 @@
--- Spans behind an edit do not move, and so neither do the faults of what is left there.
+-- Spans after an edit do not move, and so neither do the faults of what is left there.
 use Rattle.std.proofs.Common.{◌≡◌, ℕ, ◌+◌, ◌-◌, ◌<◌, ◌≤◌, List, [], ◌∷◌}
 use Rattle.std.proofs.Common.{length, map, refl, ap, arith, suc, zero}
 use Rattle.std.proofs.lemmas.Bool.Decides.{nat_tests}
@@ -18,7 +18,7 @@ use Rattle.rustc_parse_format.proofs.Walking.Progress.{call-lt}
 use Rattle.drawn_faults.specs.Fixing.{faults_within, all_faults}
 use Rattle.drawn_faults.specs.Losing.{moved_count, moved_mark, moved}
 
--- A count of characters that are left behind the edit, or before it.
+-- A count of characters that are left after the edit, or before it.
 pub moved_count-behind : (n r a k : ℕ) → k ≤ n → moved_count n r a k ≡ k
 moved_count-behind n r a k h = grind (arith, nat_tests)
 
@@ -33,7 +33,7 @@ moved_mark-behind n r a (End k) h = ap End (moved_count-behind n r a k h)
 abbrev pub span_of : Mark → Mark → Span
 span_of x y = record { from = x; to = y }
 
--- A span behind the edit stays.
+-- A span after the edit stays.
 pub moved-behind : (n r a : ℕ) (s : Span) → IsForward n s → moved n r a s ≡ s
 moved-behind n r a s h =
     let w = h.within in
@@ -72,7 +72,7 @@ faults-fixed n move k [] h = refl
 faults-fixed n move k (f ∷ fs) h =
     let e = map_fault-fixed n move k f (h.0, tt) in let g = faults-fixed n move k fs h.1 in cc
 
--- The faults of all calls are behind an edit that is before all that is left.
+-- The faults of all calls are after an edit that is before all that is left.
 within-forward : (m n : ℕ) (mode : Mode) (c : ℕ) (t : Text) → length t ≤ n
     → AreFaultsForward n (faults_within m mode c t)
 within-forward m n mode c [] h = tt

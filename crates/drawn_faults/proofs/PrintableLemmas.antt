@@ -59,7 +59,7 @@ front-printable s m n l e = (
   ap (list_all is_printable) (sym (take-take n m s (omega (arith, length-take m s)))) ∙ e,
 )
 
--- a text may be cut behind such a prefix,
+-- a text may be cut after such a prefix,
 pub cut-printable : (s : List ℕ) (n : ℕ) → IsUtf8 s → n ≤ length s
     → list_all is_printable (take n s) ≡ true → IsCharBoundary s n
 cut-printable s n u l e =
@@ -196,7 +196,7 @@ within-printable (c ∷ f) n t e l =
     let b : nat_lt n 1 ≡ false = grind (arith, nat_tests) in
     rw (one, a, b) (ap (λ x. c ∷ x) (within-printable f (n - 1) t parts.1 (omega arith)))
 
--- from behind printable characters the bytes that are left lead to the same place
+-- from after printable characters the bytes that are left lead to the same place
 pub pass-printable : (f : List ℕ) (n : ℕ) (t : Text) (p : Spot)
     → list_all is_printable f ≡ true → length f ≤ n
     → fold past p (within n (f ++ t)) ≡ fold past (fold past p f) (within (n - length f) t)

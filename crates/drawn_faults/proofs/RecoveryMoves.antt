@@ -31,7 +31,7 @@ pub cond_alike : {A : Type 0} (b : Bool) (x y u v : A) (R : A → A → Type 0)
 cond_alike true x y u v R f g = f refl
 cond_alike false x y u v R f g = g refl
 
--- How spans move, where n characters are left behind the edit: what is there stays, the opening
+-- How spans move, where n characters are left after the edit: what is there stays, the opening
 -- brace o becomes the opening brace p, and the mark m before the edit becomes q.
 pub record Moves (n : ℕ) (move : Span → Span) (o p : Text) (m q : Mark) : Type 0 where
   pub stays : (s : Span) → IsForward n s → move s ≡ s

@@ -17,7 +17,7 @@ use Rattle.rustc_parse_format.specs.Counts.{behind_zero, behind_dot}
 use Rattle.drawn_faults.proofs.RecoveryMoves.{cond_alike}
 use Rattle.drawn_faults.proofs.Stopping.{digits-stop, behind_digits-stop}
 
--- A character that ends fill, alignment and sign, with r behind it.
+-- A character that ends fill, alignment and sign, with r after it.
 pub record EndsSigns (y : ℕ) (r : Text) : Type 0 where
   pub no_align : is_align y ≡ false
   pub left : (y == 60) ≡ false
@@ -53,7 +53,7 @@ sign-ends (c ∷ s) y r h =
     cond_alike {A = Option Sign × Text} (c == 43) _ _ _ _ P (λ e. refl)
     (λ e. cond_alike {A = Option Sign × Text} (c == 45) _ _ _ _ P (λ e. refl) (λ e. refl))
 
--- The format specification with these parts, where a is left behind the sign.
+-- The format specification with these parts, where a is left after the sign.
 abbrev pub format_from : Option ℕ → Alignment → Option Sign → Text → FormatText × Text
 format_from f l g a = (
   record {
@@ -111,7 +111,7 @@ number-ends ds (c ∷ u) y r h =
     let P = λ (x z : CountText × Text). x ≡ (z.0, z.1 ++ y ∷ r) in
     cond_alike {A = CountText × Text} (c == 36) _ _ _ _ P (λ e. refl) (λ e. refl)
 
--- A word that goes on behind the text is no name of a count, and one that ends in the text is the
+-- A word that goes on after the text is no name of a count, and one that ends in the text is the
 -- same word.
 no_dollar : (t w u : Text) → begins_with 36 u ≡ false → behind_name t w u ≡ (NoCount, t)
 no_dollar t w [] h = refl

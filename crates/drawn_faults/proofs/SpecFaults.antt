@@ -23,7 +23,7 @@ use Rattle.drawn_faults.proofs.Moving.{span_of}
 use Rattle.drawn_faults.proofs.PositionMoves.{number_faults-at, word_faults-at}
 use Rattle.drawn_faults.proofs.Stopping.{Stops}
 
--- No fault of a count is found at x with p behind it.
+-- No fault of a count is found at x with p after it.
 pub record Quiet (x : ℕ) (p : Text) : Type 0 where
   pub digit : is_ascii_digit x ≡ false
   pub faults : argument_faults (x ∷ p) ≡ []
@@ -190,7 +190,7 @@ widths-alike (PaddedWidth k) x p y q n h i e = last-alike k x p y q n h i e
 widths-alike ZeroIndexWidth x p y q n h i e = refl
 widths-alike (PlainWidth k) x p y q n h i e = last-alike k x p y q n h i e
 
--- The faults of the width w and the precision p, with t behind them.
+-- The faults of the width w and the precision p, with t after them.
 abbrev pub counted_faults : WidthText → PrecisionText → Text → List (Fault Span)
 counted_faults w p t =
     width_faults ((width_part w).spelling ++ ((precision_part p).spelling ++ t)) w

@@ -10,15 +10,15 @@ use Rattle.rustc_parse_format.specs.Characters.{Text}
 use Rattle.rustc_parse_format.specs.World.{Place}
 use Rattle.drawn_faults.specs.Drawing.{arrow, note_word}
 use Rattle.drawn_faults.specs.Glyphs.{glyph, glyph_bytes, glyph_count, run}
-use Rattle.drawn_faults.specs.Helps.{edits_rows}
+use Rattle.drawn_faults.specs.Helps.{edits_rows, help_word}
 use Rattle.drawn_faults.specs.Labels.{Edit, Frame, Label, cut_of, line_indent, mark}
-use Rattle.drawn_faults.specs.Lines.{code_row, gap}
+use Rattle.drawn_faults.specs.Labels.{placed}
+use Rattle.drawn_faults.specs.Lines.{code_row, gap, parting}
 use Rattle.drawn_faults.specs.Long.{long_rows}
 use Rattle.drawn_faults.specs.Marks.{is_right_of, mark_rows, sorted}
 use Rattle.drawn_faults.specs.Painting.{painted, palette_of}
 use Rattle.drawn_faults.specs.Places.{Picture, extent, origin}
 use Rattle.drawn_faults.specs.Rows.{Mark}
-use Rattle.drawn_faults.specs.Suggestions.{help_word, parting}
 use Rattle.drawn_faults.specs.declared.extent.Spot.{Spot}
 use Rattle.drawn_faults.specs.declared.paint.Gutter.{Gutter}
 use Rattle.drawn_faults.specs.declared.paint.Palette.{Palette}
@@ -69,7 +69,7 @@ shown_label p s = record { sign = 94; text = []; extent = extent p s }
 
 -- An edit with its place in the source.
 abbrev pub placed_edit : Picture → SourceEdit → Edit
-placed_edit p e = record { text = e.text; extent = extent p e.span }
+placed_edit p e = placed p e.text e.span
 
 -- The last line in which one of these labels ends, or `n` if that is further down.
 abbrev pub last_label_line : ℕ → List Label → ℕ

@@ -11,9 +11,9 @@ use Rattle.drawn_faults.specs.Painting.{painted}
 use Rattle.drawn_faults.specs.Places.{Picture}
 use Rattle.drawn_faults.specs.Labels.{Label, Edit, Frame, primary, second, edit_of, frame, mark}
 use Rattle.drawn_faults.specs.Labels.{text_name}
-use Rattle.drawn_faults.specs.Lines.{labelled, two_labels}
+use Rattle.drawn_faults.specs.Lines.{labelled, parting, two_labels}
 use Rattle.drawn_faults.specs.Long.{long_rows}
-use Rattle.drawn_faults.specs.Suggestions.{help_rows, parting}
+use Rattle.drawn_faults.specs.Suggestions.{help_rows}
 use Rattle.drawn_faults.specs.declared.extent.Spot.{Spot}
 use Rattle.drawn_faults.specs.declared.paint.Gutter.{Gutter}
 use Rattle.drawn_faults.specs.declared.paint.Palette.{Palette}

@@ -42,12 +42,12 @@ offered DiagnosticNamed UseRustDebugPrintingMacro = Nothing
 abbrev pub edit_of : Mode → Message Place → Option Edit
 edit_of mode m = suggested (offered mode m.suggestion)
 
--- The edit starts behind the byte offset `at`, and does not end before it starts.
+-- The edit starts after the byte offset `at`, and does not end before it starts.
 abbrev pub is_behind : ℕ → Edit → Bool
 is_behind at e = nat_lt at e.span.0 && nat_le e.span.0 e.span.1
 
--- Of these edits, one after the other, those that are made: each that starts behind the end of the
--- one made before it, and the first behind the byte offset `at`.
+-- Of these edits, one after the other, those that are made: each that starts after the end of the
+-- one made before it, and the first after the byte offset `at`.
 abbrev pub made : ℕ → List Edit → List Edit
 made at [] = []
 made at (e ∷ es) = if is_behind at e then e ∷ made e.span.1 es else made at es
@@ -57,7 +57,7 @@ made at (e ∷ es) = if is_behind at e then e ∷ made e.span.1 es else made at 
 abbrev pub edits : Mode → List (Message Place) → List Edit
 edits mode ms = made 0 (filter_map (edit_of mode) (reverse ms))
 
--- Each edit starts behind the end of the one before it, and the first behind the byte offset `at`.
+-- Each edit starts after the end of the one before it, and the first after the byte offset `at`.
 abbrev pub AreInOrder : ℕ → List Edit → Type 0
 AreInOrder at [] = Unit {0}
 AreInOrder at (e ∷ es) = (at < e.span.0) × (e.span.0 ≤ e.span.1) × AreInOrder e.span.1 es

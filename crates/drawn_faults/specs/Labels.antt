@@ -11,6 +11,7 @@ use Rattle.drawn_faults.specs.Edits.{offered}
 use Rattle.drawn_faults.specs.Glyphs.{indent}
 use Rattle.drawn_faults.specs.Painting.{palette_of}
 use Rattle.drawn_faults.specs.Places.{Extent, Picture, seen_extent, seen_picture, extent, line}
+use Rattle.drawn_faults.specs.Places.{offset}
 use Rattle.drawn_faults.specs.Rows.{Mark}
 use Rattle.drawn_faults.specs.declared.labels.Label.{Label as DeclaredLabel}
 use Rattle.drawn_faults.specs.declared.labels.Edit.{Edit as DeclaredEdit}
@@ -28,14 +29,31 @@ pub record Label : Type 0 where
 abbrev pub seen_label : DeclaredLabel → Label
 seen_label l = record { sign = l.sign; text = l.text.now; extent = seen_extent l.extent }
 
--- An edit of a suggestion: the new text, and the place of the text that it replaces.
+-- An edit: the new text, and of the text that it replaces the places and the byte offsets in the
+-- source at which that begins and ends.
 pub record Edit : Type 0 where
   pub text : List ℕ
   pub extent : Extent
+  pub from : ℕ
+  pub to : ℕ
 
 -- An edit as a contract sees it.
 abbrev pub seen_edit : DeclaredEdit → Edit
-seen_edit e = record { text = e.text.now; extent = seen_extent e.extent }
+seen_edit e = record {
+  text = e.text.now;
+  extent = seen_extent e.extent;
+  from = e.from;
+  to = e.to;
+}
+
+-- An edit of a range of the literal.
+abbrev pub placed : Picture → List ℕ → Place → Edit
+placed p t s = record {
+  text = t;
+  extent = extent p s;
+  from = offset p s.0;
+  to = max (offset p s.0) (offset p s.1);
+}
 
 -- What the compiler calls the text of a literal in a mode.
 abbrev pub text_name : Mode → List ℕ
@@ -84,7 +102,7 @@ abbrev pub edit_of : Picture → Suggestion Place → Option Edit
 edit_of p Nothing = None
 edit_of p UsePositional = None
 edit_of p (RemoveRawIdent s) = None
-edit_of p (ReorderFormatParameter s t) = Some (record { text = t; extent = extent p s })
+edit_of p (ReorderFormatParameter s t) = Some (placed p t s)
 edit_of p (AddMissingColon s) = None
 edit_of p UseRustDebugPrintingMacro = None
 

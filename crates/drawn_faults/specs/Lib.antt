@@ -5,6 +5,8 @@ pub mod Rows
 pub mod Labels
 pub mod Lines
 pub mod Long
+pub mod Edited
+pub mod Helps
 pub mod Suggestions
 pub mod Drawing
 pub mod Edits
@@ -13,6 +15,5 @@ pub mod Rounds
 pub mod Losing
 pub mod SeenEdits
 pub mod Marks
-pub mod Helps
 pub mod Diagnostics
 pub mod SeenDiagnostics

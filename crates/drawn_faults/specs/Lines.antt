@@ -7,7 +7,7 @@ use Rattle.rustc_parse_format.specs.Characters.{Text}
 use Rattle.drawn_faults.specs.Glyphs.{glyphs, run}
 use Rattle.drawn_faults.specs.Painting.{closing, opening, painted}
 use Rattle.drawn_faults.specs.Places.{line}
-use Rattle.drawn_faults.specs.Rows.{Mark, alone, both, under}
+use Rattle.drawn_faults.specs.Rows.{Mark, alone, blank, both, under}
 use Rattle.drawn_faults.specs.Labels.{Frame}
 use Rattle.drawn_faults.specs.declared.paint.Palette.{Palette}
 use Rattle.drawn_faults.specs.declared.paint.Style.TheVariants.{Secondary}
@@ -68,3 +68,7 @@ unfoldable pub two_labels : Frame → Mark → Mark → List ℕ
 two_labels f m n =
     if m.line == n.line then code_row f m.line ++ both f.gutter m n
     else if nat_lt m.line n.line then apart f m n else apart f n m
+
+-- The row between two parts of the drawing.
+unfoldable pub parting : Frame → List ℕ
+parting f = blank f.gutter ++ codes "\n"

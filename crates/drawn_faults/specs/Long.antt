@@ -23,12 +23,12 @@ is_bracket c =
 abbrev pub documents : ℕ → Bool
 documents c = (c == 47) || (c == 33)
 
--- What begins with this text behind `//` is a comment, but no documentation.
+-- What begins with this text after `//` is a comment, but no documentation.
 abbrev pub is_plain_comment : Text → Bool
 is_plain_comment [] = true
 is_plain_comment (c ∷ t) = not (documents c)
 
--- What begins with this text behind `/` is a comment, but no documentation.
+-- What begins with this text after `/` is a comment, but no documentation.
 abbrev pub is_comment : Text → Bool
 is_comment [] = false
 is_comment (c ∷ t) = (c == 47) && is_plain_comment t
@@ -45,7 +45,7 @@ is_bare (c ∷ t) =
 abbrev pub is_bare_line : Frame → ℕ → Bool
 is_bare_line f n = is_bare (chars (line n f.picture.source))
 
--- Of the n lines behind a line, how many are left without the bare ones at their end.
+-- Of the n lines after a line, how many are left without the bare ones at their end.
 abbrev pub without_bare : Frame → ℕ → ℕ → ℕ
 without_bare f first zero = 0
 without_bare f first (suc n) =
@@ -61,7 +61,7 @@ signed_row f sign n =
 abbrev pub bar_row : Frame → ℕ → List ℕ
 bar_row f n = signed_row f (codes "|") n
 
--- So many lines behind a line.
+-- So many lines after a line.
 abbrev pub bar_rows : Frame → ℕ → ℕ → List ℕ
 bar_rows f first zero = []
 bar_rows f first (suc n) = bar_rows f first n ++ bar_row f (first + suc n)
@@ -76,7 +76,7 @@ bar_gap f first last =
     ++ (run f.gutter.columns 32 ++ (painted f.gutter.palette Primary (codes "|") ++ codes "\n"))
     else []
 
--- A text, a line to a column behind it, and the sign at its end.
+-- A text, a line to a column after it, and the sign at its end.
 abbrev pub lead : Palette → List ℕ → ℕ → List ℕ
 lead p front n = painted p Primary (front ++ (run n 95 ++ codes "^"))
 
@@ -97,7 +97,7 @@ last_rows f l =
     (lead f.gutter.palette (codes "|") (max (l.extent.end.column - f.cut) 1)
     ++ (codes " " ++ painted f.gutter.palette PrimaryText (glyph_bytes l.text)))
 
--- What is between the first and the last line: at most three lines behind the first one, without
+-- What is between the first and the last line: at most three lines after the first one, without
 -- bare ones at their end, and the line before the last one if it is far from these and not bare.
 unfoldable pub between : Frame → ℕ → ℕ → List ℕ
 between f first last =

@@ -12,7 +12,7 @@ use Rattle.rustc_parse_format.specs.Marks.{Mark, Start, End, Span, up_to, over_f
 use Rattle.rustc_parse_format.specs.Faults.{Fault, map_fault, MissingBrace, MissingColon}
 use Rattle.rustc_parse_format.specs.Faults.{LateFlag, UnmatchedBrace}
 
--- Where n characters are left behind an edit that replaces so many characters by so many others,
+-- Where n characters are left after an edit that replaces so many characters by so many others,
 -- how many are left in the edited text at a place where k are left.
 abbrev pub moved_count : ℕ → ℕ → ℕ → ℕ → ℕ
 moved_count n removed added k = if nat_lt n k then (k - removed) + added else k

@@ -44,7 +44,7 @@ uncoloured p = record {
 abbrev pub is_line_feed : ℕ → Bool
 is_line_feed b = b == 10
 
--- What is left of a text behind its first n lines.
+-- What is left of a text after its first n lines.
 abbrev pub behind_lines : ℕ → List ℕ → List ℕ
 behind_lines zero bs = bs
 behind_lines (suc n) bs = behind_lines n (after_first is_line_feed bs)
@@ -53,7 +53,7 @@ behind_lines (suc n) bs = behind_lines n (after_first is_line_feed bs)
 abbrev pub first_line : List ℕ → List ℕ
 first_line bs = before_first is_line_feed bs
 
--- The line with the number n, counted from 0. It is empty behind the last one.
+-- The line with the number n, counted from 0. It is empty after the last one.
 unfoldable pub line : ℕ → List ℕ → List ℕ
 line n bs = first_line (behind_lines n bs)
 
@@ -67,7 +67,7 @@ within n (c ∷ t) = if nat_lt n (len_utf8 c) then [] else c ∷ within (n - len
 abbrev pub origin : Spot
 origin = record { line = 0; chars = 0; column = 0; is_indent = true }
 
--- The place behind a character.
+-- The place after a character.
 unfoldable pub past : Spot → ℕ → Spot
 past p c =
     if c == 10 then record { line = p.line + 1; chars = 0; column = 0; is_indent = true }

@@ -87,7 +87,7 @@ under g row = blank g ++ (codes " " ++ (row ++ codes "\n"))
 abbrev pub label_text : Palette → Mark → List ℕ
 label_text p m = painted p (text_style m) (glyph_bytes m.text)
 
--- The signs of a label and its text behind them.
+-- The signs of a label and its text after them.
 unfoldable pub pointed : Palette → Mark → List ℕ
 pointed p m =
     painted p (style_of m) (run (m.to - m.from) m.sign) ++ (codes " " ++ label_text p m)

@@ -1,6 +1,9 @@
--- What a contract sees of edits and of a fixed literal: texts as their bytes.
-use Rattle.std.specs.Prelude.{ℕ, Bool, List, option_map, string_bytes}
-use Rattle.rustc_parse_format.specs.Seen.{pair}
+-- What a contract sees of edits, of errors and of a fixed literal: texts as their bytes.
+use Rattle.std.specs.Prelude.{◌++◌, ℕ, Bool, List, map, option_map, reverse, string_bytes}
+use Rattle.rustc_parse_format.specs.Faults.{Message}
+use Rattle.rustc_parse_format.specs.Seen.{pair, seen_error}
+use Rattle.rustc_parse_format.specs.World.{Place}
+use Rattle.drawn_faults.specs.declared.errors.Errors.{Errors}
 use Rattle.drawn_faults.specs.declared.fixes.Edit.{Edit as DeclaredEdit}
 use Rattle.drawn_faults.specs.declared.fixes.Edited.{Edited as DeclaredEdited}
 use Rattle.drawn_faults.specs.declared.fixes.Fixed.{Fixed as DeclaredFixed}
@@ -24,3 +27,7 @@ with_edits x es = joined x.bytes.items x.start x.end x.rest.now es
 -- The best of some literals as a contract sees it.
 abbrev pub seen_best : DeclaredBest → Best
 seen_best b = record { literal = option_map seen_fixed b.literal; calls = b.calls }
+
+-- Errors in two lists as a contract sees them: those of the first list backwards, and the others.
+abbrev pub seen_errors : Errors → List (Message Place)
+seen_errors e = reverse (map seen_error e.fronts.items) ++ map seen_error e.backs.items

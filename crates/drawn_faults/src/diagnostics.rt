@@ -12,11 +12,11 @@ ghost use Rattle.drawn_faults.specs.SeenDiagnostics.{seen_source_label};
 
 use crate::helps::{SourceHelp, last_help_line, put_helps};
 use crate::labels::{Frame, Label, digits};
+use crate::lines::put_parting;
 use crate::marked::{frame_of, last_label_line};
 use crate::notes::{SourceNote, last_note_line, put_notes, put_titled};
 use crate::paint::{Gutter, Palette, palette_of};
 use crate::places::Picture;
-use crate::suggestions::put_parting;
 use std::alloc::{AllocError, Global};
 use std::ops::Range;
 
@@ -199,9 +199,11 @@ fn put_diagnostic(
 /// with its number and the signs of its labels under it; the notes; the helps; an empty line. The
 /// text of a label stands right of its signs, or hangs from a bar where there is no room. Between
 /// lines with labels there is the line between them, or `...` for several. A label over several
-/// lines is drawn so if it is the only one, and else has one sign where it begins. Edits of a help
-/// are shown if they are all in one line and from left to right: those that only insert something
-/// by the new line with the sign `+` under what is new, others by the old and the new line.
+/// lines is drawn so if it is the only one, and else has one sign where it begins. The edits of a
+/// help, from left to right, are shown by the new lines: of several the changed ones have the sign
+/// `~`, or `+` if they are all new, and of more than three others between them the first and the
+/// last are shown; one has the old lines above it if something is left out, and else the signs `+`
+/// under what is new.
 ///
 /// The widths of characters and the spans that do not fit are those of [`draw`](crate::draw). It
 /// takes the square of the number of labels in a line, and has as many rows there. Returns `Err` if

@@ -15,13 +15,13 @@ ghost use Rattle.drawn_faults.specs.declared.paint.Style.TheVariants.{Bold, Prim
 use crate::extent::Spot;
 use crate::glyphs::{put_glyphs, put_run};
 use crate::labels::{Edit, Frame, Label, edit_of, frame_for, mark, second, text_name};
-use crate::lines::{put_decimal, put_labelled, put_two_labels};
+use crate::lines::{put_decimal, put_labelled, put_parting, put_two_labels};
 use crate::long::put_long;
 use crate::paint::{
     Gutter, Palette, Style, has_colours, put_closing, put_note_sign, put_opening, put_painted,
 };
 use crate::places::Picture;
-use crate::suggestions::{put_edit, put_parting};
+use crate::suggestions::put_edit;
 use rustc_parse_format::{ParseError, ParseMode};
 use std::alloc::{AllocError, Global};
 
@@ -288,7 +288,7 @@ fn least_length(picture: &Picture<'_>, error: &ParseError) -> usize {
 /// 18.
 ///
 /// A span that does not fit is drawn too: an offset inside a character means the start of that
-/// character, one behind the source its end, and a range that ends before it begins is empty.
+/// character, one after the source its end, and a range that ends before it begins is empty.
 /// Returns `Err` if an allocation fails, or if the source has 2^59 bytes or more.
 pub fn draw(
     alloc: Global,

@@ -10,7 +10,6 @@ ghost use Rattle.rustc_parse_format.specs.Faults.{Nothing, message};
 ghost use Rattle.rustc_parse_format.specs.Seen.{seen_error, seen_mode, seen_snippet};
 ghost use Rattle.rustc_parse_format.specs.Seen.{seen_suggestion};
 ghost use Rattle.rustc_parse_format.specs.SeenFaults.{seen_fault};
-ghost use Rattle.rustc_parse_format.specs.Characters.{is_nil};
 ghost use Rattle.rustc_parse_format.specs.State.{after, first_state, next_call};
 ghost use Rattle.rustc_parse_format.specs.World.{faults_in, hashes};
 ghost use Rattle.rustc_parse_format.specs.Literal.{IsSource};
@@ -91,13 +90,13 @@ fn offered_edit(mode: ParseMode, suggestion: &Suggestion) -> Option<Edit<'_>>
 }
 
 /// Returns the edits of these errors of a text of this mode, in the order of the source, each
-/// behind the end of the one before it.
+/// after the end of the one before it.
 ///
 /// As from the compiler, there are none in a template of assembly; and where no placeholder may
 /// have a specification, none leads to one.
 ///
 /// The errors are in the order of a parser, in which each error that has an edit comes before those
-/// of earlier places. An edit that does not start behind the end of the one before it is left out.
+/// of earlier places. An edit that does not start after the end of the one before it is left out.
 /// Returns `Err` if an allocation fails.
 pub fn edits<'e>(
     alloc: Global,
@@ -149,7 +148,7 @@ struct Edited<'t> {
     end: usize,
 }
 
-/// Makes the edit of a suggestion in a mode, if it has one that starts behind the end of the last
+/// Makes the edit of a suggestion in a mode, if it has one that starts after the end of the last
 /// one. Returns `Err` if an allocation fails.
 fn make(edited: &mut Edited<'_>, mode: ParseMode, suggestion: &Suggestion) -> Result<(), AllocError>
     ensures { OnOk result ((es : List EditValue) → with_edits edited.new es ≡ with_edits edited.old
@@ -207,39 +206,6 @@ fn make_next<'a>(
     make_each(edited, mode, found.as_slice())?;
     found.clear();
     Ok(())
-}
-
-/// Makes a call of a parser, and leaves out the piece. Returns `Err` if an allocation fails.
-fn advance(parser: &mut Parser<'_>) -> Result<(), AllocError>
-    ensures state { OnOk result (parser.new ≡ after parser.old (next_call parser.old)) }
-    ensures shorter { OnOk result (is_nil parser.old.rest ≡ false
-        → length parser.new.rest < length parser.old.rest) }
-{
-    parser.next()?;
-    Ok(())
-}
-
-/// Returns the errors of all calls of a parser up to the end of an input, in its order. The
-/// arguments are those of [`Parser::new`]. Returns `Err` if an allocation fails.
-pub fn errors_of(
-    alloc: Global,
-    input: &str,
-    style: Option<usize>,
-    snippet: Option<String>,
-    appended_newline: bool,
-    mode: ParseMode,
-) -> Result<Vec<ParseError>, AllocError>
-    requires { hashes style + length input.now + 2 < 2 ^ 64 }
-    ensures errors { IfOk result (λ v. map seen_error v.items
-        ≡ all_errors (first_state (seen_mode mode) (chars input.now) style
-        (seen_snippet snippet) appended_newline)) }
-    ensures empty { input.now ≡ [] → IsOk result }
-{
-    let mut parser = Parser::new(alloc, input, style, snippet, appended_newline, mode)?;
-    while !parser.is_at_end() {
-        advance(&mut parser)?;
-    }
-    Ok(parser.take_errors())
 }
 
 /// Returns a text with the edits of the errors of all calls of a parser without errors, in a mode,

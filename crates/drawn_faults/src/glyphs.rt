@@ -345,7 +345,7 @@ pub fn put_front(out: &mut String, text: &str, count: usize) -> Result<(), Alloc
     Ok(())
 }
 
-/// Returns what is left of a text behind its first characters.
+/// Returns what is left of a text after its first characters.
 pub fn behind_chars(text: &str, count: usize) -> &str
     ensures { chars result.now ≡ drop count (chars text.now) }
 {

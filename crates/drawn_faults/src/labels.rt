@@ -8,6 +8,7 @@ ghost use Rattle.drawn_faults.specs.Places.{extent, seen_picture};
 ghost use Rattle.drawn_faults.specs.Rows.{seen_mark};
 ghost use Rattle.drawn_faults.specs.Labels.{cut_of, edit_line, edit_of, frame, last_line};
 ghost use Rattle.drawn_faults.specs.Labels.{last_number, least, line_indent, mark, other_line};
+ghost use Rattle.drawn_faults.specs.Labels.{placed};
 ghost use Rattle.drawn_faults.specs.Labels.{second, second_text, seen_edit, seen_frame, seen_label};
 ghost use Rattle.drawn_faults.specs.Labels.{text_name};
 
@@ -31,13 +32,17 @@ pub struct Label<'a> {
     pub extent: Extent,
 }
 
-/// A suggestion that is drawn with its old and its new line.
+/// An edit that is drawn with its lines.
 #[derive(Clone, Copy)]
 pub struct Edit<'a> {
     /// The new text.
     pub text: &'a str,
     /// Where the text is that it replaces.
     pub extent: Extent,
+    /// The byte offset in the source at which that text begins.
+    pub from: usize,
+    /// The byte offset in the source at which it ends.
+    pub to: usize,
 }
 
 /// How a picture is laid out.
@@ -105,6 +110,22 @@ pub fn second<'a>(
     })
 }
 
+/// Returns an edit with its place in the source.
+pub fn placed<'a>(picture: &Picture<'_>, text: &'a str, range: &Range<usize>) -> Edit<'a>
+    requires { length picture.now.source.now < 2 ^ 59 }
+    ensures value { seen_edit result ≡ placed (seen_picture picture.now) text.now (pair range.now) }
+    ensures small { result.extent.end.line < 2 ^ 59 }
+    ensures small_start { result.extent.start.line < 2 ^ 59 }
+{
+    let (from, to) = picture.offsets(range);
+    Edit {
+        text,
+        extent: picture.extent(range),
+        from,
+        to,
+    }
+}
+
 /// Returns the edit that is drawn, or `None` if there is none.
 pub fn edit_of<'a>(
     mode: ParseMode,
@@ -123,10 +144,7 @@ pub fn edit_of<'a>(
     let Suggestion::ReorderFormatParameter(span, text) = suggestion else {
         return None;
     };
-    Some(Edit {
-        text: text.as_str(),
-        extent: picture.extent(span),
-    })
+    Some(placed(picture, text.as_str(), span))
 }
 
 /// Returns the last line of a label, or 0 without one.

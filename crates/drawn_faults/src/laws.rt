@@ -28,7 +28,7 @@ pub fn remove_raw_ident()
 {}
 
 /// States what the insertion of a colon does, in the modes `Format` and `Diagnostic`: in a field
-/// that is a position and white space alone, before a `?` with a closing brace behind it and no
+/// that is a position and white space alone, before a `?` with a closing brace after it and no
 /// second one. The fault of the missing colon goes, with those of the missing brace and of the
 /// brace that then closes nothing. Does nothing.
 pub fn add_missing_colon()

@@ -3,8 +3,12 @@
 #![tactic(auto)]
 
 mod cells;
+mod changes;
 mod diagnostics;
 mod drawing;
+mod edit_rows;
+mod edited;
+mod errors;
 mod extent;
 mod fixes;
 mod glyphs;
@@ -28,7 +32,8 @@ mod suggestions;
 
 pub use diagnostics::{Diagnostic, Level, SourceLabel, draw_labels, put_labels};
 pub use drawing::{draw, put_drawing};
-pub use fixes::{Edit, Fixed, edits, errors_of};
+pub use errors::errors_of;
+pub use fixes::{Edit, Fixed, edits};
 pub use glyphs::put_glyphs;
 pub use helps::SourceHelp;
 pub use notes::SourceNote;

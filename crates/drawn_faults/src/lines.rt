@@ -5,14 +5,15 @@ ghost use Rattle.std.specs.Prelude.{◌≡◌, ◌++◌, ◌<◌, ◌^◌, OnOk,
 ghost use Rattle.drawn_faults.specs.Rows.{seen_mark};
 ghost use Rattle.drawn_faults.specs.Labels.{seen_frame};
 ghost use Rattle.drawn_faults.specs.Lines.{apart, behind_bar, code_row, gap, labelled, number_bar};
-ghost use Rattle.drawn_faults.specs.Lines.{numbered, shown, source_line, source_row, two_labels};
+ghost use Rattle.drawn_faults.specs.Lines.{numbered, parting, shown, source_line, source_row};
+ghost use Rattle.drawn_faults.specs.Lines.{two_labels};
 
 use crate::glyphs::{draws_nothing, put_glyphs, put_run};
 use crate::labels::{Frame, digits};
 use crate::mark::Mark;
 use crate::paint::{Palette, Style, put_closing, put_gutter_bar, put_opening, put_painted};
 use crate::places::line;
-use crate::rows::{put_both, put_one};
+use crate::rows::{put_blank, put_both, put_one};
 use itoa::Buffer;
 use std::alloc::AllocError;
 
@@ -22,6 +23,17 @@ pub fn put_decimal(out: &mut String, number: usize) -> Result<(), AllocError>
 {
     let mut digits = Buffer::new();
     out.push_str(digits.format(number))?;
+    Ok(())
+}
+
+/// Adds the row between two parts of the drawing.
+#[tactic(auto, unfolding(crate::specs::Lines::parting))]
+pub fn put_parting(out: &mut String, frame: &Frame<'_>) -> Result<(), AllocError>
+    ensures { OnOk result (string_bytes out.new ≡ string_bytes out.old
+        ++ parting (seen_frame frame.now)) }
+{
+    put_blank(out, frame.gutter)?;
+    out.push_str("\n")?;
     Ok(())
 }
 
@@ -71,7 +83,7 @@ fn put_shown(out: &mut String, palette: Palette, text: &str, cut: usize) -> Resu
     Ok(())
 }
 
-/// Adds what is behind a bar: a line, and what is in front of it.
+/// Adds what is after a bar: a line, and what is in front of it.
 fn put_behind_bar(
     out: &mut String,
     palette: Palette,

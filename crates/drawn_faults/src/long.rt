@@ -30,7 +30,7 @@ fn is_bracket(c: char) -> bool
     c == '(' || c == ')' || c == '[' || c == ']' || c == '{' || c == '}'
 }
 
-/// Returns whether what begins with a text behind `//` is a comment, but no documentation.
+/// Returns whether what begins with a text after `//` is a comment, but no documentation.
 fn is_plain_comment(text: &str) -> bool
     ensures { result ≡ is_plain_comment (chars text.now) }
 {
@@ -40,7 +40,7 @@ fn is_plain_comment(text: &str) -> bool
     }
 }
 
-/// Returns whether what begins with a text behind `/` is a comment, but no documentation.
+/// Returns whether what begins with a text after `/` is a comment, but no documentation.
 fn is_comment(text: &str) -> bool
     ensures { result ≡ is_comment (chars text.now) }
 {
@@ -88,7 +88,7 @@ fn is_bare_line(frame: &Frame<'_>, number: usize) -> bool
     is_bare(line(frame.picture.source, number))
 }
 
-/// Returns how many of the lines behind a line are left without the bare ones at their end.
+/// Returns how many of the lines after a line are left without the bare ones at their end.
 fn without_bare(frame: &Frame<'_>, first: usize, count: usize) -> usize
     requires { first + count < 2 ^ 61 }
     ensures value { result ≡ without_bare (seen_frame frame.now) first count }
@@ -131,7 +131,7 @@ fn put_bar_row(out: &mut String, frame: &Frame<'_>, number: usize) -> Result<(),
     Ok(())
 }
 
-/// Adds so many lines behind a line.
+/// Adds so many lines after a line.
 fn put_bar_rows(
     out: &mut String,
     frame: &Frame<'_>,
@@ -173,7 +173,7 @@ fn put_bar_gap(
     Ok(())
 }
 
-/// Adds a text, a line to a column behind it, and the sign at its end.
+/// Adds a text, a line to a column after it, and the sign at its end.
 fn put_lead(
     out: &mut String,
     palette: Palette,

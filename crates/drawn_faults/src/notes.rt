@@ -13,10 +13,10 @@ ghost use Rattle.drawn_faults.specs.SeenDiagnostics.{seen_note};
 use crate::drawing::{put_arrow, put_note_word};
 use crate::glyphs::{glyph, glyph_count, put_glyphs, put_run, split_first};
 use crate::labels::{Frame, Label};
+use crate::lines::put_parting;
 use crate::marked::{first_spot, frame_of, last_label_line, put_labels_rows};
 use crate::paint::{Gutter, Palette, Style, palette_of, put_closing, put_opening, put_painted};
 use crate::places::Picture;
-use crate::suggestions::put_parting;
 use std::alloc::{AllocError, Global};
 use std::ops::Range;
 

@@ -96,7 +96,7 @@ pub fn escape(palette: Palette, style: Style) -> &'static str
 }
 
 /// Returns a number of a style.
-fn rank(style: Style) -> u8
+pub fn rank(style: Style) -> u8
     ensures { result ≡ rank style }
 {
     match style {

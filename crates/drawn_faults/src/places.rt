@@ -5,6 +5,8 @@ ghost use Rattle.std.specs.Prelude.{false, true};
 ghost use Rattle.std.specs.List.{fold, list_all};
 ghost use Rattle.rustc_parse_format.specs.Seen.{pair};
 ghost use Rattle.drawn_faults.specs.Glyphs.{is_printable};
+ghost use Rattle.drawn_faults.specs.Places.{offset};
+ghost use Rattle.std.specs.Prelude.{max};
 ghost use Rattle.drawn_faults.specs.Places.{behind_lines, extent, first_line, line, past};
 ghost use Rattle.drawn_faults.specs.Places.{seen_extent, seen_picture, within};
 
@@ -36,7 +38,7 @@ pub const ORIGIN: Spot = Spot {
     is_indent: true,
 };
 
-/// Returns the place behind a character.
+/// Returns the place after a character.
 #[tactic(auto, unfolding(crate::specs::Places::past))]
 fn past(spot: Spot, c: char) -> Spot
     requires small_line { spot.line < 2 ^ 62 }
@@ -63,7 +65,7 @@ fn past(spot: Spot, c: char) -> Spot
     }
 }
 
-/// Returns the place behind printable characters.
+/// Returns the place after printable characters.
 fn past_printable(spot: Spot, front: &str) -> Spot
     requires printable { list_all is_printable front.now ≡ true }
     requires behind_indent { spot.is_indent ≡ false }
@@ -83,7 +85,7 @@ fn past_printable(spot: Spot, front: &str) -> Spot
 }
 
 /// Passes the printable characters at the start of a text that end within `width` bytes. Returns
-/// the place behind them, what is left of the text, and how many of the bytes are left.
+/// the place after them, what is left of the text, and how many of the bytes are left.
 fn pass_printable(from: Spot, text: &str, width: usize) -> (Spot, &str, usize)
     requires behind_indent { from.is_indent ≡ false }
     requires small_chars { from.chars + length text.now < 2 ^ 60 }
@@ -103,7 +105,7 @@ fn pass_printable(from: Spot, text: &str, width: usize) -> (Spot, &str, usize)
     (past_printable(from, front), rest, width - front.len())
 }
 
-/// Passes the characters of a text that end within `width` bytes. Returns the place behind them,
+/// Passes the characters of a text that end within `width` bytes. Returns the place after them,
 /// what is left of the text, and how many of the bytes are left.
 fn pass(from: Spot, text: &str, width: usize) -> (Spot, &str, usize)
     requires small_line { from.line + length text.now < 2 ^ 60 }
@@ -138,7 +140,7 @@ fn pass(from: Spot, text: &str, width: usize) -> (Spot, &str, usize)
     (at, rest, left)
 }
 
-/// Returns the first line of a text, and what is left of the text behind that line.
+/// Returns the first line of a text, and what is left of the text after that line.
 pub fn split_line(text: &str) -> (&str, &str)
     ensures line { result.0.now ≡ first_line text.now }
     ensures rest { result.1.now ≡ behind_lines 1 text.now }
@@ -151,7 +153,7 @@ pub fn split_line(text: &str) -> (&str, &str)
     }
 }
 
-/// Returns what is left of a text behind its first lines.
+/// Returns what is left of a text after its first lines.
 pub fn behind_lines(text: &str, count: usize) -> &str
     ensures value { result.now ≡ behind_lines count text.now }
     ensures short { length result.now ≤ length text.now }
@@ -166,7 +168,7 @@ pub fn behind_lines(text: &str, count: usize) -> &str
     rest
 }
 
-/// Returns the line with a number, counted from 0, or an empty text behind the last one.
+/// Returns the line with a number, counted from 0, or an empty text after the last one.
 #[tactic(auto, unfolding(crate::specs::Places::line))]
 pub fn line(text: &str, number: usize) -> &str
     ensures value { result.now ≡ line number text.now }
@@ -177,6 +179,18 @@ pub fn line(text: &str, number: usize) -> &str
 }
 
 impl Picture<'_> {
+    /// Returns the byte offsets in the source at which a range of the literal begins and ends.
+    pub(crate) fn offsets(&self, range: &Range<usize>) -> (usize, usize)
+        ensures start { result.0 ≡ offset (seen_picture self.now) (pair range.now).0 }
+        ensures end { result.1 ≡ max (offset (seen_picture self.now) (pair range.now).0)
+            (offset (seen_picture self.now) (pair range.now).1) }
+    {
+        let length = self.source.len();
+        let from = self.literal_start.saturating_add(range.start).min(length);
+        let to = self.literal_start.saturating_add(range.end).min(length);
+        (from, to.max(from))
+    }
+
     /// Returns where a range of the literal begins and ends.
     #[tactic(auto, unfolding(crate::specs::Places::extent))]
     pub(crate) fn extent(&self, range: &Range<usize>) -> Extent
@@ -188,11 +202,9 @@ impl Picture<'_> {
         ensures small_column { result.start.column < 2 ^ 61 }
         ensures small_end_column { result.end.column < 2 ^ 61 }
     {
-        let length = self.source.len();
-        let from = self.literal_start.saturating_add(range.start).min(length);
-        let to = self.literal_start.saturating_add(range.end).min(length);
+        let (from, to) = self.offsets(range);
         let (start, rest, left) = pass(ORIGIN, self.source, from);
-        let (end, _, _) = pass(start, rest, left + to.saturating_sub(from));
+        let (end, _, _) = pass(start, rest, left + (to - from));
         Extent { start, end }
     }
 }

@@ -351,3 +351,119 @@ fn far_apart(rt: HostRuntime) -> Result<(), Fail> {
         \n";
     check(&rt, rt.alloc(), source, &diagnostic, expected)
 }
+
+#[test]
+fn two_lines_far_from_each_other(rt: HostRuntime) -> Result<(), Fail> {
+    let source = "fn f() {\n\
+        \x20   let _ = format!(\"{a.b}\n\
+        1\n\
+        2\n\
+        \n\
+        4\n\
+        \", 1,\n\
+        \x20       2\n\
+        \x20   );\n\
+        }\n";
+    let labels = [SourceLabel {
+        span: 31..34,
+        is_primary: true,
+        text: "not supported in format string",
+    }];
+    let edits = [
+        Edit {
+            span: 31..34,
+            text: "2",
+        },
+        Edit {
+            span: 58..58,
+            text: ", a.b",
+        },
+    ];
+    let notes = [SourceNote {
+        text: "consider moving this expression to a local variable and then using the local here instead",
+        spans: &[],
+    }];
+    let helps = [SourceHelp {
+        text: "consider using a positional formatting argument instead",
+        edits: &edits,
+    }];
+    let diagnostic = Diagnostic {
+        level: Level::Error,
+        title: "invalid format string: field access isn't supported",
+        labels: &labels,
+        notes: &notes,
+        helps: &helps,
+    };
+    let expected =
+        "\u{1b}[1m\u{1b}[91merror\u{1b}[0m\u{1b}[1m: invalid format string: field access isn't supported\u{1b}[0m\n\
+        \x20\u{1b}[1m\u{1b}[94m--> \u{1b}[0mt.rs:2:23\n\
+        \x20 \u{1b}[1m\u{1b}[94m|\u{1b}[0m\n\
+        \u{1b}[1m\u{1b}[94m2\u{1b}[0m \u{1b}[1m\u{1b}[94m|\u{1b}[0m     let _ = format!(\"{a.b}\n\
+        \x20 \u{1b}[1m\u{1b}[94m|\u{1b}[0m                       \u{1b}[1m\u{1b}[91m^^^\u{1b}[0m \u{1b}[1m\u{1b}[91mnot supported in format string\u{1b}[0m\n\
+        \x20 \u{1b}[1m\u{1b}[94m|\u{1b}[0m\n\
+        \x20 \u{1b}[1m\u{1b}[94m= \u{1b}[0m\u{1b}[1mnote\u{1b}[0m: consider moving this expression to a local variable and then using the local here instead\n\
+        \u{1b}[1m\u{1b}[96mhelp\u{1b}[0m: consider using a positional formatting argument instead\n\
+        \x20 \u{1b}[1m\u{1b}[94m|\u{1b}[0m\n\
+        \u{1b}[1m\u{1b}[94m2\u{1b}[0m \u{1b}[92m~ \u{1b}[0m    let _ = format!(\"{\u{1b}[92m2\u{1b}[0m}\n\
+        \u{1b}[1m\u{1b}[94m3\u{1b}[0m \u{1b}[1m\u{1b}[94m|\u{1b}[0m 1\n\
+        \u{1b}[1m\u{1b}[94m...\u{1b}[0m\n\
+        \u{1b}[1m\u{1b}[94m7\u{1b}[0m \u{1b}[1m\u{1b}[94m|\u{1b}[0m \", 1,\n\
+        \u{1b}[1m\u{1b}[94m8\u{1b}[0m \u{1b}[92m~ \u{1b}[0m        2\u{1b}[92m, a.b\u{1b}[0m\n\
+        \x20 \u{1b}[1m\u{1b}[94m|\u{1b}[0m\n\
+        \n";
+    check(&rt, rt.alloc(), source, &diagnostic, expected)
+}
+
+#[test]
+fn one_new_line_for_two(rt: HostRuntime) -> Result<(), Fail> {
+    let source = "fn f() { let _ = format!(\"{a.b\n\
+        }\"); }\n";
+    let labels = [SourceLabel {
+        span: 27..31,
+        is_primary: true,
+        text: "not supported in format string",
+    }];
+    let edits = [
+        Edit {
+            span: 27..31,
+            text: "0",
+        },
+        Edit {
+            span: 33..33,
+            text: ", a.b\n",
+        },
+    ];
+    let notes = [SourceNote {
+        text: "consider moving this expression to a local variable and then using the local here instead",
+        spans: &[],
+    }];
+    let helps = [SourceHelp {
+        text: "consider using a positional formatting argument instead",
+        edits: &edits,
+    }];
+    let diagnostic = Diagnostic {
+        level: Level::Error,
+        title: "invalid format string: field access isn't supported",
+        labels: &labels,
+        notes: &notes,
+        helps: &helps,
+    };
+    let expected =
+        "\u{1b}[1m\u{1b}[91merror\u{1b}[0m\u{1b}[1m: invalid format string: field access isn't supported\u{1b}[0m\n\
+        \x20\u{1b}[1m\u{1b}[94m--> \u{1b}[0mt.rs:1:28\n\
+        \x20 \u{1b}[1m\u{1b}[94m|\u{1b}[0m\n\
+        \u{1b}[1m\u{1b}[94m1\u{1b}[0m \u{1b}[1m\u{1b}[94m|\u{1b}[0m   fn f() { let _ = format!(\"{a.b\n\
+        \x20 \u{1b}[1m\u{1b}[94m|\u{1b}[0m \u{1b}[1m\u{1b}[91m ____________________________^\u{1b}[0m\n\
+        \u{1b}[1m\u{1b}[94m2\u{1b}[0m \u{1b}[1m\u{1b}[94m|\u{1b}[0m \u{1b}[1m\u{1b}[91m|\u{1b}[0m }\"); }\n\
+        \x20 \u{1b}[1m\u{1b}[94m|\u{1b}[0m \u{1b}[1m\u{1b}[91m|_^\u{1b}[0m \u{1b}[1m\u{1b}[91mnot supported in format string\u{1b}[0m\n\
+        \x20 \u{1b}[1m\u{1b}[94m|\u{1b}[0m\n\
+        \x20 \u{1b}[1m\u{1b}[94m= \u{1b}[0m\u{1b}[1mnote\u{1b}[0m: consider moving this expression to a local variable and then using the local here instead\n\
+        \u{1b}[1m\u{1b}[96mhelp\u{1b}[0m: consider using a positional formatting argument instead\n\
+        \x20 \u{1b}[1m\u{1b}[94m|\u{1b}[0m\n\
+        \u{1b}[1m\u{1b}[94m1\u{1b}[0m \u{1b}[91m- \u{1b}[0mfn f() { let _ = format!(\"{\u{1b}[91ma.b\u{1b}[0m\n\
+        \u{1b}[1m\u{1b}[94m2\u{1b}[0m \u{1b}[91m- \u{1b}[0m}\"); }\n\
+        \u{1b}[1m\u{1b}[94m1\u{1b}[0m \u{1b}[92m+ \u{1b}[0mfn f() { let _ = format!(\"{\u{1b}[92m0\u{1b}[0m}\"\u{1b}[92m, a.b\u{1b}[0m\n\
+        \x20 \u{1b}[1m\u{1b}[94m|\u{1b}[0m\n\
+        \n";
+    check(&rt, rt.alloc(), source, &diagnostic, expected)
+}

@@ -3,7 +3,8 @@
 //! `short_rows`, `line_rows` and `asm_rows` are the tables, and `coloured_rows` that of drawings in
 //! colours; `drawings` draws each row. `misfits` has spans that no parser gives, and `harmless`
 //! characters that a terminal obeys. In `memory` an allocation fails. `several` draws diagnostics
-//! with several labels, and `coloured` these in colours.
+//! with several labels, `edits` and `line_edits` helps with edits in one and in several lines, and
+//! `coloured` some of both in colours.
 #![tactic(auto)]
 
 #[cfg(test)]
@@ -15,7 +16,11 @@ mod coloured_rows;
 #[cfg(test)]
 mod drawings;
 #[cfg(test)]
+mod edits;
+#[cfg(test)]
 mod harmless;
+#[cfg(test)]
+mod line_edits;
 #[cfg(test)]
 mod line_rows;
 #[cfg(test)]

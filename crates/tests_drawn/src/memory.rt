@@ -5,7 +5,7 @@
 //! second, and so on.
 
 use crate::misfits::error_at;
-use drawn_faults::{Picture, draw};
+use drawn_faults::{Diagnostic, Edit, Level, Picture, SourceHelp, draw, draw_labels};
 use rustc_parse_format::{ParseError, ParseMode};
 use std::alloc::Global;
 use std::io::Print;
@@ -49,5 +49,55 @@ fn drawing_out_of_memory_is_made_again(rt: HostRuntime) -> Result<(), Fail> {
     let wanted = "error: invalid format string: d\n --> a.rs:7:1\n  |\n\
         7 | 日a\n  | ^^- s\n  | |\n  | l in format string\n\n";
     assert!(rt; drawing.as_str() == wanted);
+    Ok(())
+}
+
+/// A drawing of a help, made once more where an allocation fails.
+fn help_again(
+    rt: &(impl Abort + Print),
+    alloc: Global,
+    picture: &Picture<'_>,
+    diagnostic: &Diagnostic<'_>,
+) -> Result<String, Fail> {
+    if let Ok(drawing) = draw_labels(alloc, picture, diagnostic) {
+        return Ok(drawing);
+    }
+    println!(rt; "refused")?;
+    Ok(draw_labels(alloc, picture, diagnostic)?)
+}
+
+#[test]
+fn help_out_of_memory_is_made_again(rt: HostRuntime) -> Result<(), Fail> {
+    let picture = Picture {
+        path: "a.rs",
+        source: "fn f() { let _ = format!(\"{a.b}\n\"); }\n",
+        line_start: 1,
+        literal_start: 0,
+        colours: false,
+    };
+    let edits = [
+        Edit {
+            span: 27..30,
+            text: "0",
+        },
+        Edit {
+            span: 33..33,
+            text: ", a.b",
+        },
+    ];
+    let helps = [SourceHelp {
+        text: "h",
+        edits: &edits,
+    }];
+    let diagnostic = Diagnostic {
+        level: Level::Error,
+        title: "t",
+        labels: &[],
+        notes: &[],
+        helps: &helps,
+    };
+    let drawing = help_again(&rt, rt.alloc(), &picture, &diagnostic)?;
+    let wanted = "\n  |\n1 ~ fn f() { let _ = format!(\"{0}\n2 ~ \", a.b); }\n  |\n\n";
+    assert!(rt; drawing.as_str().ends_with(wanted));
     Ok(())
 }

@@ -3,7 +3,7 @@ use denote.Text.{Utf8}
 use denote.Shadow.{shadow}
 use Rattle.drawn_faults.proofs.glyphs.behind_chars.Given as goal
 
--- What is left behind the characters that are still to pass is the result.
+-- What is left after the characters that are still to pass is the result.
 abbrev pub invariant-loop-left : goal.invariant-loop-left
 invariant-loop-left l = record {
   is_text : shadow (Utf8 l.rest);

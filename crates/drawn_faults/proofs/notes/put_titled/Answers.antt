@@ -4,7 +4,7 @@ use Rattle.drawn_faults.specs.Drawing.{arrow}
 use Rattle.drawn_faults.specs.Glyphs.{glyph_bytes}
 use Rattle.drawn_faults.specs.Labels.{seen_frame, seen_label}
 use Rattle.drawn_faults.specs.Painting.{closing, opening, painted}
-use Rattle.drawn_faults.specs.Suggestions.{parting}
+use Rattle.drawn_faults.specs.Lines.{parting}
 use Rattle.drawn_faults.specs.declared.paint.Style.TheVariants.{Bold, Primary}
 use Rattle.drawn_faults.proofs.Joining.{join6, some-painted}
 use Rattle.drawn_faults.proofs.notes.put_titled.Goals as goal

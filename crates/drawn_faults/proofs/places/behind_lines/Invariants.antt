@@ -4,7 +4,7 @@ use denote.Shadow.{shadow}
 use Rattle.drawn_faults.specs.Places.{behind_lines}
 use Rattle.drawn_faults.proofs.places.behind_lines.Given as goal
 
--- What is left behind the lines that are still to pass is what is meant.
+-- What is left after the lines that are still to pass is what is meant.
 abbrev pub invariant-loop-left : goal.invariant-loop-left
 invariant-loop-left l = record {
   is_text : shadow (Utf8 l.rest);

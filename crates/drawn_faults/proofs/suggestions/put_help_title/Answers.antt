@@ -1,6 +1,6 @@
 use Rattle.std.proofs.Common.{◌++◌, ◌∙◌, ap, append_assoc, codes, string_bytes}
 use Rattle.drawn_faults.specs.Glyphs.{glyph_bytes}
-use Rattle.drawn_faults.specs.Suggestions.{help_word}
+use Rattle.drawn_faults.specs.Helps.{help_word}
 use Rattle.drawn_faults.proofs.suggestions.put_help_title.Goals as goal
 
 pub returns : goal.returns

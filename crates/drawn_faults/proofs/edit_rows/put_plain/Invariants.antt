@@ -1,0 +1,11 @@
+use Rattle.std.proofs.Common.{◌≡◌, ◌++◌, drop, map, string_bytes}
+use Rattle.drawn_faults.specs.Edited.{seen_part}
+use Rattle.drawn_faults.specs.Helps.{drawn}
+use Rattle.drawn_faults.specs.Painting.{plain_text}
+use Rattle.drawn_faults.proofs.edit_rows.put_plain.Given as goal
+
+-- What is added, and then what is left, is all.
+abbrev pub invariant-loop-part : goal.invariant-loop-part
+invariant-loop-part l = string_bytes l.out
+    ++ plain_text (drawn (map seen_part (drop l.part-index l.parts)))
+    ≡ string_bytes l.fn.out ++ plain_text (drawn (map seen_part l.parts))

@@ -1,0 +1,14 @@
+use Rattle.std.proofs.Common.{◌≡◌, ◌++◌, drop, map}
+use denote.Text.{Utf8}
+use denote.Shadow.{shadow}
+use Rattle.drawn_faults.specs.Edited.{parts, seen_part}
+use Rattle.drawn_faults.specs.Labels.{seen_edit}
+use Rattle.drawn_faults.proofs.edited.parts_of.Given as goal
+
+-- The parts so far, and then those of what is left, are all.
+abbrev pub invariant-loop-edit : goal.invariant-loop-edit
+invariant-loop-edit l = record {
+  is_text : shadow (Utf8 l.rest);
+  same : map seen_part l.list.items ++ parts l.at (map seen_edit (drop l.edit-index l.edits)) l.rest
+      ≡ parts l.start (map seen_edit l.edits) l.text;
+}
