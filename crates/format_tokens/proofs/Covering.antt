@@ -18,7 +18,7 @@ use Rattle.rustc_parse_format.proofs.Spans.PlaceOrder.{length-content_places}
 use Rattle.rustc_parse_format.proofs.Spans.ReadBack.{start-number}
 use Rattle.rustc_parse_format.proofs.Spans.Units.{content-ordered, start, start-after, stop}
 use Rattle.rustc_parse_format.proofs.Spans.Units.{stop-start}
-use Rattle.rustc_parse_format.proofs.Spans.Worlds.{has_source-is, known, unit_world}
+use Rattle.rustc_parse_format.proofs.Spans.Worlds.{known, unit_world}
 use Rattle.format_tokens.specs.Covers.{IsCover, ranges_of}
 use Rattle.format_tokens.specs.declared.kinds.Kind.{Kind}
 use Rattle.format_tokens.specs.declared.kinds.Kind.TheVariants.{Quote}
@@ -103,7 +103,7 @@ some-also : (k : Kind) (u : Text) (ls : List Label) → AreSome ls → AreSome (
 some-also k [] ls h = h
 some-also k (c ∷ u) ls h = (omega arith, h)
 
-within-some : (n : ℕ) (ls : List Label) → AreSome (within n ls)
+pub within-some : (n : ℕ) (ls : List Label) → AreSome (within n ls)
 within-some n [] = tt
 within-some n (l ∷ ls) = some-also l.0 (take n l.1) _ (within-some (n - length l.1) ls)
 
@@ -148,8 +148,7 @@ pub source-tokens : (mode : Mode) (input : Text) (style : Option ℕ) (source : 
     ∷ (placed w (length input) (shown mode input b) ++ (Quote, (w.end, byte_length source)) ∷ []))
 unfolding tokens
 source-tokens mode input style source b h =
-    cond-true _ _ _ (has_source-is input style (Some source) b
-    ∙ found-source input style source b h)
+    cond-true _ _ _ (found-source input style source b h)
 
 pub tokens-cover : (mode : Mode) (input : Text) (style : Option ℕ) (source : Text) (b : Bool)
     → IsSource input style source b

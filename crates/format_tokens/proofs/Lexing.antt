@@ -1,31 +1,34 @@
 -- The tokens that are placed are those of the definition.
 use Rattle.std.proofs.Common.{◌≡◌, ℕ, suc, zero, ◌++◌, ◌-◌, ◌≤◌, ◌<◌, Bool, true, false}
 use Rattle.std.proofs.Common.{List, [], ◌∷◌, length, map, take, get_or, refl, sym, ap, ◌∙◌, arith}
-use Rattle.std.proofs.Common.{Option, Some, None}
+use Rattle.std.proofs.Common.{Option, Some, length-append}
 use Rattle.std.specs.Prelude.{min}
 use Rattle.std.specs.Int.{from_bool}
-use Rattle.std.proofs.lemmas.Bool.{cond-true, cond-false, false_from_ne_true}
+use Rattle.std.proofs.lemmas.Bool.{cond-true}
 use Rattle.std.proofs.lemmas.List.{length-map, length-take, map-append}
 use Rattle.std.proofs.Math.Seq.{get_or-append_seam}
 use Rattle.rustc_parse_format.specs.Characters.{Text, byte_length}
-use Rattle.rustc_parse_format.specs.Literal.{IsSource}
+use Rattle.rustc_parse_format.specs.Literal.{IsSource, content_value, newline}
 use Rattle.rustc_parse_format.specs.Marks.{Start}
 use Rattle.rustc_parse_format.specs.Source.{HasSource, unappended}
 use Rattle.rustc_parse_format.specs.Types.{Mode}
-use Rattle.rustc_parse_format.specs.World.{Place, World, number_of, world}
-use Rattle.rustc_parse_format.proofs.Sources.Decided.{found-source, has_source}
-use Rattle.rustc_parse_format.proofs.Spans.Worlds.{has_source-is}
+use Rattle.rustc_parse_format.specs.World.{Place, World, content_places, last_stop, newline_places}
+use Rattle.rustc_parse_format.specs.World.{number_of, plain_world, quote_offset, world}
+use Rattle.rustc_parse_format.proofs.Sources.Decided.{found-source}
+use Rattle.rustc_parse_format.proofs.Sources.PlainPlaces.{length-plain_places}
+use Rattle.rustc_parse_format.proofs.Spans.PlaceOrder.{length-content_places, length-newline}
+use Rattle.rustc_parse_format.proofs.Spans.Worlds.{known}
 use Rattle.format_tokens.specs.declared.kinds.Kind.{Kind}
 use Rattle.format_tokens.specs.declared.kinds.Kind.TheVariants.{Quote}
 use Rattle.format_tokens.specs.declared.kinds.Token.{Token}
 use Rattle.format_tokens.specs.Seen.{seen_token}
 use Rattle.format_tokens.specs.Midway.{sized}
-use Rattle.format_tokens.specs.Placed.{Placed, placed, quoted, shown, tokens, within}
+use Rattle.format_tokens.specs.Placed.{Placed, placed, shown, tokens, within}
 use Rattle.format_tokens.specs.Starts.{placed_sizes, starts_of}
 use Rattle.format_tokens.specs.Tokens.{Label, token}
 use Rattle.format_tokens.specs.Walk.{tokens_of}
 use Rattle.format_tokens.proofs.Starts.{firsts, length-starts, placed-none, placed-some, starts-at}
-use Rattle.format_tokens.proofs.Worlds.{length-places}
+use Rattle.format_tokens.proofs.InText.{placed-shown, text-tokens}
 
 -- A token is placed if it has characters.
 token-placed : (w : World) (n j : ℕ) (k : Kind) (u : Text) (ls : List Label) → length u ≡ j
@@ -66,48 +69,48 @@ pub kept-is : (b : Bool) (t : Text) → length t - from_bool b ≡ length (unapp
 kept-is true t = omega (arith, length-take (length t - 1) t)
 kept-is false t = omega arith
 
-pub kept-small : (input : Text) (style : Option ℕ) (snippet : Option Text) (b : Bool)
-    (starts : List ℕ) (kept : ℕ) → starts ≡ starts_of (world input style snippet b)
-    → kept ≤ length input → kept < length starts
-kept-small input style snippet b starts kept e h =
+-- There are as many places as characters.
+pub literal-places : (input : Text) (style : Option ℕ) (literal : Text) (b : Bool)
+    → IsSource input style literal b
+    → length (world input style (Some literal) b).places ≡ length input
+literal-places input style literal b source =
+    let k = known input style literal b source in
+    let q = quote_offset style in
     omega (
       arith,
-      ap length e,
-      length-starts (world input style snippet b),
-      length-places input style snippet b,
+      ap (λ (w : World). length w.places) k.world_is,
+      length-append (content_places q k.units)
+          (newline_places (last_stop q (content_places q k.units)) b),
+      length-content_places q k.units,
+      length-newline (last_stop q (content_places q k.units)) b,
+      ap length k.whole,
+      length-append (content_value k.units) (newline b),
     )
 
--- The tokens of the text.
-text-tokens : (mode : Mode) (input : Text) (style : Option ℕ) (snippet : Option Text) (b : Bool)
-    (kept : ℕ) → kept ≡ length (unappended b input)
-    → (let w = world input style snippet b in
-    placed_sizes w (length w.places) kept (map sized (tokens_of mode input))
-    ≡ placed w (length input) (shown mode input b))
-text-tokens mode input style snippet b kept e =
-    let w = world input style snippet b in
-    sizes-placed w (length w.places) kept (tokens_of mode input)
-    ∙ (ap (λ n. placed w n (within kept (tokens_of mode input)))
-    (length-places input style snippet b)
-    ∙ ap (λ k. placed w (length input) (within k (tokens_of mode input))) e)
+pub kept-small : (w : World) (n kept : ℕ) (starts : List ℕ) → starts ≡ starts_of w
+    → length w.places ≡ n → kept ≤ n → kept < length starts
+kept-small w n kept starts e f h = omega (arith, ap length e, length-starts w, f)
 
-pub unquoted : (input : Text) (style : Option ℕ) (snippet : Option Text) (b : Bool)
-    (ts : List Placed) → (HasSource input style snippet b → ⊥)
-    → quoted (world input style snippet b) input snippet ts ≡ ts
-unquoted input style None b ts none = refl
-unquoted input style (Some snippet) b ts none =
-    cond-false _ _ _ (has_source-is input style (Some snippet) b
-    ∙ false_from_ne_true _ (λ h. none ((has_source input style (Some snippet) b).0 h)))
+-- The tokens of the text.
+shown-tokens : (w : World) (mode : Mode) (input : Text) (b : Bool) (kept : ℕ)
+    → length w.places ≡ length input → kept ≡ length (unappended b input)
+    → placed_sizes w (length w.places) kept (map sized (tokens_of mode input))
+    ≡ placed w (length input) (shown mode input b)
+shown-tokens w mode input b kept n e =
+    sizes-placed w (length w.places) kept (tokens_of mode input)
+    ∙ (ap (λ n. placed w n (within kept (tokens_of mode input))) n
+    ∙ ap (λ k. placed w (length input) (within k (tokens_of mode input))) e)
 
 pub plain-tokens : (mode : Mode) (input : Text) (style : Option ℕ) (snippet : Option Text)
     (b : Bool) (kept : ℕ) (all : List Placed) → kept ≡ length (unappended b input)
     → (HasSource input style snippet b → ⊥)
-    → (let w = world input style snippet b in
+    → (let w = plain_world false 0 input (byte_length input) in
     all ≡ placed_sizes w (length w.places) kept (map sized (tokens_of mode input)))
     → all ≡ tokens mode input style snippet b
-unfolding tokens
 plain-tokens mode input style snippet b kept all e none h =
-    h ∙ (text-tokens mode input style snippet b kept e
-    ∙ sym (unquoted input style snippet b _ none))
+    h ∙ (shown-tokens (plain_world false 0 input (byte_length input)) mode input b kept
+    (length-plain_places 0 input) e
+    ∙ (placed-shown mode input b ∙ sym (text-tokens mode input style snippet b none)))
 
 starts-last : (w : World) → get_or (starts_of w) (length w.places) 0 ≡ w.end
 starts-last w =
@@ -131,17 +134,16 @@ pub quoted-tokens : (mode : Mode) (input : Text) (style : Option ℕ) (literal :
 unfolding tokens
 quoted-tokens mode input style literal b kept n starts all e source f g h =
     let w = world input style (Some literal) b in
-    let places = length-places input style (Some literal) b in
+    let places = literal-places input style literal b source in
     let first : get_or starts 0 0 ≡ number_of w (Start (length input)) =
     ap (λ l. get_or l 0 0) f ∙ (starts-at w 0 (omega arith)
     ∙ ap (λ k. number_of w (Start k)) (omega (arith, places))) in
     let last : get_or starts (length starts - 1) 0 ≡ w.end =
     ap (λ l. get_or l (length l - 1) 0) f
     ∙ (ap (λ k. get_or (starts_of w) k 0) (omega (arith, length-starts w)) ∙ starts-last w) in
-    let yes : w.has_source ≡ true = has_source-is input style (Some literal) b
-    ∙ found-source input style literal b source in
+    let yes = found-source input style literal b source in
     h ∙ (around _ _ _ _ _ _ _ _ first last g
-    (text-tokens mode input style (Some literal) b kept e) ∙ sym (cond-true _ _ _ yes))
+    (shown-tokens w mode input b kept places e) ∙ sym (cond-true _ _ _ yes))
 
 -- The lists that a token before and a token after the others make.
 pub assembled : (none one two all : List Token) (a b : Token) (x : List Placed) → none ≡ []

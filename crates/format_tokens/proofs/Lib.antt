@@ -1,6 +1,7 @@
 pub mod Calls
 pub mod Counts
 pub mod Covering
+pub mod InText
 pub mod Joining
 pub mod Lexing
 pub mod Ordinary
@@ -11,5 +12,4 @@ pub mod Specifications
 pub mod Starts
 pub mod Taking
 pub mod Widths
-pub mod Worlds
 pub mod Writing

@@ -25,7 +25,7 @@ use Rattle.format_tokens.specs.Tokens.{Label, joined}
 use Rattle.format_tokens.proofs.Covering.{source-length, source-tokens, start-end}
 use Rattle.format_tokens.proofs.Covering.{tokens-cover}
 use Rattle.format_tokens.proofs.Joining.{shown-joined}
-use Rattle.format_tokens.proofs.Lexing.{unquoted}
+use Rattle.format_tokens.proofs.InText.{text-kinds, text-tokens}
 
 -- What is between the first characters and the last ones.
 middle : (d u r : Text) → drop (length d) (take (length d + length u) (d ++ (u ++ r))) ≡ u
@@ -144,10 +144,6 @@ kinds-read : (input : Text) (style : Option ℕ) (source : Text) (b : Bool) (ts 
 kinds-read input style source b [] = refl
 kinds-read input style source b (t ∷ ts) = ap (λ ks. t.0 ∷ ks) (kinds-read input style source b ts)
 
-placed-kinds : (w : World) (n : ℕ) (ls : List Label) → kinds_of (placed w n ls) ≡ kinds_of ls
-placed-kinds w n [] = refl
-placed-kinds w n (l ∷ ls) = ap (λ ks. l.0 ∷ ks) (placed-kinds w (n - length l.1) ls)
-
 pub source-kinds : (mode : Mode) (input : Text) (style : Option ℕ) (snippet : Option Text)
     (b : Bool) → HasSource input style snippet b
     → kinds_of (tokens mode input style snippet b) ≡ kinds_of (in_quotes (shown mode input b))
@@ -159,10 +155,9 @@ source-kinds mode input style (Some source) b h =
 pub foreign-kinds : (mode : Mode) (input : Text) (style : Option ℕ) (snippet : Option Text)
     (b : Bool) → (HasSource input style snippet b → ⊥)
     → kinds_of (tokens mode input style snippet b) ≡ kinds_of (shown mode input b)
-unfolding tokens
 foreign-kinds mode input style snippet b none =
-    ap kinds_of (unquoted input style snippet b _ none)
-    ∙ placed-kinds (world input style snippet b) (length input) (shown mode input b)
+    ap kinds_of (text-tokens mode input style snippet b none)
+    ∙ text-kinds 0 (shown mode input b)
 
 -- The same of a list that is known to be these tokens.
 pub worlds-of : (mode : Mode) (input : Text) (style : Option ℕ) (snippet : Option Text) (b : Bool)

@@ -90,9 +90,9 @@ same_sizes : (w : World) (ss : List Sized) (a b c d : ℕ) → a ≡ b → c ≡
     → placed_sizes w a c ss ≡ placed_sizes w b d ss
 same_sizes w ss a b c d e f = rw (e, f) refl
 
-same_token : (w : World) (k : Kind) (a b x y : ℕ) (l m : List Placed) → a ≡ x → b ≡ y → l ≡ m
+pub same_token : (k : Kind) (a b x y : ℕ) (l m : List Placed) → a ≡ x → b ≡ y → l ≡ m
     → (k, (a, b)) ∷ l ≡ (k, (x, y)) ∷ m
-same_token w k a b x y l m e f g = cc
+same_token k a b x y l m e f g = cc
 
 -- One step of the loop that places tokens: with the tokens of a label, the others follow.
 pub place-some : (w : World) (starts : List ℕ) (at kept m : ℕ) (s : Sized) (ss : List Sized)
@@ -112,7 +112,7 @@ place-some w starts at kept m s ss done whole e h small f some g =
     let stop : get_or starts (at + m) 0 ≡ number_of w (Start ((n - at) - j)) =
     ap (λ l. get_or l (at + m) 0) e ∙ (starts-at w (at + m) (omega (arith, room, f))
     ∙ ap (λ i. number_of w (Start i)) left) in
-    let same = same_token w s.0 _ _ _ _ _ _ start stop (same_sizes w ss _ _ _ _ left more) in
+    let same = same_token s.0 _ _ _ _ _ _ start stop (same_sizes w ss _ _ _ _ left more) in
     append_assoc done ((s.0, (get_or starts at 0, get_or starts (at + m) 0)) ∷ [])
     (placed_sizes w (n - (at + m)) (kept - (at + m)) ss)
     ∙ (ap (λ l. done ++ l) (same ∙ sym (placed-some w (n - at) (kept - at) s ss

@@ -1,5 +1,7 @@
--- The byte ranges of tokens in a source literal: they cover it, and each reads back.
+-- The byte ranges of tokens: they cover the source literal, or the text if there is none, and each
+-- reads back.
 use Rattle.std.specs.Prelude.{◌≡◌, ℕ, ◌<◌, ◌++◌, Bool, List, [], ◌∷◌, map, Option}
+use Rattle.std.specs.Prelude.{encode_utf8_all, slice_range}
 use Rattle.rustc_parse_format.specs.Characters.{Text}
 use Rattle.rustc_parse_format.specs.ReadBack.{inside, source_units}
 use Rattle.rustc_parse_format.specs.World.{Place, quote_offset}
@@ -31,3 +33,11 @@ read_back input style source appended ts = map (λ (t : Placed).
 -- The tokens of a text in those of the quotes around it, which stand for no text.
 abbrev pub in_quotes : List Label → List Label
 in_quotes ls = (Quote, []) ∷ (ls ++ (Quote, []) ∷ [])
+
+-- The tokens with the bytes of a text in their byte ranges.
+abbrev pub slices : List ℕ → List Placed → List (Kind × List ℕ)
+slices bytes ts = map (λ (t : Placed). (t.0, slice_range bytes t.1.0 t.1.1)) ts
+
+-- The tokens with their characters in UTF-8.
+abbrev pub encoded : List Label → List (Kind × List ℕ)
+encoded ls = map (λ (l : Label). (l.0, encode_utf8_all l.1)) ls

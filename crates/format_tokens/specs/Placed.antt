@@ -1,11 +1,11 @@
--- The tokens of an input with their byte ranges in the source.
-use Rattle.std.specs.Prelude.{ℕ, ◌-◌, ◌++◌, Bool, if◌then◌else◌, List, [], ◌∷◌, length, take}
+-- The tokens of an input with their byte ranges.
+use Rattle.std.specs.Prelude.{ℕ, ◌+◌, ◌-◌, ◌++◌, Bool, if◌then◌else◌, List, [], ◌∷◌, length, take}
 use Rattle.std.specs.Prelude.{Option}
 use Rattle.std.specs.Prelude.{Some, None}
 use Rattle.rustc_parse_format.specs.Characters.{Text, byte_length}
 use Rattle.rustc_parse_format.specs.Marks.{Start}
 use Rattle.rustc_parse_format.specs.Types.{Mode}
-use Rattle.rustc_parse_format.specs.Source.{unappended}
+use Rattle.rustc_parse_format.specs.Source.{is_source, unappended}
 use Rattle.rustc_parse_format.specs.World.{World, Place, number_of, place_of, world}
 use Rattle.format_tokens.specs.declared.kinds.Kind.{Kind}
 use Rattle.format_tokens.specs.declared.kinds.Kind.TheVariants.{Quote}
@@ -34,18 +34,25 @@ placed w n (l ∷ ls) =
     (l.0, place_of w (record { from = Start n; to = Start (n - length l.1) }))
     ∷ placed w (n - length l.1) ls
 
--- With a source literal, two tokens around the text: one from the first byte of the literal to the
--- start of the first character, and one from the end of the text to the last byte.
-abbrev pub quoted : World → Text → Option Text → List Placed → List Placed
-quoted w input None ts = ts
-quoted w input (Some snippet) ts =
-    if w.has_source
-    then (Quote, (0, number_of w (Start (length input))))
-    ∷ (ts ++ (Quote, (w.end, byte_length snippet)) ∷ [])
-    else ts
+-- The tokens of a text that starts at the byte `at`, with their byte ranges.
+abbrev pub in_text : ℕ → List Label → List Placed
+in_text at [] = []
+in_text at (l ∷ ls) =
+    (l.0, (at, at + byte_length l.1)) ∷ in_text (at + byte_length l.1) ls
 
--- The tokens of an input in its source.
+-- The tokens of a text of n characters with their byte ranges in its source literal, between two
+-- tokens around the text: one from the first byte of the literal to the start of the first
+-- character, and one from the end of the text to the last byte.
+abbrev pub in_literal : World → ℕ → Text → List Label → List Placed
+in_literal w n literal ls = (Quote, (0, number_of w (Start n)))
+    ∷ (placed w n ls ++ (Quote, (w.end, byte_length literal)) ∷ [])
+
+-- The tokens of an input in its source literal, or in the input if the snippet is no source literal
+-- of it.
 unfoldable pub tokens : Mode → Text → Option ℕ → Option Text → Bool → List Placed
-tokens mode input style snippet appended =
-    let w = world input style snippet appended in
-    quoted w input snippet (placed w (length input) (shown mode input appended))
+tokens mode input style None appended = in_text 0 (shown mode input appended)
+tokens mode input style (Some snippet) appended =
+    if is_source input style (Some snippet) appended
+    then in_literal (world input style (Some snippet) appended) (length input) snippet
+    (shown mode input appended)
+    else in_text 0 (shown mode input appended)

@@ -70,10 +70,27 @@ fn a_newline_after_text(rt: HostRuntime) -> Result<(), Fail> {
 
 #[test]
 fn a_snippet_that_is_not_the_literal(rt: HostRuntime) -> Result<(), Fail> {
-    // no quotes, and the text ends where the snippet does
-    let row = [(Open, 1), (Identifier, 2), (Close, 3)];
+    // no quotes, and the ranges are those of the input
+    let row = [(Open, 0), (Identifier, 1), (Close, 2)];
     let found = tokens_of(&rt, rt.alloc(), "{a}", None, "stringify!({a})", false)?;
-    check(&rt, found.as_slice(), &row, 15);
+    check(&rt, found.as_slice(), &row, 3);
+    Ok(())
+}
+
+#[test]
+fn an_appended_newline_without_the_literal(rt: HostRuntime) -> Result<(), Fail> {
+    // the first character has two bytes
+    let row = [(Text, 0), (Open, 2), (Close, 3)];
+    let found = tokens_of(&rt, rt.alloc(), "é{}\n", Some(1), "concat!(\"é{}\")", true)?;
+    check(&rt, found.as_slice(), &row, 4);
+    Ok(())
+}
+
+#[test]
+fn no_snippet_of_a_raw_literal(rt: HostRuntime) -> Result<(), Fail> {
+    let row = [(Text, 0), (Open, 1), (Close, 2)];
+    let found = tokens(rt.alloc(), "a{}", Some(2), None, false, ParseMode::Format)?;
+    check(&rt, found.as_slice(), &row, 3);
     Ok(())
 }
 
@@ -94,11 +111,12 @@ fn a_mebibyte(rt: HostRuntime) -> Result<(), Fail> {
     )?;
     assert!(rt; found.len() == input.len());
     let kinds = [Open, Identifier, Colon, Align, Integer, Close, Text];
-    let mut at = 1;
+    let mut at = 0;
     for (i, token) in found.iter().enumerate() {
         assert!(rt; token.kind == kinds[i % 7]);
         assert!(rt; token.span.start == at);
         at = token.span.end;
     }
+    assert!(rt; at == input.len());
     Ok(())
 }

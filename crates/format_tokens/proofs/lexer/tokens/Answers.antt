@@ -2,6 +2,7 @@ use Rattle.std.proofs.Common.{◌≡◌, ◌∙◌, ap, chars, refl, Some}
 use Rattle.rustc_parse_format.specs.Seen.{seen_mode, seen_snippet}
 use Rattle.format_tokens.specs.Placed.{tokens}
 use Rattle.format_tokens.specs.Seen.{seen_text}
+use Rattle.format_tokens.proofs.InText.{text-of}
 use Rattle.format_tokens.proofs.ReadingBack.{cover-of, reads_back-of, worlds-of}
 use Rattle.format_tokens.proofs.lexer.tokens.Goals as goal
 use Rattle.format_tokens.proofs.lexer.tokens.Goals.{in-None, in-Some}
@@ -29,3 +30,7 @@ returns-clause-cover c =
 pub returns-clause-reads_back : goal.returns-clause-reads_back
 returns-clause-reads_back c =
     reads_back-of _ _ _ _ _ _ (returns-clause-tokens c)
+
+pub returns-clause-in_text : goal.returns-clause-in_text
+returns-clause-in_text c =
+    text-of _ _ _ _ _ _ c.utf8.input (returns-clause-tokens c)
