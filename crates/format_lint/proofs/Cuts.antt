@@ -1,4 +1,4 @@
--- A text is cut behind the characters that end within a number of bytes.
+-- A text is cut after the characters that end within a number of bytes.
 use Rattle.std.proofs.Common.{◌≡◌, ℕ, ◌+◌, ◌-◌, ◌<◌, ◌≤◌, ◌++◌, true, false, List, [], ◌∷◌, length}
 use Rattle.std.proofs.Common.{chars, drop, take, refl, sym, ap, ◌∙◌, arith, IsUtf8, IsCharBoundary}
 use Rattle.std.proofs.Common.{nat_lt}
@@ -15,7 +15,7 @@ use Rattle.rustc_parse_format.proofs.Sources.PlainPlaces.{width_chars}
 use Rattle.drawn_faults.specs.Places.{within}
 use Rattle.format_lint.specs.Colours.{behind}
 
--- If no character of v ends within w bytes behind u, the characters of u are those within w bytes.
+-- If no character of v ends within w bytes after u, the characters of u are those within w bytes.
 within-append : (w : ℕ) (u v : Text) → byte_length u ≤ w
     → ((c : ℕ) (t : Text) → v ≡ c ∷ t → w < byte_length u + len_utf8 c) → within w (u ++ v) ≡ u
 within-append w [] [] h k = refl
@@ -39,7 +39,7 @@ pub record IsFloor (w : ℕ) (text : List ℕ) (n : ℕ) : Type 0 where
   pub boundary : IsCharBoundary text n
   pub nearest : (i : ℕ) → n < i → i ≤ w → IsCharBoundary text i → ⊥
 
--- The character behind that place does not end within w bytes.
+-- The character after that place does not end within w bytes.
 far : (w : ℕ) (text : List ℕ) (n c : ℕ) (t : Text) → IsUtf8 text → IsFloor w text n
     → chars (drop n text) ≡ c ∷ t → w < n + len_utf8 c
 far w text n c t u f e =
@@ -49,7 +49,7 @@ far w text n c t u f e =
     let past = IsCharBoundary-past_char text (encodes t) n c f.boundary.0 back bytes in
     lt_of_not-le (λ h. f.nearest (n + len_utf8 c) (omega (arith, len_utf8_bounds c)) h past)
 
--- What is before that place and what is behind it.
+-- What is before that place and what is after it.
 pub record AreCut (w : ℕ) (text u v : List ℕ) : Type 0 where
   pub front : chars u ≡ within w (chars text)
   pub back : chars v ≡ behind w (chars text)

@@ -1,8 +1,7 @@
 -- The faults of all calls, where after each call only the first are kept and the others counted.
-use Rattle.std.proofs.Common.{◌≡◌, ◌≢◌, ℕ, suc, zero, ◌+◌, ◌≤◌, ◌<◌, ◌++◌, false, true, Bool}
+use Rattle.std.proofs.Common.{◌≡◌, ◌≢◌, ℕ, suc, zero, ◌+◌, ◌≤◌, ◌++◌, false, true, Bool}
 use Rattle.std.proofs.Common.{◌∷◌, length, take, refl, sym, ap, ◌∙◌, arith, List, []}
 use Rattle.std.proofs.Common.{append-nil, append_assoc, if◌then◌else◌, length-append, subst}
-use Rattle.std.proofs.lemmas.List.{length-take, take_all}
 use Rattle.rustc_parse_format.specs.Call.{Call, call}
 use Rattle.rustc_parse_format.specs.Characters.{Text, is_nil}
 use Rattle.rustc_parse_format.specs.Faults.{Fault, Message}

@@ -1,6 +1,6 @@
 -- A terminal obeys nothing of what is shown, but for colours and the source as it is written.
 use Rattle.std.proofs.Common.{◌≡◌, ◌++◌, ◌∷◌, ◌-◌, ℕ, Bool, true, false, List, [], None}
-use Rattle.std.proofs.Common.{Option, Some, ap, append_assoc, codes, length, refl, sym, take}
+use Rattle.std.proofs.Common.{Option, Some, ap, append_assoc, codes, length, refl, take}
 use Rattle.std.proofs.Common.{Err, IfOk, Ok, Result, chars, subst}
 use Rattle.std.specs.Char.{is_ascii_digit}
 use Rattle.std.specs.List.{list_all}
@@ -36,7 +36,7 @@ use Rattle.format_tokens.specs.declared.kinds.Kind.TheVariants.{DiagnosticText, 
 use Rattle.format_lint.specs.Colours.{behind, colour, in_colour, kind_name, shown_tokens}
 use Rattle.format_lint.specs.Findings.{Finding, first_error, most_drawn}
 use Rattle.format_lint.specs.Lint.{IsHarmlessFor, IsMended, IsShown, IsSourceIn, Shown, Source}
-use Rattle.format_lint.specs.Lint.{Task, drawn, drawn_finding, findings, lexed, more, picture}
+use Rattle.format_lint.specs.Lint.{Task, drawing_of, drawn_finding, findings, lexed, more, picture}
 use Rattle.format_lint.specs.Lint.{shown_error, start, tokens_in, written}
 use Rattle.format_lint.proofs.OneAnswer.{ShownAs}
 use Rattle.format_lint.specs.declared.task.Show.{Show}
@@ -89,7 +89,7 @@ of_error : (mode : Mode) (p : Picture) (e : Option (Message Place))
 of_error mode p None = plain_with p.colours (text [] refl)
 of_error mode p (Some m) = drawing-harmless mode p m
 
-of_drawn : (all : Bool) (a : Task) (s : Source) → IsHarmlessWith a.colours (drawn all a s).0
+of_drawn : (all : Bool) (a : Task) (s : Source) → IsHarmlessWith a.colours (drawing_of all a s)
 of_drawn true a s =
     let fs = findings a.mode s in
     joined_with a.colours _ _ (of_findings a.mode (picture a s) (take most_drawn fs))
@@ -183,38 +183,33 @@ of_tokens : (b : Bool) (t : Text) (xs : List Placed) → IsHarmlessWith b (shown
 of_tokens true t xs = of_colours t xs
 of_tokens false t xs = of_lines t xs
 
-of_lexed : (a : Task) (s : Source) → IsHarmlessWith a.colours (lexed a s).0
+of_lexed : (a : Task) (s : Source) → IsHarmlessWith a.colours (lexed a s).output
 of_lexed a s =
     joined_with a.colours _ _
-    (of_tokens a.colours (chars (unwrap_or s.literal s.text)) (tokens_in a s))
-    (joined_with a.colours _ _
+    (of_tokens a.colours (chars (unwrap_or s.literal s.text)) (tokens_in a.mode s))
     (plain_with a.colours (either a.colours (text (codes "\n") refl) (text [] refl)))
-    (of_drawn false a s))
 
--- A terminal obeys nothing of what is written in this way, as `IsHarmlessFor` says.
+-- A terminal obeys nothing of an output that is written in this way, as `IsHarmlessOutput` says.
 abbrev HarmlessAs : Task → List ℕ → Show → List ℕ → Type 0
 HarmlessAs a input w t = elim w [
   | ShowFault ↦ IsHarmlessWith a.colours t
   | ShowAll ↦ IsHarmlessWith a.colours t
   | ShowTokens ↦ IsHarmlessWith a.colours t
-  | ShowFix ↦ (s : Source) × (r : Source) × (d : List ℕ) × IsSourceIn a.is_literal input s
-      × IsMended a.mode s r × (t ≡ written r ++ d) × IsHarmlessWith a.colours d
+  | ShowFix ↦ (s : Source) × (r : Source) × IsSourceIn a.is_literal input s
+      × IsMended a.mode s r × (t ≡ written r)
 ]
 
 as-shown : (a : Task) (input : List ℕ) (s : Source) (w : Show) (x : Shown)
-    → IsSourceIn a.is_literal input s → ShownAs a s w x → HarmlessAs a input w x.0
-as-shown a input s ShowFault x i e =
-    subst (λ y. IsHarmlessWith a.colours y.0) (sym e) (of_drawn false a s)
-as-shown a input s ShowAll x i e =
-    subst (λ y. IsHarmlessWith a.colours y.0) (sym e) (of_drawn true a s)
-as-shown a input s ShowTokens x i e =
-    subst (λ y. IsHarmlessWith a.colours y.0) (sym e) (of_lexed a s)
-as-shown a input s ShowFix x i (r, m, e) =
-    (s, r, (drawn false a r).0, i, m, ap (λ (y : Shown). y.0) e, of_drawn false a r)
+    → IsSourceIn a.is_literal input s → ShownAs a s w x
+    → HarmlessAs a input w x.output × IsHarmlessWith a.colours x.error_output
+as-shown a input s ShowFault x i e = rw e (of_drawn false a s, plain_with a.colours (text [] refl))
+as-shown a input s ShowAll x i e = rw e (of_drawn true a s, plain_with a.colours (text [] refl))
+as-shown a input s ShowTokens x i e = rw e (of_lexed a s, of_drawn false a s)
+as-shown a input s ShowFix x i (r, m, e) = rw e ((s, r, i, m, refl), of_drawn false a r)
 
 -- So it is with what is shown of a source of the input.
 pub shown-harmless : (a : Task) (input : List ℕ) (s : Source) (x : Shown)
-    → IsSourceIn a.is_literal input s → IsShown a s x → IsHarmlessFor a input x.0
+    → IsSourceIn a.is_literal input s → IsShown a s x → IsHarmlessFor a input x
 shown-harmless a input s x i h = as-shown a input s a.show x i h
 
 -- What holds of a result where something else does.

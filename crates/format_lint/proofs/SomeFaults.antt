@@ -100,7 +100,7 @@ as-long [] (y ∷ b) e = absurd (omega arith)
 as-long (x ∷ a) [] e = absurd (omega arith)
 as-long (x ∷ a) (y ∷ b) e = refl
 
--- A call with faults decides, and behind one without no placeholder waits.
+-- A call with faults decides, and after one without no placeholder waits.
 within-some : (w : World) (n : ℕ) (mode : Mode) (c : ℕ) (t : Text)
     → nat_lt 0 (mistakes (findings_within w n mode false c t))
     ≡ some (faults_in w (faults_within n mode c t))

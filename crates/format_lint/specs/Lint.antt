@@ -136,41 +136,53 @@ abbrev pub first_drawing : Mode → Picture → List Finding → List ℕ
 first_drawing mode p [] = []
 first_drawing mode p (f ∷ fs) = drawing mode p (message f.fault)
 
--- The output, and the number of mistakes that are left.
-abbrev pub Shown : Type 0
-Shown = List ℕ × ℕ
+-- What a task shows: the output, the error output, and the number of mistakes that are left.
+pub record Shown : Type 0 where
+  pub output : List ℕ
+  pub error_output : List ℕ
+  pub mistakes : ℕ
 
--- The drawing of a source, of the error that the compiler shows or of all faults, and the number of
--- its mistakes.
+-- The drawing of a source, of the error that the compiler shows or of all faults.
+abbrev pub drawing_of : Bool → Task → Source → List ℕ
+drawing_of all a s =
+    if all then drawings a.mode (picture a s) (findings a.mode s)
+    else shown_error a.mode (picture a s) (first_error (start a.mode s))
+
+-- The drawing of a source is the output.
 abbrev pub drawn : Bool → Task → Source → Shown
-drawn all a s = (
-  if all then drawings a.mode (picture a s) (findings a.mode s)
-      else shown_error a.mode (picture a s) (first_error (start a.mode s)),
-  mistakes (findings a.mode s),
-)
+drawn all a s = record {
+  output = drawing_of all a s;
+  error_output = [];
+  mistakes = mistakes (findings a.mode s);
+}
+
+-- An output, and for the error output the drawing of the error that the compiler shows of a source.
+abbrev pub with_drawing : List ℕ → Task → Source → Shown
+with_drawing u a s = record {
+  output = u;
+  error_output = drawing_of false a s;
+  mistakes = mistakes (findings a.mode s);
+}
 
 -- A source as it is written, and a line end.
 abbrev pub written : Source → List ℕ
 written s = unwrap_or s.literal s.text ++ codes "\n"
 
--- A source is written, and then the error that the compiler shows is drawn.
+-- A source is written, and its error is drawn for the error output.
 abbrev pub kept : Task → Source → Shown
-kept a s = (written s ++ (drawn false a s).0, (drawn false a s).1)
+kept a s = with_drawing (written s) a s
 
--- The tokens of a source. The snippet is the literal, or a text after a line end, which is no
--- literal, so that the last token ends where the text does.
-abbrev pub tokens_in : Task → Source → List Placed
-tokens_in a s =
-    tokens a.mode (chars s.text) s.style (Some (chars (unwrap_or s.literal s.lines))) false
+-- The tokens of a source, in its literal or in a text that is in none.
+abbrev pub tokens_in : Mode → Source → List Placed
+tokens_in mode s =
+    tokens mode (chars s.text) s.style (option_map (λ l. chars l) s.literal) false
 
 -- The tokens of a source are shown, in colours with a line end after them or each in a line, and
--- then the error that the compiler shows.
+-- its error is drawn for the error output.
 abbrev pub lexed : Task → Source → Shown
-lexed a s = (
-  shown_tokens a.colours (chars (unwrap_or s.literal s.text)) (tokens_in a s)
-      ++ ((if a.colours then codes "\n" else []) ++ (drawn false a s).0),
-  (drawn false a s).1,
-)
+lexed a s =
+    let shown = shown_tokens a.colours (chars (unwrap_or s.literal s.text)) (tokens_in a.mode s) in
+    with_drawing (shown ++ (if a.colours then codes "\n" else [])) a s
 
 -- The literal of a source with the edits that its faults suggest. If there are none, it stays as it
 -- is.
@@ -187,7 +199,7 @@ IsMended mode s r = elim s.literal [
   | Some l ↦ IsMendedIn mode s l r
 ]
 
--- The output that a task shows of a source.
+-- What a task shows of a source.
 abbrev pub IsShown : Task → Source → Shown → Type 0
 IsShown a s x = elim a.show [
   | ShowFault ↦ x ≡ drawn false a s
@@ -196,18 +208,23 @@ IsShown a s x = elim a.show [
   | ShowFix ↦ (r : Source) × IsMended a.mode s r × (x ≡ kept a r)
 ]
 
--- A terminal obeys nothing of the output for a task, but for colours if the task has them, and the
+-- A terminal obeys nothing of this output for a task, but for colours if the task has them, and a
 -- source with its edits, which is the input's own text and is to be read again as it is.
-abbrev pub IsHarmlessFor : Task → List ℕ → List ℕ → Type 0
-IsHarmlessFor a input t = elim a.show [
+abbrev pub IsHarmlessOutput : Task → List ℕ → List ℕ → Type 0
+IsHarmlessOutput a input t = elim a.show [
   | ShowFault ↦ IsHarmlessWith a.colours t
   | ShowAll ↦ IsHarmlessWith a.colours t
   | ShowTokens ↦ IsHarmlessWith a.colours t
-  | ShowFix ↦ (s : Source) × (r : Source) × (d : List ℕ) × IsSourceIn a.is_literal input s
-      × IsMended a.mode s r × (t ≡ written r ++ d) × IsHarmlessWith a.colours d
+  | ShowFix ↦ (s : Source) × (r : Source) × IsSourceIn a.is_literal input s
+      × IsMended a.mode s r × (t ≡ written r)
 ]
 
--- The answer to a task with this input: the output, or the reason why nothing is written.
+-- It obeys nothing of either output.
+abbrev pub IsHarmlessFor : Task → List ℕ → Shown → Type 0
+IsHarmlessFor a input x =
+    IsHarmlessOutput a input x.output × IsHarmlessWith a.colours x.error_output
+
+-- The answer to a task with this input: what is shown, or the reason why nothing is written.
 abbrev pub IsOwed : Task → List ℕ → Result Shown RunFault → Type 0
 IsOwed a input (Ok x) = IsShort input × IsUtf8 input
     × ((s : Source) × IsSourceIn a.is_literal input s × IsShown a s x)

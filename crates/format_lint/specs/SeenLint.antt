@@ -1,13 +1,14 @@
--- A task, a source and faults that are shown, as a contract sees them.
-use Rattle.std.specs.Prelude.{List, map, option_map}
+-- A task, a source, faults that are shown and an output, as a contract sees them.
+use Rattle.std.specs.Prelude.{List, map, option_map, string_bytes}
 use Rattle.rustc_parse_format.specs.Seen.{seen_mode}
 use Rattle.rustc_parse_format.specs.SeenFaults.{seen_fault}
 use Rattle.format_lint.specs.declared.task.Task.{Task as DeclaredTask}
 use Rattle.format_lint.specs.declared.faults.Source.{Source as DeclaredSource}
 use Rattle.format_lint.specs.declared.findings.Finding.{Finding as DeclaredFinding}
 use Rattle.format_lint.specs.declared.findings.Findings.{Findings}
+use Rattle.format_lint.specs.declared.shown.Shown.{Shown as DeclaredShown}
 use Rattle.format_lint.specs.Findings.{AreCounted, Finding}
-use Rattle.format_lint.specs.Lint.{Source, Task}
+use Rattle.format_lint.specs.Lint.{Shown, Source, Task}
 
 -- A task as a contract sees it.
 abbrev pub seen_task : DeclaredTask → Task
@@ -37,3 +38,11 @@ seen_finding f = record { fault = seen_fault f.fault; follows = f.follows }
 -- The first of these faults are kept, and the others and the mistakes are counted.
 abbrev pub Keeps : Findings → List Finding → Type 0
 Keeps f fs = AreCounted (map seen_finding f.first.items) f.others f.mistakes fs
+
+-- What a task shows, as a contract sees it.
+abbrev pub seen_shown : DeclaredShown → Shown
+seen_shown x = record {
+  output = string_bytes x.output;
+  error_output = string_bytes x.error_output;
+  mistakes = x.mistakes;
+}

@@ -1,15 +1,14 @@
 //! A source, its tokens and its faults.
 
-ghost use Rattle.std.specs.Prelude.{◌≡◌, ◌≤◌, [], IfOk, Some, chars, false, map};
+ghost use Rattle.std.specs.Prelude.{◌≡◌, ◌≤◌, [], IfOk, chars, false, map};
 ghost use Rattle.rustc_parse_format.specs.Seen.{seen_mode};
 ghost use Rattle.rustc_parse_format.specs.World.{hashes};
 ghost use Rattle.piece_listing.specs.Program.{limit};
 ghost use Rattle.format_tokens.specs.Midway.{sized};
-ghost use Rattle.format_tokens.specs.Placed.{tokens};
 ghost use Rattle.format_tokens.specs.Seen.{seen_token};
 ghost use Rattle.format_tokens.specs.Walk.{tokens_of};
 ghost use Rattle.format_lint.specs.Findings.{findings_from};
-ghost use Rattle.format_lint.specs.Lint.{findings, start};
+ghost use Rattle.format_lint.specs.Lint.{findings, start, tokens_in};
 ghost use Rattle.format_lint.specs.SeenLint.{Keeps, seen_source};
 
 use super::findings::Findings;
@@ -107,17 +106,15 @@ pub fn faults_in<'a>(
     Ok(faults)
 }
 
-/// Returns the tokens of a source with this snippet, and its faults. Returns `Err` as `faults_of`
-/// does.
+/// Returns the tokens of a source, and its faults. Returns `Err` as `faults_of` does.
 pub fn tokens_in<'a>(
     alloc: Global,
     mode: ParseMode,
     source: Source<'a>,
-    snippet: &str,
 ) -> Result<(Vec<Token>, Findings<'a>), AllocError>
     requires { hashes source.style ≤ limit }
-    ensures tokens { IfOk result (λ x. map seen_token x.0.items ≡ tokens (seen_mode mode)
-        (chars source.entry.text.now) source.entry.style (Some (chars snippet.now)) false) }
+    ensures tokens { IfOk result (λ x. map seen_token x.0.items
+        ≡ tokens_in (seen_mode mode) (seen_source source.entry)) }
     ensures faults { IfOk result (λ x. Keeps x.1
         (findings (seen_mode mode) (seen_source source.entry))) }
 {
@@ -127,7 +124,7 @@ pub fn tokens_in<'a>(
         alloc,
         source.text,
         source.style,
-        Some(snippet),
+        source.literal,
         false,
         labels.as_slice(),
     )?;

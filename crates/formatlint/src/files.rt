@@ -75,8 +75,11 @@ pub fn write(rt: &HostRuntime, text: &str) -> Result<(), Failure> {
 impl<'a> Run<'a> {
     /// Writes the text that is still to be written.
     fn flush(&mut self, rt: &HostRuntime) -> Result<(), Failure> {
-        write(rt, self.out.as_str())?;
-        self.out.clear();
+        if !self.out.is_empty() {
+            self.totals.clear_progress(rt);
+            write(rt, self.out.as_str())?;
+            self.out.clear();
+        }
         Ok(())
     }
 
@@ -151,7 +154,7 @@ fn tell_end(rt: &HostRuntime, totals: &mut Totals, file: &File<'_>, extent: Exte
 
 /// Reads a stream up to its end or the most bytes that are read.
 fn read_all<R: Read + Drop>(rt: &HostRuntime, stream: R) -> io::Result<Vec<u8>> {
-    let mut bytes = Vec::new(rt.alloc());
+    let mut bytes = Vec::with_capacity(rt.alloc(), CHUNK)?;
     stream.take(MOST as u64 + 1).read_to_end(&mut bytes)?;
     Ok(bytes)
 }
@@ -219,6 +222,7 @@ impl<'a> Run<'a> {
                 Some(path) => self.lint_file(rt, path.as_str())?,
                 None => break,
             }
+            self.totals.show_progress(rt);
         }
         Ok(())
     }
@@ -242,14 +246,18 @@ impl<'a> Run<'a> {
     fn lint_all(&mut self, rt: &HostRuntime) -> Result<(), Failure> {
         put_start(&mut self.out, self.request.form, self.request.version)?;
         self.flush(rt)?;
-        if self.request.paths.is_empty() {
+        let paths = self.request.paths;
+        if paths.is_empty() && self.request.stdin_path.is_some() {
+            self.lint_stdin(rt)?;
+        } else if paths.is_empty() {
             self.lint_folder(rt, "")?;
         }
-        let paths = self.request.paths;
         for path in paths {
             self.lint_path(rt, path)?;
+            self.totals.show_progress(rt);
         }
         put_end(&mut self.out, self.request.form, self.totals.failures == 0)?;
+        self.totals.clear_progress(rt);
         self.flush(rt)
     }
 }
@@ -265,7 +273,7 @@ pub fn lint<'a>(
         request,
         options,
         editions: Editions::new(rt, request.edition),
-        totals: Totals::new(),
+        totals: Totals::new(rt),
         out: String::new(rt.alloc()),
         has_messages: false,
     };

@@ -28,7 +28,7 @@ fn read<R: Read + Drop>(rt: &HostRuntime, stream: R) -> Result<Vec<u8>, Failure>
 }
 
 /// Reads a file, or standard input.
-fn input(rt: &HostRuntime, file: Option<&str>) -> Result<Vec<u8>, Failure> {
+fn read_file(rt: &HostRuntime, file: Option<&str>) -> Result<Vec<u8>, Failure> {
     let Some(path) = file else {
         tell_of_terminal(rt);
         return read(rt, rt.stdin());
@@ -39,11 +39,40 @@ fn input(rt: &HostRuntime, file: Option<&str>) -> Result<Vec<u8>, Failure> {
     }
 }
 
+/// Returns the bytes of a file with each CRLF as the line feed that the compiler reads it as. A
+/// text that is no literal stays as it is.
+fn without_returns(
+    alloc: Global,
+    matches: &ArgMatches<'_>,
+    file: Vec<u8>,
+) -> Result<Vec<u8>, AllocError> {
+    if matches.get_flag("text") || !file.contains(&b'\r') {
+        return Ok(file);
+    }
+    let mut bytes = Vec::new(alloc);
+    for (index, byte) in file.iter().enumerate() {
+        if *byte != b'\r' || file.get(index.saturating_add(1)) != Some(&b'\n') {
+            bytes.push(*byte)?;
+        }
+    }
+    Ok(bytes)
+}
+
 /// Writes to standard error that standard input is read, if it is a terminal.
 pub fn tell_of_terminal(rt: &HostRuntime) {
     if rt.stdin().is_terminal() {
         let _ = rt.eprintln("formatlint: reads what is typed here, up to Ctrl-D; --help says more");
     }
+}
+
+/// Reads the input: a file, or standard input.
+fn input(
+    rt: &HostRuntime,
+    matches: &ArgMatches<'_>,
+    file: Option<&str>,
+) -> Result<Vec<u8>, Failure> {
+    let bytes = read_file(rt, file)?;
+    Ok(without_returns(rt.alloc(), matches, bytes)?)
 }
 
 /// Returns the bytes of an input that are listed: all of a text, or the literal in a file.
@@ -103,18 +132,19 @@ fn answer(
 ) -> Result<usize, Failure> {
     let alloc = rt.alloc();
     let mut writer = Recorder::new(rt.stdout());
+    let mut error_writer = Recorder::new(rt.stderr());
     let result = if matches.get_flag("list") {
         answer_listing(rt, &mut writer, matches, input)
     } else {
         let task = task_of(matches, path, has_colours(rt, matches));
         let mut reader = input;
-        run(alloc, &mut reader, &mut writer, task)
+        run(alloc, &mut reader, &mut writer, &mut error_writer, task)
     };
     match result {
         Ok(count) => Ok(count),
         Err(fault) => Err(Failure {
             fault,
-            error: writer.error,
+            error: writer.error.or(error_writer.error),
         }),
     }
 }
@@ -178,7 +208,7 @@ pub fn literal_status(rt: &HostRuntime, matches: &ArgMatches<'_>) -> Option<u8> 
         Some(path) => path,
         None => matches.get_str("stdin-path").unwrap_or("<stdin>"),
     };
-    let bytes = match input(rt, file) {
+    let bytes = match input(rt, matches, file) {
         Ok(bytes) => bytes,
         Err(failure) => return Some(tell(rt, path, &[], &failure)),
     };

@@ -9,6 +9,7 @@ mod files;
 mod forms;
 mod literal;
 mod options;
+mod progress;
 mod recorder;
 mod totals;
 mod walk;
@@ -22,9 +23,10 @@ use forms::Form;
 use literal::{literal_status, tell};
 use options::{VERSION, command};
 use source_lint::Options;
-use std::alloc::AllocError;
+use std::alloc::{AllocError, Global};
 use std::env;
 use std::process::ExitCode;
+use strsim::levenshtein;
 use totals::Totals;
 
 /// The error message for a value of `--args` that is no list of arguments.
@@ -33,6 +35,9 @@ const WRONG_LIST: &str = "invalid value for '--args <LIST>': it is a number of a
 
 /// The error message for several paths where one string is read.
 const SEVERAL: &str = "--literal and --text read one string, of one file or of standard input";
+
+/// The error message for a path that names standard input where it is not read.
+const NO_STDIN: &str = "--stdin-path names standard input, and no path is -";
 
 /// Returns the error that a value of the arguments is wrong, with the reason.
 fn value_error(rt: &HostRuntime, why: &str) -> Result<u8, Error> {
@@ -56,14 +61,37 @@ fn print(rt: &HostRuntime, text: &str) -> u8 {
     }
 }
 
+/// Returns the id that is nearest to a word by the number of characters to change, the first of
+/// several, or `None` if each wants more than a third of the word changed, as rustc does for names.
+fn similar_id(alloc: Global, word: &str) -> Result<Option<&'static str>, AllocError> {
+    let mut most = word.len().max(3) / 3;
+    let mut found = None;
+    for rule in &RULES {
+        let count = levenshtein(alloc, word, rule.id)?;
+        if count < most || count == most && found.is_none() {
+            most = count;
+            found = Some(rule.id);
+        }
+    }
+    Ok(found)
+}
+
+/// Returns the error that no kind of fault has this id.
+fn id_error(rt: &HostRuntime, id: &str) -> Result<u8, Error> {
+    let why = match similar_id(rt.alloc(), id)? {
+        Some(other) => format!(in rt.alloc();
+            "no kind of fault has the id '{id}'\n\n  tip: a similar id exists: '{other}'"
+        )?,
+        None => format!(in rt.alloc(); "no kind of fault has the id '{id}': --list-ids lists all")?,
+    };
+    value_error(rt, why.as_str())
+}
+
 /// Writes the explanation of the kind of fault with this id. Returns the exit status, and `Err` if
 /// no kind has the id or an allocation fails.
 fn explain(rt: &HostRuntime, id: &str) -> Result<u8, Error> {
     let Some(rule) = rule_of(id) else {
-        let why = format!(in rt.alloc();
-            "no kind of fault has the id '{id}': --list-ids lists all"
-        )?;
-        return value_error(rt, why.as_str());
+        return id_error(rt, id);
     };
     let mut out = String::new(rt.alloc());
     put_explanation(&mut out, &rule)?;
@@ -129,10 +157,15 @@ fn files_status(rt: &HostRuntime, matches: &ArgMatches<'_>) -> Result<u8, Error>
         }
         Err(None) => return Err(Error::from(AllocError)),
     };
+    let paths = matches.get_strs("path").unwrap_or(&[]);
+    let stdin_path = matches.get_str("stdin-path");
+    if stdin_path.is_some() && !paths.is_empty() && !paths.contains(&"-") {
+        return value_error(rt, NO_STDIN);
+    }
     let request = Request {
-        paths: matches.get_strs("path").unwrap_or(&[]),
+        paths,
         excluded: matches.get_strs("exclude").unwrap_or(&[]),
-        stdin_path: matches.get_str("stdin-path"),
+        stdin_path,
         form: form_of(matches, has_colours(rt, matches)),
         edition: matches.get_str("edition"),
         version: VERSION,
@@ -162,13 +195,19 @@ fn status(rt: &HostRuntime, words: &[String]) -> Result<u8, Error> {
     files_status(rt, &matches)
 }
 
+/// Writes to standard error why the arguments cannot be read, and returns this exit status.
+fn ended(rt: &HostRuntime, why: &str, status: u8) -> ExitCode {
+    let _ = eprintln!(rt; "formatlint: {why}");
+    ExitCode::from(status)
+}
+
 fn main(rt: HostRuntime) -> ExitCode {
     let words: Vec<String> = match env::args(&rt) {
         Ok(words) => match words.collect(rt.alloc()) {
             Ok(words) => words,
-            Err(_) => return ExitCode::from(3),
+            Err(_) => return ended(&rt, "out of memory", 3),
         },
-        Err(_) => return ExitCode::from(3),
+        Err(_) => return ended(&rt, "an argument is not UTF-8", 2),
     };
     match status(&rt, words.as_slice()) {
         Ok(status) => ExitCode::from(status),

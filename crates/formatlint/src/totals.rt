@@ -1,5 +1,6 @@
 //! The totals of a run over files, and the lines about it on standard error.
 
+use crate::progress::Progress;
 use format_calls::Reason;
 use lint_words::{put_failure, put_place_failure, system_words};
 use piece_listing::verdict::RunFault;
@@ -37,6 +38,7 @@ pub struct Totals {
     pub warnings: usize,
     /// The number of files and folders, or parts of them, that could not be read.
     pub failures: usize,
+    progress: Progress,
 }
 
 /// Adds one.
@@ -80,8 +82,8 @@ impl Unread {
 }
 
 impl Totals {
-    /// Returns the totals of a run that read nothing.
-    pub fn new() -> Totals {
+    /// Returns the totals of a run that begins now.
+    pub fn new(rt: &HostRuntime) -> Totals {
         Totals {
             files: 0,
             calls: 0,
@@ -102,7 +104,18 @@ impl Totals {
             faults: 0,
             warnings: 0,
             failures: 0,
+            progress: Progress::new(rt),
         }
+    }
+
+    /// Shows on a terminal how many files were read, from time to time.
+    pub fn show_progress(&mut self, rt: &HostRuntime) {
+        self.progress.show(rt, self.files);
+    }
+
+    /// Removes what shows the progress, before other text is written.
+    pub fn clear_progress(&mut self, rt: &HostRuntime) {
+        self.progress.clear(rt);
     }
 
     /// Counts a call.
@@ -138,6 +151,7 @@ impl Totals {
     /// read, in the words of the system.
     pub fn fail(&mut self, rt: &HostRuntime, path: &str, error: &io::Error) {
         count(&mut self.failures);
+        self.progress.clear(rt);
         let mut out = String::new(rt.alloc());
         let put = match format!(in rt.alloc(); "{error}") {
             Ok(words) => {
@@ -155,6 +169,7 @@ impl Totals {
     /// Counts a failure, and writes to standard error why a file was not read from a place on.
     pub fn fail_at(&mut self, rt: &HostRuntime, path: &str, place: Place, why: &str) {
         count(&mut self.failures);
+        self.progress.clear(rt);
         let mut out = String::new(rt.alloc());
         let _ = match put_place_failure(&mut out, path, place, why) {
             Ok(()) => rt.eprint(out.as_str()),

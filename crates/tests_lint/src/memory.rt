@@ -36,24 +36,30 @@ impl Write for Compared {
     }
 }
 
-/// What is shown of a row, once more where an allocation fails.
-fn check(rt: &(impl Abort + Print), alloc: Global, row: &Row) -> Result<(), Fail> {
-    let mut writer = Compared {
-        rest: row.shown.as_bytes(),
+/// Returns the writer of a text that is wanted.
+fn compared(text: &'static str) -> Compared {
+    Compared {
+        rest: text.as_bytes(),
         is_same: true,
         is_new: true,
-    };
+    }
+}
+
+/// What is shown of a row, once more where an allocation fails.
+fn check(rt: &(impl Abort + Print), alloc: Global, row: &Row) -> Result<(), Fail> {
+    let (mut writer, mut errors) = (compared(row.output), compared(row.error_output));
     let mut reader = row.input;
-    let mut answer = run(alloc, &mut reader, &mut writer, row.task());
+    let mut answer = run(alloc, &mut reader, &mut writer, &mut errors, row.task());
     if answer.is_err() {
         println!(rt; "refused")?;
         assert_eq!(rt; answer, Err(RunFault::Memory));
-        assert!(rt; writer.is_new, "nothing is written");
+        assert!(rt; writer.is_new && errors.is_new, "nothing is written");
         reader = row.input;
-        answer = run(alloc, &mut reader, &mut writer, row.task());
+        answer = run(alloc, &mut reader, &mut writer, &mut errors, row.task());
     }
     assert_eq!(rt; answer, Ok(row.told));
     assert!(rt; writer.is_same && writer.rest.is_empty());
+    assert!(rt; errors.is_same && errors.rest.is_empty());
     Ok(())
 }
 

@@ -9,7 +9,7 @@ use std::alloc::Global;
 use std::process::Abort;
 use std::test::Fail;
 
-/// A task, an input, what is shown of it, and how many mistakes are left.
+/// A task, an input, its output and error output, and how many mistakes are left.
 #[derive(Clone, Copy)]
 pub struct Row {
     pub mode: ParseMode,
@@ -17,7 +17,8 @@ pub struct Row {
     pub show: Show,
     pub colours: bool,
     pub input: &'static [u8],
-    pub shown: &'static str,
+    pub output: &'static str,
+    pub error_output: &'static str,
     pub told: usize,
 }
 
@@ -47,9 +48,11 @@ const ALL: Task<'static> = Task {
 fn check(rt: &impl Abort, alloc: Global, row: &Row) -> Result<(), Fail> {
     let mut reader = row.input;
     let mut written = Vec::new(alloc);
-    let answer = run(alloc, &mut reader, &mut written, row.task());
+    let mut drawn = Vec::new(alloc);
+    let answer = run(alloc, &mut reader, &mut written, &mut drawn, row.task());
     assert_eq!(rt; answer, Ok(row.told));
-    assert_eq!(rt; written.as_slice(), row.shown.as_bytes());
+    assert_eq!(rt; written.as_slice(), row.output.as_bytes());
+    assert_eq!(rt; drawn.as_slice(), row.error_output.as_bytes());
     Ok(())
 }
 
@@ -60,7 +63,7 @@ const LISTED: Row = Row {
     show: Show::Tokens,
     colours: false,
     input: b"\"hi {a :*>+#01$.*x? }{{b\"\n",
-    shown: "quote 0..1 \"\\\"\"\n\
+    output: "quote 0..1 \"\\\"\"\n\
         text 1..4 \"hi \"\n\
         open 4..5 \"{\"\n\
         identifier 5..6 \"a\"\n\
@@ -81,6 +84,7 @@ const LISTED: Row = Row {
         escape 21..23 \"{{\"\n\
         text 23..24 \"b\"\n\
         quote 24..25 \"\\\"\"\n",
+    error_output: "",
     told: 0,
 };
 
@@ -91,10 +95,11 @@ const COLOURED: Row = Row {
     show: Show::Tokens,
     colours: true,
     input: b"\"hi {a :*>+#01$.*x? }{{b\"\n",
-    shown: "\"hi \u{1b}[35m{\u{1b}[0m\u{1b}[36ma\u{1b}[0m \u{1b}[35m:\u{1b}[0m\u{1b}[33m*\u{1b}[0m\
+    output: "\"hi \u{1b}[35m{\u{1b}[0m\u{1b}[36ma\u{1b}[0m \u{1b}[35m:\u{1b}[0m\u{1b}[33m*\u{1b}[0m\
         \u{1b}[33m>\u{1b}[0m\u{1b}[33m+\u{1b}[0m\u{1b}[33m#\u{1b}[0m\u{1b}[33m0\u{1b}[0m\
         \u{1b}[36m1\u{1b}[0m\u{1b}[35m$\u{1b}[0m\u{1b}[35m.\u{1b}[0m\u{1b}[36m*\u{1b}[0m\
         \u{1b}[32mx?\u{1b}[0m \u{1b}[35m}\u{1b}[0m\u{1b}[34m{{\u{1b}[0mb\"\n",
+    error_output: "",
     told: 0,
 };
 
@@ -105,8 +110,9 @@ const MODIFIER: Row = Row {
     show: Show::Tokens,
     colours: false,
     input: b"{0:e}",
-    shown: "open 1..2 \"{\"\ninteger 2..3 \"0\"\ncolon 3..4 \":\"\nmodifier 4..5 \"e\"\n\
-        close 5..6 \"}\"\n",
+    output: "open 0..1 \"{\"\ninteger 1..2 \"0\"\ncolon 2..3 \":\"\nmodifier 3..4 \"e\"\n\
+        close 4..5 \"}\"\n",
+    error_output: "",
     told: 0,
 };
 
@@ -116,7 +122,8 @@ const DIAGNOSTIC: Row = Row {
     show: Show::Tokens,
     colours: true,
     input: b"{T:a }",
-    shown: "\u{1b}[35m{\u{1b}[0m\u{1b}[36mT\u{1b}[0m\u{1b}[35m:\u{1b}[0ma \u{1b}[35m}\u{1b}[0m\n",
+    output: "\u{1b}[35m{\u{1b}[0m\u{1b}[36mT\u{1b}[0m\u{1b}[35m:\u{1b}[0ma \u{1b}[35m}\u{1b}[0m\n",
+    error_output: "",
     told: 0,
 };
 
@@ -128,13 +135,14 @@ const OBEYED: Row = Row {
     show: Show::Tokens,
     colours: false,
     input: b"a\xc2\x9b\xe2\x80\xae\tb",
-    shown: "text 1..9 \"a\u{fffd}\u{fffd}\\tb\"\n",
+    output: "text 0..8 \"a\u{fffd}\u{fffd}\\tb\"\n",
+    error_output: "",
     told: 0,
 };
 
 const OBEYED_COLOURED: Row = Row {
     colours: true,
-    shown: "a\u{fffd}\u{fffd}    b\n",
+    output: "a\u{fffd}\u{fffd}    b\n",
     ..OBEYED
 };
 
@@ -143,7 +151,7 @@ const OBEYED_FIXED: Row = Row {
     is_literal: true,
     show: Show::Fix,
     input: b"\"\xc2\x9b\t{r#a}\"",
-    shown: "\"\u{9b}\t{a}\"\n",
+    output: "\"\u{9b}\t{a}\"\n",
     ..OBEYED
 };
 
@@ -154,13 +162,13 @@ pub const RAW_PREFIX: Row = Row {
     show: Show::Tokens,
     colours: false,
     input: b"\"\\x7br#a}\"",
-    shown: "quote 0..1 \"\\\"\"\n\
+    output: "quote 0..1 \"\\\"\"\n\
         open 1..5 \"\\\\x7b\"\n\
         raw-prefix 5..7 \"r#\"\n\
         identifier 7..8 \"a\"\n\
         close 8..9 \"}\"\n\
-        quote 9..10 \"\\\"\"\n\
-        error: invalid format string: raw identifiers are not supported\n --> a:1:6\n  |\n\
+        quote 9..10 \"\\\"\"\n",
+    error_output: "error: invalid format string: raw identifiers are not supported\n --> a:1:6\n  |\n\
         1 | \"\\x7br#a}\"\n  |      --^\n  |      |\n\
         \x20 |      raw identifier used here in format string\n  |      help: remove the `r#`\n\
         \x20 |\n  = note: identifiers in format strings can be keywords and don't need to be \
@@ -174,8 +182,8 @@ pub const UNEXPECTED: Row = Row {
     show: Show::Tokens,
     colours: true,
     input: b"\xe6\x97\xa5}",
-    shown: "\u{65e5}\u{1b}[31m}\u{1b}[0m\n\
-        \u{1b}[1m\u{1b}[91merror\u{1b}[0m\u{1b}[1m: invalid format string: unmatched `}` found\
+    output: "\u{65e5}\u{1b}[31m}\u{1b}[0m\n",
+    error_output: "\u{1b}[1m\u{1b}[91merror\u{1b}[0m\u{1b}[1m: invalid format string: unmatched `}` found\
         \u{1b}[0m\n \u{1b}[1m\u{1b}[94m--> \u{1b}[0ma:1:2\n  \u{1b}[1m\u{1b}[94m|\u{1b}[0m\n\
         \u{1b}[1m\u{1b}[94m1\u{1b}[0m \u{1b}[1m\u{1b}[94m|\u{1b}[0m \u{65e5}}\n\
         \x20 \u{1b}[1m\u{1b}[94m|\u{1b}[0m   \u{1b}[1m\u{1b}[91m^\u{1b}[0m \
@@ -192,7 +200,8 @@ pub const FIXED: Row = Row {
     show: Show::Fix,
     colours: false,
     input: b"\"\\x7br#a}\"",
-    shown: "\"\\x7ba}\"\n",
+    output: "\"\\x7ba}\"\n",
+    error_output: "",
     told: 0,
 };
 
@@ -204,9 +213,10 @@ const FIRST: Row = Row {
     show: Show::Fault,
     colours: false,
     input: b"\"} {r#a}\"",
-    shown: "error: invalid format string: unmatched `}` found\n --> a:1:2\n  |\n\
+    output: "error: invalid format string: unmatched `}` found\n --> a:1:2\n  |\n\
         1 | \"} {r#a}\"\n  |  ^ unmatched `}` in format string\n  |\n\
         \x20 = note: if you intended to print `}`, you can escape it using `}}`\n\n",
+    error_output: "",
     told: 2,
 };
 
@@ -217,9 +227,10 @@ const ONE_OF_TWO: Row = Row {
     show: Show::Fault,
     colours: false,
     input: b"\"{a<>\"",
-    shown: "error: invalid format string: expected alignment specifier after `:` in format \
+    output: "error: invalid format string: expected alignment specifier after `:` in format \
         string; example: `{:>?}`\n --> a:1:4\n  |\n\
         1 | \"{a<>\"\n  |    ^ expected `<` to occur after `:` in format string\n\n",
+    error_output: "",
     told: 1,
 };
 
@@ -230,7 +241,7 @@ pub const BOTH: Row = Row {
     show: Show::All,
     colours: false,
     input: b"\"{a<>\"",
-    shown: "fault: alignment-before-colon\n\
+    output: "fault: alignment-before-colon\n\
         error: invalid format string: expected alignment specifier after `:` in format \
         string; example: `{:>?}`\n --> a:1:4\n  |\n\
         1 | \"{a<>\"\n  |    ^ expected `<` to occur after `:` in format string\n\n\
@@ -239,6 +250,7 @@ pub const BOTH: Row = Row {
         1 | \"{a<>\"\n  |  - ^ expected `}` in format string\n  |  |\n\
         \x20 |  because of this opening brace\n  |\n\
         \x20 = note: if you intended to print `{`, you can escape it using `{{`\n\n",
+    error_output: "",
     told: 1,
 };
 
@@ -249,7 +261,7 @@ const WAITING: Row = Row {
     show: Show::All,
     colours: false,
     input: b"\"{a!}{} }\"",
-    shown: "fault: missing-closing-brace\n\
+    output: "fault: missing-closing-brace\n\
         error: invalid format string: expected `}`, found `!`\n --> a:1:4\n  |\n\
         1 | \"{a!}{} }\"\n  |  - ^ expected `}` in format string\n  |  |\n\
         \x20 |  because of this opening brace\n  |\n\
@@ -262,6 +274,7 @@ const WAITING: Row = Row {
         error: invalid format string: unmatched `}` found\n --> a:1:9\n  |\n\
         1 | \"{a!}{} }\"\n  |         ^ unmatched `}` in format string\n  |\n\
         \x20 = note: if you intended to print `}`, you can escape it using `}}`\n\n",
+    error_output: "",
     told: 2,
 };
 
@@ -273,8 +286,8 @@ const ALL_FIXED: Row = Row {
     show: Show::Fix,
     colours: false,
     input: b"\"{r#a} {b.c}\"",
-    shown: "\"{a} {b.c}\"\n\
-        error: invalid format string: field access isn't supported\n --> a:1:7\n  |\n\
+    output: "\"{a} {b.c}\"\n",
+    error_output: "error: invalid format string: field access isn't supported\n --> a:1:7\n  |\n\
         1 | \"{a} {b.c}\"\n  |       ^^^ not supported in format string\n  |\n\
         \x20 = note: consider moving this expression to a local variable and then using the \
         local here instead\n\n",
@@ -288,8 +301,8 @@ const ASSEMBLY: Row = Row {
     show: Show::Fix,
     colours: false,
     input: b"\"mov {r#a} }\"",
-    shown: "\"mov {r#a} }\"\n\
-        error: invalid asm template string: raw identifiers are not supported\n --> a:1:7\n  |\n\
+    output: "\"mov {r#a} }\"\n",
+    error_output: "error: invalid asm template string: raw identifiers are not supported\n --> a:1:7\n  |\n\
         1 | \"mov {r#a} }\"\n\
         \x20 |       ^^^ raw identifier used here in asm template string\n  |\n\
         \x20 = note: identifiers in format strings can be keywords and don't need to be \
@@ -335,8 +348,10 @@ fn check_end(
 ) -> Result<(), Fail> {
     let mut reader = input;
     let mut written = Vec::new(alloc);
-    let answer = run(alloc, &mut reader, &mut written, ALL);
+    let mut drawn = Vec::new(alloc);
+    let answer = run(alloc, &mut reader, &mut written, &mut drawn, ALL);
     assert_eq!(rt; answer, Ok(mistakes));
+    assert!(rt; drawn.as_slice().is_empty());
     assert!(rt; written.as_slice().ends_with(end));
     Ok(())
 }
@@ -359,9 +374,10 @@ fn check_refused(
 ) -> Result<(), Fail> {
     let mut reader = input;
     let mut written = Vec::new(alloc);
-    let answer = run(alloc, &mut reader, &mut written, LISTED.task());
+    let mut drawn = Vec::new(alloc);
+    let answer = run(alloc, &mut reader, &mut written, &mut drawn, LISTED.task());
     assert_eq!(rt; answer, Err(fault));
-    assert!(rt; written.as_slice().is_empty());
+    assert!(rt; written.as_slice().is_empty() && drawn.as_slice().is_empty());
     Ok(())
 }
 

@@ -70,9 +70,17 @@ fn reads(
 ) -> Result<usize, Fail> {
     let mut reader = Failing::new(before);
     let mut written = Vec::new(alloc);
-    let answer = run(alloc, &mut reader, &mut written, UNEXPECTED.task());
+    let mut drawn = Vec::new(alloc);
+    let answer = run(
+        alloc,
+        &mut reader,
+        &mut written,
+        &mut drawn,
+        UNEXPECTED.task(),
+    );
     assert_eq!(rt; answer, wanted);
     assert_eq!(rt; written.as_slice().is_empty(), answer.is_err());
+    assert_eq!(rt; drawn.as_slice().is_empty(), answer.is_err());
     Ok(reader.calls)
 }
 
@@ -91,25 +99,49 @@ fn a_failed_read_is_not_tried_again(rt: HostRuntime) -> Result<(), Fail> {
     Ok(())
 }
 
-/// The writes of what is shown, one of which fails after so many others, if there are more.
-fn writes(rt: &impl Abort, alloc: Global, before: usize, wanted: Result<usize, RunFault>) -> usize {
+/// The writes of both outputs, one of which fails after so many others, if there are more. Nothing
+/// is written to the error output after a write of the output has failed.
+fn writes(
+    rt: &impl Abort,
+    alloc: Global,
+    before: usize,
+    before_errors: usize,
+    wanted: Result<usize, RunFault>,
+) -> (usize, usize) {
     let mut reader = UNEXPECTED.input;
     let mut writer = Failing::new(before);
-    let answer = run(alloc, &mut reader, &mut writer, UNEXPECTED.task());
+    let mut error_writer = Failing::new(before_errors);
+    let answer = run(
+        alloc,
+        &mut reader,
+        &mut writer,
+        &mut error_writer,
+        UNEXPECTED.task(),
+    );
     assert_eq!(rt; answer, wanted);
-    writer.calls
+    (writer.calls, error_writer.calls)
 }
 
 #[test]
 fn a_failed_write_is_not_tried_again(rt: HostRuntime) {
-    let count = UNEXPECTED.shown.len();
-    assert_eq!(rt;
-        writes(&rt, rt.alloc(), usize::MAX, Ok(1)),
-        count,
-        "a write for each byte"
-    );
+    let (most, count) = (usize::MAX, UNEXPECTED.output.len());
+    let errors = UNEXPECTED.error_output.len();
+    let asked = writes(&rt, rt.alloc(), most, most, Ok(1));
+    assert_eq!(rt; asked, (count, errors), "a write for each byte");
     for before in 0..count {
-        let asked = writes(&rt, rt.alloc(), before, Err(RunFault::Write));
-        assert_eq!(rt; asked, before + 1, "no write after the one that failed");
+        let asked = writes(&rt, rt.alloc(), before, most, Err(RunFault::Write));
+        assert_eq!(rt;
+            asked,
+            (before + 1, 0),
+            "no write after the one that failed"
+        );
+    }
+    for before in 0..errors {
+        let asked = writes(&rt, rt.alloc(), most, before, Err(RunFault::Write));
+        assert_eq!(rt;
+            asked,
+            (count, before + 1),
+            "no write after the one that failed"
+        );
     }
 }

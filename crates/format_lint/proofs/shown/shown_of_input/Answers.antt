@@ -1,5 +1,5 @@
-use Rattle.std.proofs.Common.{◌∙◌, string_bytes}
-use Rattle.format_lint.specs.SeenLint.{seen_source, seen_task}
+use Rattle.std.proofs.Common.{◌∙◌}
+use Rattle.format_lint.specs.SeenLint.{seen_shown, seen_source, seen_task}
 use Rattle.format_lint.proofs.Harmless.{ok-weaker, shown-harmless}
 use Rattle.format_lint.proofs.shown.shown_of_input.Goals as goal
 
@@ -13,14 +13,13 @@ returns-clause-shown c = (
 
 pub returns-clause-harmless : goal.returns-clause-harmless
 returns-clause-harmless c =
-    let x = c.in_ok-shown_of.field-0 in
     shown-harmless (seen_task c.args.task) c.args.input.now (seen_source c.bare.result)
-    (string_bytes x.0, x.1)
+    (seen_shown c.in_ok-shown_of.field-0)
     (rw c.if-task.false (c.bare.ensures.value
     (c.as_str.ensures.value ∙ c.in_ok-lines.ensures.ok))) c.in_ok-shown_of.ensures
 
 pub returns-then-task-clause-harmless : goal.returns-then-task-clause-harmless
 returns-then-task-clause-harmless c =
     ok-weaker c.shown_of_literal.result
-    (λ x h. shown-harmless (seen_task c.args.task) c.args.input.now h.0 (string_bytes x.0, x.1)
+    (λ x h. shown-harmless (seen_task c.args.task) c.args.input.now h.0 (seen_shown x)
     (rw c.if-task.true h.1) h.2) c.shown_of_literal.ensures.shown
