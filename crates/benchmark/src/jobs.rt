@@ -178,7 +178,9 @@ pub fn lint_each(
         };
         let mut reader = literal.as_bytes();
         let mut written = Vec::new(alloc);
-        let answer = run(alloc, &mut reader, &mut written, task);
+        let mut drawn = Vec::new(alloc);
+        let answer = run(alloc, &mut reader, &mut written, &mut drawn, task);
+        written.extend_from_slice(drawn.as_slice())?;
         digest.add(u64::from(matches!(answer, Ok(1..))));
         digest.add_bytes(written.as_slice());
     }

@@ -32,6 +32,7 @@ fn run(
         "list" => long::list_each(alloc, count, random, digest)?,
         "awkward" => long::awkward(alloc, count, random, digest)?,
         "source" => source::lex_each(alloc, count, random, digest)?,
+        "files" => source::read_each(alloc, count, random, digest)?,
         _ => return Ok(false),
     }
     Ok(true)

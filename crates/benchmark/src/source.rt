@@ -1,8 +1,10 @@
-//! A job over Rust source text.
+//! Jobs over Rust source text.
 
 use crate::digest::Digest;
 use crate::random::Random;
+use format_calls::Table;
 use rust_tokens::tokens;
+use source_lint::{CallReading, Options, file_faults};
 use std::alloc::{AllocError, Global};
 
 /// The number of bytes of a file.
@@ -72,6 +74,31 @@ pub fn lex_each(
             digest.add_range(&token.span);
             digest.add_size(token.suffix_start);
             digest.add(u64::from(token.is_ended));
+        }
+    }
+    Ok(())
+}
+
+/// Reads the calls of as many files, and finds their faults.
+pub fn read_each(
+    alloc: Global,
+    count: usize,
+    random: &mut Random,
+    digest: &mut Digest,
+) -> Result<(), AllocError> {
+    let options = Options {
+        table: Table::standard(alloc)?,
+        is_from_2021: true,
+    };
+    for number in 0..count {
+        let file = file(alloc, random, number)?;
+        let report = file_faults(alloc, file.as_str(), &options)?;
+        for call in &report.calls {
+            digest.add(u64::from(matches!(call, CallReading::Whole)));
+        }
+        for finding in &report.findings {
+            digest.add_bytes(finding.title.as_bytes());
+            digest.add_range(&finding.span);
         }
     }
     Ok(())
