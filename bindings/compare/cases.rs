@@ -172,9 +172,14 @@ pub fn literal(random: &mut Random) -> Case {
 
 /// Compares what the functions of `literal` say of a case with what a parser shows of it.
 pub fn same_as_its_literal(case: &Case) {
-    use dephungo::literal::{between_quotes, is_source_literal, read_content};
+    use dephungo::literal::{between_quotes, is_source_literal, read_content, Literal};
     let Some(snippet) = &case.snippet else { return };
     let format = dephungo::ParseMode::Format;
+    // (a literal is read in runs of characters)
+    let ordinary = Literal::new(snippet, format).filter(|it| it.style.is_none());
+    let units = between_quotes(snippet).and_then(read_content);
+    let text = units.map(|it| it.iter().map(|(_, c)| *c).collect::<String>());
+    assert_eq!(ordinary.map(|it| it.text), text, "Literal::new of {case:?}");
     let snippet_too = Some(snippet.clone());
     let mut parser =
         dephungo::Parser::new(&case.input, case.style, snippet_too, case.newline, format);

@@ -20,6 +20,10 @@ const PARTS: &[&str] = &[
     "print!(\"{}\", || a, move || b, move |c, d| e)", "print!(\"{}\", a & !b, *c, d!(e, f), g::<!>())",
     "format_args!(\"{:.*}\", )", "print!(\"{x} {}\", y = x, z, x)", "print!(\"{x}\", y = x, z);",
     "print!(, a)", "print!{}", "r#print!(\"{}\")", "print !( \"{}\" , a )",
+    "asm!(\"{} {1}\", in(reg) a, out(\"eax\") b)", "asm!(\"{a}\", \"{0:ex}\", a = const 1, sym b)", "asm!(\"{\")",
+    "global_asm!(r\"{}\", options(raw))", "naked_asm!(\"{b}\", label {}, $(in(reg) $a),*)", "asm!(a)",
+    "#[diagnostic::on_unimplemented(message = \"{A} {B}\", label = \"{}\", note = \"{A:?}\")]\n", "pub ",
+    "trait A<'a, B: C<D>, const E: usize> {}", "#[diagnostic::on_unimplemented(label = \"{\")] trait A {}",
     "{", "}", "(", ")", "[", "]", "\"", "'", "\\", "/*", "*/", "//", "///", "/**/", "/***/", "/*! a */",
     "\u{feff}", "\n", "\r", "\r\n", "\t", " ", "fn f() ", "/* } */", "'a'", "'a", "'\\''", "'\\u{41}'",
     "'é'", "'r#b", "a < b, c > d", "a", "r#a", "é", "日", "\u{e9}\u{301}", "#!/bin/sh\n", "#![a]", "#",
@@ -27,6 +31,32 @@ const PARTS: &[&str] = &[
     "0", "12_u8", "0x1F", "0b12", "0o", "1.", "1.5e", "1e+3f32", "1..2", "0xe+1", "1.a", "\u{0}", "\u{200e}",
     "!", "=", "==", "=>", ",", ";", "::", "<<", ">>=", "|", "||", "->", "-", "$", "@", "~", "?", ".", "..",
 ];
+
+/// Parts of format strings, some of which have escapes.
+#[rustfmt::skip]
+const HOLES: &[&str] = &[
+    "{}", "{}", "{}", "{0}", "{1}", "{2}", "{9}", "{a}", "{b}", "{c}", "{x}", "{:?}", "{:q}", "{:1$}", "{:.2$}",
+    "{:.*}", "{:a$}", "{:.b$}", "{1:w$}", "{a:>0$.*}", "{:4$.x$}", "{:#x?}", "{x.y}", "{a.0.b}", "{&a}", "{r#a}",
+    "\r", "\\\"", "{a} and a text of more than sixteen bytes", "{a?}", "{a:?#}", "{self}", "{f()}", "{a b}", "{a", "}", "{:-}", "{_}", "{0:a$}", "%d", "%5$s", "$x", "%%",
+    " ", "é", "日", "\\n", "\\x41", "\\u{7b}", "{\\u{61}}", "{\\x30}", "\\\n   ", "\n", "\t", "{{", "}}",
+];
+/// Arguments of calls.
+#[rustfmt::skip]
+const ARGUMENTS: &[&str] = &[
+    "a", "b", "x", "1", "r#a", "r#type", "a = 1", "b = x", "r#c = y", "w = 3", "v = v", "f(x, y)", "&a", "\"%s\"", "a.b", "",
+    "\n    a", "/* , */ b", "z as A<B, C>", "{ a; b }", "self", "c", "a == b", "$x", "é = 1", "日",
+];
+
+/// A call of a macro with a format string.
+fn call(random: &mut Random) -> String {
+    let front = ["format!(", "println!(", "write!(w, ", "panic!(", "assert!(a, ", "print! (\r\n ", "say!(a,"];
+    let (front, is_raw) = (random.of(&front), random.one_in(5));
+    let holes: String = (0..random.below(6)).map(|_| random.of(HOLES)).collect();
+    let quotes = if is_raw { ["r#\"", "\"#"] } else { ["\""; 2] };
+    let arguments = (0..random.below(6)).map(|_| random.of(ARGUMENTS));
+    let arguments: String = arguments.map(|it| format!(", {it}")).collect();
+    format!("{front}{}{holes}{}{arguments});\n", quotes[0], quotes[1])
+}
 
 /// A module for a build of the crate: what can be seen of a file, in lines.
 macro_rules! seen_by {
@@ -116,6 +146,10 @@ macro_rules! seen_by {
                 Table::standard().rows().iter().for_each(|row| table.add(*row));
                 table.add(Row { name: "say", rule: Rule::At(1) });
                 lines.extend(calls(file, &table, is_from_2021).iter().flat_map(call));
+                let report = file_faults(file, &table, is_from_2021);
+                lines.extend(report.calls.iter().map(|it| format!("{it:?}")));
+                lines.extend(report.findings.iter().map(|it| format!("{it:?}")));
+                lines.push(format!("{:?}", report.broken));
                 lines
             }
         }
@@ -131,7 +165,11 @@ fn main() {
     let mut random = Random::new(seed as u64);
     let mut lines = 0;
     for _ in 0..count {
-        let mut file: String = (0..random.below(14)).map(|_| random.of(PARTS)).collect();
+        let parts = (0..random.below(14)).map(|_| match random.one_in(4) {
+            true => call(&mut random),
+            false => random.of(PARTS).to_string(),
+        });
+        let mut file: String = parts.collect();
         if random.one_in(100) {
             let [holes, arguments] = [0; 2].map(|_| random.below(100));
             file += &format!("print!(\"{}\"{})", "{}".repeat(holes), ", a".repeat(arguments));

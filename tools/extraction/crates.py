@@ -11,9 +11,10 @@ from extraction.tokens import Refused
 TOP = Path(__file__).resolve().parent.parent.parent
 RUST = TOP / "bindings/rust/src"
 CRATES = ("rustc_parse_format", "placeholder_check", "format_tokens", "drawn_faults", "rust_tokens",
-          "rust_trees", "format_calls", "call_faults", "piece_listing", "listing_json",
-          "literal_faults", "format_lint", "lint_words", "source_lint", "fault_rules",
-          "message_forms", "package_edition", "formatread", "formatlint")
+          "rust_trees", "format_calls", "call_faults", "asm_faults", "message_faults",
+          "piece_listing", "listing_json", "literal_faults", "format_lint", "lint_words",
+          "source_lint", "fault_rules", "message_forms", "package_edition", "formatread",
+          "formatlint")
 NOTICE = """\
 // Extracted from {place} by tools/extract: not to be edited.
 // That source is proved, and each contract here is its. That this text means the same is tested:
@@ -48,17 +49,20 @@ class Read:
         self.sources[at] = source_of(self.sources[at].crate, self.sources[at].name, path, text)
         self.erase(self.sources[at])
 
-    def made(self, callers):
+    def made(self, callers, programs=()):
         """The sources in Rust, by their names, of all items that the callers need, which are files in
-        Rust. It can be asked once."""
+        Rust. What only those of the programs need is there with the feature `std` alone. It can be
+        asked once."""
         needs = Needs(self.sources)
-        for path in callers:
-            needs.add_caller(in_place(str(path), Source, path.name, path.read_text(), False))
-        needs.follow()
+        needs.add_callers(callers)
+        needs.plain = {module for module in needs.files if needs.has(*module)}
+        needs.plainly_passed = set(needs.passed)
+        needs.add_callers(programs)
         cloned = {item.name for source in self.sources for item in source.items
                   if any(clones_in(source, part) for part in item.parts)}
         head = "// The crates that are extracted. Made by tools/extract: not to be edited.\n\n"
-        modules = (f"pub mod {name};\n" for name in sorted(self.crates) if needs.has(name))
+        modules = (f"{needs.feature(name)}pub mod {name};\n" for name in sorted(self.crates)
+                   if needs.has(name))
         made = {"mod.rs": head + "".join(modules)}
         for source in self.sources:
             module = module_of(source.name)
@@ -71,8 +75,10 @@ class Read:
         """The text in Rust of a source."""
         here = (source.crate, *module_of(source.name))
         items = [it for item in source.items for it in (item, *item.parts)]
-        has = [needs.has(*here, it.name) for it in items if it.kind == "mod"]
-        passed = sorted(name for path, name in needs.passed if path == source.path)
+        has = [(needs.has(*here, it.name), needs.feature(*here, it.name))
+               for it in items if it.kind == "mod"]
+        passed = sorted(it for it in needs.passed if it[0] == source.path)
+        passed = [(name, (path, name) in needs.plainly_passed) for path, name in passed]
         key = (source.path, source.whole, *(it.is_kept for it in items), *has, *passed)
         if key not in TEXTS:
             words = (source, needs, self.crates, self.empty, cloned)
@@ -103,7 +109,9 @@ def of_repository(read=None):
     """The sources that these crates, or those of the repository, make for the crate for Rust, by
     their names."""
     callers = [it for it in sorted(RUST.rglob("*.rs")) if RUST / "proved" not in it.parents]
-    return (read or read_repository()).made(callers)
+    programs = [RUST / "programs.rs"]
+    read = read or read_repository()
+    return read.made([it for it in callers if it not in programs], programs)
 
 
 def laid_out(files):
@@ -135,6 +143,13 @@ class Needs:
         self.sources = sources
         self.files = {(source.crate, *module_of(source.name)): source for source in sources}
         self.items, self.methods, self.shown, self.passed = set(), set(), set(), set()
+        self.plain, self.plainly_passed = set(), set()
+
+    def add_callers(self, paths):
+        """Marks all items that these files in Rust need, and what these need."""
+        for path in paths:
+            self.add_caller(in_place(str(path), Source, path.name, path.read_text(), False))
+        self.follow()
 
     def add_caller(self, caller):
         """Adds what a file in Rust names: what it imports of what is extracted, and each method
@@ -212,6 +227,11 @@ class Needs:
         inside = [it for here, it in self.files.items() if here[: len(module)] == module]
         return any(item.is_kept for source in inside for item in source.items)
 
+    def feature(self, *module):
+        """The attribute of a module that only the programs need."""
+        is_plain = any(it[: len(module)] == module for it in self.plain)
+        return "" if is_plain else '#[cfg(feature = "std")]\n'
+
     def is_needed(self, source, item, part):
         if item.kind != "impl":
             is_item = part.kind in ("fn", "struct", "enum", "const", "static", "type")
@@ -257,16 +277,19 @@ def rust_of(source, needs, crates, empty, cloned):
                 own |= {name if isinstance(name, str) else name[0], rules.TRAITS.get(name)}
             own |= source.names_in(item.start, item.open or item.last)
     here = (source.crate, *module_of(source.name))
-    body, uses_shim = "", False
+    body, uses_shim = "", bool(own & {"Box", "String", "Vec"})
     for item in source.items:
         if item.kind == "mod":
             if needs.has(*here, item.name):
                 # what calls the crates stands outside of them
                 public = "pub" if item.is_public else "pub(crate)"
-                body += f"{comments(source, item)}{public} mod {item.name};"
+                feature = needs.feature(*here, item.name) if needs.feature(*here) == "" else ""
+                body += f"{comments(source, item)}{feature}{public} mod {item.name};"
         elif item.kind == "use":
             passed = {name for path, name in needs.passed if item.is_public and path == source.path}
-            lines = rules.imported(source, item, source.crate, crates, own | passed)
+            plain = {name for path, name in needs.plainly_passed if path == source.path}
+            words = (own | passed, passed - plain - own if needs.feature(*here) == "" else ())
+            lines = rules.imported(source, item, source.crate, crates, *words)
             body += comments(source, item) + lines if lines else ""
         elif item.is_kept:
             uses_shim |= item_rewritten(source, item, crates, empty, cloned)

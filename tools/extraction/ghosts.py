@@ -158,6 +158,10 @@ def erase(source, empty, fields):
             source.cut(item.first, item.last)
     source.items = [item for item in source.items if source.text(item.last)]
     for item in source.items:
+        for at, end in item.members if item.kind == "struct" else ():
+            names = source.texts(at, end)
+            if names and names[names.index(":") - 1] in fields.get(item.name, ()):
+                source.cut(at, end)
         for at in range(item.start, item.last + 1):
             if source.is_real(at):
                 held = fields.get(item.name, ()) if item.kind == "impl" else ()

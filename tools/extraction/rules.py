@@ -11,14 +11,18 @@ LIBRARY = {"clap": "crate::shim::clap", "itoa": "crate::shim::itoa",
            "json": "crate::shim::json",
            "rustc_parse_format::Parser": "crate::shim::parser::Parser",
            "rustc_parse_format::read_all": "crate::shim::parser::read_all",
-           "std::alloc": "crate::shim::alloc", "std::collections::BTreeMap": None,
-           "std::collections::BTreeSet": None, "std::env": "crate::shim::host::env",
+           "std::alloc": "crate::shim::alloc",
+           "std::collections::BTreeMap": "alloc::collections::BTreeMap",
+           "std::collections::BTreeSet": "alloc::collections::BTreeSet",
+           "std::env": "crate::shim::host::env",
            "std::fs": "crate::shim::host::fs",
            "std::io::IsTerminal": "crate::shim::host::IsTerminal", "std::io": None,
-           "std::iter::FusedIterator": None, "std::marker::Model": None, "std::mem": None,
-           "std::ops::Range": None, "std::process::ExitCode": None,
+           "std::iter::FusedIterator": "core::iter::FusedIterator", "std::marker::Model": None,
+           "std::mem": "core::mem", "std::ops::Range": "core::ops::Range",
+           "std::process::ExitCode": None,
            "std::simd::prelude": "crate::shim::simd",
-           "unicode_ident": "crate::shim::unicode_ident",
+           "std::time::Instant": "crate::shim::host::Instant",
+           "strsim": "crate::shim::strsim", "unicode_ident": "crate::shim::unicode_ident",
            "unicode_width": "crate::shim::unicode_width"}
 # Calls that take the allocator, or return an allocation failure. In Rust they are methods of the
 # shim's traits.
@@ -61,9 +65,15 @@ TRAITS = {(".", "width", 0): "UnicodeWidthChar", (".", "is_terminal", 0): "IsTer
 ATTRIBUTES = {"cold", "default", "derive", "doc", "inline", "tactic"}
 DERIVES = {"Clone", "Copy", "Debug", "Default", "Drop", "Eq", "Ord", "PartialEq", "PartialOrd"}
 # Derives that only the crate for Rust has: none of these needs a proof there.
-ADDED = {("placeholder_check", "Report"): ("Clone", "Debug", "Eq", "PartialEq"),
-         ("rustc_parse_format", "Fault"): ("Clone", "Debug", "Eq", "PartialEq"),
+SHOWN = ("Debug", "Eq", "PartialEq")
+ADDED = {("placeholder_check", "Report"): ("Clone", *SHOWN),
+         ("rustc_parse_format", "Fault"): ("Clone", *SHOWN),
          ("drawn_faults", "Fixed"): ("Clone",),
+         ("call_faults", "Given"): SHOWN, ("source_lint", "CallReading"): SHOWN,
+         **{("source_lint", name): ("Clone", *SHOWN)
+            for name in ("Edit", "Finding", "Help", "Label", "Note", "Report")},
+         **{("rust_trees", name): SHOWN for name in ("BreakAt", "BreakKind", "Place")},
+         **{("format_calls", name): SHOWN for name in ("Reason", "Row", "Rule")},
          **{(crate, name): ("Hash",) for crate in ("format_tokens", "rust_tokens")
             for name in ("Kind", "Token")}}
 # Members that what calls the crates has to write, for which they have no call.
@@ -73,13 +83,13 @@ KEYWORDS = ("else", "if", "in", "match", "return", "while")
 # Methods of the library that do the same in both languages, and on each Unicode version but for
 # white space. Others that are called are those of the crates or of the shim.
 PLAIN_METHODS = set("""
-all as_bytes as_deref as_ref as_slice as_str capacity chars checked_add contains copied ends_with
+all as_bytes as_deref as_millis as_ref as_slice as_str capacity chars checked_add contains copied ends_with
 enumerate error_len get is_ascii is_ascii_alphanumeric is_ascii_digit is_ascii_hexdigit
 is_ascii_lowercase is_dir is_empty is_err is_file is_none is_ok is_some is_whitespace iter kind last
 len len_utf8 lines map map_or max min next ok or pop read_to_end read_to_string remove rev reverse
-rfind rsplit_once saturating_add saturating_mul saturating_sub shrink_to_fit split split_at split_once
-starts_with strip_prefix strip_suffix then_some to_digit trailing_zeros trim trim_start unwrap_or
-valid_up_to zip
+rfind rsplit_once saturating_add saturating_mul saturating_sub shrink_to_fit split split_at
+split_once starts_with strip_prefix strip_suffix then_some to_digit trailing_zeros trim trim_end
+trim_start unwrap_or valid_up_to zip
 """.split())
 SHIM = Path(__file__).resolve().parent.parent.parent / "bindings/rust/src/shim"
 SHIM_METHODS = {name for file in SHIM.rglob("*.rs")
@@ -108,7 +118,7 @@ def rewrite(source, item, crate, crates):
                 source.refuse(at, "a path of the library where no `use` names it")
             elif text == "str" and source.text(source.next(at, 2)) == "from_utf8":
                 # of the type itself only since Rust 1.87
-                source.tokens[at].text = "std::str"
+                source.tokens[at].text = "core::str"
             elif text in NAMED and source.imports().get(text) == ["std", text]:
                 refuse_other(source, at, NAMED[text])
             elif text in KNOWN[1:]:
@@ -319,8 +329,9 @@ def in_library(path):
     return next((it for it in LIBRARY if path[: it.count("::") + 1] == it.split("::")), None)
 
 
-def imported(source, item, crate, crates, named):
-    """The lines of a `use` of which the names are kept that something names."""
+def imported(source, item, crate, crates, named, of_programs):
+    """The lines of a `use` of which the names are kept that something names, those apart that only
+    the programs name."""
     of = {}
     for path, called in Import(source, source.next(item.head)).paths():
         if called != "*" and called not in named:
@@ -336,10 +347,11 @@ def imported(source, item, crate, crates, named):
         elif path[0] not in ("super", *modules_of(source)):
             source.refuse(item.head, f"`{'::'.join(path)}`, which is not known")
         name = path[-1] if called == path[-1] else f"{path[-1]} as {called}"
-        of.setdefault("::".join(path[:-1]), []).append(name)
+        of.setdefault(("::".join(path[:-1]), called in of_programs), []).append(name)
     before = source.span(item.start, item.head - 1)
     lines = []
-    for parent, names in of.items():
+    for (parent, is_of_programs), names in of.items():
         named = names[0] if len(names) == 1 else "{" + ", ".join(names) + "}"
-        lines.append(f"{before}use {f'{parent}::' if parent else ''}{named};")
+        feature = '#[cfg(feature = "std")]\n' if is_of_programs else ""
+        lines.append(f"{feature}{before}use {f'{parent}::' if parent else ''}{named};")
     return "\n".join(lines)

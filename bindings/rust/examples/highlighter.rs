@@ -1,7 +1,8 @@
 //! A highlighter: `highlighter [LITERAL]` writes a string literal of a format string with a colour
 //! for each kind of token.
-use dephungo::tokens::{tokens, Kind};
-use dephungo::{literal, ParseMode};
+use dephungo::literal::Literal;
+use dephungo::tokens::Kind;
+use dephungo::ParseMode;
 
 /// The number of the colour of a kind on a terminal.
 fn colour(kind: Kind) -> u8 {
@@ -16,13 +17,10 @@ fn colour(kind: Kind) -> u8 {
 fn main() {
     let source = std::env::args().nth(1);
     let source = source.unwrap_or_else(|| r#""{} of {\x74otal:>8}\n""#.to_string());
-    let content = literal::between_quotes(&source).and_then(literal::read_content);
-    let Some(content) = content else {
-        return eprintln!("no ordinary string literal: {source}");
+    let Some(literal) = Literal::new(&source, ParseMode::Format) else {
+        return eprintln!("no string literal: {source}");
     };
-    let text: String = content.iter().map(|(_, character)| *character).collect();
-    let snippet = Some(source.clone());
-    for token in tokens(&text, None, snippet, false, ParseMode::Format) {
+    for token in literal.tokens() {
         let (number, text) = (colour(token.kind), &source[token.span]);
         print!("\x1b[{number}m{text}\x1b[0m");
     }

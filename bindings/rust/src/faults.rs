@@ -9,8 +9,9 @@ use crate::proved::rustc_parse_format::messages::set_error;
 use crate::shim::alloc::{answer, Global};
 use crate::shim::parser::Parser;
 use crate::{Argument, ParseError, ParseMode};
-use std::error::Error;
-use std::fmt::{self, Display, Formatter};
+use alloc::string::String;
+use alloc::vec::Vec;
+use core::fmt::{self, Display, Formatter};
 
 pub use crate::proved::drawn_faults::{Edit, Fixed, Picture};
 pub use crate::proved::rustc_parse_format::Fault;
@@ -205,4 +206,5 @@ impl Display for Fault<'_> {
     }
 }
 
-impl Error for Fault<'_> {}
+#[cfg(feature = "std")]
+impl std::error::Error for Fault<'_> {}

@@ -1,9 +1,14 @@
 #![doc = include_str!("../README.md")]
 #![forbid(unsafe_code)]
+// (the unit tests always have `std`)
+#![cfg_attr(not(any(test, feature = "std")), no_std)]
+
+extern crate alloc;
 
 pub mod faults;
 pub mod literal;
 mod parser;
+#[cfg(feature = "std")]
 pub mod programs;
 // These sources are extracted from another language. It lacks some forms that clippy asks for, and has
 // parameters that only its contracts read; what is public in one of its crates may be unused here, and
@@ -12,6 +17,8 @@ pub mod programs;
 #[deny(clippy::incompatible_msrv)]
 mod proved;
 mod report;
+// Without the programs a part of it is unused.
+#[cfg_attr(not(feature = "std"), allow(dead_code, unused_imports, unused_macros))]
 mod shim;
 pub mod source;
 pub mod tokens;

@@ -1,10 +1,160 @@
-//! String literals as they are written in a program: the characters that they stand for, with byte
-//! ranges, and whether a snippet is the source literal of an input.
+//! String literals as they are written in a program: read as format strings ([`Literal`]), the
+//! characters that they stand for, with byte ranges, and whether a snippet is the source literal of
+//! an input.
+use crate::faults::{errors_of, faults_of, fix, Fault, Fixed};
+use crate::proved::piece_listing::literal::literal_text;
+use crate::proved::rust_tokens::{first_token, Kind};
 use crate::proved::rustc_parse_format::literal::read_content as read_content_in;
 use crate::shim::alloc::{answer, Global};
-use std::ops::Range;
+use crate::tokens::{tokens, Token};
+use crate::{check, ParseError, ParseMode, Parser, Piece, Report};
+use alloc::string::{String, ToString};
+use alloc::vec::Vec;
+use core::ops::Range;
 
 pub use crate::proved::rustc_parse_format::literal::{between_quotes, is_source_literal};
+
+/// A string literal that is read as a format string: the five arguments that the calls of this
+/// crate take, in one value, and these calls. An allocation failure aborts, as elsewhere in Rust.
+///
+/// All spans are byte ranges of the literal, with its quotes and escapes.
+///
+/// ```
+/// use dephungo::literal::Literal;
+/// use dephungo::ParseMode::Format;
+///
+/// let literal = Literal::new(r##"r#"{r#a} {}"#"##, Format).unwrap();
+/// assert_eq!((literal.text.as_str(), literal.style), ("{r#a} {}", Some(1)));
+/// assert_eq!(literal.faults()[0].id(), "raw-identifier");
+/// assert_eq!(literal.errors()[0].span, 4..7);
+/// assert_eq!(literal.fix().unwrap().snippet, r##"r#"{a} {}"#"##);
+///
+/// let literal = Literal::new(r#""{\x61} {0} {2}""#, Format).unwrap();
+/// assert_eq!(literal.pieces().len(), 5);
+/// assert_eq!(literal.tokens()[2].span, 2..6);
+/// let report = literal.check(2, &[]);
+/// assert_eq!((report.missing_name, report.missing_index), (vec!["a"], vec![2]));
+/// assert_eq!(report.unused_index, [1]);
+///
+/// assert!(Literal::new("b\"{}\"", Format).is_none());
+/// ```
+#[derive(Clone, Debug, Eq, PartialEq)]
+pub struct Literal<'a> {
+    /// The text that the literal stands for, with the appended newline if there is one.
+    pub text: String,
+    /// The number of hashes of a raw literal, or `None` for an ordinary one.
+    pub style: Option<usize>,
+    /// The literal as it is in the source.
+    pub snippet: &'a str,
+    /// Whether the text ends in a newline that is not in the literal.
+    pub appended_newline: bool,
+    /// As what the text is read.
+    pub mode: ParseMode,
+}
+
+impl<'a> Literal<'a> {
+    /// Reads a string literal by the rules of the Rust Reference, `"..."` or `r#"..."#` with any
+    /// number of hashes. Its lines end with LF. Returns `None` if it is no such literal: for
+    /// example with a prefix `b` or `c`, a suffix, or white space around it.
+    pub fn new(snippet: &'a str, mode: ParseMode) -> Option<Literal<'a>> {
+        let token = first_token(snippet)?;
+        let is_whole = token.is_ended && token.suffix_start == snippet.len();
+        if !is_whole || !matches!(token.kind, Kind::Str | Kind::RawStr) {
+            return None;
+        }
+        let (text, style) = answer(literal_text(Global, snippet))?;
+        if style.is_some() && text.contains('\r') {
+            return None;
+        }
+        Some(Literal {
+            text,
+            style,
+            snippet,
+            appended_newline: false,
+            mode,
+        })
+    }
+
+    /// Returns the literal with a newline appended to its text, as `println!` appends one. One more
+    /// is never appended.
+    pub fn with_newline(mut self) -> Literal<'a> {
+        if !self.appended_newline {
+            self.text.push('\n');
+            self.appended_newline = true;
+        }
+        self
+    }
+
+    /// Returns a parser at the start of the text.
+    pub fn parser(&self) -> Parser<'_> {
+        let snippet = Some(self.snippet.to_string());
+        Parser::new(
+            &self.text,
+            self.style,
+            snippet,
+            self.appended_newline,
+            self.mode,
+        )
+    }
+
+    /// Returns the pieces up to the end of the text, or to a `}` that closes nothing.
+    pub fn pieces(&self) -> Vec<Piece<'_>> {
+        self.parser().collect()
+    }
+
+    /// Returns the tokens, as [`tokens`] does.
+    pub fn tokens(&self) -> Vec<Token> {
+        let snippet = Some(self.snippet.to_string());
+        tokens(
+            &self.text,
+            self.style,
+            snippet,
+            self.appended_newline,
+            self.mode,
+        )
+    }
+
+    /// Returns the faults up to the end of the text, in the order in which they are found.
+    pub fn faults(&self) -> Vec<Fault<'_>> {
+        let snippet = Some(self.snippet.to_string());
+        faults_of(
+            &self.text,
+            self.style,
+            snippet,
+            self.appended_newline,
+            self.mode,
+        )
+    }
+
+    /// Returns the errors up to the end of the text, in the order of a parser.
+    pub fn errors(&self) -> Vec<ParseError> {
+        let snippet = Some(self.snippet.to_string());
+        errors_of(
+            &self.text,
+            self.style,
+            snippet,
+            self.appended_newline,
+            self.mode,
+        )
+    }
+
+    /// Returns the literal with the edits that its faults suggest, as [`fix`] does. Returns `None`
+    /// if there is no such literal.
+    pub fn fix(&self) -> Option<Fixed> {
+        fix(
+            &self.text,
+            self.style,
+            self.snippet,
+            self.appended_newline,
+            self.mode,
+        )
+    }
+
+    /// Compares the pieces with the arguments that are given, as [`check`] does.
+    pub fn check<'b>(&'b self, positional: usize, names: &[&'b str]) -> Report<'b> {
+        check(&self.pieces(), positional, names)
+    }
+}
 
 /// Returns the characters that the content of an ordinary string literal, which is what is between
 /// its quotes, stands for. Each comes with the byte range of the content that it is written as.

@@ -7,7 +7,9 @@ use crate::proved::rustc_parse_format::reader::Reader;
 use crate::proved::rustc_parse_format::source::{quote_offset, source_of};
 use crate::shim::alloc::{answer, Global};
 use crate::{ParseError, ParseMode, Piece};
-use std::ops::Range;
+use alloc::string::String;
+use alloc::vec::Vec;
+use core::ops::Range;
 
 /// A parser of a format string: an iterator over its pieces.
 ///
@@ -88,7 +90,7 @@ impl<'input> Parser<'input> {
     #[inline(never)]
     fn add_lines(&mut self) {
         if self.line_spans.is_empty() {
-            std::mem::swap(&mut self.line_spans, &mut self.reader.lines);
+            core::mem::swap(&mut self.line_spans, &mut self.reader.lines);
         } else {
             self.line_spans.append(&mut self.reader.lines);
         }

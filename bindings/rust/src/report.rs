@@ -11,7 +11,9 @@ pub use crate::proved::placeholder_check::Report;
 ///
 /// The position, the width and the precision of a placeholder can each use an argument, as in the
 /// documentation of `std::fmt`; but here an index never refers to an argument that is given by
-/// name. An allocation failure aborts, as elsewhere in Rust.
+/// name. A name that a call would capture from around it is missing here too, so `missing_name` is
+/// the list of the variables that a call with these arguments captures. An allocation failure
+/// aborts, as elsewhere in Rust.
 pub fn check<'a>(pieces: &[Piece<'a>], positional: usize, names: &[&'a str]) -> Report<'a> {
     answer(check_in(Global, pieces, positional, names))
 }

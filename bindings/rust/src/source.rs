@@ -26,7 +26,9 @@ use crate::proved::source_lint::givens::givens;
 use crate::proved::source_lint::{file_faults as file_faults_in, Options};
 use crate::shim::alloc::{answer, Global};
 use crate::Piece;
-use std::ops::Range;
+use alloc::string::String;
+use alloc::vec::Vec;
+use core::ops::Range;
 
 pub use crate::proved::call_faults::{CallFault, FormatString, Given, Missing, Part, Reference};
 pub use crate::proved::format_calls::{Reason, Row, Rule};
@@ -135,20 +137,24 @@ impl<'a> Table<'a> {
 }
 
 /// A call of a macro: a word, `!` and a pair of delimiters.
-#[derive(Clone)]
+#[derive(Clone, Debug, Eq, PartialEq)]
 pub struct Call<'a> {
+    /// The rule of the macro: with `Rule::Templates` the string literals at the start are templates
+    /// of inline assembly.
+    pub rule: Rule,
     /// The name of the macro, without the `r#` of a raw identifier.
     pub name: &'a str,
     /// Its byte range, from the name to the closing delimiter.
     pub span: Range<usize>,
     /// What stands between the delimiters, split at commas, with the format string.
     pub arguments: Vec<CallArgument<'a>>,
-    /// The index of the argument that is the format string, or why none is read.
+    /// The index of the argument that is the format string or the first template, or why none is
+    /// read.
     pub string: Result<usize, Reason>,
 }
 
 /// An argument of a call of a macro.
-#[derive(Clone)]
+#[derive(Clone, Debug, Eq, PartialEq)]
 pub struct CallArgument<'a> {
     /// What [`call_faults`] has to know of it.
     pub given: Given<'a>,
@@ -161,7 +167,8 @@ pub struct CallArgument<'a> {
 }
 
 impl<'a> Call<'a> {
-    /// Returns the literal that is the format string, with its quotes, or `None` if none is read.
+    /// Returns the literal that is the format string or the first template, with its quotes, or
+    /// `None` if none is read.
     pub fn literal(&self) -> Option<&'a str> {
         let index = self.string.ok()?;
         self.arguments.get(index).map(|argument| argument.text)
@@ -213,6 +220,7 @@ pub fn calls<'a>(text: &'a str, table: &Table<'_>, is_from_2021: bool) -> Vec<Ca
         let given = answer(givens(Global, source.tokens(), &list));
         let (name, close) = (source.tokens()[call.name], source.tokens()[call.close]);
         found.push(Call {
+            rule: call.rule,
             name: name.text.strip_prefix("r#").unwrap_or(name.text),
             span: name.start..close.start + close.text.len(),
             arguments: list

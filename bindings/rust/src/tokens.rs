@@ -2,18 +2,19 @@
 use crate::proved::format_tokens::tokens as tokens_in;
 use crate::shim::alloc::{answer, Global};
 use crate::ParseMode;
+use alloc::string::String;
+use alloc::vec::Vec;
 
 pub use crate::proved::format_tokens::{Kind, Token};
 
-/// Returns the tokens of an input, faulty or not, with their byte ranges in its source. Nothing is
-/// left out but an appended newline.
+/// Returns the tokens of an input, faulty or not, with their byte ranges in its source literal, or
+/// in the input if there is none. Nothing is left out but an appended newline.
 ///
 /// The arguments are those of [`Parser::new`](crate::Parser::new). The kinds and the characters of
 /// the tokens never depend on `style` and `snippet`. If the snippet is the source literal of the
 /// input, the byte ranges are those of the snippet, and the first and the last token are what is
-/// around the text. Otherwise a byte range is what it would be in a literal that has the input
-/// unescaped, with the end of the text as the parser has it. An allocation failure aborts, as
-/// elsewhere in Rust.
+/// around the text. Otherwise the byte ranges are those of the input, from 0 on. An allocation
+/// failure aborts, as elsewhere in Rust.
 ///
 /// ```
 /// use dephungo::tokens::{tokens, Kind};

@@ -174,16 +174,23 @@ fn ids() {
     }
 }
 
-/// The errors of faults, in the order of a parser's list, are the parser's.
 #[test]
-fn faults_are_errors_of_the_standard_library() {
+fn faults_are_shown() {
     let fault = faults_of("{}}", None, None, false, Format).remove(0);
     assert_eq!(fault, faults_of("{}}", None, None, false, Format)[0]);
     assert_eq!(format!("{fault:>20}"), " unmatched `}` found");
-    let error: Box<dyn std::error::Error + '_> = Box::new(fault.clone());
-    assert_eq!(error.to_string(), error_of(&fault).description);
+    assert_eq!(fault.to_string(), error_of(&fault).description);
 }
 
+#[cfg(feature = "std")]
+#[test]
+fn faults_are_errors_of_the_standard_library() {
+    let fault = faults_of("{}}", None, None, false, Format).remove(0);
+    let error: Box<dyn std::error::Error + '_> = Box::new(fault);
+    assert_eq!(error.to_string(), "unmatched `}` found");
+}
+
+/// The errors of faults, in the order of a parser's list, are the parser's.
 #[test]
 fn errors_of_faults() {
     let text = "{r#a.b} {c?} {_} } {r#d";

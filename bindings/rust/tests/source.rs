@@ -242,7 +242,10 @@ fn reports() {
         (14, 5, "missing-format-string", false),
     ];
     assert_eq!(shown, wanted);
-    let titles: Vec<_> = report.findings[2..].iter().map(|it| &it.title[..]).collect();
+    let titles: Vec<_> = report.findings[2..]
+        .iter()
+        .map(|it| &it.title[..])
+        .collect();
     let wanted = [
         "format argument must be a string literal",
         "2 positional arguments in format string, but there is 1 argument",
@@ -252,7 +255,10 @@ fn reports() {
     ];
     assert_eq!(titles, wanted);
     let help = report.findings[2].help.as_ref().unwrap();
-    assert_eq!(help.text, "you might be missing a string literal to format with");
+    assert_eq!(
+        help.text,
+        "you might be missing a string literal to format with"
+    );
     assert_eq!(help.edits[0].text, "\"{}\", ");
 }
 

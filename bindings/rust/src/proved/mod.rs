@@ -1,17 +1,28 @@
 // The crates that are extracted. Made by tools/extract: not to be edited.
 
+pub mod asm_faults;
 pub mod call_faults;
 pub mod drawn_faults;
+#[cfg(feature = "std")]
 pub mod fault_rules;
 pub mod format_calls;
+#[cfg(feature = "std")]
 pub mod format_lint;
 pub mod format_tokens;
+#[cfg(feature = "std")]
 pub mod formatlint;
+#[cfg(feature = "std")]
 pub mod formatread;
+#[cfg(feature = "std")]
 pub mod lint_words;
+#[cfg(feature = "std")]
 pub mod listing_json;
+#[cfg(feature = "std")]
 pub mod literal_faults;
+pub mod message_faults;
+#[cfg(feature = "std")]
 pub mod message_forms;
+#[cfg(feature = "std")]
 pub mod package_edition;
 pub mod piece_listing;
 pub mod placeholder_check;

@@ -1,7 +1,10 @@
 //! Allocation. In Rust an allocation failure aborts, so it is never returned as an error:
 //! `AllocError` has no value, a `Result` with it is always `Ok`, and each `?` on one compiles to
 //! nothing.
-use std::collections::{BTreeMap, BTreeSet};
+use alloc::boxed::Box;
+use alloc::collections::{BTreeMap, BTreeSet};
+use alloc::string::String;
+use alloc::vec::Vec;
 
 /// The allocator that is passed to calls.
 #[derive(Clone, Copy)]
@@ -11,6 +14,7 @@ pub struct Global;
 #[derive(Debug)]
 pub enum AllocError {}
 
+#[cfg(feature = "std")]
 impl From<AllocError> for std::io::Error {
     fn from(error: AllocError) -> std::io::Error {
         match error {}
@@ -206,6 +210,15 @@ impl StringIn for String {
     }
 }
 
+/// The methods of iterators that take an allocator or return an allocation failure.
+pub trait IterIn: Iterator + Sized {
+    fn collect_in<C: FromIterator<Self::Item>>(self, _: Global) -> Result<C, AllocError> {
+        Ok(self.collect())
+    }
+}
+
+impl<I: Iterator> IterIn for I {}
+
 /// Methods of `str` that older versions of the standard library do not have.
 pub trait StrIn {
     /// Returns the last byte offset that is at most `at` and a character boundary. In the standard
@@ -258,7 +271,7 @@ impl StrIn for str {
 /// panics.
 #[inline(always)]
 pub fn proved_text(bytes: &[u8]) -> &str {
-    std::str::from_utf8(bytes).expect("bytes that are proved to be UTF-8")
+    core::str::from_utf8(bytes).expect("bytes that are proved to be UTF-8")
 }
 
 #[cfg(test)]

@@ -1,6 +1,6 @@
 //! What a program gets from its process: arguments, streams, files and the environment. A call that
 //! fails is not tried again, and nothing that was written waits in a buffer.
-use super::alloc::{AllocError, Global};
+use super::alloc::Global;
 use std::fmt::Display;
 use std::io::{self, Read, Write};
 
@@ -23,6 +23,11 @@ impl HostRuntime {
         Stdout
     }
 
+    /// Returns standard error.
+    pub fn stderr(&self) -> Stderr {
+        Stderr
+    }
+
     /// Writes a text to standard output.
     pub fn print(&self, text: impl Display) -> io::Result<()> {
         self.stdout().write_all(text.to_string().as_bytes())
@@ -30,7 +35,7 @@ impl HostRuntime {
 
     /// Writes a text to standard error.
     pub fn eprint(&self, text: impl Display) -> io::Result<()> {
-        io::stderr().write_all(text.to_string().as_bytes())
+        self.stderr().write_all(text.to_string().as_bytes())
     }
 
     /// Writes a line to standard error.
@@ -64,6 +69,34 @@ impl Write for Stdout {
     }
 }
 
+/// Standard error.
+pub struct Stderr;
+
+impl Write for Stderr {
+    fn write(&mut self, bytes: &[u8]) -> io::Result<usize> {
+        io::stderr().write(bytes)
+    }
+
+    fn flush(&mut self) -> io::Result<()> {
+        io::stderr().flush()
+    }
+}
+
+/// A time of the clock that never goes back.
+pub struct Instant(std::time::Instant);
+
+impl Instant {
+    /// Returns the time now.
+    pub fn now(_: &HostRuntime) -> io::Result<Instant> {
+        Ok(Instant(std::time::Instant::now()))
+    }
+
+    /// Returns how much time has passed since then.
+    pub fn elapsed(&self, _: &HostRuntime) -> io::Result<std::time::Duration> {
+        Ok(self.0.elapsed())
+    }
+}
+
 /// What the standard library says of a terminal only since Rust 1.70.
 pub trait IsTerminal {
     /// Returns whether the stream is a terminal.
@@ -79,6 +112,12 @@ impl IsTerminal for Stdin {
 impl IsTerminal for Stdout {
     fn is_terminal(&self) -> bool {
         is_terminal("/dev/stdout")
+    }
+}
+
+impl IsTerminal for Stderr {
+    fn is_terminal(&self) -> bool {
+        is_terminal("/dev/stderr")
     }
 }
 
@@ -98,15 +137,6 @@ fn is_terminal(path: &str) -> bool {
 fn is_terminal(_: &str) -> bool {
     false
 }
-
-/// The methods of iterators that take an allocator or return an allocation failure.
-pub trait IterIn: Iterator + Sized {
-    fn collect_in<C: FromIterator<Self::Item>>(self, _: Global) -> Result<C, AllocError> {
-        Ok(self.collect())
-    }
-}
-
-impl<I: Iterator> IterIn for I {}
 
 /// The arguments and the environment of a program.
 pub mod env {

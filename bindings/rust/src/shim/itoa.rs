@@ -15,7 +15,7 @@ impl Buffer {
     pub fn format(&mut self, number: usize) -> &str {
         let end = self.bytes.len();
         let at = write_digits(number as u64, &mut self.bytes, end);
-        std::str::from_utf8(&self.bytes[at..]).expect("digits are UTF-8")
+        core::str::from_utf8(&self.bytes[at..]).expect("digits are UTF-8")
     }
 }
 

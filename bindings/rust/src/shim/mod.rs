@@ -3,31 +3,37 @@
 pub mod alloc;
 // The programs use a part of these two.
 #[allow(dead_code)]
+#[cfg(feature = "std")]
 pub mod clap;
 #[allow(dead_code)]
+#[cfg(feature = "std")]
 pub mod host;
 pub mod itoa;
 // The listing as JSON, which only a program writes, is all that uses it.
+#[cfg(feature = "std")]
 pub mod json;
 pub mod parser;
 pub mod simd;
+// Only a program uses it.
+#[cfg(feature = "std")]
+pub mod strsim;
 pub mod unicode_ident;
 pub mod unicode_width;
 mod widths;
 mod xid;
 
 /// The traits that give the types of Rust's standard library the methods that the extracted modules
-/// call.
+/// call, and the types that `core` does not have.
 pub mod prelude {
-    pub use super::alloc::{BoxIn, MapIn, SetIn, StrIn, StringIn, VecIn};
-    pub use super::host::IterIn;
+    pub use super::alloc::{BoxIn, IterIn, MapIn, SetIn, StrIn, StringIn, VecIn};
+    pub use ::alloc::{boxed::Box, string::String, vec::Vec};
 }
 
 /// `format!(in alloc; ..)`: returns the text, or `Err` if an allocation fails.
 macro_rules! format_in {
     ($alloc:expr; $($words:tt)*) => {{
         let _: $crate::shim::alloc::Global = $alloc;
-        Ok::<String, $crate::shim::alloc::AllocError>(format!($($words)*))
+        Ok::<_, $crate::shim::alloc::AllocError>(::alloc::format!($($words)*))
     }};
 }
 pub(crate) use format_in;
@@ -36,7 +42,7 @@ pub(crate) use format_in;
 macro_rules! vec_in {
     ($alloc:expr; $item:expr; $count:expr) => {{
         let _: $crate::shim::alloc::Global = $alloc;
-        Ok::<_, $crate::shim::alloc::AllocError>(vec![$item; $count])
+        Ok::<_, $crate::shim::alloc::AllocError>(::alloc::vec![$item; $count])
     }};
 }
 pub(crate) use vec_in;

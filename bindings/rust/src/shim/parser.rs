@@ -3,7 +3,9 @@ use crate::proved::rustc_parse_format::faults::Fault;
 use crate::proved::rustc_parse_format::types::Taken;
 use crate::shim::alloc::{AllocError, Global};
 use crate::{Argument, ParseError, ParseMode, Piece};
-use std::ops::Range;
+use alloc::string::String;
+use alloc::vec::Vec;
+use core::ops::Range;
 
 /// A parser over an input, which reads one piece at a time.
 pub struct Parser<'input> {
@@ -25,9 +27,9 @@ impl<'input> Parser<'input> {
         })
     }
 
-    /// Returns the next piece.
-    pub fn next(&mut self) -> Result<Option<Piece<'input>>, AllocError> {
-        Ok(self.parser.next())
+    /// Returns whether the snippet is the source literal of the input.
+    pub fn is_source_literal(&self) -> bool {
+        self.parser.is_source_literal
     }
 
     /// Returns the next piece, and reads a placeholder into `argument`. How many errors were put
@@ -88,7 +90,7 @@ impl<'input> Parser<'input> {
 
     /// Takes the errors of all calls so far out of the parser.
     pub fn take_errors(&mut self) -> Vec<ParseError> {
-        std::mem::take(&mut self.parser.errors)
+        core::mem::take(&mut self.parser.errors)
     }
 }
 

@@ -1,5 +1,5 @@
 //! Vectors of sixteen bytes, as two 64-bit words: safe code that is the same on every processor.
-use std::ops::BitOr;
+use core::ops::BitOr;
 
 /// A vector of sixteen bytes. The first lane is the lowest byte of the first word.
 #[allow(non_camel_case_types)]

@@ -7,10 +7,10 @@
 use crate::proved::call_faults::faults::CallFault;
 use crate::shim::alloc::{AllocError, Global};
 use crate::shim::prelude::*;
-use std::collections::BTreeMap;
+use alloc::collections::BTreeMap;
 
 /// An argument of a call, as far as its placeholders can tell it from others.
-#[derive(Clone, Copy)]
+#[derive(Clone, Copy, Debug, Eq, PartialEq)]
 pub struct Given<'a> {
     /// Its name, without the `r#` of a raw identifier, as `a` in `a = 1`.
     pub name: Option<&'a str>,

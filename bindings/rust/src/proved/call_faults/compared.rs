@@ -9,7 +9,7 @@ use crate::proved::call_faults::faults::{CallFault, Missing, Part};
 use crate::proved::call_faults::lookups::{Lookup, Wanted};
 use crate::shim::alloc::{AllocError, Global};
 use crate::shim::prelude::*;
-use std::collections::BTreeMap;
+use alloc::collections::BTreeMap;
 
 /// Returns the index of the argument that a lookup means, or `None` if it means none.
 // ensures { (ks : List KeptValue) → Holds ks arguments.now → (i : ℕ)

@@ -5,6 +5,7 @@
 // by results from outside, and beside what is proved (.ci/bindings) and the original (tools/agree).
 
 use crate::proved::rustc_parse_format::Fault;
+use crate::shim::prelude::*;
 
 /// Which part of a placeholder refers to an argument.
 #[derive(Clone, Copy, Debug, PartialEq)]

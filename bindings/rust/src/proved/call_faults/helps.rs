@@ -14,7 +14,7 @@ use crate::proved::call_faults::titles::{name_of, put_number};
 use crate::proved::rustc_parse_format::{Fault, Suggestion};
 use crate::shim::alloc::{AllocError, Global};
 use crate::shim::prelude::*;
-use std::ops::Range;
+use core::ops::Range;
 
 /// Returns an edit that copies no source.
 // ensures { seen_edit result ≡ edit spot (string_bytes text) }

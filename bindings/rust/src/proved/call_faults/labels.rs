@@ -17,7 +17,7 @@ use crate::proved::call_faults::titles::{have_numbers, name_of, never_used, put_
 use crate::proved::rustc_parse_format::{Fault, ParseError, Suggestion};
 use crate::shim::alloc::{AllocError, Global};
 use crate::shim::prelude::*;
-use std::ops::Range;
+use core::ops::Range;
 
 /// Returns what is said of an argument with a name in front of one without.
 // ensures { result.now ≡ named_text }

@@ -14,7 +14,7 @@ use crate::proved::call_faults::titles::put_number;
 use crate::proved::rustc_parse_format::{Count, Piece, Position};
 use crate::shim::alloc::{AllocError, Global};
 use crate::shim::prelude::*;
-use std::ops::Range;
+use core::ops::Range;
 
 /// Adds the labels of references by an index that is too large.
 // ensures { OnOk result (map seen_label labels.new.items ≡ map seen_label labels.old.items

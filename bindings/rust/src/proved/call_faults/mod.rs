@@ -21,3 +21,4 @@ pub use arguments::Given;
 pub use checker::{call_faults, Checked, FormatString};
 pub use faults::{CallFault, Missing, Part, Reference};
 pub use spots::{CallEdit, CallHelp, CallLabel, CallNote, Spot};
+pub use text::text_fault;

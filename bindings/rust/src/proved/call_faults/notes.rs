@@ -14,7 +14,7 @@ use crate::proved::call_faults::titles::{have_numbers, put_name_between, put_num
 use crate::proved::rustc_parse_format::{Alignment, Count, Fault, FormatSpec, Piece, Position};
 use crate::shim::alloc::{AllocError, Global};
 use crate::shim::prelude::*;
-use std::collections::BTreeMap;
+use alloc::collections::BTreeMap;
 
 /// Adds a note that shows no place.
 // ensures { OnOk result (map seen_note notes.new.items

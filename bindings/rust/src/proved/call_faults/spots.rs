@@ -8,7 +8,7 @@ use crate::proved::call_faults::faults::{Part, Reference};
 use crate::proved::rustc_parse_format::{Argument, Count, Piece};
 use crate::shim::alloc::{AllocError, Global};
 use crate::shim::prelude::*;
-use std::ops::Range;
+use core::ops::Range;
 
 /// A place in the source of a call, which is a byte range there. An argument is named by its index
 /// among all that are given.

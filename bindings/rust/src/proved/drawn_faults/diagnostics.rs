@@ -7,14 +7,14 @@
 
 use crate::proved::drawn_faults::helps::{last_help_line, put_helps, SourceHelp};
 use crate::proved::drawn_faults::labels::{digits, Frame, Label};
+use crate::proved::drawn_faults::lines::put_parting;
 use crate::proved::drawn_faults::marked::{frame_of, last_label_line};
 use crate::proved::drawn_faults::notes::{last_note_line, put_notes, put_titled, SourceNote};
 use crate::proved::drawn_faults::paint::{palette_of, Gutter, Palette};
 use crate::proved::drawn_faults::places::Picture;
-use crate::proved::drawn_faults::suggestions::put_parting;
 use crate::shim::alloc::{AllocError, Global};
 use crate::shim::prelude::*;
-use std::ops::Range;
+use core::ops::Range;
 
 /// The severity of a diagnostic.
 #[derive(Clone, Copy, Debug, Eq, PartialEq)]

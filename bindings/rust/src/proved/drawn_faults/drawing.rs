@@ -10,13 +10,13 @@ use crate::proved::drawn_faults::glyphs::{put_glyphs, put_run};
 use crate::proved::drawn_faults::labels::{
     edit_of, frame_for, mark, second, text_name, Edit, Frame, Label,
 };
-use crate::proved::drawn_faults::lines::{put_decimal, put_labelled, put_two_labels};
+use crate::proved::drawn_faults::lines::{put_decimal, put_labelled, put_parting, put_two_labels};
 use crate::proved::drawn_faults::long::put_long;
 use crate::proved::drawn_faults::paint::{
     has_colours, put_closing, put_note_sign, put_opening, put_painted, Gutter, Palette, Style,
 };
 use crate::proved::drawn_faults::places::Picture;
-use crate::proved::drawn_faults::suggestions::{put_edit, put_parting};
+use crate::proved::drawn_faults::suggestions::put_edit;
 use crate::proved::rustc_parse_format::{ParseError, ParseMode};
 use crate::shim::alloc::{AllocError, Global};
 use crate::shim::prelude::*;
@@ -283,7 +283,7 @@ fn least_length(picture: &Picture<'_>, error: &ParseError) -> usize {
 /// 18.
 ///
 /// A span that does not fit is drawn too: an offset inside a character means the start of that
-/// character, one behind the source its end, and a range that ends before it begins is empty.
+/// character, one after the source its end, and a range that ends before it begins is empty.
 /// Returns `Err` if an allocation fails, or if the source has 2^59 bytes or more.
 // ensures drawn { IfOk result (λ s. string_bytes s
 //     ≡ drawing (seen_mode mode) (seen_picture picture.now) (seen_error error.now)) }

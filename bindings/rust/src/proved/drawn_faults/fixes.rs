@@ -10,7 +10,7 @@ use crate::proved::rustc_parse_format::{Argument, Fault, ParseError, ParseMode, 
 use crate::shim::alloc::{AllocError, Global};
 use crate::shim::parser::Parser;
 use crate::shim::prelude::*;
-use std::ops::Range;
+use core::ops::Range;
 
 /// An edit of a source: the bytes in a range are replaced by a text.
 #[derive(Clone, Debug, Eq, PartialEq)]
@@ -79,13 +79,13 @@ fn offered_edit(mode: ParseMode, suggestion: &Suggestion) -> Option<Edit<'_>> {
 }
 
 /// Returns the edits of these errors of a text of this mode, in the order of the source, each
-/// behind the end of the one before it.
+/// after the end of the one before it.
 ///
 /// As from the compiler, there are none in a template of assembly; and where no placeholder may
 /// have a specification, none leads to one.
 ///
 /// The errors are in the order of a parser, in which each error that has an edit comes before those
-/// of earlier places. An edit that does not start behind the end of the one before it is left out.
+/// of earlier places. An edit that does not start after the end of the one before it is left out.
 /// Returns `Err` if an allocation fails.
 // ensures edits { IfOk result (λ v. map seen_edit v.items
 //     ≡ edits (seen_mode mode) (map seen_error errors.now)) }
@@ -136,7 +136,7 @@ struct Edited<'t> {
     end: usize,
 }
 
-/// Makes the edit of a suggestion in a mode, if it has one that starts behind the end of the last
+/// Makes the edit of a suggestion in a mode, if it has one that starts after the end of the last
 /// one. Returns `Err` if an allocation fails.
 // ensures { OnOk result ((es : List EditValue) → with_edits edited.new es ≡ with_edits edited.old
 //     (cons_option (suggested (offered (seen_mode mode) (seen_suggestion suggestion.now))) es)) }
@@ -198,39 +198,6 @@ fn make_next<'a>(
     make_each(edited, mode, found.as_slice())?;
     found.clear();
     Ok(())
-}
-
-/// Makes a call of a parser, and leaves out the piece. Returns `Err` if an allocation fails.
-// ensures state { OnOk result (parser.new ≡ after parser.old (next_call parser.old)) }
-// ensures shorter { OnOk result (is_nil parser.old.rest ≡ false
-//     → length parser.new.rest < length parser.old.rest) }
-#[inline]
-fn advance(parser: &mut Parser<'_>) -> Result<(), AllocError> {
-    parser.next()?;
-    Ok(())
-}
-
-/// Returns the errors of all calls of a parser up to the end of an input, in its order. The
-/// arguments are those of [`Parser::new`]. Returns `Err` if an allocation fails.
-// requires { hashes style + length input.now + 2 < 2 ^ 64 }
-// ensures errors { IfOk result (λ v. map seen_error v.items
-//     ≡ all_errors (first_state (seen_mode mode) (chars input.now) style
-//     (seen_snippet snippet) appended_newline)) }
-// ensures empty { input.now ≡ [] → IsOk result }
-#[inline]
-pub fn errors_of(
-    alloc: Global,
-    input: &str,
-    style: Option<usize>,
-    snippet: Option<String>,
-    appended_newline: bool,
-    mode: ParseMode,
-) -> Result<Vec<ParseError>, AllocError> {
-    let mut parser = Parser::new(alloc, input, style, snippet, appended_newline, mode)?;
-    while !parser.is_at_end() {
-        advance(&mut parser)?;
-    }
-    Ok(parser.take_errors())
 }
 
 /// Returns a text with the edits of the errors of all calls of a parser without errors, in a mode,

@@ -109,25 +109,6 @@ pub fn draws_nothing(text: &str) -> bool {
     true
 }
 
-/// Returns whether nothing is drawn of the first characters of a text.
-// ensures { result ≡ (length (encode_utf8_all (glyphs (take count (chars text.now)))) == 0) }
-#[inline]
-fn front_draws_nothing(text: &str, count: usize) -> bool {
-    let mut rest = text;
-    let mut left = count;
-    while left > 0 {
-        let Some((c, tail)) = split_first(rest) else {
-            break;
-        };
-        if glyph_count(c) > 0 {
-            return false;
-        }
-        rest = tail;
-        left -= 1;
-    }
-    true
-}
-
 /// Returns 64 spaces.
 // ensures { result.now ≡ run 64 32 }
 #[inline]
@@ -273,28 +254,6 @@ pub fn put_painted_run(
     Ok(())
 }
 
-/// Adds the first characters of a text, as they are drawn, in the style `after`, where a text of
-/// the style `before` is before them. Returns the style of the last text that is drawn.
-// ensures { IfOk result (λ s. (xs : List Piece) → string_bytes out.new
-//     ++ pieces_after palette s xs ≡ string_bytes out.old ++ pieces_after palette before
-//     (piece after (encode_utf8_all (glyphs (take count (chars text.now)))) ∷ xs)) }
-#[inline]
-pub fn put_front_after(
-    out: &mut String,
-    palette: Palette,
-    before: Style,
-    after: Style,
-    text: &str,
-    count: usize,
-) -> Result<Style, AllocError> {
-    if front_draws_nothing(text, count) {
-        return Ok(before);
-    }
-    put_change(out, palette, before, after)?;
-    put_front(out, text, count)?;
-    Ok(after)
-}
-
 /// Adds a text as it is drawn, in the style `after`, where a text of the style `before` is before
 /// it. Returns the style of the last text that is drawn.
 // ensures { IfOk result (λ s. (xs : List Piece) → string_bytes out.new
@@ -314,41 +273,4 @@ pub fn put_glyphs_after(
     put_change(out, palette, before, after)?;
     put_glyphs(out, text, 0)?;
     Ok(after)
-}
-
-/// Adds the first characters of a text, as they are drawn.
-// ensures { OnOk result (string_bytes out.new ≡ string_bytes out.old
-//     ++ encode_utf8_all (glyphs (take count (chars text.now)))) }
-#[inline]
-pub fn put_front(out: &mut String, text: &str, count: usize) -> Result<(), AllocError> {
-    let mut rest = text;
-    let mut left = count;
-    while left > 0 {
-        let Some((c, tail)) = split_first(rest) else {
-            break;
-        };
-        put_run(out, glyph(c), glyph_count(c))?;
-        let (front, behind) = split_printable(tail, left - 1);
-        out.try_push_str(front)?;
-        rest = behind;
-        left -= 1 + front.len();
-    }
-    Ok(())
-}
-
-/// Returns what is left of a text behind its first characters.
-// ensures { chars result.now ≡ drop count (chars text.now) }
-#[inline]
-pub fn behind_chars(text: &str, count: usize) -> &str {
-    let mut rest = text;
-    let mut left = count;
-    while left > 0 {
-        let Some((_, tail)) = split_first(rest) else {
-            break;
-        };
-        let (passed, behind) = split_printable(tail, left - 1);
-        rest = behind;
-        left -= 1 + passed.len();
-    }
-    rest
 }

@@ -11,7 +11,7 @@ use crate::proved::drawn_faults::mark::Mark;
 use crate::proved::drawn_faults::paint::{palette_of, Gutter, Palette};
 use crate::proved::drawn_faults::places::{behind_lines, Picture};
 use crate::proved::rustc_parse_format::{ParseError, ParseMode, Suggestion};
-use std::ops::Range;
+use core::ops::Range;
 
 /// A label of a range of the source.
 #[derive(Clone, Copy)]
@@ -24,13 +24,17 @@ pub struct Label<'a> {
     pub extent: Extent,
 }
 
-/// A suggestion that is drawn with its old and its new line.
+/// An edit that is drawn with its lines.
 #[derive(Clone, Copy)]
 pub struct Edit<'a> {
     /// The new text.
     pub text: &'a str,
     /// Where the text is that it replaces.
     pub extent: Extent,
+    /// The byte offset in the source at which that text begins.
+    pub from: usize,
+    /// The byte offset in the source at which it ends.
+    pub to: usize,
 }
 
 /// How a picture is laid out.
@@ -97,6 +101,22 @@ pub fn second<'a>(
     })
 }
 
+/// Returns an edit with its place in the source.
+// requires { length picture.now.source.now < 2 ^ 59 }
+// ensures value { seen_edit result ≡ placed (seen_picture picture.now) text.now (pair range.now) }
+// ensures small { result.extent.end.line < 2 ^ 59 }
+// ensures small_start { result.extent.start.line < 2 ^ 59 }
+#[inline]
+pub fn placed<'a>(picture: &Picture<'_>, text: &'a str, range: &Range<usize>) -> Edit<'a> {
+    let (from, to) = picture.offsets(range);
+    Edit {
+        text,
+        extent: picture.extent(range),
+        from,
+        to,
+    }
+}
+
 /// Returns the edit that is drawn, or `None` if there is none.
 // requires { length picture.now.source.now < 2 ^ 59 }
 // ensures value { option_map seen_edit result ≡ edit_of (seen_picture picture.now)
@@ -115,10 +135,7 @@ pub fn edit_of<'a>(
     let Suggestion::ReorderFormatParameter(span, text) = suggestion else {
         return None;
     };
-    Some(Edit {
-        text: text.as_str(),
-        extent: picture.extent(span),
-    })
+    Some(placed(picture, text.as_str(), span))
 }
 
 /// Returns the last line of a label, or 0 without one.

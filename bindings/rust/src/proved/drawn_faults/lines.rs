@@ -12,7 +12,7 @@ use crate::proved::drawn_faults::paint::{
     put_closing, put_gutter_bar, put_opening, put_painted, Palette, Style,
 };
 use crate::proved::drawn_faults::places::line;
-use crate::proved::drawn_faults::rows::{put_both, put_one};
+use crate::proved::drawn_faults::rows::{put_blank, put_both, put_one};
 use crate::shim::alloc::AllocError;
 use crate::shim::itoa::Buffer;
 use crate::shim::prelude::*;
@@ -23,6 +23,16 @@ use crate::shim::prelude::*;
 pub fn put_decimal(out: &mut String, number: usize) -> Result<(), AllocError> {
     let mut digits = Buffer::new();
     out.try_push_str(digits.format(number))?;
+    Ok(())
+}
+
+/// Adds the row between two parts of the drawing.
+// ensures { OnOk result (string_bytes out.new ≡ string_bytes out.old
+//     ++ parting (seen_frame frame.now)) }
+#[inline]
+pub fn put_parting(out: &mut String, frame: &Frame<'_>) -> Result<(), AllocError> {
+    put_blank(out, frame.gutter)?;
+    out.try_push_str("\n")?;
     Ok(())
 }
 
@@ -70,7 +80,7 @@ fn put_shown(out: &mut String, palette: Palette, text: &str, cut: usize) -> Resu
     Ok(())
 }
 
-/// Adds what is behind a bar: a line, and what is in front of it.
+/// Adds what is after a bar: a line, and what is in front of it.
 // requires { cut < 2 ^ 62 }
 // ensures { OnOk result (string_bytes out.new
 //     ≡ string_bytes out.old ++ behind_bar palette front.now cut (chars text.now)) }

@@ -23,7 +23,7 @@ fn is_bracket(c: char) -> bool {
     c == '(' || c == ')' || c == '[' || c == ']' || c == '{' || c == '}'
 }
 
-/// Returns whether what begins with a text behind `//` is a comment, but no documentation.
+/// Returns whether what begins with a text after `//` is a comment, but no documentation.
 // ensures { result ≡ is_plain_comment (chars text.now) }
 #[inline]
 fn is_plain_comment(text: &str) -> bool {
@@ -33,7 +33,7 @@ fn is_plain_comment(text: &str) -> bool {
     }
 }
 
-/// Returns whether what begins with a text behind `/` is a comment, but no documentation.
+/// Returns whether what begins with a text after `/` is a comment, but no documentation.
 // ensures { result ≡ is_comment (chars text.now) }
 #[inline]
 fn is_comment(text: &str) -> bool {
@@ -81,7 +81,7 @@ fn is_bare_line(frame: &Frame<'_>, number: usize) -> bool {
     is_bare(line(frame.picture.source, number))
 }
 
-/// Returns how many of the lines behind a line are left without the bare ones at their end.
+/// Returns how many of the lines after a line are left without the bare ones at their end.
 // requires { first + count < 2 ^ 61 }
 // ensures value { result ≡ without_bare (seen_frame frame.now) first count }
 // ensures few { result ≤ count }
@@ -124,7 +124,7 @@ fn put_bar_row(out: &mut String, frame: &Frame<'_>, number: usize) -> Result<(),
     Ok(())
 }
 
-/// Adds so many lines behind a line.
+/// Adds so many lines after a line.
 // requires number { first + count < 2 ^ 60 }
 // requires cut { frame.now.cut < 2 ^ 62 }
 // ensures { OnOk result (string_bytes out.new ≡ string_bytes out.old
@@ -165,7 +165,7 @@ fn put_bar_gap(
     Ok(())
 }
 
-/// Adds a text, a line to a column behind it, and the sign at its end.
+/// Adds a text, a line to a column after it, and the sign at its end.
 // requires { length front.now ≡ 1 }
 // ensures { OnOk result (string_bytes out.new
 //     ≡ string_bytes out.old ++ lead palette front.now columns) }

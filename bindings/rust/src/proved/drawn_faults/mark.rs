@@ -11,7 +11,7 @@ pub struct Mark<'a> {
     pub line: usize,
     /// The first column of the label.
     pub from: usize,
-    /// The first column behind the label.
+    /// The first column after the label.
     pub to: usize,
     /// The sign under its columns.
     pub sign: char,

@@ -6,20 +6,31 @@
 // by results from outside, and beside what is proved (.ci/bindings) and the original (tools/agree).
 
 pub(crate) mod cells;
+pub(crate) mod changes;
+#[cfg(feature = "std")]
 pub(crate) mod diagnostics;
 pub(crate) mod drawing;
+pub(crate) mod edit_rows;
+pub(crate) mod edited;
+pub(crate) mod errors;
 pub(crate) mod extent;
 pub(crate) mod fixes;
 pub(crate) mod glyphs;
+#[cfg(feature = "std")]
 pub(crate) mod hanging;
+#[cfg(feature = "std")]
 pub(crate) mod helps;
 pub(crate) mod labels;
 pub(crate) mod lines;
 pub(crate) mod long;
 pub(crate) mod mark;
+#[cfg(feature = "std")]
 pub(crate) mod marked;
+#[cfg(feature = "std")]
 pub(crate) mod marks;
+#[cfg(feature = "std")]
 pub(crate) mod notes;
+#[cfg(feature = "std")]
 pub(crate) mod order;
 pub(crate) mod paint;
 pub(crate) mod places;
@@ -28,12 +39,20 @@ pub(crate) mod rounds;
 pub(crate) mod rows;
 pub(crate) mod suggestions;
 
+#[cfg(feature = "std")]
 pub use diagnostics::{put_labels, Diagnostic, Level, SourceLabel};
-pub use drawing::{draw, put_drawing};
-pub use fixes::{edits, errors_of, Edit, Fixed};
+pub use drawing::draw;
+#[cfg(feature = "std")]
+pub use drawing::put_drawing;
+pub use errors::errors_of;
+pub use fixes::{edits, Edit, Fixed};
+#[cfg(feature = "std")]
 pub use glyphs::put_glyphs;
+#[cfg(feature = "std")]
 pub use helps::SourceHelp;
+#[cfg(feature = "std")]
 pub use notes::SourceNote;
 pub use places::Picture;
+#[cfg(feature = "std")]
 pub use printable::{is_ascii_or_as_is, is_drawn_as_is};
 pub use rounds::fix;

@@ -8,15 +8,15 @@
 use crate::proved::drawn_faults::drawing::{put_arrow, put_note_word};
 use crate::proved::drawn_faults::glyphs::{glyph, glyph_count, put_glyphs, put_run, split_first};
 use crate::proved::drawn_faults::labels::{Frame, Label};
+use crate::proved::drawn_faults::lines::put_parting;
 use crate::proved::drawn_faults::marked::{first_spot, frame_of, last_label_line, put_labels_rows};
 use crate::proved::drawn_faults::paint::{
     palette_of, put_closing, put_opening, put_painted, Gutter, Palette, Style,
 };
 use crate::proved::drawn_faults::places::Picture;
-use crate::proved::drawn_faults::suggestions::put_parting;
 use crate::shim::alloc::{AllocError, Global};
 use crate::shim::prelude::*;
-use std::ops::Range;
+use core::ops::Range;
 
 /// A note of a diagnostic.
 #[derive(Clone, Copy, Debug)]

@@ -99,7 +99,7 @@ pub fn escape(palette: Palette, style: Style) -> &'static str {
 /// Returns a number of a style.
 // ensures { result ≡ rank style }
 #[inline]
-fn rank(style: Style) -> u8 {
+pub fn rank(style: Style) -> u8 {
     match style {
         Style::Plain => 0,
         Style::Primary => 1,

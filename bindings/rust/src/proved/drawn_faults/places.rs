@@ -7,7 +7,7 @@
 use crate::proved::drawn_faults::extent::{Extent, Spot};
 use crate::proved::drawn_faults::glyphs::{split_first, width};
 use crate::proved::drawn_faults::printable::split_printable;
-use std::ops::Range;
+use core::ops::Range;
 
 /// The source that a fault is drawn in: a whole file, or those lines of it that have the literal.
 #[derive(Clone, Copy, Debug)]
@@ -32,7 +32,7 @@ pub const ORIGIN: Spot = Spot {
     is_indent: true,
 };
 
-/// Returns the place behind a character.
+/// Returns the place after a character.
 // requires small_line { spot.line < 2 ^ 62 }
 // requires small_chars { spot.chars < 2 ^ 62 }
 // requires small_column { spot.column < 2 ^ 61 }
@@ -58,7 +58,7 @@ fn past(spot: Spot, c: char) -> Spot {
     }
 }
 
-/// Returns the place behind printable characters.
+/// Returns the place after printable characters.
 // requires printable { list_all is_printable front.now ≡ true }
 // requires behind_indent { spot.is_indent ≡ false }
 // requires small_chars { spot.chars + length front.now < 2 ^ 62 }
@@ -78,7 +78,7 @@ fn past_printable(spot: Spot, front: &str) -> Spot {
 }
 
 /// Passes the printable characters at the start of a text that end within `width` bytes. Returns
-/// the place behind them, what is left of the text, and how many of the bytes are left.
+/// the place after them, what is left of the text, and how many of the bytes are left.
 // requires behind_indent { from.is_indent ≡ false }
 // requires small_chars { from.chars + length text.now < 2 ^ 60 }
 // requires small_column { from.column + 4 * length text.now < 2 ^ 61 }
@@ -98,7 +98,7 @@ fn pass_printable(from: Spot, text: &str, width: usize) -> (Spot, &str, usize) {
     (past_printable(from, front), rest, width - front.len())
 }
 
-/// Passes the characters of a text that end within `width` bytes. Returns the place behind them,
+/// Passes the characters of a text that end within `width` bytes. Returns the place after them,
 /// what is left of the text, and how many of the bytes are left.
 // requires small_line { from.line + length text.now < 2 ^ 60 }
 // requires small_chars { from.chars + length text.now < 2 ^ 60 }
@@ -133,7 +133,7 @@ fn pass(from: Spot, text: &str, width: usize) -> (Spot, &str, usize) {
     (at, rest, left)
 }
 
-/// Returns the first line of a text, and what is left of the text behind that line.
+/// Returns the first line of a text, and what is left of the text after that line.
 // ensures line { result.0.now ≡ first_line text.now }
 // ensures rest { result.1.now ≡ behind_lines 1 text.now }
 // ensures short_line { length result.0.now ≤ length text.now }
@@ -146,7 +146,7 @@ pub fn split_line(text: &str) -> (&str, &str) {
     }
 }
 
-/// Returns what is left of a text behind its first lines.
+/// Returns what is left of a text after its first lines.
 // ensures value { result.now ≡ behind_lines count text.now }
 // ensures short { length result.now ≤ length text.now }
 #[inline]
@@ -161,7 +161,7 @@ pub fn behind_lines(text: &str, count: usize) -> &str {
     rest
 }
 
-/// Returns the line with a number, counted from 0, or an empty text behind the last one.
+/// Returns the line with a number, counted from 0, or an empty text after the last one.
 // ensures value { result.now ≡ line number text.now }
 // ensures short { length result.now ≤ length text.now }
 #[inline]
@@ -171,6 +171,18 @@ pub fn line(text: &str, number: usize) -> &str {
 }
 
 impl Picture<'_> {
+    /// Returns the byte offsets in the source at which a range of the literal begins and ends.
+    // ensures start { result.0 ≡ offset (seen_picture self.now) (pair range.now).0 }
+    // ensures end { result.1 ≡ max (offset (seen_picture self.now) (pair range.now).0)
+    //     (offset (seen_picture self.now) (pair range.now).1) }
+    #[inline]
+    pub(crate) fn offsets(&self, range: &Range<usize>) -> (usize, usize) {
+        let length = self.source.len();
+        let from = self.literal_start.saturating_add(range.start).min(length);
+        let to = self.literal_start.saturating_add(range.end).min(length);
+        (from, to.max(from))
+    }
+
     /// Returns where a range of the literal begins and ends.
     // requires { length self.now.source.now < 2 ^ 59 }
     // ensures value { seen_extent result ≡ extent (seen_picture self.now) (pair range.now) }
@@ -181,11 +193,9 @@ impl Picture<'_> {
     // ensures small_end_column { result.end.column < 2 ^ 61 }
     #[inline]
     pub(crate) fn extent(&self, range: &Range<usize>) -> Extent {
-        let length = self.source.len();
-        let from = self.literal_start.saturating_add(range.start).min(length);
-        let to = self.literal_start.saturating_add(range.end).min(length);
+        let (from, to) = self.offsets(range);
         let (start, rest, left) = pass(ORIGIN, self.source, from);
-        let (end, _, _) = pass(start, rest, left + to.saturating_sub(from));
+        let (end, _, _) = pass(start, rest, left + (to - from));
         Extent { start, end }
     }
 }

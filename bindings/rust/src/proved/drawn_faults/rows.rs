@@ -99,7 +99,7 @@ pub fn put_blank(out: &mut String, gutter: Gutter) -> Result<(), AllocError> {
     Ok(())
 }
 
-/// Adds the gutter of a row under a line, and the space behind it.
+/// Adds the gutter of a row under a line, and the space after it.
 // ensures { OnOk result (string_bytes out.new
 //     ≡ string_bytes out.old ++ (blank gutter ++ codes " ")) }
 #[inline]
@@ -118,7 +118,7 @@ fn put_label_text(out: &mut String, palette: Palette, m: &Mark<'_>) -> Result<()
     Ok(())
 }
 
-/// Adds the signs of a label and its text behind them.
+/// Adds the signs of a label and its text after them.
 // ensures { OnOk result (string_bytes out.new
 //     ≡ string_bytes out.old ++ pointed palette (seen_mark m.now)) }
 #[inline]

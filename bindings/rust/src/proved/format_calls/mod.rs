@@ -4,6 +4,7 @@
 // That source is proved, and each contract here is its. That this text means the same is tested:
 // by results from outside, and beside what is proved (.ci/bindings) and the original (tools/agree).
 
+pub(crate) mod assembly;
 pub(crate) mod counted;
 pub(crate) mod listing;
 pub(crate) mod marks;
@@ -13,9 +14,11 @@ pub(crate) mod split;
 pub(crate) mod strings;
 pub(crate) mod table;
 
+pub use assembly::{asm_part, template_count, AsmPart};
 pub use counted::are_counted;
 pub use listing::{calls, Call};
-pub use marks::{is_mark_of, is_word, token_at, word};
+pub use marks::{is_mark, is_mark_of, is_word, token_at, word};
+pub use modes::is_text;
 pub use parts::next_part;
 pub use split::{arguments, Argument};
 pub use strings::{format_string, is_text_leaf, Reason};

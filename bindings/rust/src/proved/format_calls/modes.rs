@@ -78,7 +78,7 @@ fn is_double(tokens: &[Token<'_>], index: usize) -> bool {
 /// Returns whether the token is this word, not a raw one.
 // ensures { result ≡ is_text (leaf token.now) word.now }
 #[inline]
-fn is_text(token: &Token<'_>, word: &str) -> bool {
+pub fn is_text(token: &Token<'_>, word: &str) -> bool {
     matches!(token.kind, Kind::Ident) && token.text == word
 }
 

@@ -11,7 +11,7 @@ use crate::proved::rust_tokens::Kind;
 use crate::proved::rust_trees::{Source, Token};
 
 /// The reason why no format string of a call is read.
-#[derive(Clone, Copy)]
+#[derive(Clone, Copy, Debug, Eq, PartialEq)]
 pub enum Reason {
     /// There are too few arguments for one.
     Missing,
@@ -37,7 +37,7 @@ pub fn is_text_leaf(token: &Token<'_>) -> bool {
 /// Returns whether an argument is one string literal.
 // ensures { result ≡ is_text (map leaf tokens.now) argument.now }
 #[inline]
-fn is_text(tokens: &[Token<'_>], argument: &Argument) -> bool {
+pub(crate) fn is_text(tokens: &[Token<'_>], argument: &Argument) -> bool {
     match token_at(tokens, argument.start) {
         Some(token) => {
             argument.start < argument.end
@@ -115,6 +115,7 @@ pub fn format_string(
     let tokens = source.tokens();
     match rule {
         Rule::At(index) => string_at(tokens, arguments, index, false),
+        Rule::Templates => string_at(tokens, arguments, 0, false),
         Rule::ByEdition(index) => string_at(tokens, arguments, index, !is_from_2021),
         Rule::AfterFields => match first_text(tokens, arguments) {
             Some(index) => Ok(index),

@@ -9,7 +9,7 @@ use crate::shim::prelude::*;
 
 /// The rule for the argument of a macro that is its format string. The arguments after it are
 /// formatted.
-#[derive(Clone, Copy)]
+#[derive(Clone, Copy, Debug, Eq, PartialEq)]
 pub enum Rule {
     /// The argument with this index.
     At(usize),
@@ -18,10 +18,13 @@ pub enum Rule {
     ByEdition(usize),
     /// The first argument that is a string literal: fields may stand before it.
     AfterFields,
+    /// The first argument, and the string literals that follow it, are templates of inline
+    /// assembly. Operands follow.
+    Templates,
 }
 
 /// A macro of a table.
-#[derive(Clone, Copy)]
+#[derive(Clone, Copy, Debug, Eq, PartialEq)]
 pub struct Row<'a> {
     /// Its name.
     pub name: &'a str,
@@ -36,7 +39,7 @@ pub struct Table<'a> {
 }
 
 /// The macros of the standard library.
-const STANDARD: [Row<'static>; 20] = [
+const STANDARD: [Row<'static>; 23] = [
     Row {
         name: "format",
         rule: Rule::At(0),
@@ -117,6 +120,18 @@ const STANDARD: [Row<'static>; 20] = [
         name: "debug_assert_matches",
         rule: Rule::At(2),
     },
+    Row {
+        name: "asm",
+        rule: Rule::Templates,
+    },
+    Row {
+        name: "global_asm",
+        rule: Rule::Templates,
+    },
+    Row {
+        name: "naked_asm",
+        rule: Rule::Templates,
+    },
 ];
 
 /// Macros of the crates log, tracing, slog, anyhow and eyre.
@@ -175,15 +190,23 @@ const CRATES: [Row<'static>; 13] = [
     },
 ];
 
+/// Adds rows to the end of a list. Returns `Err` if an allocation fails.
+// ensures { OnOk result (rows.new.items ≡ rows.old.items ++ more.now) }
+#[inline]
+fn push_rows<'a>(rows: &mut Vec<Row<'a>>, more: &[Row<'static>]) -> Result<(), AllocError> {
+    for row in more {
+        rows.try_push(*row)?;
+    }
+    Ok(())
+}
+
 impl<'a> Table<'a> {
     /// Returns the macros of the standard library. Returns `Err` if an allocation fails.
     // ensures { IfOk result (λ t. map entry t.rows.items ≡ standard) }
     #[inline]
     pub fn standard(alloc: Global) -> Result<Self, AllocError> {
         let mut rows = Vec::made_in(alloc);
-        for row in &STANDARD {
-            rows.try_push(*row)?;
-        }
+        push_rows(&mut rows, STANDARD.as_slice())?;
         Ok(Table { rows })
     }
 
@@ -193,9 +216,7 @@ impl<'a> Table<'a> {
     #[inline]
     pub fn of_crates(alloc: Global) -> Result<Self, AllocError> {
         let mut rows = Vec::made_in(alloc);
-        for row in &CRATES {
-            rows.try_push(*row)?;
-        }
+        push_rows(&mut rows, CRATES.as_slice())?;
         Ok(Table { rows })
     }
 

@@ -101,11 +101,10 @@ pub fn faults_in<'a>(
     Ok(faults)
 }
 
-/// Returns the tokens of a source with this snippet, and its faults. Returns `Err` as `faults_of`
-/// does.
+/// Returns the tokens of a source, and its faults. Returns `Err` as `faults_of` does.
 // requires { hashes source.style ≤ limit }
-// ensures tokens { IfOk result (λ x. map seen_token x.0.items ≡ tokens (seen_mode mode)
-//     (chars source.entry.text.now) source.entry.style (Some (chars snippet.now)) false) }
+// ensures tokens { IfOk result (λ x. map seen_token x.0.items
+//     ≡ tokens_in (seen_mode mode) (seen_source source.entry)) }
 // ensures faults { IfOk result (λ x. Keeps x.1
 //     (findings (seen_mode mode) (seen_source source.entry))) }
 #[inline]
@@ -113,7 +112,6 @@ pub fn tokens_in<'a>(
     alloc: Global,
     mode: ParseMode,
     source: Source<'a>,
-    snippet: &str,
 ) -> Result<(Vec<Token>, Findings<'a>), AllocError> {
     let mut parser = parser_of(alloc, mode, source)?;
     let (labels, faults) = labels_of(alloc, &mut parser, mode, source)?;
@@ -121,7 +119,7 @@ pub fn tokens_in<'a>(
         alloc,
         source.text,
         source.style,
-        Some(snippet),
+        source.literal,
         false,
         labels.as_slice(),
     )?;

@@ -11,23 +11,26 @@ use crate::proved::piece_listing::verdict::RunFault;
 use crate::shim::alloc::Global;
 use std::io::{Read, Write};
 
-/// Reads an input from `reader` up to its end, and writes the output of `task` for it to `writer`.
-/// Returns the number of faults that are left as mistakes of their own and follow from no other
-/// one: of the input, or of the literal with its fixes.
+/// Reads an input from `reader` up to its end, and writes the output of `task` for it to `writer`
+/// and then the error output to `error_writer`: the drawing of a fault, where the output is tokens
+/// or a literal. Returns the number of faults that are left as mistakes of their own and follow
+/// from no other one: of the input, or of the literal with its fixes.
 ///
 /// The input may have at most 1,048,576 bytes. Returns `Err` if a read, a write or an allocation
 /// fails, or if the input is too long, not UTF-8, or not a string literal although the task needs
 /// one (`RunFault`, but never `Words`). A read or a write that fails is not tried again. After an
 /// error nothing is written, except that after a failed write a part may be.
-// The output and the result are those of the definition `IsOwed`.
-// ensures shown { IfOk result (λ told. IfSome (R.remaining reader.old) (λ input. (text : List ℕ)
-//     × IsOwed (seen_task task.entry) input (Ok (text, told))
-//     × Appends (W.contents writer.old) (W.contents writer.new) text)) }
-// A terminal obeys nothing of the output but the colours of the task; with fixes the literal,
-// which is to be read again, is written as it is.
+// Both outputs and the result are those of the definition `IsOwed`.
+// ensures shown { IfOk result (λ told. IfSome (R.remaining reader.old) (λ input. (x : Shown)
+//     × IsOwed (seen_task task.entry) input (Ok x) × (told ≡ x.mistakes)
+//     × Appends (W.contents writer.old) (W.contents writer.new) x.output
+//     × Appends (E.contents error_writer.old) (E.contents error_writer.new) x.error_output)) }
+// A terminal obeys nothing of them but the colours of the task; with fixes the literal, which
+// is to be read again, is written as it is.
 // ensures harmless { IfOk result (λ told. IfSome (R.remaining reader.old)
-//     (λ input. (text : List ℕ) × IsHarmlessFor (seen_task task.entry) input text
-//     × Appends (W.contents writer.old) (W.contents writer.new) text)) }
+//     (λ input. (x : Shown) × IsHarmlessFor (seen_task task.entry) input x
+//     × Appends (W.contents writer.old) (W.contents writer.new) x.output
+//     × Appends (E.contents error_writer.old) (E.contents error_writer.new) x.error_output)) }
 // The definition has only one result.
 // ensures one_answer { (a : TaskValue) (input : List ℕ) (x y : Result Shown FaultValue)
 //     → IsOwed a input x → IsOwed a input y → x ≡ y }
@@ -42,19 +45,22 @@ use std::io::{Read, Write};
 // ensures not_literal { IsErrOf result NotLiteral → IfSome (R.remaining reader.old)
 //     (λ input. IsOwed (seen_task task.entry) input (Err NotLiteral)) }
 // After any error other than a failed write, nothing is written.
-// ensures unwritten { IfErr result (λ fault. fault ≢ WriteFault → writer.new ≡ writer.old) }
+// ensures unwritten { IfErr result (λ fault. fault ≢ WriteFault
+//     → (writer.new ≡ writer.old) × (error_writer.new ≡ error_writer.old)) }
 #[inline]
-pub fn run<R: Read, W: Write>(
+pub fn run<R: Read, W: Write, E: Write>(
     alloc: Global,
     reader: &mut R,
     writer: &mut W,
+    error_writer: &mut E,
     task: Task<'_>,
 ) -> Result<usize, RunFault> {
     let input = read_input(alloc, reader)?;
-    let Ok(text) = std::str::from_utf8(input.as_slice()) else {
+    let Ok(text) = core::str::from_utf8(input.as_slice()) else {
         return Err(RunFault::NotText);
     };
-    let (shown, told) = shown_of_input(alloc, text, task)?;
-    write_whole(writer, shown.as_bytes())?;
-    Ok(told)
+    let shown = shown_of_input(alloc, text, task)?;
+    write_whole(writer, shown.output.as_bytes())?;
+    write_whole(error_writer, shown.error_output.as_bytes())?;
+    Ok(shown.mistakes)
 }

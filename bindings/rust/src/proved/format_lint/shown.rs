@@ -1,4 +1,4 @@
-//! The output for an input in UTF-8.
+//! What is shown of an input in UTF-8.
 
 // Extracted from crates/format_lint/src/shown.rt by tools/extract: not to be edited.
 // That source is proved, and each contract here is its. That this text means the same is tested:
@@ -15,6 +15,16 @@ use crate::proved::piece_listing::verdict::RunFault;
 use crate::proved::rustc_parse_format::ParseMode;
 use crate::shim::alloc::{AllocError, Global};
 use crate::shim::prelude::*;
+
+/// What a task shows of an input.
+pub struct Shown {
+    /// The text for the output.
+    pub output: String,
+    /// The drawing for the error output, where the output is no drawing.
+    pub error_output: String,
+    /// The number of mistakes that are left.
+    pub mistakes: usize,
+}
 
 /// Appends a line with the id of a fault, which says whether it follows from the one before.
 /// Returns `Err` if an allocation fails.
@@ -131,9 +141,9 @@ fn put_drawings(
 /// mistakes of their own, and `Err` if an allocation fails.
 // requires { Keeps faults.now (findings (seen_mode task.mode) (seen_source source)) }
 // ensures drawn { OnOk result (string_bytes out.new ≡ string_bytes out.old
-//     ++ (drawn all (seen_task task.entry) (seen_source source.entry)).0) }
+//     ++ drawing_of all (seen_task task.entry) (seen_source source.entry)) }
 // ensures told { IfOk result (λ told. told
-//     ≡ (drawn all (seen_task task.entry) (seen_source source.entry)).1) }
+//     ≡ mistakes (findings (seen_mode task.entry.mode) (seen_source source.entry))) }
 #[inline]
 fn put_faults(
     alloc: Global,
@@ -153,62 +163,73 @@ fn put_faults(
     put_drawings(alloc, out, all, task.mode, &picture, faults)
 }
 
-/// Appends the drawing of a source to a text. Returns how many mistakes it has, and `Err` if an
-/// allocation fails.
+/// Returns the drawing of a source as the output. Returns `Err` if an allocation fails.
 // requires { hashes source.style ≤ limit }
-// ensures drawn { OnOk result (string_bytes out.new ≡ string_bytes out.old
-//     ++ (drawn all (seen_task task.entry) (seen_source source.entry)).0) }
-// ensures told { IfOk result (λ told. told
-//     ≡ (drawn all (seen_task task.entry) (seen_source source.entry)).1) }
+// ensures { IfOk result (λ x. seen_shown x
+//     ≡ drawn all (seen_task task.entry) (seen_source source.entry)) }
 #[inline]
-fn put_drawn(
+fn drawn_output(
     alloc: Global,
-    out: &mut String,
     all: bool,
     task: Task<'_>,
     source: Source<'_>,
-) -> Result<usize, AllocError> {
+) -> Result<Shown, AllocError> {
     let faults = faults_in(alloc, task.mode, source)?;
-    let told = put_faults(alloc, out, all, task, source, &faults)?;
-    Ok(told)
+    let mut output = String::made_in(alloc);
+    let mistakes = put_faults(alloc, &mut output, all, task, source, &faults)?;
+    Ok(Shown {
+        output,
+        error_output: String::made_in(alloc),
+        mistakes,
+    })
 }
 
-/// Appends a source as it is written, a line end, and the drawing of its first fault to a text.
-/// Returns how many mistakes it has, and `Err` if an allocation fails.
+/// Returns an output with the drawing of the first of a source's faults as the error output.
+/// Returns `Err` if an allocation fails.
+// requires { Keeps faults.now (findings (seen_mode task.mode) (seen_source source)) }
+// ensures { IfOk result (λ x. seen_shown x
+//     ≡ with_drawing (string_bytes output) (seen_task task.entry) (seen_source source.entry)) }
+#[inline]
+fn with_drawing(
+    alloc: Global,
+    output: String,
+    task: Task<'_>,
+    source: Source<'_>,
+    faults: &Findings<'_>,
+) -> Result<Shown, AllocError> {
+    let mut error_output = String::made_in(alloc);
+    let mistakes = put_faults(alloc, &mut error_output, false, task, source, faults)?;
+    Ok(Shown {
+        output,
+        error_output,
+        mistakes,
+    })
+}
+
+/// Returns a source as it is written and a line end, with the drawing of its first fault. Returns
+/// `Err` if an allocation fails.
 // requires { hashes source.style ≤ limit }
-// ensures kept { OnOk result (string_bytes out.new ≡ string_bytes out.old
-//     ++ (kept (seen_task task.entry) (seen_source source.entry)).0) }
-// ensures told { IfOk result (λ told. told
-//     ≡ (kept (seen_task task.entry) (seen_source source.entry)).1) }
+// ensures { IfOk result (λ x. seen_shown x
+//     ≡ kept (seen_task task.entry) (seen_source source.entry)) }
 #[inline]
-fn put_kept(
-    alloc: Global,
-    out: &mut String,
-    task: Task<'_>,
-    source: Source<'_>,
-) -> Result<usize, AllocError> {
-    out.try_push_str(source.literal.unwrap_or(source.text))?;
-    out.try_push_str("\n")?;
-    put_drawn(alloc, out, false, task, source)
+fn kept_output(alloc: Global, task: Task<'_>, source: Source<'_>) -> Result<Shown, AllocError> {
+    let mut output = String::made_in(alloc);
+    output.try_push_str(source.literal.unwrap_or(source.text))?;
+    output.try_push_str("\n")?;
+    let faults = faults_in(alloc, task.mode, source)?;
+    Ok(with_drawing(alloc, output, task, source, &faults)?)
 }
 
-/// Appends the literal of a source with the edits that its faults suggest, and the drawing of the
-/// first fault that it then has, to a text. Returns how many mistakes it has, and `Err` if an
-/// allocation fails.
-// requires style { hashes source.style ≤ limit }
-// requires empty { string_bytes out.old ≡ [] }
-// ensures { IfOk result (λ told. (r : SourceValue)
+/// Returns the literal of a source with the edits that its faults suggest, with the drawing of the
+/// first fault that it then has. Returns `Err` if an allocation fails.
+// requires { hashes source.style ≤ limit }
+// ensures { IfOk result (λ x. (r : SourceValue)
 //     × IsMended (seen_mode task.entry.mode) (seen_source source.entry) r
-//     × ((string_bytes out.new, told) ≡ kept (seen_task task.entry) r)) }
+//     × (seen_shown x ≡ kept (seen_task task.entry) r)) }
 #[inline]
-fn put_fixed(
-    alloc: Global,
-    out: &mut String,
-    task: Task<'_>,
-    source: Source<'_>,
-) -> Result<usize, AllocError> {
+fn fixed_output(alloc: Global, task: Task<'_>, source: Source<'_>) -> Result<Shown, AllocError> {
     let Some(literal) = source.literal else {
-        return Ok(put_kept(alloc, out, task, source)?);
+        return Ok(kept_output(alloc, task, source)?);
     };
     match fix(alloc, source.text, source.style, literal, false, task.mode)? {
         Some(fixed) => {
@@ -220,73 +241,54 @@ fn put_fixed(
                 line_start: 1,
                 start: 0,
             };
-            Ok(put_kept(alloc, out, task, mended)?)
+            Ok(kept_output(alloc, task, mended)?)
         }
-        None => Ok(put_kept(alloc, out, task, source)?),
+        None => Ok(kept_output(alloc, task, source)?),
     }
 }
 
-/// Appends the tokens of a source, in colours or each in a line, and the drawing of its first fault
-/// to a text. Returns how many mistakes it has, and `Err` if an allocation fails.
+/// Returns the tokens of a source, in colours with a line end after them or each in a line, with
+/// the drawing of its first fault. Returns `Err` if an allocation fails.
 // requires { hashes source.style ≤ limit }
-// ensures lexed { OnOk result (string_bytes out.new ≡ string_bytes out.old
-//     ++ (lexed (seen_task task.entry) (seen_source source.entry)).0) }
-// ensures told { IfOk result (λ told. told
-//     ≡ (lexed (seen_task task.entry) (seen_source source.entry)).1) }
+// ensures { IfOk result (λ x. seen_shown x
+//     ≡ lexed (seen_task task.entry) (seen_source source.entry)) }
 #[inline]
-fn put_lexed(
-    alloc: Global,
-    out: &mut String,
-    task: Task<'_>,
-    source: Source<'_>,
-) -> Result<usize, AllocError> {
+fn token_output(alloc: Global, task: Task<'_>, source: Source<'_>) -> Result<Shown, AllocError> {
     let written = source.literal.unwrap_or(source.text);
-    let snippet = source.literal.unwrap_or(source.lines);
-    let (found, faults) = tokens_in(alloc, task.mode, source, snippet)?;
-    put_tokens(out, task.colours, written, found.as_slice())?;
+    let (found, faults) = tokens_in(alloc, task.mode, source)?;
+    let mut output = String::made_in(alloc);
+    put_tokens(&mut output, task.colours, written, found.as_slice())?;
     if task.colours {
-        out.try_push_str("\n")?;
+        output.try_push_str("\n")?;
     }
-    let told = put_faults(alloc, out, false, task, source, &faults)?;
-    Ok(told)
+    Ok(with_drawing(alloc, output, task, source, &faults)?)
 }
 
-/// Returns the output of a task for a source, and the number of mistakes that are left. Returns
-/// `Err` if an allocation fails.
+/// Returns what a task shows of a source. Returns `Err` if an allocation fails.
 // requires { hashes source.style ≤ limit }
 // ensures { IfOk result (λ x. IsShown (seen_task task.entry) (seen_source source.entry)
-//     (string_bytes x.0, x.1)) }
+//     (seen_shown x)) }
 #[inline]
-fn shown_of(
-    alloc: Global,
-    source: Source<'_>,
-    task: Task<'_>,
-) -> Result<(String, usize), AllocError> {
-    let mut out = String::made_in(alloc);
-    let told = match task.show {
-        Show::Fault => put_drawn(alloc, &mut out, false, task, source)?,
-        Show::All => put_drawn(alloc, &mut out, true, task, source)?,
-        Show::Tokens => put_lexed(alloc, &mut out, task, source)?,
-        Show::Fix => put_fixed(alloc, &mut out, task, source)?,
-    };
-    Ok((out, told))
+fn shown_of(alloc: Global, source: Source<'_>, task: Task<'_>) -> Result<Shown, AllocError> {
+    match task.show {
+        Show::Fault => drawn_output(alloc, false, task, source),
+        Show::All => drawn_output(alloc, true, task, source),
+        Show::Tokens => token_output(alloc, task, source),
+        Show::Fix => fixed_output(alloc, task, source),
+    }
 }
 
-/// Returns the output of a task for the input as a string literal, perhaps with a byte order mark
-/// before it and white space around it, and the number of mistakes that are left. Returns `Err` if
-/// the input is not a string literal or an allocation fails.
+/// Returns what a task shows of the input as a string literal, perhaps with a byte order mark
+/// before it and white space around it. Returns `Err` if the input is not a string literal or an
+/// allocation fails.
 // requires { IsShort input.now }
 // ensures shown { IfOk result (λ x. (s : SourceValue) × IsLiteralIn input.now s
-//     × IsShown (seen_task task.entry) s (string_bytes x.0, x.1)) }
+//     × IsShown (seen_task task.entry) s (seen_shown x)) }
 // ensures not_literal { IsErrOf result NotLiteral → (s : SourceValue) → IsLiteralIn input.now s
 //     → ⊥ }
 // ensures others { IfErr result (λ fault. fault ≢ NotLiteral → fault ≡ Memory) }
 #[inline]
-fn shown_of_literal(
-    alloc: Global,
-    input: &str,
-    task: Task<'_>,
-) -> Result<(String, usize), RunFault> {
+fn shown_of_literal(alloc: Global, input: &str, task: Task<'_>) -> Result<Shown, RunFault> {
     let snippet = snippet_of(input);
     let Some((text, style)) = literal_text(alloc, snippet.text)? else {
         return Err(RunFault::NotLiteral);
@@ -317,23 +319,19 @@ fn bare<'a>(text: &'a str, lines: &'a str) -> Source<'a> {
     }
 }
 
-/// Returns the output of a task for an input, and the number of mistakes that are left. Returns
-/// `Err` if the task needs a string literal and the input is none, or if an allocation fails.
+/// Returns what a task shows of an input. Returns `Err` if the task needs a string literal and the
+/// input is none, or if an allocation fails.
 // requires { IsShort input.now }
 // ensures shown { IfOk result (λ x. (s : SourceValue)
 //     × IsSourceIn task.entry.is_literal input.now s
-//     × IsShown (seen_task task.entry) s (string_bytes x.0, x.1)) }
+//     × IsShown (seen_task task.entry) s (seen_shown x)) }
 // ensures harmless { IfOk result (λ x. IsHarmlessFor (seen_task task.entry) input.now
-//     (string_bytes x.0)) }
+//     (seen_shown x)) }
 // ensures not_literal { IsErrOf result NotLiteral → (s : SourceValue)
 //     → IsSourceIn task.entry.is_literal input.now s → ⊥ }
 // ensures others { IfErr result (λ fault. fault ≢ NotLiteral → fault ≡ Memory) }
 #[inline]
-pub fn shown_of_input(
-    alloc: Global,
-    input: &str,
-    task: Task<'_>,
-) -> Result<(String, usize), RunFault> {
+pub fn shown_of_input(alloc: Global, input: &str, task: Task<'_>) -> Result<Shown, RunFault> {
     if task.is_literal {
         return shown_of_literal(alloc, input, task);
     }

@@ -4,7 +4,7 @@
 // That source is proved, and each contract here is its. That this text means the same is tested:
 // by results from outside, and beside what is proved (.ci/bindings) and the original (tools/agree).
 
-use std::ops::Range;
+use core::ops::Range;
 
 /// The kind of a token. The names are those of rust-analyzer's lexer of format strings where it has
 /// one.

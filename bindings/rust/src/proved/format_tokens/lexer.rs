@@ -1,4 +1,4 @@
-//! The tokens of an input in its source.
+//! The tokens of an input and their places.
 
 // Extracted from crates/format_tokens/src/lexer.rt by tools/extract: not to be edited.
 // That source is proved, and each contract here is its. That this text means the same is tested:
@@ -37,57 +37,33 @@ fn source_of<'a>(
     }
 }
 
-/// Returns the byte offset at which the text of a literal starts.
-// requires { hashes style + 2 < 2 ^ 64 }
-// ensures { result ≡ quote_offset style }
-#[inline]
-fn quote_offset(style: Option<usize>) -> usize {
-    match style {
-        None => 1,
-        Some(hashes) => hashes + 2,
-    }
-}
-
-/// Returns the byte offsets where the characters of an input start, and then the end of the text.
-/// `source` is the snippet if that is the source literal. Returns `Err` if an allocation fails.
+/// Returns the byte offsets where the characters of an input start in its source literal, and then
+/// the end of the text. Returns `Err` if an allocation fails.
 // requires room { hashes style + length input.now + 2 < 2 ^ 64 }
-// requires source { MatchOption source
-//     (HasSource (chars input.now) style (seen_text snippet) appended_newline → ⊥)
-//     (λ s. (seen_text snippet ≡ Some (chars s.now))
-//     × IsSource (chars input.now) style (chars s.now) appended_newline) }
+// requires source { IsSource (chars input.now) style (chars literal.now) appended_newline }
 // ensures { IfOk result (λ v. v.items
-//     ≡ starts_of (world (chars input.now) style (seen_text snippet.entry) appended_newline)) }
+//     ≡ starts_of (world (chars input.now) style (Some (chars literal.now)) appended_newline)) }
 #[inline]
-fn starts(
+fn literal_starts(
     alloc: Global,
     input: &str,
     style: Option<usize>,
-    snippet: Option<&str>,
-    source: Option<&str>,
+    literal: &str,
     appended_newline: bool,
 ) -> Result<Vec<usize>, AllocError> {
-    let offset = quote_offset(style);
-    let Some(literal) = source else {
-        let end = match snippet {
-            None => width_of(input).saturating_sub(usize::from(appended_newline)),
-            Some(foreign) => width_of(foreign),
-        };
-        let starts = plain_starts(alloc, offset, input, end)?;
-        return Ok(starts);
-    };
     match style {
         None => ordinary_starts(alloc, literal, appended_newline),
         Some(hashes) => {
             let end = width_of(literal).saturating_sub(hashes + 1);
-            let starts = plain_starts(alloc, offset, input, end)?;
+            let starts = plain_starts(alloc, hashes + 2, input, end)?;
             Ok(starts)
         }
     }
 }
 
-/// Returns the tokens of an input with their byte ranges in its source. `labels` has the kind of
-/// each and its number of characters; the other arguments are those of `tokens`. Returns `Err` if
-/// an allocation fails.
+/// Returns the tokens of an input with their byte ranges. `labels` has the kind of each and its
+/// number of characters; the other arguments are those of `tokens`. Returns `Err` if an allocation
+/// fails.
 // requires { hashes style + length input.now + 2 < 2 ^ 64 }
 // ensures { IfOk result (λ v. (mode : Mode)
 //     → labels.now ≡ map sized (tokens_of mode (chars input.now)) → map seen_token v.items
@@ -101,34 +77,30 @@ pub fn place_labels(
     appended_newline: bool,
     labels: &[(Kind, usize)],
 ) -> Result<Vec<Token>, AllocError> {
-    let source = source_of(input, style, snippet, appended_newline);
-    let offsets = starts(alloc, input, style, snippet, source, appended_newline)?;
-    let starts = offsets.as_slice();
     let kept = length_of(input).saturating_sub(usize::from(appended_newline));
-    match source {
-        None => {
-            let mut tokens = Vec::made_for(alloc, labels.len())?;
-            place(&mut tokens, labels, starts, kept)?;
-            Ok(tokens)
-        }
-        Some(literal) => {
-            let mut tokens = Vec::made_for(alloc, labels.len().saturating_add(2))?;
-            tokens.try_push(Token {
-                kind: Kind::Quote,
-                span: 0..starts[0],
-            })?;
-            place(&mut tokens, labels, starts, kept)?;
-            tokens.try_push(Token {
-                kind: Kind::Quote,
-                span: starts[starts.len() - 1]..width_of(literal),
-            })?;
-            Ok(tokens)
-        }
-    }
+    let Some(literal) = source_of(input, style, snippet, appended_newline) else {
+        let starts = plain_starts(alloc, 0, input, width_of(input))?;
+        let mut tokens = Vec::made_for(alloc, labels.len())?;
+        place(&mut tokens, labels, starts.as_slice(), kept)?;
+        return Ok(tokens);
+    };
+    let offsets = literal_starts(alloc, input, style, literal, appended_newline)?;
+    let starts = offsets.as_slice();
+    let mut tokens = Vec::made_for(alloc, labels.len().saturating_add(2))?;
+    tokens.try_push(Token {
+        kind: Kind::Quote,
+        span: 0..starts[0],
+    })?;
+    place(&mut tokens, labels, starts, kept)?;
+    tokens.try_push(Token {
+        kind: Kind::Quote,
+        span: starts[starts.len() - 1]..width_of(literal),
+    })?;
+    Ok(tokens)
 }
 
-/// Returns the tokens of an input, faulty or not, with their byte ranges in its source. Nothing is
-/// left out but an appended newline.
+/// Returns the tokens of an input, faulty or not, with their byte ranges in its source literal, or
+/// in the input if there is none. Nothing is left out but an appended newline.
 ///
 /// The arguments are those of `Parser::new`: `style` is `None` for an ordinary literal and
 /// `Some(n)` for a raw one with n hashes, `snippet` is the literal as it is in the source, and
@@ -138,8 +110,8 @@ pub fn place_labels(
 ///
 /// The kinds and the characters of the tokens never depend on `style` and `snippet`. If the snippet
 /// is the source literal of the input, the byte ranges are those of the snippet, and the first and
-/// the last token are the opening and the closing of the literal. Otherwise a byte range is that in
-/// a literal that has the input unescaped, with the end of the text as the parser has it.
+/// the last token are the opening and the closing of the literal. Otherwise the byte ranges are
+/// those of the input, from 0 on.
 ///
 /// Returns `Err` if an allocation fails.
 // requires { hashes style + length input.now + 2 < 2 ^ 64 }
@@ -162,6 +134,14 @@ pub fn place_labels(
 //     → IsSource (chars input.now) style source appended_newline
 //     → read_back (chars input.now) style source appended_newline (map seen_token v.items)
 //     ≡ in_quotes (shown (seen_mode mode) (chars input.now) appended_newline)) }
+// Without one they cover the text, and the part of the input in each is the characters of the
+// token.
+// ensures in_text { IfOk result (λ v.
+//     (HasSource (chars input.now) style (seen_snippet snippet) appended_newline → ⊥)
+//     → IsCover 0 (byte_length (unappended appended_newline (chars input.now)))
+//     (ranges_of (map seen_token v.items))
+//     × (slices input.now (map seen_token v.items)
+//     ≡ encoded (shown (seen_mode mode) (chars input.now) appended_newline))) }
 #[inline]
 pub fn tokens(
     alloc: Global,

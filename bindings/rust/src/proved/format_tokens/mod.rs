@@ -11,5 +11,8 @@ pub(crate) mod places;
 pub(crate) mod walk;
 
 pub use kinds::{Kind, Token};
-pub use lexer::{place_labels, tokens};
+#[cfg(feature = "std")]
+pub use lexer::place_labels;
+pub use lexer::tokens;
+#[cfg(feature = "std")]
 pub use walk::label;

@@ -43,14 +43,25 @@ fn when_of(matches: &ArgMatches<'_>) -> When {
     }
 }
 
-/// Returns whether what is written to standard output is in colours.
+/// Returns whether each stream to which tokens or drawings are written is a terminal. Drawings go
+/// to standard error where the output is tokens or a literal.
+#[inline]
+fn are_terminals(rt: &crate::shim::host::HostRuntime, matches: &ArgMatches<'_>) -> bool {
+    match show_of(matches) {
+        Show::Fix => rt.stderr().is_terminal(),
+        Show::Tokens => rt.stdout().is_terminal() && rt.stderr().is_terminal(),
+        Show::Fault | Show::All => rt.stdout().is_terminal(),
+    }
+}
+
+/// Returns whether tokens and drawings are in colours.
 #[inline]
 pub fn has_colours(rt: &crate::shim::host::HostRuntime, matches: &ArgMatches<'_>) -> bool {
     let no_color = env::var(rt, "NO_COLOR").ok();
     let term = env::var(rt, "TERM").ok();
     wants_colours(
         when_of(matches),
-        rt.stdout().is_terminal(),
+        are_terminals(rt, matches),
         no_color.as_deref(),
         term.as_deref(),
     )

@@ -11,7 +11,7 @@ use crate::proved::formatlint::forms::File;
 use crate::proved::source_lint::Finding;
 use crate::shim::alloc::{AllocError, Global};
 use crate::shim::prelude::*;
-use std::ops::Range;
+use core::ops::Range;
 
 /// The most bytes that the lines of a drawing have in the file.
 const MOST: usize = 4096;
@@ -189,20 +189,54 @@ impl<'a> Excerpt<'a> {
         Ok(all)
     }
 
-    /// Returns the edits of the help of a finding, or none. Returns `Err` if an allocation fails.
+    /// Returns the edits of the help of a finding with these texts, or none. Returns `Err` if an
+    /// allocation fails.
     #[inline]
-    fn edits<'f>(&self, alloc: Global, finding: &'f Finding) -> Result<Vec<Edit<'f>>, AllocError> {
+    fn edits<'f>(
+        &self,
+        alloc: Global,
+        finding: &Finding,
+        texts: &'f [String],
+    ) -> Result<Vec<Edit<'f>>, AllocError> {
         let mut edits = Vec::made_in(alloc);
         if let Some(help) = &finding.help {
-            for edit in &help.edits {
+            for (edit, text) in help.edits.iter().zip(texts) {
                 edits.try_push(Edit {
                     span: self.range(&edit.range),
-                    text: edit.text.as_str(),
+                    text: text.as_str(),
                 })?;
             }
         }
         Ok(edits)
     }
+}
+
+/// Returns a text with LF for CRLF. Returns `Err` if an allocation fails.
+#[inline]
+fn with_line_feeds(alloc: Global, text: &str) -> Result<String, AllocError> {
+    let mut out = String::made_in(alloc);
+    let mut is_first = true;
+    for part in text.split("\r\n") {
+        if !is_first {
+            out.try_push('\n')?;
+        }
+        is_first = false;
+        out.try_push_str(part)?;
+    }
+    Ok(out)
+}
+
+/// Returns the new texts of the help of a finding, with LF for CRLF, or none. Returns `Err` if an
+/// allocation fails.
+#[inline]
+fn edit_texts(alloc: Global, finding: &Finding) -> Result<Vec<String>, AllocError> {
+    let mut texts = Vec::made_in(alloc);
+    if let Some(help) = &finding.help {
+        for edit in &help.edits {
+            texts.try_push(with_line_feeds(alloc, edit.text.as_str())?)?;
+        }
+    }
+    Ok(texts)
 }
 
 /// Returns the notes of a finding, with these ranges. Returns `Err` if an allocation fails.
@@ -262,7 +296,8 @@ fn put_drawn<'x>(
     let labels = excerpt.labels(alloc, finding)?;
     let ranges = excerpt.note_ranges(alloc, finding)?;
     let notes = notes(alloc, finding, ranges.as_slice())?;
-    let edits = excerpt.edits(alloc, finding)?;
+    let texts = edit_texts(alloc, finding)?;
+    let edits = excerpt.edits(alloc, finding, texts.as_slice())?;
     let helps = helps(alloc, finding, edits.as_slice())?;
     let picture = Picture {
         path,

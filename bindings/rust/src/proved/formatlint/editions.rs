@@ -13,13 +13,16 @@ use std::io::Read;
 /// The most bytes of a manifest that are read.
 const MOST: u64 = 1 << 20;
 
+/// The bytes that there is room for before a manifest is read.
+const ROOM: usize = 1 << 12;
+
 /// The editions of files.
 pub struct Editions<'a> {
     /// The edition of all files, or `None`.
     edition: Option<&'a str>,
-    /// The folder of the last file that was asked about.
+    /// The folder of the last file.
     folder: String,
-    /// Whether its edition is 2021 or a later one, or `None` if no file was asked about.
+    /// Whether its edition is 2021 or a later one, or `None` before the first one.
     answer: Option<bool>,
 }
 
@@ -40,7 +43,7 @@ fn manifest(rt: &crate::shim::host::HostRuntime, folder: &str) -> io::Result<Str
     if !fs::metadata(rt, path.as_str())?.is_file() {
         return Err(io::Error::from(io::ErrorKind::NotFound));
     }
-    let mut text = String::made_in(rt.alloc());
+    let mut text = String::made_for(rt.alloc(), ROOM)?;
     fs::open(rt, path.as_str())?
         .take(MOST)
         .read_to_string(&mut text)?;

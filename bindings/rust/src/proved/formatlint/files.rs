@@ -80,8 +80,11 @@ impl<'a> Run<'a> {
     /// Writes the text that is still to be written.
     #[inline]
     fn flush(&mut self, rt: &crate::shim::host::HostRuntime) -> Result<(), Failure> {
-        write(rt, self.out.as_str())?;
-        self.out.clear();
+        if !self.out.is_empty() {
+            self.totals.clear_progress(rt);
+            write(rt, self.out.as_str())?;
+            self.out.clear();
+        }
         Ok(())
     }
 
@@ -122,12 +125,12 @@ enum Extent {
 fn text_of(bytes: &[u8]) -> (&str, Extent) {
     let is_cut = bytes.len() > MOST;
     let read = bytes.get(..MOST).unwrap_or(bytes);
-    match std::str::from_utf8(read) {
+    match core::str::from_utf8(read) {
         Ok(text) if is_cut => (text, Extent::Front),
         Ok(text) => (text, Extent::Whole),
         Err(error) => {
             let front = read.get(..error.valid_up_to()).unwrap_or(&[]);
-            let text = std::str::from_utf8(front).unwrap_or("");
+            let text = core::str::from_utf8(front).unwrap_or("");
             if is_cut && error.error_len().is_none() {
                 (text, Extent::Front)
             } else {
@@ -164,7 +167,7 @@ fn tell_end(
 /// Reads a stream up to its end or the most bytes that are read.
 #[inline]
 fn read_all<R: Read>(rt: &crate::shim::host::HostRuntime, stream: R) -> io::Result<Vec<u8>> {
-    let mut bytes = Vec::made_in(rt.alloc());
+    let mut bytes = Vec::made_for(rt.alloc(), CHUNK)?;
     stream.take(MOST as u64 + 1).read_to_end(&mut bytes)?;
     Ok(bytes)
 }
@@ -244,6 +247,7 @@ impl<'a> Run<'a> {
                 Some(path) => self.lint_file(rt, path.as_str())?,
                 None => break,
             }
+            self.totals.show_progress(rt);
         }
         Ok(())
     }
@@ -273,14 +277,18 @@ impl<'a> Run<'a> {
     fn lint_all(&mut self, rt: &crate::shim::host::HostRuntime) -> Result<(), Failure> {
         put_start(&mut self.out, self.request.form, self.request.version)?;
         self.flush(rt)?;
-        if self.request.paths.is_empty() {
+        let paths = self.request.paths;
+        if paths.is_empty() && self.request.stdin_path.is_some() {
+            self.lint_stdin(rt)?;
+        } else if paths.is_empty() {
             self.lint_folder(rt, "")?;
         }
-        let paths = self.request.paths;
         for path in paths {
             self.lint_path(rt, path)?;
+            self.totals.show_progress(rt);
         }
         put_end(&mut self.out, self.request.form, self.totals.failures == 0)?;
+        self.totals.clear_progress(rt);
         self.flush(rt)
     }
 }
@@ -297,7 +305,7 @@ pub fn lint<'a>(
         request,
         options,
         editions: Editions::new(rt, request.edition),
-        totals: Totals::new(),
+        totals: Totals::new(rt),
         out: String::made_in(rt.alloc()),
         has_messages: false,
     };

@@ -14,7 +14,7 @@ use crate::proved::rust_trees::Places;
 use crate::proved::source_lint::{Finding, Help};
 use crate::shim::alloc::{AllocError, Global};
 use crate::shim::prelude::*;
-use std::ops::Range;
+use core::ops::Range;
 
 /// The form of messages.
 #[derive(Clone, Copy, PartialEq)]

@@ -36,7 +36,7 @@ fn read<R: Read>(rt: &crate::shim::host::HostRuntime, stream: R) -> Result<Vec<u
 
 /// Reads a file, or standard input.
 #[inline]
-fn input(rt: &crate::shim::host::HostRuntime, file: Option<&str>) -> Result<Vec<u8>, Failure> {
+fn read_file(rt: &crate::shim::host::HostRuntime, file: Option<&str>) -> Result<Vec<u8>, Failure> {
     let Some(path) = file else {
         tell_of_terminal(rt);
         return read(rt, rt.stdin());
@@ -47,6 +47,26 @@ fn input(rt: &crate::shim::host::HostRuntime, file: Option<&str>) -> Result<Vec<
     }
 }
 
+/// Returns the bytes of a file with each CRLF as the line feed that the compiler reads it as. A
+/// text that is no literal stays as it is.
+#[inline]
+fn without_returns(
+    alloc: Global,
+    matches: &ArgMatches<'_>,
+    file: Vec<u8>,
+) -> Result<Vec<u8>, AllocError> {
+    if matches.get_flag("text") || !file.contains(&b'\r') {
+        return Ok(file);
+    }
+    let mut bytes = Vec::made_in(alloc);
+    for (index, byte) in file.iter().enumerate() {
+        if *byte != b'\r' || file.get(index.saturating_add(1)) != Some(&b'\n') {
+            bytes.try_push(*byte)?;
+        }
+    }
+    Ok(bytes)
+}
+
 /// Writes to standard error that standard input is read, if it is a terminal.
 #[inline]
 pub fn tell_of_terminal(rt: &crate::shim::host::HostRuntime) {
@@ -55,13 +75,24 @@ pub fn tell_of_terminal(rt: &crate::shim::host::HostRuntime) {
     }
 }
 
+/// Reads the input: a file, or standard input.
+#[inline]
+fn input(
+    rt: &crate::shim::host::HostRuntime,
+    matches: &ArgMatches<'_>,
+    file: Option<&str>,
+) -> Result<Vec<u8>, Failure> {
+    let bytes = read_file(rt, file)?;
+    Ok(without_returns(rt.alloc(), matches, bytes)?)
+}
+
 /// Returns the bytes of an input that are listed: all of a text, or the literal in a file.
 #[inline]
 fn listing_input<'a>(matches: &ArgMatches<'_>, input: &'a [u8]) -> &'a [u8] {
     if matches.get_flag("text") {
         return input;
     }
-    match std::str::from_utf8(input) {
+    match core::str::from_utf8(input) {
         Ok(file) => snippet_of(file).text.as_bytes(),
         Err(_) => input,
     }
@@ -94,7 +125,7 @@ fn answer_listing<W: Write>(
     input: &[u8],
 ) -> Result<usize, RunFault> {
     let listing = listing_of(rt.alloc(), matches, input)?;
-    match std::str::from_utf8(listing.bytes.as_slice()) {
+    match core::str::from_utf8(listing.bytes.as_slice()) {
         Ok(text) if rt.stdout().is_terminal() => {
             let mut drawn = String::made_in(rt.alloc());
             put_glyphs(&mut drawn, text, 0)?;
@@ -116,18 +147,19 @@ fn answer(
 ) -> Result<usize, Failure> {
     let alloc = rt.alloc();
     let mut writer = Recorder::new(rt.stdout());
+    let mut error_writer = Recorder::new(rt.stderr());
     let result = if matches.get_flag("list") {
         answer_listing(rt, &mut writer, matches, input)
     } else {
         let task = task_of(matches, path, has_colours(rt, matches));
         let mut reader = input;
-        run(alloc, &mut reader, &mut writer, task)
+        run(alloc, &mut reader, &mut writer, &mut error_writer, task)
     };
     match result {
         Ok(count) => Ok(count),
         Err(fault) => Err(Failure {
             fault,
-            error: writer.error,
+            error: writer.error.or(error_writer.error),
         }),
     }
 }
@@ -141,7 +173,7 @@ fn put_why(
     failure: &Failure,
 ) -> Result<(), AllocError> {
     if failure.fault == RunFault::NotLiteral {
-        if let Ok(file) = std::str::from_utf8(input) {
+        if let Ok(file) = core::str::from_utf8(input) {
             if let Some(fault) = file_fault(file) {
                 return put_not_literal(out, path, file, &fault);
             }
@@ -200,7 +232,7 @@ pub fn literal_status(rt: &crate::shim::host::HostRuntime, matches: &ArgMatches<
         Some(path) => path,
         None => matches.get_str("stdin-path").unwrap_or("<stdin>"),
     };
-    let bytes = match input(rt, file) {
+    let bytes = match input(rt, matches, file) {
         Ok(bytes) => bytes,
         Err(failure) => return Some(tell(rt, path, &[], &failure)),
     };

@@ -13,16 +13,18 @@ pub(crate) mod files;
 pub(crate) mod forms;
 pub(crate) mod literal;
 pub(crate) mod options;
+pub(crate) mod progress;
 pub(crate) mod recorder;
 pub(crate) mod totals;
 pub(crate) mod walk;
 
 use crate::proved::fault_rules::{put_explanation, rule_of, RULES};
 use crate::proved::source_lint::Options;
-use crate::shim::alloc::AllocError;
+use crate::shim::alloc::{AllocError, Global};
 use crate::shim::clap::error::ErrorKind;
 use crate::shim::clap::{ArgMatches, Error};
 use crate::shim::host::env;
+use crate::shim::strsim::levenshtein;
 use arguments::{form_of, has_colours, table_of};
 use files::{lint, write, Request};
 use forms::Form;
@@ -38,6 +40,9 @@ const WRONG_LIST: &str =
 
 /// The error message for several paths where one string is read.
 const SEVERAL: &str = "--literal and --text read one string, of one file or of standard input";
+
+/// The error message for a path that names standard input where it is not read.
+const NO_STDIN: &str = "--stdin-path names standard input, and no path is -";
 
 /// Returns the error that a value of the arguments is wrong, with the reason.
 #[inline]
@@ -64,15 +69,42 @@ fn print(rt: &crate::shim::host::HostRuntime, text: &str) -> u8 {
     }
 }
 
+/// Returns the id that is nearest to a word by the number of characters to change, the first of
+/// several, or `None` if each wants more than a third of the word changed, as rustc does for names.
+#[inline]
+fn similar_id(alloc: Global, word: &str) -> Result<Option<&'static str>, AllocError> {
+    let mut most = word.len().max(3) / 3;
+    let mut found = None;
+    for rule in &RULES {
+        let count = levenshtein(alloc, word, rule.id)?;
+        if count < most || count == most && found.is_none() {
+            most = count;
+            found = Some(rule.id);
+        }
+    }
+    Ok(found)
+}
+
+/// Returns the error that no kind of fault has this id.
+#[inline]
+fn id_error(rt: &crate::shim::host::HostRuntime, id: &str) -> Result<u8, Error> {
+    let why = match similar_id(rt.alloc(), id)? {
+        Some(other) => crate::shim::format_in!(rt.alloc();
+            "no kind of fault has the id '{id}'\n\n  tip: a similar id exists: '{other}'"
+        )?,
+        None => {
+            crate::shim::format_in!(rt.alloc(); "no kind of fault has the id '{id}': --list-ids lists all")?
+        }
+    };
+    value_error(rt, why.as_str())
+}
+
 /// Writes the explanation of the kind of fault with this id. Returns the exit status, and `Err` if
 /// no kind has the id or an allocation fails.
 #[inline]
 fn explain(rt: &crate::shim::host::HostRuntime, id: &str) -> Result<u8, Error> {
     let Some(rule) = rule_of(id) else {
-        let why = crate::shim::format_in!(rt.alloc();
-            "no kind of fault has the id '{id}': --list-ids lists all"
-        )?;
-        return value_error(rt, why.as_str());
+        return id_error(rt, id);
     };
     let mut out = String::made_in(rt.alloc());
     put_explanation(&mut out, &rule)?;
@@ -145,10 +177,15 @@ fn files_status(
         }
         Err(None) => return Err(crate::shim::alloc::refused()),
     };
+    let paths = matches.get_strs("path").unwrap_or(&[]);
+    let stdin_path = matches.get_str("stdin-path");
+    if stdin_path.is_some() && !paths.is_empty() && !paths.contains(&"-") {
+        return value_error(rt, NO_STDIN);
+    }
     let request = Request {
-        paths: matches.get_strs("path").unwrap_or(&[]),
+        paths,
         excluded: matches.get_strs("exclude").unwrap_or(&[]),
-        stdin_path: matches.get_str("stdin-path"),
+        stdin_path,
         form: form_of(matches, has_colours(rt, matches)),
         edition: matches.get_str("edition"),
         version: VERSION,
@@ -179,14 +216,21 @@ fn status(rt: &crate::shim::host::HostRuntime, words: &[String]) -> Result<u8, E
     files_status(rt, &matches)
 }
 
+/// Writes to standard error why the arguments cannot be read, and returns this exit status.
+#[inline]
+fn ended(rt: &crate::shim::host::HostRuntime, why: &str, status: u8) -> ExitCode {
+    let _ = crate::shim::eprintln_in!(rt; "formatlint: {why}");
+    ExitCode::from(status)
+}
+
 #[inline]
 pub fn main(rt: crate::shim::host::HostRuntime) -> ExitCode {
     let words: Vec<String> = match env::args(&rt) {
         Ok(words) => match words.collect_in(rt.alloc()) {
             Ok(words) => words,
-            Err(_) => return ExitCode::from(3),
+            Err(_) => return ended(&rt, "out of memory", 3),
         },
-        Err(_) => return ExitCode::from(3),
+        Err(_) => return ended(&rt, "an argument is not UTF-8", 2),
     };
     match status(&rt, words.as_slice()) {
         Ok(status) => ExitCode::from(status),

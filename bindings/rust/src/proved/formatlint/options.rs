@@ -61,7 +61,7 @@ fn with_files<'a>(alloc: Global, command: Command<'a>) -> Result<Command<'a>, Al
         alloc,
         "stdin-path",
         "PATH",
-        "The path that stands for standard input in messages",
+        "The path that stands for standard input in messages; without a path that is read",
     );
     let with_path = command.arg(path)?;
     let with_exclude = with_path.arg(exclude.action(ArgAction::Append))?;

@@ -5,6 +5,7 @@
 // by results from outside, and beside what is proved (.ci/bindings) and the original (tools/agree).
 
 use crate::proved::format_calls::Reason;
+use crate::proved::formatlint::progress::Progress;
 use crate::proved::lint_words::{put_failure, put_place_failure, system_words};
 use crate::proved::piece_listing::verdict::RunFault;
 use crate::proved::rust_trees::Place;
@@ -40,6 +41,7 @@ pub struct Totals {
     pub warnings: usize,
     /// The number of files and folders, or parts of them, that could not be read.
     pub failures: usize,
+    progress: Progress,
 }
 
 /// Adds one.
@@ -91,9 +93,9 @@ impl Unread {
 }
 
 impl Totals {
-    /// Returns the totals of a run that read nothing.
+    /// Returns the totals of a run that begins now.
     #[inline]
-    pub fn new() -> Totals {
+    pub fn new(rt: &crate::shim::host::HostRuntime) -> Totals {
         Totals {
             files: 0,
             calls: 0,
@@ -114,7 +116,20 @@ impl Totals {
             faults: 0,
             warnings: 0,
             failures: 0,
+            progress: Progress::new(rt),
         }
+    }
+
+    /// Shows on a terminal how many files were read, from time to time.
+    #[inline]
+    pub fn show_progress(&mut self, rt: &crate::shim::host::HostRuntime) {
+        self.progress.show(rt, self.files);
+    }
+
+    /// Removes what shows the progress, before other text is written.
+    #[inline]
+    pub fn clear_progress(&mut self, rt: &crate::shim::host::HostRuntime) {
+        self.progress.clear(rt);
     }
 
     /// Counts a call.
@@ -153,6 +168,7 @@ impl Totals {
     #[inline]
     pub fn fail(&mut self, rt: &crate::shim::host::HostRuntime, path: &str, error: &io::Error) {
         count(&mut self.failures);
+        self.progress.clear(rt);
         let mut out = String::made_in(rt.alloc());
         let put = match crate::shim::format_in!(rt.alloc(); "{error}") {
             Ok(words) => {
@@ -177,6 +193,7 @@ impl Totals {
         why: &str,
     ) {
         count(&mut self.failures);
+        self.progress.clear(rt);
         let mut out = String::made_in(rt.alloc());
         let _ = match put_place_failure(&mut out, path, place, why) {
             Ok(()) => rt.eprint(out.as_str()),

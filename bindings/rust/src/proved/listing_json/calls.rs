@@ -12,7 +12,7 @@ use crate::shim::alloc::{AllocError, Global};
 use crate::shim::json::Writer;
 use crate::shim::parser::Parser;
 use crate::shim::prelude::*;
-use std::mem;
+use core::mem;
 
 /// Returns a writer that appends to a text, which is then empty until [`end_line`].
 // ensures before { result.before ≡ out.old.items }

@@ -9,7 +9,8 @@ use super::fields::{begin_kind, put_span_of, put_string};
 use crate::proved::rustc_parse_format::{Fault, ParseError, Suggestion};
 use crate::shim::alloc::{AllocError, Global};
 use crate::shim::json::Writer;
-use std::ops::Range;
+use crate::shim::prelude::*;
+use core::ops::Range;
 
 /// Appends a note, or null if there is none.
 // ensures tokens { OnOk result (writer.new.tokens

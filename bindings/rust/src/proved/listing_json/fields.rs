@@ -7,7 +7,7 @@
 
 use crate::shim::alloc::AllocError;
 use crate::shim::json::Writer;
-use std::ops::Range;
+use core::ops::Range;
 
 /// Appends a text as a string.
 // ensures tokens { OnOk result (writer.new.tokens

@@ -191,7 +191,7 @@ pub fn list(alloc: Global, input: &[u8], words: &[String]) -> Result<Listing, Ru
     if input.len() > LIMIT {
         return Err(RunFault::TooLong);
     }
-    let Ok(text) = std::str::from_utf8(input) else {
+    let Ok(text) = core::str::from_utf8(input) else {
         return Err(RunFault::NotText);
     };
     list_text(alloc, text, task)

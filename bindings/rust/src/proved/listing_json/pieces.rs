@@ -14,7 +14,7 @@ use crate::proved::rustc_parse_format::{
 use crate::shim::alloc::{AllocError, Global};
 use crate::shim::json::Writer;
 use crate::shim::prelude::*;
-use std::ops::Range;
+use core::ops::Range;
 
 /// Appends a position.
 // ensures tokens { OnOk result (writer.new.tokens

@@ -10,6 +10,7 @@ use super::calls::{begin_line, end_line};
 use super::fields::{put_index, put_name};
 use crate::proved::placeholder_check::Report;
 use crate::shim::alloc::{AllocError, Global};
+use crate::shim::prelude::*;
 
 /// Appends the line of an index.
 // ensures { OnOk result (Adds (index_value kind.now index ∷ []) out.old.items out.new.items) }

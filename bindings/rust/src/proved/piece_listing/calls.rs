@@ -10,6 +10,7 @@ use crate::proved::placeholder_check::Uses;
 use crate::proved::rustc_parse_format::{Argument, FormatSpec, Position, Taken};
 use crate::shim::alloc::AllocError;
 use crate::shim::parser::Parser;
+use crate::shim::prelude::*;
 
 /// Makes the next call of a parser, and returns its piece. A placeholder is in `argument`. Returns
 /// `Err` if an allocation fails.

@@ -12,7 +12,7 @@ use crate::proved::rustc_parse_format::{
 };
 use crate::shim::alloc::AllocError;
 use crate::shim::prelude::*;
-use std::ops::Range;
+use core::ops::Range;
 
 /// Adds a text, escaped, between quotes.
 // ensures { OnOk result (string_bytes out.new ≡ string_bytes out.old ++ quoted (chars text.now)) }

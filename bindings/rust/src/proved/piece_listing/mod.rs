@@ -5,17 +5,30 @@
 // That source is proved, and each contract here is its. That this text means the same is tested:
 // by results from outside, and beside what is proved (.ci/bindings) and the original (tools/agree).
 
+#[cfg(feature = "std")]
 pub(crate) mod calls;
+#[cfg(feature = "std")]
 pub(crate) mod given;
+#[cfg(feature = "std")]
 pub(crate) mod input;
+#[cfg(feature = "std")]
 pub(crate) mod listing;
 pub mod literal;
+#[cfg(feature = "std")]
 pub(crate) mod numbers;
+#[cfg(feature = "std")]
 pub(crate) mod report_lines;
+#[cfg(feature = "std")]
 pub mod run;
+#[cfg(feature = "std")]
 pub(crate) mod task;
+#[cfg(feature = "std")]
 pub mod verdict;
+#[cfg(feature = "std")]
 pub use listing::put_quoted;
+#[cfg(feature = "std")]
 pub use numbers::put_span;
+#[cfg(feature = "std")]
 pub use report_lines::{has_entries, report_for};
+#[cfg(feature = "std")]
 pub use task::{task_of, Task};

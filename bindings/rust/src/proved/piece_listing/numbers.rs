@@ -8,7 +8,7 @@
 use crate::shim::alloc::AllocError;
 use crate::shim::itoa::{write_digits, Buffer};
 use crate::shim::prelude::*;
-use std::ops::Range;
+use core::ops::Range;
 
 /// The most bytes of a span after a mark: the mark, two dots and two numbers of up to 20 digits.
 const SPAN_BYTES: usize = 43;

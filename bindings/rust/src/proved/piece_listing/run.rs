@@ -112,7 +112,7 @@ pub fn run<R: Read, W: Write>(
         None => return Err(RunFault::Words),
     };
     let input = read_input(alloc, reader)?;
-    let Ok(text) = std::str::from_utf8(input.as_slice()) else {
+    let Ok(text) = core::str::from_utf8(input.as_slice()) else {
         return Err(RunFault::NotText);
     };
     let (lines, has_ends) = list_input(alloc, text, task)?;

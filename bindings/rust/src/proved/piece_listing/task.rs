@@ -6,6 +6,7 @@
 
 use super::given::{given_by, Given};
 use crate::proved::rustc_parse_format::ParseMode;
+use crate::shim::prelude::*;
 
 /// The task that the command-line arguments give.
 #[derive(Copy, Clone)]

@@ -9,6 +9,7 @@ use crate::proved::placeholder_check::names::{lacked_by, names_of};
 use crate::proved::placeholder_check::uses::{uses_of, Uses};
 use crate::proved::rustc_parse_format::Piece;
 use crate::shim::alloc::{AllocError, Global};
+use crate::shim::prelude::*;
 
 /// The arguments that are missing or unused. No list has an entry twice.
 #[derive(Clone, Debug, Eq, PartialEq)]

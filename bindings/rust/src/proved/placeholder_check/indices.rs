@@ -8,7 +8,7 @@
 
 use crate::shim::alloc::{AllocError, Global};
 use crate::shim::prelude::*;
-use std::collections::BTreeSet;
+use alloc::collections::BTreeSet;
 
 /// An index that is this far after the marks, or farther, is not marked.
 const GAP: usize = 16;

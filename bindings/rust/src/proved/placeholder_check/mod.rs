@@ -10,5 +10,8 @@ pub(crate) mod indices;
 pub(crate) mod names;
 pub(crate) mod uses;
 
-pub use checker::{check, check_uses, Report};
+#[cfg(feature = "std")]
+pub use checker::check_uses;
+pub use checker::{check, Report};
+#[cfg(feature = "std")]
 pub use uses::{uses_of, Uses};

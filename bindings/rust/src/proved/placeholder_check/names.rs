@@ -7,7 +7,7 @@
 
 use crate::shim::alloc::{AllocError, Global};
 use crate::shim::prelude::*;
-use std::collections::BTreeSet;
+use alloc::collections::BTreeSet;
 
 /// The number of names that are compared one after the other.
 const FEW: usize = 16;

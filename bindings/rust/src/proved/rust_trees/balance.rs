@@ -11,7 +11,7 @@ use crate::shim::alloc::{AllocError, Global};
 use crate::shim::prelude::*;
 
 /// In which way tokens break.
-#[derive(Clone, Copy)]
+#[derive(Clone, Copy, Debug, Eq, PartialEq)]
 pub enum BreakKind {
     /// A delimiter is not closed: the last of these.
     Unclosed,
@@ -22,7 +22,7 @@ pub enum BreakKind {
 }
 
 /// Where tokens break.
-#[derive(Clone, Copy)]
+#[derive(Clone, Copy, Debug, Eq, PartialEq)]
 pub struct BreakAt {
     /// In which way.
     pub kind: BreakKind,

@@ -15,6 +15,8 @@ pub(crate) mod source;
 pub use balance::{Balance, BreakAt, BreakKind};
 pub use leaves::{Token, Tokens};
 pub use matching::Break;
-pub use places::{place_at, Place, Places};
+#[cfg(feature = "std")]
+pub use places::place_at;
+pub use places::{Place, Places};
 pub use sides::{is_opening, Side};
 pub use source::Source;

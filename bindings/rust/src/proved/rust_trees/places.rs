@@ -10,7 +10,7 @@ use crate::shim::prelude::*;
 
 /// A line and a column of a text, both from 1. An LF ends a line, and a column counts characters,
 /// but no CR before an LF and no byte order mark at the start.
-#[derive(Clone, Copy)]
+#[derive(Clone, Copy, Debug, Eq, PartialEq)]
 pub struct Place {
     /// The line.
     pub line: usize,

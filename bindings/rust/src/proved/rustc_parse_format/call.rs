@@ -9,7 +9,7 @@ use crate::proved::rustc_parse_format::reader::Reader;
 use crate::proved::rustc_parse_format::types::{Argument, ParseMode, Piece};
 use crate::shim::alloc::{AllocError, Global};
 use crate::shim::prelude::*;
-use std::ops::Range;
+use core::ops::Range;
 
 impl<'input> Reader<'input> {
     /// Adds the fault that no brace closes `argument`, whose opening brace has the byte range

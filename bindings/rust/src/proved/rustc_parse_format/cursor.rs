@@ -10,7 +10,7 @@ use crate::proved::rustc_parse_format::characters::{
     before, begins, begins_digit, begins_word, behind_first, first,
 };
 use crate::proved::rustc_parse_format::source::{first_anchor, Anchor, Source};
-use std::ops::Range;
+use core::ops::Range;
 
 /// A position in the input: the text that is left, and where that starts in the source.
 pub struct Cursor<'input> {

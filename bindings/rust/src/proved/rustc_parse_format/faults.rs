@@ -6,8 +6,8 @@
 
 use crate::shim::alloc::{AllocError, Global};
 use crate::shim::prelude::*;
-use std::mem;
-use std::ops::Range;
+use core::mem;
+use core::ops::Range;
 
 /// A fault of an input: what is wrong there, as plain data, of which a parser makes an error. The
 /// ranges are byte ranges of the source.

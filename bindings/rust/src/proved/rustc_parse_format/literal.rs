@@ -12,8 +12,8 @@ pub(crate) mod unit;
 
 use crate::proved::rustc_parse_format::characters::Class;
 use crate::shim::alloc::{AllocError, Global};
+use core::ops::Range;
 pub(crate) use rest::Rest;
-use std::ops::Range;
 use unit::byte_escape;
 pub(crate) use unit::{is_newline_escape, read_unit};
 

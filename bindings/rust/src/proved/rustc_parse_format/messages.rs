@@ -12,7 +12,7 @@ use crate::proved::rustc_parse_format::types::{ParseError, Suggestion};
 use crate::proved::rustc_parse_format::written::put_written;
 use crate::shim::alloc::{AllocError, Global};
 use crate::shim::prelude::*;
-use std::ops::Range;
+use core::ops::Range;
 
 /// Returns the description of a missing closing brace, from the character found in its place, or
 /// `None` at the end of the input. Returns `Err` if an allocation fails.

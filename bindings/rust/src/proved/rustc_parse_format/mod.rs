@@ -49,5 +49,6 @@ pub use types::{
     Alignment, Argument, Count, DebugHex, FormatSpec, ParseError, ParseMode, Piece, Position, Sign,
     Suggestion, Taken,
 };
+#[cfg(feature = "std")]
 #[doc(hidden)]
 pub use written::{put_all_written, put_written};

@@ -10,7 +10,7 @@ use crate::proved::rustc_parse_format::cursor::Cursor;
 use crate::proved::rustc_parse_format::faults::{Fault, Faults};
 use crate::shim::alloc::{AllocError, Global};
 use crate::shim::prelude::*;
-use std::ops::Range;
+use core::ops::Range;
 
 /// The state of a parser during one call. If one of its functions returns `Err`, an allocation
 /// failed, and the state is to be restored with `rewind`.

@@ -8,7 +8,7 @@ use crate::proved::rustc_parse_format::faults::Fault;
 use crate::proved::rustc_parse_format::reader::Reader;
 use crate::proved::rustc_parse_format::types::{Argument, ParseMode, Position};
 use crate::shim::alloc::AllocError;
-use std::ops::Range;
+use core::ops::Range;
 
 /// Returns the fault of the character `sign` in place of a closing brace, or `None` if it has none
 /// of its own. The character after it is `next`, and the opening brace has the byte range

@@ -4,13 +4,14 @@
 // That source is proved, and each contract here is its. That this text means the same is tested:
 // by results from outside, and beside what is proved (.ci/bindings) and the original (tools/agree).
 
+use crate::shim::prelude::*;
 pub(crate) mod anchor;
 
 use crate::proved::rustc_parse_format::characters::{behind_first, first};
 use crate::proved::rustc_parse_format::literal::source_end;
 use anchor::continuations_width;
 pub use anchor::Anchor;
-use std::ops::Range;
+use core::ops::Range;
 
 /// The place of an input in its source.
 pub struct Source<'input> {

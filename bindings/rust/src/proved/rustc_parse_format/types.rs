@@ -4,7 +4,8 @@
 // That source is proved, and each contract here is its. That this text means the same is tested:
 // by results from outside, and beside what is proved (.ci/bindings) and the original (tools/agree).
 
-use std::ops::Range;
+use crate::shim::prelude::*;
+use core::ops::Range;
 
 /// The kind of text that is parsed. In each mode `{{` and `}}` are escaped braces, and a
 /// placeholder may have a position and, after a colon, what the mode allows.

@@ -6,10 +6,21 @@
 
 use crate::proved::call_faults::{CallEdit, CallFault, CallHelp, Checked};
 use crate::proved::source_lint::labels::{help, labels, notes, primary_span};
-use crate::proved::source_lint::report::Finding;
+use crate::proved::source_lint::report::{CallReading, Finding};
 use crate::proved::source_lint::spans::Site;
 use crate::shim::alloc::{AllocError, Global};
 use crate::shim::prelude::*;
+
+/// Returns how much of a call is read where the number of its arguments is known, and where not.
+// ensures { result ≡ reading_of is_counted }
+#[inline]
+pub fn reading_of(is_counted: bool) -> CallReading {
+    if is_counted {
+        CallReading::Whole
+    } else {
+        CallReading::StringAlone
+    }
+}
 
 /// Returns whether a fault is only a warning.
 // ensures { result ≡ is_warning (seen_fault fault.now) }

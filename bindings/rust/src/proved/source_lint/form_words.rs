@@ -11,7 +11,7 @@ use crate::proved::source_lint::report::{Edit, Finding, Help, Label};
 use crate::proved::source_lint::spans::{call_range, range_in, tokens_range};
 use crate::shim::alloc::{AllocError, Global};
 use crate::shim::prelude::*;
-use std::ops::Range;
+use core::ops::Range;
 
 /// Returns the id of what is wrong, in kebab case.
 // ensures { result.now ≡ form_id (seen_form form.entry) }

@@ -369,7 +369,7 @@ fn index_of(rule: Rule, is_from_2021: bool) -> Option<usize> {
                 None
             }
         }
-        Rule::AfterFields => None,
+        Rule::AfterFields | Rule::Templates => None,
     }
 }
 

@@ -57,7 +57,7 @@ fn variable<'a>(token: &Token<'a>) -> Option<&'a str> {
 /// Returns the name of an argument, without `r#`, or `None` if it has none.
 // ensures { option_map text result ≡ name_of (map leaf tokens.now) argument.now }
 #[inline]
-fn name_of<'a>(tokens: &[Token<'a>], argument: &Argument) -> Option<&'a str> {
+pub fn name_of<'a>(tokens: &[Token<'a>], argument: &Argument) -> Option<&'a str> {
     if !argument.is_named {
         return None;
     }

@@ -9,7 +9,7 @@ use crate::proved::source_lint::report::{Edit, Help, Label, Note};
 use crate::proved::source_lint::spans::{range_in, spot_range, Site};
 use crate::shim::alloc::{AllocError, Global};
 use crate::shim::prelude::*;
-use std::ops::Range;
+use core::ops::Range;
 
 /// Returns labels of a call with their ranges. Returns `Err` if an allocation fails.
 // ensures primary { IfOk result (λ v. map (λ x. x.is_primary) v.items

@@ -6,6 +6,7 @@
 
 use crate::proved::format_calls::{calls, next_part, Table};
 use crate::proved::rust_trees::{Balance, Source, Tokens};
+use crate::proved::source_lint::attributes::read_attributes;
 use crate::proved::source_lint::macros::macro_names;
 use crate::proved::source_lint::readings::{read_call, File};
 use crate::proved::source_lint::report::{CallReading, Finding, Options, Report};
@@ -72,7 +73,28 @@ fn read_file(
     Ok(found)
 }
 
-/// Reads a source file, and returns the faults of its calls of macros that take a format string.
+/// Adds the findings in the texts of the attributes of a file. Returns `Err` if an allocation
+/// fails.
+// ensures read { OnOk result ((ls : List Leaf) → AreLeaves text.now ls → (xs : List FindingValue)
+//     × (findings.new.items ≡ findings.old.items ++ xs) × ReadsAttributes text.now ls xs) }
+// ensures spans { OnOk result (All (HasSpans text.now) findings.old.items
+//     → All (HasSpans text.now) findings.new.items) }
+#[inline]
+fn put_attributes(
+    alloc: Global,
+    findings: &mut Vec<Finding>,
+    text: &str,
+) -> Result<(), AllocError> {
+    if !text.contains("on_unimplemented") {
+        return Ok(());
+    }
+    let source = Source::new(alloc, text)?;
+    read_attributes(alloc, findings, text, &source)?;
+    Ok(())
+}
+
+/// Reads a source file, and returns the faults of its calls of macros that take a format string or
+/// templates of assembly, and then those of the texts of its attributes.
 /// Lines may end with LF or CRLF, and a byte order mark may stand at the start. Returns `Err` if an
 /// allocation fails.
 // ensures report { IfOk result (λ r. IsReport (map entry options.now.table.rows.items)
@@ -87,7 +109,8 @@ pub fn file_faults(alloc: Global, text: &str, options: &Options<'_>) -> Result<R
         is_from_2021: options.is_from_2021,
     };
     let mut balance = Balance::new(alloc);
-    let found = read_file(alloc, file, &options.table, &mut balance)?;
+    let mut found = read_file(alloc, file, &options.table, &mut balance)?;
+    put_attributes(alloc, &mut found.findings, text)?;
     Ok(Report {
         calls: found.calls,
         findings: found.findings,

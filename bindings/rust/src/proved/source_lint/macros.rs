@@ -9,7 +9,7 @@ use crate::proved::rust_tokens::Kind;
 use crate::proved::rust_trees::{Token, Tokens};
 use crate::shim::alloc::{AllocError, Global};
 use crate::shim::prelude::*;
-use std::collections::BTreeSet;
+use alloc::collections::BTreeSet;
 
 /// Returns whether a token is the word `macro_rules`.
 // ensures { result ≡ is_macro_rules (leaf token.now) }
@@ -55,6 +55,9 @@ fn put_definition<'a>(
 #[inline]
 pub fn macro_names<'a>(alloc: Global, text: &'a str) -> Result<BTreeSet<&'a [u8]>, AllocError> {
     let mut found = BTreeSet::made_in(alloc);
+    if !text.contains("macro_rules") {
+        return Ok(found);
+    }
     let mut rest = Tokens::new(text);
     let mut before = None;
     let mut last = None;

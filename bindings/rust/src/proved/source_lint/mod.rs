@@ -4,17 +4,24 @@
 // That source is proved, and each contract here is its. That this text means the same is tested:
 // by results from outside, and beside what is proved (.ci/bindings) and the original (tools/agree).
 
+pub(crate) mod asm_findings;
+pub(crate) mod assembly;
+pub(crate) mod attributes;
 pub(crate) mod findings;
 pub(crate) mod form_words;
 pub(crate) mod forms;
+pub(crate) mod generics;
 pub(crate) mod givens;
 pub(crate) mod labels;
 pub(crate) mod lint;
 pub(crate) mod literals;
 pub(crate) mod macros;
+pub(crate) mod messages;
 pub(crate) mod readings;
 pub(crate) mod report;
 pub(crate) mod spans;
 
 pub use lint::file_faults;
-pub use report::{CallReading, Finding, Help, Options, Report};
+#[cfg(feature = "std")]
+pub use report::Help;
+pub use report::{CallReading, Finding, Options, Report};

@@ -9,7 +9,8 @@ use crate::proved::format_calls::{
     are_counted, arguments, format_string, token_at, word, Argument, Call, Rule,
 };
 use crate::proved::rust_trees::{Source, Token};
-use crate::proved::source_lint::findings::put_findings;
+use crate::proved::source_lint::assembly::read_asm;
+use crate::proved::source_lint::findings::{put_findings, reading_of};
 use crate::proved::source_lint::form_words::put_form;
 use crate::proved::source_lint::forms::{form_here, have_joined};
 use crate::proved::source_lint::givens::givens;
@@ -19,7 +20,7 @@ use crate::proved::source_lint::report::{CallReading, Finding};
 use crate::proved::source_lint::spans::Site;
 use crate::shim::alloc::{AllocError, Global};
 use crate::shim::prelude::*;
-use std::collections::BTreeSet;
+use alloc::collections::BTreeSet;
 
 /// A file, with what its calls are read by.
 #[derive(Clone, Copy)]
@@ -58,17 +59,6 @@ fn counted_givens<'a>(
     }
     let found = givens(alloc, tokens, arguments)?;
     Ok(found)
-}
-
-/// Returns how much of a call is read where the number of its arguments is known, and where not.
-// ensures { result ≡ reading_of is_counted }
-#[inline]
-fn reading_of(is_counted: bool) -> CallReading {
-    if is_counted {
-        CallReading::Whole
-    } else {
-        CallReading::StringAlone
-    }
 }
 
 /// Checks a call with this format string and these arguments, and adds its findings. Returns `Err`
@@ -135,7 +125,7 @@ fn read_string(
 fn captures(rule: Rule, name: &[u8], is_from_2021: bool) -> bool {
     match rule {
         Rule::ByEdition(_) => is_from_2021 || name != b"unreachable".as_slice(),
-        Rule::At(_) | Rule::AfterFields => true,
+        Rule::At(_) | Rule::AfterFields | Rule::Templates => true,
     }
 }
 
@@ -204,6 +194,40 @@ fn read_at(
     Ok(reading)
 }
 
+/// Reads a call whose format string is the argument of this index, or whose templates begin with
+/// it, and adds its findings. Returns `Err` if an allocation fails.
+// requires pair { IsPair part.now (call.now.name + 2) call.now.close }
+// requires split { AreArguments part.now (call.now.name + 3) arguments.now call.now.close }
+// requires literal { (a : ArgumentValue) × (slice_get arguments.now index ≡ Some a)
+//     × IsTrue (is_text part.now a) }
+// ensures read { IfOk result (λ r. (xs : List FindingValue)
+//     × (findings.new.items ≡ findings.old.items ++ xs)
+//     × ReadsOne call.now.rule file.entry.is_from_2021 part.now call.now arguments.now index r
+//     xs) }
+// ensures spans { OnOk result (All (HasSpans file.entry.text.now) findings.old.items
+//     → All (HasSpans file.entry.text.now) findings.new.items) }
+#[inline]
+fn read_one<'a>(
+    alloc: Global,
+    findings: &mut Vec<Finding>,
+    file: File<'_, 'a>,
+    part: &Source<'a>,
+    call: &Call,
+    arguments: &[Argument],
+    index: usize,
+) -> Result<CallReading, AllocError> {
+    match call.rule {
+        Rule::Templates => {
+            let reading = read_asm(alloc, findings, file.text, part, call, arguments)?;
+            Ok(reading)
+        }
+        Rule::At(_) | Rule::ByEdition(_) | Rule::AfterFields => {
+            let reading = read_at(alloc, findings, file, part, call, arguments, index)?;
+            Ok(reading)
+        }
+    }
+}
+
 /// Returns whether no token stands where an argument should.
 // ensures { result ≡ is_empty argument.now }
 #[inline]
@@ -223,6 +247,13 @@ fn has_empty(arguments: &[Argument]) -> bool {
     false
 }
 
+/// Returns whether the arguments of a macro with this rule are expressions: operands are none.
+// ensures { result ≡ has_expressions rule }
+#[inline]
+fn has_expressions(rule: Rule) -> bool {
+    !matches!(rule, Rule::Templates)
+}
+
 /// Returns the index of the argument that is the format string of a call, or the reading of the
 /// call if none is read.
 // ensures value { result ≡ index_or file.entry.is_from_2021 part.now call.now.rule
@@ -239,7 +270,7 @@ fn index_or(
     if has_empty(arguments) {
         return Err(CallReading::NoExpression);
     }
-    if have_joined(part.tokens(), arguments) {
+    if has_expressions(call.rule) && have_joined(part.tokens(), arguments) {
         return Err(CallReading::NoComma);
     }
     match format_string(part, call.rule, arguments, file.is_from_2021) {
@@ -275,7 +306,7 @@ pub fn read_call<'a>(
     let list = arguments.as_slice();
     match index_or(file, part, call, list) {
         Ok(index) => {
-            let reading = read_at(alloc, findings, file, part, call, list, index)?;
+            let reading = read_one(alloc, findings, file, part, call, list, index)?;
             Ok(reading)
         }
         Err(reading) => {

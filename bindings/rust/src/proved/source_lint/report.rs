@@ -6,7 +6,8 @@
 
 use crate::proved::format_calls::{Reason, Table};
 use crate::proved::rust_trees::BreakAt;
-use std::ops::Range;
+use crate::shim::prelude::*;
+use core::ops::Range;
 
 /// How a file is read.
 pub struct Options<'a> {
@@ -17,7 +18,7 @@ pub struct Options<'a> {
 }
 
 /// How much of a call was read.
-#[derive(Clone, Copy)]
+#[derive(Clone, Copy, Debug, Eq, PartialEq)]
 pub enum CallReading {
     /// Its format string and its arguments.
     Whole,
@@ -37,6 +38,7 @@ pub enum CallReading {
 }
 
 /// A label of a finding under the source.
+#[derive(Clone, Debug, Eq, PartialEq)]
 pub struct Label {
     /// The bytes of the file that it is about. Both ends are at characters.
     pub range: Range<usize>,
@@ -47,6 +49,7 @@ pub struct Label {
 }
 
 /// A note of a finding.
+#[derive(Clone, Debug, Eq, PartialEq)]
 pub struct Note {
     /// Its text, in rustc's words, which may have several lines.
     pub text: String,
@@ -56,6 +59,7 @@ pub struct Note {
 }
 
 /// A text that a help puts in the place of another one.
+#[derive(Clone, Debug, Eq, PartialEq)]
 pub struct Edit {
     /// The bytes of the file that it replaces: none where text is only inserted. Both ends are at
     /// characters.
@@ -65,6 +69,7 @@ pub struct Edit {
 }
 
 /// A help of a finding.
+#[derive(Clone, Debug, Eq, PartialEq)]
 pub struct Help {
     /// The advice, in rustc's words.
     pub text: String,
@@ -73,6 +78,7 @@ pub struct Help {
 }
 
 /// A fault of a call, in rustc's words.
+#[derive(Clone, Debug, Eq, PartialEq)]
 pub struct Finding {
     /// Whether it is a warning. Any other fault is an error.
     pub is_warning: bool,
@@ -91,6 +97,7 @@ pub struct Finding {
 }
 
 /// The readings of the calls of a file, and the faults of these calls.
+#[derive(Clone, Debug, Eq, PartialEq)]
 pub struct Report {
     /// How much of each call of a macro of the table was read, in the order of their names.
     pub calls: Vec<CallReading>,

@@ -9,7 +9,7 @@ use crate::proved::format_calls::{token_at, Argument};
 use crate::proved::rust_trees::Token;
 use crate::proved::source_lint::literals::offset_in;
 use crate::shim::prelude::*;
-use std::ops::Range;
+use core::ops::Range;
 
 /// A call and its parts in the file.
 #[derive(Clone, Copy)]

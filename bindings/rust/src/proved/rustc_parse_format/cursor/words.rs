@@ -9,7 +9,7 @@ use crate::proved::rustc_parse_format::characters::{
     before, begins_white, behind_while, is_underscore, leading_number, split_word, Class,
     LeadingNumber,
 };
-use std::ops::Range;
+use core::ops::Range;
 
 impl<'input> Cursor<'input> {
     /// Moves past the longest prefix of characters in the class.

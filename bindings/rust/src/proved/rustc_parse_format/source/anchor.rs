@@ -21,7 +21,7 @@
 use crate::proved::rustc_parse_format::characters::{behind_first, first, run_width, Class};
 use crate::proved::rustc_parse_format::literal::{is_newline_escape, read_unit, Rest};
 use crate::shim::prelude::*;
-use std::ops::Range;
+use core::ops::Range;
 
 /// The position in a snippet that was last examined.
 #[derive(Clone, Copy)]

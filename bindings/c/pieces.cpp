@@ -1,0 +1,81 @@
+// Lists the pieces of a format string, the first command-line argument, in C++: a run of text, or a
+// placeholder with its argument and its specification. After a fault it lists the rest too.
+#include "dephungo.h"
+#include <cstdint>
+#include <iostream>
+#include <string>
+#include <vector>
+
+namespace {
+
+/// What a call of dephungo_read wrote.
+struct Reading {
+    std::vector<dephungo_step> steps;
+    std::vector<dephungo_spec> specs;
+    std::vector<dephungo_fault> faults;
+    std::string texts;
+    std::vector<dephungo_range> lines;
+    dephungo_answer answer{};
+    std::uint32_t code = DEPHUNGO_SHORT;
+};
+
+/// Reads an input that comes from no literal. The first call says how much room the second one needs.
+Reading read(const std::string &input) {
+    Reading it;
+    const auto text = reinterpret_cast<const std::uint8_t *>(input.data());
+    dephungo_options options{};
+    options.mode = DEPHUNGO_MODE_FORMAT;
+    std::size_t room[5] = {1, 1, 1, 1, 1};
+    for (int call = 0; call < 2 && it.code == DEPHUNGO_SHORT; call++) {
+        it.steps.resize(room[0]);
+        it.specs.resize(room[1]);
+        it.faults.resize(room[2]);
+        it.texts.resize(room[3]);
+        it.lines.resize(room[4]);
+        // (there is no snippet: its pointer may be any that is not null)
+        it.code = dephungo_read(text, input.size(), text, 0, &options, it.steps.data(), room[0], it.specs.data(),
+                                room[1], it.faults.data(), room[2],
+                                reinterpret_cast<std::uint8_t *>(&it.texts[0]), room[3], it.lines.data(), room[4],
+                                &it.answer);
+        const std::size_t needed[5] = {it.answer.steps, it.answer.specs, it.answer.faults, it.answer.texts,
+                                       it.answer.lines};
+        for (int at = 0; at < 5; at++) room[at] = needed[at] > room[at] ? needed[at] : room[at];
+    }
+    return it;
+}
+
+} // namespace
+
+int main(int argc, char **argv) {
+    const std::string input = argc > 1 ? argv[1] : "hi {name:>8}{}{";
+    const Reading found = read(input);
+    if (found.code != DEPHUNGO_DONE) {
+        std::cerr << "code " << found.code << '\n';
+        return 2;
+    }
+    const auto cut = [&](const dephungo_range &range) { return input.substr(range.from, range.to - range.from); };
+    for (std::size_t at = 0; at < found.answer.steps; at++) {
+        const dephungo_step &step = found.steps[at];
+        if (step.kind == DEPHUNGO_PIECE_TEXT) {
+            std::cout << "text \"" << cut(step.text) << "\"\n";
+        } else if (step.kind == DEPHUNGO_PIECE_ARGUMENT) {
+            std::cout << "argument ";
+            if (step.position == DEPHUNGO_POSITION_NAMED) {
+                std::cout << cut(step.text);
+            } else {
+                std::cout << step.number;
+            }
+            if (step.spec && found.specs[step.spec - 1].width.kind == DEPHUNGO_COUNT_IS) {
+                std::cout << " width " << found.specs[step.spec - 1].width.number;
+            }
+            std::cout << " at " << step.position_span.from << ".." << step.position_span.to << '\n';
+        }
+    }
+    for (std::size_t at = 0; at < found.answer.faults; at++) {
+        const dephungo_fault &fault = found.faults[at];
+        const dephungo_range &text = fault.description;
+        std::cout << "fault at " << fault.span.from << ".." << fault.span.to << ": "
+                  << found.texts.substr(text.from, text.to - text.from) << '\n';
+    }
+    return found.answer.faults != 0;
+}

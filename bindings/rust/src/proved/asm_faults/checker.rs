@@ -1,0 +1,77 @@
+//! What is wrong with a call.
+
+// Extracted from crates/asm_faults/src/checker.rt by tools/extract: not to be edited.
+// That source is proved, and each contract here is its. That this text means the same is tested:
+// by results from outside, and beside what is proved (.ci/bindings) and the original (tools/agree).
+
+use crate::proved::asm_faults::compared::{look_up, tell_unused};
+use crate::proved::asm_faults::faults::AsmFault;
+use crate::proved::asm_faults::lookups::Walk;
+use crate::proved::asm_faults::operands::{operands_of, Operand, Operands};
+use crate::proved::asm_faults::templates::{push_templates, Template};
+use crate::shim::alloc::{AllocError, Global};
+use crate::shim::prelude::*;
+
+/// A call that was checked.
+pub struct AsmCall<'a> {
+    /// The operands that are given, of which those whose name is that of an earlier one count as
+    /// unnamed.
+    pub operands: Vec<Operand<'a>>,
+    /// What is wrong, in the order in which rustc tells it.
+    pub faults: Vec<AsmFault<'a>>,
+}
+
+/// Adds what is wrong with templates and operands. Returns `Err` if an allocation fails.
+// requires { AllByRecursion (λ t. hashes t.style + length t.text.now + 2 < 2 ^ 64)
+//     templates.now }
+// ensures { OnOk result ((ss : List OperandValue) → Holds ss operands.now
+//     → map seen_fault faults.new.items ≡ map seen_fault faults.old.items
+//     ++ compared ss (lookups_from 0 0 (map seen_template templates.now))
+//     (template_fault 0 (map seen_template templates.now))) }
+#[inline]
+fn compare<'a>(
+    alloc: Global,
+    faults: &mut Vec<AsmFault<'a>>,
+    templates: &[Template<'a>],
+    operands: &Operands<'a>,
+) -> Result<(), AllocError> {
+    let mut walk = Walk {
+        lookups: Vec::made_in(alloc),
+        next: 0,
+    };
+    let fault = push_templates(alloc, &mut walk, templates)?;
+    look_up(faults, operands, &walk.lookups)?;
+    match fault {
+        Some(fault) => faults.try_push(fault)?,
+        None => tell_unused(alloc, faults, operands, &walk.lookups)?,
+    }
+    Ok(())
+}
+
+/// Checks a call of a macro for inline assembly, as `asm!`: reads its templates, compares their
+/// placeholders with the operands that are given, in the order of the source, and returns what is
+/// wrong, as rustc tells it. Placeholders without a position count through all templates.
+///
+/// With `options(raw)` the templates have no placeholders, so none is to be given here. For each
+/// template the number of hashes, the length of the text in bytes, and 2 must together fit into a
+/// `usize`. Returns `Err` if an allocation fails.
+// requires { AllByRecursion (λ t. hashes t.style + length t.text.now + 2 < 2 ^ 64)
+//     templates.now }
+// ensures operands { IfOk result (λ x. map seen_operand x.operands.items
+//     ≡ slots_after [] (map seen_operand given.now)) }
+// ensures faults { IfOk result (λ x. map seen_fault x.faults.items
+//     ≡ asm_faults (map seen_template templates.now) (map seen_operand given.now)) }
+#[inline]
+pub fn asm_faults<'a>(
+    alloc: Global,
+    templates: &[Template<'a>],
+    given: &[Operand<'a>],
+) -> Result<AsmCall<'a>, AllocError> {
+    let mut faults = Vec::made_in(alloc);
+    let operands = operands_of(alloc, &mut faults, given)?;
+    compare(alloc, &mut faults, templates, &operands)?;
+    Ok(AsmCall {
+        operands: operands.slots,
+        faults,
+    })
+}

@@ -1,0 +1,145 @@
+//! The comparison of lookups with the operands.
+
+// Extracted from crates/asm_faults/src/compared.rt by tools/extract: not to be edited.
+// That source is proved, and each contract here is its. That this text means the same is tested:
+// by results from outside, and beside what is proved (.ci/bindings) and the original (tools/agree).
+
+use crate::proved::asm_faults::faults::AsmFault;
+use crate::proved::asm_faults::lookups::Lookup;
+use crate::proved::asm_faults::operands::{index_of, Operand, Operands};
+use crate::shim::alloc::{AllocError, Global};
+use crate::shim::prelude::*;
+
+/// Returns the index of the operand that a lookup means, or `None` if it means none.
+// ensures { (ss : List OperandValue) → Holds ss operands.now → (i : ℕ)
+//     → option_map_or (λ j. i == j) result false ≡ means ss i (seen_lookup lookup.now) }
+#[inline]
+fn meant<'a>(operands: &Operands<'a>, lookup: &Lookup<'a>) -> Option<usize> {
+    match *lookup {
+        Lookup::Index(_, index) => match operands.slots.get(index) {
+            Some(Operand::Unnamed) => Some(index),
+            Some(Operand::Named(_)) | Some(Operand::Register { .. }) | None => None,
+        },
+        Lookup::Name(_, name) => index_of(&operands.names, name),
+        Lookup::LongModifier(_) => None,
+    }
+}
+
+/// Returns of each operand whether a lookup means it. Returns `Err` if an allocation fails.
+// ensures { IfOk result (λ v. (ss : List OperandValue) → Holds ss operands.now → (i : ℕ)
+//     → get_or v.items i false ≡ list_any (means ss i) (map seen_lookup lookups.now)) }
+#[inline]
+fn marks<'a>(
+    alloc: Global,
+    operands: &Operands<'a>,
+    lookups: &[Lookup<'a>],
+) -> Result<Vec<bool>, AllocError> {
+    let mut marks = crate::shim::vec_in![alloc; false; operands.slots.len()]?;
+    for lookup in lookups {
+        if let Some(index) = meant(operands, lookup) {
+            if index < marks.len() {
+                marks[index] = true;
+            }
+        }
+    }
+    Ok(marks)
+}
+
+/// Returns whether an operand is marked, or has a register of its own.
+// ensures { result ≡ (is_register (seen_operand slot.now) || get_or marks.now index false) }
+#[inline]
+fn is_settled(marks: &[bool], index: usize, slot: &Operand<'_>) -> bool {
+    matches!(slot, Operand::Register { .. }) || matches!(marks.get(index), Some(true))
+}
+
+/// Adds the index of an operand, unless it is marked or has a register of its own. Returns `Err` if
+/// an allocation fails.
+// ensures { OnOk result (left.new.items ≡ left.old.items
+//     ++ unused_one (λ i. get_or marks.now i false) index (seen_operand slot.now)) }
+#[inline]
+fn push_unmarked(
+    left: &mut Vec<usize>,
+    marks: &[bool],
+    index: usize,
+    slot: &Operand<'_>,
+) -> Result<(), AllocError> {
+    if !is_settled(marks, index, slot) {
+        left.try_push(index)?;
+    }
+    Ok(())
+}
+
+/// Returns the indices of the operands that are not marked, but for those with a register of their
+/// own. Returns `Err` if an allocation fails.
+// ensures { IfOk result (λ v. v.items
+//     ≡ unused_from (λ i. get_or marks.now i false) 0 (map seen_operand slots.now)) }
+#[inline]
+fn unmarked(
+    alloc: Global,
+    slots: &[Operand<'_>],
+    marks: &[bool],
+) -> Result<Vec<usize>, AllocError> {
+    let mut left = Vec::made_in(alloc);
+    for (index, slot) in slots.iter().enumerate() {
+        push_unmarked(&mut left, marks, index, slot)?;
+    }
+    Ok(left)
+}
+
+/// Returns the fault of a lookup, or `None` if there is none.
+// ensures { (ss : List OperandValue) → Holds ss operands.now
+//     → option_map seen_fault result ≡ fault_of ss (seen_lookup lookup.now) }
+#[inline]
+fn fault_of<'a>(operands: &Operands<'a>, lookup: &Lookup<'a>) -> Option<AsmFault<'a>> {
+    match *lookup {
+        Lookup::Index(spot, index) => match operands.slots.get(index) {
+            Some(Operand::Unnamed) => None,
+            Some(Operand::Named(_)) | Some(Operand::Register { .. }) | None => {
+                Some(AsmFault::WrongIndex { spot, index })
+            }
+        },
+        Lookup::Name(spot, name) => match index_of(&operands.names, name) {
+            Some(_) => None,
+            None => Some(AsmFault::MissingName { spot, name }),
+        },
+        Lookup::LongModifier(spot) => Some(AsmFault::LongModifier { spot }),
+    }
+}
+
+/// Adds the faults of lookups. Returns `Err` if an allocation fails.
+// ensures { OnOk result ((ss : List OperandValue) → Holds ss operands.now
+//     → map seen_fault faults.new.items ≡ map seen_fault faults.old.items
+//     ++ filter_map (fault_of ss) (map seen_lookup lookups.now)) }
+#[inline]
+pub(crate) fn look_up<'a>(
+    faults: &mut Vec<AsmFault<'a>>,
+    operands: &Operands<'a>,
+    lookups: &[Lookup<'a>],
+) -> Result<(), AllocError> {
+    for lookup in lookups {
+        if let Some(fault) = fault_of(operands, lookup) {
+            faults.try_push(fault)?;
+        }
+    }
+    Ok(())
+}
+
+/// Adds the fault of the operands that no lookup means, if there are any. Returns `Err` if an
+/// allocation fails.
+// ensures { OnOk result ((ss : List OperandValue) → Holds ss operands.now
+//     → map seen_fault faults.new.items ≡ map seen_fault faults.old.items
+//     ++ unused_faults (unused ss (map seen_lookup lookups.now))) }
+#[inline]
+pub(crate) fn tell_unused<'a>(
+    alloc: Global,
+    faults: &mut Vec<AsmFault<'a>>,
+    operands: &Operands<'a>,
+    lookups: &[Lookup<'a>],
+) -> Result<(), AllocError> {
+    let marks = marks(alloc, operands, lookups)?;
+    let unused = unmarked(alloc, &operands.slots, &marks)?;
+    if !unused.is_empty() {
+        faults.try_push(AsmFault::UnusedOperands(unused))?;
+    }
+    Ok(())
+}

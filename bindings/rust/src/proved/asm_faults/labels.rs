@@ -1,0 +1,268 @@
+//! The labels of faults, in rustc's words. What begins with `push_` adds to the end of `labels`,
+//! and returns `Err` if an allocation fails.
+
+// Extracted from crates/asm_faults/src/labels.rt by tools/extract: not to be edited.
+// That source is proved, and each contract here is its. That this text means the same is tested:
+// by results from outside, and beside what is proved (.ci/bindings) and the original (tools/agree).
+
+use crate::proved::asm_faults::checker::AsmCall;
+use crate::proved::asm_faults::faults::{AsmFault, AsmSpot};
+use crate::proved::asm_faults::lookups::bytes_at;
+use crate::proved::asm_faults::operands::{operand_at, Operand};
+use crate::proved::asm_faults::titles::never_used;
+use crate::proved::rustc_parse_format::{Fault, ParseError};
+use crate::shim::alloc::{AllocError, Global};
+use crate::shim::prelude::*;
+
+/// A label under the source of a call.
+#[derive(Debug, PartialEq)]
+pub struct AsmLabel {
+    /// Where it is.
+    pub spot: AsmSpot,
+    /// Whether the fault is about this place: it has the sign `^`, and the others have `-`.
+    pub is_primary: bool,
+    /// Its text, in rustc's words, or an empty one.
+    pub text: String,
+}
+
+/// Adds a label.
+// ensures { OnOk result (map seen_label labels.new.items
+//     ≡ map seen_label labels.old.items ++ label spot is_primary text.now ∷ []) }
+#[inline]
+fn push_label(
+    labels: &mut Vec<AsmLabel>,
+    spot: AsmSpot,
+    is_primary: bool,
+    text: &str,
+) -> Result<(), AllocError> {
+    let text = String::made_from(*labels.own_allocator(), text)?;
+    labels.try_push(AsmLabel {
+        spot,
+        is_primary,
+        text,
+    })?;
+    Ok(())
+}
+
+/// Adds the label of an operand that an index does not mean.
+// ensures { OnOk result (map seen_label labels.new.items
+//     ≡ map seen_label labels.old.items ++ kind_label index (seen_operand operand.now)) }
+#[inline]
+fn push_kind(
+    labels: &mut Vec<AsmLabel>,
+    index: usize,
+    operand: &Operand<'_>,
+) -> Result<(), AllocError> {
+    let spot = AsmSpot::Operand(index);
+    match operand {
+        Operand::Unnamed => {}
+        Operand::Named(_) => push_label(labels, spot, false, "named argument")?,
+        Operand::Register { .. } => push_label(labels, spot, false, "explicit register argument")?,
+    }
+    Ok(())
+}
+
+/// Returns whether an operand has a register of its own, or else a name.
+// ensures { result ≡ is_kind is_register (seen_operand operand.now) }
+#[inline]
+fn is_kind(is_register: bool, operand: &Operand<'_>) -> bool {
+    match operand {
+        Operand::Unnamed => false,
+        Operand::Named(_) => !is_register,
+        Operand::Register { .. } => is_register,
+    }
+}
+
+/// Adds the label of an operand, if it is in front of an index and has a register of its own, or
+/// else a name.
+// ensures { OnOk result (map seen_label labels.new.items ≡ map seen_label labels.old.items
+//     ++ front_label is_register before index (seen_operand operand.now)) }
+#[inline]
+fn push_front(
+    labels: &mut Vec<AsmLabel>,
+    is_register: bool,
+    before: usize,
+    index: usize,
+    operand: &Operand<'_>,
+) -> Result<(), AllocError> {
+    if index < before && is_kind(is_register, operand) {
+        push_kind(labels, index, operand)?;
+    }
+    Ok(())
+}
+
+/// Adds the labels of those of operands in front of an index that have a register of their own, or
+/// else of those that have a name.
+// ensures { OnOk result (map seen_label labels.new.items ≡ map seen_label labels.old.items
+//     ++ front_labels is_register before 0 (map seen_operand operands.now)) }
+#[inline]
+fn push_fronts(
+    labels: &mut Vec<AsmLabel>,
+    is_register: bool,
+    before: usize,
+    operands: &[Operand<'_>],
+) -> Result<(), AllocError> {
+    for (index, operand) in operands.iter().enumerate() {
+        push_front(labels, is_register, before, index, operand)?;
+    }
+    Ok(())
+}
+
+/// Adds the labels of an operand that stands too late.
+// ensures { OnOk result (map seen_label labels.new.items ≡ map seen_label labels.old.items
+//     ++ late_labels (map seen_operand operands.now) index) }
+#[inline]
+fn push_late(
+    labels: &mut Vec<AsmLabel>,
+    operands: &[Operand<'_>],
+    index: usize,
+) -> Result<(), AllocError> {
+    push_label(labels, AsmSpot::Operand(index), true, "positional argument")?;
+    push_fronts(labels, false, index, operands)?;
+    push_fronts(labels, true, index, operands)?;
+    Ok(())
+}
+
+/// Adds the label of the operand of an index, if there is one, and an index does not mean it.
+// ensures { OnOk result (map seen_label labels.new.items ≡ map seen_label labels.old.items
+//     ++ kind_at index (option_map seen_operand operand.entry)) }
+#[inline]
+fn push_kind_at(
+    labels: &mut Vec<AsmLabel>,
+    index: usize,
+    operand: Option<Operand<'_>>,
+) -> Result<(), AllocError> {
+    if let Some(operand) = operand {
+        push_kind(labels, index, &operand)?;
+    }
+    Ok(())
+}
+
+/// Adds the labels of a wrong index of the placeholder at `spot`.
+// ensures { OnOk result (map seen_label labels.new.items ≡ map seen_label labels.old.items
+//     ++ wrong_labels spot index (slice_get (map seen_operand operands.now) index)) }
+#[inline]
+fn push_wrong(
+    labels: &mut Vec<AsmLabel>,
+    operands: &[Operand<'_>],
+    spot: AsmSpot,
+    index: usize,
+) -> Result<(), AllocError> {
+    push_label(labels, spot, true, "from here")?;
+    push_kind_at(labels, index, operand_at(operands, index))?;
+    Ok(())
+}
+
+/// Adds the label of the second range of an error of a template, if it has one.
+// ensures { OnOk result (map seen_label labels.new.items ≡ map seen_label labels.old.items
+//     ++ second_labels template (seen_error error.now).span (seen_error error.now).second) }
+#[inline]
+fn push_second(
+    labels: &mut Vec<AsmLabel>,
+    template: usize,
+    error: &ParseError,
+) -> Result<(), AllocError> {
+    if let Some((text, span)) = &error.secondary_label {
+        let is_same = span.start == error.span.start && span.end == error.span.end;
+        push_label(labels, bytes_at(template, span), is_same, text)?;
+    }
+    Ok(())
+}
+
+/// Returns what is said of the place of an error of a template. Returns `Err` if an allocation
+/// fails.
+// ensures { IfOk result (λ t. string_bytes t
+//     ≡ (seen_error error.now).label ++ codes " in asm template string") }
+#[inline]
+fn error_text(alloc: Global, error: &ParseError) -> Result<String, AllocError> {
+    let mut text = String::made_from(alloc, &error.label)?;
+    text.try_push_str(" in asm template string")?;
+    Ok(text)
+}
+
+/// Adds the labels of an error of a template.
+// ensures { OnOk result (map seen_label labels.new.items ≡ map seen_label labels.old.items
+//     ++ text_labels template (seen_error error.now)) }
+#[inline]
+fn push_error(
+    alloc: Global,
+    labels: &mut Vec<AsmLabel>,
+    template: usize,
+    error: &ParseError,
+) -> Result<(), AllocError> {
+    let text = error_text(alloc, error)?;
+    push_label(labels, bytes_at(template, &error.span), true, &text)?;
+    push_second(labels, template, error)?;
+    Ok(())
+}
+
+/// Adds the labels of a fault of a template.
+// ensures { OnOk result (map seen_label labels.new.items ≡ map seen_label labels.old.items
+//     ++ text_labels template (message (seen_text_fault fault.now))) }
+#[inline]
+fn push_text(
+    alloc: Global,
+    labels: &mut Vec<AsmLabel>,
+    template: usize,
+    fault: &Fault<'_>,
+) -> Result<(), AllocError> {
+    let error = fault.error(alloc)?;
+    push_error(alloc, labels, template, &error)?;
+    Ok(())
+}
+
+/// Adds the labels of operands that are not used.
+// ensures { OnOk result (map seen_label labels.new.items ≡ map seen_label labels.old.items
+//     ++ unused_labels (map seen_operand operands.now) unused.now) }
+#[inline]
+fn push_unused(
+    labels: &mut Vec<AsmLabel>,
+    operands: &[Operand<'_>],
+    unused: &[usize],
+) -> Result<(), AllocError> {
+    let mut rest = unused;
+    while let Some((index, others)) = rest.split_first() {
+        let text = never_used(operands, *index);
+        push_label(labels, AsmSpot::Operand(*index), true, text)?;
+        rest = others;
+    }
+    Ok(())
+}
+
+impl<'a> AsmCall<'a> {
+    /// Returns the labels of one of the faults, in rustc's order. Returns `Err` if an allocation
+    /// fails.
+    // ensures { IfOk result (λ v. map seen_label v.items
+    //     ≡ labels (map seen_operand self.now.operands.items) (seen_fault fault.now)) }
+    #[inline]
+    pub fn labels(&self, alloc: Global, fault: &AsmFault<'a>) -> Result<Vec<AsmLabel>, AllocError> {
+        let mut labels = Vec::made_in(alloc);
+        match fault {
+            AsmFault::PositionalAfter { operand } => {
+                push_late(&mut labels, &self.operands, *operand)?;
+            }
+            AsmFault::RepeatedName { operand, first } => {
+                let spot = AsmSpot::Operand(*operand);
+                push_label(&mut labels, spot, true, "duplicate argument")?;
+                let spot = AsmSpot::Operand(*first);
+                push_label(&mut labels, spot, false, "previously here")?;
+            }
+            AsmFault::RegisterName { operand } => {
+                push_label(&mut labels, AsmSpot::Operand(*operand), true, "")?;
+            }
+            AsmFault::WrongIndex { spot, index } => {
+                push_wrong(&mut labels, &self.operands, *spot, *index)?;
+            }
+            AsmFault::MissingName { spot, .. } | AsmFault::LongModifier { spot } => {
+                push_label(&mut labels, *spot, true, "")?;
+            }
+            AsmFault::Text { template, fault } => {
+                push_text(alloc, &mut labels, *template, fault)?;
+            }
+            AsmFault::UnusedOperands(unused) => {
+                push_unused(&mut labels, &self.operands, unused)?;
+            }
+        }
+        Ok(labels)
+    }
+}

@@ -1,0 +1,214 @@
+//! What is looked up for the placeholders of a template, in rustc's order.
+
+// Extracted from crates/asm_faults/src/lookups.rt by tools/extract: not to be edited.
+// That source is proved, and each contract here is its. That this text means the same is tested:
+// by results from outside, and beside what is proved (.ci/bindings) and the original (tools/agree).
+
+use crate::proved::asm_faults::faults::AsmSpot;
+use crate::proved::rustc_parse_format::{Argument, Piece, Position};
+use crate::shim::alloc::AllocError;
+use crate::shim::prelude::*;
+use core::ops::Range;
+
+/// What is looked up for a placeholder.
+#[derive(Clone, Copy)]
+pub(crate) enum Lookup<'a> {
+    /// The operand of this index, for the placeholder there.
+    Index(AsmSpot, usize),
+    /// The operand with this name, which stands there.
+    Name(AsmSpot, &'a str),
+    /// A modifier of several characters, which stands there.
+    LongModifier(AsmSpot),
+}
+
+/// What is looked up for the placeholders so far.
+pub(crate) struct Walk<'a> {
+    /// What is looked up.
+    pub lookups: Vec<Lookup<'a>>,
+    /// The index of the operand that the next placeholder without a position means.
+    pub next: usize,
+}
+
+/// Returns a range of a template.
+// ensures { result ≡ spot_of template (Some (pair span.now)) }
+#[inline]
+pub(crate) fn bytes_at(template: usize, span: &Range<usize>) -> AsmSpot {
+    AsmSpot::Bytes {
+        template,
+        start: span.start,
+        end: span.end,
+    }
+}
+
+/// Returns a range of a template, or the whole template if there is none.
+// ensures { result ≡ spot_of template (option_map pair span.now) }
+#[inline]
+fn spot_of(template: usize, span: &Option<Range<usize>>) -> AsmSpot {
+    match span {
+        None => AsmSpot::Template(template),
+        Some(span) => bytes_at(template, span),
+    }
+}
+
+/// Returns the first of the places of placeholders, or the whole template if there is none.
+// ensures { result ≡ first_spot template (map pair places.now) }
+#[inline]
+fn first_spot(template: usize, places: &[Range<usize>]) -> AsmSpot {
+    match places.first() {
+        None => AsmSpot::Template(template),
+        Some(place) => bytes_at(template, place),
+    }
+}
+
+/// Returns the places after the first one.
+// ensures { map pair result.now ≡ drop 1 (map pair places.now) }
+#[inline]
+fn others(places: &[Range<usize>]) -> &[Range<usize>] {
+    match places.split_first() {
+        None => places,
+        Some((_, others)) => others,
+    }
+}
+
+/// Returns whether a position is that of a placeholder without one.
+// ensures { result ≡ is_next (seen_position position.now) }
+#[inline]
+fn is_next(position: &Position<'_>) -> bool {
+    matches!(position, Position::ArgumentImplicitlyIs(_))
+}
+
+/// Returns what the position of a placeholder at a place means, where one without a position means
+/// the operand of the index `next`.
+// ensures { seen_lookup result
+//     ≡ position_lookup template next spot (seen_argument argument.now) }
+#[inline]
+fn position_lookup<'a>(
+    template: usize,
+    next: usize,
+    spot: AsmSpot,
+    argument: &Argument<'a>,
+) -> Lookup<'a> {
+    match argument.position {
+        Position::ArgumentImplicitlyIs(_) => Lookup::Index(spot, next),
+        Position::ArgumentIs(index) => Lookup::Index(spot, index),
+        Position::ArgumentNamed(name) => {
+            Lookup::Name(bytes_at(template, &argument.position_span), name)
+        }
+    }
+}
+
+/// Returns the number of characters of a text.
+// ensures { result ≡ length (chars text.now) }
+#[inline]
+fn length_of(text: &str) -> usize {
+    text.chars().count()
+}
+
+/// Returns whether a modifier has several characters.
+// ensures { result ≡ is_long (chars ty.now) }
+#[inline]
+fn is_long(ty: &str) -> bool {
+    length_of(ty) > 1
+}
+
+/// Adds what is looked up for the modifier of a placeholder. Returns `Err` if an allocation fails.
+// ensures lookups { OnOk result (map seen_lookup lookups.new.items
+//     ≡ map seen_lookup lookups.old.items
+//     ++ modifier_lookups template (seen_argument argument.now).format) }
+// ensures more { OnOk result (length lookups.old.items ≤ length lookups.new.items) }
+#[inline]
+fn push_modifier<'a>(
+    lookups: &mut Vec<Lookup<'a>>,
+    template: usize,
+    argument: &Argument<'a>,
+) -> Result<(), AllocError> {
+    if is_long(argument.format.ty) {
+        lookups.try_push(Lookup::LongModifier(spot_of(
+            template,
+            &argument.format.ty_span,
+        )))?;
+    }
+    Ok(())
+}
+
+/// Adds what is looked up for a placeholder at a place. Returns `Err` if an allocation fails.
+// requires { walk.old.next ≤ length walk.old.lookups.items }
+// ensures lookups { OnOk result (map seen_lookup walk.new.lookups.items
+//     ≡ map seen_lookup walk.old.lookups.items
+//     ++ argument_lookups template walk.old.next spot (seen_argument argument.now)) }
+// ensures next { OnOk result (walk.new.next
+//     ≡ next_after walk.old.next (seen_position argument.now.position)) }
+// ensures few { OnOk result (walk.new.next ≤ length walk.new.lookups.items) }
+#[inline]
+fn push_argument<'a>(
+    walk: &mut Walk<'a>,
+    template: usize,
+    spot: AsmSpot,
+    argument: &Argument<'a>,
+) -> Result<(), AllocError> {
+    let lookup = position_lookup(template, walk.next, spot, argument);
+    walk.lookups.try_push(lookup)?;
+    if is_next(&argument.position) {
+        walk.next += 1;
+    }
+    push_modifier(&mut walk.lookups, template, argument)?;
+    Ok(())
+}
+
+/// Adds what is looked up for a piece, where `places` are those of its placeholder and of the later
+/// ones. Returns `Err` if an allocation fails.
+// requires { walk.old.next ≤ length walk.old.lookups.items }
+// ensures lookups { OnOk result (map seen_lookup walk.new.lookups.items
+//     ≡ map seen_lookup walk.old.lookups.items
+//     ++ one_lookups template walk.old.next (map pair places.now) (seen piece.now)) }
+// ensures next { OnOk result (walk.new.next ≡ next_of walk.old.next (seen piece.now)) }
+// ensures few { OnOk result (walk.new.next ≤ length walk.new.lookups.items) }
+#[inline]
+fn push_piece<'a>(
+    walk: &mut Walk<'a>,
+    template: usize,
+    places: &[Range<usize>],
+    piece: &Piece<'a>,
+) -> Result<(), AllocError> {
+    match piece {
+        Piece::Lit(_) => Ok(()),
+        Piece::NextArgument(argument) => {
+            push_argument(walk, template, first_spot(template, places), argument)
+        }
+    }
+}
+
+/// Returns the places after that of a piece, if it is a placeholder.
+// ensures { map pair result.now ≡ places_after (map pair places.now) (seen piece.now) }
+#[inline]
+fn places_after<'p>(places: &'p [Range<usize>], piece: &Piece<'_>) -> &'p [Range<usize>] {
+    match piece {
+        Piece::Lit(_) => places,
+        Piece::NextArgument(_) => others(places),
+    }
+}
+
+/// Adds what is looked up for the pieces of a template, whose placeholders have these places, in
+/// their order. Returns `Err` if an allocation fails.
+// requires { walk.old.next ≤ length walk.old.lookups.items }
+// ensures lookups { OnOk result (map seen_lookup walk.new.lookups.items
+//     ≡ map seen_lookup walk.old.lookups.items
+//     ++ piece_lookups template walk.old.next (map pair places.now) (map seen pieces.now)) }
+// ensures next { OnOk result (walk.new.next
+//     ≡ next_behind walk.old.next (map seen pieces.now)) }
+// ensures few { OnOk result (walk.new.next ≤ length walk.new.lookups.items) }
+#[inline]
+pub(crate) fn push_pieces<'a>(
+    walk: &mut Walk<'a>,
+    template: usize,
+    pieces: &[Piece<'a>],
+    places: &[Range<usize>],
+) -> Result<(), AllocError> {
+    let mut places = places;
+    for piece in pieces {
+        let after = places_after(places, piece);
+        push_piece(walk, template, places, piece)?;
+        places = after;
+    }
+    Ok(())
+}

@@ -1,0 +1,23 @@
+//! What is wrong with the templates of inline assembly and the operands of their call, as rustc
+//! tells it.
+
+// Extracted from crates/asm_faults/src/lib.rt by tools/extract: not to be edited.
+// That source is proved, and each contract here is its. That this text means the same is tested:
+// by results from outside, and beside what is proved (.ci/bindings) and the original (tools/agree).
+
+pub(crate) mod checker;
+pub(crate) mod compared;
+pub(crate) mod faults;
+pub(crate) mod labels;
+pub(crate) mod lookups;
+pub(crate) mod notes;
+pub(crate) mod operands;
+pub(crate) mod templates;
+pub(crate) mod titles;
+
+pub use checker::{asm_faults, AsmCall};
+pub use faults::{AsmFault, AsmSpot};
+pub use labels::AsmLabel;
+pub use notes::AsmNote;
+pub use operands::Operand;
+pub use templates::Template;

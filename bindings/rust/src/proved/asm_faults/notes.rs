@@ -1,0 +1,279 @@
+//! The notes and helps of faults, in rustc's words. What begins with `push_` or `put_` adds to the
+//! end of a list or a text, and returns `Err` if an allocation fails.
+
+// Extracted from crates/asm_faults/src/notes.rt by tools/extract: not to be edited.
+// That source is proved, and each contract here is its. That this text means the same is tested:
+// by results from outside, and beside what is proved (.ci/bindings) and the original (tools/agree).
+
+use crate::proved::asm_faults::checker::AsmCall;
+use crate::proved::asm_faults::faults::{AsmFault, AsmSpot};
+use crate::proved::asm_faults::operands::{operand_at, Operand};
+use crate::proved::asm_faults::titles::{given_name, put_number};
+use crate::proved::rustc_parse_format::Fault;
+use crate::shim::alloc::{AllocError, Global};
+use crate::shim::prelude::*;
+
+/// A note or a help of a fault.
+#[derive(Debug, PartialEq)]
+pub struct AsmNote {
+    /// Its text, in rustc's words.
+    pub text: String,
+    /// The place that it shows. A note without one is a row under the labels, and one with a place
+    /// has a drawing of its own.
+    pub spot: Option<AsmSpot>,
+}
+
+/// Adds a note.
+// ensures { OnOk result (map seen_note notes.new.items
+//     ≡ map seen_note notes.old.items ++ note text.now spot ∷ []) }
+#[inline]
+fn push_note(
+    notes: &mut Vec<AsmNote>,
+    text: &str,
+    spot: Option<AsmSpot>,
+) -> Result<(), AllocError> {
+    let text = String::made_from(*notes.own_allocator(), text)?;
+    notes.try_push(AsmNote { text, spot })?;
+    Ok(())
+}
+
+/// Returns how many operands have neither a name nor a register of their own.
+// ensures { result ≡ count_unnamed (map seen_operand operands.now) }
+#[inline]
+fn count_unnamed(operands: &[Operand<'_>]) -> usize {
+    let mut count = 0;
+    for operand in operands {
+        if let Operand::Unnamed = operand {
+            count += 1;
+        }
+    }
+    count
+}
+
+/// Returns what the operands are that an index may mean.
+// ensures { result.now ≡ noun (map seen_operand operands.now) }
+#[inline]
+fn noun(operands: &[Operand<'_>]) -> &'static str {
+    if count_unnamed(operands) == operands.len() {
+        "argument"
+    } else {
+        "positional argument"
+    }
+}
+
+/// Adds so many operands in words.
+// ensures { OnOk result (string_bytes out.new
+//     ≡ string_bytes out.old ++ count_text count word.now) }
+#[inline]
+fn put_count(out: &mut String, count: usize, word: &str) -> Result<(), AllocError> {
+    if count == 0 {
+        out.try_push_str("no ")?;
+        out.try_push_str(word)?;
+        out.try_push_str("s were given")?;
+        return Ok(());
+    }
+    if count == 1 {
+        out.try_push_str("there is 1 ")?;
+        out.try_push_str(word)?;
+        return Ok(());
+    }
+    out.try_push_str("there are ")?;
+    put_number(out, count)?;
+    out.try_push_str(" ")?;
+    out.try_push_str(word)?;
+    out.try_push_str("s")?;
+    Ok(())
+}
+
+/// Adds the note of the operand of an index, if there is one, and an index does not mean it.
+// ensures { OnOk result (map seen_note notes.new.items ≡ map seen_note notes.old.items
+//     ++ kind_notes index (option_map seen_operand operand.entry)) }
+#[inline]
+fn push_kind(
+    notes: &mut Vec<AsmNote>,
+    index: usize,
+    operand: Option<Operand<'_>>,
+) -> Result<(), AllocError> {
+    let spot = Some(AsmSpot::Operand(index));
+    match operand {
+        Some(Operand::Named(_)) => {
+            let text = "named arguments cannot be referenced by position";
+            push_note(notes, text, spot)?;
+        }
+        Some(Operand::Register { .. }) => {
+            let text = "explicit register arguments cannot be used in the asm template";
+            push_note(notes, text, spot)?;
+        }
+        Some(Operand::Unnamed) | None => {}
+    }
+    Ok(())
+}
+
+/// Returns how many operands an index may mean, in words. Returns `Err` if an allocation fails.
+// ensures { IfOk result (λ t. string_bytes t ≡ count_text
+//     (count_unnamed (map seen_operand operands.now)) (noun (map seen_operand operands.now))) }
+#[inline]
+fn count_text(alloc: Global, operands: &[Operand<'_>]) -> Result<String, AllocError> {
+    let mut text = String::made_in(alloc);
+    put_count(&mut text, count_unnamed(operands), noun(operands))?;
+    Ok(text)
+}
+
+/// Adds the notes of a wrong index.
+// ensures { OnOk result (map seen_note notes.new.items ≡ map seen_note notes.old.items
+//     ++ wrong_notes (map seen_operand operands.now) index) }
+#[inline]
+fn push_wrong(
+    alloc: Global,
+    notes: &mut Vec<AsmNote>,
+    operands: &[Operand<'_>],
+    index: usize,
+) -> Result<(), AllocError> {
+    let text = count_text(alloc, operands)?;
+    push_note(notes, &text, None)?;
+    push_kind(notes, index, operand_at(operands, index))?;
+    Ok(())
+}
+
+/// Returns the help of a wrong index, or `None` if there is none. Returns `Err` if an allocation
+/// fails.
+// ensures { IfOk result (λ o. option_map seen_note o
+//     ≡ wrong_help index (slice_get (map seen_operand operands.now) index)) }
+#[inline]
+fn wrong_help(
+    alloc: Global,
+    operands: &[Operand<'_>],
+    index: usize,
+) -> Result<Option<AsmNote>, AllocError> {
+    match operands.get(index) {
+        Some(Operand::Register { .. }) => {
+            let says = "use the register name directly in the assembly code";
+            let text = String::made_from(alloc, says)?;
+            let spot = Some(AsmSpot::Operand(index));
+            Ok(Some(AsmNote { text, spot }))
+        }
+        Some(Operand::Unnamed) | Some(Operand::Named(_)) | None => Ok(None),
+    }
+}
+
+/// Adds the note of a fault of a template, if it has one.
+// ensures { OnOk result (map seen_note notes.new.items ≡ map seen_note notes.old.items
+//     ++ text_notes (message (seen_text_fault fault.now)).note) }
+#[inline]
+fn push_text(alloc: Global, notes: &mut Vec<AsmNote>, fault: &Fault<'_>) -> Result<(), AllocError> {
+    let error = fault.error(alloc)?;
+    if let Some(note) = &error.note {
+        push_note(notes, note, None)?;
+    }
+    Ok(())
+}
+
+/// Adds a name.
+// ensures { OnOk result (string_bytes out.new
+//     ≡ string_bytes out.old ++ encode_utf8_all (chars name.now)) }
+#[inline]
+fn put_name(out: &mut String, name: &str) -> Result<(), AllocError> {
+    out.try_push_str(name)?;
+    Ok(())
+}
+
+/// Adds what a placeholder has for an operand with this name or this index.
+// ensures { OnOk result (string_bytes out.new ≡ string_bytes out.old
+//     ++ reference index (option_map text name.entry)) }
+#[inline]
+fn put_reference(out: &mut String, index: usize, name: Option<&str>) -> Result<(), AllocError> {
+    match name {
+        Some(name) => put_name(out, name),
+        None => put_number(out, index),
+    }
+}
+
+/// Adds placeholders of operands.
+// ensures { OnOk result (string_bytes out.new ≡ string_bytes out.old
+//     ++ placeholders (map seen_operand operands.now) indices.now) }
+#[inline]
+fn put_placeholders(
+    out: &mut String,
+    operands: &[Operand<'_>],
+    indices: &[usize],
+) -> Result<(), AllocError> {
+    let mut rest = indices;
+    while let Some((index, others)) = rest.split_first() {
+        out.try_push_str(" {")?;
+        put_reference(out, *index, given_name(operands, *index))?;
+        out.try_push_str("}")?;
+        rest = others;
+    }
+    Ok(())
+}
+
+/// Returns how the help of so many operands that are not used begins.
+// ensures { result.now ≡ unused_start count }
+#[inline]
+fn unused_start(count: usize) -> &'static str {
+    if count == 1 {
+        "if this argument is intentionally unused, consider using it in an asm comment: `\"/*"
+    } else {
+        "if these arguments are intentionally unused, consider using them in an asm comment: `\"/*"
+    }
+}
+
+/// Returns the help of operands that are not used. Returns `Err` if an allocation fails.
+// ensures { IfOk result (λ n. seen_note n
+//     ≡ unused_help (map seen_operand operands.now) unused.now) }
+#[inline]
+fn unused_help(
+    alloc: Global,
+    operands: &[Operand<'_>],
+    unused: &[usize],
+) -> Result<AsmNote, AllocError> {
+    let mut text = String::made_from(alloc, unused_start(unused.len()))?;
+    put_placeholders(&mut text, operands, unused)?;
+    text.try_push_str(" */\"`")?;
+    Ok(AsmNote { text, spot: None })
+}
+
+impl<'a> AsmCall<'a> {
+    /// Returns the notes of one of the faults, in rustc's order. Returns `Err` if an allocation
+    /// fails.
+    // ensures { IfOk result (λ v. map seen_note v.items
+    //     ≡ notes (map seen_operand self.now.operands.items) (seen_fault fault.now)) }
+    #[inline]
+    pub fn notes(&self, alloc: Global, fault: &AsmFault<'a>) -> Result<Vec<AsmNote>, AllocError> {
+        let mut notes = Vec::made_in(alloc);
+        match fault {
+            AsmFault::WrongIndex { index, .. } => {
+                push_wrong(alloc, &mut notes, &self.operands, *index)?;
+            }
+            AsmFault::Text { fault, .. } => push_text(alloc, &mut notes, fault)?,
+            AsmFault::PositionalAfter { .. }
+            | AsmFault::RepeatedName { .. }
+            | AsmFault::RegisterName { .. }
+            | AsmFault::MissingName { .. }
+            | AsmFault::LongModifier { .. }
+            | AsmFault::UnusedOperands(_) => {}
+        }
+        Ok(notes)
+    }
+
+    /// Returns the help of one of the faults, or `None` if it has none. rustc says it after the
+    /// notes. Returns `Err` if an allocation fails.
+    // ensures { IfOk result (λ o. option_map seen_note o
+    //     ≡ help (map seen_operand self.now.operands.items) (seen_fault fault.now)) }
+    #[inline]
+    pub fn help(&self, alloc: Global, fault: &AsmFault<'a>) -> Result<Option<AsmNote>, AllocError> {
+        match fault {
+            AsmFault::WrongIndex { index, .. } => wrong_help(alloc, &self.operands, *index),
+            AsmFault::UnusedOperands(unused) => {
+                let help = unused_help(alloc, &self.operands, unused)?;
+                Ok(Some(help))
+            }
+            AsmFault::PositionalAfter { .. }
+            | AsmFault::RepeatedName { .. }
+            | AsmFault::RegisterName { .. }
+            | AsmFault::MissingName { .. }
+            | AsmFault::LongModifier { .. }
+            | AsmFault::Text { .. } => Ok(None),
+        }
+    }
+}

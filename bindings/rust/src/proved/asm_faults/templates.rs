@@ -1,0 +1,112 @@
+//! The templates of a call, one after the other.
+
+// Extracted from crates/asm_faults/src/templates.rt by tools/extract: not to be edited.
+// That source is proved, and each contract here is its. That this text means the same is tested:
+// by results from outside, and beside what is proved (.ci/bindings) and the original (tools/agree).
+
+use crate::proved::asm_faults::faults::AsmFault;
+use crate::proved::asm_faults::lookups::{push_pieces, Walk};
+use crate::proved::call_faults::text_fault;
+use crate::proved::rustc_parse_format::{Fault, ParseMode};
+use crate::shim::alloc::{AllocError, Global};
+use crate::shim::parser::{read_all, Parser};
+use crate::shim::prelude::*;
+
+/// A template of a call.
+#[derive(Clone, Copy)]
+pub struct Template<'a> {
+    /// The text that it stands for.
+    pub text: &'a str,
+    /// `None` for an ordinary literal, and `Some` of the number of hashes for a raw one.
+    pub style: Option<usize>,
+    /// The literal as it is in the source, if it is known.
+    pub snippet: Option<&'a str>,
+}
+
+/// Returns a text as a string. Returns `Err` if an allocation fails.
+// ensures { IfOk result (λ o. seen_snippet o ≡ option_map seen_text text.entry) }
+#[inline]
+fn owned(alloc: Global, text: Option<&str>) -> Result<Option<String>, AllocError> {
+    match text {
+        None => Ok(None),
+        Some(text) => Ok(Some(String::made_from(alloc, text)?)),
+    }
+}
+
+/// Returns the fault of a template that rustc shows, or `None` if it is in the grammar. Returns
+/// `Err` if an allocation fails.
+// requires { hashes template.style + length template.text.now + 2 < 2 ^ 64 }
+// ensures { IfOk result (λ o. option_map seen_text_fault o
+//     ≡ text_fault (start (seen_template template.entry))) }
+#[inline]
+fn fault_of<'a>(alloc: Global, template: Template<'a>) -> Result<Option<Fault<'a>>, AllocError> {
+    let snippet = owned(alloc, template.snippet)?;
+    let mut parser = Parser::new(
+        alloc,
+        template.text,
+        template.style,
+        snippet,
+        false,
+        ParseMode::InlineAsm,
+    )?;
+    let fault = text_fault(alloc, &mut parser)?;
+    Ok(fault)
+}
+
+/// Adds what is looked up for the placeholders of a template. Returns `Err` if an allocation fails.
+// requires fits { hashes template.style + length template.text.now + 2 < 2 ^ 64 }
+// requires few { walk.old.next ≤ length walk.old.lookups.items }
+// ensures lookups { OnOk result (map seen_lookup walk.new.lookups.items
+//     ≡ map seen_lookup walk.old.lookups.items
+//     ++ template_lookups index walk.old.next (seen_template template.entry)) }
+// ensures next { OnOk result (walk.new.next
+//     ≡ next_behind_template walk.old.next (seen_template template.entry)) }
+// ensures few { OnOk result (walk.new.next ≤ length walk.new.lookups.items) }
+#[inline]
+fn push_template<'a>(
+    alloc: Global,
+    walk: &mut Walk<'a>,
+    index: usize,
+    template: Template<'a>,
+) -> Result<(), AllocError> {
+    let snippet = owned(alloc, template.snippet)?;
+    let (pieces, parser) = read_all(
+        alloc,
+        template.text,
+        template.style,
+        snippet,
+        false,
+        ParseMode::InlineAsm,
+    )?;
+    push_pieces(walk, index, &pieces, parser.arg_places())?;
+    Ok(())
+}
+
+/// Adds what is looked up for the placeholders of templates, up to the first that is not in the
+/// grammar, and returns its fault, or `None` if there is none. Returns `Err` if an allocation
+/// fails.
+// requires fits { AllByRecursion (λ t. hashes t.style + length t.text.now + 2 < 2 ^ 64)
+//     templates.now }
+// requires few { walk.old.next ≤ length walk.old.lookups.items }
+// ensures lookups { OnOk result (map seen_lookup walk.new.lookups.items
+//     ≡ map seen_lookup walk.old.lookups.items
+//     ++ lookups_from 0 walk.old.next (map seen_template templates.now)) }
+// ensures fault { IfOk result (λ o. option_map seen_fault o
+//     ≡ template_fault 0 (map seen_template templates.now)) }
+#[inline]
+pub(crate) fn push_templates<'a>(
+    alloc: Global,
+    walk: &mut Walk<'a>,
+    templates: &[Template<'a>],
+) -> Result<Option<AsmFault<'a>>, AllocError> {
+    for (index, template) in templates.iter().enumerate() {
+        if let Some(fault) = fault_of(alloc, *template)? {
+            return Ok(Some(AsmFault::Text {
+                template: index,
+                fault,
+            }));
+        }
+        push_template(alloc, walk, index, *template)?;
+    }
+    Ok(None)
+}

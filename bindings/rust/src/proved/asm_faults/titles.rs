@@ -1,0 +1,161 @@
+//! The ids and the titles of faults, in rustc's words. What begins with `put_` appends to `out`,
+//! and returns `Err` if an allocation fails.
+
+// Extracted from crates/asm_faults/src/titles.rt by tools/extract: not to be edited.
+// That source is proved, and each contract here is its. That this text means the same is tested:
+// by results from outside, and beside what is proved (.ci/bindings) and the original (tools/agree).
+
+use crate::proved::asm_faults::checker::AsmCall;
+use crate::proved::asm_faults::faults::AsmFault;
+use crate::proved::asm_faults::operands::Operand;
+use crate::proved::rustc_parse_format::Fault;
+use crate::shim::alloc::{AllocError, Global};
+use crate::shim::itoa::Buffer;
+use crate::shim::prelude::*;
+
+impl AsmFault<'_> {
+    /// Returns the id of the fault in kebab case, as `wrong-operand`: the same for all faults of a
+    /// kind. That of a fault of a template is the id of [`Fault`]. Does not allocate.
+    // ensures { result.now ≡ asm_id (seen_fault self.now) }
+    #[inline]
+    pub fn id(&self) -> &'static str {
+        match self {
+            AsmFault::PositionalAfter { .. } => "operand-order",
+            AsmFault::RepeatedName { .. } => "repeated-name",
+            AsmFault::RegisterName { .. } => "register-name",
+            AsmFault::WrongIndex { .. } => "wrong-operand",
+            AsmFault::MissingName { .. } => "missing-name",
+            AsmFault::LongModifier { .. } => "long-modifier",
+            AsmFault::Text { fault, .. } => fault.id(),
+            AsmFault::UnusedOperands(_) => "unused-argument",
+        }
+    }
+}
+
+/// Adds a number in decimal digits.
+// ensures { OnOk result (string_bytes out.new ≡ string_bytes out.old ++ decimal number) }
+#[inline]
+pub(crate) fn put_number(out: &mut String, number: usize) -> Result<(), AllocError> {
+    let mut digits = Buffer::new();
+    out.try_push_str(digits.format(number))?;
+    Ok(())
+}
+
+/// Adds a text and a name between backquotes.
+// ensures { OnOk result (string_bytes out.new
+//     ≡ string_bytes out.old ++ (text.now ++ quoted (chars name.now))) }
+#[inline]
+fn put_named(out: &mut String, text: &str, name: &str) -> Result<(), AllocError> {
+    out.try_push_str(text)?;
+    out.try_push_str("`")?;
+    out.try_push_str(name)?;
+    out.try_push_str("`")?;
+    Ok(())
+}
+
+/// Returns the name of an operand, or `None` if it has none or a register of its own.
+// ensures { option_map text result
+//     ≡ given_name (slice_get (map seen_operand operands.now) index) }
+#[inline]
+pub(crate) fn given_name<'a>(operands: &[Operand<'a>], index: usize) -> Option<&'a str> {
+    match operands.get(index) {
+        Some(Operand::Named(name)) => Some(*name),
+        Some(Operand::Unnamed) | Some(Operand::Register { .. }) | None => None,
+    }
+}
+
+/// Returns the name of an operand, or an empty text if it has none.
+// ensures { chars result.now ≡ name_of (slice_get (map seen_operand operands.now) index) }
+#[inline]
+fn name_of<'a>(operands: &[Operand<'a>], index: usize) -> &'a str {
+    match given_name(operands, index) {
+        Some(name) => name,
+        None => "",
+    }
+}
+
+/// Returns what is said of an operand that is not used.
+// ensures { result.now ≡ never_used (slice_get (map seen_operand operands.now) index) }
+#[inline]
+pub(crate) fn never_used(operands: &[Operand<'_>], index: usize) -> &'static str {
+    match operands.get(index) {
+        Some(Operand::Named(_)) => "named argument never used",
+        Some(Operand::Unnamed) | Some(Operand::Register { .. }) | None => "argument never used",
+    }
+}
+
+/// Returns the title of operands that are not used.
+// ensures { result.now ≡ unused_title (map seen_operand operands.now) unused.now }
+#[inline]
+fn unused_title(operands: &[Operand<'_>], unused: &[usize]) -> &'static str {
+    match unused {
+        [index] => never_used(operands, *index),
+        _ => "multiple unused asm arguments",
+    }
+}
+
+/// Adds the title of a fault of a template.
+// ensures { OnOk result (string_bytes out.new ≡ string_bytes out.old
+//     ++ (codes "invalid asm template string: "
+//     ++ (message (seen_text_fault fault.now)).description)) }
+#[inline]
+fn put_text_title(alloc: Global, out: &mut String, fault: &Fault<'_>) -> Result<(), AllocError> {
+    let error = fault.error(alloc)?;
+    out.try_push_str("invalid asm template string: ")?;
+    out.try_push_str(&error.description)?;
+    Ok(())
+}
+
+/// Adds the title of a wrong index.
+// ensures { OnOk result (string_bytes out.new ≡ string_bytes out.old
+//     ++ (codes "invalid reference to argument at index " ++ decimal index)) }
+#[inline]
+fn put_index_title(out: &mut String, index: usize) -> Result<(), AllocError> {
+    out.try_push_str("invalid reference to argument at index ")?;
+    put_number(out, index)?;
+    Ok(())
+}
+
+impl<'a> AsmCall<'a> {
+    /// Adds the title of one of the faults to the end of `out`, as rustc has it. Returns `Err` if
+    /// an allocation fails; a part may then be at the end of `out`.
+    // ensures { OnOk result (string_bytes out.new ≡ string_bytes out.old
+    //     ++ title (map seen_operand self.now.operands.items) (seen_fault fault.now)) }
+    #[inline]
+    pub fn put_title(&self, out: &mut String, fault: &AsmFault<'a>) -> Result<(), AllocError> {
+        match fault {
+            AsmFault::PositionalAfter { .. } => {
+                out.try_push_str(
+                    "positional arguments cannot follow named arguments or explicit register \
+                     arguments",
+                )?;
+                Ok(())
+            }
+            AsmFault::RepeatedName { first, .. } => put_named(
+                out,
+                "duplicate argument named ",
+                name_of(&self.operands, *first),
+            ),
+            AsmFault::RegisterName { .. } => {
+                out.try_push_str("explicit register arguments cannot have names")?;
+                Ok(())
+            }
+            AsmFault::WrongIndex { index, .. } => put_index_title(out, *index),
+            AsmFault::MissingName { name, .. } => {
+                put_named(out, "there is no argument named ", name)?;
+                Ok(())
+            }
+            AsmFault::LongModifier { .. } => {
+                out.try_push_str("asm template modifier must be a single character")?;
+                Ok(())
+            }
+            AsmFault::Text { fault, .. } => {
+                put_text_title(*self.faults.own_allocator(), out, fault)
+            }
+            AsmFault::UnusedOperands(unused) => {
+                out.try_push_str(unused_title(&self.operands, unused))?;
+                Ok(())
+            }
+        }
+    }
+}

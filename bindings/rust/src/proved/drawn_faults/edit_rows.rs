@@ -1,0 +1,211 @@
+//! Rows of lines with edits. What begins with `put_` appends to `out`, and returns `Err` if an
+//! allocation fails.
+
+// Extracted from crates/drawn_faults/src/edit_rows.rt by tools/extract: not to be edited.
+// That source is proved, and each contract here is its. That this text means the same is tested:
+// by results from outside, and beside what is proved (.ci/bindings) and the original (tools/agree).
+
+use crate::proved::drawn_faults::edited::{Line, Part};
+use crate::proved::drawn_faults::glyphs::{draws_nothing, put_glyphs, put_glyphs_after};
+use crate::proved::drawn_faults::labels::Frame;
+use crate::proved::drawn_faults::lines::{put_line_number, put_number_bar};
+use crate::proved::drawn_faults::paint::{
+    has_colours, put_painted, put_reset, put_sign, Palette, Style,
+};
+use crate::shim::alloc::AllocError;
+use crate::shim::prelude::*;
+
+/// Adds parts of a line without their colours.
+// ensures { OnOk result (string_bytes out.new ≡ string_bytes out.old
+//     ++ plain_text (drawn (map seen_part parts.now))) }
+#[inline]
+fn put_plain(out: &mut String, parts: &[Part<'_>]) -> Result<(), AllocError> {
+    for part in parts {
+        put_glyphs(out, part.text, 0)?;
+    }
+    Ok(())
+}
+
+/// Adds parts of a line in colours, after a sign of this style.
+// requires { (length sign.now == 0) ≡ false }
+// ensures { OnOk result (string_bytes out.new ≡ string_bytes out.old
+//     ++ pieces_after palette Plain (piece style sign.now ∷ drawn (map seen_part parts.now))) }
+#[inline]
+fn put_coloured(
+    out: &mut String,
+    palette: Palette,
+    style: Style,
+    sign: &str,
+    parts: &[Part<'_>],
+) -> Result<(), AllocError> {
+    put_sign(out, palette, style, sign)?;
+    let mut last = style;
+    for part in parts {
+        last = put_glyphs_after(out, palette, last, part.style, part.text)?;
+    }
+    put_reset(out, last)?;
+    Ok(())
+}
+
+/// Adds parts of a line, after a sign of this style.
+// requires { (length sign.now == 0) ≡ false }
+// ensures { OnOk result (string_bytes out.new ≡ string_bytes out.old
+//     ++ pieces palette (piece style sign.now ∷ drawn (map seen_part parts.now))) }
+#[inline]
+fn put_parts(
+    out: &mut String,
+    palette: Palette,
+    style: Style,
+    sign: &str,
+    parts: &[Part<'_>],
+) -> Result<(), AllocError> {
+    if has_colours(palette) {
+        return Ok(put_coloured(out, palette, style, sign, parts)?);
+    }
+    out.try_push_str(sign)?;
+    put_plain(out, parts)?;
+    Ok(())
+}
+
+/// Adds the row of a line with a number, after a sign of this style.
+// requires number { number < 2 ^ 61 }
+// requires sign { (length sign.now == 0) ≡ false }
+// ensures { OnOk result (string_bytes out.new ≡ string_bytes out.old
+//     ++ sign_row (seen_frame frame.now) style sign.now number (map seen_part parts.now)) }
+#[inline]
+pub fn put_sign_row(
+    out: &mut String,
+    frame: &Frame<'_>,
+    style: Style,
+    sign: &str,
+    number: usize,
+    parts: &[Part<'_>],
+) -> Result<(), AllocError> {
+    put_line_number(out, frame, number)?;
+    out.try_push_str(" ")?;
+    put_parts(out, frame.gutter.palette, style, sign, parts)?;
+    out.try_push_str("\n")?;
+    Ok(())
+}
+
+/// Adds the rows of lines after a sign of this style, from a number on.
+// requires number { number + length lines.now < 2 ^ 61 }
+// requires sign { (length sign.now == 0) ≡ false }
+// ensures { OnOk result (string_bytes out.new ≡ string_bytes out.old
+//     ++ sign_rows (seen_frame frame.now) style sign.now number (map seen_line lines.now)) }
+#[inline]
+pub fn put_sign_rows(
+    out: &mut String,
+    frame: &Frame<'_>,
+    style: Style,
+    sign: &str,
+    number: usize,
+    lines: &[Line<'_>],
+) -> Result<(), AllocError> {
+    for (index, line) in lines.iter().enumerate() {
+        put_sign_row(out, frame, style, sign, number + index, &line.parts)?;
+    }
+    Ok(())
+}
+
+/// Returns whether nothing is drawn of parts of a line.
+// ensures { result ≡ (length (plain_text (drawn (map seen_part parts.now))) == 0) }
+#[inline]
+fn draw_nothing(parts: &[Part<'_>]) -> bool {
+    for part in parts {
+        if !draws_nothing(part.text) {
+            return false;
+        }
+    }
+    true
+}
+
+/// Adds what is after the bar of a line.
+// ensures { OnOk result (string_bytes out.new ≡ string_bytes out.old
+//     ++ spaced (plain_text (drawn (map seen_part parts.now)))) }
+#[inline]
+fn put_spaced(out: &mut String, parts: &[Part<'_>]) -> Result<(), AllocError> {
+    if !draw_nothing(parts) {
+        out.try_push_str(" ")?;
+        put_plain(out, parts)?;
+    }
+    Ok(())
+}
+
+/// Adds the row of a line with a number that no edit changes.
+// requires { number < 2 ^ 61 }
+// ensures { OnOk result (string_bytes out.new ≡ string_bytes out.old
+//     ++ kept_row (seen_frame frame.now) number (map seen_part parts.now)) }
+#[inline]
+pub fn put_kept_row(
+    out: &mut String,
+    frame: &Frame<'_>,
+    number: usize,
+    parts: &[Part<'_>],
+) -> Result<(), AllocError> {
+    put_number_bar(out, frame, number)?;
+    put_spaced(out, parts)?;
+    out.try_push_str("\n")?;
+    Ok(())
+}
+
+/// Adds the rows of such lines, from a number on.
+// requires { number + length lines.now < 2 ^ 61 }
+// ensures { OnOk result (string_bytes out.new ≡ string_bytes out.old
+//     ++ kept_rows (seen_frame frame.now) number (map seen_line lines.now)) }
+#[inline]
+fn put_kept_rows(
+    out: &mut String,
+    frame: &Frame<'_>,
+    number: usize,
+    lines: &[Line<'_>],
+) -> Result<(), AllocError> {
+    for (index, line) in lines.iter().enumerate() {
+        put_kept_row(out, frame, number + index, &line.parts)?;
+    }
+    Ok(())
+}
+
+/// Adds the rows of lines from the number `n` on, and of others from `m` on, and dots between them.
+// requires first { n + length first.now < 2 ^ 61 }
+// requires last { m + length last.now < 2 ^ 61 }
+// ensures { OnOk result (string_bytes out.new ≡ string_bytes out.old
+//     ++ kept_ends (seen_frame frame.now) n m (map seen_line first.now)
+//     (map seen_line last.now)) }
+#[inline]
+fn put_kept_ends(
+    out: &mut String,
+    frame: &Frame<'_>,
+    n: usize,
+    m: usize,
+    first: &[Line<'_>],
+    last: &[Line<'_>],
+) -> Result<(), AllocError> {
+    put_kept_rows(out, frame, n, first)?;
+    put_painted(out, frame.gutter.palette, Style::Secondary, "...")?;
+    out.try_push_str("\n")?;
+    put_kept_rows(out, frame, m, last)?;
+    Ok(())
+}
+
+/// Adds the rows of such lines in front of a changed one: of more than three the first and the last
+/// one.
+// requires { number + length lines.now < 2 ^ 61 }
+// ensures { OnOk result (string_bytes out.new ≡ string_bytes out.old
+//     ++ kept_lines (seen_frame frame.now) number (map seen_line lines.now)) }
+#[inline]
+pub fn put_kept_lines(
+    out: &mut String,
+    frame: &Frame<'_>,
+    number: usize,
+    lines: &[Line<'_>],
+) -> Result<(), AllocError> {
+    if lines.len() > 3 {
+        let (first, _) = lines.split_at(1);
+        let (_, last) = lines.split_at(lines.len() - 1);
+        put_kept_ends(out, frame, number, number + (lines.len() - 1), first, last)?;
+    } else {
+        put_kept_rows(out, frame, number, lines)?;
+    }
+    Ok(())
+}

@@ -1,0 +1,305 @@
+//! Texts with edits, line by line. Functions that return a `Result` return `Err` if an allocation
+//! fails.
+
+// Extracted from crates/drawn_faults/src/edited.rt by tools/extract: not to be edited.
+// That source is proved, and each contract here is its. That this text means the same is tested:
+// by results from outside, and beside what is proved (.ci/bindings) and the original (tools/agree).
+
+use crate::proved::drawn_faults::glyphs::split_first;
+use crate::proved::drawn_faults::labels::Edit;
+use crate::proved::drawn_faults::paint::{rank, Style};
+use crate::proved::drawn_faults::places::split_line;
+use crate::shim::alloc::{AllocError, Global};
+use crate::shim::prelude::*;
+use core::mem;
+
+/// A part of a line.
+#[derive(Clone, Copy)]
+pub struct Part<'a> {
+    /// Whether it stays, is removed or is added.
+    pub style: Style,
+    /// Its text.
+    pub text: &'a str,
+}
+
+/// A line.
+pub struct Line<'a> {
+    /// Its parts, from left to right.
+    pub parts: Vec<Part<'a>>,
+}
+
+/// Returns the first characters of a text, as many as end within `width` bytes, and what is after
+/// them.
+// ensures front { result.0.now ≡ front width text.now }
+// ensures behind { result.1.now ≡ behind width text.now }
+#[inline]
+pub fn split_within(text: &str, width: usize) -> (&str, &str) {
+    let mut rest = text;
+    let mut left = width;
+    while let Some((c, tail)) = split_first(rest) {
+        if left < c.len_utf8() {
+            break;
+        }
+        left -= c.len_utf8();
+        rest = tail;
+    }
+    text.split_at(text.len() - rest.len())
+}
+
+/// Returns the parts of a text at the byte offset `start` of the source, from its first line to the
+/// end of the line in which the last edit ends.
+// ensures { IfOk result (λ v. map seen_part v.items
+//     ≡ parts start (map seen_edit edits.now) text.now) }
+#[inline]
+pub fn parts_of<'a>(
+    alloc: Global,
+    start: usize,
+    text: &'a str,
+    edits: &[Edit<'a>],
+) -> Result<Vec<Part<'a>>, AllocError> {
+    let mut list = Vec::made_in(alloc);
+    let mut at = start;
+    let mut rest = text;
+    for edit in edits {
+        let from = edit.from.max(at);
+        let to = edit.to.max(from);
+        let (before, behind) = split_within(rest, from - at);
+        let (removed, behind) = split_within(behind, to - from);
+        list.try_push(Part {
+            style: Style::Plain,
+            text: before,
+        })?;
+        list.try_push(Part {
+            style: Style::Removal,
+            text: removed,
+        })?;
+        list.try_push(Part {
+            style: Style::Addition,
+            text: edit.text,
+        })?;
+        rest = behind;
+        at = to;
+    }
+    let (line, _) = split_line(rest);
+    list.try_push(Part {
+        style: Style::Plain,
+        text: line,
+    })?;
+    Ok(list)
+}
+
+/// Adds a part of a line, and ends the line.
+// ensures { OnOk result (seen_page lines.new.items row.new.items
+//     ≡ with_line part.entry.style part.entry.text.now
+//     (seen_page lines.old.items row.old.items)) }
+#[inline]
+fn end_line<'a>(
+    lines: &mut Vec<Line<'a>>,
+    row: &mut Vec<Part<'a>>,
+    part: Part<'a>,
+) -> Result<(), AllocError> {
+    let alloc = *row.own_allocator();
+    row.try_push(part)?;
+    let parts = mem::replace(row, Vec::made_in(alloc));
+    lines.try_push(Line { parts })?;
+    Ok(())
+}
+
+/// Returns the first line of a text and what is after it, or `None` if the text has one line.
+// ensures lines { MatchOption result (slice_split is_line_feed text.now ≡ text.now ∷ [])
+//     (λ x. slice_split is_line_feed text.now
+//     ≡ x.0.now ∷ slice_split is_line_feed x.1.now) }
+// ensures shorter { IfSome result (λ x. length x.1.now < length text.now) }
+#[inline]
+fn split_feed(text: &str) -> Option<(&str, &str)> {
+    text.split_once('\n')
+}
+
+/// Adds a text of a style after lines.
+// ensures { OnOk result (seen_page lines.new.items row.new.items
+//     ≡ with_texts style (slice_split is_line_feed text.now)
+//     (seen_page lines.old.items row.old.items)) }
+#[inline]
+fn push_text<'a>(
+    lines: &mut Vec<Line<'a>>,
+    row: &mut Vec<Part<'a>>,
+    style: Style,
+    text: &'a str,
+) -> Result<(), AllocError> {
+    let mut rest = text;
+    while let Some((line, behind)) = split_feed(rest) {
+        end_line(lines, row, Part { style, text: line })?;
+        rest = behind;
+    }
+    row.try_push(Part { style, text: rest })?;
+    Ok(())
+}
+
+/// Adds parts after lines, but for those of the style `style`.
+// ensures { OnOk result (seen_page lines.new.items row.new.items
+//     ≡ with_parts style (map seen_part parts.now)
+//     (seen_page lines.old.items row.old.items)) }
+#[inline]
+fn push_parts<'a>(
+    lines: &mut Vec<Line<'a>>,
+    row: &mut Vec<Part<'a>>,
+    style: Style,
+    parts: &[Part<'a>],
+) -> Result<(), AllocError> {
+    for part in parts {
+        if rank(part.style) != rank(style) {
+            push_text(lines, row, part.style, part.text)?;
+        }
+    }
+    Ok(())
+}
+
+/// Returns whether parts have no text.
+// ensures { result ≡ have_no_text (map seen_part parts.now) }
+#[inline]
+fn have_no_text(parts: &[Part<'_>]) -> bool {
+    for part in parts {
+        if !part.text.is_empty() {
+            return false;
+        }
+    }
+    true
+}
+
+/// Returns how many of lines there are up to the last one with a text.
+// ensures { result ≡ count_to_text 0 0 (map seen_line lines.now) }
+#[inline]
+fn count_to_text(lines: &[Line<'_>]) -> usize {
+    let mut count = 0;
+    for (index, line) in lines.iter().enumerate() {
+        if !have_no_text(&line.parts) {
+            count = index + 1;
+        }
+    }
+    count
+}
+
+/// Adds the lines of parts without what they remove. Leaves out what is after the last edit if the
+/// text of that edit ends a line.
+// requires no_lines { lines.now.items ≡ [] }
+// requires no_row { row.now.items ≡ [] }
+// ensures { OnOk result (seen_page lines.new.items row.new.items
+//     ≡ new_page (map seen_part parts.now)) }
+#[inline]
+fn push_new<'a>(
+    lines: &mut Vec<Line<'a>>,
+    row: &mut Vec<Part<'a>>,
+    parts: &[Part<'a>],
+) -> Result<(), AllocError> {
+    let (front, rest) = parts.split_at(parts.len().saturating_sub(1));
+    push_parts(lines, row, Style::Removal, front)?;
+    if have_no_text(row) && !lines.is_empty() {
+        return Ok(());
+    }
+    push_parts(lines, row, Style::Removal, rest)?;
+    Ok(())
+}
+
+/// Returns the new lines of parts, without those at their end that have no text.
+// ensures { IfOk result (λ v. map seen_line v.items ≡ new_lines (map seen_part parts.now)) }
+#[inline]
+pub fn new_lines<'a>(alloc: Global, parts: &[Part<'a>]) -> Result<Vec<Line<'a>>, AllocError> {
+    let mut lines = Vec::made_in(alloc);
+    let mut row = Vec::made_in(alloc);
+    push_new(&mut lines, &mut row, parts)?;
+    lines.try_push(Line { parts: row })?;
+    let count = count_to_text(&lines);
+    lines.truncate(count);
+    Ok(lines)
+}
+
+/// Returns the lines of parts without what they add.
+// ensures { IfOk result (λ v. map seen_line v.items ≡ old_lines (map seen_part parts.now)) }
+#[inline]
+pub fn old_lines<'a>(alloc: Global, parts: &[Part<'a>]) -> Result<Vec<Line<'a>>, AllocError> {
+    let mut lines = Vec::made_in(alloc);
+    let mut row = Vec::made_in(alloc);
+    push_parts(&mut lines, &mut row, Style::Addition, parts)?;
+    lines.try_push(Line { parts: row })?;
+    Ok(lines)
+}
+
+/// Returns whether parts are white space.
+// ensures { result ≡ are_blank (map seen_part parts.now) }
+#[inline]
+pub fn are_blank(parts: &[Part<'_>]) -> bool {
+    for part in parts {
+        if !part.text.trim().is_empty() {
+            return false;
+        }
+    }
+    true
+}
+
+/// Returns whether a part is an addition.
+// ensures { result ≡ is_added (seen_part part.now) }
+#[inline]
+pub fn is_added(part: &Part<'_>) -> bool {
+    matches!(part.style, Style::Addition)
+}
+
+/// Returns whether one of parts is an addition.
+// ensures { result ≡ list_any is_added (map seen_part parts.now) }
+#[inline]
+pub fn have_addition(parts: &[Part<'_>]) -> bool {
+    for part in parts {
+        if is_added(part) {
+            return true;
+        }
+    }
+    false
+}
+
+/// Returns whether edits remove something that is no white space.
+// ensures { result ≡ do_remove (map seen_part parts.now) }
+#[inline]
+pub fn do_remove(parts: &[Part<'_>]) -> bool {
+    for part in parts {
+        if matches!(part.style, Style::Removal) && !part.text.trim().is_empty() {
+            return true;
+        }
+    }
+    false
+}
+
+/// Adds the text of parts.
+// ensures { OnOk result (string_bytes out.new ≡ string_bytes out.old
+//     ++ plain_text (map seen_part parts.now)) }
+#[inline]
+fn put_text(out: &mut String, parts: &[Part<'_>]) -> Result<(), AllocError> {
+    for part in parts {
+        out.try_push_str(part.text)?;
+    }
+    Ok(())
+}
+
+/// Returns the text of lines.
+// ensures { IfOk result (λ s. string_bytes s ≡ text_of (map seen_line lines.now)) }
+#[inline]
+fn text_of(alloc: Global, lines: &[Line<'_>]) -> Result<String, AllocError> {
+    let mut text = String::made_in(alloc);
+    for line in lines {
+        put_text(&mut text, &line.parts)?;
+    }
+    Ok(text)
+}
+
+/// Returns whether the text of the last old line is that of the only new one.
+// ensures { IfOk result (λ b. b
+//     ≡ is_same_end (map seen_line old.now) (map seen_line new.now)) }
+#[inline]
+pub fn is_same_end(alloc: Global, old: &[Line<'_>], new: &[Line<'_>]) -> Result<bool, AllocError> {
+    let [line, ..] = new else {
+        return Ok(false);
+    };
+    let (_, last) = old.split_at(old.len().saturating_sub(1));
+    let before = text_of(alloc, last)?;
+    let mut after = String::made_in(alloc);
+    put_text(&mut after, &line.parts)?;
+    Ok(before.as_str() == after.as_str())
+}

@@ -1,0 +1,31 @@
+//! The faults of a text, as plain data.
+
+// Extracted from crates/message_faults/src/faults.rt by tools/extract: not to be edited.
+// That source is proved, and each contract here is its. That this text means the same is tested:
+// by results from outside, and beside what is proved (.ci/bindings) and the original (tools/agree).
+
+use crate::proved::call_faults::Spot;
+use crate::proved::rustc_parse_format::Fault;
+
+/// What is wrong with a text of an attribute. All faults are warnings.
+pub enum MessageFault<'a> {
+    /// The text is not in the grammar. No other fault follows.
+    Text(Fault<'a>),
+    /// A placeholder has something after a colon.
+    Specifier {
+        /// The colon, and what is after it.
+        spot: Spot,
+    },
+    /// The position of a placeholder is a number, or there is none.
+    Positional {
+        /// The position.
+        spot: Spot,
+    },
+    /// A name is that of no parameter of the trait.
+    MissingParameter {
+        /// The name in the placeholder.
+        spot: Spot,
+        /// The name.
+        name: &'a str,
+    },
+}

@@ -1,0 +1,163 @@
+//! The ids, titles, labels and helps of faults, in rustc's words. What begins with `push_` or
+//! `put_` adds to the end of a list or a text, and returns `Err` if an allocation fails.
+
+// Extracted from crates/message_faults/src/words.rt by tools/extract: not to be edited.
+// That source is proved, and each contract here is its. That this text means the same is tested:
+// by results from outside, and beside what is proved (.ci/bindings) and the original (tools/agree).
+
+use crate::proved::call_faults::{CallLabel, Spot};
+use crate::proved::message_faults::faults::MessageFault;
+use crate::proved::rustc_parse_format::Fault;
+use crate::shim::alloc::{AllocError, Global};
+use crate::shim::prelude::*;
+
+/// Adds a name between backquotes.
+// ensures { OnOk result (string_bytes out.new ≡ string_bytes out.old ++ quoted (chars name.now)) }
+#[inline]
+fn put_quoted(out: &mut String, name: &str) -> Result<(), AllocError> {
+    out.try_push_str("`")?;
+    out.try_push_str(name)?;
+    out.try_push_str("`")?;
+    Ok(())
+}
+
+/// Adds the title of a name that is that of no parameter of a trait.
+// ensures { OnOk result (string_bytes out.new ≡ string_bytes out.old
+//     ++ parameter_title (chars name.now) (chars trait_name.now)) }
+#[inline]
+fn put_parameter_title(out: &mut String, name: &str, trait_name: &str) -> Result<(), AllocError> {
+    out.try_push_str("there is no parameter ")?;
+    put_quoted(out, name)?;
+    out.try_push_str(" on trait ")?;
+    put_quoted(out, trait_name)?;
+    Ok(())
+}
+
+/// Adds the title of a fault of the text.
+// ensures { OnOk result (string_bytes out.new ≡ string_bytes out.old
+//     ++ (message (seen_text_fault fault.now)).description) }
+#[inline]
+fn put_text_title(alloc: Global, out: &mut String, fault: &Fault<'_>) -> Result<(), AllocError> {
+    let error = fault.error(alloc)?;
+    out.try_push_str(&error.description)?;
+    Ok(())
+}
+
+/// Adds a label of a place that the fault is about, without a text.
+// ensures { OnOk result (map seen_label labels.new.items
+//     ≡ map seen_label labels.old.items ++ primary spot [] ∷ []) }
+#[inline]
+fn push_plain(labels: &mut Vec<CallLabel>, spot: Spot) -> Result<(), AllocError> {
+    let text = String::made_in(*labels.own_allocator());
+    labels.try_push(CallLabel {
+        spot,
+        is_primary: true,
+        text,
+    })?;
+    Ok(())
+}
+
+/// Adds a label of another place.
+// ensures { OnOk result (map seen_label labels.new.items
+//     ≡ map seen_label labels.old.items ++ secondary spot text.now ∷ []) }
+#[inline]
+fn push_secondary(labels: &mut Vec<CallLabel>, spot: Spot, text: &str) -> Result<(), AllocError> {
+    let text = String::made_from(*labels.own_allocator(), text)?;
+    labels.try_push(CallLabel {
+        spot,
+        is_primary: false,
+        text,
+    })?;
+    Ok(())
+}
+
+/// Adds the labels of a fault of the text.
+// ensures { OnOk result (map seen_label labels.new.items ≡ map seen_label labels.old.items
+//     ++ text_labels (message (seen_text_fault fault.now))) }
+#[inline]
+fn push_text(
+    alloc: Global,
+    labels: &mut Vec<CallLabel>,
+    fault: &Fault<'_>,
+) -> Result<(), AllocError> {
+    let error = fault.error(alloc)?;
+    let spot = Spot::Bytes {
+        start: error.span.start,
+        end: error.span.end,
+    };
+    push_plain(labels, Spot::Literal)?;
+    push_secondary(labels, spot, &error.label)?;
+    Ok(())
+}
+
+impl<'a> MessageFault<'a> {
+    /// Returns the id of the fault in kebab case, as `missing-parameter`: the same for all faults
+    /// of a kind. That of a fault of the text is the id of [`Fault`]. Does not allocate.
+    // ensures { result.now ≡ message_id (seen_fault self.now) }
+    #[inline]
+    pub fn id(&self) -> &'static str {
+        match self {
+            MessageFault::Text(fault) => fault.id(),
+            MessageFault::Specifier { .. } => "specifier-in-message",
+            MessageFault::Positional { .. } => "positional-in-message",
+            MessageFault::MissingParameter { .. } => "missing-parameter",
+        }
+    }
+
+    /// Adds the title of the fault to the end of `out`, as rustc has it, for a trait of this name.
+    /// Returns `Err` if an allocation fails; a part may then be at the end of `out`.
+    // ensures { OnOk result (string_bytes out.new ≡ string_bytes out.old
+    //     ++ title (chars trait_name.now) (seen_fault self.now)) }
+    #[inline]
+    pub fn put_title(
+        &self,
+        alloc: Global,
+        out: &mut String,
+        trait_name: &str,
+    ) -> Result<(), AllocError> {
+        match self {
+            MessageFault::Text(fault) => put_text_title(alloc, out, fault)?,
+            MessageFault::Specifier { .. } => out.try_push_str("invalid format specifier")?,
+            MessageFault::Positional { .. } => {
+                out.try_push_str("positional format arguments are not allowed here")?;
+            }
+            MessageFault::MissingParameter { name, .. } => {
+                put_parameter_title(out, name, trait_name)?;
+            }
+        }
+        Ok(())
+    }
+
+    /// Returns the labels of the fault, in rustc's order. Returns `Err` if an allocation fails.
+    // ensures { IfOk result (λ v. map seen_label v.items ≡ labels (seen_fault self.now)) }
+    #[inline]
+    pub fn labels(&self, alloc: Global) -> Result<Vec<CallLabel>, AllocError> {
+        let mut labels = Vec::made_in(alloc);
+        match self {
+            MessageFault::Text(fault) => push_text(alloc, &mut labels, fault)?,
+            MessageFault::Specifier { spot }
+            | MessageFault::Positional { spot }
+            | MessageFault::MissingParameter { spot, .. } => push_plain(&mut labels, *spot)?,
+        }
+        Ok(labels)
+    }
+
+    /// Returns the help of the fault, or `None` if it has none. Does not allocate.
+    // ensures { option_map (λ t. t.now) result ≡ help (seen_fault self.now) }
+    #[inline]
+    pub fn help(&self) -> Option<&'static str> {
+        match self {
+            MessageFault::Text(_) => None,
+            MessageFault::Specifier { .. } => {
+                Some("no format specifier are supported in this position")
+            }
+            MessageFault::Positional { .. } => Some(
+                "only named format arguments with the name of one of the generic types are \
+                 allowed in this context",
+            ),
+            MessageFault::MissingParameter { .. } => {
+                Some("expect either a generic argument name or `{Self}` as format argument")
+            }
+        }
+    }
+}
