@@ -48,7 +48,7 @@ pub extern "C" fn dephungo_read(
         ≡ (buffers steps.old specs.old faults.old texts.old lines.old))) }
 
     // The answer has the lengths of all results; they are written if they fit, which the code
-    // says; what is past these lengths in a buffer is unchanged.
+    // says; the records past these lengths in a buffer are unchanged.
     ensures counted { result < 2 → (m : Mode) → mode_meant options.now.mode ≡ Some m
         → IsCounted (is_set options.now.peeks)
         (begun m options.now input.now snippet.now) answer.new }

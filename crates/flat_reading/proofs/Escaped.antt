@@ -123,15 +123,15 @@ same_texts bytes x v w (Some (NextArgument c)) a b e f p h =
       },
     )
 
--- Texts of what is left from a byte on, in the whole input.
+-- Texts of the rest from a byte on, in the whole input.
 later : (bytes part : List ℕ) (front : Text) (from at : ℕ) (p : Place) (w : Text)
     → chars bytes ≡ front ++ chars part → byte_length front ≡ from
     → TextPlace part (from + at) p w → TextPlace bytes at p w
 later bytes part front from at p w whole wide h =
-    let behind = h.behind in
+    let rest_after = h.rest_after in
     record {
       some = h.some;
-      behind = omega arith;
+      rest_after = omega arith;
       text = record {
         before = front ++ h.text.before;
         after = h.text.after;
@@ -220,7 +220,7 @@ found bytes part mode start next first s a arg o u read is fresh set piece =
       same = λ x p h. same_texts bytes x s.world read.world (next_call s).piece _ a too gives p h;
     }
 
--- What a walker knows of a call: where it begins, and what a parser that begins there returns.
+-- The facts that a walker has of a call: where it begins, and the piece that it returns.
 pub read_at : (bytes : List ℕ) (s : State) (m : Option ParseMode) (start next : ℕ)
     (o : Option (Piece Place)) → IsUtf8 bytes → chars bytes ≡ s.input → EndsWith s.input s.rest
     → IfSome m (λ n. seen_mode n ≡ s.mode) → start ≡ position s.input s.rest → next ≡ s.next

@@ -1,5 +1,5 @@
--- Worked examples, each computed: what records mean, which calls there are, and which of them found
--- the errors.
+-- Worked examples, each computed: the meaning of records, the calls that there are, and those of
+-- them that found the errors.
 use Rattle.std.proofs.Common.{◌≡◌, ℕ, [], ◌∷◌, Some, None, length, map, refl, codes, false, true}
 use Rattle.rustc_parse_format.specs.Characters.{Text}
 use Rattle.rustc_parse_format.specs.Types.{Format, default_spec, Lit}
@@ -20,7 +20,7 @@ finders-go_as_errors : add_finders {A = ℕ} 3 (1 ∷ []) (UnmatchedBrace 0 ∷ 
     ∷ UnmatchedBrace 0 ∷ []) ≡ 3 ∷ 1 ∷ 3 ∷ 3 ∷ []
 finders-go_as_errors = refl
 
--- A lone closing brace gives no piece, the calls go on behind it, and the one at the end is the
+-- A lone closing brace gives no piece, the calls go on after it, and the one at the end is the
 -- last.
 calls-go_on : map (λ (e : Event). e.piece) (events false (start (codes "}a")))
     ≡ None ∷ Some (Lit (codes "a")) ∷ None ∷ []

@@ -40,7 +40,7 @@ pub no_style : (style : Option ℕ) → is_some style ≡ false → style ≡ No
 no_style None e = refl
 no_style (Some n) e = cc
 
--- An ordinary literal that is not longer than what it stands for: its content is as long as that.
+-- An ordinary literal that is not longer than its value: its content is as long as that.
 width-frame : (q : Text) → byte_length (ordinary_frame q) ≡ byte_length q + 2
 width-frame q = omega (
   arith,

@@ -15,7 +15,7 @@ enum Reading {
     Low(u32),
 }
 
-/// What a character brings, and how the next one is read.
+/// The byte that a character brings, if any, and how the next one is read.
 fn step(reading: Reading, c: char) -> Option<(Option<u8>, Reading)> {
     match (reading, c) {
         (Reading::Escaped, 'n') => Some((Some(b'\n'), Reading::Plain)),

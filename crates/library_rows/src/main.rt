@@ -129,7 +129,7 @@ fn start<'a>(
     Ok(Some(parser))
 }
 
-/// What `read_all` returns for a row, or None if the style is too large for it.
+/// The result of `read_all` for a row, or None if the style is too large for it.
 fn read<'a>(
     alloc: Global,
     row: &'a Row<'_>,

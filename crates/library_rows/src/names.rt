@@ -3,7 +3,7 @@
 use rustc_parse_format::{ArgumentNamed, ParseError, ParseMode, Piece, read_all};
 use std::alloc::{AllocError, Global};
 
-/// The names that the pieces of a text ask for, in order, or None for one with errors.
+/// The names that the pieces of a text refer to, in order, or None for one with errors.
 fn names_of<'a>(
     alloc: Global,
     pieces: &[Piece<'a>],

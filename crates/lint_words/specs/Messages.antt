@@ -4,7 +4,7 @@
 use Rattle.std.specs.Prelude.{◌++◌, ℕ, List, codes, decimal}
 use Rattle.std.specs.Prelude.{chars}
 use Rattle.std.specs.Prelude.{take, drop, length, ◌==◌, if◌then◌else◌}
-use Rattle.drawn_faults.specs.Glyphs.{glyph_bytes}
+use Rattle.drawn_lines.specs.Glyphs.{glyph_bytes}
 use Rattle.piece_listing.specs.declared.verdict.RunFault.{RunFault}
 use Rattle.piece_listing.specs.declared.verdict.RunFault.TheVariants.{Words, Read, TooLong, NotText}
 use Rattle.piece_listing.specs.declared.verdict.RunFault.TheVariants.{NotLiteral, Memory, Write}

@@ -4,7 +4,7 @@ ghost use Rattle.std.specs.Prelude.{◌≡◌, ◌++◌, IsCharBoundary, OnOk, d
 ghost use Rattle.lint_words.specs.Messages.{failure, not_literal, opening, place_failure, reason};
 ghost use Rattle.lint_words.specs.Messages.{place_text};
 
-use drawn_faults::put_glyphs;
+use drawn_lines::put_glyphs;
 use itoa::Buffer;
 use literal_faults::LiteralFault;
 use piece_listing::verdict::RunFault;

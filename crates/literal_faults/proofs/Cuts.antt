@@ -1,4 +1,4 @@
--- Where a text may be cut, by what is left of it.
+-- Where a text may be cut, by the rest of it.
 use Rattle.std.proofs.Common.{◌≡◌, ℕ, ◌+◌, ◌-◌, ◌≤◌, ◌==◌, ◌++◌, ◌∷◌, List, [], sym, ap, subst}
 use Rattle.std.proofs.Common.{◌∙◌, chars, length, length-append, IsUtf8, arith, Some}
 use Rattle.std.proofs.Common.{append_assoc, refl, true}
@@ -44,7 +44,7 @@ rest-end [] = ([], refl)
 rest-end (c ∷ t) = cond_both {A = Text} (c == 34) t (c ∷ t) (λ x. (p : Text) × (c ∷ t ≡ p ++ x))
     (λ _. (c ∷ [], refl)) (λ _. ([], refl))
 
--- What is left from a fault on is an end of the text.
+-- The rest from a fault on is an end of the text.
 pub fault-cut : (text rest : List ℕ) (content stop : Text) → IsUtf8 text → IsUtf8 rest
     → chars text ≡ 34 ∷ content → StopsAt content stop → chars rest ≡ fault_rest stop
     → (p : Text) × IsCut text rest p

@@ -18,7 +18,7 @@ found t u r b = ap unit_at b.joins ∙ unit_at-complete u r b.is_formed b.takes_
 pub no_unit : (t : Text) → unit_at t ≡ None → (u : LiteralUnit) (s : Text) → BeginsUnit t u s → ⊥
 no_unit t e u s b = none-some (u, s) (sym e ∙ found t u s b)
 
--- What reads on from the rest reads from the start.
+-- A rest that is read from t is also read from the start.
 abbrev pub Passed : Text → Text → Type 0
 Passed whole t = (us : List LiteralUnit) (r : Text) → ReadsTo t us r
     → (vs : List LiteralUnit) × ReadsTo whole vs r

@@ -1,7 +1,7 @@
 -- A terminal obeys no character of a line for editors.
 use Rattle.std.proofs.Common.{List, ℕ, chars, codes, refl}
-use Rattle.drawn_faults.specs.Glyphs.{IsHarmless, glyph_bytes}
-use Rattle.drawn_faults.proofs.Harmless.{decimal-harmless, glyphs-harmless, join, text}
+use Rattle.drawn_lines.specs.Glyphs.{IsHarmless, glyph_bytes}
+use Rattle.drawn_lines.proofs.Harmless.{decimal-harmless, glyphs-harmless, join, text}
 use Rattle.rust_trees.specs.declared.places.Place.{Place}
 use Rattle.message_forms.specs.declared.message.Level.{Level}
 use Rattle.message_forms.specs.declared.message.Level.TheVariants.{Error, Warning}

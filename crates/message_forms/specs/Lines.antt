@@ -1,6 +1,6 @@
 -- The forms that are a line: for editors, and for the workflows of GitHub.
 use Rattle.std.specs.Prelude.{ℕ, ◌==◌, true, false, List, ◌++◌, codes, decimal, if◌then◌else◌}
-use Rattle.drawn_faults.specs.Glyphs.{glyph_bytes}
+use Rattle.drawn_lines.specs.Glyphs.{glyph_bytes}
 use Rattle.rust_trees.specs.declared.places.Place.{Place}
 use Rattle.message_forms.specs.declared.message.Message.{Message}
 use Rattle.message_forms.specs.declared.message.Span.{Span}

@@ -1,12 +1,12 @@
 //! The form for editors.
 
 ghost use Rattle.std.specs.Prelude.{◌≡◌, ◌++◌, OnOk, string_bytes};
-ghost use Rattle.drawn_faults.specs.Glyphs.{IsHarmless};
+ghost use Rattle.drawn_lines.specs.Glyphs.{IsHarmless};
 ghost use Rattle.message_forms.specs.Lines.{place_text, short};
 
 use crate::escapes::put_number;
 use crate::message::{Message, level_name};
-use drawn_faults::put_glyphs;
+use drawn_lines::put_glyphs;
 use rust_trees::Place;
 use std::alloc::AllocError;
 

@@ -55,7 +55,7 @@ pub empty-no_literal : (bs : List ℕ) → bs ≡ [] → (style : Option ℕ) (t
 empty-no_literal bs e None t (content, us, h, is, v) = empty-no_frame bs e content h
 empty-no_literal bs e (Some n) t h = empty-not_raw bs e n t h
 
--- what the words ask for, and what was read
+-- the task that the words state, and the list that was read
 nothing-seen : (g : Option DeclaredGiven) → option_map seen_given g ≡ None → g ≡ None
 nothing-seen None e = refl
 nothing-seen (Some g) e = absurd cc
@@ -85,7 +85,7 @@ nothing_found (Some y) x bs literal e short found is =
     empty-no_literal literal (nil_from_length literal (omega (arith, ap length e))) y.1
     (chars (string_bytes y.0)) found
 
--- what the program does with it
+-- the result of the program
 pub empty-listed : (t : DeclaredTask) (lines : String Global) (has_ends : Bool) (bs : List ℕ)
     → bs ≡ []
     → t.given ≡ None

@@ -15,7 +15,7 @@ digits-Decides : (ds : List ℕ)
 digits-Decides [] = (λ _. tt, λ _. refl)
 digits-Decides (b ∷ ds) = Decides-and _ _ (Decides-ltb (digit_value b) 10) (digits-Decides ds)
 
--- what `is_number` asks
+-- the property that `is_number` tests
 abbrev IsNumber : List ℕ → Type 0
 IsNumber ds = ((0 < length ds) × (length ds ≤ 5)) × (AllDigits 10 ds × (digits_value 10 ds ≤ 65535))
 
@@ -28,7 +28,7 @@ number-Decides ds =
       le-leb (digits_value 10 ds) 65535,
     ))
 
--- what `parse` finds of a text without a plus
+-- the property that `parse` tests in a text without a plus
 abbrev IsParsed : List ℕ → Type 0
 IsParsed ds = IsNumeral 10 ds × (digits_value 10 ds < 2 ^ 16)
 

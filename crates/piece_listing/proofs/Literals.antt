@@ -61,7 +61,7 @@ raw_frame-text n m l r s o k t e f g h i j =
     append_cancel_right (t ++ 34 ∷ []) k (replicate m 35) (raw_frame-rest n m l r s o t e f g h i
     ∙ sym j)
 
--- what is neither raw nor ordinary is no literal
+-- a text that is neither raw nor ordinary is no literal
 pub no_literal : (l : Text) → ((n : ℕ) (t : Text) → l ≡ raw_frame n t → ⊥)
     → ((t : Text) → IsOrdinaryLiteral l t → ⊥)
     → (style : Option ℕ) (t : Text) → IsLiteral style l t → ⊥

@@ -27,7 +27,7 @@ listed-only : (a : Task) (s : Source) (x y : List ℕ × Bool) → IsListed a s 
 listed-only a s x y (r, h, e) (q, k, f) = e
     ∙ ap (listed a.mode s) (report-only a.given (pieces a.mode s) r q h k) ∙ sym f
 
--- what else is owed for a source that is listed
+-- any other answer that is owed for a source that is listed is the same
 with_listing : (a : Task) (input : List ℕ) (x : List ℕ × Bool) (y : Answer)
     → IsOwedFor a input (Ok x) → IsOwedFor a input y → Ok x ≡ y
 with_listing a input x (Ok y) (_, _, (s, h, e)) (_, _, (r, k, f)) =

@@ -55,7 +55,7 @@ literal-end (Some n) l t e =
 no_newline : (l u : Text) → EndsApart l → u ++ newline true ≡ l → ⊥
 no_newline l u h e = h.apart (sym ((same_from_push u h.front 10 h.last (e ∙ h.split)).1))
 
--- what stands in front of at most one newline, and has none at its own end
+-- texts in front of at most one newline, which have none at their own end
 same_front : (l m : Text) (a b : Bool) → EndsApart l → EndsApart m → l ++ newline a ≡ m ++ newline b
     → l ≡ m
 same_front l m true true h k e = (same_from_push l m 10 10 e).0

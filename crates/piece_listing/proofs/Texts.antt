@@ -19,7 +19,7 @@ type_entry-absent out None [] e h =
 type_entry-absent out None (b ∷ bs) e h = grind (arith, nat_tests)
 type_entry-absent out (Some r) bs e h = cc
 
--- what is shown of a type
+-- the entry of a type
 abbrev type_text : Option (Range ℕ) → Text → List ℕ
 type_text s t = codes " ty=" ++ (quoted t ++ at_entry (option_map pair s))
 

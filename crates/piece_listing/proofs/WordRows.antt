@@ -1,5 +1,5 @@
--- Worked examples: what the program's arguments ask for, which lists are accepted, and a listing
--- with a report.
+-- Worked examples: the task that the program's arguments state, the lists that are accepted, and a
+-- listing with a report.
 use Rattle.std.proofs.Common.{◌≡◌, ℕ, Bool, true, false, List, [], ◌∷◌, map, Option, None, Some}
 use Rattle.std.proofs.Common.{chars, codes, refl, lit≤}
 use Rattle.std.specs.Fmt.{digits}
@@ -90,10 +90,10 @@ no_words-list_missing : task_of (codes "format" ∷ codes "--args" ∷ []) ≡ N
 unfolding mode_named
 no_words-list_missing = refl
 
-no_words-list_missing_behind_literal : task_of (codes "format" ∷ codes "--literal" ∷ codes "--args"
+no_words-list_missing_after_literal : task_of (codes "format" ∷ codes "--literal" ∷ codes "--args"
     ∷ []) ≡ None
 unfolding mode_named
-no_words-list_missing_behind_literal = refl
+no_words-list_missing_after_literal = refl
 
 no_words-literal_last : task_of
     (codes "format" ∷ codes "--args" ∷ codes "1" ∷ codes "--literal" ∷ [])
@@ -105,7 +105,7 @@ no_words-no_list : task_of (codes "format" ∷ codes "--args" ∷ codes "2," ∷
 unfolding cut mode_named
 no_words-no_list = refl
 
--- a report stands behind the pieces, and is told of
+-- a report stands after the pieces, and has a line
 abbrev wants_two : Task
 wants_two = record {
   mode = Format;
@@ -129,7 +129,7 @@ listing-with_report : IsListed wants_two (bare_source (codes "{}{:w$}{q}")) (rep
 unfolding computing digits pieces errors report_lines flag_entries value_entries
 listing-with_report = (reported, report-decided _ _ _ _ (lit≤ tt) refl refl refl refl refl, refl)
 
--- it stands behind the faults
+-- it stands after the faults
 abbrev wants_one : Task
 wants_one = record {
   mode = Format;

@@ -33,7 +33,7 @@ some_same : {A : Type 0} {a b : A} → Some a ≡ Some b → a ≡ b
 some_same e = cc
 
 module _ {A : Type 0} (xs ys : List A) (x : A) where
-  -- what is a first entry in front of another is one with it
+  -- a first entry in front of another is one with it
   IsFirst-front : (k : ℕ) → (k < length xs) × IsFirst (xs ++ x ∷ []) ys k ↔ IsFirst xs ys k
   IsFirst-front k = (
     λ h. let b : k < length xs = h.0 in record {

@@ -81,7 +81,7 @@ or-more : (a b c : Bool) → (b ≡ true → c ≡ true) → (a || b) ≡ true �
 or-more true b c f e = refl
 or-more false b c f e = f e
 
--- what is among some of the names is among more
+-- a name that is among some of the names is among more
 pub any-more : (t : Text) (i j : ℕ) (ws : List (Bor (List ℕ))) → i ≤ j
     → list_any (bytes_eq t) (texts (take i ws)) ≡ true
     → list_any (bytes_eq t) (texts (take j ws)) ≡ true
@@ -91,7 +91,7 @@ any-more t (suc i) (suc j) [] h e = absurd cc
 any-more t (suc i) (suc j) (w ∷ ws) h e = or-more (bytes_eq t (chars w.now)) _ _
     (any-more t i j ws (omega arith)) e
 
--- What an index past the end of the list returns.
+-- The value of an index past the end of the list.
 abbrev pub past : Bor (List ℕ)
 past = record { ref_ptr = (0, 0); now = [] }
 
@@ -147,7 +147,7 @@ or-swap true true c = refl
 or-swap true false c = refl
 or-swap false b c = refl
 
--- one behind them
+-- one after them
 pub known-late : (t : Text) (ws : List (Bor (List ℕ))) (w : Bor (List ℕ)) (n : ℕ) (later : Bool)
     → n ≤ length ws
     → (list_any (bytes_eq t) (texts (take n (ws ++ w ∷ []))) || (bytes_eq t (chars w.now) || later))

@@ -1,5 +1,5 @@
--- Worked examples: what the placeholders of a text use, and the report on them. Each is a text in
--- the mode `Format`.
+-- Worked examples: the uses of the placeholders of a text, and the report on them. Each is a text
+-- in the mode `Format`.
 use Rattle.std.proofs.Common.{◌≡◌, ℕ, List, [], ◌∷◌, codes, refl, lit≤}
 use Rattle.rustc_parse_format.specs.Characters.{Text}
 use Rattle.rustc_parse_format.specs.Types.{Format}

@@ -1,4 +1,4 @@
--- What stands in front of the tokens of a file.
+-- The head in front of the tokens of a file.
 use Rattle.std.proofs.Common.{◌≡◌, ℕ, ◌+◌, ◌++◌, List, inl, inr, refl, subst, sym, chars, length}
 use Rattle.std.proofs.Common.{arith}
 use Rattle.std.specs.Prelude.{IsTrue}
@@ -22,7 +22,7 @@ shebanged-heads : (t u : Text) (xs : List Lexeme) → IsShebanged t xs u → All
 shebanged-heads t u xs (inl f) = subst (λ zs. AllHeads zs) (sym f.1) refl
 shebanged-heads t u xs (inr f) = subst (λ zs. AllHeads zs) (sym f.0) refl
 
--- The mark and the shebang in front of what is left.
+-- The mark and the shebang in front of the rest.
 pub heads : (whole unmarked rest : List ℕ) (ms ss : List Lexeme)
     → IsMarked (chars whole) ms (chars unmarked)
     → end_of_all 0 ms + length unmarked ≡ length whole

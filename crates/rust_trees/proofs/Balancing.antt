@@ -38,7 +38,7 @@ pub none-is : (o : Option BreakAt) → false ≡ is_some o → o ≡ None
 none-is None e = refl
 none-is (Some b) e = absurd cc
 
--- Tokens that break do so with more behind them.
+-- Tokens that break do so with more after them.
 pub known-broken : (w : List Leaf) (x : Leaf) (os : List Opening) (o : Option BreakAt)
     → true ≡ is_some o → IsKnownTo w os o → IsKnownTo (w ++ x ∷ []) os o
 known-broken w x os None e h = absurd cc
@@ -149,7 +149,7 @@ known-close w x os ns o g e s f =
           (subst (λ t. AreOpen t w) r g.are_open);
     }
 
--- What is known where no token is left.
+-- The break that is known where no token is left.
 pub all-known : (w : List Leaf) (os : List Opening) (o : Option BreakAt) → true ≡ is_some o
     → IsKnownTo w os o → BreaksAt w o
 all-known w os None e h = absurd cc

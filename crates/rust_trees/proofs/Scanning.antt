@@ -40,7 +40,7 @@ pub scan-none : (xs : List Leaf) → scan None xs ≡ None
 scan-none [] = refl
 scan-none (x ∷ xs) = scan-none xs
 
--- What breaks stays broken.
+-- Tokens that break stay broken.
 pub stays-broken : (o : Option (List Delimiter)) (xs ys : List Leaf) → scan o xs ≡ None
     → scan o (xs ++ ys) ≡ None
 stays-broken o xs ys h =

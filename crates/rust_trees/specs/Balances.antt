@@ -66,7 +66,7 @@ abbrev pub BreaksAt : List Leaf → Option BreakAt → Type 0
 BreaksAt xs None = IsForest xs × AreEnded xs
 BreaksAt xs (Some b) = BreaksIn xs b.kind b.start
 
--- These openings may still be closed, the last one first: behind each there is a forest, and then
+-- These openings may still be closed, the last one first: after each there is a forest, and then
 -- the next.
 abbrev pub AreOpen : List Opening → List Leaf → Type 0
 AreOpen [] w = Unit {0}
@@ -79,7 +79,7 @@ pub record GoesOn (w : List Leaf) (os : List Opening) : Type 0 where
   pub scanned : scan (Some []) w ≡ Some (map (λ o. o.delimiter) (reverse os))
   pub are_open : AreOpen (reverse os) w
 
--- What is known of the tokens so far: they break, for good, or these delimiters are open.
+-- The knowledge of the tokens so far: they break, for good, or these delimiters are open.
 abbrev pub IsKnownTo : List Leaf → List Opening → Option BreakAt → Type 0
 IsKnownTo w os None = GoesOn w os
 IsKnownTo w os (Some b) = (ys : List Leaf) → BreaksIn (w ++ ys) b.kind b.start

@@ -1,5 +1,5 @@
--- What a token is among pairs of delimiters. The public rule is in the Rust Reference, delimiters:
--- DELIMITERS : `{` | `}` | `[` | `]` | `(` | `)`.
+-- The side of a token in a pair of delimiters. The public rule is in the Rust Reference,
+-- delimiters: DELIMITERS : `{` | `}` | `[` | `]` | `(` | `)`.
 use Prim.Native.Char.{code}
 use Rattle.std.specs.Prelude.{ℕ, Bool, true, false, ◌==◌, List, slice_index, if◌then◌else◌}
 use Rattle.rust_tokens.specs.declared.kinds.Kind.{Kind}

@@ -1,4 +1,4 @@
-//! What a token is among pairs of delimiters.
+//! The side of a token in a pair of delimiters.
 
 ghost use Rattle.std.specs.Prelude.{◌≡◌, IsTrue};
 ghost use Rattle.rust_trees.specs.Sides.{is_opening, is_same, side_of};
@@ -18,7 +18,7 @@ pub enum Delimiter {
     Brace,
 }
 
-/// What a token is among pairs of delimiters.
+/// The side of a token in a pair of delimiters.
 #[derive(Clone, Copy)]
 pub enum Side {
     /// It opens a pair.

@@ -58,7 +58,7 @@ impl<'a> Source<'a> {
 
     /// Reads the tokens of a file after these, up to the closing delimiter that closes the last
     /// open one of them, or to the end of the file if there is none. Returns all these tokens.
-    /// Returns `Err` if an allocation fails; what was read is then left out.
+    /// Returns `Err` if an allocation fails; the tokens that were read are then left out.
     pub fn read_group(
         alloc: Global,
         front: &[Token<'a>],

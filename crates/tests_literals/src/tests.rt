@@ -1,4 +1,4 @@
-//! What is said of texts that are no string literals, and what is around a literal in a file.
+//! The faults of texts that are no string literals, and the text around a literal in a file.
 
 use literal_faults::{file_fault, literal_fault, snippet_of};
 use std::alloc::{AllocError, Global};

@@ -57,7 +57,7 @@ fn read_content_out_of_memory_while_growing(rt: HostRuntime) -> Result<(), Fail>
     Ok(())
 }
 
-/// What is no content stays none, wherever its first fault is.
+/// A text that is no content stays none, wherever its first fault is.
 #[test]
 fn read_content_out_of_memory_finds_none(rt: HostRuntime) -> Result<(), Fail> {
     let read = content_again(&rt, rt.alloc(), "a\\n\\q")?;

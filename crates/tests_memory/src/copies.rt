@@ -23,7 +23,7 @@ fn clone_again(
     Ok(piece.clone(alloc)?)
 }
 
-/// A clone of a piece is equal to it, and not to another.
+/// A clone of a piece is equal to it but not to another.
 fn check_clone(
     rt: &(impl Abort + Print),
     alloc: Global,

@@ -12,14 +12,14 @@ use std::io::Print;
 use std::process::Abort;
 use std::test::Fail;
 
-/// There is no item any more, however often it is asked for.
+/// There is no item any more, however often `next` is called.
 fn check_ended(rt: &impl Abort, pieces: &mut Pieces<'_, '_>) {
     for _ in 0..3 {
         assert!(rt; pieces.next().is_none());
     }
 }
 
-/// Adds so many items at most, up to the end or a refusal, behind which none comes. Returns whether
+/// Adds so many items at most, up to the end or a refusal, after which none comes. Returns whether
 /// one was refused.
 fn put_items(
     rt: &(impl Abort + Print),

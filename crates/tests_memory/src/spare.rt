@@ -112,7 +112,7 @@ fn check_read(rt: &impl Abort, alloc: Global) -> Result<(), AllocError> {
     check_next_is_read(rt, &mut parser)
 }
 
-/// What is asked of it, and its clone.
+/// The answers of its methods, and its clone.
 fn check_argument(rt: &impl Abort, argument: &Argument<'static>) -> Result<(), Fail> {
     assert!(rt; argument.is_identifier());
     assert!(rt; argument.position.index().is_none());
@@ -121,7 +121,7 @@ fn check_argument(rt: &impl Abort, argument: &Argument<'static>) -> Result<(), F
     Ok(())
 }
 
-/// Values, their clones, and what is asked of them.
+/// Values, their clones, and the answers of their methods.
 fn check_values(rt: &impl Abort, alloc: Global) -> Result<(), Fail> {
     check_argument(rt, &named())?;
     let copy = Piece::Lit("a").clone(alloc)?;

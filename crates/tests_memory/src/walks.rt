@@ -11,7 +11,7 @@ use std::io::Print;
 use std::process::Abort;
 use std::test::Fail;
 
-/// How a piece is asked for.
+/// How a piece is requested.
 #[derive(Clone, Copy)]
 enum Way {
     /// By `next`.
@@ -49,8 +49,7 @@ pub fn check_unchanged(
     check_shown(rt, parser, before)
 }
 
-/// The second of two calls, of which the first was refused memory. What it gives is not what takes
-/// none.
+/// The second of two calls, of which the first was refused memory. Its result needs memory.
 fn second_call<'input>(
     rt: &impl Abort,
     parser: &mut Parser<'input>,

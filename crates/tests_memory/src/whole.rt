@@ -64,7 +64,7 @@ fn check_parts(
     check_row(rt, row, &mut out, &Sheet::new(), parser)
 }
 
-/// What is read of a row is what it says.
+/// The pieces and errors that are read of a row are its own.
 fn check_read(rt: &(impl Abort + Print), alloc: Global, row: Row) -> Result<(), Fail> {
     let (pieces, mut parser) = read_again(rt, alloc, row)?;
     check_parts(rt, row, pieces.as_slice(), &mut parser)

@@ -56,7 +56,7 @@ fn pieces_of(alloc: Global, input: &'static str) -> Result<Vec<Piece<'static>>, 
     Ok(pieces)
 }
 
-/// What pieces use, added placeholder by placeholder.
+/// The uses of pieces, added placeholder by placeholder.
 fn added(alloc: Global, pieces: &[Piece<'static>]) -> Result<Uses<'static>, AllocError> {
     let mut uses = Uses::new(alloc);
     for piece in pieces {
@@ -67,7 +67,7 @@ fn added(alloc: Global, pieces: &[Piece<'static>]) -> Result<Uses<'static>, Allo
     Ok(uses)
 }
 
-/// What these pieces give is that of the row, and so is what their uses give.
+/// The report of these pieces is that of the row, and so is that of their uses.
 fn check_pieces(
     rt: &impl Abort,
     alloc: Global,
@@ -81,7 +81,7 @@ fn check_pieces(
     Ok(())
 }
 
-/// What the pieces of a text give is that of the row.
+/// The report of the pieces of a text is that of the row.
 fn check_row(rt: &impl Abort, alloc: Global, row: Row) -> Result<(), AllocError> {
     let pieces = pieces_of(alloc, row.input)?;
     check_pieces(rt, alloc, pieces.as_slice(), row)
@@ -177,7 +177,7 @@ fn names_are_reported(rt: HostRuntime) -> Result<(), Fail> {
     Ok(())
 }
 
-/// What is read of a row, and the report.
+/// The pieces and the parser of a row, and the report.
 type Read = (Vec<Piece<'static>>, Parser<'static>, Report<'static>);
 
 fn read_row(alloc: Global, row: Row) -> Result<Read, AllocError> {
@@ -193,7 +193,7 @@ fn read_row(alloc: Global, row: Row) -> Result<Read, AllocError> {
     )
 }
 
-/// What was read of the row: two pieces, no error, and the report.
+/// The reading of the row: two pieces, no error, and the report.
 fn check_read(rt: &impl Abort, read: &Read, row: Row) {
     assert!(rt; read.0.len() == 2);
     assert!(rt; read.1.errors().is_empty());

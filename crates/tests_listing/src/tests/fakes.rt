@@ -97,7 +97,7 @@ impl Write for Stuck {
     }
 }
 
-/// Holds what is written, up to 256 bytes, without memory.
+/// Holds the text that is written, up to 256 bytes, without memory.
 #[derive(Drop)]
 pub struct Sheet {
     bytes: [u8; 256],

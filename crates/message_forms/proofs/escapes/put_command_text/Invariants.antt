@@ -5,7 +5,7 @@ use denote.Text.{Utf8}
 use Rattle.message_forms.specs.Escapes.{command_text}
 use Rattle.message_forms.proofs.escapes.put_command_text.Given as goal
 
--- What is written, and then what is left, is all.
+-- The text written, and then that of the rest, is all.
 abbrev pub invariant-loop-c : goal.invariant-loop-c
 invariant-loop-c l = shadow (Utf8 l.rest) × (string_bytes l.out
     ++ command_text l.is_property l.rest

@@ -5,7 +5,7 @@ use denote.Text.{Utf8}
 use Rattle.json.specs.Print.{escape, quoted}
 use Rattle.message_forms.proofs.escapes.put_quoted.Given as goal
 
--- What is written, and then what is left with the closing quote, is all.
+-- The text written, and then that of the rest with the closing quote, is all.
 abbrev pub invariant-loop-c : goal.invariant-loop-c
 invariant-loop-c l = shadow (Utf8 l.rest) × (string_bytes l.out ++ (escape l.rest ++ 34 ∷ [])
     ≡ string_bytes l.fn.out ++ quoted l.fn.text)

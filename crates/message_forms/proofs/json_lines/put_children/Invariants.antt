@@ -5,7 +5,7 @@ use Rattle.message_forms.specs.Json.{child_json}
 use Rattle.message_forms.specs.Texts.{array_text, items_of, json_text}
 use Rattle.message_forms.proofs.json_lines.put_children.Given as goal
 
--- What is written, and then what is left, is all.
+-- The text written, and then that of the children left, is all.
 abbrev pub invariant-loop-child : goal.invariant-loop-child
 invariant-loop-child l = string_bytes l.out ++ array_text l.is_later
     (items_of (child_json l.path) (drop l.child-index l.children))

@@ -7,7 +7,7 @@ use Rattle.message_forms.specs.Json.{line_items}
 use Rattle.message_forms.specs.Texts.{array_text, json_text}
 use Rattle.message_forms.proofs.json_lines.put_lines.Given as goal
 
--- What is written, and then the lines that are left, is all.
+-- The text written, and then that of the lines left, is all.
 abbrev pub invariant-loop-left : goal.invariant-loop-left
 invariant-loop-left l = shadow (Utf8 l.rest) × (string_bytes l.out
     ++ array_text false (line_items l.left l.start l.to l.rest)

@@ -5,7 +5,7 @@ use Rattle.message_forms.specs.Json.{span_json}
 use Rattle.message_forms.specs.Texts.{array_text, items_of, json_text}
 use Rattle.message_forms.proofs.json_lines.put_spans.Given as goal
 
--- What is written, and then what is left, is all.
+-- The text written, and then that of the spans left, is all.
 abbrev pub invariant-loop-span : goal.invariant-loop-span
 invariant-loop-span l = string_bytes l.out ++ array_text l.is_later
     (items_of (span_json l.path) (drop l.span-index l.spans))

@@ -5,7 +5,7 @@ use Rattle.message_forms.specs.Sarif.{rule_json}
 use Rattle.message_forms.specs.Texts.{array_text, items_of, json_text}
 use Rattle.message_forms.proofs.sarif.put_rules.Given as goal
 
--- What is written, and then what is left, is all.
+-- The text written, and then that of the rules left, is all.
 abbrev pub invariant-loop-rule : goal.invariant-loop-rule
 invariant-loop-rule l = string_bytes l.out ++ array_text l.is_later
     (items_of rule_json (drop l.rule-index l.rules))

@@ -94,7 +94,7 @@ returns-in_err-add_uses-clause-empty c e h =
     (c.loop-taken.invariant.empty e)).0 in
     absurd (false≢true (sym none))
 
--- What was done is all, and the parser is at its end.
+-- All is done, and the parser is at its end.
 all_done : (c : goal.In_default) → ◌≡◌ {A = Option (Piece Place)} None
     (option_map (piece_in c.loop-taken.parser.world) (next_call c.loop-taken.parser).piece)
 all_done c = ap (option_map (seen_taken c.next_piece.new.argument)) (sym c.in_default.is)

@@ -5,7 +5,7 @@ use Rattle.placeholder_check.specs.Seen.{texts}
 use Rattle.piece_listing.specs.Given.{parts}
 use Rattle.piece_listing.proofs.given.between_commas.Given as goal
 
--- The names so far and those of what is left are all the names.
+-- The names so far and those of the rest are all the names.
 abbrev pub invariant-loop-name : goal.invariant-loop-name
 invariant-loop-name l = record {
   is_text : shadow (Utf8 l.rest);

@@ -3,7 +3,7 @@ use Rattle.rustc_parse_format.specs.Seen.{seen_error}
 use Rattle.piece_listing.specs.Listing.{fault_line}
 use Rattle.piece_listing.proofs.listing.put_faults.Given as goal
 
--- The lines so far and those of what is left are all the lines.
+-- The lines so far and those of the rest are all the lines.
 abbrev pub invariant-loop-error : goal.invariant-loop-error
 invariant-loop-error l =
     string_bytes l.out ++ flat_map fault_line (map seen_error (drop l.error-index l.errors))

@@ -3,7 +3,7 @@ use denote.Shadow.{shadow}
 use denote.Text.{Utf8}
 use Rattle.piece_listing.proofs.literal.leading_hashes.Given as goal
 
--- The hashes so far and what is left are the whole text.
+-- The hashes so far and the rest are the whole text.
 abbrev pub invariant-loop-more : goal.invariant-loop-more
 invariant-loop-more l = record {
   is_text : shadow (Utf8 l.rest);

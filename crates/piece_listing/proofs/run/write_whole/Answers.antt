@@ -5,7 +5,7 @@ use Rattle.std.proofs.lemmas.List.{take_rest}
 use Rattle.std.proofs.lemmas.Bool.Decides.{nat_tests}
 use Rattle.piece_listing.proofs.run.write_whole.Goals as goal
 
--- What was written before, and what this write wrote.
+-- The bytes that were written before, and those of this write.
 pub loop-rest-preserved : goal.loop-rest-preserved
 loop-rest-preserved g c =
     let n = c.in-Ok.count in

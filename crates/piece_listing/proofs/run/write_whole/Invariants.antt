@@ -2,7 +2,7 @@ use Rattle.std.proofs.Common.{◌≡◌, ◌++◌, ℕ, List, [], length}
 use Rattle.std.specs.Io.KnownBytes.{Appends}
 use Rattle.piece_listing.proofs.run.write_whole.Given as goal
 
--- A prefix of the bytes has been written, and the rest is what is left.
+-- A prefix of the bytes has been written, and the rest is left.
 abbrev pub invariant-loop-rest : goal.invariant-loop-rest
 invariant-loop-rest g l =
     let contents = g.W.Write.contents in
