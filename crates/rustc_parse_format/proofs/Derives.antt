@@ -1,4 +1,4 @@
--- What the derived `==` and `clone` promise.
+-- The promises of the derived `==` and `clone`.
 pub mod Clones
 pub mod EqualParts
 pub mod EqualPieces

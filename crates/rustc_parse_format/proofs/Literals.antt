@@ -1,4 +1,4 @@
--- String literals: the units of a content, what they stand for and where they are.
+-- String literals: the units of a content, their values and where they are.
 pub mod ContentPlaces
 pub mod Contents
 pub mod Edges

@@ -1,6 +1,6 @@
 -- The faults, over any type of span, and the error that is made of each, with its texts as bytes. A
--- fault is what is wrong, as plain data; an error is the message about it. No public document has
--- this rule: it is this project's, and follows the code of rustc's parser.
+-- fault is one thing that is wrong, as plain data; an error is the message about it. No public
+-- document has this rule: it is this project's, and follows the code of rustc's parser.
 use Prim.Native.Char.{code}
 use Rattle.std.specs.Prelude.{◌≡◌, ℕ, Bool, true, false, ◌++◌, ◌==◌, if◌then◌else◌, List, [], ◌∷◌}
 use Rattle.std.specs.Prelude.{Option, Some, None, option_map, codes, encode_utf8}

@@ -43,7 +43,7 @@ precision_value c NoPrecision = Implied
 precision_value c StarPrecision = Star c
 precision_value c (DotPrecision k) = count_value k
 
--- The meaning of a type. That of `x?` and `X?` is `?`.
+-- The meaning of a type, which is `?` for `x?` and `X?`.
 abbrev pub type_of : TypeText → Text
 type_of (DebugHexType h) = codes "?"
 type_of (CharacterType c) = c ∷ []

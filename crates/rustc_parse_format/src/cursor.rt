@@ -1,30 +1,19 @@
 //! A cursor over the input, with the byte offset of its position in the source.
 
-mod steps;
 mod words;
 
-use crate::characters::{before, begins, begins_digit, begins_word, behind_first, first};
+use crate::parser::ahead::Ahead;
+pub use crate::parser::ahead::Checkpoint;
 use crate::source::{Anchor, Source, first_anchor};
 use std::marker::Model;
 use std::ops::Range;
-use steps::{Steps, Tally, count_next};
 
 /// A position in the input: the text that is left, and where that starts in the source.
 #[derive(Drop)]
 pub struct Cursor<'input> {
     source: Source<'input>,
-    rest: &'input str,
+    ahead: Ahead<'input>,
     anchor: Anchor<'input>,
-    tally: Tally,
-    undo_count: Steps,
-}
-
-/// An earlier position of a cursor, with the count of its steps there.
-#[derive(Drop)]
-pub struct Checkpoint<'input> {
-    rest: &'input str,
-    anchor: Anchor<'input>,
-    tally: Tally,
 }
 
 impl<'input> Model for Cursor<'input> {
@@ -36,18 +25,20 @@ impl<'input> Model for Cursor<'input> {
 
     // The view shows the number of characters passed plus that of those left, less the length of
     // the input. So a move that is not counted changes the view.
-    ghost view = { λ c. unread_at c.source c.rest.now
-        (back_at (chars c.source.input.now) (chars c.rest.now) c.tally) c.undo_count.made };
+    ghost view = { λ c. unread_at c.source c.ahead.rest.text.now (back_at
+        (chars c.source.input.now) (chars c.ahead.rest.text.now) c.ahead.tally)
+        c.ahead.undo_count.made };
 
-    ghost invariant = { λ c. IsAnchored c.source c.rest.now c.anchor
-        × IsCounted (chars c.source.input.now) (chars c.rest.now) c.tally };
+    ghost invariant = { λ c. IsAnchored c.source c.ahead.rest.text.now c.anchor
+        × IsCounted (chars c.source.input.now) (chars c.ahead.rest.text.now) c.ahead.tally };
 }
 
 impl<'input> Cursor<'input> {
     ghost use Rattle.std.specs.Prelude.{◌≡◌, ◌+◌, ◌-◌, ◌≤◌, ◌<◌, ◌^◌, ◌++◌, chars, if◌then◌else◌};
     ghost use Rattle.std.specs.Prelude.{IsTrue, length, option_map, Some};
+    ghost use Rattle.rustc_parse_format.specs.Bytes.{IsLeft};
     ghost use Rattle.rustc_parse_format.specs.Characters.{Text, byte_length, begins_prefix};
-    ghost use Rattle.rustc_parse_format.specs.Characters.{begins_with, first, behind_first};
+    ghost use Rattle.rustc_parse_format.specs.Characters.{begins_with, first, after_first};
     ghost use Rattle.rustc_parse_format.specs.Characters.{is_id_start, first_passes};
     ghost use Rattle.std.specs.Char.{is_ascii_digit};
     ghost use Rattle.rustc_parse_format.specs.Marks.{Start, End};
@@ -56,63 +47,62 @@ impl<'input> Cursor<'input> {
     ghost use Rattle.rustc_parse_format.specs.Midway.{opens_placeholder, unread_at};
     ghost use Rattle.rustc_parse_format.specs.SeenSource.{IsKept, IsAnchored};
     ghost use Rattle.rustc_parse_format.specs.State.{first_of};
-    ghost use Rattle.rustc_parse_format.specs.Back.{IsFurthest, behind_part, given_back};
+    ghost use Rattle.rustc_parse_format.specs.Back.{IsFurthest, after_part, given_back};
     ghost use Rattle.rustc_parse_format.specs.Back.{nothing_back};
     ghost use Rattle.rustc_parse_format.specs.Steps.{AreFew};
     ghost use Rattle.rustc_parse_format.specs.World.{number_of, place_at};
 
-    /// Returns a cursor at the start of `input`, the input of `source`. Does not allocate.
+    /// Returns a cursor at the start of the input of `source`, which `ahead` is. Does not allocate.
     #[inline(always)]
-    pub fn new(source: Source<'input>, input: &'input str) -> Cursor<'input>
-        requires input { source.input.now ≡ input.now }
+    pub fn new(source: Source<'input>, ahead: Ahead<'input>) -> Cursor<'input>
+        requires input { source.input.now ≡ ahead.rest.text.now }
+        requires left { IsLeft source.input.now ahead.rest.text.now }
+        requires first { ahead.tally
+            ≡ record { made = 0; left = length (chars ahead.rest.text.now) } }
+        requires undo_count { ahead.undo_count.made ≡ 0 }
         requires kept { IsKept source }
-        requires fits { source.offset + length input.now < 2 ^ 64 }
-        ensures { result ≡ unread_at source.entry input.now (nothing_back (chars input.now)) 0 }
+        requires fits { source.offset + length source.input.now < 2 ^ 64 }
+        ensures { result ≡ unread_at source.entry source.entry.input.now
+            (nothing_back (chars source.entry.input.now)) 0 }
     {
         let anchor = first_anchor(&source);
         Cursor {
             source,
-            rest: input,
+            ahead,
             anchor,
-            tally: Tally::new(input),
-            undo_count: Steps::start(),
         }
     }
 
     /// Returns the current position, for `since`, `rewind` and `undo`.
     #[inline(always)]
     pub fn checkpoint(&self) -> Checkpoint<'input>
-        ensures at { self.now ≡ unread_at self.now.source result.rest.now
-            (back_at (chars self.now.source.input.now) (chars result.rest.now) result.tally)
+        ensures at { self.now ≡ unread_at self.now.source result.rest.text.now
+            (back_at (chars self.now.source.input.now) (chars result.rest.text.now) result.tally)
             self.now.undo_count }
-        ensures anchored { IsAnchored self.now.source result.rest.now result.anchor }
+        ensures anchored { IsAnchored self.now.source result.rest.text.now result.anchor }
         ensures counted { IsCounted (chars self.now.source.input.now)
-            (chars result.rest.now) result.tally }
+            (chars result.rest.text.now) result.tally }
     {
-        Checkpoint {
-            rest: self.rest,
-            anchor: self.anchor,
-            tally: self.tally.same(),
-        }
+        self.ahead.checkpoint(self.anchor)
     }
 
     /// Proves that the cursor has made few steps, at most two for each character of the input. Does
     /// nothing when the program runs.
     pub fn steps_are_few(&self)
         ensures few { AreFew self.now.input self.now.rest self.now.back }
-        ensures word { behind_part self.now.rest ≤ self.now.back.left }
+        ensures word { after_part self.now.rest ≤ self.now.back.left }
     {
-        let _rest = self.rest;
+        let _rest = self.ahead.next();
     }
 
     /// Returns the text between `from` and the current position.
     #[inline(always)]
     pub fn since(&self, from: &Checkpoint<'input>) -> &'input str
-        requires { (read : Text) × (chars from.now.rest.now ≡ read ++ self.now.rest) }
-        ensures { (read : Text) → chars from.now.rest.now ≡ read ++ self.now.rest
+        requires { (read : Text) × (chars from.now.rest.text.now ≡ read ++ self.now.rest) }
+        ensures { (read : Text) → chars from.now.rest.text.now ≡ read ++ self.now.rest
             → chars result.now ≡ read }
     {
-        before(from.rest, self.rest)
+        self.ahead.since(from.rest)
     }
 
     /// Returns the next character, or `None` at the end of the input.
@@ -120,23 +110,22 @@ impl<'input> Cursor<'input> {
     pub fn peek(&self) -> Option<char>
         ensures { result ≡ first self.now.rest }
     {
-        first(self.rest)
+        self.ahead.next().character()
     }
 
     /// Returns the character after the next one, or `None` if there is none.
     pub fn peek_ahead(&self) -> Option<char>
-        ensures { result ≡ first (behind_first self.now.rest) }
+        ensures { result ≡ first (after_first self.now.rest) }
     {
-        first(behind_first(self.rest))
+        self.ahead.second().character()
     }
 
     /// Moves past the next character, if there is one. Only this function, `consume_place` and the
     /// functions of `words` move forward.
     pub fn skip_char(&mut self)
-        ensures rest { self.new ≡ record self.old { rest = behind_first self.old.rest } }
+        ensures rest { self.new ≡ record self.old { rest = after_first self.old.rest } }
     {
-        self.tally.pass(count_next(self.rest));
-        self.rest = behind_first(self.rest);
+        self.ahead.skip_char();
     }
 
     /// Moves past the next character, if there is one, and returns its byte range in the source. At
@@ -144,50 +133,45 @@ impl<'input> Cursor<'input> {
     #[inline(always)]
     pub fn consume_place(&mut self) -> Range<usize>
         ensures place { pair result ≡ place_at self.old.world (length self.old.rest) }
-        ensures rest { self.new ≡ record self.old { rest = behind_first self.old.rest } }
+        ensures rest { self.new ≡ record self.old { rest = after_first self.old.rest } }
     {
-        self.tally.pass(count_next(self.rest));
-        let (place, rest) = self.source.pass(self.rest, &mut self.anchor);
-        self.rest = rest;
-        place
+        self.ahead.consume_place(&self.source, &mut self.anchor)
     }
 
     /// Goes back to the position `to`. The characters from there on can then be read again, which
     /// counts as new steps.
     pub fn rewind(&mut self, to: Checkpoint<'input>)
-        requires anchored { IsAnchored self.old.source to.rest.now to.anchor }
-        requires furthest { IsFurthest (chars to.rest.now) self.old.back }
-        requires earlier { length self.old.rest ≤ length (chars to.rest.now) }
-        requires word { behind_part (chars to.rest.now) ≤ length self.old.rest }
-        ensures { self.new ≡ unread_at self.old.source to.entry.rest.now (given_back self.old.rest
-            (chars to.entry.rest.now) self.old.back) self.old.undo_count }
+        requires anchored { IsAnchored self.old.source to.rest.text.now to.anchor }
+        requires furthest { IsFurthest (chars to.rest.text.now) self.old.back }
+        requires earlier { length self.old.rest ≤ length (chars to.rest.text.now) }
+        requires word { after_part (chars to.rest.text.now) ≤ length self.old.rest }
+        ensures { self.new ≡ unread_at self.old.source to.entry.rest.text.now
+            (given_back self.old.rest (chars to.entry.rest.text.now) self.old.back)
+            self.old.undo_count }
     {
-        self.tally.rewind(self.rest);
-        self.rest = to.rest;
         self.anchor = to.anchor;
+        self.ahead.rewind(to.rest);
     }
 
     /// Goes back to the position `to`, before a call in which an allocation failed. The steps of
     /// that call then do not count.
     pub fn undo(&mut self, to: Checkpoint<'input>)
-        requires anchored { IsAnchored self.old.source to.rest.now to.anchor }
+        requires anchored { IsAnchored self.old.source to.rest.text.now to.anchor }
         requires counted { IsCounted (chars self.old.source.input.now)
-            (chars to.rest.now) to.tally }
-        ensures { self.new ≡ unread_at self.old.source to.entry.rest.now
-            (back_at (chars self.old.source.input.now) (chars to.entry.rest.now) to.entry.tally)
-            (self.old.undo_count + 1) }
+            (chars to.rest.text.now) to.tally }
+        ensures { self.new ≡ unread_at self.old.source to.entry.rest.text.now
+            (back_at (chars self.old.source.input.now) (chars to.entry.rest.text.now)
+            to.entry.tally) (self.old.undo_count + 1) }
     {
-        self.rest = to.rest;
         self.anchor = to.anchor;
-        self.tally = to.tally;
-        self.undo_count = Steps::more(&self.undo_count, &1);
+        self.ahead.undo(to);
     }
 
-    /// Proves that what is left is a suffix of the input. Does nothing when the program runs.
+    /// Proves that the rest is a suffix of the input. Does nothing when the program runs.
     pub fn reads_its_input(&self)
         ensures { (front : Text) × (self.now.input ≡ front ++ self.now.rest) }
     {
-        let _rest = self.rest;
+        let _rest = self.ahead.next();
     }
 
     /// Returns the byte offset in the source at which the next character starts, or at the end of
@@ -196,7 +180,7 @@ impl<'input> Cursor<'input> {
     pub fn start(&self) -> usize
         ensures { result ≡ number_of self.now.world (Start (length self.now.rest)) }
     {
-        self.source.start(self.rest, &self.anchor)
+        self.ahead.next().start(&self.source, &self.anchor)
     }
 
     /// Returns whether the next character `c` is past the indentation of a line that starts at the
@@ -206,7 +190,7 @@ impl<'input> Cursor<'input> {
         ensures { IsTrue result → first self.now.rest ≡ Some c
             → IsPastIndent c byte self.now.world self.now.rest }
     {
-        let start = self.source.start(self.rest, &self.anchor);
+        let start = self.ahead.next().start(&self.source, &self.anchor);
         start > byte || start == byte && !c.is_whitespace()
     }
 
@@ -216,9 +200,9 @@ impl<'input> Cursor<'input> {
     pub fn move_anchor(&mut self)
         ensures { self.new ≡ self.old }
     {
-        if let Some(snippet) = &self.source.kept_snippet {
-            self.anchor.move_anchor(snippet.as_str(), self.rest);
-        }
+        self.ahead
+            .next()
+            .move_anchor(&self.source, &mut self.anchor);
     }
 
     /// Returns the byte offset in the source at which the next character ends, or at the end of the
@@ -227,7 +211,7 @@ impl<'input> Cursor<'input> {
     pub fn stop(&self) -> usize
         ensures { result ≡ number_of self.now.world (End (length self.now.rest)) }
     {
-        self.source.stop(self.rest, &self.anchor)
+        self.ahead.next().stop(&self.source, &self.anchor)
     }
 
     /// Returns whether the snippet is the source literal of the input.
@@ -244,7 +228,7 @@ impl<'input> Cursor<'input> {
         ensures { option_map (λ x. (pair x.0, x.1, x.2)) result
             ≡ first_of self.now.world self.now.input self.now.rest }
     {
-        self.source.peek_place(self.rest, &self.anchor)
+        self.ahead.next().place(&self.source, &self.anchor)
     }
 
     /// Returns, for the character after the next one, its byte range in the source, its byte offset
@@ -252,10 +236,9 @@ impl<'input> Cursor<'input> {
     #[inline(always)]
     pub fn peek_place_ahead(&self) -> Option<(Range<usize>, usize, char)>
         ensures { option_map (λ x. (pair x.0, x.1, x.2)) result
-            ≡ first_of self.now.world self.now.input (behind_first self.now.rest) }
+            ≡ first_of self.now.world self.now.input (after_first self.now.rest) }
     {
-        self.source
-            .peek_place(behind_first(self.rest), &self.anchor)
+        self.ahead.second().place(&self.source, &self.anchor)
     }
 
     /// Returns the byte offset of the next character in the input, or at the end the length of the
@@ -264,7 +247,7 @@ impl<'input> Cursor<'input> {
     pub fn position(&self) -> usize
         ensures { result ≡ byte_length self.now.input - byte_length self.now.rest }
     {
-        self.source.input.len() - self.rest.len()
+        self.ahead.next().position(&self.source)
     }
 
     /// Returns whether the next character is `c`, which is ASCII.
@@ -272,7 +255,7 @@ impl<'input> Cursor<'input> {
         requires { c < 128 }
         ensures { result ≡ begins_with c self.now.rest }
     {
-        begins(self.rest, c)
+        self.ahead.next().is(c)
     }
 
     /// Moves past the next character if it is `c`, which is ASCII. Returns whether it is.
@@ -280,7 +263,7 @@ impl<'input> Cursor<'input> {
         requires { c < 128 }
         ensures value { result ≡ begins_with c self.old.rest }
         ensures rest { self.new ≡ record self.old {
-          rest = if begins_with c self.old.rest then behind_first self.old.rest else self.old.rest;
+          rest = if begins_with c self.old.rest then after_first self.old.rest else self.old.rest;
         } }
     {
         let is_there = self.is_next(c);
@@ -293,9 +276,9 @@ impl<'input> Cursor<'input> {
     /// Returns whether the character after the next one is `c`, which is ASCII.
     pub fn is_ahead(&self, c: char) -> bool
         requires { c < 128 }
-        ensures { result ≡ begins_with c (behind_first self.now.rest) }
+        ensures { result ≡ begins_with c (after_first self.now.rest) }
     {
-        begins(behind_first(self.rest), c)
+        self.ahead.second().is(c)
     }
 
     /// Returns whether a placeholder opens here: the next character is an opening brace, and the
@@ -311,14 +294,14 @@ impl<'input> Cursor<'input> {
     pub fn is_digit_next(&self) -> bool
         ensures { result ≡ first_passes is_ascii_digit self.now.rest }
     {
-        begins_digit(self.rest)
+        self.ahead.next().is_digit()
     }
 
     /// Returns whether the next character can begin a word.
     pub fn is_word_next(&self) -> bool
         ensures { result ≡ first_passes is_id_start self.now.rest }
     {
-        begins_word(self.rest)
+        self.ahead.next().is_id_start()
     }
 
     /// Returns whether the next two characters are `r#`.
@@ -330,8 +313,8 @@ impl<'input> Cursor<'input> {
 
     /// Returns whether the character after the next one can begin a word.
     pub fn is_word_ahead(&self) -> bool
-        ensures { result ≡ first_passes is_id_start (behind_first self.now.rest) }
+        ensures { result ≡ first_passes is_id_start (after_first self.now.rest) }
     {
-        begins_word(behind_first(self.rest))
+        self.ahead.second().is_id_start()
     }
 }

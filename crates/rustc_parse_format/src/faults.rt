@@ -10,8 +10,8 @@ use std::marker::Model;
 use std::mem;
 use std::ops::Range;
 
-/// A fault of an input: what is wrong there, as plain data, of which a parser makes an error. The
-/// ranges are byte ranges of the source.
+/// A fault of an input as plain data, of which a parser makes an error. The ranges are byte ranges
+/// of the source.
 #[derive(Drop)]
 pub enum Fault<'input> {
     /// A closing brace that closes nothing.

@@ -1,6 +1,8 @@
 //! The parser: each call reads one piece, up to the end of the input.
 
+pub mod ahead;
 mod step;
+mod steps;
 mod with_faults;
 
 use crate::cursor::Cursor;
@@ -8,6 +10,7 @@ use crate::lists::Lists;
 use crate::reader::Reader;
 use crate::source::{quote_offset, source_of};
 use crate::types::{Argument, ParseError, ParseMode, Piece, Taken};
+use ahead::Ahead;
 use std::alloc::{AllocError, Global};
 use std::marker::Model;
 use std::ops::Range;
@@ -56,7 +59,7 @@ impl<'input> Parser<'input> {
     ghost use Rattle.std.specs.Prelude.{List, Option, IfOk, IsNone, IsOk, IsTrue, OnErr, OnOk};
     ghost use Rattle.std.specs.Prelude.{chars, length, map, option_map};
     ghost use Rattle.rustc_parse_format.specs.Agreement.{Agree};
-    ghost use Rattle.rustc_parse_format.specs.Characters.{Text, behind_first, byte_length, is_nil};
+    ghost use Rattle.rustc_parse_format.specs.Characters.{Text, after_first, byte_length, is_nil};
     ghost use Rattle.std.specs.List.{filter};
     ghost use Rattle.rustc_parse_format.specs.Faults.{Keeps, add_errors, bare_fault, bare_message};
     ghost use Rattle.rustc_parse_format.specs.Faults.{is_front};
@@ -116,7 +119,7 @@ impl<'input> Parser<'input> {
         ensures short { IfOk result (λ p. length p.rest ≤ length input.now) }
     {
         let source = source_of(input, style, snippet, appended_newline);
-        let cursor = Cursor::new(source, input);
+        let cursor = Cursor::new(source, Ahead::new(input));
         Ok(Parser {
             alloc,
             mode,
@@ -125,7 +128,7 @@ impl<'input> Parser<'input> {
         })
     }
 
-    /// Proves that what is left is a suffix of the input. Changes nothing.
+    /// Proves that the rest is a suffix of the input. Changes nothing.
     fn reads_its_input(&self)
         ensures { (front : Text) × (self.now.input ≡ front ++ self.now.rest) }
     {
@@ -157,7 +160,7 @@ impl<'input> Parser<'input> {
         ensures err { OnErr result (IsPutBack self.old self.new) }
         ensures spare { NeedsNoMemory self.old (next_call self.old) → IsOk result }
 
-        // If a piece of the grammar begins what is left, it is returned without a new error. If
+        // If a piece of the grammar begins the rest, it is returned without a new error. If
         // none does, there is a new error, except at the end, where the call returns `None` and
         // only adds the last line of a source literal. Earlier errors stay, in order.
         ensures reads { IfOk result (λ p. (q : BarePiece (Unit {0})) (r : Text) (n : ℕ)
@@ -172,7 +175,7 @@ impl<'input> Parser<'input> {
             ≡ record self.old { line_spans = last_lines self.old self.old.line_spans })) }
         ensures keeps { OnOk result (Keeps self.old.errors self.new.errors) }
 
-        // After a single opening brace the piece is the argument of the one cut of what is left,
+        // After a single opening brace the piece is the argument of the one cut of the rest,
         // whether a brace closes it or not.
         ensures cut { IfOk result (λ p. (a : FieldText) (r : Text)
             → IsPart self.old.rest (opened_part self.old.mode a) r
@@ -206,8 +209,9 @@ impl<'input> Parser<'input> {
             → ComesFrom self.old style snippet appended
             → LiesInside snippet appended self.old → LiesInside snippet appended self.new) }
 
-        // With a source literal the new lines are those of what was read as text, and a placeholder
-        // that a brace closed gets its place. Without one there is no line and no place.
+        // With a source literal the new lines are those of the input that was read as text, and a
+        // placeholder that a brace closed gets its place. Without one there is no line and no
+        // place.
         ensures lines { OnOk result (self.old.rest ≢ [] → self.old.world.has_source ≡ true
             → (lines : List Place)
             × (self.new.line_spans ≡ self.old.line_spans ++ lines)
@@ -289,7 +293,7 @@ impl<'input> Parser<'input> {
     #[inline(always)]
     pub fn peek_ahead(&self) -> Option<(Range<usize>, usize, char)>
         ensures { option_map (λ x. (pair x.0, x.1, x.2)) result
-            ≡ first_of self.now.world self.now.input (behind_first self.now.rest) }
+            ≡ first_of self.now.world self.now.input (after_first self.now.rest) }
     {
         self.reader.cursor.peek_place_ahead()
     }
@@ -331,10 +335,11 @@ impl<'input> Parser<'input> {
         self.lists.arg_places.as_slice()
     }
 
-    /// Returns the lines of what was read as text, in order, as byte ranges of the snippet, each
-    /// without its newline and without the white space at its very start. A call at the end of the
-    /// input adds the last line. If an appended newline was read as text, the last line ends before
-    /// it starts. If the snippet is not the source literal of the input, there are no lines.
+    /// Returns the lines of the input that was read as text, in order, as byte ranges of the
+    /// snippet, each without its newline and without the white space at its very start. A call at
+    /// the end of the input adds the last line. If an appended newline was read as text, the last
+    /// line ends before it starts. If the snippet is not the source literal of the input, there are
+    /// no lines.
     pub fn line_spans(&self) -> &[Range<usize>]
         ensures { map pair result.now ≡ self.now.line_spans }
     {

@@ -4,7 +4,7 @@
 ghost use Rattle.std.specs.Prelude.{◌≡◌, ◌≢◌, ◌++◌, ◌+◌, ◌<◌, ◌^◌, ◌∷◌, [], ◌↔◌};
 ghost use Rattle.std.specs.Prelude.{IfOk, IsOk, IsTrue, None, OnErr, OnOk, Some, chars, length};
 ghost use Rattle.std.specs.Prelude.{map, option_map, take};
-ghost use Rattle.rustc_parse_format.specs.Characters.{behind, behind_first, first, front};
+ghost use Rattle.rustc_parse_format.specs.Characters.{rest_after, after_first, first, front};
 ghost use Rattle.rustc_parse_format.specs.Characters.{is_in_line, is_no_brace, with_first};
 ghost use Rattle.rustc_parse_format.specs.Midway.{HasFoundNothing, IsCounted, IsInOneLine};
 ghost use Rattle.rustc_parse_format.specs.Midway.{IsPastIndent, back_at, midway, passed_next};
@@ -82,12 +82,12 @@ impl<'input> Reader<'input> {
     /// Returns the state before a call, for `rewind`.
     pub fn call_start(&self) -> CallStart<'input>
         requires { HasFoundNothing self.now }
-        ensures at { self.now ≡ midway (unread_at self.now.source result.at.rest.now
-            (back_at (chars self.now.source.input.now) (chars result.at.rest.now) result.at.tally)
-            self.now.undo_count) result.curarg result.line_start }
+        ensures at { self.now ≡ midway (unread_at self.now.source result.at.rest.text.now
+            (back_at (chars self.now.source.input.now) (chars result.at.rest.text.now)
+            result.at.tally) self.now.undo_count) result.curarg result.line_start }
         ensures counted { IsCounted (chars self.now.source.input.now)
-            (chars result.at.rest.now) result.at.tally }
-        ensures anchored { IsAnchored self.now.source result.at.rest.now result.at.anchor }
+            (chars result.at.rest.text.now) result.at.tally }
+        ensures anchored { IsAnchored self.now.source result.at.rest.text.now result.at.anchor }
     {
         CallStart {
             at: self.cursor.checkpoint(),
@@ -99,12 +99,12 @@ impl<'input> Reader<'input> {
     /// Restores the state from before a call, and discards all that the call has found. Does not
     /// allocate.
     pub fn rewind(&mut self, alloc: Global, start: CallStart<'input>)
-        requires anchored { IsAnchored self.old.source start.at.rest.now start.at.anchor }
+        requires anchored { IsAnchored self.old.source start.at.rest.text.now start.at.anchor }
         requires counted { IsCounted (chars self.old.source.input.now)
-            (chars start.at.rest.now) start.at.tally }
-        ensures { self.new ≡ midway (unread_at self.old.source start.entry.at.rest.now
+            (chars start.at.rest.text.now) start.at.tally }
+        ensures { self.new ≡ midway (unread_at self.old.source start.entry.at.rest.text.now
             (back_at (chars self.old.source.input.now)
-            (chars start.entry.at.rest.now) start.entry.at.tally) (self.old.undo_count + 1))
+            (chars start.entry.at.rest.text.now) start.entry.at.tally) (self.old.undo_count + 1))
             start.entry.curarg start.entry.line_start }
     {
         self.cursor.undo(start.at);
@@ -190,8 +190,8 @@ impl<'input> Reader<'input> {
     /// end in the prefix.
     pub fn string_past_brace(&mut self) -> Result<&'input str, AllocError>
         ensures value { IfOk result (λ t. chars t.now
-            ≡ with_first self.old.rest (front is_no_brace (behind_first self.old.rest))) }
-        ensures reads { let s = record self.old { rest = behind_first self.old.rest } in
+            ≡ with_first self.old.rest (front is_no_brace (after_first self.old.rest))) }
+        ensures reads { let s = record self.old { rest = after_first self.old.rest } in
             Reaches self.old result self.new (read_run s) (IsInOneLine s) }
     {
         let from = self.cursor.checkpoint();

@@ -1,7 +1,7 @@
 //! The source of an input, and the byte ranges that the characters of the input have in it.
 
 ghost use Rattle.std.specs.Prelude.{◌≡◌, ◌+◌, ◌<◌, ◌^◌, chars, length, if◌then◌else◌, None};
-ghost use Rattle.rustc_parse_format.specs.Characters.{behind_first};
+ghost use Rattle.rustc_parse_format.specs.Characters.{after_first};
 ghost use Rattle.rustc_parse_format.specs.LiteralReading.{IsFound, is_longer, plain_end};
 ghost use Rattle.rustc_parse_format.specs.Seen.{pair, seen_snippet};
 ghost use Rattle.rustc_parse_format.specs.SeenSource.{IsAnchorIn, IsKept, seen_world};
@@ -9,7 +9,7 @@ ghost use Rattle.rustc_parse_format.specs.World.{hashes, place_at, quote_offset,
 
 mod anchor;
 
-use crate::characters::{behind_first, first};
+use crate::characters::{after_first, first};
 use crate::literal::source_end;
 pub use anchor::Anchor;
 use anchor::continuations_width;
@@ -18,7 +18,7 @@ use std::ops::Range;
 /// The place of an input in its source.
 #[derive(Drop)]
 pub struct Source<'input> {
-    pub input: &'input str,
+    input: &'input str,
     /// The byte offset in the source at which the input starts.
     pub offset: usize,
     /// The byte offset in the source at which the text of the input ends.
@@ -34,6 +34,7 @@ pub struct Source<'input> {
 
 impl<'input> Source<'input> {
     ghost use Rattle.std.specs.Prelude.{◌-◌, option_map};
+    ghost use Rattle.rustc_parse_format.specs.Bytes.{IsLeft};
     ghost use Rattle.rustc_parse_format.specs.Characters.{byte_length};
     ghost use Rattle.rustc_parse_format.specs.Marks.{End, Start};
     ghost use Rattle.rustc_parse_format.specs.SeenSource.{IsAnchored, seen_world};
@@ -68,7 +69,7 @@ impl<'input> Source<'input> {
         }
         match &self.kept_snippet {
             Some(snippet) => anchor.stop_of(snippet.as_str(), rest),
-            None => self.offset + (self.input.len() - behind_first(rest).len()),
+            None => self.offset + (self.input.len() - after_first(rest).len()),
         }
     }
 
@@ -83,7 +84,7 @@ impl<'input> Source<'input> {
     ) -> (Range<usize>, &'input str)
         requires { IsAnchored self.now rest.now anchor.old }
         ensures place { pair result.0 ≡ place_at (seen_world self.now) (length (chars rest.now)) }
-        ensures rest { chars result.1.now ≡ behind_first (chars rest.now) }
+        ensures rest { chars result.1.now ≡ after_first (chars rest.now) }
         ensures anchored { IsAnchored self.now result.1.now anchor.new }
     {
         if rest.is_empty() {
@@ -92,19 +93,29 @@ impl<'input> Source<'input> {
         match &self.kept_snippet {
             Some(snippet) => anchor.pass(snippet.as_str(), rest),
             None => {
-                let behind = behind_first(rest);
+                let rest_after = after_first(rest);
                 let start = self.offset + (self.input.len() - rest.len());
                 (
-                    start..self.offset + (self.input.len() - behind.len()),
-                    behind,
+                    start..self.offset + (self.input.len() - rest_after.len()),
+                    rest_after,
                 )
             }
         }
     }
 
+    /// Returns the byte offset of `rest` in the input.
+    #[tactic(auto, using(crate::proofs::Sources::PlainPlaces::position_left))]
+    #[inline(always)]
+    pub fn position(&self, rest: &'input str) -> usize
+        requires { IsLeft self.now.input.now rest.now }
+        ensures { result
+            ≡ byte_length (chars self.now.input.now) - byte_length (chars rest.now) }
+    {
+        self.input.len() - rest.len()
+    }
+
     /// Returns the byte range in the source of the first character of `rest`, its byte offset in
     /// the input, and the character itself, or `None` if `rest` is empty.
-    #[tactic(auto, using(crate::proofs::Sources::PlainPlaces::position_left))]
     #[inline(always)]
     pub fn peek_place(
         &self,
@@ -116,7 +127,7 @@ impl<'input> Source<'input> {
             ≡ first_of (seen_world self.now) (chars self.now.input.now) (chars rest.now) }
     {
         let c = first(rest)?;
-        let position = self.input.len() - rest.len();
+        let position = self.position(rest);
         Some((
             self.start(rest, anchor)..self.stop(rest, anchor),
             position,

@@ -44,9 +44,9 @@ both_same x y e f = (
   λ p. and_true x y (e.1 p.0) (f.1 p.1),
 )
 
--- what a call answered that computes the test
-pub told : {P : Type 0} {b r : Bool} → r ≡ b → IsTrue b ↔ P → IsTrue r ↔ P
-told h e = (λ k. e.0 (sym h ∙ k), λ p. h ∙ e.1 p)
+-- the answer of a call that computes the test
+pub report : {P : Type 0} {b r : Bool} → r ≡ b → IsTrue b ↔ P → IsTrue r ↔ P
+report h e = (λ k. e.0 (sym h ∙ k), λ p. h ∙ e.1 p)
 
 -- Flags, numbers, texts, ranges and options.
 pub flag_same : (x y : Bool) → IsTrue (bool_eq.ghosts.eq x y) ↔ x ≡ y
@@ -92,7 +92,7 @@ plain_option_same E e (Some x) None = differ (λ h. cc)
 plain_option_same E e (Some x) (Some y) =
     same_along (ap (λ z. Some z)) (λ (h : Some x ≡ Some y). cc) (e x y)
 
--- What is the same where it is seen the same is an equivalence.
+-- The relation of values that are seen as the same is an equivalence.
 pub seen_equivalence : {A V : Type 0} (see : A → V) → IsEquivalence (AreSame see)
 seen_equivalence see = record {
   reflexive = λ a. refl;

@@ -48,7 +48,7 @@ row-cons t s p ps r h k = record {
 pub row-one : (t : Text) (p : Part) (r : Text) → IsPart t p r → IsPart t (row (p ∷ [])) r
 row-one t p r h = row-cons t r p [] r h (row-nil r)
 
--- what is after the first part of a row
+-- the text after the first part of a row
 pub record Split (t : Text) (p : Part) (ps : List Part) (r : Text) : Type 0 where
   pub seam : Text
   pub first : IsPart t p seam
@@ -94,7 +94,7 @@ pub two-split : (t : Text) (p q : Part) (r : Text) → IsPart t (row (p ∷ q �
 two-split t p q r h = let s = row-split t p (q ∷ []) r h in
     record { seam = s.seam; first = s.first; second = row-only s.seam q r s.others }
 
--- the same, with the parts of a row told by its type
+-- the same, with the parts of a row known by its type
 pub record IsRow (t : Text) (ps : List Part) (r : Text) : Type 0 where
   pub part : IsPart t (row ps) r
 

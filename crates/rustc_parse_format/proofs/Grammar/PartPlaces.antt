@@ -1,5 +1,5 @@
--- Where the parts of a format specification are: what is written from each part on is what the
--- computation finds there.
+-- The places of the parts of a format specification: the text written from each part on is the one
+-- that the computation finds there.
 use Rattle.std.proofs.Common.{◌≡◌, ◌++◌, refl, sym, ◌∙◌, ap}
 use Rattle.rustc_parse_format.specs.Characters.{Text}
 use Rattle.rustc_parse_format.specs.Counts.{width, precision}

@@ -49,7 +49,7 @@ Reads-unique mode c t (p ∷ ps) (q ∷ qs) (r, n, a, later) (s, m, b, others) =
     let moved : Reads mode n r qs = rw (step.rest, step.next) others in
     both step.piece (Reads-unique mode n r ps qs later moved)
 
--- What is read is written: the pieces as written, one after the other, are the text.
+-- Pieces that are read are written: as written, one after the other, they are the text.
 pub Reads-spelled : (mode : Mode) (c : ℕ) (t : Text) (ps : List (Piece (Unit {0})))
     → Reads mode c t ps → IsSpelled mode c t ps
 Reads-spelled mode c t [] e = record { texts = []; formed = tt; means = refl; whole = sym e }

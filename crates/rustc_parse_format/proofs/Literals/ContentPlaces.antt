@@ -47,7 +47,7 @@ content-world content us ps input appended h e source =
     ∙ ap (map (λ (x : Place × ℕ). later 1 x.0)) (sym e)) in
     rw is (ap (λ qs. qs ++ newline_places (ordinary_end us) appended) same)
 
--- the same of what a reader answers
+-- the same of the answer of a reader
 pub in_literal : {X E : Type 0} (r : Result (Option X) E) (f : X → List (Place × ℕ))
     (content : Text) →
     IfOk r (λ o. IfSome o (λ v. IsReadAs content (f v))) →

@@ -59,7 +59,7 @@ pub units-none : (c : ℕ) (t : Text) → unit_at (c ∷ t) ≡ None → units (
 unfolding units
 units-none c t e = ap (first_and_rest (λ s. units_within (length t) s)) e
 
--- what computing gives is a row of units of the text
+-- the units that computing gives are those of the text
 units_within-content : (n : ℕ) (t : Text) (us : List LiteralUnit) → units_within n t ≡ Some us
     → IsContent t us
 units_within-content n [] us e = subst (IsContent []) (same_Some [] us e) refl

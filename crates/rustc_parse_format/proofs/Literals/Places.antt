@@ -82,7 +82,7 @@ found-push xs x (Some ps) = ap Some (by_list xs)
     by_list [] = refl
     by_list (y ∷ ys) = ap (λ s. (pair y.0, y.1) ∷ s) (by_list ys)
 
--- What a reader has found, and what it will find, are what the whole gives.
+-- The characters that a reader has found and then those that it will find are those of the whole.
 abbrev pub IsSoFar : List (Range ℕ × ℕ) → ℕ → Text → Text → Type 0
 IsSoFar xs at t whole = option_map (λ ps. seen_characters xs ++ ps) (content_characters at t)
     ≡ content_characters 0 whole
@@ -121,7 +121,7 @@ pub found-none : (at : ℕ) (t whole : Text) (xs : List (Range ℕ × ℕ)) → 
 found-none at t whole xs so_far n e =
     ap (option_map (λ ps. seen_characters xs ++ ps)) (sym (placed-none at t n e)) ∙ so_far
 
--- What computing gives is the only row of units.
+-- The row of units that computing gives is the only one.
 pub placed-content : (t : Text) (ps : List (Place × ℕ)) → Some ps ≡ content_characters 0 t →
     (us : List LiteralUnit) × IsOnlyContent t us × (ps ≡ placed_characters 0 us)
 unfolding content_characters
@@ -144,7 +144,7 @@ placed-no_content t e us h = by_units (units t) refl e
     by_units None f e = units-no_content t us f h
     by_units (Some vs) f e = none-some (placed_characters 0 vs) e
 
--- the same of what a reader answers
+-- the same of the answer of a reader
 pub read-found : {X E : Type 0} (r : Result (Option X) E) (f : X → List (Place × ℕ)) (t : Text) →
     IfOk r (λ o. option_map f o ≡ content_characters 0 t)
     → IfOk r (λ o. IfSome o (λ x. IsReadAs t (f x)))

@@ -89,7 +89,7 @@ diagnostic_text-is_no_specification : IsCut Diagnostic (codes "a:08 b}")
 unfolding computing
 diagnostic_text-is_no_specification = record { whole = refl; formed = refl; ends = refl }
 
--- What follows a single opening brace is a field, whether a brace closes it or not.
+-- A field follows a single opening brace, whether a brace closes it or not.
 unclosed-has_its_field : IsPart (codes "{a?")
     (opened_part Format (record { position = Word (codes "a"); space = []; spec = Default }))
     (codes "?")

@@ -1,5 +1,5 @@
 -- Worked examples of the contents of ordinary literals: texts that are a content, with their units,
--- what these stand for and where; texts that are not a content; and wrong readings.
+-- their values and where; texts that are not a content; and wrong readings.
 use Prim.Native.Char.{code}
 use Rattle.std.proofs.Common.{◌≡◌, ℕ, [], ◌∷◌, List, map, refl, ap, subst, ◌∙◌, codes, None}
 use Rattle.std.specs.Prelude.{IsTrue}
@@ -13,7 +13,7 @@ use Rattle.rustc_parse_format.specs.Literal.{content_value, placed_characters}
 use Rattle.rustc_parse_format.specs.Source.{spells}
 use Rattle.rustc_parse_format.proofs.Literals.Contents.{units-only, units-no_content}
 
--- each definition that finds the units of a text, or says what they stand for
+-- each definition that finds the units of a text, or says their values
 unfoldable pub finding_units : Unit {0}
 unfolding spells units unit_at escape_at byte_at unicode_at
 finding_units = tt
@@ -119,8 +119,8 @@ carriage_return-begins_no_continuation = no_units _ refl
 continuation-leaves_no_white_space : ¬
     (IsContent (codes "\\\n b") (Continuation [] ∷ Plain (code " ") ∷ Plain (code "b") ∷ []))
 continuation-leaves_no_white_space (r, well_formed, takes_all, split, rest) =
-    let behind : r ≡ codes " b" = cc in
-    false≢true (subst (λ s. IsTrue (may_precede (Continuation []) s)) behind takes_all)
+    let rest_after : r ≡ codes " b" = cc in
+    false≢true (subst (λ s. IsTrue (may_precede (Continuation []) s)) rest_after takes_all)
 
 continuation-takes_no_letter : ¬ (IsContent (codes "\\\n b") (Continuation (codes " b") ∷ []))
 continuation-takes_no_letter h = false≢true h.1

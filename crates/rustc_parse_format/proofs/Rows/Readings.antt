@@ -25,7 +25,7 @@ use Rattle.rustc_parse_format.proofs.Rows.Definitions.{computing}
 use Rattle.rustc_parse_format.proofs.Walking.Walks.{Faultless, bare_pieces, faultless-reads}
 use Rattle.rustc_parse_format.proofs.Walking.Walks.{reads-faultless}
 
--- What computing finds decides whether a text is in the grammar.
+-- The faults that computing finds decide whether a text is in the grammar.
 abbrev is_none : List (Fault Span) → Bool
 is_none [] = true
 is_none (f ∷ fs) = false

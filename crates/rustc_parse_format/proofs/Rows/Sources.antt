@@ -17,7 +17,7 @@ in_quotes : (content : Text) (us : List LiteralUnit) → units content ≡ Some 
     → IsLiteral None (ordinary_frame content) (content_value us)
 in_quotes content us e = (content, us, refl, units-content content us e, refl)
 
--- What computing denies is not so.
+-- There is no source where computing denies it.
 no_source : (input : Text) (style : Option ℕ) (snippet : Text) (appended : Bool)
     → is_source input style (Some snippet) appended ≡ false →
     ¬ (HasSource input style (Some snippet) appended)
@@ -81,7 +81,7 @@ hashes-are_no_more_than_named : ¬ (HasSource [] (Some 1) (Some (codes "r##\"\"#
 unfolding is_source
 hashes-are_no_more_than_named = no_source [] (Some 1) (codes "r##\"\"##") false refl
 
--- An appended newline is in the input, and not in the literal.
+-- An appended newline is in the input but not in the literal.
 appended_newline-is_not_in_the_literal : HasSource (codes "a\n") (Some 1)
     (Some (codes "r#\"a\"#")) true
 appended_newline-is_not_in_the_literal = (codes "a", refl, refl)

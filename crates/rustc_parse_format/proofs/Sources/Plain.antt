@@ -1,4 +1,4 @@
--- A content that is as long as what it stands for has no escapes, so its places are those of a
+-- A content that is as long as its value has no escapes, so its places are those of a
 -- plain text.
 use Rattle.std.proofs.Common.{◌≡◌, ◌++◌, ◌+◌, ◌≤◌, ◌<◌, ℕ, suc, Bool, true, false, List, [], ◌∷◌}
 use Rattle.std.proofs.Common.{refl, sym, ap, ◌∙◌, arith, Option, Some, None, IsTrue}
@@ -19,7 +19,7 @@ use Rattle.rustc_parse_format.specs.World.{newline_places, ordinary_end, ordinar
 use Rattle.rustc_parse_format.specs.World.{plain_world}
 use Rattle.rustc_parse_format.proofs.Literals.Widths.{width-append, width-cons}
 
--- a unit is one character that stands for itself, or longer than what it stands for
+-- a unit is one character that stands for itself, or longer than its value
 abbrev IsPlainOrLonger : LiteralUnit → Type 0
 IsPlainOrLonger u = ((c : ℕ) × (u ≡ Plain c)) ⊎ (byte_length (value u) < byte_length (spelling u))
 
@@ -27,7 +27,7 @@ IsPlainOrLonger u = ((c : ℕ) × (u ≡ Plain c)) ⊎ (byte_length (value u) < 
 width-one : (c : ℕ) → byte_length (c ∷ []) ≡ len_utf8 c
 width-one c = omega (arith, width-cons c [])
 
--- what a letter stands for is itself, or of one byte
+-- the character that a letter stands for takes no more bytes than the letter
 width-escaped : (l : ℕ) → byte_length (at_most_one (escaped l)) ≤ len_utf8 l
 width-escaped l =
     cond_both {A = Option ℕ} (l == 110) _ _ (λ o. byte_length (at_most_one o) ≤ len_utf8 l)
@@ -79,7 +79,7 @@ longer (ByteEscape h l) w =
 longer (UnicodeEscape w) h = inr (unicode-longer w h)
 longer (Continuation w) h = inr (omega (arith, width-cons 92 (10 ∷ w), width-cons 10 w))
 
--- no unit is shorter than what it stands for
+-- no unit is shorter than its value
 not_shorter : (u : LiteralUnit) → IsPlainOrLonger u → byte_length (value u)
     ≤ byte_length (spelling u)
 not_shorter u (inl (c, e)) = rw e (omega arith)
@@ -98,7 +98,7 @@ content-not_shorter t (u ∷ us) (r, w, m, e, rest) = omega (
   width-append (spelling u) r,
 )
 
--- the unit at the front of a content that is as long as what it stands for is a character that
+-- the unit at the front of a content that is as long as its value is a character that
 -- stands for itself
 front-plain : (u : LiteralUnit) (t r : Text) (us : List LiteralUnit) → IsPlainOrLonger u
     → t ≡ spelling u ++ r → IsContent r us →
@@ -112,7 +112,7 @@ front-plain u t r us (inr h) e rest n = absurd (omega (
   width-append (spelling u) r,
 ))
 
--- the places of a content that is as long as what it stands for
+-- the places of a content that is as long as its value
 pub content-plain : (at : ℕ) (t : Text) (us : List LiteralUnit) → IsContent t us
     → byte_length t ≡ byte_length (content_value us) →
     content_places at us ≡ plain_places at (content_value us)

@@ -122,7 +122,7 @@ is_wide t = of_unit (unit_at t) refl
     of_unit (Some (u, r)) e = of_value u (value u) r (unit_at-front t u r e).split
         (ap (λ o. unit_width t (meaning o)) e)
 
--- What is left after the continuations at the front: they take some text, and stand for nothing.
+-- The units after the continuations at the front, which take some text and stand for nothing.
 pub record IsAfter (us vs : List LiteralUnit) : Type 0 where
   pub front : Text
   pub split : spelled_units us ≡ front ++ spelled_units vs

@@ -1,4 +1,4 @@
--- The world of what a parser is given, by what the search for its source literal returns.
+-- The world of the input of a parser, by what the search for its source literal returns.
 use Rattle.std.proofs.Common.{◌≡◌, ◌+◌, ◌++◌, ◌&&◌, ℕ, Bool, true, false, [], refl, sym, ap, ◌∙◌}
 use Rattle.std.proofs.Common.{◌∷◌, arith, Option, Some, None, IsTrue, if◌then◌else◌}
 use Rattle.std.proofs.Common.{chars, string_bytes}
@@ -56,7 +56,7 @@ kept-literal source s ((t, (content, us, frame, is_content, value), e), f) = rec
   ending = f ∙ ap ordinary_end (frame-units s content us frame is_content);
 }
 
--- a literal that is not longer than what it stands for
+-- a literal that is not longer than its value
 width-frame : (q : Text) → byte_length (ordinary_frame q) ≡ byte_length q + 2
 width-frame q = omega (
   arith,
@@ -98,7 +98,7 @@ kept-plain source s k n =
     rw (found, k.ending, ← k.stands_for)
     (sym (ordinary-plain k.content k.units source.appended_newline k.is_content long))
 
--- what is kept
+-- the snippet that is kept
 abbrev pub kept_of : Option ℕ → Text → Option ℕ → Option (String Global) → Bool
     → Option (String Global)
 kept_of o input style snippet appended = if is_some o

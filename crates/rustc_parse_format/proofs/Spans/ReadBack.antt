@@ -40,7 +40,7 @@ newline-start [] e a false = refl
 newline-start (p ∷ ps) e zero b = refl
 newline-start (p ∷ ps) e (suc a) b = newline-start ps e a b
 
--- Where the character ends behind a others: that of the text, or the newline.
+-- Where the character ends after a others: that of the text, or the newline.
 abbrev pub IsStop : List Place → ℕ → ℕ → ℕ → Type 0
 IsStop ps e a s = (s ≡ stop ps e a) ⊎ ((length ps ≤ a) × (s ≡ suc e))
 
@@ -138,7 +138,7 @@ mark-order q us b n i (End k) h l =
       )
     ]
 
--- No mark stands more than a byte behind the end of the text.
+-- No mark stands more than a byte after the end of the text.
 pub mark-inside : (q : ℕ) (us : List LiteralUnit) (b : Bool) (n : ℕ) (m : Mark)
     → n ≡ length (content_value us ++ newline b) →
     number_of (unit_world q us b) m ≤ suc (ends q us)
@@ -157,7 +157,7 @@ mark-inside q us b n (End k) h =
       | inr (j, s) ↦ omega (arith, s)
     ]
 
--- what follows a front of t in a longer one
+-- the text that follows a front of t in a longer one
 after-take : (a b : ℕ) (t z : Text) → a ≤ b → take a t ++ z ≡ take b t → z ≡ drop a (take b t)
 after-take zero b t z h e = e
 after-take (suc a) zero t z h e = absurd (omega arith)

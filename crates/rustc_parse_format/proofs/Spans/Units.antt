@@ -1,5 +1,5 @@
--- The places of the characters of a content are in order. What the units before a place stand for,
--- and those in a byte range.
+-- The places of the characters of a content are in order. The text that the units before a place
+-- stand for, and that of those in a byte range.
 use Rattle.std.proofs.Common.{◌≡◌, ℕ, suc, zero, ◌+◌, ◌≤◌, ◌<◌, ◌++◌, ◌&&◌, ◌⊎◌, inl, inr, Bool}
 use Rattle.std.proofs.Common.{true, false, if◌then◌else◌, List, [], ◌∷◌, take, get_or}
 use Rattle.std.proofs.Common.{refl, sym, ap, ◌∙◌, arith}
@@ -25,7 +25,7 @@ abbrev pub IsOrdered : ℕ → List Place → ℕ → Type 0
 IsOrdered lo [] e = lo ≤ e
 IsOrdered lo (p ∷ ps) e = (lo ≤ p.0) × (p.0 ≤ p.1) × IsOrdered p.1 ps e
 
--- where the character behind a of them starts, and where it ends; behind all of them that is e
+-- where the character after a of them starts, and where it ends; after all of them that is e
 abbrev pub start : List Place → ℕ → ℕ → ℕ
 start ps e a = (get_or ps a (e, e)).0
 
@@ -53,7 +53,7 @@ stop-end lo [] e a o = omega arith
 stop-end lo (p ∷ ps) e zero o = ordered-end p.1 ps e o.2
 stop-end lo (p ∷ ps) e (suc a) o = stop-end p.1 ps e a o.2
 
--- a character starts before one behind it does
+-- a character starts before one after it does
 pub start-start : (lo : ℕ) (ps : List Place) (e a b : ℕ) → a ≤ b → IsOrdered lo ps e
     → start ps e a ≤ start ps e b
 start-start lo [] e a b h o = omega arith
@@ -83,7 +83,7 @@ content-ordered lo at us h =
     in_order-ordered lo (content_places at us)
     (in_order-earlier lo at (content_places at us) h (content-in_order at us))
 
--- what is held or not, where nothing is
+-- nothing is in front of a text in either case of a test
 nothing_either : (b : Bool) (t : Text) → (if b then [] else []) ++ t ≡ t
 nothing_either true t = refl
 nothing_either false t = refl
@@ -105,7 +105,7 @@ before-none s at (u ∷ us) h =
     let late : s < past at u = omega (arith, past-lt at u) in
     rw (lt-leb (past at u) s late) (before-none s (past at u) us (omega arith))
 
--- Behind the end stand all characters.
+-- After the end stand all characters.
 pub before-all : (lo at : ℕ) (us : List LiteralUnit) (e s : ℕ)
     → IsOrdered lo (content_places at us) e → e ≤ s → before s at us ≡ content_value us
 before-all lo at [] e s o h = refl
@@ -122,7 +122,7 @@ before-all lo at (u ∷ us) e s o h =
           ∙ (ap (λ t. c ∷ t) (before-all (past at u) (past at u) us e s k.2 h) ∙ rw z refl))
     ]
 
--- Either end of a place, and how many characters are in front of that end of the one behind a
+-- Either end of a place, and how many characters are in front of that end of the one after a
 -- others.
 abbrev pub edge : Bool → Place → ℕ
 edge false p = p.0
@@ -189,7 +189,7 @@ abbrev pub IsApart : ℕ → List Place → Type 0
 IsApart s [] = ⊤
 IsApart s (p ∷ ps) = ((p.1 ≤ s) ⊎ (s ≤ p.0)) × IsApart s ps
 
--- What comes later is apart, and so is where a character starts.
+-- A byte is apart from characters that start later, and so is the start of a character.
 apart-later : (s lo : ℕ) (ps : List Place) (e : ℕ) → s ≤ lo → IsOrdered lo ps e → IsApart s ps
 apart-later s lo [] e h o = tt
 apart-later s lo (p ∷ ps) e h o =
@@ -206,8 +206,8 @@ inside-nothing : (p : Place) (at : ℕ) (u : LiteralUnit) (us : List LiteralUnit
 inside-nothing p at u us z =
     rw z (nothing_either (nat_le p.0 at && nat_le (past at u) p.1) (inside p (past at u) us))
 
--- Where s lies inside no place, what is before a later byte is what is before s, and then what is
--- in the range.
+-- Where s lies inside no place, the text before a later byte is that before s and then that in the
+-- range.
 pub before-inside : (s r at : ℕ) (us : List LiteralUnit) → s ≤ r
     → IsApart s (content_places at us) →
     before s at us ++ inside (s, r) at us ≡ before r at us

@@ -1,5 +1,5 @@
--- What the iterator over the pieces returns until it ends, if no allocation fails: the walk of its
--- parser.
+-- The iterator over the pieces returns those of the walk of its parser until it ends, if no
+-- allocation fails.
 use Rattle.std.proofs.Common.{◌≡◌, ◌∙◌, false, List, [], ◌∷◌, ap, map, refl, subst, sym, None}
 use Rattle.std.specs.Prelude.{Ok}
 use Rattle.std.specs.Iterator.{YieldsThen}

@@ -1,4 +1,4 @@
--- The relation of a call to the grammar: it returns the piece that begins what is left, finds a
+-- The relation of a call to the grammar: it returns the piece that begins the rest, finds a
 -- fault if there is none, or is at the end.
 use Rattle.std.proofs.Common.{◌≡◌, ◌≢◌, ◌<◌, ◌≤◌, ◌+◌, ℕ, [], length, Option, Some, None, IsNone}
 use Rattle.std.proofs.Common.{◌∷◌, false, refl, ap, ◌∙◌, codes, arith}
@@ -26,7 +26,7 @@ use Rattle.rustc_parse_format.proofs.Walking.Progress.{call-lt, call_next-le}
 use Rattle.rustc_parse_format.proofs.Walking.StateWalks.{after-same, after-more}
 use Rattle.rustc_parse_format.proofs.Lines.StateLines.{at_end}
 
--- what holds of a result where two facts do
+-- a property of a result that follows from two facts
 pub if_ok : {A E : Type 0} {P Q : A → Type 0} {X : Type 0} (r : Result A E) → IfOk r P → OnOk r X
     → ((a : A) → P a → X → Q a) → IfOk r Q
 if_ok (Ok a) p x f = f a p x

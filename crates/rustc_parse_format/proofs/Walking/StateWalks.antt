@@ -1,4 +1,4 @@
--- What a loop over the calls of a parser needs, and how one call changes the errors.
+-- The facts that a loop over the calls of a parser needs, and how one call changes the errors.
 use Rattle.std.proofs.Common.{◌≡◌, ◌≢◌, ◌<◌, List, [], ◌∷◌, length, refl, ap, arith, Some, None}
 use Rattle.rustc_parse_format.specs.Marks.{Span}
 use Rattle.rustc_parse_format.specs.Types.{Piece}

@@ -2,7 +2,7 @@ use Rattle.std.proofs.Common.{◌≡◌, ◌++◌, chars, flat_map, length, stri
 use Rattle.rustc_parse_format.specs.Written.{written}
 use Rattle.rustc_parse_format.proofs.written.put_all_written.Given as goal
 
--- What is written, with what is left, is the text.
+-- The characters written and then the rest are all of the text.
 abbrev pub invariant-loop-c : goal.invariant-loop-c
 invariant-loop-c l = string_bytes l.out ++ flat_map written l.rest
     ≡ string_bytes l.fn.out ++ flat_map written (chars l.fn.text)

@@ -4,8 +4,8 @@ use Rattle.rustc_parse_format.proofs.cursor.Cursor.new.Goals as goal
 
 pub invariant_of-result : goal.invariant_of-result
 invariant_of-result c = (
-  first_anchored c.args.source c.args.input.now c.first_anchor-anchor.result c.utf8.input
-      c.requires.input c.requires.fits
+  first_anchored c.args.source c.args.ahead.rest.text.now c.first_anchor-anchor.result
+      c.requires.left c.requires.fits
       c.first_anchor-anchor.ensures.rest c.first_anchor-anchor.ensures.anchor c.requires.kept,
-  rw (c.new.ensures, c.requires.input) (counted_first _),
+  rw (c.requires.first, c.requires.input) (counted_first _),
 )

@@ -1,22 +1,12 @@
 use Rattle.std.proofs.Common.{rules, chars}
-use Rattle.rustc_parse_format.specs.Characters.{front}
 use Rattle.rustc_parse_format.specs.Classes.{passes}
-use Rattle.rustc_parse_format.proofs.Grammar.Fronts.{front-behind}
-use Rattle.rustc_parse_format.proofs.Readers.Steps.{counted_on, behind-part}
+use Rattle.rustc_parse_format.proofs.Readers.Steps.{counted_on, rest_after-part}
 use Rattle.rustc_parse_format.proofs.cursor.Cursor.skip_while.Goals as goal
-
-pub count_before-requires : goal.count_before-requires
-count_before-requires c =
-    let t = chars c.self.inside.rest.now in (
-      front (passes c.args.class) t,
-      rw c.behind_while-rest.ensures.rest (front-behind (passes c.args.class) t),
-    )
 
 pub invariant_of-self : goal.invariant_of-self
 invariant_of-self c =
-    let t = chars c.self.inside.rest.now in
-    let passed = rw c.behind_while-rest.ensures.rest at c.count_before.ensures in (
+    let m = c.skip_while.ensures.moves in
+    let part = rest_after-part (passes c.args.class) (chars c.self.inside.ahead.rest.text.now) in (
       search rules,
-      rw (c.behind_while-rest.ensures.rest, c.pass.ensures)
-          (counted_on _ _ _ _ _ passed (behind-part (passes c.args.class) t) c.self.invariant.1),
+      rw m.rest (counted_on _ _ _ _ _ m.made m.left part c.self.invariant.1),
     )

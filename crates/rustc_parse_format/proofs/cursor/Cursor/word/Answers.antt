@@ -1,44 +1,11 @@
-use Rattle.std.proofs.Common.{◌∙◌, rules, ap, chars, refl, sym}
-use Rattle.rustc_parse_format.specs.Characters.{word}
-use Rattle.rustc_parse_format.specs.Midway.{Unread}
-use Rattle.rustc_parse_format.proofs.Grammar.Fronts.{word-behind}
-use Rattle.rustc_parse_format.proofs.Readers.Steps.{counted_on, behind_word-part}
+use Rattle.std.proofs.Common.{rules, chars}
+use Rattle.rustc_parse_format.proofs.Readers.Steps.{counted_on, after_word-part}
 use Rattle.rustc_parse_format.proofs.cursor.Cursor.word.Goals as goal
-use Rattle.rustc_parse_format.proofs.cursor.Cursor.word.Goals.{then-is_underscore}
-use Rattle.rustc_parse_format.proofs.cursor.Cursor.word.Goals.{else-is_underscore}
-
-pub count_before-requires : goal.count_before-requires
-count_before-requires c =
-    let t = chars c.self.inside.rest.now in
-    (word t, rw c.split_word.ensures.rest (word-behind t))
 
 pub invariant_of-self : goal.invariant_of-self
 invariant_of-self c =
-    let t = chars c.self.inside.rest.now in
-    let passed = rw c.split_word.ensures.rest at c.count_before.ensures in (
+    let m = c.word.ensures.moves in
+    let part = after_word-part (chars c.self.inside.ahead.rest.text.now) in (
       search rules,
-      rw (c.split_word.ensures.rest, c.pass.ensures)
-          (counted_on _ _ _ _ _ passed (behind_word-part t) c.self.invariant.1),
+      rw m.rest (counted_on _ _ _ _ _ m.made m.left part c.self.invariant.1),
     )
-
-pub place_before-requires : goal.place_before-requires
-place_before-requires c =
-    let t = chars c.self.inside.rest.now in (
-      word t,
-      sym (ap (λ (u : Unread). u.rest) c.self.view_is)
-          ∙ rw c.split_word.ensures.rest (word-behind t),
-    )
-
-pub returns-clause-value : goal.returns-clause-value
-returns-clause-value c =
-    c.split_word.ensures.word ∙ ap (λ (u : Unread). word u.rest) c.self.view_is
-
-pub returns-clause-underscore : goal.returns-clause-underscore
-returns-clause-underscore c =
-    let read = c.split_word.ensures.word ∙ ap (λ (u : Unread). word u.rest) c.self.view_is in
-    let test = rw read at c.is_underscore.ensures in
-    elim c.if-is_underscore.branch [
-      | then-is_underscore w ↦
-          rw (w.underscore-is, sym test ∙ w.if-is_underscore.true) (search rules)
-      | else-is_underscore w ↦ rw (w.underscore-is, sym test ∙ w.if-is_underscore.false) refl
-    ]

@@ -13,19 +13,20 @@ fewer t h = rw (encodes-chars t h) at (length-le-encodes (chars t))
 
 pub invariant_of-result : goal.invariant_of-result
 invariant_of-result c =
-    rw (c.new.ensures, c.new-cursor.ensures) (
+    rw (c.new-2.ensures, c.new-cursor.ensures, c.source_of-source.ensures.input) (
       omega (arith, fewer c.args.input.now c.utf8.input),
       (refl, refl, refl),
     )
 
 pub returns-clause-short : goal.returns-clause-short
-returns-clause-short c = rw (c.new.ensures, c.new-cursor.ensures)
+returns-clause-short c =
+    rw (c.new-2.ensures, c.new-cursor.ensures, c.source_of-source.ensures.input)
     (fewer c.args.input.now c.utf8.input)
 
 pub returns-clause-source : goal.returns-clause-source
 returns-clause-source c =
     rw (
-      c.new.ensures,
+      c.new-2.ensures,
       c.new-cursor.ensures,
       c.source_of-source.ensures.world,
       has_source-is (chars c.args.input.now) c.args.style
@@ -36,7 +37,7 @@ returns-clause-source c =
 
 pub returns-clause-end : goal.returns-clause-end
 returns-clause-end c =
-    rw (c.new.ensures, c.new-cursor.ensures, c.source_of-source.ensures.world)
+    rw (c.new-2.ensures, c.new-cursor.ensures, c.source_of-source.ensures.world)
     (world-end (chars c.args.input.now) c.args.style
     (seen_snippet c.args.snippet) c.args.appended_newline)
 
@@ -45,12 +46,12 @@ returns-clause-lies_inside c source e h =
     fresh_lies_inside (seen_mode c.args.mode) (chars c.args.input.now) c.args.style
     (seen_snippet c.args.snippet) source c.args.appended_newline
     _ (rw (
-      c.new.ensures,
+      c.new-2.ensures,
       c.new-cursor.ensures,
       c.source_of-source.ensures.world,
       c.source_of-source.ensures.input,
       c.quote_offset.ensures,
-      c.new-2.ensures.0,
-      c.new-2.ensures.1,
-      c.new-2.ensures.2,
+      c.new-3.ensures.0,
+      c.new-3.ensures.1,
+      c.new-3.ensures.2,
     ) refl) e h

@@ -57,7 +57,7 @@ returns-clause-worlds c = if_ok c.step.result c.step.ensures.piece c.step.ensure
           ∙ after_errors c.args.self.now (next_call c.args.self.now),
     ))
 
--- What is left is a suffix of the input.
+-- The rest is a suffix of the input.
 rest : (c : goal.After-step) → IsRest c.args.self.now.input c.args.self.now.rest
 rest c = record { front = c.reads_its_input.ensures.0; whole = c.reads_its_input.ensures.1 }
 

@@ -4,7 +4,7 @@ use Rattle.rustc_parse_format.proofs.Literals.Meanings.{meaning-narrower}
 use Rattle.rustc_parse_format.proofs.Sources.Contents.{newline-width, width-read}
 use Rattle.rustc_parse_format.proofs.source.anchor.character_width.Goals as goal
 
--- What was read.
+-- The unit that was read.
 read : (c : goal.After-len) → meaning (unit_at c.new-rest.result)
     ≡ Some (c.in-Some-Some.field-0-0 ∷ [], c.read_unit.new.rest)
 read c = rw c.in-Some-Some.field-0-is at c.in-Some-Some.ensures
