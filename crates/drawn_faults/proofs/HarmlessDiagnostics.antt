@@ -1,98 +1,40 @@
 -- The drawing of a diagnostic without its colours is the one without colours, and a terminal obeys
 -- no character of that, but for line feeds.
-use Rattle.std.proofs.Common.{◌≡◌, ◌∙◌, ◌-◌, ◌∷◌, ◌&&◌, ◌==◌, ℕ, suc, zero, [], false, true}
-use Rattle.std.proofs.Common.{Bool, List, None, Option, Some, ap, chars, codes, cond}
-use Rattle.std.proofs.Common.{◌+◌, if◌then◌else◌, length, map, nat_lt, refl, replicate, subst, sym}
+use Rattle.std.proofs.Common.{◌≡◌, ◌∙◌, ◌∷◌, ◌&&◌, ◌==◌, ℕ, [], false, true, Bool, List, None}
+use Rattle.std.proofs.Common.{Option, Some, ap, chars, codes, cond, ◌+◌, if◌then◌else◌, length, map}
+use Rattle.std.proofs.Common.{refl, subst, sym}
 use Rattle.std.specs.Prelude.{decimal, unwrap_or}
 use Rattle.std.specs.Option.{option_map_or}
-use Rattle.std.specs.Str.{NonePass}
 use Rattle.rustc_parse_format.specs.Characters.{Text}
 use Rattle.rustc_parse_format.specs.World.{Place}
 use Rattle.drawn_faults.specs.Diagnostics.{Diagnostic, Help, Note, SourceLabel, diagnostic_text}
-use Rattle.drawn_faults.specs.Diagnostics.{drawn_in, each_in_line, first_spot, frame_of}
-use Rattle.drawn_faults.specs.Diagnostics.{gap_after, gutter_of, helps_rows, in_line}
-use Rattle.drawn_faults.specs.Diagnostics.{indented, label_of, labels_rows, last_edit_line}
-use Rattle.drawn_faults.specs.Diagnostics.{last_help_line, last_label_line, last_line_of}
-use Rattle.drawn_faults.specs.Diagnostics.{last_note_line}
+use Rattle.drawn_faults.specs.Diagnostics.{drawn_in, each_in_line, first_spot, frame_of, gap_after}
+use Rattle.drawn_faults.specs.Diagnostics.{gutter_of, helps_rows, in_line, indented, label_of}
+use Rattle.drawn_faults.specs.Diagnostics.{labels_rows, last_edit_line, last_help_line}
+use Rattle.drawn_faults.specs.Diagnostics.{last_label_line, last_line_of, last_note_line}
 use Rattle.drawn_faults.specs.Diagnostics.{level_word, lower, lowest, marked_lines, next_line}
 use Rattle.drawn_faults.specs.Diagnostics.{note_gutter, notes_rows, parting_above, placed_edit}
 use Rattle.drawn_faults.specs.Diagnostics.{plain_note, shown_label, shown_note, titled}
-use Rattle.drawn_faults.specs.Glyphs.{IsHarmless, glyph, glyph_count, glyphs, is_obeyed}
-use Rattle.drawn_faults.specs.Labels.{Frame, Label, cut_of, line_indent, mark}
-use Rattle.drawn_faults.specs.Marks.{Hung, bars, cells, depth, hang, has_text, hung_row}
-use Rattle.drawn_faults.specs.Marks.{hung_rows, hung_texts, is_right_of, mark_rows, put_at}
-use Rattle.drawn_faults.specs.Marks.{put_from, rows_below, rows_of, side_texts, sign_row, signs_of}
-use Rattle.drawn_faults.specs.Marks.{sorted, with_bar, with_hung_text, with_mark}
-use Rattle.drawn_faults.specs.Marks.{with_side_text, with_signs}
-use Rattle.drawn_faults.specs.Painting.{IsColourOf, IsHarmlessWith}
-use Rattle.drawn_faults.specs.Places.{Picture, extent, uncoloured}
-use Rattle.drawn_faults.specs.Rows.{Mark, cell, is_covered, space, style_of, text_style, under}
-use Rattle.drawn_faults.specs.Rows.{written}
-use Rattle.drawn_faults.specs.declared.cells.Cell.{Cell}
-use Rattle.drawn_faults.specs.declared.paint.Gutter.{Gutter}
-use Rattle.drawn_faults.specs.declared.paint.Palette.{Palette}
-use Rattle.drawn_faults.specs.declared.paint.Palette.TheVariants.{Colourless}
-use Rattle.drawn_faults.specs.declared.paint.Style.{Style}
-use Rattle.drawn_faults.specs.declared.paint.Style.TheVariants.{Bold, Primary}
-use Rattle.drawn_faults.proofs.Coloured.{Quiet, either, join, nothing, of_painted}
-use Rattle.drawn_faults.proofs.Coloured.{of_written, plain}
-use Rattle.drawn_faults.proofs.Harmless.{glyph-harmless, glyphs-harmless, none-glyphs}
-use Rattle.drawn_faults.proofs.Harmless.{join as join_harmless, run-harmless, text as harmless_text}
-use Rattle.drawn_faults.proofs.Harmless.{written-harmless}
+use Rattle.drawn_lines.specs.Glyphs.{IsHarmless, glyph, glyph_count, is_obeyed}
+use Rattle.drawn_lines.specs.Frames.{Frame, cut_of, line_indent}
+use Rattle.drawn_labels.specs.Labels.{Label, mark}
+use Rattle.drawn_labels.specs.Marks.{is_right_of, sorted}
+use Rattle.drawn_lines.specs.Painting.{IsColourOf, IsHarmlessWith}
+use Rattle.drawn_lines.specs.Places.{Picture, extent, uncoloured}
+use Rattle.drawn_labels.specs.Rows.{Mark}
+use Rattle.drawn_lines.specs.declared.paint.Gutter.{Gutter}
+use Rattle.drawn_lines.specs.declared.paint.Palette.{Palette}
+use Rattle.drawn_lines.specs.declared.paint.Palette.TheVariants.{Colourless}
+use Rattle.drawn_lines.specs.declared.paint.Style.TheVariants.{Bold, Primary}
+use Rattle.drawn_lines.proofs.Coloured.{either, join, nothing, of_painted, plain}
+use Rattle.drawn_lines.proofs.Harmless.{glyph-harmless, glyphs-harmless, join as join_harmless}
+use Rattle.drawn_lines.proofs.Harmless.{run-harmless, text as harmless_text, written-harmless}
 use Rattle.drawn_faults.proofs.HarmlessDrawings.{harmless-with, of_arrow, of_note_word}
-use Rattle.drawn_faults.proofs.HarmlessHelps.{of_edits, of_help_word, of_parting}
-use Rattle.drawn_faults.proofs.HarmlessRows.{of_code, of_gap, of_glyphs, of_long}
-use Rattle.drawn_faults.proofs.HarmlessRows.{of_under, off, plain_frame, spaces, text}
-
--- rows of cells
-if_quiet : (b : Bool) (cs ds : List Cell) → Quiet cs → Quiet ds → Quiet (cond b cs ds)
-if_quiet true cs ds p q = p
-if_quiet false cs ds p q = q
-
-quiet-put_at : (n : ℕ) (c : Cell) (row : List Cell) → is_obeyed c.character ≡ false → Quiet row
-    → Quiet (put_at n c row)
-quiet-put_at zero c [] e q = (e, tt)
-quiet-put_at zero c (d ∷ row) e q = (e, q.1)
-quiet-put_at (suc n) c [] e q = (written-harmless 32 refl, quiet-put_at n c [] e tt)
-quiet-put_at (suc n) c (d ∷ row) e q = (q.0, quiet-put_at n c row e q.1)
-
-quiet-put_from : (n : ℕ) (cs row : List Cell) → Quiet cs → Quiet row → Quiet (put_from n cs row)
-quiet-put_from n [] row p q = q
-quiet-put_from n (c ∷ cs) row p q =
-    quiet-put_from (suc n) cs (put_at n c row) p.1 (quiet-put_at n c row p.0 q)
-
-quiet-styled : (s : Style) (t : Text) → NonePass is_obeyed t → Quiet (map (cell s) t)
-quiet-styled s [] p = tt
-quiet-styled s (c ∷ t) p = (p.0, quiet-styled s t p.1)
-
-quiet-text : (s : Style) (t : List ℕ) → Quiet (cells s t)
-quiet-text s t = quiet-styled s (glyphs (chars t)) (none-glyphs (chars t))
-
-quiet-replicate : (n : ℕ) (c : Cell) → is_obeyed c.character ≡ false → Quiet (replicate n c)
-quiet-replicate zero c e = tt
-quiet-replicate (suc n) c e = (e, quiet-replicate n c e)
-
--- labels whose signs are harmless
-abbrev AreSigned : List Mark → Type 0
-AreSigned [] = Unit {0}
-AreSigned (m ∷ ms) = (is_obeyed m.sign ≡ false) × AreSigned ms
-
-with_mark-signed : (before : Mark → Mark → Bool) (m : Mark) (ms : List Mark)
-    → is_obeyed m.sign ≡ false → AreSigned ms → AreSigned (with_mark before m ms)
-with_mark-signed before m [] e p = (e, tt)
-with_mark-signed before m (n ∷ ns) e p =
-    by_test (before m n) (with_mark before m ns) (with_mark-signed before m ns e p.1)
-  where
-    by_test : (b : Bool) (ms : List Mark) → AreSigned ms
-        → AreSigned (cond b (m ∷ n ∷ ns) (n ∷ ms))
-    by_test true ms q = (e, p)
-    by_test false ms q = (p.0, q)
-
-sorted-signed : (before : Mark → Mark → Bool) (done ms : List Mark) → AreSigned done → AreSigned ms
-    → AreSigned (sorted before done ms)
-sorted-signed before done [] p q = p
-sorted-signed before done (m ∷ ms) p q =
-    sorted-signed before (with_mark before m done) ms (with_mark-signed before m done q.0 p) q.1
+use Rattle.drawn_edits.proofs.HarmlessHelps.{of_edits, of_help_word}
+use Rattle.drawn_lines.proofs.HarmlessLines.{of_parting, of_code, of_gap, of_glyphs, off}
+use Rattle.drawn_lines.proofs.HarmlessLines.{plain_frame, spaces, text}
+use Rattle.drawn_labels.proofs.HarmlessRows.{of_long}
+use Rattle.drawn_labels.proofs.HarmlessMarks.{AreSigned, of_marks, sorted-signed}
 
 in_line-signed : (n : ℕ) (ms : List Mark) → AreSigned ms → AreSigned (in_line n ms)
 in_line-signed n [] p = tt
@@ -102,74 +44,6 @@ in_line-signed n (m ∷ ms) p =
     by_test : (b : Bool) (ns : List Mark) → AreSigned ns → AreSigned (cond b (m ∷ ns) ns)
     by_test true ns q = (p.0, q)
     by_test false ns q = q
-
--- rows under a line
-quiet-side_text : (h : Hung) (row : List Cell) → Quiet row → Quiet (with_side_text h row)
-quiet-side_text h row q =
-    if_quiet (has_text h.mark && (h.down == 0))
-    (put_from h.mark.to (space ∷ cells (text_style h.mark) h.mark.text) row) row
-    (quiet-put_from h.mark.to (space ∷ cells (text_style h.mark) h.mark.text) row
-    (written-harmless 32 refl, quiet-text (text_style h.mark) h.mark.text) q) q
-
-quiet-side_texts : (hs : List Hung) (row : List Cell) → Quiet row → Quiet (side_texts hs row)
-quiet-side_texts [] row q = q
-quiet-side_texts (h ∷ hs) row q =
-    quiet-side_texts hs (with_side_text h row) (quiet-side_text h row q)
-
-quiet-signs : (ms : List Mark) (row : List Cell) → AreSigned ms → Quiet row
-    → Quiet (with_signs ms row)
-quiet-signs [] row p q = q
-quiet-signs (m ∷ ms) row p q =
-    quiet-signs ms (put_from m.from (signs_of m) row) p.1
-    (quiet-put_from m.from (signs_of m) row
-    (quiet-replicate (m.to - m.from) (cell (style_of m) m.sign) p.0) q)
-
-quiet-sign_row : (ms : List Mark) (hs : List Hung) → AreSigned ms → Quiet (sign_row ms hs)
-unfolding sign_row
-quiet-sign_row ms hs p =
-    quiet-signs (sorted is_covered [] ms) (side_texts hs [])
-    (sorted-signed is_covered [] ms tt p) (quiet-side_texts hs [] tt)
-
-quiet-bars : (n : ℕ) (hs : List Hung) (row : List Cell) → Quiet row → Quiet (bars n hs row)
-quiet-bars n [] row q = q
-quiet-bars n (h ∷ hs) row q =
-    quiet-bars n hs (with_bar n h row) (if_quiet (has_text h.mark && nat_lt n h.down)
-    (put_at h.mark.from (cell (style_of h.mark) 124) row) row
-    (quiet-put_at h.mark.from (cell (style_of h.mark) 124) row (written-harmless 124 refl) q) q)
-
-quiet-texts : (n : ℕ) (hs : List Hung) (row : List Cell) → Quiet row → Quiet (hung_texts n hs row)
-quiet-texts n [] row q = q
-quiet-texts n (h ∷ hs) row q =
-    quiet-texts n hs (with_hung_text n h row)
-    (if_quiet (has_text h.mark && (nat_lt 0 h.down && (n == h.down)))
-    (put_from h.mark.from (cells (text_style h.mark) h.mark.text) row) row
-    (quiet-put_from h.mark.from (cells (text_style h.mark) h.mark.text) row
-    (quiet-text (text_style h.mark) h.mark.text) q) q)
-
-of_hung_row : (g : Gutter) (n : ℕ) (hs : List Hung)
-    → IsColourOf (under g (written g.palette (hung_row n hs)))
-    (under (off g) (written Colourless (hung_row n hs)))
-of_hung_row g n hs =
-    of_under g (of_written g.palette (hung_row n hs)
-    (quiet-texts n hs (bars n hs []) (quiet-bars n hs [] tt)))
-
-of_hung_rows : (g : Gutter) (n : ℕ) (hs : List Hung)
-    → IsColourOf (hung_rows g n hs) (hung_rows (off g) n hs)
-of_hung_rows g zero hs = nothing
-of_hung_rows g (suc n) hs = join (of_hung_rows g n hs) (of_hung_row g n hs)
-
-of_rows_below : (g : Gutter) (n : ℕ) (hs : List Hung)
-    → IsColourOf (rows_below g n hs) (rows_below (off g) n hs)
-of_rows_below g n hs =
-    either (n == 0) nothing (join (of_hung_rows g n hs) (of_hung_row g n hs))
-
-of_marks : (g : Gutter) (ms : List Mark) → AreSigned ms
-    → IsColourOf (mark_rows g ms) (mark_rows (off g) ms)
-unfolding mark_rows rows_of
-of_marks g ms p =
-    let hs = hang 0 ms in
-    join (of_under g (of_written g.palette (sign_row ms hs) (quiet-sign_row ms hs p)))
-    (of_rows_below g (depth 0 hs) hs)
 
 -- lines with labels
 of_gap_after : (f : Frame) (o : Option ℕ) (n : ℕ)

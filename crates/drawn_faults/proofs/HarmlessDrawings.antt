@@ -1,8 +1,7 @@
 -- A drawing without its colours is the one without colours, and a terminal obeys no character of
 -- that, but for line feeds: its suggestion, its other parts, and the whole.
-use Rattle.std.proofs.Common.{◌≡◌, ◌+◌, ◌∷◌, ℕ, false, true, Bool, List, None}
-use Rattle.std.proofs.Common.{Option, Some, ap, chars, codes, [], if◌then◌else◌}
-use Rattle.std.proofs.Common.{option_map, refl, subst, sym}
+use Rattle.std.proofs.Common.{◌≡◌, ◌+◌, ◌∷◌, ℕ, false, true, Bool, List, None, Option, Some, ap}
+use Rattle.std.proofs.Common.{chars, codes, [], if◌then◌else◌, option_map, refl, subst, sym}
 use Rattle.std.specs.Prelude.{◌==◌}
 use Rattle.rustc_parse_format.specs.Faults.{Message, Suggestion, Nothing, UsePositional}
 use Rattle.rustc_parse_format.specs.Faults.{RemoveRawIdent, ReorderFormatParameter, AddMissingColon}
@@ -11,27 +10,29 @@ use Rattle.rustc_parse_format.specs.Types.{Mode, Format, InlineAsm, Diagnostic, 
 use Rattle.rustc_parse_format.specs.World.{Place}
 use Rattle.drawn_faults.specs.Drawing.{arrow, below, drawing, head, labelled_rows, laid_out}
 use Rattle.drawn_faults.specs.Drawing.{note_row, note_word, parting_before}
-use Rattle.drawn_faults.specs.Edits.{offered}
-use Rattle.drawn_faults.specs.Glyphs.{IsHarmless, is_obeyed}
-use Rattle.drawn_faults.specs.Labels.{Edit, Frame, Label, edit_of, frame, is_same, mark, primary}
-use Rattle.drawn_faults.specs.Labels.{second, second_text, text_name}
-use Rattle.drawn_faults.specs.Painting.{IsColourOf, IsHarmlessWith}
-use Rattle.drawn_faults.specs.Places.{Picture, extent, uncoloured}
-use Rattle.drawn_faults.specs.Suggestions.{edit_rows, help_rows, help_title}
-use Rattle.drawn_faults.specs.declared.extent.Spot.{Spot}
-use Rattle.drawn_faults.specs.declared.paint.Gutter.{Gutter}
-use Rattle.drawn_faults.specs.declared.paint.Palette.{Palette}
-use Rattle.drawn_faults.specs.declared.paint.Palette.TheVariants.{Colourless}
-use Rattle.drawn_faults.specs.declared.paint.Style.TheVariants.{Bold, Primary}
-use Rattle.drawn_faults.specs.declared.paint.Style.TheVariants.{Secondary}
-use Rattle.drawn_faults.proofs.Coloured.{coloured, either, join, nothing, of_painted}
-use Rattle.drawn_faults.proofs.Coloured.{plain, uncoloured-harmless}
-use Rattle.drawn_faults.proofs.Harmless.{decimal-harmless, glyphs-harmless, join as join_harmless}
-use Rattle.drawn_faults.proofs.Harmless.{text as harmless_text, is_written, written-harmless}
+use Rattle.fault_fixes.specs.Edits.{offered}
+use Rattle.drawn_lines.specs.Glyphs.{IsHarmless, is_obeyed}
+use Rattle.drawn_edits.specs.Edited.{Edit}
+use Rattle.drawn_lines.specs.Frames.{Frame}
+use Rattle.drawn_labels.specs.Labels.{Label, mark}
+use Rattle.drawn_faults.specs.Labels.{edit_of, frame, is_same, primary, second, second_text}
+use Rattle.drawn_faults.specs.Labels.{text_name}
+use Rattle.drawn_lines.specs.Painting.{IsColourOf, IsHarmlessWith}
+use Rattle.drawn_lines.specs.Places.{Picture, extent, uncoloured}
+use Rattle.drawn_edits.specs.Suggestions.{edit_rows, help_rows, help_title}
+use Rattle.drawn_lines.specs.declared.extent.Spot.{Spot}
+use Rattle.drawn_lines.specs.declared.paint.Gutter.{Gutter}
+use Rattle.drawn_lines.specs.declared.paint.Palette.{Palette}
+use Rattle.drawn_lines.specs.declared.paint.Palette.TheVariants.{Colourless}
+use Rattle.drawn_lines.specs.declared.paint.Style.TheVariants.{Bold, Primary, Secondary}
+use Rattle.drawn_lines.proofs.Coloured.{coloured, either, join, nothing, of_painted, plain}
+use Rattle.drawn_lines.proofs.Coloured.{uncoloured-harmless}
+use Rattle.drawn_lines.proofs.Harmless.{decimal-harmless, glyphs-harmless, join as join_harmless}
+use Rattle.drawn_lines.proofs.Harmless.{text as harmless_text, is_written, written-harmless}
 use Rattle.std.specs.List.{list_all}
-use Rattle.drawn_faults.proofs.HarmlessHelps.{of_edits, of_help_word, of_parting}
-use Rattle.drawn_faults.proofs.HarmlessRows.{of_glyphs, of_labelled, of_long}
-use Rattle.drawn_faults.proofs.HarmlessRows.{of_two, off, plain_frame, spaces, text}
+use Rattle.drawn_edits.proofs.HarmlessHelps.{of_edits, of_help_word}
+use Rattle.drawn_lines.proofs.HarmlessLines.{of_parting, of_glyphs, off, plain_frame, spaces, text}
+use Rattle.drawn_labels.proofs.HarmlessRows.{of_labelled, of_long, of_two}
 
 -- a suggestion
 of_title : (p : Palette) (bs : List ℕ) → IsColourOf (help_title p bs) (help_title Colourless bs)

@@ -1,30 +1,29 @@
 -- The drawing of a diagnostic under its source, as bytes, from top to bottom. The layout is that of
 -- rustc 1.95.
-use Rattle.std.specs.Prelude.{ℕ, ◌+◌, ◌++◌, ◌==◌, ◌&&◌, ◌||◌, Bool, true, false}
-use Rattle.std.specs.Prelude.{if◌then◌else◌, max, nat_lt}
-use Rattle.std.specs.Prelude.{min, List, [], ◌∷◌, map, filter, length, Option, Some, None}
-use Rattle.std.specs.Prelude.{unwrap_or}
-use Rattle.std.specs.Prelude.{codes, decimal, chars}
+use Rattle.std.specs.Prelude.{ℕ, ◌+◌, ◌++◌, ◌==◌, ◌&&◌, ◌||◌, Bool, true, false, if◌then◌else◌, max}
+use Rattle.std.specs.Prelude.{nat_lt, min, List, [], ◌∷◌, map, filter, length, Option, Some, None}
+use Rattle.std.specs.Prelude.{unwrap_or, codes, decimal, chars}
 use Rattle.std.specs.Option.{option_map_or}
 use Rattle.rustc_parse_format.specs.Characters.{Text}
 use Rattle.rustc_parse_format.specs.World.{Place}
 use Rattle.drawn_faults.specs.Drawing.{arrow, note_word}
-use Rattle.drawn_faults.specs.Glyphs.{glyph, glyph_bytes, glyph_count, run}
-use Rattle.drawn_faults.specs.Helps.{edits_rows, help_word}
-use Rattle.drawn_faults.specs.Labels.{Edit, Frame, Label, cut_of, line_indent, mark}
-use Rattle.drawn_faults.specs.Labels.{placed}
-use Rattle.drawn_faults.specs.Lines.{code_row, gap, parting}
-use Rattle.drawn_faults.specs.Long.{long_rows}
-use Rattle.drawn_faults.specs.Marks.{is_right_of, mark_rows, sorted}
-use Rattle.drawn_faults.specs.Painting.{painted, palette_of}
-use Rattle.drawn_faults.specs.Places.{Picture, extent, origin}
-use Rattle.drawn_faults.specs.Rows.{Mark}
-use Rattle.drawn_faults.specs.declared.extent.Spot.{Spot}
-use Rattle.drawn_faults.specs.declared.paint.Gutter.{Gutter}
-use Rattle.drawn_faults.specs.declared.paint.Palette.{Palette}
-use Rattle.drawn_faults.specs.declared.paint.Palette.TheVariants.{Colourless, Error, Warning}
-use Rattle.drawn_faults.specs.declared.paint.Palette.TheVariants.{Note as NotePalette}
-use Rattle.drawn_faults.specs.declared.paint.Style.TheVariants.{Bold, Primary}
+use Rattle.drawn_lines.specs.Glyphs.{glyph, glyph_bytes, glyph_count, run}
+use Rattle.drawn_edits.specs.Helps.{edits_rows, help_word}
+use Rattle.drawn_edits.specs.Edited.{Edit, placed}
+use Rattle.drawn_lines.specs.Frames.{Frame, cut_of, line_indent}
+use Rattle.drawn_labels.specs.Labels.{Label, mark}
+use Rattle.drawn_lines.specs.Lines.{code_row, gap, parting}
+use Rattle.drawn_labels.specs.Long.{long_rows}
+use Rattle.drawn_labels.specs.Marks.{is_right_of, mark_rows, sorted}
+use Rattle.drawn_lines.specs.Painting.{painted, palette_of}
+use Rattle.drawn_lines.specs.Places.{Picture, extent, origin}
+use Rattle.drawn_labels.specs.Rows.{Mark}
+use Rattle.drawn_lines.specs.declared.extent.Spot.{Spot}
+use Rattle.drawn_lines.specs.declared.paint.Gutter.{Gutter}
+use Rattle.drawn_lines.specs.declared.paint.Palette.{Palette}
+use Rattle.drawn_lines.specs.declared.paint.Palette.TheVariants.{Colourless, Error, Warning}
+use Rattle.drawn_lines.specs.declared.paint.Palette.TheVariants.{Note as NotePalette}
+use Rattle.drawn_lines.specs.declared.paint.Style.TheVariants.{Bold, Primary}
 
 -- A label: its range, whether the diagnostic is about that range, and its text.
 pub record SourceLabel : Type 0 where
@@ -47,7 +46,7 @@ pub record Help : Type 0 where
   pub text : List ℕ
   pub edits : List SourceEdit
 
--- What is drawn.
+-- The whole diagnostic.
 pub record Diagnostic : Type 0 where
   pub is_warning : Bool
   pub title : List ℕ
@@ -142,7 +141,7 @@ first_spot ls = unwrap_or (first_of None ls) origin
 abbrev pub in_line : ℕ → List Mark → List Mark
 in_line n ms = filter (λ m. m.line == n) ms
 
--- What is between a line that was drawn, if there is one, and the next one.
+-- The rows between a line that was drawn, if there is one, and the next one.
 abbrev pub gap_after : Frame → Option ℕ → ℕ → List ℕ
 gap_after f None n = []
 gap_after f (Some m) n = gap f m n
@@ -185,7 +184,7 @@ titled f colours word title ls =
     ++ (painted colours Bold (codes ": " ++ glyph_bytes title) ++ (codes "\n"
     ++ (arrow f (first_spot ls) ++ (parting f ++ labels_rows f ls))))
 
--- What is after a character of a note: after a line feed the margin of the next line.
+-- The text after a character of a note: after a line feed the margin of the next line.
 abbrev pub margin : Gutter → ℕ → List ℕ
 margin g c = if c == 10 then run g.columns 32 ++ codes "         " else []
 

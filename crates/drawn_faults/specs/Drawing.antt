@@ -5,21 +5,23 @@ use Rattle.std.specs.Prelude.{codes, decimal}
 use Rattle.rustc_parse_format.specs.World.{Place}
 use Rattle.rustc_parse_format.specs.Faults.{Message}
 use Rattle.rustc_parse_format.specs.Types.{Mode}
-use Rattle.drawn_faults.specs.Edits.{offered}
-use Rattle.drawn_faults.specs.Glyphs.{glyph_bytes, run}
-use Rattle.drawn_faults.specs.Painting.{painted}
-use Rattle.drawn_faults.specs.Places.{Picture}
-use Rattle.drawn_faults.specs.Labels.{Label, Edit, Frame, primary, second, edit_of, frame, mark}
-use Rattle.drawn_faults.specs.Labels.{text_name}
-use Rattle.drawn_faults.specs.Lines.{labelled, parting, two_labels}
-use Rattle.drawn_faults.specs.Long.{long_rows}
-use Rattle.drawn_faults.specs.Suggestions.{help_rows}
-use Rattle.drawn_faults.specs.declared.extent.Spot.{Spot}
-use Rattle.drawn_faults.specs.declared.paint.Gutter.{Gutter}
-use Rattle.drawn_faults.specs.declared.paint.Palette.{Palette}
-use Rattle.drawn_faults.specs.declared.paint.Style.TheVariants.{Bold, Primary, Secondary}
+use Rattle.fault_fixes.specs.Edits.{offered}
+use Rattle.drawn_lines.specs.Glyphs.{glyph_bytes, run}
+use Rattle.drawn_lines.specs.Painting.{painted}
+use Rattle.drawn_lines.specs.Places.{Picture}
+use Rattle.drawn_labels.specs.Labels.{Label, mark, labelled, two_labels}
+use Rattle.drawn_edits.specs.Edited.{Edit}
+use Rattle.drawn_lines.specs.Frames.{Frame}
+use Rattle.drawn_faults.specs.Labels.{primary, second, edit_of, frame, text_name}
+use Rattle.drawn_lines.specs.Lines.{parting}
+use Rattle.drawn_labels.specs.Long.{long_rows}
+use Rattle.drawn_edits.specs.Suggestions.{help_rows}
+use Rattle.drawn_lines.specs.declared.extent.Spot.{Spot}
+use Rattle.drawn_lines.specs.declared.paint.Gutter.{Gutter}
+use Rattle.drawn_lines.specs.declared.paint.Palette.{Palette}
+use Rattle.drawn_lines.specs.declared.paint.Style.TheVariants.{Bold, Primary, Secondary}
 
--- What the error is.
+-- The title of the error.
 abbrev pub title : Palette → Mode → List ℕ → List ℕ
 title p mode description =
     painted p Primary (codes "error")
@@ -47,7 +49,7 @@ labelled_rows f l None =
     if l.extent.start.line == l.extent.end.line then labelled f (mark f.cut l) else long_rows f l
 labelled_rows f l (Some s) = two_labels f (mark f.cut l) (mark f.cut s)
 
--- What a note begins with.
+-- The start of a note.
 abbrev pub note_word : Gutter → List ℕ
 note_word g =
     run g.columns 32 ++ (codes " " ++ (painted g.palette Secondary (codes "= ")
@@ -64,7 +66,7 @@ parting_before f None None = []
 parting_before f (Some t) e = parting f
 parting_before f None (Some e) = parting f
 
--- What is below the labels.
+-- The rows below the labels.
 unfoldable pub below : Frame → Option (List ℕ) → Option Edit → List ℕ
 below f note e = parting_before f note e ++ (note_row f.gutter note ++ help_rows f e)
 

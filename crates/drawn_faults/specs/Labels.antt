@@ -1,61 +1,20 @@
--- What is drawn of an error: its labels and its edit, with their places in the source.
-use Rattle.std.specs.Prelude.{ℕ, ◌+◌, ◌-◌, Bool, ◌&&◌, ◌==◌, ◌++◌, if◌then◌else◌, nat_lt, max}
-use Rattle.std.specs.Prelude.{List, length, Option, None, Some, option_map, chars, codes}
-use Rattle.std.specs.Prelude.{decimal}
+-- The labels and the edit of an error, with their places in the source.
+use Rattle.std.specs.Prelude.{ℕ, ◌+◌, Bool, ◌&&◌, ◌==◌, ◌++◌, if◌then◌else◌, nat_lt, max, List}
+use Rattle.std.specs.Prelude.{length, Option, None, Some, option_map, codes, decimal}
 use Rattle.rustc_parse_format.specs.World.{Place}
 use Rattle.rustc_parse_format.specs.Types.{Mode, Format, InlineAsm, Diagnostic, DiagnosticNamed}
 use Rattle.rustc_parse_format.specs.Faults.{Message, Suggestion, Nothing, UsePositional}
 use Rattle.rustc_parse_format.specs.Faults.{RemoveRawIdent, ReorderFormatParameter, AddMissingColon}
 use Rattle.rustc_parse_format.specs.Faults.{UseRustDebugPrintingMacro}
-use Rattle.drawn_faults.specs.Edits.{offered}
-use Rattle.drawn_faults.specs.Glyphs.{indent}
-use Rattle.drawn_faults.specs.Painting.{palette_of}
-use Rattle.drawn_faults.specs.Places.{Extent, Picture, seen_extent, seen_picture, extent, line}
-use Rattle.drawn_faults.specs.Places.{offset}
-use Rattle.drawn_faults.specs.Rows.{Mark}
-use Rattle.drawn_faults.specs.declared.labels.Label.{Label as DeclaredLabel}
-use Rattle.drawn_faults.specs.declared.labels.Edit.{Edit as DeclaredEdit}
-use Rattle.drawn_faults.specs.declared.labels.Frame.{Frame as DeclaredFrame}
-use Rattle.drawn_faults.specs.declared.paint.Gutter.{Gutter}
-use Rattle.drawn_faults.specs.declared.paint.Palette.TheVariants.{Error}
+use Rattle.fault_fixes.specs.Edits.{offered}
+use Rattle.drawn_lines.specs.Painting.{palette_of}
+use Rattle.drawn_lines.specs.Places.{Picture, extent, line}
+use Rattle.drawn_lines.specs.declared.paint.Palette.TheVariants.{Error}
+use Rattle.drawn_edits.specs.Edited.{Edit, placed}
+use Rattle.drawn_labels.specs.Labels.{Label}
+use Rattle.drawn_lines.specs.Frames.{cut_of, Frame, line_indent}
 
--- A label: the sign under its columns, its text, and where it is.
-pub record Label : Type 0 where
-  pub sign : ℕ
-  pub text : List ℕ
-  pub extent : Extent
-
--- A label as a contract sees it.
-abbrev pub seen_label : DeclaredLabel → Label
-seen_label l = record { sign = l.sign; text = l.text.now; extent = seen_extent l.extent }
-
--- An edit: the new text, and of the text that it replaces the places and the byte offsets in the
--- source at which that begins and ends.
-pub record Edit : Type 0 where
-  pub text : List ℕ
-  pub extent : Extent
-  pub from : ℕ
-  pub to : ℕ
-
--- An edit as a contract sees it.
-abbrev pub seen_edit : DeclaredEdit → Edit
-seen_edit e = record {
-  text = e.text.now;
-  extent = seen_extent e.extent;
-  from = e.from;
-  to = e.to;
-}
-
--- An edit of a range of the literal.
-abbrev pub placed : Picture → List ℕ → Place → Edit
-placed p t s = record {
-  text = t;
-  extent = extent p s;
-  from = offset p s.0;
-  to = max (offset p s.0) (offset p s.1);
-}
-
--- What the compiler calls the text of a literal in a mode.
+-- The name of the compiler for the text of a literal in a mode.
 abbrev pub text_name : Mode → List ℕ
 text_name Format = codes "format string"
 text_name InlineAsm = codes "asm template string"
@@ -106,16 +65,6 @@ edit_of p (ReorderFormatParameter s t) = Some (placed p t s)
 edit_of p (AddMissingColon s) = None
 edit_of p UseRustDebugPrintingMacro = None
 
--- How a picture is laid out: the gutter, and how many columns at the start of each line are cut.
-pub record Frame : Type 0 where
-  pub picture : Picture
-  pub gutter : Gutter
-  pub cut : ℕ
-
--- A layout as a contract sees it.
-abbrev pub seen_frame : DeclaredFrame → Frame
-seen_frame f = record { picture = seen_picture f.picture.now; gutter = f.gutter; cut = f.cut }
-
 -- The last line of a label, or the first line of the source without one.
 abbrev pub last_line : Option Label → ℕ
 last_line None = 0
@@ -135,20 +84,12 @@ abbrev pub other_line : Label → Option Label → ℕ
 other_line l None = l.extent.end.line
 other_line l (Some s) = s.extent.start.line
 
--- The indent of a line of the source, unless it is blank.
-abbrev pub line_indent : Picture → ℕ → Option ℕ
-line_indent p n = indent 0 (chars (line n p.source))
-
 -- The least indent, where a blank line has none.
 abbrev pub least : Option ℕ → Option ℕ → ℕ
 least None None = 0
 least None (Some n) = n
 least (Some m) None = m
 least (Some m) (Some n) = if nat_lt n m then n else m
-
--- How many columns are cut of lines with this indent: of a deep one 22 columns are left.
-abbrev pub cut_of : ℕ → ℕ
-cut_of n = if nat_lt 26 n then n - 22 else 0
 
 -- The layout for labels and an edit.
 unfoldable pub frame : Picture → Label → Option Label → Option Edit → Frame
@@ -159,15 +100,4 @@ frame p l s e = record {
     palette = palette_of p.colours Error;
   };
   cut = cut_of (least (line_indent p l.extent.start.line) (line_indent p (other_line l s)));
-}
-
--- A label in the line in which it begins: at least one column.
-unfoldable pub mark : ℕ → Label → Mark
-mark cut l = record {
-  line = l.extent.start.line;
-  from = l.extent.start.column - cut;
-  to = max (l.extent.start.column - cut + 1)
-      (if l.extent.end.line == l.extent.start.line then l.extent.end.column - cut else 0);
-  sign = l.sign;
-  text = l.text;
 }

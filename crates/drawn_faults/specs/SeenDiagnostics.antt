@@ -1,8 +1,8 @@
--- What a contract sees of diagnostics: texts as their bytes, ranges as pairs.
+-- Diagnostics as a contract sees them: texts as their bytes, ranges as pairs.
 use Rattle.std.specs.Prelude.{Bool, true, false, map}
 use Rattle.rustc_parse_format.specs.Seen.{pair}
 use Rattle.drawn_faults.specs.Diagnostics.{Diagnostic, Help, Note, SourceEdit, SourceLabel}
-use Rattle.drawn_faults.specs.declared.fixes.Edit.{Edit as DeclaredEdit}
+use Rattle.fault_fixes.specs.declared.fixes.Edit.{Edit as DeclaredEdit}
 use Rattle.drawn_faults.specs.declared.diagnostics.Level.{Level}
 use Rattle.drawn_faults.specs.declared.diagnostics.Level.TheVariants.{Error, Warning}
 use Rattle.drawn_faults.specs.declared.diagnostics.SourceLabel.{SourceLabel as DeclaredLabel}

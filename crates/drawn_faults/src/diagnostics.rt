@@ -1,22 +1,22 @@
-//! The drawing of a diagnostic under its source: a title, several labels, notes and helps. What
-//! begins with `put_` appends to `out`, and returns `Err` if an allocation fails.
+//! The drawing of a diagnostic under its source: a title, several labels, notes and helps. A
+//! function whose name begins with `put_` appends to `out`, and returns `Err` if an allocation
+//! fails.
 
 ghost use Rattle.std.specs.Prelude.{◌≡◌, ◌++◌, ◌<◌, ◌^◌, IfOk, OnOk, length, map, string_bytes};
 ghost use Rattle.drawn_faults.specs.Diagnostics.{diagnostic_text, drawn_in, gutter_of, label_of};
 ghost use Rattle.drawn_faults.specs.Diagnostics.{level_of, level_word, parting_above};
-ghost use Rattle.drawn_faults.specs.Labels.{seen_frame, seen_label};
-ghost use Rattle.drawn_faults.specs.Painting.{IsColourOf, IsHarmlessWith};
-ghost use Rattle.drawn_faults.specs.Places.{seen_picture, uncoloured};
+ghost use Rattle.drawn_lines.specs.Frames.{seen_frame};
+ghost use Rattle.drawn_labels.specs.Labels.{seen_label};
+ghost use Rattle.drawn_lines.specs.Painting.{IsColourOf, IsHarmlessWith};
+ghost use Rattle.drawn_lines.specs.Places.{seen_picture, uncoloured};
 ghost use Rattle.drawn_faults.specs.SeenDiagnostics.{is_warning, seen_diagnostic};
 ghost use Rattle.drawn_faults.specs.SeenDiagnostics.{seen_source_label};
 
 use crate::helps::{SourceHelp, last_help_line, put_helps};
-use crate::labels::{Frame, Label, digits};
-use crate::lines::put_parting;
 use crate::marked::{frame_of, last_label_line};
 use crate::notes::{SourceNote, last_note_line, put_notes, put_titled};
-use crate::paint::{Gutter, Palette, palette_of};
-use crate::places::Picture;
+use drawn_labels::Label;
+use drawn_lines::{Frame, Gutter, Palette, Picture, digits, extent_of, palette_of, put_parting};
 use std::alloc::{AllocError, Global};
 use std::ops::Range;
 
@@ -64,7 +64,7 @@ fn label_of<'a>(picture: &Picture<'_>, label: &SourceLabel<'a>) -> Label<'a>
     Label {
         sign: if label.is_primary { '^' } else { '-' },
         text: label.text,
-        extent: picture.extent(&label.span),
+        extent: extent_of(picture, &label.span),
     }
 }
 

@@ -1,31 +1,31 @@
-//! The text that shows a fault under its source. What begins with `put_` appends to `out`, and
-//! returns `Err` if an allocation fails.
+//! The text that shows a fault under its source. A function whose name begins with `put_` appends
+//! to `out`, and returns `Err` if an allocation fails.
 
-ghost use Rattle.std.specs.Prelude.{◌≡◌, ◌++◌, ◌<◌, ◌^◌, IfOk, IfSome, None, OnOk, length};
-ghost use Rattle.std.specs.Prelude.{codes, option_map, string_bytes};
+ghost use Rattle.std.specs.Prelude.{◌≡◌, ◌++◌, ◌<◌, ◌^◌, IfOk, IfSome, None, OnOk, length, codes};
+ghost use Rattle.std.specs.Prelude.{option_map, string_bytes};
 ghost use Rattle.rustc_parse_format.specs.Seen.{seen_error, seen_mode};
-ghost use Rattle.drawn_faults.specs.Painting.{IsColourOf, IsHarmlessWith, opening, painted};
-ghost use Rattle.drawn_faults.specs.Places.{seen_picture, uncoloured};
-ghost use Rattle.drawn_faults.specs.Labels.{primary, seen_edit, seen_frame, seen_label};
-ghost use Rattle.drawn_faults.specs.Drawing.{arrow, below, drawing, head, labelled_rows};
-ghost use Rattle.drawn_faults.specs.Drawing.{note_row, note_word, parting_before, title};
-ghost use Rattle.drawn_faults.specs.Suggestions.{help_rows};
-ghost use Rattle.drawn_faults.specs.declared.paint.Style.TheVariants.{Bold, Primary};
+ghost use Rattle.drawn_lines.specs.Painting.{IsColourOf, IsHarmlessWith, opening, painted};
+ghost use Rattle.drawn_lines.specs.Places.{seen_picture, uncoloured};
+ghost use Rattle.drawn_faults.specs.Labels.{primary};
+ghost use Rattle.drawn_edits.specs.Edited.{seen_edit};
+ghost use Rattle.drawn_lines.specs.Frames.{seen_frame};
+ghost use Rattle.drawn_labels.specs.Labels.{seen_label};
+ghost use Rattle.drawn_faults.specs.Drawing.{arrow, below, drawing, head, labelled_rows, note_row};
+ghost use Rattle.drawn_faults.specs.Drawing.{note_word, parting_before, title};
+ghost use Rattle.drawn_edits.specs.Suggestions.{help_rows};
+ghost use Rattle.drawn_lines.specs.declared.paint.Style.TheVariants.{Bold, Primary};
 
-use crate::extent::Spot;
-use crate::glyphs::{put_glyphs, put_run};
-use crate::labels::{Edit, Frame, Label, edit_of, frame_for, mark, second, text_name};
-use crate::lines::{put_decimal, put_labelled, put_parting, put_two_labels};
-use crate::long::put_long;
-use crate::paint::{
-    Gutter, Palette, Style, has_colours, put_closing, put_note_sign, put_opening, put_painted,
+use crate::labels::{edit_of, frame_for, second, text_name};
+use drawn_edits::{Edit, put_edit};
+use drawn_labels::{Label, mark_of, put_labelled, put_long, put_two_labels};
+use drawn_lines::{
+    Frame, Gutter, Palette, Picture, Spot, Style, extent_of, has_colours, put_closing, put_decimal,
+    put_glyphs, put_note_sign, put_opening, put_painted, put_parting, put_run,
 };
-use crate::places::Picture;
-use crate::suggestions::put_edit;
 use rustc_parse_format::{ParseError, ParseMode};
 use std::alloc::{AllocError, Global};
 
-/// Adds what all titles begin with, up to the name of the text, in which the style goes on.
+/// Adds the start of all titles, up to the name of the text, in which the style goes on.
 fn put_title_start(out: &mut String, palette: Palette) -> Result<(), AllocError>
     ensures { OnOk result (string_bytes out.new ≡ string_bytes out.old
         ++ (painted palette Primary (codes "error") ++ (opening palette Bold
@@ -40,7 +40,7 @@ fn put_title_start(out: &mut String, palette: Palette) -> Result<(), AllocError>
     Ok(())
 }
 
-/// Adds what the error is.
+/// Adds the title of the error.
 fn put_title(
     out: &mut String,
     palette: Palette,
@@ -111,7 +111,7 @@ fn put_label(out: &mut String, frame: &Frame<'_>, label: &Label<'_>) -> Result<(
         ++ labelled_rows (seen_frame frame.now) (seen_label label.now) None) }
 {
     if label.extent.start.line == label.extent.end.line {
-        put_labelled(out, frame, &mark(label, frame.cut))?;
+        put_labelled(out, frame, &mark_of(label, frame.cut))?;
     } else {
         put_long(out, frame, label)?;
     }
@@ -139,14 +139,14 @@ fn put_labels(
     match second {
         None => put_label(out, frame, label)?,
         Some(second) => {
-            let (m, n) = (mark(label, frame.cut), mark(second, frame.cut));
+            let (m, n) = (mark_of(label, frame.cut), mark_of(second, frame.cut));
             put_two_labels(out, frame, &m, &n)?;
         }
     }
     Ok(())
 }
 
-/// Adds what a note begins with.
+/// Adds the start of a note.
 pub fn put_note_word(out: &mut String, gutter: Gutter) -> Result<(), AllocError>
     ensures { OnOk result (string_bytes out.new ≡ string_bytes out.old ++ note_word gutter) }
 {
@@ -198,7 +198,7 @@ fn put_help(out: &mut String, frame: &Frame<'_>, edit: &Option<Edit<'_>>) -> Res
     Ok(())
 }
 
-/// Adds what is below the labels.
+/// Adds the rows below the labels.
 #[tactic(auto, unfolding(crate::specs::Drawing::below))]
 fn put_below(
     out: &mut String,
@@ -277,7 +277,7 @@ fn least_length(picture: &Picture<'_>, error: &ParseError) -> usize {
 ///
 /// From top to bottom: what the error is, and its path, line and column, which counts characters;
 /// the lines with labels, each with its number and the signs of the labels under it; the note; the
-/// suggestion, if one is made in this mode (see [`edits`](crate::edits)); an empty line. A
+/// suggestion, if one is made in this mode (see [`edits`](fault_fixes::edits)); an empty line. A
 /// suggestion to remove or to insert something is a second label, one to replace a text shows the
 /// old and the new lines. Those for which the arguments of the call are needed, `UsePositional` and
 /// `UseRustDebugPrintingMacro`, are left out. Long lines are not cut at their right. Of two labels
@@ -338,7 +338,7 @@ pub fn put_drawing(
     let label = Label {
         sign: '^',
         text: text.as_str(),
-        extent: picture.extent(&error.span),
+        extent: extent_of(picture, &error.span),
     };
     out.reserve(least_length(picture, error))?;
     put_with_label(out, mode, picture, error, &label)?;

@@ -1,20 +1,18 @@
-//! Helps of a diagnostic. What begins with `put_` appends to `out`, and returns `Err` if an
-//! allocation fails.
+//! Helps of a diagnostic. A function whose name begins with `put_` appends to `out`, and returns
+//! `Err` if an allocation fails.
 
 ghost use Rattle.std.specs.Prelude.{◌≡◌, ◌++◌, ◌<◌, ◌^◌, IfOk, OnOk, length, map, string_bytes};
 ghost use Rattle.drawn_faults.specs.Diagnostics.{help_rows, helps_rows, last_help_line};
 ghost use Rattle.drawn_faults.specs.Diagnostics.{placed_edit};
-ghost use Rattle.drawn_faults.specs.Labels.{seen_edit, seen_frame};
-ghost use Rattle.drawn_faults.specs.Places.{seen_picture};
+ghost use Rattle.drawn_edits.specs.Edited.{seen_edit};
+ghost use Rattle.drawn_lines.specs.Frames.{seen_frame};
+ghost use Rattle.drawn_lines.specs.Places.{seen_picture};
 ghost use Rattle.drawn_faults.specs.SeenDiagnostics.{seen_help, seen_source_edit};
 
-use crate::changes::put_edits;
-use crate::fixes::Edit as SourceEdit;
-use crate::glyphs::put_glyphs;
-use crate::labels::{Edit, Frame, placed};
 use crate::marked::last_edit_line;
-use crate::places::Picture;
-use crate::suggestions::put_help_word;
+use drawn_edits::{Edit, placed, put_edits, put_help_word};
+use drawn_lines::{Frame, Picture, put_glyphs};
+use fault_fixes::Edit as SourceEdit;
 use std::alloc::{AllocError, Global};
 
 /// A help of a diagnostic.

@@ -1,62 +1,25 @@
-//! What is drawn of an error: its labels and its edit, with their places in the source.
+//! The labels and the edit of an error, with their places in the source.
 
-ghost use Rattle.std.specs.Prelude.{◌≡◌, ◌+◌, ◌<◌, ◌≤◌, ◌^◌, IfSome, length, option_map};
-ghost use Rattle.std.specs.Prelude.{decimal};
+ghost use Rattle.std.specs.Prelude.{◌≡◌, ◌+◌, ◌<◌, ◌^◌, IfSome, length, option_map};
 ghost use Rattle.rustc_parse_format.specs.Seen.{pair, seen_error, seen_mode, seen_suggestion};
-ghost use Rattle.drawn_faults.specs.Edits.{offered};
-ghost use Rattle.drawn_faults.specs.Places.{extent, seen_picture};
-ghost use Rattle.drawn_faults.specs.Rows.{seen_mark};
-ghost use Rattle.drawn_faults.specs.Labels.{cut_of, edit_line, edit_of, frame, last_line};
-ghost use Rattle.drawn_faults.specs.Labels.{last_number, least, line_indent, mark, other_line};
-ghost use Rattle.drawn_faults.specs.Labels.{placed};
-ghost use Rattle.drawn_faults.specs.Labels.{second, second_text, seen_edit, seen_frame, seen_label};
-ghost use Rattle.drawn_faults.specs.Labels.{text_name};
+ghost use Rattle.fault_fixes.specs.Edits.{offered};
+ghost use Rattle.drawn_lines.specs.Frames.{line_indent, seen_frame};
+ghost use Rattle.drawn_lines.specs.Places.{seen_picture};
+ghost use Rattle.drawn_labels.specs.Labels.{seen_label};
+ghost use Rattle.drawn_edits.specs.Edited.{seen_edit};
+ghost use Rattle.drawn_faults.specs.Labels.{edit_line, edit_of, frame, last_line, least};
+ghost use Rattle.drawn_faults.specs.Labels.{other_line, second, second_text, text_name};
 
-use crate::extent::Extent;
-use crate::fixes::is_offered;
-use crate::glyphs::indent;
-use crate::mark::Mark;
-use crate::paint::{Gutter, Palette, palette_of};
-use crate::places::{Picture, behind_lines};
+use drawn_edits::{Edit, placed};
+use drawn_labels::Label;
+use drawn_lines::{
+    Frame, Gutter, Palette, Picture, cut_of, digits, extent_of, line_indent, palette_of,
+};
+use fault_fixes::is_offered;
 use rustc_parse_format::{ParseError, ParseMode, Suggestion};
 use std::ops::Range;
 
-/// A label of a range of the source.
-#[derive(Clone, Copy)]
-pub struct Label<'a> {
-    /// The sign under its columns.
-    pub sign: char,
-    /// Its text.
-    pub text: &'a str,
-    /// Where it is.
-    pub extent: Extent,
-}
-
-/// An edit that is drawn with its lines.
-#[derive(Clone, Copy)]
-pub struct Edit<'a> {
-    /// The new text.
-    pub text: &'a str,
-    /// Where the text is that it replaces.
-    pub extent: Extent,
-    /// The byte offset in the source at which that text begins.
-    pub from: usize,
-    /// The byte offset in the source at which it ends.
-    pub to: usize,
-}
-
-/// How a picture is laid out.
-#[derive(Clone, Copy)]
-pub struct Frame<'a> {
-    /// The source.
-    pub picture: &'a Picture<'a>,
-    /// The columns of the numbers of the lines, and the colours.
-    pub gutter: Gutter,
-    /// How many columns at the start of each line are cut.
-    pub cut: usize,
-}
-
-/// Returns what the compiler calls the text of a literal in a mode.
+/// Returns the name of the compiler for the text of a literal in a mode.
 pub fn text_name(mode: ParseMode) -> &'static str
     ensures { result.now ≡ text_name (seen_mode mode) }
 {
@@ -106,24 +69,8 @@ pub fn second<'a>(
     Some(Label {
         sign: if is_same { '^' } else { '-' },
         text,
-        extent: picture.extent(span),
+        extent: extent_of(picture, span),
     })
-}
-
-/// Returns an edit with its place in the source.
-pub fn placed<'a>(picture: &Picture<'_>, text: &'a str, range: &Range<usize>) -> Edit<'a>
-    requires { length picture.now.source.now < 2 ^ 59 }
-    ensures value { seen_edit result ≡ placed (seen_picture picture.now) text.now (pair range.now) }
-    ensures small { result.extent.end.line < 2 ^ 59 }
-    ensures small_start { result.extent.start.line < 2 ^ 59 }
-{
-    let (from, to) = picture.offsets(range);
-    Edit {
-        text,
-        extent: picture.extent(range),
-        from,
-        to,
-    }
 }
 
 /// Returns the edit that is drawn, or `None` if there is none.
@@ -181,16 +128,6 @@ fn other_line(label: &Label<'_>, second: &Option<Label<'_>>) -> usize
     }
 }
 
-/// Returns the indent of a line of the source, unless it is blank.
-#[tactic(auto, unfolding(crate::specs::Places::line))]
-pub fn line_indent(picture: &Picture<'_>, number: usize) -> Option<usize>
-    requires { length picture.now.source.now < 2 ^ 59 }
-    ensures value { result ≡ line_indent (seen_picture picture.now) number }
-    ensures small { IfSome result (λ n. n < 2 ^ 62) }
-{
-    indent(behind_lines(picture.source, number))
-}
-
 /// Returns the least indent, where a blank line has none.
 fn least(m: Option<usize>, n: Option<usize>) -> usize
     requires small_first { IfSome m (λ k. k < 2 ^ 62) }
@@ -221,28 +158,6 @@ fn least_indent(picture: &Picture<'_>, number: usize, other: usize) -> usize
     least(indent, line_indent(picture, other))
 }
 
-/// Returns how many columns are cut of lines with an indent.
-pub fn cut_of(indent: usize) -> usize
-    ensures value { result ≡ cut_of indent }
-    ensures less { result ≤ indent }
-{
-    if indent > 26 { indent - 22 } else { 0 }
-}
-
-/// Returns the number of digits of a number.
-#[tactic(auto, using(crate::proofs::GlyphLemmas::digit_steps))]
-pub fn digits(number: usize) -> usize
-    ensures { result ≡ length (decimal number) }
-{
-    let mut rest = number;
-    let mut count = 1;
-    while rest >= 10 {
-        rest /= 10;
-        count += 1;
-    }
-    count
-}
-
 /// Returns the layout for labels and an edit.
 #[tactic(auto, unfolding(crate::specs::Labels::frame))]
 pub fn frame_for<'a>(
@@ -271,29 +186,5 @@ pub fn frame_for<'a>(
         picture,
         gutter: Gutter { columns, palette },
         cut: cut_of(indent),
-    }
-}
-
-/// Returns a label in the line in which it begins.
-#[tactic(auto, unfolding(crate::specs::Labels::mark))]
-pub fn mark<'a>(label: &Label<'a>, cut: usize) -> Mark<'a>
-    requires { label.now.extent.start.column < 2 ^ 61 }
-    ensures value { seen_mark result ≡ mark cut (seen_label label.now) }
-    ensures line { result.line ≡ label.now.extent.start.line }
-{
-    let start = label.extent.start;
-    let end = label.extent.end;
-    let from = start.column.saturating_sub(cut);
-    let to = if end.line == start.line {
-        end.column.saturating_sub(cut)
-    } else {
-        0
-    };
-    Mark {
-        line: start.line,
-        from,
-        to: to.max(from + 1),
-        sign: label.sign,
-        text: label.text,
     }
 }

@@ -1,28 +1,23 @@
-//! Lines of the source with several labels. What begins with `put_` appends to `out`, and returns
-//! `Err` if an allocation fails.
+//! Lines of the source with several labels. A function whose name begins with `put_` appends to
+//! `out`, and returns `Err` if an allocation fails.
 
 ghost use Rattle.std.specs.Prelude.{◌≡◌, ◌++◌, ◌<◌, ◌^◌, [], IfOk, IfSome, None, OnOk, length, map};
 ghost use Rattle.std.specs.Prelude.{◌==◌, false, string_bytes, true, unwrap_or};
 ghost use Rattle.std.specs.Option.{option_map_or};
-ghost use Rattle.drawn_faults.specs.Diagnostics.{each_in_line, earlier, first_spot};
-ghost use Rattle.drawn_faults.specs.Diagnostics.{frame_of, gap_after, is_before};
-ghost use Rattle.drawn_faults.specs.Diagnostics.{in_line, labels_rows, last_edit_line};
-ghost use Rattle.drawn_faults.specs.Diagnostics.{last_label_line, line_rows, lower, lowest};
-ghost use Rattle.drawn_faults.specs.Diagnostics.{marked_lines, next_line, single_rows};
-ghost use Rattle.drawn_faults.specs.Labels.{mark, seen_edit, seen_frame, seen_label};
-ghost use Rattle.drawn_faults.specs.Marks.{is_right_of, sorted};
-ghost use Rattle.drawn_faults.specs.Places.{seen_picture};
-ghost use Rattle.drawn_faults.specs.Rows.{seen_mark};
+ghost use Rattle.drawn_faults.specs.Diagnostics.{each_in_line, earlier, first_spot, frame_of};
+ghost use Rattle.drawn_faults.specs.Diagnostics.{gap_after, is_before, in_line, labels_rows};
+ghost use Rattle.drawn_faults.specs.Diagnostics.{last_edit_line, last_label_line, line_rows, lower};
+ghost use Rattle.drawn_faults.specs.Diagnostics.{lowest, marked_lines, next_line, single_rows};
+ghost use Rattle.drawn_labels.specs.Labels.{mark, seen_label};
+ghost use Rattle.drawn_edits.specs.Edited.{seen_edit};
+ghost use Rattle.drawn_lines.specs.Frames.{seen_frame};
+ghost use Rattle.drawn_labels.specs.Marks.{is_right_of, sorted};
+ghost use Rattle.drawn_lines.specs.Places.{seen_picture};
+ghost use Rattle.drawn_labels.specs.Rows.{seen_mark};
 
-use crate::extent::Spot;
-use crate::labels::{Edit, Frame, Label, cut_of, line_indent, mark};
-use crate::lines::{put_code, put_gap};
-use crate::long::put_long;
-use crate::mark::Mark;
-use crate::marks::put_mark_rows;
-use crate::order::from_right;
-use crate::paint::Gutter;
-use crate::places::{ORIGIN, Picture};
+use drawn_edits::Edit;
+use drawn_labels::{Label, Mark, from_right, mark_of, put_long, put_mark_rows};
+use drawn_lines::{Frame, Gutter, ORIGIN, Picture, Spot, cut_of, line_indent, put_code, put_gap};
 use std::alloc::{AllocError, Global};
 
 /// Returns the last line in which one of labels ends, or `last` if that is further down.
@@ -168,7 +163,7 @@ fn marks_of<'a>(
 {
     let mut list = Vec::new(alloc);
     for label in labels {
-        list.push(mark(label, cut))?;
+        list.push(mark_of(label, cut))?;
     }
     let marks = from_right(alloc, &list)?;
     Ok(marks)
@@ -192,7 +187,7 @@ fn in_line<'a>(
     Ok(list)
 }
 
-/// Adds what is between a line that was drawn, if there is one, and the next one.
+/// Adds the rows between a line that was drawn, if there is one, and the next one.
 fn put_gap_after(
     out: &mut String,
     frame: &Frame<'_>,

@@ -1,22 +1,23 @@
-//! Notes of a diagnostic, and labels under a title. What begins with `put_` appends to `out`, and
-//! returns `Err` if an allocation fails.
+//! Notes of a diagnostic, and labels under a title. A function whose name begins with `put_`
+//! appends to `out`, and returns `Err` if an allocation fails.
 
 ghost use Rattle.std.specs.Prelude.{◌≡◌, ◌++◌, ◌<◌, ◌^◌, IfOk, OnOk, chars, length, map};
 ghost use Rattle.std.specs.Prelude.{string_bytes};
 ghost use Rattle.rustc_parse_format.specs.Seen.{pair};
 ghost use Rattle.drawn_faults.specs.Diagnostics.{indented, last_note_line, margin, notes_rows};
 ghost use Rattle.drawn_faults.specs.Diagnostics.{plain_note, shown_label, shown_note, titled};
-ghost use Rattle.drawn_faults.specs.Labels.{seen_frame, seen_label};
-ghost use Rattle.drawn_faults.specs.Places.{seen_picture};
+ghost use Rattle.drawn_lines.specs.Frames.{seen_frame};
+ghost use Rattle.drawn_labels.specs.Labels.{seen_label};
+ghost use Rattle.drawn_lines.specs.Places.{seen_picture};
 ghost use Rattle.drawn_faults.specs.SeenDiagnostics.{seen_note};
 
 use crate::drawing::{put_arrow, put_note_word};
-use crate::glyphs::{glyph, glyph_count, put_glyphs, put_run, split_first};
-use crate::labels::{Frame, Label};
-use crate::lines::put_parting;
 use crate::marked::{first_spot, frame_of, last_label_line, put_labels_rows};
-use crate::paint::{Gutter, Palette, Style, palette_of, put_closing, put_opening, put_painted};
-use crate::places::Picture;
+use drawn_labels::Label;
+use drawn_lines::{
+    Frame, Gutter, Palette, Picture, Style, extent_of, glyph, glyph_count, palette_of, put_closing,
+    put_glyphs, put_opening, put_painted, put_parting, put_run, split_first,
+};
 use std::alloc::{AllocError, Global};
 use std::ops::Range;
 
@@ -44,7 +45,7 @@ fn shown_labels(
         list.push(Label {
             sign: '^',
             text: "",
-            extent: picture.extent(span),
+            extent: extent_of(picture, span),
         })?;
     }
     Ok(list)
@@ -98,7 +99,7 @@ pub fn put_titled(
     Ok(())
 }
 
-/// Adds what is after a character of a note: after a line feed the margin of the next line.
+/// Adds the text after a character of a note: after a line feed the margin of the next line.
 fn put_margin(out: &mut String, gutter: Gutter, c: char) -> Result<(), AllocError>
     ensures { OnOk result (string_bytes out.new ≡ string_bytes out.old ++ margin gutter c) }
 {

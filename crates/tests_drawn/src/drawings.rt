@@ -5,13 +5,15 @@ use crate::coloured_rows::coloured_rows;
 use crate::line_rows::line_rows;
 use crate::row::Row;
 use crate::short_rows::short_rows;
-use drawn_faults::{Picture, draw, errors_of, put_drawing};
+use drawn_faults::{draw, put_drawing};
+use drawn_lines::Picture;
+use fault_fixes::errors_of;
 use rustc_parse_format::{ParseError, ParseMode};
 use std::alloc::{AllocError, Global};
 use std::process::Abort;
 use std::test::Fail;
 
-/// Texts, one behind the other, with a text behind each.
+/// Texts, one after the other, with a text after each.
 fn joined(alloc: Global, texts: &[&str], end: &str) -> Result<String, AllocError> {
     let mut all = String::new(alloc);
     for text in texts {
@@ -41,7 +43,7 @@ fn errors_in(
     )
 }
 
-/// The drawing of a fault of a row, and once more behind that text.
+/// The drawing of a fault of a row, and once more after that text.
 fn drawn(
     alloc: Global,
     mode: ParseMode,

@@ -1,6 +1,8 @@
 //! Drawings of helps with edits in one line, against those of rustc 1.95.
 
-use drawn_faults::{Diagnostic, Edit, Level, Picture, SourceHelp, SourceLabel, draw_labels};
+use drawn_faults::{Diagnostic, Level, SourceHelp, SourceLabel, draw_labels};
+use drawn_lines::Picture;
+use fault_fixes::Edit;
 use std::alloc::Global;
 use std::process::Abort;
 use std::test::Fail;

@@ -1,6 +1,7 @@
 //! Characters that a terminal obeys are drawn as others, wherever they stand.
 
-use drawn_faults::{Picture, draw, put_glyphs};
+use drawn_faults::draw;
+use drawn_lines::{Picture, put_glyphs};
 use rustc_parse_format::{ParseError, ParseMode, Suggestion};
 use std::alloc::{AllocError, Global};
 use std::test::Fail;

@@ -1,7 +1,8 @@
 //! Drawings of helps with edits in several lines, against those of rustc 1.95.
 
 use crate::edits::check;
-use drawn_faults::{Diagnostic, Edit, Level, SourceHelp, SourceLabel, SourceNote};
+use drawn_faults::{Diagnostic, Level, SourceHelp, SourceLabel, SourceNote};
+use fault_fixes::Edit;
 use std::test::Fail;
 
 #[test]

@@ -5,7 +5,9 @@
 //! second, and so on.
 
 use crate::misfits::error_at;
-use drawn_faults::{Diagnostic, Edit, Level, Picture, SourceHelp, draw, draw_labels};
+use drawn_faults::{Diagnostic, Level, SourceHelp, draw, draw_labels};
+use drawn_lines::Picture;
+use fault_fixes::Edit;
 use rustc_parse_format::{ParseError, ParseMode};
 use std::alloc::Global;
 use std::io::Print;

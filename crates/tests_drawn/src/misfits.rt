@@ -1,6 +1,7 @@
 //! Spans that do not fit the source are drawn where they are cut.
 
-use drawn_faults::{Picture, draw};
+use drawn_faults::draw;
+use drawn_lines::Picture;
 use rustc_parse_format::{ParseError, ParseMode, Suggestion};
 use std::alloc::{AllocError, Global};
 use std::ops::Range;

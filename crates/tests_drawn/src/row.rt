@@ -5,11 +5,11 @@
 pub struct Row {
     /// The number of the first line of the source.
     pub line: u32,
-    /// What is before the literal in the source.
+    /// The text before the literal in the source.
     pub before: &'static str,
     /// The literal.
     pub literal: &'static str,
-    /// What is behind it.
+    /// The text after it.
     pub after: &'static str,
     /// The hashes of a raw literal.
     pub style: Option<usize>,

@@ -1,8 +1,8 @@
 //! Drawings of several labels, against those of rustc 1.95.
 
-use drawn_faults::{
-    Diagnostic, Edit, Level, Picture, SourceHelp, SourceLabel, SourceNote, draw_labels,
-};
+use drawn_faults::{Diagnostic, Level, SourceHelp, SourceLabel, SourceNote, draw_labels};
+use drawn_lines::Picture;
+use fault_fixes::Edit;
 use std::alloc::{AllocError, Global};
 use std::test::Fail;
 

@@ -1,6 +1,6 @@
 //! Literals and their fixes.
 
-use drawn_faults::{Edit, Fixed, edits, errors_of, fix};
+use fault_fixes::{Edit, Fixed, edits, errors_of, fix};
 use rustc_parse_format::ParseMode;
 use std::alloc::{AllocError, Global};
 use std::process::Abort;
@@ -46,7 +46,7 @@ fn check_text(
     )
 }
 
-/// Texts, and what each is fixed to.
+/// Texts, and those that they are fixed to.
 const TEXTS: &[(&str, &str)] = &[
     ("{r#type}", "{type}"),
     ("{r#a:>5}", "{a:>5}"),
@@ -115,7 +115,7 @@ const LITERALS: &[Row<'static>] = &[
         "r#\"{a:?}\"#",
         "{a:?}",
     ),
-    // the `r#` and what is between its two characters go
+    // the `r#` and the text between its two characters go
     (
         "{r#a}",
         None,
@@ -177,7 +177,7 @@ const LITERALS: &[Row<'static>] = &[
     ("{r#a}", Some(0), "\"{r#a}\"", false, "", ""),
     ("{r#a}", None, "\"{r#b}\"", false, "", ""),
     ("{r#a}", None, "concat!(\"{r#\", \"a}\")", false, "", ""),
-    // the no-break space behind the continued line belongs to the text
+    // the no-break space after the continued line belongs to the text
     ("{?}한", None, "\"\\\n\u{a0}{?}한\"", false, "", ""),
 ];
 

@@ -4,7 +4,7 @@
 //! it prints a line `refused`. `.ci/refusals` runs it with its first allocation failing, then with
 //! its second, and so on.
 
-use drawn_faults::{Fixed, fix};
+use fault_fixes::{Fixed, fix};
 use rustc_parse_format::ParseMode;
 use std::alloc::{AllocError, Global};
 use std::io::Print;

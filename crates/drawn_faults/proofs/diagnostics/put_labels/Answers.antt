@@ -1,4 +1,4 @@
-use Rattle.drawn_faults.specs.Places.{seen_picture}
+use Rattle.drawn_lines.specs.Places.{seen_picture}
 use Rattle.drawn_faults.specs.SeenDiagnostics.{seen_diagnostic}
 use Rattle.drawn_faults.proofs.HarmlessDiagnostics.{diagnostic-coloured}
 use Rattle.drawn_faults.proofs.diagnostics.put_labels.Goals as goal

@@ -1,9 +1,9 @@
 use Rattle.std.proofs.Common.{◌+◌, codes, decimal, string_bytes}
 use Rattle.drawn_faults.specs.Drawing.{arrow}
-use Rattle.drawn_faults.specs.Glyphs.{glyph_bytes, run}
-use Rattle.drawn_faults.specs.Painting.{painted}
-use Rattle.drawn_faults.specs.declared.paint.Style.TheVariants.{Secondary}
-use Rattle.drawn_faults.proofs.Joining.{join8}
+use Rattle.drawn_lines.specs.Glyphs.{run, glyph_bytes}
+use Rattle.drawn_lines.specs.Painting.{painted}
+use Rattle.drawn_lines.specs.declared.paint.Style.TheVariants.{Secondary}
+use Rattle.drawn_lines.proofs.Joining.{join8}
 use Rattle.drawn_faults.proofs.drawing.put_arrow.Goals as goal
 
 pub returns : goal.returns

@@ -1,10 +1,10 @@
 use Rattle.std.proofs.Common.{◌++◌, ◌∙◌, ap, append_assoc, codes, string_bytes, sym}
 use Rattle.rustc_parse_format.specs.Seen.{seen_mode}
-use Rattle.drawn_faults.specs.Glyphs.{glyph_bytes}
+use Rattle.drawn_lines.specs.Glyphs.{glyph_bytes}
 use Rattle.drawn_faults.specs.Labels.{text_name}
-use Rattle.drawn_faults.specs.Painting.{closing, opening, painted}
-use Rattle.drawn_faults.specs.declared.paint.Style.TheVariants.{Bold, Primary}
-use Rattle.drawn_faults.proofs.Joining.{join3, join4, some-painted}
+use Rattle.drawn_lines.specs.Painting.{closing, opening, painted}
+use Rattle.drawn_lines.specs.declared.paint.Style.TheVariants.{Bold, Primary}
+use Rattle.drawn_lines.proofs.Joining.{join3, join4, some-painted}
 use Rattle.drawn_faults.proofs.drawing.put_title.Goals as goal
 
 pub returns : goal.returns

@@ -1,9 +1,9 @@
 use Rattle.std.proofs.Common.{◌≡◌, ◌<◌, ◌^◌, IfSome, None, drop, map}
 use Rattle.drawn_faults.specs.Diagnostics.{first_of}
-use Rattle.drawn_faults.specs.Labels.{seen_label}
+use Rattle.drawn_labels.specs.Labels.{seen_label}
 use Rattle.drawn_faults.proofs.marked.first_spot.Given as goal
 
--- The answer for what is left is the answer for all.
+-- The answer for the rest is the answer for all.
 abbrev pub invariant-loop-label : goal.invariant-loop-label
 invariant-loop-label l = record {
   same : first_of l.found (map seen_label (drop l.label-index l.labels))

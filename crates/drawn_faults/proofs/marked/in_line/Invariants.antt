@@ -1,6 +1,6 @@
 use Rattle.std.proofs.Common.{◌≡◌, map, take}
 use Rattle.drawn_faults.specs.Diagnostics.{in_line}
-use Rattle.drawn_faults.specs.Rows.{seen_mark}
+use Rattle.drawn_labels.specs.Rows.{seen_mark}
 use Rattle.drawn_faults.proofs.marked.in_line.Given as goal
 
 -- The list has those so far that begin in the line.

@@ -1,9 +1,9 @@
 use Rattle.std.proofs.Common.{◌≡◌, ◌<◌, ◌^◌, drop, map}
 use Rattle.drawn_faults.specs.Diagnostics.{last_edit_line}
-use Rattle.drawn_faults.specs.Labels.{seen_edit}
+use Rattle.drawn_edits.specs.Edited.{seen_edit}
 use Rattle.drawn_faults.proofs.marked.last_edit_line.Given as goal
 
--- The answer for what is left is the answer for all.
+-- The answer for the rest is the answer for all.
 abbrev pub invariant-loop-edit : goal.invariant-loop-edit
 invariant-loop-edit l = record {
   same : last_edit_line l.line (map seen_edit (drop l.edit-index l.edits))

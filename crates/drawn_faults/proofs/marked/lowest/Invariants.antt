@@ -1,10 +1,10 @@
 use Rattle.std.proofs.Common.{◌≡◌, ◌<◌, ◌^◌, IfSome, None, drop, map}
 use Rattle.drawn_faults.specs.Diagnostics.{lowest}
-use Rattle.drawn_faults.specs.Labels.{seen_label}
-use Rattle.drawn_faults.specs.Places.{seen_picture}
+use Rattle.drawn_labels.specs.Labels.{seen_label}
+use Rattle.drawn_lines.specs.Places.{seen_picture}
 use Rattle.drawn_faults.proofs.marked.lowest.Given as goal
 
--- The answer for what is left is the answer for all.
+-- The answer for the rest is the answer for all.
 abbrev pub invariant-loop-label : goal.invariant-loop-label
 invariant-loop-label l = record {
   same : lowest (seen_picture l.picture) l.least (map seen_label (drop l.label-index l.labels))

@@ -1,9 +1,9 @@
 use Rattle.std.proofs.Common.{◌≡◌, ◌++◌, drop, map}
-use Rattle.drawn_faults.specs.Labels.{mark, seen_label}
-use Rattle.drawn_faults.specs.Rows.{seen_mark}
+use Rattle.drawn_labels.specs.Labels.{mark, seen_label}
+use Rattle.drawn_labels.specs.Rows.{seen_mark}
 use Rattle.drawn_faults.proofs.marked.marks_of.Given as goal
 
--- What is made so far, and then what is left, is all.
+-- The elements made so far, and then those that are left, are all.
 abbrev pub invariant-loop-label : goal.invariant-loop-label
 invariant-loop-label l = map seen_mark l.list.items
     ++ map (mark l.cut) (map seen_label (drop l.label-index l.labels))

@@ -1,10 +1,10 @@
 use Rattle.std.proofs.Common.{◌≡◌, ◌++◌, ◌<◌, ◌^◌, IfSome, None, drop, map, string_bytes}
 use Rattle.drawn_faults.specs.Diagnostics.{marked_lines}
-use Rattle.drawn_faults.specs.Labels.{seen_frame}
-use Rattle.drawn_faults.specs.Rows.{seen_mark}
+use Rattle.drawn_lines.specs.Frames.{seen_frame}
+use Rattle.drawn_labels.specs.Rows.{seen_mark}
 use Rattle.drawn_faults.proofs.marked.put_marked_lines.Given as goal
 
--- What is added, and then what is left, is all.
+-- The text added, and then the rest of it, is all.
 abbrev pub invariant-loop-index : goal.invariant-loop-index
 invariant-loop-index l = record {
   same : string_bytes l.out

@@ -1,10 +1,10 @@
 use Rattle.std.proofs.Common.{◌≡◌, ◌++◌, chars, length, string_bytes}
+use Rattle.drawn_faults.specs.Diagnostics.{indented}
 use denote.Text.{Utf8}
 use denote.Shadow.{shadow}
-use Rattle.drawn_faults.specs.Diagnostics.{indented}
 use Rattle.drawn_faults.proofs.notes.put_indented.Given as goal
 
--- What is added, and then what is left, is all.
+-- The text added, and then the rest of it, is all.
 abbrev pub invariant-loop-c : goal.invariant-loop-c
 invariant-loop-c l = record {
   is_text : shadow (Utf8 l.rest);

@@ -1,12 +1,13 @@
 use Rattle.std.proofs.Common.{◌++◌, ◌∙◌, ap, append_assoc, codes, map, string_bytes}
 use Rattle.drawn_faults.specs.Diagnostics.{first_spot, labels_rows, titled}
 use Rattle.drawn_faults.specs.Drawing.{arrow}
-use Rattle.drawn_faults.specs.Glyphs.{glyph_bytes}
-use Rattle.drawn_faults.specs.Labels.{seen_frame, seen_label}
-use Rattle.drawn_faults.specs.Painting.{closing, opening, painted}
-use Rattle.drawn_faults.specs.Lines.{parting}
-use Rattle.drawn_faults.specs.declared.paint.Style.TheVariants.{Bold, Primary}
-use Rattle.drawn_faults.proofs.Joining.{join6, some-painted}
+use Rattle.drawn_lines.specs.Glyphs.{glyph_bytes}
+use Rattle.drawn_lines.specs.Frames.{seen_frame}
+use Rattle.drawn_labels.specs.Labels.{seen_label}
+use Rattle.drawn_lines.specs.Painting.{closing, opening, painted}
+use Rattle.drawn_lines.specs.Lines.{parting}
+use Rattle.drawn_lines.specs.declared.paint.Style.TheVariants.{Bold, Primary}
+use Rattle.drawn_lines.proofs.Joining.{join6, some-painted}
 use Rattle.drawn_faults.proofs.notes.put_titled.Goals as goal
 
 pub returns : goal.returns

@@ -1,0 +1,3 @@
+pub mod EditLines
+pub mod ChangedLines
+pub mod HarmlessHelps

@@ -1,0 +1,382 @@
+//! The rows of edits. A function whose name begins with `put_` appends to `out`, and returns `Err`
+//! if an allocation fails.
+
+ghost use Rattle.std.specs.Prelude.{◌≡◌, ◌+◌, ◌++◌, ◌<◌, ◌^◌, [], IfOk, OnOk, chars, length, map};
+ghost use Rattle.std.specs.Prelude.{option_map, string_bytes};
+ghost use Rattle.drawn_edits.specs.Edited.{seen_line, seen_part, seen_edit};
+ghost use Rattle.drawn_edits.specs.Helps.{after_pluses, cells_of, changed_row, changed_rows};
+ghost use Rattle.drawn_edits.specs.Helps.{columns_of, edited_parts, edits_rows, have_bytes};
+ghost use Rattle.drawn_edits.specs.Helps.{inserted_rows, is_whole, line_rows, lone_addition};
+ghost use Rattle.drawn_edits.specs.Helps.{lone_sign, new_row, new_rows, plus_signs, pluses};
+ghost use Rattle.drawn_edits.specs.Helps.{replaced_rows, rows_from};
+ghost use Rattle.drawn_lines.specs.Frames.{seen_frame};
+ghost use Rattle.drawn_lines.specs.Lines.{under};
+
+use crate::edit_rows::{put_kept_lines, put_kept_row, put_sign_row, put_sign_rows};
+use crate::edited::{
+    Edit, Line, Part, are_blank, do_remove, have_addition, is_added, is_same_end, new_lines,
+    old_lines, parts_of,
+};
+use drawn_lines::{
+    Frame, Gutter, Palette, Style, after_lines, put_gutter, put_painted_run, put_parting, put_run,
+    split_first, width,
+};
+use std::alloc::{AllocError, Global};
+
+/// Returns the only addition of a line, or `None` if there are several, or a text of the line is in
+/// front of it.
+fn lone_addition<'a>(parts: &[Part<'a>]) -> Option<&'a str>
+    ensures { option_map (λ s. s.now) result ≡ lone_addition (map seen_part parts.now) }
+{
+    for (index, part) in parts.iter().enumerate() {
+        if is_added(part) {
+            if have_addition(&parts[index + 1..]) {
+                return None;
+            }
+            return Some(part.text);
+        }
+        if !part.text.is_empty() {
+            return None;
+        }
+    }
+    None
+}
+
+/// Returns how many cells a text takes, if a tab takes four of them, and another character one.
+/// Returns `Err` if it is too long for memory.
+fn cells_of(text: &str) -> Result<usize, AllocError>
+    ensures { IfOk result (λ n. n ≡ cells_of 0 (chars text.now)) }
+{
+    if text.len() >= 1 << 59 {
+        return Err(AllocError);
+    }
+    let mut cells = 0;
+    let mut rest = text;
+    while let Some((c, tail)) = split_first(rest) {
+        cells += if c == '\t' { 4 } else { 1 };
+        rest = tail;
+    }
+    Ok(cells)
+}
+
+/// Returns whether parts have so many bytes.
+fn have_bytes(count: usize, parts: &[Part<'_>]) -> bool
+    ensures { result ≡ have_bytes count (map seen_part parts.now) }
+{
+    let mut left = count;
+    for part in parts {
+        if left < part.text.len() {
+            return false;
+        }
+        left -= part.text.len();
+    }
+    left == 0
+}
+
+/// Returns the sign of a changed line, or `None` if it has none.
+fn sign_of(parts: &[Part<'_>]) -> Result<Option<&'static str>, AllocError>
+    ensures { IfOk result (λ o. option_map (λ s. s.now) o
+        ≡ lone_sign (map seen_part parts.now) (lone_addition (map seen_part parts.now))) }
+{
+    let Some(text) = lone_addition(parts) else {
+        return Ok(Some("~ "));
+    };
+    let cells = cells_of(text)?;
+    if have_bytes(cells, parts) {
+        return Ok(Some("+ "));
+    }
+    if text.is_empty() {
+        return Ok(None);
+    }
+    Ok(Some("~ "))
+}
+
+/// Adds the row of a changed line.
+fn put_changed_row(
+    out: &mut String,
+    frame: &Frame<'_>,
+    number: usize,
+    parts: &[Part<'_>],
+) -> Result<(), AllocError>
+    requires { number < 2 ^ 61 }
+    ensures { OnOk result (string_bytes out.new ≡ string_bytes out.old
+        ++ changed_row (seen_frame frame.now) number (map seen_part parts.now)
+        (lone_sign (map seen_part parts.now) (lone_addition (map seen_part parts.now)))) }
+{
+    match sign_of(parts)? {
+        None => put_kept_row(out, frame, number, parts)?,
+        Some(sign) => put_sign_row(out, frame, Style::Addition, sign, number, parts)?,
+    }
+    Ok(())
+}
+
+/// Adds the rows of several new lines up to the last changed one, from a number on.
+fn put_changed_rows(
+    out: &mut String,
+    frame: &Frame<'_>,
+    number: usize,
+    lines: &[Line<'_>],
+) -> Result<(), AllocError>
+    requires { number + length lines.now < 2 ^ 61 }
+    ensures { OnOk result (string_bytes out.new ≡ string_bytes out.old
+        ++ changed_rows (seen_frame frame.now) number [] (map seen_line lines.now)) }
+{
+    let mut from = 0;
+    for (index, line) in lines.iter().enumerate() {
+        if have_addition(&line.parts) {
+            put_kept_lines(out, frame, number + from, &lines[from..index])?;
+            put_changed_row(out, frame, number + index, &line.parts)?;
+            from = index + 1;
+        }
+    }
+    Ok(())
+}
+
+/// Adds the row of a new line, unless it is blank.
+fn put_new_row(
+    out: &mut String,
+    frame: &Frame<'_>,
+    number: usize,
+    lines: &[Line<'_>],
+) -> Result<(), AllocError>
+    requires { number < 2 ^ 61 }
+    ensures { OnOk result (string_bytes out.new ≡ string_bytes out.old
+        ++ new_row (seen_frame frame.now) number (map seen_line lines.now)) }
+{
+    if let [line, ..] = lines {
+        if !are_blank(&line.parts) {
+            put_sign_row(out, frame, Style::Addition, "+ ", number, &line.parts)?;
+        }
+    }
+    Ok(())
+}
+
+/// Adds the rows of old lines and of a new one.
+#[tactic(auto, unfolding(crate::specs::Helps::replaced_rows))]
+fn put_replaced(
+    out: &mut String,
+    frame: &Frame<'_>,
+    number: usize,
+    old: &[Line<'_>],
+    new: &[Line<'_>],
+) -> Result<(), AllocError>
+    requires { number + length old.now < 2 ^ 61 }
+    ensures { OnOk result (string_bytes out.new ≡ string_bytes out.old
+        ++ replaced_rows (seen_frame frame.now) number (map seen_line old.now)
+        (map seen_line new.now)) }
+{
+    if is_same_end(*out.allocator(), old, new)? {
+        let (front, _) = old.split_at(old.len().saturating_sub(1));
+        return Ok(put_sign_rows(out, frame, Style::Removal, "- ", number, front)?);
+    }
+    put_sign_rows(out, frame, Style::Removal, "- ", number, old)?;
+    put_new_row(out, frame, number, new)?;
+    Ok(())
+}
+
+/// Returns how many columns a text takes. Returns `Err` if it is too long for memory.
+fn columns_of(text: &str) -> Result<usize, AllocError>
+    ensures { IfOk result (λ n. n ≡ columns_of 0 (chars text.now)) }
+{
+    if text.len() >= 1 << 59 {
+        return Err(AllocError);
+    }
+    let mut columns = 0;
+    let mut rest = text;
+    while let Some((c, tail)) = split_first(rest) {
+        columns += width(c);
+        rest = tail;
+    }
+    Ok(columns)
+}
+
+/// Adds the signs under an addition, after so many spaces. Returns how many columns after these
+/// signs the addition ends.
+fn put_pluses(
+    out: &mut String,
+    palette: Palette,
+    gap: usize,
+    text: &str,
+) -> Result<usize, AllocError>
+    ensures added { OnOk result (string_bytes out.new
+        ≡ string_bytes out.old ++ pluses palette gap text.now) }
+    ensures value { IfOk result (λ n. n ≡ after_pluses text.now) }
+{
+    let back = text.trim_start();
+    let columns = columns_of(text)?;
+    let from_text = columns_of(back)?;
+    if back.is_empty() {
+        put_run(out, ' ', gap)?;
+        put_painted_run(out, palette, Style::Addition, '+', columns)?;
+        return Ok(0);
+    }
+    let Some(before) = gap.checked_add(columns.saturating_sub(from_text)) else {
+        return Err(AllocError);
+    };
+    let signs = columns_of(back.trim_end())?;
+    put_run(out, ' ', before)?;
+    put_painted_run(out, palette, Style::Addition, '+', signs)?;
+    Ok(from_text.saturating_sub(signs))
+}
+
+/// Adds the signs under the additions of a line.
+fn put_plus_signs(out: &mut String, palette: Palette, parts: &[Part<'_>]) -> Result<(), AllocError>
+    ensures { OnOk result (string_bytes out.new ≡ string_bytes out.old
+        ++ plus_signs palette 0 (map seen_part parts.now)) }
+{
+    let mut gap = 0;
+    for part in parts {
+        if is_added(part) {
+            gap = put_pluses(out, palette, gap, part.text)?;
+        } else {
+            let columns = columns_of(part.text)?;
+            let Some(sum) = gap.checked_add(columns) else {
+                return Err(AllocError);
+            };
+            gap = sum;
+        }
+    }
+    Ok(())
+}
+
+/// Adds the row of these signs.
+fn put_plus_row(out: &mut String, gutter: Gutter, parts: &[Part<'_>]) -> Result<(), AllocError>
+    ensures { OnOk result (string_bytes out.new ≡ string_bytes out.old
+        ++ under gutter (plus_signs gutter.palette 0 (map seen_part parts.now))) }
+{
+    put_gutter(out, gutter)?;
+    put_plus_signs(out, gutter.palette, parts)?;
+    out.push_str("\n")?;
+    Ok(())
+}
+
+/// Returns whether a line has nothing but an addition that ends it.
+fn is_whole(parts: &[Part<'_>]) -> bool
+    ensures { result ≡ is_whole (map seen_part parts.now) }
+{
+    match parts {
+        [before, _] => are_blank(&[*before]),
+        _ => false,
+    }
+}
+
+/// Adds the rows of a line in which something is added.
+fn put_inserted(
+    out: &mut String,
+    frame: &Frame<'_>,
+    number: usize,
+    lines: &[Line<'_>],
+) -> Result<(), AllocError>
+    requires { number < 2 ^ 61 }
+    ensures { OnOk result (string_bytes out.new ≡ string_bytes out.old
+        ++ inserted_rows (seen_frame frame.now) number (map seen_line lines.now)) }
+{
+    let [line, ..] = lines else {
+        return Ok(());
+    };
+    if is_whole(&line.parts) {
+        put_sign_row(out, frame, Style::Addition, "+ ", number, &line.parts)?;
+        put_parting(out, frame)?;
+    } else {
+        put_sign_row(out, frame, Style::Secondary, "| ", number, &line.parts)?;
+        put_plus_row(out, frame.gutter, &line.parts)?;
+    }
+    Ok(())
+}
+
+/// Adds the rows of parts in one new line.
+fn put_line_rows(
+    out: &mut String,
+    frame: &Frame<'_>,
+    number: usize,
+    parts: &[Part<'_>],
+    new: &[Line<'_>],
+) -> Result<(), AllocError>
+    requires { number < 2 ^ 59 }
+    ensures { OnOk result (string_bytes out.new ≡ string_bytes out.old
+        ++ line_rows (seen_frame frame.now) number (map seen_part parts.now)
+        (map seen_line new.now)) }
+{
+    if !do_remove(parts) {
+        return Ok(put_inserted(out, frame, number, new)?);
+    }
+    let old = old_lines(*out.allocator(), parts)?;
+    if old.len() >= 1 << 59 {
+        return Err(AllocError);
+    }
+    put_replaced(out, frame, number, &old, new)?;
+    put_parting(out, frame)?;
+    Ok(())
+}
+
+/// Adds the rows of parts with these new lines.
+fn put_new_rows(
+    out: &mut String,
+    frame: &Frame<'_>,
+    number: usize,
+    parts: &[Part<'_>],
+    new: &[Line<'_>],
+) -> Result<(), AllocError>
+    requires { number < 2 ^ 59 }
+    ensures { OnOk result (string_bytes out.new ≡ string_bytes out.old
+        ++ new_rows (seen_frame frame.now) number (map seen_part parts.now)
+        (map seen_line new.now)) }
+{
+    if new.len() <= 1 {
+        return Ok(put_line_rows(out, frame, number, parts, new)?);
+    }
+    if new.len() >= 1 << 59 {
+        return Err(AllocError);
+    }
+    put_changed_rows(out, frame, number, new)?;
+    put_parting(out, frame)?;
+    Ok(())
+}
+
+/// Returns the parts of edits from a line on.
+#[tactic(auto, unfolding(crate::specs::Helps::edited_parts))]
+fn edited_parts<'a>(
+    alloc: Global,
+    frame: &Frame<'a>,
+    number: usize,
+    edits: &[Edit<'a>],
+) -> Result<Vec<Part<'a>>, AllocError>
+    ensures { IfOk result (λ v. map seen_part v.items
+        ≡ edited_parts (seen_frame frame.now) number (map seen_edit edits.now)) }
+{
+    let source = frame.picture.source;
+    let text = after_lines(source, number);
+    let parts = parts_of(alloc, source.len() - text.len(), text, edits)?;
+    Ok(parts)
+}
+
+/// Adds the rows of edits from a line on.
+fn put_from(
+    out: &mut String,
+    frame: &Frame<'_>,
+    number: usize,
+    edits: &[Edit<'_>],
+) -> Result<(), AllocError>
+    requires { number < 2 ^ 59 }
+    ensures { OnOk result (string_bytes out.new ≡ string_bytes out.old
+        ++ rows_from (seen_frame frame.now) number (map seen_edit edits.now)) }
+{
+    let alloc = *out.allocator();
+    put_parting(out, frame)?;
+    let parts = edited_parts(alloc, frame, number, edits)?;
+    let new = new_lines(alloc, &parts)?;
+    put_new_rows(out, frame, number, &parts, &new)?;
+    Ok(())
+}
+
+/// Adds the rows of edits.
+pub fn put_edits(out: &mut String, frame: &Frame<'_>, edits: &[Edit<'_>]) -> Result<(), AllocError>
+    ensures { OnOk result (string_bytes out.new ≡ string_bytes out.old
+        ++ edits_rows (seen_frame frame.now) (map seen_edit edits.now)) }
+{
+    match edits {
+        [] => {}
+        [first, ..] => put_from(out, frame, first.extent.start.line, edits)?,
+    }
+    Ok(())
+}

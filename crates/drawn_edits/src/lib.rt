@@ -1,0 +1,11 @@
+//! Edits of a source as rustc draws them: the lines that they change, and the new ones.
+#![tactic(auto)]
+
+mod changes;
+mod edit_rows;
+mod edited;
+mod suggestions;
+
+pub use changes::put_edits;
+pub use edited::{Edit, placed};
+pub use suggestions::{put_edit, put_help_word};

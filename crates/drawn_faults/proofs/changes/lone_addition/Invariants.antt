@@ -1,9 +1,0 @@
-use Rattle.std.proofs.Common.{◌≡◌, drop, map}
-use Rattle.drawn_faults.specs.Edited.{seen_part}
-use Rattle.drawn_faults.specs.Helps.{lone_addition}
-use Rattle.drawn_faults.proofs.changes.lone_addition.Given as goal
-
--- The answer for what is left is the answer for all.
-abbrev pub invariant-loop-index : goal.invariant-loop-index
-invariant-loop-index l = lone_addition (map seen_part (drop l.index l.parts))
-    ≡ lone_addition (map seen_part l.parts)

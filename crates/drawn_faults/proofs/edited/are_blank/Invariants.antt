@@ -1,8 +1,0 @@
-use Rattle.std.proofs.Common.{◌≡◌, drop, map}
-use Rattle.drawn_faults.specs.Edited.{are_blank, seen_part}
-use Rattle.drawn_faults.proofs.edited.are_blank.Given as goal
-
--- The answer for what is left is the answer for all.
-abbrev pub invariant-loop-part : goal.invariant-loop-part
-invariant-loop-part l = are_blank (map seen_part (drop l.part-index l.parts))
-    ≡ are_blank (map seen_part l.parts)

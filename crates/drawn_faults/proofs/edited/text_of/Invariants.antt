@@ -1,8 +1,0 @@
-use Rattle.std.proofs.Common.{◌≡◌, ◌++◌, drop, map, string_bytes}
-use Rattle.drawn_faults.specs.Edited.{seen_line, text_of}
-use Rattle.drawn_faults.proofs.edited.text_of.Given as goal
-
--- What is added, and then what is left, is all.
-abbrev pub invariant-loop-line : goal.invariant-loop-line
-invariant-loop-line l = string_bytes l.text ++ text_of (map seen_line (drop l.line-index l.lines))
-    ≡ text_of (map seen_line l.lines)

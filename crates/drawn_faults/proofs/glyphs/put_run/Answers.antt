@@ -1,7 +1,0 @@
-use Rattle.std.proofs.Common.{arith}
-use Rattle.std.proofs.lemmas.Grind.{common_steps}
-use Rattle.drawn_faults.proofs.GlyphLemmas.{run-more}
-use Rattle.drawn_faults.proofs.glyphs.put_run.Goals as goal
-
-pub loop-preserved : goal.loop-preserved
-loop-preserved c = grind (arith, common_steps, run-more)

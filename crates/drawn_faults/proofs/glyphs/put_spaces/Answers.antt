@@ -1,9 +1,0 @@
-use Rattle.std.proofs.Common.{◌≤◌, append_assoc, arith}
-use Rattle.drawn_faults.proofs.RowLemmas.{run-rest}
-use Rattle.drawn_faults.proofs.glyphs.put_spaces.Goals as goal
-
-pub loop-left-preserved : goal.loop-left-preserved
-loop-left-preserved c =
-    let few : c.min-piece.result ≤ c.loop-left.left = omega (arith, c.min-piece.ensures) in
-    let rest = run-rest c.loop-left.left c.min-piece.result few in
-    rw (c.in_ok-push_str.ensures.bytes, c.spaces.ensures, append_assoc, rest) c.loop-left.invariant

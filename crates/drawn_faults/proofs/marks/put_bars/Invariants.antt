@@ -1,8 +1,0 @@
-use Rattle.std.proofs.Common.{◌≡◌, drop, map}
-use Rattle.drawn_faults.specs.Marks.{bars, seen_hung}
-use Rattle.drawn_faults.proofs.marks.put_bars.Given as goal
-
--- What is put into the row, and then what is left, is all.
-abbrev pub invariant-loop-first : goal.invariant-loop-first
-invariant-loop-first l = bars l.n (map seen_hung (drop l.first-index l.hung)) l.row.items
-    ≡ bars l.n (map seen_hung l.hung) l.fn.row.items

@@ -1,8 +1,0 @@
-use Rattle.std.proofs.Common.{◌≡◌, drop, map}
-use Rattle.drawn_faults.specs.Marks.{seen_hung, side_texts}
-use Rattle.drawn_faults.proofs.marks.put_side_texts.Given as goal
-
--- What is put into the row, and then what is left, is all.
-abbrev pub invariant-loop-first : goal.invariant-loop-first
-invariant-loop-first l = side_texts (map seen_hung (drop l.first-index l.hung)) l.row.items
-    ≡ side_texts (map seen_hung l.hung) l.fn.row.items

@@ -1,7 +1,0 @@
-use Rattle.std.proofs.Common.{[], append-nil}
-use Rattle.drawn_faults.proofs.marks.put_signs_of.Goals as goal
-
-pub returns : goal.returns
-returns c =
-    rw (c.style_of-style.ensures, c.saturating_sub-columns.ensures, append-nil)
-    at (c.in_ok-put_run_at.ensures [])

@@ -1,0 +1,4 @@
+pub mod RowLemmas
+pub mod MarkLemmas
+pub mod HarmlessRows
+pub mod HarmlessMarks

@@ -1,0 +1,13 @@
+use Rattle.std.proofs.Common.{◌≡◌, ◌*◌, ◌++◌, ◌≤◌, drop, length, map}
+use Rattle.drawn_labels.specs.Marks.{hang, seen_hung}
+use Rattle.drawn_labels.specs.Rows.{seen_mark}
+use Rattle.drawn_labels.proofs.hanging.hang.Given as goal
+
+-- The labels so far, and then those that are left, are all.
+abbrev pub invariant-loop-mark : goal.invariant-loop-mark
+invariant-loop-mark l = record {
+  count : length l.list.items ≡ l.mark-index;
+  same : map seen_hung l.list.items ++ hang l.down (map seen_mark (drop l.mark-index l.marks))
+      ≡ hang 0 (map seen_mark l.marks);
+  near : l.down ≤ 2 * l.mark-index;
+}

@@ -1,0 +1,42 @@
+-- Labels of ranges of the source, and lines with one or two of them, as bytes.
+use Rattle.std.specs.Prelude.{ℕ, ◌+◌, ◌-◌, ◌==◌, ◌++◌, if◌then◌else◌, nat_lt, max, List}
+use Rattle.drawn_lines.specs.Places.{Extent, seen_extent, extent, line}
+use Rattle.drawn_labels.specs.Rows.{Mark, alone, both}
+use Rattle.drawn_labels.specs.declared.labels.Label.{Label as DeclaredLabel}
+use Rattle.drawn_lines.specs.Lines.{code_row, gap, under}
+use Rattle.drawn_lines.specs.Frames.{Frame}
+
+-- A label: the sign under its columns, its text, and where it is.
+pub record Label : Type 0 where
+  pub sign : ℕ
+  pub text : List ℕ
+  pub extent : Extent
+
+-- A label as a contract sees it.
+abbrev pub seen_label : DeclaredLabel → Label
+seen_label l = record { sign = l.sign; text = l.text.now; extent = seen_extent l.extent }
+
+-- A label in the line in which it begins: at least one column.
+unfoldable pub mark : ℕ → Label → Mark
+mark cut l = record {
+  line = l.extent.start.line;
+  from = l.extent.start.column - cut;
+  to = max (l.extent.start.column - cut + 1)
+      (if l.extent.end.line == l.extent.start.line then l.extent.end.column - cut else 0);
+  sign = l.sign;
+  text = l.text;
+}
+
+-- A line of the source with a label.
+unfoldable pub labelled : Frame → Mark → List ℕ
+labelled f m = code_row f m.line ++ under f.gutter (alone f.gutter.palette m)
+
+-- Two lines with labels, from top to bottom.
+unfoldable pub apart : Frame → Mark → Mark → List ℕ
+apart f m n = labelled f m ++ (gap f m.line n.line ++ labelled f n)
+
+-- The lines with two labels.
+unfoldable pub two_labels : Frame → Mark → Mark → List ℕ
+two_labels f m n =
+    if m.line == n.line then code_row f m.line ++ both f.gutter m n
+    else if nat_lt m.line n.line then apart f m n else apart f n m

@@ -1,0 +1,4 @@
+pub mod Rows
+pub mod Labels
+pub mod Long
+pub mod Marks

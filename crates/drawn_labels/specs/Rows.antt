@@ -1,0 +1,140 @@
+-- The rows under a line of the source: the signs of labels, and their texts.
+use Rattle.std.specs.Prelude.{ℕ, ◌+◌, ◌-◌, Bool, ◌&&◌, ◌||◌, ◌==◌, ◌++◌, if◌then◌else◌, map, nat_lt}
+use Rattle.std.specs.Prelude.{nat_le, max, zero, suc, List, [], ◌∷◌, length, codes, encode_utf8}
+use Rattle.drawn_lines.specs.Glyphs.{glyph_bytes, run}
+use Rattle.drawn_lines.specs.Painting.{Piece, painted, piece, pieces}
+use Rattle.drawn_labels.specs.declared.cells.Cell.{Cell}
+use Rattle.drawn_labels.specs.declared.mark.Mark.{Mark as DeclaredMark}
+use Rattle.drawn_lines.specs.declared.paint.Gutter.{Gutter}
+use Rattle.drawn_lines.specs.declared.paint.Palette.{Palette}
+use Rattle.drawn_lines.specs.declared.paint.Style.{Style}
+use Rattle.drawn_lines.specs.declared.paint.Style.TheVariants.{Plain, Primary, PrimaryText}
+use Rattle.drawn_lines.specs.declared.paint.Style.TheVariants.{Secondary, SecondaryText}
+use Rattle.drawn_lines.specs.Lines.{under}
+
+-- A label in one line: the number of the line, counted from 0, the columns that it has, up to the
+-- last one and without it, the sign under these columns, and its text.
+pub record Mark : Type 0 where
+  pub line : ℕ
+  pub from : ℕ
+  pub to : ℕ
+  pub sign : ℕ
+  pub text : List ℕ
+
+-- A label as a contract sees it.
+abbrev pub seen_mark : DeclaredMark → Mark
+seen_mark m = record { line = m.line; from = m.from; to = m.to; sign = m.sign; text = m.text.now }
+
+-- The style of the signs of a label, and of its bar.
+abbrev pub style_of : Mark → Style
+style_of m = if m.sign == 94 then Primary else Secondary
+
+-- The style of its text.
+abbrev pub text_style : Mark → Style
+text_style m = if m.sign == 94 then PrimaryText else SecondaryText
+
+-- A character in a style.
+abbrev pub cell : Style → ℕ → Cell
+cell s c = record { character = c; style = s }
+
+-- A space.
+abbrev pub space : Cell
+space = cell Plain 32
+
+-- Cells as pieces.
+abbrev pub cell_pieces : List Cell → List Piece
+cell_pieces cs = map (λ c. piece c.style (encode_utf8 c.character)) cs
+
+-- The characters of cells in their styles.
+abbrev pub written : Palette → List Cell → List ℕ
+written p cs = pieces p (cell_pieces cs)
+
+-- The label has this column.
+abbrev pub has_column : Mark → ℕ → Bool
+has_column m c = nat_le m.from c && nat_lt c m.to
+
+-- The sign in a column under two labels, of which the first one covers the second one.
+abbrev pub sign_at : Mark → Mark → ℕ → Cell
+sign_at m n c =
+    if has_column m c then cell (style_of m) m.sign
+    else if has_column n c then cell (style_of n) n.sign else space
+
+-- The first n columns of a row.
+abbrev pub columns : (ℕ → Cell) → ℕ → List Cell
+columns f zero = []
+columns f (suc n) = columns f n ++ f n ∷ []
+
+-- The first n columns of a row of signs, as bytes.
+unfoldable pub signs : Palette → Mark → Mark → ℕ → List ℕ
+signs p m n c = written p (columns (sign_at m n) c)
+
+-- The first n columns of a row with the bar of a label.
+abbrev pub bars : Palette → Mark → ℕ → List ℕ
+bars p m n =
+    if nat_lt m.from n
+    then run m.from 32 ++ (painted p (style_of m) (codes "|") ++ run (n - m.from - 1) 32)
+    else run n 32
+
+-- The text of a label.
+abbrev pub label_text : Palette → Mark → List ℕ
+label_text p m = painted p (text_style m) (glyph_bytes m.text)
+
+-- The signs of a label and its text after them.
+unfoldable pub pointed : Palette → Mark → List ℕ
+pointed p m =
+    painted p (style_of m) (run (m.to - m.from) m.sign) ++ (codes " " ++ label_text p m)
+
+-- The row of a label that is alone.
+unfoldable pub alone : Palette → Mark → List ℕ
+alone p m = run m.from 32 ++ pointed p m
+
+-- The first label is covered by the second one, which is shorter, or as long and primary.
+abbrev pub is_covered : Mark → Mark → Bool
+is_covered m n =
+    nat_lt (n.to - n.from) (m.to - m.from)
+    || ((n.to - n.from == m.to - m.from) && nat_lt m.sign n.sign)
+
+-- The signs of two labels that overlap, of which the first one begins first: the one that covers is
+-- over the other.
+abbrev pub covering : Palette → Mark → Mark → List ℕ
+covering p l r =
+    if is_covered r l then signs p l r (max l.to r.to) else signs p r l (max l.to r.to)
+
+-- The style of the bar of the second one of two such labels: that of the first one, if they begin
+-- together.
+abbrev pub bar_style : Mark → Mark → Style
+bar_style l r = if nat_lt l.from r.from then style_of r else style_of l
+
+-- Two such labels: their signs; a bar from each; the text of the second one; the text of the first
+-- one.
+unfoldable pub overlapping : Gutter → Mark → Mark → List ℕ
+overlapping g l r =
+    under g (covering g.palette l r)
+    ++ (under g (bars g.palette l r.from ++ painted g.palette (bar_style l r) (codes "|"))
+    ++ (under g (bars g.palette l r.from ++ label_text g.palette r)
+    ++ under g (run l.from 32 ++ label_text g.palette l)))
+
+-- Two labels with no room for the text of the first one between them, where each of its bytes
+-- takes a column, as all texts of labels are ASCII: it hangs from a bar.
+unfoldable pub hanging : Gutter → Mark → Mark → List ℕ
+hanging g l r =
+    under g (signs g.palette l r r.to ++ (codes " " ++ label_text g.palette r))
+    ++ (under g (run l.from 32 ++ painted g.palette (style_of l) (codes "|"))
+    ++ under g (run l.from 32 ++ label_text g.palette l))
+
+-- Two labels beside each other.
+unfoldable pub beside : Gutter → Mark → Mark → List ℕ
+beside g l r =
+    under g (alone g.palette l
+    ++ (run (r.from - (l.to + 1 + length l.text)) 32 ++ pointed g.palette r))
+
+-- The rows of two labels, of which the first one begins first.
+abbrev pub pair_rows : Gutter → Mark → Mark → List ℕ
+pair_rows g l r =
+    if nat_lt r.from l.to then overlapping g l r
+    else if nat_lt r.from (l.to + length l.text + 2) then hanging g l r
+    else beside g l r
+
+-- The rows of two labels in a line. If they begin together, the second one is that on the left.
+unfoldable pub both : Gutter → Mark → Mark → List ℕ
+both g m n = if nat_lt m.from n.from then pair_rows g m n else pair_rows g n m

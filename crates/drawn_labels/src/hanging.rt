@@ -1,0 +1,143 @@
+//! How far below the signs of a line the texts of labels hang.
+
+ghost use Rattle.std.specs.Prelude.{◌≡◌, ◌+◌, ◌<◌, ◌≤◌, ◌^◌, IfOk, map};
+ghost use Rattle.drawn_labels.specs.Marks.{depth, depth_after, depth_of, hang, has_text};
+ghost use Rattle.drawn_labels.specs.Marks.{is_crossed, is_lowering, is_meeting, is_reaching};
+ghost use Rattle.drawn_labels.specs.Marks.{is_shadow, seen_hung, text_depth};
+ghost use Rattle.drawn_labels.specs.Rows.{seen_mark};
+
+use crate::mark::Mark;
+use std::alloc::{AllocError, Global};
+
+/// A label, and how many rows below the signs its text hangs: it stands right of them if that is
+/// none.
+#[derive(Clone, Copy)]
+pub struct Hung<'a> {
+    pub mark: Mark<'a>,
+    pub down: usize,
+}
+
+/// Returns whether a label has a text.
+pub fn has_text(mark: &Mark<'_>) -> bool
+    ensures { result ≡ has_text (seen_mark mark.now) }
+{
+    !mark.text.is_empty()
+}
+
+/// Returns whether one of two labels begins within the other.
+fn is_meeting(n: &Mark<'_>, m: &Mark<'_>) -> bool
+    ensures { result ≡ is_meeting 0 (seen_mark n.now) (seen_mark m.now) }
+{
+    (m.from <= n.from && n.from < m.to) || (n.from <= m.from && m.from < n.to)
+}
+
+/// Returns whether the label `n` has no text, and the columns of `m`.
+fn is_shadow(n: &Mark<'_>, m: &Mark<'_>) -> bool
+    ensures { result ≡ is_shadow (seen_mark n.now) (seen_mark m.now) }
+{
+    (n.from == m.from && n.to == m.to) && !has_text(n)
+}
+
+/// Returns whether the text of a label cannot stand right of its signs, since it meets one of
+/// others.
+fn is_crossed(mark: &Mark<'_>, others: &[Mark<'_>]) -> bool
+    ensures { result ≡ is_crossed (seen_mark mark.now) (map seen_mark others.now) }
+{
+    if !has_text(mark) {
+        return false;
+    }
+    for other in others {
+        if is_meeting(other, mark) && !is_shadow(other, mark) {
+            return true;
+        }
+    }
+    false
+}
+
+/// Returns whether the text of the label `n`, right of its signs, would come within a column of
+/// `m`.
+fn is_reaching(n: &Mark<'_>, m: &Mark<'_>) -> bool
+    ensures { result ≡ is_reaching (seen_mark n.now) (seen_mark m.now) }
+{
+    let columns = m.from.saturating_sub(n.to).saturating_sub(1);
+    has_text(n)
+        && ((m.from <= n.from && n.from < m.to) || (n.from <= m.from && columns <= n.text.len()))
+}
+
+/// Returns whether the texts of labels hang a row below that of a label right of them, which hangs
+/// `down` rows below the signs.
+fn is_lowering(down: usize, mark: &Mark<'_>, others: &[Mark<'_>]) -> bool
+    ensures { result ≡ is_lowering down (seen_mark mark.now) (map seen_mark others.now) }
+{
+    for other in others {
+        if is_reaching(other, mark) && (has_text(mark) || (other.to <= mark.to && down == 0)) {
+            return true;
+        }
+    }
+    false
+}
+
+/// Returns how far down the text of a label hangs, where those right of it hang `down` rows down.
+fn depth_of(down: usize, mark: &Mark<'_>, others: &[Mark<'_>]) -> usize
+    ensures value { result ≡ depth_of down (seen_mark mark.now) (map seen_mark others.now) }
+    ensures near { result ≤ down + 1 }
+{
+    if down == 0 && is_crossed(mark, others) {
+        1
+    } else {
+        down
+    }
+}
+
+/// Returns how far down the texts of labels left of a label hang at least.
+fn depth_after(down: usize, mark: &Mark<'_>, others: &[Mark<'_>]) -> usize
+    requires { down < 2 ^ 63 }
+    ensures value { result ≡ depth_after down (seen_mark mark.now) (map seen_mark others.now) }
+    ensures near { result ≤ down + 1 }
+{
+    if is_lowering(down, mark, others) {
+        down + 1
+    } else {
+        down
+    }
+}
+
+/// Returns the labels of a line, from right to left, with how far down they hang. Returns `Err` if
+/// an allocation fails.
+pub fn hang<'a>(alloc: Global, marks: &[Mark<'a>]) -> Result<Vec<Hung<'a>>, AllocError>
+    ensures { IfOk result (λ v. map seen_hung v.items ≡ hang 0 (map seen_mark marks.now)) }
+{
+    if marks.len() >= 1 << 59 {
+        return Err(AllocError);
+    }
+    let mut list = Vec::new(alloc);
+    let mut down = 0;
+    for mark in marks {
+        let others = &marks[list.len() + 1..];
+        let depth = depth_of(down, mark, others);
+        down = depth_after(depth, mark, others);
+        list.push(Hung {
+            mark: *mark,
+            down: depth,
+        })?;
+    }
+    Ok(list)
+}
+
+/// Returns how far down the text of a label hangs.
+fn text_depth(hung: &Hung<'_>) -> usize
+    ensures { result ≡ text_depth (seen_hung hung.now) }
+{
+    if has_text(&hung.mark) { hung.down } else { 0 }
+}
+
+/// Returns how far down the texts of labels hang at most.
+pub fn depth(hung: &[Hung<'_>]) -> usize
+    ensures { result ≡ depth 0 (map seen_hung hung.now) }
+{
+    let mut most = 0;
+    for first in hung {
+        most = text_depth(first).max(most);
+    }
+    most
+}

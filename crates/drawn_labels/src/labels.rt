@@ -1,0 +1,105 @@
+//! Labels of ranges of the source, and lines with one or two of them. A function whose name begins
+//! with `put_` appends to `out`, and returns `Err` if an allocation fails.
+
+ghost use Rattle.std.specs.Prelude.{◌≡◌, ◌++◌, ◌<◌, ◌^◌, OnOk, string_bytes};
+ghost use Rattle.drawn_lines.specs.Frames.{seen_frame};
+ghost use Rattle.drawn_labels.specs.Labels.{apart, labelled, mark, seen_label, two_labels};
+ghost use Rattle.drawn_labels.specs.Rows.{seen_mark};
+
+use crate::mark::Mark;
+use crate::rows::{put_both, put_one};
+use drawn_lines::{Extent, Frame, put_code, put_gap};
+use std::alloc::AllocError;
+
+/// A label of a range of the source.
+#[derive(Clone, Copy)]
+pub struct Label<'a> {
+    /// The sign under its columns.
+    pub sign: char,
+    /// Its text.
+    pub text: &'a str,
+    /// Where it is.
+    pub extent: Extent,
+}
+
+/// Returns a label in the line in which it begins.
+#[tactic(auto, unfolding(crate::specs::Labels::mark))]
+pub fn mark_of<'a>(label: &Label<'a>, cut: usize) -> Mark<'a>
+    requires { label.now.extent.start.column < 2 ^ 61 }
+    ensures value { seen_mark result ≡ mark cut (seen_label label.now) }
+    ensures line { result.line ≡ label.now.extent.start.line }
+{
+    let start = label.extent.start;
+    let end = label.extent.end;
+    let from = start.column.saturating_sub(cut);
+    let to = if end.line == start.line {
+        end.column.saturating_sub(cut)
+    } else {
+        0
+    };
+    Mark {
+        line: start.line,
+        from,
+        to: to.max(from + 1),
+        sign: label.sign,
+        text: label.text,
+    }
+}
+
+/// Adds a line of the source with a label.
+#[tactic(auto, unfolding(crate::specs::Labels::labelled))]
+pub fn put_labelled(out: &mut String, frame: &Frame<'_>, mark: &Mark<'_>) -> Result<(), AllocError>
+    requires number { mark.now.line < 2 ^ 61 }
+    requires cut { frame.now.cut < 2 ^ 62 }
+    ensures { OnOk result (string_bytes out.new ≡ string_bytes out.old
+        ++ labelled (seen_frame frame.now) (seen_mark mark.now)) }
+{
+    put_code(out, frame, mark.line)?;
+    put_one(out, frame.gutter, mark)?;
+    Ok(())
+}
+
+/// Adds two lines with labels, of which `m` is the first one.
+#[tactic(auto, unfolding(crate::specs::Labels::apart))]
+fn put_apart(
+    out: &mut String,
+    frame: &Frame<'_>,
+    m: &Mark<'_>,
+    n: &Mark<'_>,
+) -> Result<(), AllocError>
+    requires number { m.now.line < 2 ^ 60 }
+    requires second_number { n.now.line < 2 ^ 60 }
+    requires cut { frame.now.cut < 2 ^ 62 }
+    ensures { OnOk result (string_bytes out.new ≡ string_bytes out.old
+        ++ apart (seen_frame frame.now) (seen_mark m.now) (seen_mark n.now)) }
+{
+    put_labelled(out, frame, m)?;
+    put_gap(out, frame, m.line, n.line)?;
+    put_labelled(out, frame, n)?;
+    Ok(())
+}
+
+/// Adds the lines with two labels.
+#[tactic(auto, unfolding(crate::specs::Labels::two_labels))]
+pub fn put_two_labels(
+    out: &mut String,
+    frame: &Frame<'_>,
+    m: &Mark<'_>,
+    n: &Mark<'_>,
+) -> Result<(), AllocError>
+    requires number { m.now.line < 2 ^ 60 }
+    requires second_number { n.now.line < 2 ^ 60 }
+    requires cut { frame.now.cut < 2 ^ 62 }
+    ensures { OnOk result (string_bytes out.new ≡ string_bytes out.old
+        ++ two_labels (seen_frame frame.now) (seen_mark m.now) (seen_mark n.now)) }
+{
+    if m.line == n.line {
+        put_code(out, frame, m.line)?;
+        put_both(out, frame.gutter, m, n)?;
+    } else if m.line < n.line {
+        put_apart(out, frame, m, n)?;
+    } else {
+        put_apart(out, frame, n, m)?;
+    }
+    Ok(())
+}

@@ -1,0 +1,18 @@
+//! Labels under lines of a source as rustc draws them: one or two of an error, any number of them
+//! in a line, and one over several lines.
+#![tactic(auto)]
+
+mod cells;
+mod hanging;
+mod labels;
+mod long;
+mod mark;
+mod marks;
+mod order;
+mod rows;
+
+pub use labels::{Label, mark_of, put_labelled, put_two_labels};
+pub use long::put_long;
+pub use mark::Mark;
+pub use marks::put_mark_rows;
+pub use order::from_right;

@@ -1,0 +1,106 @@
+-- Lines of a drawing: without their colours they are those without colours, and a terminal obeys
+-- no character of these, but for line feeds.
+use Rattle.std.proofs.Common.{◌≡◌, ◌+◌, ◌-◌, ℕ, true, List, chars, codes, length, nat_lt, refl}
+use Rattle.std.specs.Prelude.{◌==◌, ◌&&◌, decimal, encode_utf8_all}
+use Rattle.rustc_parse_format.specs.Characters.{Text}
+use Rattle.drawn_lines.specs.Glyphs.{IsHarmless, glyph_bytes, glyphs, run}
+use Rattle.drawn_lines.specs.Frames.{Frame}
+use Rattle.drawn_lines.specs.Lines.{code_row, gap, number_bar, numbered, shown, after_bar}
+use Rattle.drawn_lines.specs.Lines.{source_line, source_row, blank, under, parting}
+use Rattle.drawn_lines.specs.Painting.{IsColourOf, painted}
+use Rattle.drawn_lines.specs.Places.{line, uncoloured}
+use Rattle.drawn_lines.specs.declared.paint.Gutter.{Gutter}
+use Rattle.drawn_lines.specs.declared.paint.Palette.{Palette}
+use Rattle.drawn_lines.specs.declared.paint.Palette.TheVariants.{Colourless}
+use Rattle.drawn_lines.specs.declared.paint.Style.{Style}
+use Rattle.drawn_lines.specs.declared.paint.Style.TheVariants.{Secondary}
+use Rattle.drawn_lines.proofs.Coloured.{either, join, nothing, of_closing, of_opening, of_painted}
+use Rattle.drawn_lines.proofs.Coloured.{plain}
+use Rattle.drawn_lines.proofs.Harmless.{rest_after-harmless, decimal-harmless, glyphs-harmless}
+use Rattle.drawn_lines.proofs.Harmless.{run-harmless, text as harmless_text, is_written}
+use Rattle.drawn_lines.proofs.Harmless.{written-harmless}
+use Rattle.std.specs.List.{list_all}
+
+-- A gutter and a layout without colours.
+abbrev pub off : Gutter → Gutter
+off g = record { columns = g.columns; palette = Colourless }
+
+abbrev pub plain_frame : Frame → Frame
+plain_frame f = record { picture = uncoloured f.picture; gutter = off f.gutter; cut = f.cut }
+
+-- a text of printable characters
+pub text : (bs : List ℕ) → list_all is_written bs ≡ true → IsColourOf bs bs
+text bs e = plain (harmless_text bs e)
+
+pub of_glyphs : (bs : List ℕ) → IsColourOf (glyph_bytes bs) (glyph_bytes bs)
+of_glyphs bs = plain (glyphs-harmless (chars bs))
+
+pub spaces : (n : ℕ) → IsColourOf (run n 32) (run n 32)
+spaces n = plain (run-harmless n 32 (written-harmless 32 refl))
+
+-- rows under a line
+pub of_bar : (p : Palette) (s : Style)
+    → IsColourOf (painted p s (codes "|")) (painted Colourless s (codes "|"))
+of_bar p s = of_painted p s (harmless_text (codes "|") refl)
+
+pub of_blank : (g : Gutter) → IsColourOf (blank g) (blank (off g))
+of_blank g = join (spaces g.columns) (join (text (codes " ") refl) (of_bar g.palette Secondary))
+
+pub of_under : (g : Gutter) {row other : List ℕ} → IsColourOf row other
+    → IsColourOf (under g row) (under (off g) other)
+of_under g h =
+    join (of_blank g) (join (text (codes " ") refl) (join h (text (codes "\n") refl)))
+
+-- lines of the source
+pub of_numbered : (f : Frame) (n : ℕ) → IsColourOf (numbered f n) (numbered (plain_frame f) n)
+unfolding numbered
+of_numbered f n =
+    join (of_opening f.gutter.palette Secondary)
+    (join (spaces (f.gutter.columns - length (decimal (f.picture.line_start + n))))
+    (join (plain (decimal-harmless (f.picture.line_start + n))) (of_closing f.gutter.palette)))
+
+pub of_number_bar : (f : Frame) (n : ℕ) → IsColourOf (number_bar f n) (number_bar (plain_frame f) n)
+of_number_bar f n =
+    join (of_numbered f n) (join (text (codes " ") refl) (of_bar f.gutter.palette Secondary))
+
+pub of_dots : (p : Palette)
+    → IsColourOf (painted p Secondary (codes "...")) (painted Colourless Secondary (codes "..."))
+of_dots p = of_painted p Secondary (harmless_text (codes "...") refl)
+
+of_shown : (p : Palette) (cut : ℕ) (t : Text) → IsColourOf (shown p cut t) (shown Colourless cut t)
+unfolding shown
+of_shown p cut t =
+    either (cut == 0) (plain (glyphs-harmless t))
+    (join (of_dots p) (plain (rest_after-harmless (cut + 3) t)))
+
+of_after_bar : (p : Palette) {front : List ℕ} (cut : ℕ) (t : Text) → IsHarmless front
+    → IsColourOf (after_bar p front cut t) (after_bar Colourless front cut t)
+of_after_bar p cut t h =
+    either ((cut == 0) && (length (encode_utf8_all (glyphs t)) == 0)) nothing
+    (join (plain h) (of_shown p cut t))
+
+pub of_source_line : (f : Frame) {front : List ℕ} (n : ℕ) → IsHarmless front
+    → IsColourOf (source_line f front n) (source_line (plain_frame f) front n)
+unfolding source_line
+of_source_line f n h =
+    join (of_after_bar f.gutter.palette f.cut (chars (line n f.picture.source)) h)
+    (text (codes "\n") refl)
+
+pub of_source : (f : Frame) {front : List ℕ} (n : ℕ) → IsHarmless front
+    → IsColourOf (source_row f front n) (source_row (plain_frame f) front n)
+of_source f n h = join (of_number_bar f n) (of_source_line f n h)
+
+pub of_code : (f : Frame) (n : ℕ) → IsColourOf (code_row f n) (code_row (plain_frame f) n)
+of_code f n = of_source f n (harmless_text (codes " ") refl)
+
+pub of_gap : (f : Frame) (first last : ℕ)
+    → IsColourOf (gap f first last) (gap (plain_frame f) first last)
+unfolding gap
+of_gap f first last =
+    either (last == first + 2) (of_code f (first + 1))
+    (either (nat_lt (first + 2) last)
+    (join (of_dots f.gutter.palette) (text (codes "\n") refl)) nothing)
+
+pub of_parting : (f : Frame) → IsColourOf (parting f) (parting (plain_frame f))
+unfolding parting
+of_parting f = join (of_blank f.gutter) (text (codes "\n") refl)

@@ -1,0 +1,5 @@
+pub mod Glyphs
+pub mod Painting
+pub mod Places
+pub mod Frames
+pub mod Lines

@@ -1,0 +1,28 @@
+//! Lines of a source as rustc draws them: the characters and the columns that these take, colours,
+//! places, and the gutter with the numbers of the lines.
+#![tactic(auto)]
+
+mod extent;
+mod frame;
+mod glyphs;
+mod lines;
+mod paint;
+mod places;
+mod printable;
+
+pub use extent::{Extent, Spot};
+pub use frame::{Frame, cut_of, digits, line_indent};
+pub use glyphs::{
+    draws_nothing, glyph, glyph_count, put_glyphs, put_glyphs_after, put_painted_glyphs,
+    put_painted_run, put_run, split_first, width,
+};
+pub use lines::{
+    put_code, put_decimal, put_gap, put_gutter, put_line_number, put_number_bar, put_parting,
+    put_source, put_source_line,
+};
+pub use paint::{
+    Gutter, Palette, Style, has_colours, palette_of, put_change, put_closing, put_note_sign,
+    put_opening, put_painted, put_reset, put_sign, rank,
+};
+pub use places::{ORIGIN, Picture, after_lines, extent_of, line, offsets, split_line};
+pub use printable::{is_ascii_or_as_is, is_drawn_as_is};

@@ -1,0 +1,209 @@
+//! The source around a literal, its lines and places.
+
+ghost use Rattle.std.specs.Prelude.{◌≡◌, ◌+◌, ◌*◌, ◌<◌, ◌≤◌, ◌^◌, [], chars, length, ℕ, false};
+ghost use Rattle.std.specs.Prelude.{true, max};
+ghost use Rattle.std.specs.List.{fold, list_all};
+ghost use Rattle.rustc_parse_format.specs.Seen.{pair};
+ghost use Rattle.drawn_lines.specs.Glyphs.{is_printable};
+ghost use Rattle.drawn_lines.specs.Places.{offset, after_lines, extent, first_line, line, past};
+ghost use Rattle.drawn_lines.specs.Places.{seen_extent, seen_picture, within};
+
+use crate::extent::{Extent, Spot};
+use crate::glyphs::{split_first, width};
+use crate::printable::split_printable;
+use std::ops::Range;
+
+/// The source that a fault is drawn in: a whole file, or those lines of it that have the literal.
+#[derive(Clone, Copy, Debug, Drop)]
+pub struct Picture<'a> {
+    /// The path of the file, as it is to be shown.
+    pub path: &'a str,
+    /// The source. Its lines end in line feeds.
+    pub source: &'a str,
+    /// The number of the first line of `source`.
+    pub line_start: u32,
+    /// The byte offset in `source` at which the literal begins.
+    pub literal_start: usize,
+    /// Whether the drawing has colours, as rustc gives them to a terminal.
+    pub colours: bool,
+}
+
+/// The place at the start of a text.
+pub const ORIGIN: Spot = Spot {
+    line: 0,
+    chars: 0,
+    column: 0,
+    is_indent: true,
+};
+
+/// Returns the place after a character.
+#[tactic(auto, unfolding(crate::specs::Places::past))]
+fn past(spot: Spot, c: char) -> Spot
+    requires small_line { spot.line < 2 ^ 62 }
+    requires small_chars { spot.chars < 2 ^ 62 }
+    requires small_column { spot.column < 2 ^ 61 }
+    ensures value { result ≡ past spot c }
+    ensures lines { result.line ≤ spot.line + 1 }
+    ensures chars { result.chars ≤ spot.chars + 1 }
+    ensures columns { result.column ≤ spot.column + 4 }
+{
+    if c == '\n' {
+        return Spot {
+            line: spot.line + 1,
+            chars: 0,
+            column: 0,
+            is_indent: true,
+        };
+    }
+    Spot {
+        line: spot.line,
+        chars: spot.chars + 1,
+        column: spot.column + width(c),
+        is_indent: spot.is_indent && c.is_whitespace(),
+    }
+}
+
+/// Returns the place after printable characters.
+fn past_printable(spot: Spot, front: &str) -> Spot
+    requires printable { list_all is_printable front.now ≡ true }
+    requires after_indent { spot.is_indent ≡ false }
+    requires small_chars { spot.chars + length front.now < 2 ^ 62 }
+    requires small_column { spot.column + length front.now < 2 ^ 62 }
+    ensures value { result ≡ fold past spot front.now }
+    ensures line { result.line ≡ spot.line }
+    ensures chars { result.chars ≡ spot.chars + length front.now }
+    ensures column { result.column ≡ spot.column + length front.now }
+{
+    Spot {
+        line: spot.line,
+        chars: spot.chars + front.len(),
+        column: spot.column + front.len(),
+        is_indent: false,
+    }
+}
+
+/// Passes the printable characters at the start of a text that end within `width` bytes. Returns
+/// the place after them, what is left of the text, and how many of the bytes are left.
+fn pass_printable(from: Spot, text: &str, width: usize) -> (Spot, &str, usize)
+    requires after_indent { from.is_indent ≡ false }
+    requires small_chars { from.chars + length text.now < 2 ^ 60 }
+    requires small_column { from.column + 4 * length text.now < 2 ^ 61 }
+    ensures value { fold past result.0 (within result.2 (chars result.1.now))
+        ≡ fold past from (within width (chars text.now)) }
+    ensures on { (more : ℕ) → fold past from (within (width + more) (chars text.now))
+        ≡ fold past result.0 (within (result.2 + more) (chars result.1.now)) }
+    ensures fewer { result.2 ≤ width }
+    ensures shorter { length result.1.now ≤ length text.now }
+    ensures lines { result.0.line + length result.1.now ≤ from.line + length text.now }
+    ensures chars { result.0.chars + length result.1.now ≤ from.chars + length text.now }
+    ensures columns { result.0.column + 4 * length result.1.now
+        ≤ from.column + 4 * length text.now }
+{
+    let (front, rest) = split_printable(text, width);
+    (past_printable(from, front), rest, width - front.len())
+}
+
+/// Passes the characters of a text that end within `width` bytes. Returns the place after them,
+/// what is left of the text, and how many of the bytes are left.
+fn pass(from: Spot, text: &str, width: usize) -> (Spot, &str, usize)
+    requires small_line { from.line + length text.now < 2 ^ 60 }
+    requires small_chars { from.chars + length text.now < 2 ^ 60 }
+    requires small_column { from.column + 4 * length text.now < 2 ^ 61 }
+    ensures value { result.0 ≡ fold past from (within width (chars text.now)) }
+    ensures on { (more : ℕ) → fold past from (within (width + more) (chars text.now))
+        ≡ fold past result.0 (within (result.2 + more) (chars result.1.now)) }
+    ensures fewer { result.2 ≤ width }
+    ensures lines { result.0.line + length result.1.now ≤ from.line + length text.now }
+    ensures chars { result.0.chars + length result.1.now ≤ from.chars + length text.now }
+    ensures columns { result.0.column + 4 * length result.1.now
+        ≤ from.column + 4 * length text.now }
+{
+    let mut at = from;
+    let mut rest = text;
+    let mut left = width;
+    while let Some((c, tail)) = split_first(rest) {
+        if left < c.len_utf8() {
+            break;
+        }
+        left -= c.len_utf8();
+        at = past(at, c);
+        rest = tail;
+        if !at.is_indent {
+            let (spot, rest_after, fewer) = pass_printable(at, rest, left);
+            at = spot;
+            rest = rest_after;
+            left = fewer;
+        }
+    }
+    (at, rest, left)
+}
+
+/// Returns the first line of a text, and the rest of the text after that line.
+pub fn split_line(text: &str) -> (&str, &str)
+    ensures line { result.0.now ≡ first_line text.now }
+    ensures rest { result.1.now ≡ after_lines 1 text.now }
+    ensures short_line { length result.0.now ≤ length text.now }
+    ensures short { length result.1.now ≤ length text.now }
+{
+    match text.split_once('\n') {
+        Some((line, rest)) => (line, rest),
+        None => (text, ""),
+    }
+}
+
+/// Returns the rest of a text after its first lines.
+pub fn after_lines(text: &str, count: usize) -> &str
+    ensures value { result.now ≡ after_lines count text.now }
+    ensures short { length result.now ≤ length text.now }
+{
+    let mut rest = text;
+    let mut left = count;
+    while left > 0 {
+        let (_, rest_after) = split_line(rest);
+        rest = rest_after;
+        left -= 1;
+    }
+    rest
+}
+
+/// Returns the line with a number, counted from 0, or an empty text after the last one.
+#[tactic(auto, unfolding(crate::specs::Places::line))]
+pub fn line(text: &str, number: usize) -> &str
+    ensures value { result.now ≡ line number text.now }
+    ensures short { length result.now ≤ length text.now }
+{
+    let (first, _) = split_line(after_lines(text, number));
+    first
+}
+
+/// Returns the byte offsets in the source at which a range of the literal begins and ends.
+pub fn offsets(picture: &Picture<'_>, range: &Range<usize>) -> (usize, usize)
+    ensures start { result.0 ≡ offset (seen_picture picture.now) (pair range.now).0 }
+    ensures end { result.1 ≡ max (offset (seen_picture picture.now) (pair range.now).0)
+        (offset (seen_picture picture.now) (pair range.now).1) }
+{
+    let length = picture.source.len();
+    let from = picture
+        .literal_start
+        .saturating_add(range.start)
+        .min(length);
+    let to = picture.literal_start.saturating_add(range.end).min(length);
+    (from, to.max(from))
+}
+
+/// Returns where a range of the literal begins and ends.
+#[tactic(auto, unfolding(crate::specs::Places::extent))]
+pub fn extent_of(picture: &Picture<'_>, range: &Range<usize>) -> Extent
+    requires { length picture.now.source.now < 2 ^ 59 }
+    ensures value { seen_extent result ≡ extent (seen_picture picture.now) (pair range.now) }
+    ensures small_line { result.start.line < 2 ^ 59 }
+    ensures small_end { result.end.line < 2 ^ 59 }
+    ensures small_chars { result.start.chars < 2 ^ 59 }
+    ensures small_column { result.start.column < 2 ^ 61 }
+    ensures small_end_column { result.end.column < 2 ^ 61 }
+{
+    let (from, to) = offsets(picture, range);
+    let (start, rest, left) = pass(ORIGIN, picture.source, from);
+    let (end, _, _) = pass(start, rest, left + (to - from));
+    Extent { start, end }
+}

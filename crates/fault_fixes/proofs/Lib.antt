@@ -1,0 +1,17 @@
+pub mod EditLaws
+pub mod FixLaws
+pub mod CallFaults
+pub mod ErrorLists
+pub mod RoundLaws
+pub mod Merging
+pub mod Moving
+pub mod CallMoves
+pub mod RecoveryMoves
+pub mod RawLaw
+pub mod Stopping
+pub mod PositionMoves
+pub mod ColonLaw
+pub mod SpecEnds
+pub mod SpecFaults
+pub mod FlagSpecs
+pub mod FlagLaw

@@ -1,0 +1,5 @@
+pub mod Edits
+pub mod Fixing
+pub mod Rounds
+pub mod Losing
+pub mod SeenEdits

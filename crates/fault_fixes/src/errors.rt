@@ -1,0 +1,105 @@
+//! The errors of all calls of a parser.
+
+ghost use Rattle.std.specs.Prelude.{◌≡◌, ◌+◌, ◌<◌, ◌^◌, [], IfOk, IsOk, OnOk, chars, length, map};
+ghost use Rattle.rustc_parse_format.specs.Faults.{add_errors};
+ghost use Rattle.rustc_parse_format.specs.Seen.{seen_error, seen_mode, seen_snippet};
+ghost use Rattle.rustc_parse_format.specs.SeenFaults.{seen_fault};
+ghost use Rattle.rustc_parse_format.specs.State.{after, first_state, next_call};
+ghost use Rattle.rustc_parse_format.specs.World.{faults_in, hashes};
+ghost use Rattle.fault_fixes.specs.Fixing.{all_errors};
+ghost use Rattle.fault_fixes.specs.SeenEdits.{seen_errors};
+
+use rustc_parse_format::{Argument, Fault, ParseError, ParseMode, Parser};
+use std::alloc::{AllocError, Global};
+
+/// Errors in the order of a parser. None is moved where one is put before the others.
+#[derive(Drop)]
+struct Errors {
+    /// The errors that were put before all others: the last one is the first of all.
+    fronts: Vec<ParseError>,
+    /// The errors after these.
+    backs: Vec<ParseError>,
+}
+
+/// Adds the errors of faults. Returns `Err` if an allocation fails.
+fn add_each(alloc: Global, errors: &mut Errors, faults: &[Fault<'_>]) -> Result<(), AllocError>
+    ensures { OnOk result (seen_errors errors.new
+        ≡ add_errors (seen_errors errors.old) (map seen_fault faults.now)) }
+{
+    for fault in faults {
+        let error = fault.error(alloc)?;
+        if fault.is_front() {
+            errors.fronts.push(error)?;
+        } else {
+            errors.backs.push(error)?;
+        }
+    }
+    Ok(())
+}
+
+/// Makes a call of a parser, and adds the errors of its faults. `found` is empty before and after
+/// the call. Returns `Err` if an allocation fails.
+fn add_next<'a>(
+    alloc: Global,
+    errors: &mut Errors,
+    parser: &mut Parser<'a>,
+    argument: &mut Argument<'a>,
+    found: &mut Vec<Fault<'a>>,
+) -> Result<(), AllocError>
+    requires none { parser.old.errors ≡ [] }
+    requires empty { found.old.items ≡ [] }
+    ensures state { OnOk result (parser.new
+        ≡ record (after parser.old (next_call parser.old)) { errors = [] }) }
+    ensures errors { OnOk result (seen_errors errors.new ≡ add_errors (seen_errors errors.old)
+        (faults_in parser.old.world (next_call parser.old).faults)) }
+    ensures added { OnOk result (found.new.items ≡ []) }
+{
+    parser.next_with_faults(argument, found)?;
+    add_each(alloc, errors, found.as_slice())?;
+    found.clear();
+    Ok(())
+}
+
+/// Returns errors as one list. Returns `Err` if an allocation fails.
+fn joined(errors: Errors) -> Result<Vec<ParseError>, AllocError>
+    ensures { IfOk result (λ v. map seen_error v.items ≡ seen_errors errors) }
+{
+    let mut list = errors.fronts;
+    let mut backs = errors.backs;
+    list.reverse();
+    list.append(&mut backs)?;
+    Ok(list)
+}
+
+/// Returns the errors of all calls of a parser up to the end of an input, in its order. The
+/// arguments are those of [`Parser::new`]. The time grows with the input, whereas a parser moves
+/// all errors that it has where one is put before them. Returns `Err` if an allocation fails.
+pub fn errors_of(
+    alloc: Global,
+    input: &str,
+    style: Option<usize>,
+    snippet: Option<String>,
+    appended_newline: bool,
+    mode: ParseMode,
+) -> Result<Vec<ParseError>, AllocError>
+    requires { hashes style + length input.now + 2 < 2 ^ 64 }
+    ensures errors { IfOk result (λ v. map seen_error v.items
+        ≡ all_errors (first_state (seen_mode mode) (chars input.now) style
+        (seen_snippet snippet) appended_newline)) }
+    ensures empty { input.now ≡ [] → IsOk result }
+{
+    if input.is_empty() {
+        return Ok(Vec::new(alloc));
+    }
+    let mut parser = Parser::new(alloc, input, style, snippet, appended_newline, mode)?;
+    let mut argument = Argument::default();
+    let mut found = Vec::new(alloc);
+    let mut errors = Errors {
+        fronts: Vec::new(alloc),
+        backs: Vec::new(alloc),
+    };
+    while !parser.is_at_end() {
+        add_next(alloc, &mut errors, &mut parser, &mut argument, &mut found)?;
+    }
+    joined(errors)
+}

@@ -1,0 +1,12 @@
+//! The edits that the suggestions of faults in a string literal have: [`edits`] finds them, and
+//! [`fix`] applies them.
+#![tactic(auto)]
+
+mod errors;
+mod fixes;
+pub mod laws;
+mod rounds;
+
+pub use errors::errors_of;
+pub use fixes::{Edit, Fixed, edits, is_offered};
+pub use rounds::fix;
