@@ -15,15 +15,15 @@ use Rattle.rustc_parse_format.specs.Faults.{DebugPrint, LateSign, FieldAccess, T
 use Rattle.rustc_parse_format.specs.Types.{Mode}
 use Rattle.rustc_parse_format.specs.World.{Place}
 use Rattle.piece_listing.specs.Listing.{quoted}
-use Rattle.drawn_faults.specs.Glyphs.{IsHarmless}
-use Rattle.drawn_faults.specs.Painting.{IsColoured, IsHarmlessWith}
-use Rattle.drawn_faults.specs.Places.{Picture, within}
-use Rattle.drawn_faults.proofs.Coloured.{joined, joined_with, plain_with, sgr}
-use Rattle.drawn_faults.proofs.Harmless.{decimal-harmless, either, glyphs-harmless, is_written}
-use Rattle.drawn_faults.proofs.Harmless.{join}
-use Rattle.drawn_faults.proofs.Harmless.{text}
+use Rattle.drawn_lines.specs.Glyphs.{IsHarmless}
+use Rattle.drawn_lines.specs.Painting.{IsColoured, IsHarmlessWith}
+use Rattle.drawn_lines.specs.Places.{Picture, within}
+use Rattle.drawn_lines.proofs.Coloured.{joined, joined_with, plain_with, sgr}
+use Rattle.drawn_lines.proofs.Harmless.{decimal-harmless, either, glyphs-harmless, is_written}
+use Rattle.drawn_lines.proofs.Harmless.{join}
+use Rattle.drawn_lines.proofs.Harmless.{text}
 use Rattle.drawn_faults.proofs.HarmlessDrawings.{drawing-harmless}
-use Rattle.format_tokens.specs.Placed.{Placed}
+use Rattle.format_tokens.specs.Escapes.{Placed}
 use Rattle.format_tokens.specs.declared.kinds.Kind.{Kind}
 use Rattle.format_tokens.specs.declared.kinds.Kind.TheVariants.{Text as TextKind}
 use Rattle.format_tokens.specs.declared.kinds.Kind.TheVariants.{Escape as EscapeKind}
@@ -33,7 +33,8 @@ use Rattle.format_tokens.specs.declared.kinds.Kind.TheVariants.{Align, Sign, Num
 use Rattle.format_tokens.specs.declared.kinds.Kind.TheVariants.{DollarSign, Dot, Asterisk}
 use Rattle.format_tokens.specs.declared.kinds.Kind.TheVariants.{«Type» as TypeKind, Modifier}
 use Rattle.format_tokens.specs.declared.kinds.Kind.TheVariants.{DiagnosticText, Unexpected, Quote}
-use Rattle.format_lint.specs.Colours.{behind, colour, in_colour, kind_name, shown_tokens}
+use Rattle.format_tokens.specs.declared.kinds.Kind.TheVariants.{EscapeSequence}
+use Rattle.format_lint.specs.Colours.{rest_after, colour, in_colour, kind_name, shown_tokens}
 use Rattle.format_lint.specs.Findings.{Finding, first_error, most_drawn}
 use Rattle.format_lint.specs.Lint.{IsHarmlessFor, IsMended, IsShown, IsSourceIn, Shown, Source}
 use Rattle.format_lint.specs.Lint.{Task, drawing_of, drawn_finding, findings, lexed, more, picture}
@@ -121,6 +122,7 @@ name-written Modifier = refl
 name-written DiagnosticText = refl
 name-written Unexpected = refl
 name-written Quote = refl
+name-written EscapeSequence = refl
 
 of_lines : (t : Text) (xs : List Placed) → IsHarmless (shown_tokens false t xs)
 of_lines t [] = text [] refl
@@ -129,7 +131,7 @@ of_lines t (x ∷ xs) =
     join (join (text (kind_name x.0) (name-written x.0)) (join (text (codes " ") refl)
     (join (join (decimal-harmless x.1.0) (join (text (codes "..") refl) (decimal-harmless x.1.1)))
     (join (text (codes " ") refl) (join (glyphs-harmless (chars (quoted (within n t))))
-    (text (codes "\n") refl)))))) (of_lines (behind n t) xs)
+    (text (codes "\n") refl)))))) (of_lines (rest_after n t) xs)
 
 -- tokens in colours
 has_digits : Option (List ℕ) → Bool
@@ -160,6 +162,7 @@ colour-digits Modifier = refl
 colour-digits DiagnosticText = refl
 colour-digits Unexpected = refl
 colour-digits Quote = refl
+colour-digits EscapeSequence = refl
 
 in_colour-safe : (o : Option (List ℕ)) (u : List ℕ) → has_digits o ≡ true → IsHarmless u
     → IsColoured (in_colour o u)
@@ -177,7 +180,7 @@ of_colours t [] = plain_with true (text [] refl)
 of_colours t (x ∷ xs) =
     let n = x.1.1 - x.1.0 in
     joined (in_colour-safe (colour x.0) _ (colour-digits x.0) (glyphs-harmless (within n t)))
-    (of_colours (behind n t) xs)
+    (of_colours (rest_after n t) xs)
 
 of_tokens : (b : Bool) (t : Text) (xs : List Placed) → IsHarmlessWith b (shown_tokens b t xs)
 of_tokens true t xs = of_colours t xs
@@ -212,7 +215,7 @@ pub shown-harmless : (a : Task) (input : List ℕ) (s : Source) (x : Shown)
     → IsSourceIn a.is_literal input s → IsShown a s x → IsHarmlessFor a input x
 shown-harmless a input s x i h = as-shown a input s a.show x i h
 
--- What holds of a result where something else does.
+-- A property of a result that follows from another.
 pub ok-weaker : {A B : Type 0} {P Q : A → Type 0} (r : Result A B) → ((x : A) → P x → Q x)
     → IfOk r P → IfOk r Q
 ok-weaker (Ok x) f h = f x h

@@ -5,8 +5,8 @@ use Rattle.std.proofs.Common.{append-nil, option_map, IsUtf8}
 use Rattle.std.proofs.Math.Utf8.{encodes}
 use Rattle.std.proofs.lemmas.Str.{encodes-chars}
 use Rattle.rustc_parse_format.specs.Types.{Mode}
-use Rattle.drawn_faults.specs.Fixing.{Fixed}
-use Rattle.drawn_faults.proofs.RoundLaws.{fixed-one}
+use Rattle.fault_fixes.specs.Fixing.{Fixed}
+use Rattle.fault_fixes.proofs.RoundLaws.{fixed-one}
 use Rattle.piece_listing.specs.declared.verdict.RunFault.{RunFault}
 use Rattle.piece_listing.specs.declared.verdict.RunFault.TheVariants.{Words, Read, TooLong, NotText}
 use Rattle.piece_listing.specs.declared.verdict.RunFault.TheVariants.{NotLiteral, Memory, Write}
@@ -90,7 +90,7 @@ mended_in-only mode s l r q (inl (f, h, d)) (inr (none, e)) = absurd (none f h)
 mended_in-only mode s l r q (inr (none, d)) (inl (g, k, e)) = absurd (none g k)
 mended_in-only mode s l r q (inr (none, d)) (inr (never, e)) = d ∙ sym e
 
--- What a source with this literal becomes, if it has one.
+-- The mended form of a source with this literal, if it has one.
 abbrev MendedTo : Mode → Source → Option (List ℕ) → Source → Type 0
 MendedTo mode s o r = elim o [
   | None ↦ r ≡ s
@@ -102,7 +102,7 @@ mended-only : (mode : Mode) (s : Source) (o : Option (List ℕ)) (r q : Source)
 mended-only mode s None r q h k = h ∙ sym k
 mended-only mode s (Some l) r q h k = mended_in-only mode s l r q h k
 
--- What is shown in this way.
+-- The output that is shown in this way.
 abbrev pub ShownAs : Task → Source → Show → Shown → Type 0
 ShownAs a s w x = elim w [
   | ShowFault ↦ x ≡ drawn false a s

@@ -17,8 +17,8 @@ use Rattle.rustc_parse_format.specs.Characters.{Text}
 use Rattle.rustc_parse_format.specs.Written.{plainly_written, written}
 use Rattle.rustc_parse_format.proofs.Grammar.Fronts.{list_all-weaker}
 use Rattle.piece_listing.specs.Listing.{quoted}
-use Rattle.drawn_faults.specs.Glyphs.{glyph_bytes, is_ascii_or_as_is, is_drawn_as_is, is_printable}
-use Rattle.drawn_faults.proofs.PrintableLemmas.{ascii-printable, whole-as-is}
+use Rattle.drawn_lines.specs.Glyphs.{glyph_bytes, is_ascii_or_as_is, is_drawn_as_is, is_printable}
+use Rattle.drawn_lines.proofs.PrintableLemmas.{ascii-printable, whole-as-is}
 
 digit-printable : (n : ℕ) → is_printable (digit_glyph false (n % 16)) ≡ true
 digit-printable n = let l : n % 16 < 16 = omega arith in grind (arith, nat_tests)

@@ -4,9 +4,9 @@ use Rattle.std.specs.Prelude.{Some, codes, drop, length}
 use Rattle.std.specs.Str.{encode_utf8_all}
 use Rattle.rustc_parse_format.specs.Characters.{Text}
 use Rattle.piece_listing.specs.Listing.{quoted, span_text}
-use Rattle.drawn_faults.specs.Glyphs.{glyph_bytes, glyphs, is_ascii_or_as_is, is_drawn_as_is}
-use Rattle.drawn_faults.specs.Places.{within}
-use Rattle.format_tokens.specs.Placed.{Placed}
+use Rattle.drawn_lines.specs.Glyphs.{glyph_bytes, glyphs, is_ascii_or_as_is, is_drawn_as_is}
+use Rattle.drawn_lines.specs.Places.{within}
+use Rattle.format_tokens.specs.Escapes.{Placed}
 use Rattle.format_tokens.specs.declared.kinds.Kind.{Kind}
 use Rattle.format_tokens.specs.declared.kinds.Kind.TheVariants.{Text as TextKind, Escape, Open}
 use Rattle.format_tokens.specs.declared.kinds.Kind.TheVariants.{Close, Integer, Identifier}
@@ -15,6 +15,7 @@ use Rattle.format_tokens.specs.declared.kinds.Kind.TheVariants.{Align, Sign, Num
 use Rattle.format_tokens.specs.declared.kinds.Kind.TheVariants.{DollarSign, Dot, Asterisk}
 use Rattle.format_tokens.specs.declared.kinds.Kind.TheVariants.{«Type» as TypeKind, Modifier}
 use Rattle.format_tokens.specs.declared.kinds.Kind.TheVariants.{DiagnosticText, Unexpected, Quote}
+use Rattle.format_tokens.specs.declared.kinds.Kind.TheVariants.{EscapeSequence}
 
 -- The name of a kind in a list of tokens.
 unfoldable pub kind_name : Kind → List ℕ
@@ -40,10 +41,12 @@ kind_name Modifier = codes "modifier"
 kind_name DiagnosticText = codes "diagnostic-text"
 kind_name Unexpected = codes "unexpected"
 kind_name Quote = codes "quote"
+kind_name EscapeSequence = codes "escape-sequence"
 
 -- The colour of a kind, as a number of SGR, the escapes for a terminal: blue for a doubled brace,
--- magenta for the marks that part a placeholder, cyan for an argument or a number, yellow for the
--- fill and the flags, green for the type, red for text that is wrong. Plain text has none.
+-- bright blue for an escape of the literal, magenta for the marks that part a placeholder, cyan for
+-- an argument or a number, yellow for the fill and the flags, green for the type, red for text that
+-- is wrong. Plain text has none.
 unfoldable pub colour : Kind → Option (List ℕ)
 colour TextKind = None
 colour Escape = Some (codes "34")
@@ -67,6 +70,7 @@ colour Modifier = Some (codes "32")
 colour DiagnosticText = None
 colour Unexpected = Some (codes "31")
 colour Quote = None
+colour EscapeSequence = Some (codes "94")
 
 -- A text in a colour: between the escape that sets the colour and the one that resets it.
 abbrev pub in_colour : Option (List ℕ) → List ℕ → List ℕ
@@ -86,12 +90,12 @@ stays true b = is_drawn_as_is b
 stays false b = is_ascii_or_as_is b
 
 -- The rest of a text after its first characters, as many as end within n bytes.
-abbrev pub behind : ℕ → Text → Text
-behind n t = drop (length (within n t)) t
+abbrev pub rest_after : ℕ → Text → Text
+rest_after n t = drop (length (within n t)) t
 
 -- The tokens of a text: each takes as many bytes from the rest of it as its range has.
 abbrev pub shown_tokens : Bool → Text → List Placed → List ℕ
 shown_tokens colours t [] = []
 shown_tokens colours t (x ∷ xs) =
     let n = x.1.1 - x.1.0 in
-    shown_token colours x (within n t) ++ shown_tokens colours (behind n t) xs
+    shown_token colours x (within n t) ++ shown_tokens colours (rest_after n t) xs

@@ -13,15 +13,16 @@ use Rattle.piece_listing.specs.declared.verdict.RunFault.TheVariants.{NotLiteral
 use Rattle.piece_listing.specs.Program.{IsShort, limit}
 use Rattle.rustc_parse_format.specs.Literal.{IsLiteral}
 use Rattle.literal_faults.specs.Margins.{IsSnippet}
-use Rattle.drawn_faults.specs.Places.{Picture}
+use Rattle.drawn_lines.specs.Places.{Picture}
 use Rattle.drawn_faults.specs.Drawing.{drawing}
-use Rattle.drawn_faults.specs.Fixing.{Fixed, all_errors}
-use Rattle.drawn_faults.specs.Rounds.{IsFixed}
-use Rattle.drawn_faults.specs.Painting.{IsHarmlessWith}
+use Rattle.fault_fixes.specs.Fixing.{Fixed, all_errors}
+use Rattle.fault_fixes.specs.Rounds.{IsFixed}
+use Rattle.drawn_lines.specs.Painting.{IsHarmlessWith}
 use Rattle.format_lint.specs.declared.task.Show.{Show}
 use Rattle.format_lint.specs.declared.task.Show.TheVariants.{Fault as ShowFault, Fix as ShowFix}
 use Rattle.format_lint.specs.declared.task.Show.TheVariants.{All as ShowAll, Tokens as ShowTokens}
-use Rattle.format_tokens.specs.Placed.{Placed, tokens}
+use Rattle.format_tokens.specs.Escapes.{Placed}
+use Rattle.format_tokens.specs.Placed.{tokens}
 use Rattle.format_lint.specs.Colours.{shown_tokens}
 use Rattle.format_lint.specs.Findings.{Finding, findings_from, first_error, mistakes}
 use Rattle.format_lint.specs.Findings.{most_drawn}
@@ -136,7 +137,7 @@ abbrev pub first_drawing : Mode → Picture → List Finding → List ℕ
 first_drawing mode p [] = []
 first_drawing mode p (f ∷ fs) = drawing mode p (message f.fault)
 
--- What a task shows: the output, the error output, and the number of mistakes that are left.
+-- The result of a task: the output, the error output, and the number of mistakes that are left.
 pub record Shown : Type 0 where
   pub output : List ℕ
   pub error_output : List ℕ
@@ -199,7 +200,7 @@ IsMended mode s r = elim s.literal [
   | Some l ↦ IsMendedIn mode s l r
 ]
 
--- What a task shows of a source.
+-- The result of a task for a source.
 abbrev pub IsShown : Task → Source → Shown → Type 0
 IsShown a s x = elim a.show [
   | ShowFault ↦ x ≡ drawn false a s
@@ -224,7 +225,7 @@ abbrev pub IsHarmlessFor : Task → List ℕ → Shown → Type 0
 IsHarmlessFor a input x =
     IsHarmlessOutput a input x.output × IsHarmlessWith a.colours x.error_output
 
--- The answer to a task with this input: what is shown, or the reason why nothing is written.
+-- The answer to a task with this input: its result, or the reason why nothing is written.
 abbrev pub IsOwed : Task → List ℕ → Result Shown RunFault → Type 0
 IsOwed a input (Ok x) = IsShort input × IsUtf8 input
     × ((s : Source) × IsSourceIn a.is_literal input s × IsShown a s x)

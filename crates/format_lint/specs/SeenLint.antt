@@ -39,7 +39,7 @@ seen_finding f = record { fault = seen_fault f.fault; follows = f.follows }
 abbrev pub Keeps : Findings → List Finding → Type 0
 Keeps f fs = AreCounted (map seen_finding f.first.items) f.others f.mistakes fs
 
--- What a task shows, as a contract sees it.
+-- The result of a task, as a contract sees it.
 abbrev pub seen_shown : DeclaredShown → Shown
 seen_shown x = record {
   output = string_bytes x.output;

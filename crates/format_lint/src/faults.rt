@@ -6,7 +6,7 @@ ghost use Rattle.rustc_parse_format.specs.World.{hashes};
 ghost use Rattle.piece_listing.specs.Program.{limit};
 ghost use Rattle.format_tokens.specs.Midway.{sized};
 ghost use Rattle.format_tokens.specs.Seen.{seen_token};
-ghost use Rattle.format_tokens.specs.Walk.{tokens_of};
+ghost use Rattle.format_tokens.specs.Walk.{read_tokens};
 ghost use Rattle.format_lint.specs.Findings.{findings_from};
 ghost use Rattle.format_lint.specs.Lint.{findings, start, tokens_in};
 ghost use Rattle.format_lint.specs.SeenLint.{Keeps, seen_source};
@@ -57,7 +57,7 @@ fn labels_of<'a>(
 ) -> Result<(Vec<(Kind, usize)>, Findings<'a>), AllocError>
     requires { parser.old ≡ start (seen_mode mode) (seen_source source) }
     ensures labels { IfOk result (λ x. x.0.items
-        ≡ map sized (tokens_of (seen_mode mode) (chars source.entry.text.now))) }
+        ≡ map sized (read_tokens (seen_mode mode) (chars source.entry.text.now))) }
     ensures faults { IfOk result (λ x. Keeps x.1
         (findings (seen_mode mode) (seen_source source.entry))) }
 {
@@ -126,6 +126,7 @@ pub fn tokens_in<'a>(
         source.style,
         source.literal,
         false,
+        mode,
         labels.as_slice(),
     )?;
     Ok((tokens, faults))

@@ -1,4 +1,4 @@
-//! What is shown of an input in UTF-8.
+//! The result of a task for an input in UTF-8.
 
 ghost use Rattle.std.specs.Prelude.{◌≡◌, ◌≢◌, ◌≤◌, ◌++◌, List, [], IfErr, IfOk, IsErrOf, OnOk};
 ghost use Rattle.std.specs.Prelude.{None, codes, flat_map, if◌then◌else◌, map, string_bytes};
@@ -10,7 +10,7 @@ ghost use Rattle.rustc_parse_format.specs.World.{hashes};
 ghost use Rattle.piece_listing.specs.declared.verdict.RunFault.TheVariants.{Memory, NotLiteral};
 ghost use Rattle.piece_listing.specs.Program.{IsShort, limit};
 ghost use Rattle.drawn_faults.specs.Drawing.{drawing};
-ghost use Rattle.drawn_faults.specs.Places.{seen_picture};
+ghost use Rattle.drawn_lines.specs.Places.{seen_picture};
 ghost use Rattle.format_lint.specs.Lint.{IsHarmlessFor, IsLiteralIn, IsMended, IsShown};
 ghost use Rattle.format_lint.specs.Lint.{IsSourceIn, bare};
 ghost use Rattle.format_lint.specs.Findings.{mistakes};
@@ -24,14 +24,16 @@ use super::faults::{Source, faults_in, tokens_in};
 use super::findings::{Finding, Findings};
 use super::task::{Show, Task};
 use super::tokens::put_tokens;
-use drawn_faults::{Picture, fix, put_drawing};
+use drawn_faults::put_drawing;
+use drawn_lines::Picture;
+use fault_fixes::fix;
 use literal_faults::snippet_of;
 use piece_listing::literal::literal_text;
 use piece_listing::verdict::RunFault;
 use rustc_parse_format::ParseMode;
 use std::alloc::{AllocError, Global};
 
-/// What a task shows of an input.
+/// The result of a task for an input.
 #[derive(Drop)]
 pub struct Shown {
     /// The text for the output.
@@ -142,7 +144,7 @@ fn put_drawings(
         (map seen_finding faults.now.first.items) ++ more faults.now.others
         else first_drawing (seen_mode mode) (seen_picture picture.now)
         (map seen_finding faults.now.first.items))) }
-    ensures told { IfOk result (λ told. told ≡ faults.now.mistakes) }
+    ensures report { IfOk result (λ report. report ≡ faults.now.mistakes) }
 {
     if all {
         put_each(alloc, out, mode, picture, faults.first.as_slice())?;
@@ -166,7 +168,7 @@ fn put_faults(
     requires { Keeps faults.now (findings (seen_mode task.mode) (seen_source source)) }
     ensures drawn { OnOk result (string_bytes out.new ≡ string_bytes out.old
         ++ drawing_of all (seen_task task.entry) (seen_source source.entry)) }
-    ensures told { IfOk result (λ told. told
+    ensures report { IfOk result (λ report. report
         ≡ mistakes (findings (seen_mode task.entry.mode) (seen_source source.entry))) }
 {
     let picture = Picture {
@@ -280,7 +282,7 @@ fn token_output(alloc: Global, task: Task<'_>, source: Source<'_>) -> Result<Sho
     Ok(with_drawing(alloc, output, task, source, &faults)?)
 }
 
-/// Returns what a task shows of a source. Returns `Err` if an allocation fails.
+/// Returns the result of a task for a source. Returns `Err` if an allocation fails.
 fn shown_of(alloc: Global, source: Source<'_>, task: Task<'_>) -> Result<Shown, AllocError>
     requires { hashes source.style ≤ limit }
     ensures { IfOk result (λ x. IsShown (seen_task task.entry) (seen_source source.entry)
@@ -294,7 +296,7 @@ fn shown_of(alloc: Global, source: Source<'_>, task: Task<'_>) -> Result<Shown, 
     }
 }
 
-/// Returns what a task shows of the input as a string literal, perhaps with a byte order mark
+/// Returns the result of a task for the input as a string literal, perhaps with a byte order mark
 /// before it and white space around it. Returns `Err` if the input is not a string literal or an
 /// allocation fails.
 fn shown_of_literal(alloc: Global, input: &str, task: Task<'_>) -> Result<Shown, RunFault>
@@ -335,8 +337,8 @@ fn bare<'a>(text: &'a str, lines: &'a str) -> Source<'a>
     }
 }
 
-/// Returns what a task shows of an input. Returns `Err` if the task needs a string literal and the
-/// input is none, or if an allocation fails.
+/// Returns the result of a task for an input. Returns `Err` if the task needs a string literal and
+/// the input is none, or if an allocation fails.
 pub fn shown_of_input(alloc: Global, input: &str, task: Task<'_>) -> Result<Shown, RunFault>
     requires { IsShort input.now }
     ensures shown { IfOk result (λ x. (s : SourceValue)

@@ -4,14 +4,14 @@
 ghost use Rattle.std.specs.List.{list_all};
 ghost use Rattle.std.specs.Prelude.{◌≡◌, ◌++◌, ℕ, IsTrue, List, MatchOption, OnOk, chars, codes};
 ghost use Rattle.std.specs.Prelude.{false, map, string_bytes, true};
-ghost use Rattle.drawn_faults.specs.Glyphs.{glyph_bytes, is_ascii_or_as_is, is_drawn_as_is};
-ghost use Rattle.drawn_faults.specs.Places.{within};
+ghost use Rattle.drawn_lines.specs.Glyphs.{glyph_bytes, is_ascii_or_as_is, is_drawn_as_is};
+ghost use Rattle.drawn_lines.specs.Places.{within};
 ghost use Rattle.format_tokens.specs.Seen.{seen_token};
 ghost use Rattle.piece_listing.specs.Listing.{quoted};
-ghost use Rattle.format_lint.specs.Colours.{behind, colour, in_colour, kind_name};
+ghost use Rattle.format_lint.specs.Colours.{rest_after, colour, in_colour, kind_name};
 ghost use Rattle.format_lint.specs.Colours.{shown_token, shown_tokens, stays};
 
-use drawn_faults::{is_ascii_or_as_is, is_drawn_as_is, put_glyphs};
+use drawn_lines::{is_ascii_or_as_is, is_drawn_as_is, put_glyphs};
 use format_tokens::{Kind, Token};
 use piece_listing::{put_quoted, put_span};
 use std::alloc::AllocError;
@@ -44,6 +44,7 @@ fn kind_name(kind: Kind) -> &'static str
         Kind::DiagnosticText => "diagnostic-text",
         Kind::Unexpected => "unexpected",
         Kind::Quote => "quote",
+        Kind::EscapeSequence => "escape-sequence",
     }
 }
 
@@ -65,6 +66,7 @@ fn colour_escape(kind: Kind) -> Option<&'static str>
         }
         Kind::Type | Kind::Modifier => Some("\u{1b}[32m"),
         Kind::Unexpected => Some("\u{1b}[31m"),
+        Kind::EscapeSequence => Some("\u{1b}[94m"),
     }
 }
 
@@ -153,7 +155,7 @@ fn put_token(
 /// them.
 fn split_within(text: &str, width: usize) -> (&str, &str)
     ensures front { chars result.0.now ≡ within width (chars text.now) }
-    ensures back { chars result.1.now ≡ behind width (chars text.now) }
+    ensures back { chars result.1.now ≡ rest_after width (chars text.now) }
     ensures whole { text.now ≡ result.0.now ++ result.1.now }
 {
     text.split_at(text.floor_char_boundary(width))
@@ -193,9 +195,9 @@ pub fn put_tokens(
     let mut rest = text;
     for token in tokens {
         let width = token.span.end.saturating_sub(token.span.start);
-        let (text, behind) = split_within(rest, width);
+        let (text, rest_after) = split_within(rest, width);
         put_token(out, colours, as_is, token, text)?;
-        rest = behind;
+        rest = rest_after;
     }
     Ok(())
 }

@@ -16,10 +16,11 @@ use Rattle.rustc_parse_format.proofs.Grammar.PartFronts.{integer-complete}
 use Rattle.rustc_parse_format.proofs.Grammar.PartLaws.{IsPart-moved, absent-same, fixed-there}
 use Rattle.rustc_parse_format.proofs.Grammar.PartLaws.{row-two, two-split}
 use Rattle.format_tokens.specs.declared.kinds.Kind.TheVariants.{Asterisk, DollarSign, Dot}
-use Rattle.format_tokens.specs.declared.kinds.Kind.TheVariants.{Identifier, Integer, Zero}
+use Rattle.format_tokens.specs.declared.kinds.Kind.TheVariants.{Identifier, Zero}
 use Rattle.format_tokens.specs.Midway.{Sized, Took}
-use Rattle.format_tokens.specs.Tokens.{count_tokens, precision_tokens, token, width_tokens}
-use Rattle.format_tokens.proofs.Taking.{Takes, moved, then, width-nil}
+use Rattle.format_tokens.specs.Tokens.{count_tokens, integer_kind, precision_tokens, token}
+use Rattle.format_tokens.specs.Tokens.{width_tokens, word_kind}
+use Rattle.format_tokens.proofs.Taking.{Takes, as_kind, moved, then, width-nil}
 
 -- The digits at the front are those of an integer there.
 pub integer-width : (t ds r : Text) → IsPart t (integer ds) r
@@ -27,39 +28,49 @@ pub integer-width : (t ds r : Text) → IsPart t (integer ds) r
 unfolding digits
 integer-width t ds r h = ap byte_length (integer-complete t ds r h).read
 
+pub integer-kind : (t ds r : Text) → IsPart t (integer ds) r
+    → integer_kind (front is_ascii_digit t) ≡ integer_kind ds
+unfolding digits
+integer-kind t ds r h = ap integer_kind (integer-complete t ds r h).read
+
 pub count-is : (t left : List ℕ) (x y : List Sized) (n w : ℕ)
-    → n ≡ byte_length (front is_ascii_digit (chars t)) → Takes Integer n t x y left
+    → n ≡ byte_length (front is_ascii_digit (chars t))
+    → Takes (integer_kind (front is_ascii_digit (chars t))) n t x y left
     → (k : CountText) (r : Text) → IsPart (chars t) (count_part k) r → Is w ≡ count_value k
     → Took (count_tokens k) r x y left
 count-is t left x y n w e takes (NumberCount ds) r h v =
     let s = two-split (chars t) (integer ds) (absent (begins_with 36)) r h in
-    takes ds r (s.first.whole ∙ ap (λ u. ds ++ u) (absent-same s.seam _ r s.second))
-    (e ∙ integer-width (chars t) ds s.seam s.first)
+    as_kind ds (integer-kind (chars t) ds s.seam s.first)
+    (takes ds r (s.first.whole ∙ ap (λ u. ds ++ u) (absent-same s.seam _ r s.second))
+    (e ∙ integer-width (chars t) ds s.seam s.first))
 count-is t left x y n w e takes (IndexCount ds) r h v = absurd (cc v)
 count-is t left x y n w e takes (NameCount ds) r h v = absurd (cc v)
 count-is t left x y n w e takes NoCount r h v = absurd (cc v)
 
 pub count-param : (t d left : List ℕ) (x y z : List Sized) (n w : ℕ)
-    → n ≡ byte_length (front is_ascii_digit (chars t)) → Takes Integer n t x y d
+    → n ≡ byte_length (front is_ascii_digit (chars t))
+    → Takes (integer_kind (front is_ascii_digit (chars t))) n t x y d
     → Takes DollarSign 1 d y z left
     → (k : CountText) (r : Text) → IsPart (chars t) (count_part k) r → Param w ≡ count_value k
     → Took (count_tokens k) r x z left
 count-param t d left x y z n w e takes dollar (IndexCount ds) r h v =
     let s = two-split (chars t) (integer ds) (fixed (codes "$")) r h in
-    let first = takes ds s.seam s.first.whole (e ∙ integer-width (chars t) ds s.seam s.first) in
+    let first = as_kind ds (integer-kind (chars t) ds s.seam s.first)
+    (takes ds s.seam s.first.whole (e ∙ integer-width (chars t) ds s.seam s.first)) in
     then first (dollar (codes "$") r (first.leaves ∙ s.second.whole) refl)
 count-param t d left x y z n w e takes dollar (NumberCount ds) r h v = absurd (cc v)
 count-param t d left x y z n w e takes dollar (NameCount ds) r h v = absurd (cc v)
 count-param t d left x y z n w e takes dollar NoCount r h v = absurd (cc v)
 
 pub count-name : (t d left : List ℕ) (x y z : List Sized) (w : Text) (n : ℕ)
-    → n ≡ byte_length w → Takes Identifier n t x y d → Takes DollarSign 1 d y z left
+    → n ≡ byte_length w → Takes (word_kind Identifier w) n t x y d → Takes DollarSign 1 d y z left
     → (k : CountText) (r : Text) → IsPart (chars t) (count_part k) r → Name w tt ≡ count_value k
     → Took (count_tokens k) r x z left
 count-name t d left x y z w n e takes dollar (NameCount v) r h i =
     let s = two-split (chars t) (name_part v) (fixed (codes "$")) r h in
     let same : w ≡ v = cc i in
-    let first = takes v s.seam s.first.whole (e ∙ ap byte_length same) in
+    let first = as_kind v (ap (word_kind Identifier) same)
+    (takes v s.seam s.first.whole (e ∙ ap byte_length same)) in
     then first (dollar (codes "$") r (first.leaves ∙ s.second.whole) refl)
 count-name t d left x y z w n e takes dollar (NumberCount ds) r h v = absurd (cc v)
 count-name t d left x y z w n e takes dollar (IndexCount ds) r h v = absurd (cc v)

@@ -22,7 +22,8 @@ use Rattle.rustc_parse_format.proofs.Spans.Worlds.{known, unit_world}
 use Rattle.format_tokens.specs.Covers.{IsCover, ranges_of}
 use Rattle.format_tokens.specs.declared.kinds.Kind.{Kind}
 use Rattle.format_tokens.specs.declared.kinds.Kind.TheVariants.{Quote}
-use Rattle.format_tokens.specs.Placed.{Placed, placed, shown, tokens, within}
+use Rattle.format_tokens.specs.Escapes.{Placed}
+use Rattle.format_tokens.specs.Placed.{placed, shown, whole_tokens, within}
 use Rattle.format_tokens.specs.Tokens.{Label, joined, token}
 use Rattle.format_tokens.specs.Walk.{tokens_of}
 use Rattle.format_tokens.proofs.Joining.{shown-joined}
@@ -35,7 +36,7 @@ start-stop lo (p ∷ ps) e zero (starts, bytes, others) h = bytes
 start-stop lo (p ∷ ps) e (suc a) (starts, bytes, others) h =
     start-stop p.1 ps e a others (omega arith)
 
--- Behind the last one the text ends.
+-- After the last one the text ends.
 pub start-end : (ps : List Place) (e a : ℕ) → length ps ≤ a → start ps e a ≡ e
 start-end [] e a h = refl
 start-end (p ∷ ps) e zero h = absurd (omega arith)
@@ -143,17 +144,17 @@ cover-also k (t ∷ ts) a e z h l = (h.0, h.1, cover-also k ts t.1.1 e z h.2 l)
 pub source-tokens : (mode : Mode) (input : Text) (style : Option ℕ) (source : Text) (b : Bool)
     → IsSource input style source b
     → (let w = world input style (Some source) b in
-    tokens mode input style (Some source) b
+    whole_tokens mode input style (Some source) b
     ≡ (Quote, (0, number_of w (Start (length input))))
     ∷ (placed w (length input) (shown mode input b) ++ (Quote, (w.end, byte_length source)) ∷ []))
-unfolding tokens
+unfolding whole_tokens
 source-tokens mode input style source b h =
     cond-true _ _ _ (found-source input style source b h)
 
-pub tokens-cover : (mode : Mode) (input : Text) (style : Option ℕ) (source : Text) (b : Bool)
+pub whole-cover : (mode : Mode) (input : Text) (style : Option ℕ) (source : Text) (b : Bool)
     → IsSource input style source b
-    → IsCover 0 (byte_length source) (ranges_of (tokens mode input style (Some source) b))
-tokens-cover mode input style source b h =
+    → IsCover 0 (byte_length source) (ranges_of (whole_tokens mode input style (Some source) b))
+whole-cover mode input style source b h =
     let w = world input style (Some source) b in
     let l = source-literal input style source b h in
     let text = text-cover w (length input) (length (newline b)) (length input)

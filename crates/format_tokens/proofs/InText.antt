@@ -3,7 +3,7 @@ use Rattle.std.proofs.Common.{◌≡◌, ℕ, ◌++◌, ◌+◌, ◌-◌, ◌<�
 use Rattle.std.proofs.Common.{length, drop, chars, IsUtf8, refl, sym, ap, subst, ◌∙◌, arith}
 use Rattle.std.proofs.Common.{append_assoc, length-append, Option, Some, None}
 use Rattle.std.specs.Prelude.{encode_utf8_all}
-use Rattle.std.proofs.lemmas.Bool.{cond-false, false_from_ne_true}
+use Rattle.std.proofs.lemmas.Bool.{false_from_ne_true}
 use Rattle.std.proofs.lemmas.List.{append-nil, take-append-drop}
 use Rattle.std.proofs.lemmas.Str.{len_utf8_bounds}
 use Rattle.rustc_parse_format.specs.Characters.{Text, byte_length}
@@ -15,8 +15,9 @@ use Rattle.rustc_parse_format.proofs.Literals.Widths.{width-append, width-cons}
 use Rattle.rustc_parse_format.proofs.Sources.Decided.{source-found}
 use Rattle.rustc_parse_format.proofs.Sources.PlainPlaces.{place_end, place_inside}
 use Rattle.rustc_parse_format.proofs.Spans.TextBytes.{text-bytes}
-use Rattle.format_tokens.specs.Covers.{IsCover, encoded, kinds_of, ranges_of, slices}
-use Rattle.format_tokens.specs.Placed.{Placed, in_text, placed, shown, tokens}
+use Rattle.format_tokens.specs.Covers.{IsCover, encoded, ranges_of, slices}
+use Rattle.format_tokens.specs.Escapes.{Placed}
+use Rattle.format_tokens.specs.Placed.{in_text, placed, shown, tokens, whole_tokens}
 use Rattle.format_tokens.specs.Tokens.{Label, joined}
 use Rattle.format_tokens.specs.Walk.{tokens_of}
 use Rattle.format_tokens.proofs.Covering.{AreSome, within-some}
@@ -93,19 +94,15 @@ placed-shown mode input b =
 pub text-tokens : (mode : Mode) (input : Text) (style : Option ℕ) (snippet : Option Text) (b : Bool)
     → (HasSource input style snippet b → ⊥)
     → tokens mode input style snippet b ≡ in_text 0 (shown mode input b)
-unfolding tokens
+unfolding tokens whole_tokens
 text-tokens mode input style None b none = refl
 text-tokens mode input style (Some snippet) b none =
-    cond-false _ _ _ (false_from_ne_true (is_source input style (Some snippet) b)
-    (λ t. none (source-found input style snippet b t)))
+    let no = false_from_ne_true (is_source input style (Some snippet) b)
+    (λ t. none (source-found input style snippet b t)) in
+    rw no refl
 
--- They have the kinds of the text,
-pub text-kinds : (at : ℕ) (ls : List Label) → kinds_of (in_text at ls) ≡ kinds_of ls
-text-kinds at [] = refl
-text-kinds at (l ∷ ls) = ap (λ ks. l.0 ∷ ks) (text-kinds (at + byte_length l.1) ls)
-
--- cover it,
-some-width : (t : Text) → 0 < length t → 0 < byte_length t
+-- They cover it,
+pub some-width : (t : Text) → 0 < length t → 0 < byte_length t
 some-width [] h = absurd (omega arith)
 some-width (c ∷ t) h = omega (arith, len_utf8_bounds c, width-cons c t)
 

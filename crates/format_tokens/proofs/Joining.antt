@@ -7,8 +7,8 @@ use Rattle.std.specs.Char.{is_whitespace}
 use Rattle.std.proofs.lemmas.Bool.{eqb-true, false≢true}
 use Rattle.std.proofs.lemmas.List.{length-take}
 use Rattle.rustc_parse_format.specs.Call.{call, placeholder}
-use Rattle.rustc_parse_format.specs.Characters.{Text, begins_raw, begins_with, behind_first}
-use Rattle.rustc_parse_format.specs.Characters.{behind_white, front, is_brace, is_no_brace}
+use Rattle.rustc_parse_format.specs.Characters.{Text, begins_raw, begins_with, after_first}
+use Rattle.rustc_parse_format.specs.Characters.{after_white, front, is_brace, is_no_brace}
 use Rattle.rustc_parse_format.specs.Placeholder.{cut}
 use Rattle.rustc_parse_format.specs.Source.{unappended}
 use Rattle.rustc_parse_format.specs.Spelling.{IsPart, absent, fixed, identifier, integer}
@@ -23,19 +23,23 @@ use Rattle.rustc_parse_format.specs.Syntax.{alternate_part, count_part, field_pa
 use Rattle.rustc_parse_format.specs.Syntax.{format_part, name_part, position_part, precision_part}
 use Rattle.rustc_parse_format.specs.Syntax.{sign_part, spec_part, type_part, width_part}
 use Rattle.rustc_parse_format.specs.Types.{Mode, Format, InlineAsm, Diagnostic, DiagnosticNamed}
-use Rattle.rustc_parse_format.proofs.Grammar.Fronts.{front-behind}
+use Rattle.rustc_parse_format.specs.Types.{wants_names}
+use Rattle.rustc_parse_format.proofs.Grammar.Fronts.{front-rest_after}
 use Rattle.rustc_parse_format.proofs.Grammar.PartCuts.{cut-sound}
 use Rattle.rustc_parse_format.proofs.Grammar.PartLaws.{IsRow, only, opened, two-split}
 use Rattle.rustc_parse_format.proofs.Readers.Recoveries.{recovery_rest}
 use Rattle.rustc_parse_format.proofs.Walking.Progress.{call-lt}
 use Rattle.format_tokens.specs.declared.kinds.Kind.{Kind}
-use Rattle.format_tokens.specs.declared.kinds.Kind.TheVariants.{Colon, Unexpected}
+use Rattle.format_tokens.specs.declared.kinds.Kind.TheVariants.{Close, Colon}
+use Rattle.format_tokens.specs.Culprits.{marked}
 use Rattle.format_tokens.specs.Placed.{shown, within}
 use Rattle.format_tokens.specs.Tokens.{Label, count_tokens, field_tokens, format_tokens, joined}
 use Rattle.format_tokens.specs.Tokens.{opened_tokens, position_tokens, precision_tokens}
 use Rattle.format_tokens.specs.Tokens.{spec_tokens, token, width_tokens}
-use Rattle.format_tokens.specs.Walk.{call_tokens, placeholder_tokens, tokens_of, tokens_within}
-use Rattle.format_tokens.proofs.Calls.{cut_first, take-rest, white-behind}
+use Rattle.format_tokens.specs.Walk.{call_tokens, is_closed, placeholder_tokens, read_tokens}
+use Rattle.format_tokens.specs.Walk.{skipped_tokens, tokens_of, tokens_within}
+use Rattle.format_tokens.proofs.Calls.{cut_first, take-rest, white-rest_after}
+use Rattle.format_tokens.proofs.Skipping.{closed-shape}
 
 pub joined-append : (x y : List Label) → joined (x ++ y) ≡ joined x ++ joined y
 joined-append [] y = refl
@@ -168,25 +172,35 @@ field-splits mode t a r h =
     also (position-splits t a.position p.seam p.first)
     (also (splits _ a.space w.first.whole) (spec-splits mode w.seam a.spec r s))
 
+skipped-splits : (u : Text) {t r : Text} → t ≡ u ++ r → Splits (skipped_tokens u) t r
+skipped-splits u {t = t} {r = r} e = by_end (is_closed u) refl
+  where
+    by_end : (v : Bool) → is_closed u ≡ v → Splits (skipped_tokens u) t r
+    by_end true q = rw q (also (splits _ (take (length u - 1) u) (e
+        ∙ (ap (λ v. v ++ r) (closed-shape u q)
+        ∙ append_assoc (take (length u - 1) u) (codes "}") r))) (splits _ (codes "}") refl))
+    by_end false q = rw q (splits _ u e)
+
 -- A placeholder and what is read in place of its closing brace.
 placeholder-splits : (mode : Mode) (n : ℕ) (o t : Text)
     → Splits (placeholder_tokens mode t (placeholder mode n o t).rest) (123 ∷ t)
     (placeholder mode n o t).rest
 unfolding placeholder placeholder_tokens
-placeholder-splits mode n o t = by_brace (begins_with 125 (behind_white (cut mode t).rest)) refl
+placeholder-splits mode n o t = by_brace (begins_with 125 (after_white (cut mode t).rest)) refl
   where
     opening : Splits (opened_tokens (cut mode t).field (front is_whitespace (cut mode t).rest))
-        (123 ∷ t) (behind_white (cut mode t).rest)
+        (123 ∷ t) (after_white (cut mode t).rest)
     opening = also (splits _ (codes "{") refl)
         (also (field-splits mode t (cut mode t).field (cut mode t).rest (cut-sound mode t))
-        (splits _ (front is_whitespace (cut mode t).rest) (white-behind (cut mode t).rest)))
+        (splits _ (front is_whitespace (cut mode t).rest) (white-rest_after (cut mode t).rest)))
 
-    by_brace : (v : Bool) → begins_with 125 (behind_white (cut mode t).rest) ≡ v
+    by_brace : (v : Bool) → begins_with 125 (after_white (cut mode t).rest) ≡ v
         → Splits (placeholder_tokens mode t (placeholder mode n o t).rest) (123 ∷ t)
         (placeholder mode n o t).rest
     by_brace true q = rw q (also opening (splits _ (codes "}") (cut_first 125 _ q)))
-    by_brace false q = rw q (also opening (splits _ _ (take-rest (behind_white (cut mode t).rest) _
-        (recovery_rest mode _ o _ (behind_white (cut mode t).rest)))))
+    by_brace false q = rw q (also opening (skipped-splits _ (take-rest
+        (after_white (cut mode t).rest) _
+        (recovery_rest mode _ o _ (after_white (cut mode t).rest)))))
 
 -- The tokens of a call are what it reads,
 call-splits : (mode : Mode) (n : ℕ) (t : Text)
@@ -200,13 +214,14 @@ call-splits mode n (b ∷ t) = by_brace (is_brace b) refl
         (call mode n (b ∷ t)).rest
     by_sign true e q o = rw (e, q, o) (also (none (ap (λ c. c ∷ t) (eqb-true b 123 o)))
         (placeholder-splits mode n (b ∷ t) t))
-    by_sign false e q o = rw (e, q, o) (splits Unexpected (b ∷ []) refl)
+    by_sign false e q o = rw (e, q, o) (splits Close (b ∷ []) refl)
 
     by_double : (v : Bool) → is_brace b ≡ true → begins_with b t ≡ v
         → Splits (call_tokens mode (b ∷ t) (call mode n (b ∷ t)).rest) (b ∷ t)
         (call mode n (b ∷ t)).rest
     by_double true e q = rw (e, q) (also (splits _ (b ∷ b ∷ []) (ap (λ u. b ∷ u) (cut_first b t q)))
-        (splits _ (front is_no_brace (behind_first t)) (front-behind is_no_brace (behind_first t))))
+        (splits _ (front is_no_brace (after_first t)) (front-rest_after is_no_brace (after_first
+        t))))
     by_double false e q = by_sign (b == 123) e q refl
 
     by_brace : (v : Bool) → is_brace b ≡ v
@@ -214,7 +229,7 @@ call-splits mode n (b ∷ t) = by_brace (is_brace b) refl
         (call mode n (b ∷ t)).rest
     by_brace true e = by_double (begins_with b t) e refl
     by_brace false e = rw e (splits _ (b ∷ front is_no_brace t)
-        (ap (λ u. b ∷ u) (front-behind is_no_brace t)))
+        (ap (λ u. b ∷ u) (front-rest_after is_no_brace t)))
 
 -- and so those of all calls are the text.
 all-splits : (n : ℕ) (mode : Mode) (c : ℕ) (t : Text) → length t ≤ n
@@ -227,11 +242,21 @@ all-splits (suc n) mode c (b ∷ t) h =
     also (call-splits mode c (b ∷ t)) (all-splits n mode k.next k.rest
     (omega (arith, h, call-lt mode c (b ∷ t) (λ e. cc e))))
 
-pub tokens-joined : (mode : Mode) (t : Text) → joined (tokens_of mode t) ≡ t
-unfolding tokens_of
-tokens-joined mode t =
+read-joined : (mode : Mode) (t : Text) → joined (read_tokens mode t) ≡ t
+unfolding read_tokens
+read-joined mode t =
     sym ((all-splits (length t) mode 0 t (omega arith)).whole
-    ∙ append-nil (joined (tokens_of mode t)))
+    ∙ append-nil (joined (read_tokens mode t)))
+
+-- A mark changes no characters.
+marked-joined : (names : Bool) (ls : List Label) (inside : Bool)
+    → joined (marked names inside ls) ≡ joined ls
+marked-joined names [] inside = refl
+marked-joined names (l ∷ ls) inside = ap (λ t. l.1 ++ t) (marked-joined names ls _)
+
+pub tokens-joined : (mode : Mode) (t : Text) → joined (tokens_of mode t) ≡ t
+tokens-joined mode t = marked-joined (wants_names mode) (read_tokens mode t) false
+    ∙ read-joined mode t
 
 -- The first characters of two texts, one after the other.
 take-both : (n : ℕ) (u r : Text) → take n (u ++ r) ≡ take n u ++ take (n - length u) r

@@ -11,7 +11,7 @@ use Rattle.rustc_parse_format.specs.Characters.{Text, byte_length}
 use Rattle.rustc_parse_format.specs.Literal.{IsSource, content_value, newline}
 use Rattle.rustc_parse_format.specs.Marks.{Start}
 use Rattle.rustc_parse_format.specs.Source.{HasSource, unappended}
-use Rattle.rustc_parse_format.specs.Types.{Mode}
+use Rattle.rustc_parse_format.specs.Types.{Mode, wants_names}
 use Rattle.rustc_parse_format.specs.World.{Place, World, content_places, last_stop, newline_places}
 use Rattle.rustc_parse_format.specs.World.{number_of, plain_world, quote_offset, world}
 use Rattle.rustc_parse_format.proofs.Sources.Decided.{found-source}
@@ -23,10 +23,13 @@ use Rattle.format_tokens.specs.declared.kinds.Kind.TheVariants.{Quote}
 use Rattle.format_tokens.specs.declared.kinds.Token.{Token}
 use Rattle.format_tokens.specs.Seen.{seen_token}
 use Rattle.format_tokens.specs.Midway.{sized}
-use Rattle.format_tokens.specs.Placed.{Placed, placed, shown, tokens, within}
+use Rattle.format_tokens.specs.Escapes.{Placed}
+use Rattle.format_tokens.specs.Placed.{placed, shown, tokens, whole_tokens, within}
 use Rattle.format_tokens.specs.Starts.{placed_sizes, starts_of}
 use Rattle.format_tokens.specs.Tokens.{Label, token}
-use Rattle.format_tokens.specs.Walk.{tokens_of}
+use Rattle.format_tokens.specs.Walk.{read_tokens, tokens_of}
+use Rattle.format_tokens.specs.Culprits.{marked}
+use Rattle.format_tokens.proofs.Marking.{marked-sized}
 use Rattle.format_tokens.proofs.Starts.{firsts, length-starts, placed-none, placed-some, starts-at}
 use Rattle.format_tokens.proofs.InText.{placed-shown, text-tokens}
 
@@ -94,10 +97,13 @@ kept-small w n kept starts e f h = omega (arith, ap length e, length-starts w, f
 -- The tokens of the text.
 shown-tokens : (w : World) (mode : Mode) (input : Text) (b : Bool) (kept : ℕ)
     → length w.places ≡ length input → kept ≡ length (unappended b input)
-    → placed_sizes w (length w.places) kept (map sized (tokens_of mode input))
+    → placed_sizes w (length w.places) kept
+    (marked (wants_names mode) false (map sized (read_tokens mode input)))
     ≡ placed w (length input) (shown mode input b)
 shown-tokens w mode input b kept n e =
-    sizes-placed w (length w.places) kept (tokens_of mode input)
+    ap (placed_sizes w (length w.places) kept)
+    (marked-sized (wants_names mode) (read_tokens mode input) false)
+    ∙ sizes-placed w (length w.places) kept (tokens_of mode input)
     ∙ (ap (λ n. placed w n (within kept (tokens_of mode input))) n
     ∙ ap (λ k. placed w (length input) (within k (tokens_of mode input))) e)
 
@@ -105,7 +111,8 @@ pub plain-tokens : (mode : Mode) (input : Text) (style : Option ℕ) (snippet : 
     (b : Bool) (kept : ℕ) (all : List Placed) → kept ≡ length (unappended b input)
     → (HasSource input style snippet b → ⊥)
     → (let w = plain_world false 0 input (byte_length input) in
-    all ≡ placed_sizes w (length w.places) kept (map sized (tokens_of mode input)))
+    all ≡ placed_sizes w (length w.places) kept
+    (marked (wants_names mode) false (map sized (read_tokens mode input))))
     → all ≡ tokens mode input style snippet b
 plain-tokens mode input style snippet b kept all e none h =
     h ∙ (shown-tokens (plain_world false 0 input (byte_length input)) mode input b kept
@@ -128,10 +135,11 @@ pub quoted-tokens : (mode : Mode) (input : Text) (style : Option ℕ) (literal :
     → starts ≡ starts_of (world input style (Some literal) b) → n ≡ byte_length literal
     → (let w = world input style (Some literal) b in
     all ≡ ((Quote, (0, get_or starts 0 0)) ∷ []
-    ++ placed_sizes w (length w.places) kept (map sized (tokens_of mode input)))
+    ++ placed_sizes w (length w.places) kept
+    (marked (wants_names mode) false (map sized (read_tokens mode input))))
     ++ (Quote, (get_or starts (length starts - 1) 0, n)) ∷ [])
-    → all ≡ tokens mode input style (Some literal) b
-unfolding tokens
+    → all ≡ whole_tokens mode input style (Some literal) b
+unfolding whole_tokens
 quoted-tokens mode input style literal b kept n starts all e source f g h =
     let w = world input style (Some literal) b in
     let places = literal-places input style literal b source in

@@ -17,7 +17,7 @@ use Rattle.rustc_parse_format.proofs.Grammar.Rests.{IsRest}
 use Rattle.rustc_parse_format.proofs.Walking.ParserLaws.{call_rest}
 use Rattle.rustc_parse_format.proofs.Walking.Progress.{call-lt}
 use Rattle.format_tokens.specs.Midway.{Sized, Took, sized}
-use Rattle.format_tokens.specs.Walk.{call_tokens, tokens_of, tokens_within}
+use Rattle.format_tokens.specs.Walk.{call_tokens, read_tokens, tokens_within}
 
 pub IsRest-width : {t r : Text} → IsRest t r → byte_length r ≤ byte_length t
 IsRest-width {r = r} h =
@@ -33,7 +33,7 @@ pub record IsSoFar (mode : Mode) (input : Text) (x : List Sized) (rest : Text) (
   pub turns : ℕ
   pub enough : length s.rest ≤ turns
   pub tokens : x ++ map sized (tokens_within turns mode s.next s.rest)
-      ≡ map sized (tokens_of mode input)
+      ≡ map sized (read_tokens mode input)
 
 -- A parser without its errors.
 abbrev pub forgotten : State → State
@@ -47,18 +47,18 @@ pub left_after : (mode : Mode) (input : Text) (x : List Sized) (rest : Text) (s 
 left_after mode input x rest s new m w p h e i j k =
     let same : call s.mode s.next s.rest ≡ call mode s.next rest =
     ap (λ a. call a s.next s.rest) h.mode_is ∙ ap (call mode s.next) (sym h.rest_is) in
-    let behind : byte_length new.rest ≡ byte_length (call mode s.next rest).rest =
+    let rest_after : byte_length new.rest ≡ byte_length (call mode s.next rest).rest =
     ap (λ (u : State). byte_length u.rest) e ∙ ap (λ a. byte_length a.rest) same in
     let whole : byte_length new.input ≡ byte_length input =
     ap (λ (u : State). byte_length u.input) e ∙ ap byte_length h.input_is in
     let less : byte_length (call mode s.next rest).rest ≤ byte_length rest =
     IsRest-width (call_rest mode s.next rest) in
     let small : byte_length rest ≤ byte_length input = rw h.rest_is h.within in
-    omega (arith, behind, whole, less, small)
+    omega (arith, rest_after, whole, less, small)
 
 pub so_far-start : (mode : Mode) (input : Text) (s : State) → s.mode ≡ mode → s.input ≡ input
     → s.rest ≡ input → s.next ≡ 0 → IsSoFar mode input [] input s
-unfolding tokens_of
+unfolding read_tokens
 so_far-start mode input s m i r n = record {
   mode_is = m;
   input_is = i;
@@ -97,7 +97,7 @@ so_far-next mode input x y rest t s new h e some took =
     let k = call mode s.next rest in
     let same : call s.mode s.next s.rest ≡ k =
     ap (λ a. call a s.next s.rest) h.mode_is ∙ ap (call mode s.next) (sym h.rest_is) in
-    let rest_after : new.rest ≡ k.rest =
+    let rest_after_part : new.rest ≡ k.rest =
     ap (λ (u : State). u.rest) e ∙ ap (λ a. a.rest) same in
     let next_after : new.next ≡ k.next =
     ap (λ (u : State). u.next) e ∙ ap (λ a. a.next) same in
@@ -105,15 +105,15 @@ so_far-next mode input x y rest t s new h e some took =
     let less : byte_length k.rest ≤ byte_length rest = IsRest-width (call_rest mode s.next rest) in
     let small : byte_length rest ≤ byte_length input = rw h.rest_is h.within in
     let all : x ++ map sized (tokens_within h.turns mode s.next rest)
-    ≡ map sized (tokens_of mode input) = rw h.rest_is h.tokens in
+    ≡ map sized (read_tokens mode input) = rw h.rest_is h.tokens in
     record {
       mode_is = ap (λ (u : State). u.mode) e ∙ h.mode_is;
       input_is = ap (λ (u : State). u.input) e ∙ h.input_is;
-      rest_is = took.leaves ∙ sym rest_after;
-      within = rw rest_after (omega arith);
+      rest_is = took.leaves ∙ sym rest_after_part;
+      within = rw rest_after_part (omega arith);
       turns = f.fewer;
-      enough = rw rest_after f.enough;
-      tokens = rw (rest_after, next_after)
+      enough = rw rest_after_part f.enough;
+      tokens = rw (rest_after_part, next_after)
           (joins x y (map sized (call_tokens mode rest k.rest))
           (map sized (tokens_within f.fewer mode k.next k.rest)) _ took.adds
           (ap (λ l. x ++ l) (sym (map-append sized (call_tokens mode rest k.rest)
@@ -126,7 +126,7 @@ none_within mode zero c = refl
 none_within mode (suc n) c = refl
 
 pub so_far-end : (mode : Mode) (input : Text) (x : List Sized) (s : State)
-    → IsSoFar mode input x [] s → x ≡ map sized (tokens_of mode input)
+    → IsSoFar mode input x [] s → x ≡ map sized (read_tokens mode input)
 so_far-end mode input x s h =
     sym (append-nil x) ∙ (ap (λ l. x ++ map sized l) (sym (none_within mode h.turns s.next))
     ∙ rw (sym h.rest_is) at h.tokens)

@@ -1,7 +1,7 @@
 -- Over a source literal the byte range of each token reads back as its characters.
 use Rattle.std.proofs.Common.{◌≡◌, ℕ, ◌++◌, ◌+◌, ◌-◌, ◌≤◌, Bool, List, [], ◌∷◌, length, take}
 use Rattle.std.proofs.Common.{drop, refl, sym, ap, subst, ◌∙◌, arith, append_assoc, inr}
-use Rattle.std.proofs.Common.{length-append, Option, Some, None}
+use Rattle.std.proofs.Common.{length-append, Option, Some}
 use Rattle.std.proofs.lemmas.List.{append-nil, append_cancel_left, map-append}
 use Rattle.std.proofs.Math.Seq.{drop-append_seam, take-append-add, take-append_seam}
 use Rattle.rustc_parse_format.specs.Characters.{Text, byte_length}
@@ -9,7 +9,7 @@ use Rattle.rustc_parse_format.specs.Literal.{IsSource, content_value}
 use Rattle.rustc_parse_format.specs.LiteralUnits.{LiteralUnit}
 use Rattle.rustc_parse_format.specs.Marks.{Start}
 use Rattle.rustc_parse_format.specs.ReadBack.{inside, source_units}
-use Rattle.rustc_parse_format.specs.Source.{HasSource, unappended}
+use Rattle.rustc_parse_format.specs.Source.{unappended}
 use Rattle.rustc_parse_format.specs.Types.{Mode}
 use Rattle.rustc_parse_format.specs.World.{Place, World, content_places, last_stop, number_of}
 use Rattle.rustc_parse_format.specs.World.{quote_offset, world}
@@ -18,21 +18,21 @@ use Rattle.rustc_parse_format.proofs.Spans.ReadBack.{forward-reads_back}
 use Rattle.rustc_parse_format.proofs.Spans.Units.{IsApart, before-all, before-inside}
 use Rattle.rustc_parse_format.proofs.Spans.Units.{content-ordered, start-apart}
 use Rattle.rustc_parse_format.proofs.Spans.Worlds.{known}
-use Rattle.format_tokens.specs.Covers.{IsCover, in_quotes, kinds_of, read_back, ranges_of}
+use Rattle.format_tokens.specs.Covers.{IsCover, in_quotes, read_back, ranges_of}
 use Rattle.format_tokens.specs.declared.kinds.Kind.TheVariants.{Quote}
-use Rattle.format_tokens.specs.Placed.{Placed, placed, shown, tokens}
+use Rattle.format_tokens.specs.Escapes.{Placed}
+use Rattle.format_tokens.specs.Placed.{cut_in, placed, shown, tokens, whole_tokens}
 use Rattle.format_tokens.specs.Tokens.{Label, joined}
 use Rattle.format_tokens.proofs.Covering.{source-length, source-tokens, start-end}
-use Rattle.format_tokens.proofs.Covering.{tokens-cover}
+use Rattle.format_tokens.proofs.CutCovering.{source-cut, tokens-cover}
 use Rattle.format_tokens.proofs.Joining.{shown-joined}
-use Rattle.format_tokens.proofs.InText.{text-kinds, text-tokens}
 
 -- What is between the first characters and the last ones.
 middle : (d u r : Text) → drop (length d) (take (length d + length u) (d ++ (u ++ r))) ≡ u
 middle d u r = ap (drop (length d)) (take-append-add d (u ++ r) (length u)
     ∙ ap (λ v. d ++ v) (take-append_seam u r)) ∙ drop-append_seam d u
 
--- A token of the characters u behind others, with n left from it on.
+-- A token of the characters u after others, with n left from it on.
 one-reads : (input : Text) (style : Option ℕ) (source : Text) (b : Bool) (d u r : Text) (n : ℕ)
     → IsSource input style source b → unappended b input ≡ d ++ (u ++ r)
     → n + length d ≡ length input
@@ -93,7 +93,7 @@ before-reads input style source b h =
     none_right _ _ (before-inside 0 _ (quote_offset style) us (omega arith) (zero-apart _)
     ∙ (back.before ∙ ap (λ k. take k (unappended b input)) zero))
 
--- and none behind the end of the text.
+-- and none after the end of the text.
 units-end : (q m : ℕ) (us : List LiteralUnit) → last_stop q (content_places q us) ≤ m
     → inside (last_stop q (content_places q us), m) q us ≡ []
 units-end q m us h =
@@ -107,11 +107,11 @@ units-end q m us h =
     ∙ (before-inside e m q us h apart
     ∙ (before-all q q us e m ordered h ∙ sym (append-nil (content_value us)))))
 
-behind-reads : (input : Text) (style : Option ℕ) (source : Text) (b : Bool)
+rest_after-reads : (input : Text) (style : Option ℕ) (source : Text) (b : Bool)
     → IsSource input style source b
     → inside ((world input style (Some source) b).end, byte_length source) (quote_offset style)
     (source_units input style source b) ≡ []
-behind-reads input style source b h =
+rest_after-reads input style source b h =
     let k = known input style source b h in
     rw (k.units_are, ap (λ (w : World). w.end) k.world_is)
     (units-end (quote_offset style) (byte_length source) k.units (omega (arith, k.inside)))
@@ -122,7 +122,7 @@ ends-alike x y u v ls ms e f g = rw (e, f, g) refl
 
 pub tokens-read_back : (mode : Mode) (input : Text) (style : Option ℕ) (source : Text) (b : Bool)
     → IsSource input style source b
-    → read_back input style source b (tokens mode input style (Some source) b)
+    → read_back input style source b (whole_tokens mode input style (Some source) b)
     ≡ in_quotes (shown mode input b)
 tokens-read_back mode input style source b h =
     let w = world input style (Some source) b in
@@ -136,40 +136,9 @@ tokens-read_back mode input style source b h =
     ∙ (ap (λ ls. (Quote, inside (0, number_of w (Start (length input))) q us) ∷ ls)
     (map-append (λ (t : Placed). (t.0, inside t.1 q us)) ts (last ∷ []))
     ∙ ends-alike _ _ _ _ _ _ (before-reads input style source b h)
-    (behind-reads input style source b h) text)
-
--- Kinds alone do not depend on the world.
-kinds-read : (input : Text) (style : Option ℕ) (source : Text) (b : Bool) (ts : List Placed)
-    → kinds_of ts ≡ kinds_of (read_back input style source b ts)
-kinds-read input style source b [] = refl
-kinds-read input style source b (t ∷ ts) = ap (λ ks. t.0 ∷ ks) (kinds-read input style source b ts)
-
-pub source-kinds : (mode : Mode) (input : Text) (style : Option ℕ) (snippet : Option Text)
-    (b : Bool) → HasSource input style snippet b
-    → kinds_of (tokens mode input style snippet b) ≡ kinds_of (in_quotes (shown mode input b))
-source-kinds mode input style None b h = absurd h
-source-kinds mode input style (Some source) b h =
-    kinds-read input style source b (tokens mode input style (Some source) b)
-    ∙ ap kinds_of (tokens-read_back mode input style source b h)
-
-pub foreign-kinds : (mode : Mode) (input : Text) (style : Option ℕ) (snippet : Option Text)
-    (b : Bool) → (HasSource input style snippet b → ⊥)
-    → kinds_of (tokens mode input style snippet b) ≡ kinds_of (shown mode input b)
-foreign-kinds mode input style snippet b none =
-    ap kinds_of (text-tokens mode input style snippet b none)
-    ∙ text-kinds 0 (shown mode input b)
+    (rest_after-reads input style source b h) text)
 
 -- The same of a list that is known to be these tokens.
-pub worlds-of : (mode : Mode) (input : Text) (style : Option ℕ) (snippet : Option Text) (b : Bool)
-    (ts : List Placed) → ts ≡ tokens mode input style snippet b
-    → (HasSource input style snippet b
-    → kinds_of ts ≡ kinds_of (in_quotes (shown mode input b)))
-    × ((HasSource input style snippet b → ⊥) → kinds_of ts ≡ kinds_of (shown mode input b))
-worlds-of mode input style snippet b ts e = (
-  λ h. ap kinds_of e ∙ source-kinds mode input style snippet b h,
-  λ h. ap kinds_of e ∙ foreign-kinds mode input style snippet b h,
-)
-
 pub cover-of : (mode : Mode) (input : Text) (style : Option ℕ) (snippet : Option Text) (b : Bool)
     (ts : List Placed) → ts ≡ tokens mode input style snippet b
     → (source : Text) → snippet ≡ Some source → IsSource input style source b
@@ -180,6 +149,10 @@ cover-of mode input style snippet b ts e source f h =
 pub reads_back-of : (mode : Mode) (input : Text) (style : Option ℕ) (snippet : Option Text)
     (b : Bool) (ts : List Placed) → ts ≡ tokens mode input style snippet b
     → (source : Text) → snippet ≡ Some source → IsSource input style source b
-    → read_back input style source b ts ≡ in_quotes (shown mode input b)
-reads_back-of mode input style snippet b ts e source f h =
-    rw (e, f) (tokens-read_back mode input style source b h)
+    → (whole : List Placed) × (ts ≡ cut_in style source whole)
+    × (read_back input style source b whole ≡ in_quotes (shown mode input b))
+reads_back-of mode input style snippet b ts e source f h = (
+  whole_tokens mode input style (Some source) b,
+  e ∙ (ap (λ s. tokens mode input style s b) f ∙ source-cut mode input style source b h),
+  tokens-read_back mode input style source b h,
+)

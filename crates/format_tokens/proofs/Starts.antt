@@ -13,7 +13,7 @@ use Rattle.rustc_parse_format.specs.World.{World, Place, number_of, place_at, pl
 use Rattle.rustc_parse_format.specs.World.{plain_world}
 use Rattle.format_tokens.specs.declared.kinds.Kind.{Kind}
 use Rattle.format_tokens.specs.Midway.{Sized}
-use Rattle.format_tokens.specs.Placed.{Placed}
+use Rattle.format_tokens.specs.Escapes.{Placed}
 use Rattle.format_tokens.specs.Starts.{placed_sizes, starts_of}
 
 abbrev pub firsts : List Place → List ℕ

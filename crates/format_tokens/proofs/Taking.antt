@@ -35,6 +35,11 @@ pub moved : {a : List Label} {s r : Text} {x y : List Sized} {t : List ℕ} → 
     → Took a s x y t → Took a r x y t
 moved e h = record { adds = h.adds; leaves = h.leaves ∙ e }
 
+-- A token is taken of a kind by another name.
+pub as_kind : {k l : Kind} (u : Text) {r : Text} {x y : List Sized} {t : List ℕ} → k ≡ l
+    → Took (token k u) r x y t → Took (token l u) r x y t
+as_kind u e h = rw e at h
+
 -- A text of no bytes is empty.
 pub none_from_width : (u : Text) → 0 ≡ byte_length u → u ≡ []
 none_from_width [] e = refl
@@ -85,6 +90,16 @@ front_boundary text u r n v e w =
     let h = halves text u r v e in
     rw (w ∙ sym (width_encodes u))
     (IsCharBoundary-at_seam text (encodes u) (encodes r) h.bytes h.valid)
+
+-- The characters of a front.
+pub front_chars : (text : List ℕ) (u r : Text) (n : ℕ) (front : List ℕ) → IsUtf8 text
+    → chars text ≡ u ++ r → n ≡ byte_length u → front ≡ take n text → chars front ≡ u
+front_chars text u r n front v e w f =
+    let h = halves text u r v e in
+    let at : n ≡ length (encodes u) = w ∙ sym (width_encodes u) in
+    ap chars (f ∙ (ap (λ m. take m text) at
+    ∙ (ap (take (length (encodes u))) h.bytes ∙ take-append_seam (encodes u) (encodes r))))
+    ∙ h.front
 
 -- A token of some bytes.
 pub take-some : (k : Kind) (u r : Text) (x y : List Sized) (t front left : List ℕ) (n m : ℕ)

@@ -7,7 +7,7 @@ use Rattle.rustc_parse_format.specs.ReadBack.{inside, source_units}
 use Rattle.rustc_parse_format.specs.World.{Place, quote_offset}
 use Rattle.format_tokens.specs.declared.kinds.Kind.{Kind}
 use Rattle.format_tokens.specs.declared.kinds.Kind.TheVariants.{Quote}
-use Rattle.format_tokens.specs.Placed.{Placed}
+use Rattle.format_tokens.specs.Escapes.{Placed}
 use Rattle.format_tokens.specs.Tokens.{Label}
 
 -- The byte ranges go from one byte to another: each begins where the one before it ends, and none

@@ -1,4 +1,6 @@
 pub mod Covers
+pub mod Culprits
+pub mod Escapes
 pub mod Midway
 pub mod Placed
 pub mod Seen

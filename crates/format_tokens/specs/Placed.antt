@@ -6,10 +6,10 @@ use Rattle.rustc_parse_format.specs.Characters.{Text, byte_length}
 use Rattle.rustc_parse_format.specs.Marks.{Start}
 use Rattle.rustc_parse_format.specs.Types.{Mode}
 use Rattle.rustc_parse_format.specs.Source.{is_source, unappended}
-use Rattle.rustc_parse_format.specs.World.{World, Place, number_of, place_of, world}
-use Rattle.format_tokens.specs.declared.kinds.Kind.{Kind}
+use Rattle.rustc_parse_format.specs.World.{World, number_of, place_of, world}
 use Rattle.format_tokens.specs.declared.kinds.Kind.TheVariants.{Quote}
 use Rattle.format_tokens.specs.Tokens.{Label, token}
+use Rattle.format_tokens.specs.Escapes.{Placed, cut}
 use Rattle.format_tokens.specs.Walk.{tokens_of}
 
 -- The tokens of the first n characters. One that goes on after these is shortened.
@@ -20,10 +20,6 @@ within n (l ∷ ls) = token l.0 (take n l.1) ++ within (n - length l.1) ls
 -- The tokens of an input, faulty or not, without an appended newline.
 abbrev pub shown : Mode → Text → Bool → List Label
 shown mode input appended = within (length (unappended appended input)) (tokens_of mode input)
-
--- A kind and a byte range.
-abbrev pub Placed : Type 0
-Placed = Kind × Place
 
 -- The tokens with their byte ranges, where n characters are left at the first of them. A token goes
 -- from where its first character starts to where the next character starts, or to the end of the
@@ -48,11 +44,23 @@ in_literal w n literal ls = (Quote, (0, number_of w (Start n)))
     ∷ (placed w n ls ++ (Quote, (w.end, byte_length literal)) ∷ [])
 
 -- The tokens of an input in its source literal, or in the input if the snippet is no source literal
--- of it.
-unfoldable pub tokens : Mode → Text → Option ℕ → Option Text → Bool → List Placed
-tokens mode input style None appended = in_text 0 (shown mode input appended)
-tokens mode input style (Some snippet) appended =
+-- of it. Escapes are in the tokens of the characters that they stand for.
+unfoldable pub whole_tokens : Mode → Text → Option ℕ → Option Text → Bool → List Placed
+whole_tokens mode input style None appended = in_text 0 (shown mode input appended)
+whole_tokens mode input style (Some snippet) appended =
     if is_source input style (Some snippet) appended
     then in_literal (world input style (Some snippet) appended) (length input) snippet
     (shown mode input appended)
     else in_text 0 (shown mode input appended)
+
+-- The tokens cut at the escapes of a literal of this style. A raw literal has none.
+abbrev pub cut_in : Option ℕ → Text → List Placed → List Placed
+cut_in None literal ts = cut literal ts
+cut_in (Some n) literal ts = ts
+
+-- The tokens of an input. In its source literal they are cut at escapes.
+unfoldable pub tokens : Mode → Text → Option ℕ → Option Text → Bool → List Placed
+tokens mode input style None appended = whole_tokens mode input style None appended
+tokens mode input style (Some snippet) appended =
+    let ts = whole_tokens mode input style (Some snippet) appended in
+    if is_source input style (Some snippet) appended then cut_in style snippet ts else ts

@@ -3,7 +3,7 @@ use denote.Ref.{Bor}
 use Rattle.std.specs.Prelude.{ℕ, List, Option, option_map, chars}
 use Rattle.rustc_parse_format.specs.Characters.{Text}
 use Rattle.format_tokens.specs.declared.kinds.Token.{Token}
-use Rattle.format_tokens.specs.Placed.{Placed}
+use Rattle.format_tokens.specs.Escapes.{Placed}
 use Rattle.rustc_parse_format.specs.Seen.{pair}
 
 -- A token as a contract sees it.

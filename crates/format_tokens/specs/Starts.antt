@@ -4,7 +4,7 @@ use Rattle.std.specs.Prelude.{ℕ, ◌-◌, ◌++◌, List, [], ◌∷◌, map, 
 use Rattle.rustc_parse_format.specs.Marks.{Start}
 use Rattle.rustc_parse_format.specs.World.{World, Place, place_of}
 use Rattle.format_tokens.specs.Midway.{Sized}
-use Rattle.format_tokens.specs.Placed.{Placed}
+use Rattle.format_tokens.specs.Escapes.{Placed}
 
 -- The byte offsets where the characters of an input start, and that of the end of the text.
 abbrev pub starts_of : World → List ℕ

@@ -1,7 +1,7 @@
 -- The tokens of the parts of a format string as they are written, in the order of the grammar. A
 -- token is a kind and the characters that are written.
-use Rattle.std.specs.Prelude.{◌++◌, List, [], ◌∷◌, codes, flat_map}
-use Rattle.rustc_parse_format.specs.Characters.{Text}
+use Rattle.std.specs.Prelude.{◌++◌, if◌then◌else◌, List, [], ◌∷◌, bytes_eq, codes, flat_map}
+use Rattle.rustc_parse_format.specs.Characters.{Text, is_over}
 use Rattle.rustc_parse_format.specs.Syntax.{PositionText, Digits, Word, RawWord, NoPosition}
 use Rattle.rustc_parse_format.specs.Syntax.{CountText, NumberCount, IndexCount, NameCount, NoCount}
 use Rattle.rustc_parse_format.specs.Syntax.{WidthText, PaddedWidth, ZeroIndexWidth, PlainWidth}
@@ -10,6 +10,7 @@ use Rattle.rustc_parse_format.specs.Syntax.{DotPrecision, FormatText, SpecText, 
 use Rattle.rustc_parse_format.specs.Syntax.{Modifier, DiagnosticText, FieldText, PieceText, RunText}
 use Rattle.rustc_parse_format.specs.Syntax.{DoubledText, PlaceholderText, fill_part, align_part}
 use Rattle.rustc_parse_format.specs.Syntax.{sign_part, alternate_part, type_part}
+use Rattle.rustc_parse_format.specs.Values.{type_of}
 use Rattle.format_tokens.specs.declared.kinds.Kind.{Kind}
 use Rattle.format_tokens.specs.declared.kinds.Kind.TheVariants.{Text as TextKind, Escape, Open}
 use Rattle.format_tokens.specs.declared.kinds.Kind.TheVariants.{Close}
@@ -21,6 +22,7 @@ use Rattle.format_tokens.specs.declared.kinds.Kind.TheVariants.{Zero, DollarSign
 use Rattle.format_tokens.specs.declared.kinds.Kind.TheVariants.{«Type» as TypeKind}
 use Rattle.format_tokens.specs.declared.kinds.Kind.TheVariants.{Modifier as ModifierKind}
 use Rattle.format_tokens.specs.declared.kinds.Kind.TheVariants.{DiagnosticText as DiagnosticKind}
+use Rattle.format_tokens.specs.declared.kinds.Kind.TheVariants.{Unexpected}
 
 -- A token: its kind and its characters.
 abbrev pub Label : Type 0
@@ -31,18 +33,26 @@ abbrev pub token : Kind → Text → List Label
 token k [] = []
 token k (c ∷ u) = (k, c ∷ u) ∷ []
 
+-- The kind of a word that is a name, a type or a modifier. A lone `_` is none of these.
+abbrev pub word_kind : Kind → Text → Kind
+word_kind k w = if bytes_eq w (codes "_") then Unexpected else k
+
+-- The kind of the digits of an integer. Above 65535 it does not fit.
+abbrev pub integer_kind : Text → Kind
+integer_kind ds = if is_over ds then Unexpected else Integer
+
 -- argument := integer | identifier. A raw identifier is its prefix and the identifier.
 abbrev pub position_tokens : PositionText → List Label
-position_tokens (Digits ds) = token Integer ds
-position_tokens (Word w) = token Identifier w
-position_tokens (RawWord w) = token RawPrefix (codes "r#") ++ token Identifier w
+position_tokens (Digits ds) = token (integer_kind ds) ds
+position_tokens (Word w) = token (word_kind Identifier w) w
+position_tokens (RawWord w) = token RawPrefix (codes "r#") ++ token (word_kind Identifier w) w
 position_tokens NoPosition = []
 
 -- count := integer | parameter, parameter := argument '$'
 abbrev pub count_tokens : CountText → List Label
-count_tokens (NumberCount ds) = token Integer ds
-count_tokens (IndexCount ds) = token Integer ds ++ token DollarSign (codes "$")
-count_tokens (NameCount w) = token Identifier w ++ token DollarSign (codes "$")
+count_tokens (NumberCount ds) = token (integer_kind ds) ds
+count_tokens (IndexCount ds) = token (integer_kind ds) ds ++ token DollarSign (codes "$")
+count_tokens (NameCount w) = token (word_kind Identifier w) w ++ token DollarSign (codes "$")
 count_tokens NoCount = []
 
 -- ['0'] [width], width := count
@@ -65,13 +75,13 @@ format_tokens p = token Fill (fill_part p.fill).spelling
     ++ (token NumberSign (alternate_part p.alternate).spelling
     ++ (width_tokens p.width
     ++ (precision_tokens p.precision
-    ++ token TypeKind (type_part p.type).spelling)))))
+    ++ token (word_kind TypeKind (type_of p.type)) (type_part p.type).spelling)))))
 
 -- [ ':' format_spec ], or after the colon the text that the mode allows.
 abbrev pub spec_tokens : SpecText → List Label
 spec_tokens Default = []
 spec_tokens (Formatting p) = token Colon (codes ":") ++ format_tokens p
-spec_tokens (Modifier w) = token Colon (codes ":") ++ token ModifierKind w
+spec_tokens (Modifier w) = token Colon (codes ":") ++ token (word_kind ModifierKind w) w
 spec_tokens (DiagnosticText u) = token Colon (codes ":") ++ token DiagnosticKind u
 
 -- A field: a position, white space and a specification.

@@ -1,11 +1,12 @@
 //! Theorems about the definitions alone, each as the contract of a function that does nothing.
 
-ghost use Rattle.std.specs.Prelude.{◌≡◌, ℕ, Bool, List};
+ghost use Rattle.std.specs.Prelude.{◌≡◌, ℕ, Bool, List, false};
 ghost use Rattle.rustc_parse_format.specs.Characters.{Text};
 ghost use Rattle.rustc_parse_format.specs.Grammar.{Reads, piece_values};
 ghost use Rattle.rustc_parse_format.specs.Source.{unappended};
 ghost use Rattle.rustc_parse_format.specs.Syntax.{PieceText};
-ghost use Rattle.rustc_parse_format.specs.Types.{Mode, Piece};
+ghost use Rattle.rustc_parse_format.specs.Types.{Mode, Piece, wants_names};
+ghost use Rattle.format_tokens.specs.Culprits.{marked};
 ghost use Rattle.format_tokens.specs.Placed.{shown};
 ghost use Rattle.format_tokens.specs.Tokens.{joined, pieces_tokens};
 ghost use Rattle.format_tokens.specs.Walk.{IsWritten, tokens_of};
@@ -22,7 +23,7 @@ pub fn joined()
 /// nothing.
 pub fn spelled()
     ensures written { (mode : Mode) (t : Text) (xs : List PieceText) → IsWritten mode t xs
-        → tokens_of mode t ≡ pieces_tokens xs }
+        → tokens_of mode t ≡ marked (wants_names mode) false (pieces_tokens xs) }
     ensures reading { (mode : Mode) (t : Text) (ps : List (Piece (Unit {0}))) → Reads mode 0 t ps
         → (xs : List PieceText) × IsWritten mode t xs × (piece_values 0 xs ≡ ps) }
 {}

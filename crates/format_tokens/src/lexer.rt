@@ -1,21 +1,23 @@
 //! The tokens of an input and their places.
 
 ghost use Rattle.std.specs.Prelude.{◌≡◌, ◌+◌, ◌<◌, ◌^◌, None, Some, IfOk, MatchOption, chars};
-ghost use Rattle.std.specs.Prelude.{length, map, option_map};
+ghost use Rattle.std.specs.Prelude.{List, length, map};
 ghost use Rattle.rustc_parse_format.specs.Characters.{Text, byte_length};
 ghost use Rattle.rustc_parse_format.specs.Literal.{IsSource};
 ghost use Rattle.rustc_parse_format.specs.Seen.{seen_mode, seen_snippet};
 ghost use Rattle.rustc_parse_format.specs.Source.{HasSource, unappended};
-ghost use Rattle.rustc_parse_format.specs.Types.{Mode};
+ghost use Rattle.rustc_parse_format.specs.Types.{Mode, wants_names};
 ghost use Rattle.rustc_parse_format.specs.World.{hashes, world};
 ghost use Rattle.format_tokens.specs.Covers.{IsCover, encoded, in_quotes, kinds_of, ranges_of};
 ghost use Rattle.format_tokens.specs.Covers.{read_back, slices};
 ghost use Rattle.format_tokens.specs.Midway.{sized};
-ghost use Rattle.format_tokens.specs.Placed.{shown, tokens};
+ghost use Rattle.format_tokens.specs.Placed.{cut_in, shown, tokens, whole_tokens};
+ghost use Rattle.format_tokens.specs.Escapes.{Placed};
 ghost use Rattle.format_tokens.specs.Seen.{seen_text, seen_token};
 ghost use Rattle.format_tokens.specs.Starts.{starts_of};
-ghost use Rattle.format_tokens.specs.Walk.{tokens_of};
+ghost use Rattle.format_tokens.specs.Walk.{read_tokens};
 
+use crate::escapes::cut_escapes;
 use crate::kinds::{Kind, Token};
 use crate::parts::{length_of, width_of};
 use crate::places::{ordinary_starts, place, plain_starts};
@@ -23,6 +25,13 @@ use crate::walk::labels;
 use rustc_parse_format::ParseMode;
 use rustc_parse_format::literal::is_source_literal;
 use std::alloc::{AllocError, Global};
+
+/// Returns whether each argument has to be a name and nothing else.
+fn wants_names(mode: ParseMode) -> bool
+    ensures { result ≡ wants_names (seen_mode mode) }
+{
+    matches!(mode, ParseMode::DiagnosticNamed)
+}
 
 /// Returns the snippet if it is the source literal of the input.
 fn source_of<'a>(
@@ -72,29 +81,26 @@ fn literal_starts(
     }
 }
 
-/// Returns the tokens of an input with their byte ranges. `labels` has the kind of each and its
-/// number of characters; the other arguments are those of `tokens`. Returns `Err` if an allocation
-/// fails.
-pub fn place_labels(
+/// Returns the tokens of an input with their byte ranges, where escapes are in the tokens of the
+/// characters that they stand for, and the opening and the closing of `literal`, its source literal
+/// if it has one. Returns `Err` if an allocation fails.
+fn place_whole(
     alloc: Global,
     input: &str,
     style: Option<usize>,
-    snippet: Option<&str>,
+    literal: &str,
     appended_newline: bool,
+    names: bool,
     labels: &[(Kind, usize)],
 ) -> Result<Vec<Token>, AllocError>
-    requires { hashes style + length input.now + 2 < 2 ^ 64 }
+    requires room { hashes style + length input.now + 2 < 2 ^ 64 }
+    requires source { IsSource (chars input.now) style (chars literal.now) appended_newline }
     ensures { IfOk result (λ v. (mode : Mode)
-        → labels.now ≡ map sized (tokens_of mode (chars input.now)) → map seen_token v.items
-        ≡ tokens mode (chars input.now) style (seen_text snippet.entry) appended_newline) }
+        → labels.now ≡ map sized (read_tokens mode (chars input.now)) → names ≡ wants_names mode
+        → map seen_token v.items
+        ≡ whole_tokens mode (chars input.now) style (Some (chars literal.now)) appended_newline) }
 {
     let kept = length_of(input).saturating_sub(usize::from(appended_newline));
-    let Some(literal) = source_of(input, style, snippet, appended_newline) else {
-        let starts = plain_starts(alloc, 0, input, width_of(input))?;
-        let mut tokens = Vec::with_capacity(alloc, labels.len())?;
-        place(&mut tokens, labels, starts.as_slice(), kept)?;
-        return Ok(tokens);
-    };
     let offsets = literal_starts(alloc, input, style, literal, appended_newline)?;
     let starts = offsets.as_slice();
     let mut tokens = Vec::with_capacity(alloc, labels.len().saturating_add(2))?;
@@ -102,12 +108,56 @@ pub fn place_labels(
         kind: Kind::Quote,
         span: 0..starts[0],
     })?;
-    place(&mut tokens, labels, starts, kept)?;
+    place(&mut tokens, names, labels, starts, kept)?;
     tokens.push(Token {
         kind: Kind::Quote,
         span: starts[starts.len() - 1]..width_of(literal),
     })?;
     Ok(tokens)
+}
+
+/// Returns the tokens of an input with their byte ranges. `labels` has the kind of each, as `label`
+/// adds them, and its number of characters; the other arguments are those of `tokens`. Returns
+/// `Err` if an allocation fails.
+pub fn place_labels(
+    alloc: Global,
+    input: &str,
+    style: Option<usize>,
+    snippet: Option<&str>,
+    appended_newline: bool,
+    mode: ParseMode,
+    labels: &[(Kind, usize)],
+) -> Result<Vec<Token>, AllocError>
+    requires { hashes style + length input.now + 2 < 2 ^ 64 }
+    ensures { IfOk result (λ v.
+        labels.now ≡ map sized (read_tokens (seen_mode mode) (chars input.now))
+        → map seen_token v.items ≡ tokens (seen_mode mode) (chars input.now) style
+        (seen_text snippet.entry) appended_newline) }
+{
+    let names = wants_names(mode);
+    let Some(literal) = source_of(input, style, snippet, appended_newline) else {
+        let kept = length_of(input).saturating_sub(usize::from(appended_newline));
+        let starts = plain_starts(alloc, 0, input, width_of(input))?;
+        let mut tokens = Vec::with_capacity(alloc, labels.len())?;
+        place(&mut tokens, names, labels, starts.as_slice(), kept)?;
+        return Ok(tokens);
+    };
+    let tokens = place_whole(
+        alloc,
+        input,
+        style,
+        literal,
+        appended_newline,
+        names,
+        labels,
+    )?;
+    match style {
+        Some(_) => Ok(tokens),
+        None => {
+            let parts = cut_escapes(alloc, literal, tokens)?;
+            Ok(parts)
+        }
+    }
 }
 
 /// Returns the tokens of an input, faulty or not, with their byte ranges in its source literal, or
@@ -119,10 +169,14 @@ pub fn place_labels(
 /// not have. The number of hashes, the byte length of the input and 2 must add up to less than
 /// 2^64.
 ///
-/// The kinds and the characters of the tokens never depend on `style` and `snippet`. If the snippet
-/// is the source literal of the input, the byte ranges are those of the snippet, and the first and
-/// the last token are the opening and the closing of the literal. Otherwise the byte ranges are
-/// those of the input, from 0 on.
+/// If the snippet is the source literal of the input, the byte ranges are those of the snippet, and
+/// the first and the last token are the opening and the closing of the literal. Otherwise the byte
+/// ranges are those of the input, from 0 on.
+///
+/// The kinds and the characters of the tokens do not depend on `style` and `snippet`, but for the
+/// escapes of an ordinary source literal: each escape in text and each continued line is a token of
+/// its own, `EscapeSequence`, and cuts the token that it is in. An escape that stands for a brace,
+/// or for another character of a placeholder, stays in the token of that character.
 ///
 /// Returns `Err` if an allocation fails.
 pub fn tokens(
@@ -137,24 +191,20 @@ pub fn tokens(
     ensures tokens { IfOk result (λ v. map seen_token v.items ≡ tokens (seen_mode mode)
         (chars input.now) style (seen_snippet snippet) appended_newline) }
 
-    // The kinds do not depend on style and snippet: with a source literal they are the same,
-    // between those of two quotes.
-    ensures worlds { IfOk result (λ v. let ts = map seen_token v.items in
-        let ls = shown (seen_mode mode) (chars input.now) appended_newline in
-        (HasSource (chars input.now) style (seen_snippet snippet) appended_newline
-        → kinds_of ts ≡ kinds_of (in_quotes ls))
-        × ((HasSource (chars input.now) style (seen_snippet snippet) appended_newline → ⊥)
-        → kinds_of ts ≡ kinds_of ls)) }
-
-    // With a source literal the byte ranges cover it. The part of the snippet in each, with its
-    // escapes decoded, is the characters of the token; in those of the quotes there are none.
+    // With a source literal the byte ranges cover it.
     ensures cover { IfOk result (λ v. (source : Text) → seen_snippet snippet ≡ Some source
         → IsSource (chars input.now) style source appended_newline
         → IsCover 0 (byte_length source) (ranges_of (map seen_token v.items))) }
+
+    // They are other tokens, cut at the escapes of the literal: those of the input, in the same
+    // kinds and order for each style and snippet, between those of two quotes. The part of the
+    // snippet in each of those, with its escapes decoded, is the characters of the token; in the
+    // quotes there are none.
     ensures reads_back { IfOk result (λ v. (source : Text) → seen_snippet snippet ≡ Some source
         → IsSource (chars input.now) style source appended_newline
-        → read_back (chars input.now) style source appended_newline (map seen_token v.items)
-        ≡ in_quotes (shown (seen_mode mode) (chars input.now) appended_newline)) }
+        → (whole : List Placed) × (map seen_token v.items ≡ cut_in style source whole)
+        × (read_back (chars input.now) style source appended_newline whole
+        ≡ in_quotes (shown (seen_mode mode) (chars input.now) appended_newline))) }
 
     // Without one they cover the text, and the part of the input in each is the characters of the
     // token.
@@ -170,6 +220,6 @@ pub fn tokens(
         Some(literal) => Some(literal.as_str()),
     };
     let labels = labels(alloc, input, mode)?;
-    let tokens = place_labels(alloc, input, style, text, appended_newline, &labels)?;
+    let tokens = place_labels(alloc, input, style, text, appended_newline, mode, &labels)?;
     Ok(tokens)
 }

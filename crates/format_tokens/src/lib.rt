@@ -1,6 +1,8 @@
 //! The tokens of a format string, as an editor shows them in colours.
 #![tactic(auto)]
 
+mod culprits;
+mod escapes;
 mod kinds;
 pub mod laws;
 mod lexer;

@@ -3,8 +3,10 @@
 //! allocation fails; the list may then have some of the tokens.
 
 ghost use Rattle.std.specs.Prelude.{◌≡◌, ◌++◌, ℕ, [], IfOk, chars, codes, length, option_map};
-ghost use Rattle.rustc_parse_format.specs.Characters.{Text, begins_with, behind_first, byte_length};
-ghost use Rattle.rustc_parse_format.specs.Characters.{first, front};
+ghost use Rattle.std.specs.Prelude.{◌+◌, ◌*◌, ◌≤◌, IsTrue, min};
+ghost use Rattle.rustc_parse_format.specs.Characters.{Text, begins_with, after_first, byte_length};
+ghost use Rattle.rustc_parse_format.specs.Characters.{first, front, is_over};
+ghost use Rattle.std.specs.Char.{digit_value, is_ascii_digit};
 ghost use Rattle.rustc_parse_format.specs.Seen.{seen_alignment, seen_count, seen_debug_hex};
 ghost use Rattle.rustc_parse_format.specs.Seen.{seen_mode, seen_position, seen_sign, seen_spec};
 ghost use Rattle.rustc_parse_format.specs.Spelling.{IsPart};
@@ -19,7 +21,8 @@ ghost use Rattle.rustc_parse_format.specs.Values.{is_padded, position_of, precis
 ghost use Rattle.rustc_parse_format.specs.Values.{spec_value, type_of, width_value};
 ghost use Rattle.format_tokens.specs.Midway.{Took, names_raw, passes};
 ghost use Rattle.format_tokens.specs.Tokens.{count_tokens, format_tokens, position_tokens};
-ghost use Rattle.format_tokens.specs.Tokens.{precision_tokens, spec_tokens, token, width_tokens};
+ghost use Rattle.format_tokens.specs.Tokens.{integer_kind, precision_tokens, spec_tokens, token};
+ghost use Rattle.format_tokens.specs.Tokens.{width_tokens, word_kind};
 
 use crate::kinds::Kind;
 use rustc_parse_format::{Alignment, Count, DebugHex, FormatSpec, ParseMode, Position, Sign};
@@ -70,8 +73,8 @@ fn first(text: &str) -> Option<char>
 }
 
 /// Returns the text after the first character, or an empty text if there is none.
-fn behind_first(text: &str) -> &str
-    ensures { chars result.now ≡ behind_first (chars text.now) }
+pub fn after_first(text: &str) -> &str
+    ensures { chars result.now ≡ after_first (chars text.now) }
 {
     let mut rest = text.chars();
     rest.next();
@@ -124,13 +127,59 @@ pub fn run_width(text: &str, run: Run) -> usize
     width
 }
 
+/// Returns the kind of a word that is of a kind unless it is a lone `_`.
+fn word_kind(kind: Kind, word: &str) -> Kind
+    ensures { result ≡ word_kind kind (chars word.now) }
+{
+    if first(word) == Some('_') && first(after_first(word)).is_none() {
+        Kind::Unexpected
+    } else {
+        kind
+    }
+}
+
+/// Returns a number with one more digit, or 65536 if it is greater.
+fn with_digit(number: u32, digit: char) -> u32
+    requires number { number ≤ 65536 }
+    requires digit { IsTrue (is_ascii_digit digit) }
+    ensures { result ≡ min (number * 10 + digit_value digit) 65536 }
+{
+    (number * 10 + (u32::from(digit) - 48)).min(65536)
+}
+
+/// Returns whether the number that the digits at the start of a text write is above 65535.
+fn is_over(text: &str) -> bool
+    ensures { result ≡ is_over (front is_ascii_digit (chars text.now)) }
+{
+    let mut number = 0;
+    let mut rest = text.chars();
+    while let Some(c) = rest.next() {
+        if !c.is_ascii_digit() {
+            return number > 65535;
+        }
+        number = with_digit(number, c);
+    }
+    number > 65535
+}
+
+/// Returns the kind of the digits at the start of a text.
+fn integer_kind(text: &str) -> Kind
+    ensures { result ≡ integer_kind (front is_ascii_digit (chars text.now)) }
+{
+    if is_over(text) {
+        Kind::Unexpected
+    } else {
+        Kind::Integer
+    }
+}
+
 /// Returns whether a text that begins with a name has an `r#` before it.
 fn is_raw(text: &str, name: &str) -> bool
     ensures { result ≡ names_raw (chars text.now) (chars name.now) }
 {
-    let hash = behind_first(text);
+    let hash = after_first(text);
     match first(name) {
-        Some(c) => begins(text, 'r') && begins(hash, '#') && begins(behind_first(hash), c),
+        Some(c) => begins(text, 'r') && begins(hash, '#') && begins(after_first(hash), c),
         None => false,
     }
 }
@@ -149,13 +198,19 @@ pub fn position<'a>(
     match position {
         Position::ArgumentImplicitlyIs(_) => Ok(text),
         Position::ArgumentIs(_) => {
-            let left = take(labels, Kind::Integer, run_width(text, Run::Digits), text)?;
+            let left = take(
+                labels,
+                integer_kind(text),
+                run_width(text, Run::Digits),
+                text,
+            )?;
             Ok(left)
         }
         Position::ArgumentNamed(name) => {
             let prefix = if is_raw(text, name) { 2 } else { 0 };
             let word = take(labels, Kind::RawPrefix, prefix, text)?;
-            let left = take(labels, Kind::Identifier, width_of(name), word)?;
+            let kind = word_kind(Kind::Identifier, name);
+            let left = take(labels, kind, width_of(name), word)?;
             Ok(left)
         }
     }
@@ -179,16 +234,27 @@ fn count<'a>(
 {
     match count {
         Count::CountIs(_) => {
-            let left = take(labels, Kind::Integer, run_width(text, Run::Digits), text)?;
+            let left = take(
+                labels,
+                integer_kind(text),
+                run_width(text, Run::Digits),
+                text,
+            )?;
             Ok(left)
         }
         Count::CountIsParam(_) => {
-            let dollar = take(labels, Kind::Integer, run_width(text, Run::Digits), text)?;
+            let dollar = take(
+                labels,
+                integer_kind(text),
+                run_width(text, Run::Digits),
+                text,
+            )?;
             let left = take(labels, Kind::DollarSign, 1, dollar)?;
             Ok(left)
         }
         Count::CountIsName(name, _) => {
-            let dollar = take(labels, Kind::Identifier, width_of(name), text)?;
+            let kind = word_kind(Kind::Identifier, name);
+            let dollar = take(labels, kind, width_of(name), text)?;
             let left = take(labels, Kind::DollarSign, 1, dollar)?;
             Ok(left)
         }
@@ -212,8 +278,8 @@ fn width<'a>(
         → zero_pad ≡ is_padded k → bare_count (seen_count width.now) ≡ width_value k
         → Took (width_tokens k) r labels.old.items labels.new.items left.now) }
 {
-    let behind = take(labels, Kind::Zero, usize::from(zero_pad), text)?;
-    let left = count(labels, width, behind)?;
+    let rest_after = take(labels, Kind::Zero, usize::from(zero_pad), text)?;
+    let left = count(labels, width, rest_after)?;
     Ok(left)
 }
 
@@ -228,8 +294,8 @@ fn precision<'a>(
         → bare_count (seen_count precision.now) ≡ precision_value n k
         → Took (precision_tokens k) r labels.old.items labels.new.items left.now) }
 {
-    let behind = take(labels, Kind::Dot, usize::from(begins(text, '.')), text)?;
-    let left = count(labels, precision, behind)?;
+    let rest_after = take(labels, Kind::Dot, usize::from(begins(text, '.')), text)?;
+    let left = count(labels, precision, rest_after)?;
     Ok(left)
 }
 
@@ -298,7 +364,7 @@ fn format<'a>(
     let ty = precision(labels, &format.precision, dot)?;
     let left = take(
         labels,
-        Kind::Type,
+        word_kind(Kind::Type, format.ty),
         type_width(format.debug_hex, format.ty),
         ty,
     )?;
@@ -320,18 +386,19 @@ pub fn specification<'a>(
     if !begins(text, ':') {
         return Ok(text);
     }
-    let behind = take(labels, Kind::Colon, 1, text)?;
+    let rest_after = take(labels, Kind::Colon, 1, text)?;
     match mode {
         ParseMode::Format => {
-            let left = format(labels, spec, behind)?;
+            let left = format(labels, spec, rest_after)?;
             Ok(left)
         }
         ParseMode::InlineAsm => {
-            let left = take(labels, Kind::Modifier, width_of(spec.ty), behind)?;
+            let kind = word_kind(Kind::Modifier, spec.ty);
+            let left = take(labels, kind, width_of(spec.ty), rest_after)?;
             Ok(left)
         }
         ParseMode::Diagnostic | ParseMode::DiagnosticNamed => {
-            let left = take(labels, Kind::DiagnosticText, width_of(spec.ty), behind)?;
+            let left = take(labels, Kind::DiagnosticText, width_of(spec.ty), rest_after)?;
             Ok(left)
         }
     }

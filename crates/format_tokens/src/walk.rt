@@ -1,7 +1,8 @@
 //! The tokens of a whole text, by the calls of the parser.
 
-ghost use Rattle.std.specs.Prelude.{◌≡◌, ◌+◌, ◌++◌, ◌<◌, ◌^◌, ℕ, None, Some, IfOk, chars};
-ghost use Rattle.std.specs.Prelude.{codes, false, if◌then◌else◌, length, map, option_map};
+ghost use Rattle.std.specs.Prelude.{◌≡◌, ◌+◌, ◌++◌, ◌<◌, ◌^◌, ℕ, List, None, Some, IfOk, chars};
+ghost use Rattle.std.specs.Prelude.{MatchOption, codes, false, if◌then◌else◌, length, map};
+ghost use Rattle.std.specs.Prelude.{option_map};
 ghost use Rattle.rustc_parse_format.specs.Call.{call, placeholder};
 ghost use Rattle.rustc_parse_format.specs.Characters.{Text, byte_length, first_passes, is_brace};
 ghost use Rattle.rustc_parse_format.specs.Placeholder.{cut};
@@ -11,12 +12,49 @@ ghost use Rattle.rustc_parse_format.specs.Types.{Lit as LitPiece, Mode, bare_arg
 ghost use Rattle.rustc_parse_format.specs.Values.{argument_value};
 ghost use Rattle.rustc_parse_format.specs.World.{World, piece_in};
 ghost use Rattle.format_tokens.specs.Midway.{Took, sized};
-ghost use Rattle.format_tokens.specs.Walk.{call_tokens, placeholder_tokens, tokens_of};
+ghost use Rattle.format_tokens.specs.Walk.{call_tokens, is_closed, placeholder_tokens};
+ghost use Rattle.format_tokens.specs.Walk.{read_tokens, skipped_tokens};
 
 use crate::kinds::Kind;
 use crate::parts::{Run, begins, position, run_width, specification, take, width_of};
 use rustc_parse_format::{Argument, ParseMode, Parser, Taken};
 use std::alloc::{AllocError, Global};
+
+/// Returns the text before the closing brace at its end, or `None` if it does not end with one.
+fn before_brace(text: &str) -> Option<&str>
+    ensures { MatchOption result
+        ((t : List ℕ) → t ++ codes "}" ≡ chars text.now → ⊥)
+        (λ t. chars t.now ++ codes "}" ≡ chars text.now) }
+{
+    text.strip_suffix('}')
+}
+
+/// Returns whether the first `bytes` bytes of a text end with a closing brace.
+fn is_closed(bytes: usize, text: &str) -> bool
+    ensures { (u r : Text) → chars text.now ≡ u ++ r → bytes ≡ byte_length u
+        → result ≡ is_closed u }
+{
+    match text.split_at_checked(bytes) {
+        Some((front, _)) => before_brace(front).is_some(),
+        None => false,
+    }
+}
+
+/// Adds the tokens of the first `bytes` bytes of a text, which the call reads in place of a closing
+/// brace, and returns the rest of the text.
+fn skipped<'a>(
+    labels: &mut Vec<(Kind, usize)>,
+    bytes: usize,
+    text: &'a str,
+) -> Result<&'a str, AllocError>
+    ensures { IfOk result (λ left. (u r : Text) → chars text.now ≡ u ++ r → bytes ≡ byte_length u
+        → Took (skipped_tokens u) r labels.old.items labels.new.items left.now) }
+{
+    let brace = usize::from(is_closed(bytes, text));
+    let close = take(labels, Kind::Unexpected, bytes.saturating_sub(brace), text)?;
+    let left = take(labels, Kind::Close, brace, close)?;
+    Ok(left)
+}
 
 /// Adds the tokens of a placeholder at the start of a text, and returns the rest of the text after
 /// the call that read it: `left` bytes.
@@ -41,12 +79,7 @@ fn placeholder<'a>(
     let last = specification(labels, mode, &argument.format, spec)?;
     let end = take(labels, Kind::White, run_width(last, Run::White), last)?;
     let rest = take(labels, Kind::Close, usize::from(begins(end, '}')), end)?;
-    let after = take(
-        labels,
-        Kind::Unexpected,
-        width_of(rest).saturating_sub(left),
-        rest,
-    )?;
+    let after = skipped(labels, width_of(rest).saturating_sub(left), rest)?;
     Ok(after)
 }
 
@@ -107,7 +140,7 @@ pub fn label<'a>(
     let Some(piece) = taken else {
         let after = take(
             labels,
-            Kind::Unexpected,
+            Kind::Close,
             width_of(text).saturating_sub(left),
             text,
         )?;
@@ -134,7 +167,7 @@ fn labels_by<'a>(
 ) -> Result<Vec<(Kind, usize)>, AllocError>
     requires { parser.old ≡ first_state (seen_mode mode) (chars input.now) None None false }
     ensures { IfOk result (λ v. v.items
-        ≡ map sized (tokens_of (seen_mode mode) (chars input.now))) }
+        ≡ map sized (read_tokens (seen_mode mode) (chars input.now))) }
 {
     let mut labels = Vec::new(alloc);
     let mut argument = Argument::default();
@@ -149,11 +182,12 @@ fn labels_by<'a>(
     Ok(labels)
 }
 
-/// Returns the kinds of the tokens of a text and the number of characters of each.
+/// Returns the kinds of the tokens of a text, none of them marked, and the number of characters of
+/// each.
 pub fn labels(alloc: Global, input: &str, mode: ParseMode) -> Result<Vec<(Kind, usize)>, AllocError>
     requires { length input.now + 2 < 2 ^ 64 }
     ensures { IfOk result (λ v. v.items
-        ≡ map sized (tokens_of (seen_mode mode) (chars input.now))) }
+        ≡ map sized (read_tokens (seen_mode mode) (chars input.now))) }
 {
     let mut parser = Parser::new(alloc, input, None, None, false, mode)?;
     labels_by(alloc, &mut parser, mode, input)

@@ -13,7 +13,7 @@ use std::io::{Print, Write};
 use std::process::Abort;
 use std::test::Fail;
 
-/// Compares what is written with a text, without memory.
+/// Compares the output with a text, without memory.
 #[derive(Drop)]
 struct Compared {
     rest: &'static [u8],
@@ -37,7 +37,7 @@ impl Write for Compared {
 }
 
 /// Returns the writer of a text that is wanted.
-fn compared(text: &'static str) -> Compared {
+fn compared_with(text: &'static str) -> Compared {
     Compared {
         rest: text.as_bytes(),
         is_same: true,
@@ -45,9 +45,9 @@ fn compared(text: &'static str) -> Compared {
     }
 }
 
-/// What is shown of a row, once more where an allocation fails.
+/// The output for a row, once more where an allocation fails.
 fn check(rt: &(impl Abort + Print), alloc: Global, row: &Row) -> Result<(), Fail> {
-    let (mut writer, mut errors) = (compared(row.output), compared(row.error_output));
+    let (mut writer, mut errors) = (compared_with(row.output), compared_with(row.error_output));
     let mut reader = row.input;
     let mut answer = run(alloc, &mut reader, &mut writer, &mut errors, row.task());
     if answer.is_err() {
@@ -57,7 +57,7 @@ fn check(rt: &(impl Abort + Print), alloc: Global, row: &Row) -> Result<(), Fail
         reader = row.input;
         answer = run(alloc, &mut reader, &mut writer, &mut errors, row.task());
     }
-    assert_eq!(rt; answer, Ok(row.told));
+    assert_eq!(rt; answer, Ok(row.report));
     assert!(rt; writer.is_same && writer.rest.is_empty());
     assert!(rt; errors.is_same && errors.rest.is_empty());
     Ok(())

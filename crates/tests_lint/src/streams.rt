@@ -1,4 +1,4 @@
-//! Each read of an input fails in turn, and each write of what is shown of it.
+//! Each read of an input fails in turn, and each write of the output for it.
 
 use crate::rows::UNEXPECTED;
 use format_lint::run::run;

@@ -120,7 +120,7 @@ fn what_recovery_takes(rt: HostRuntime) -> Result<(), Fail> {
         (Open, 1),
         (Identifier, 2),
         (Unexpected, 3),
-        (Unexpected, 4),
+        (Close, 4),
         (Quote, 5),
     ];
     check_literal(&rt, rt.alloc(), ParseMode::Format, "{a?}", "\"{a?}\"", &row)?;
@@ -129,6 +129,7 @@ fn what_recovery_takes(rt: HostRuntime) -> Result<(), Fail> {
         (Open, 1),
         (Identifier, 2),
         (Unexpected, 3),
+        (Close, 5),
         (Quote, 6),
     ];
     check_literal(
@@ -145,8 +146,10 @@ fn what_recovery_takes(rt: HostRuntime) -> Result<(), Fail> {
 fn escapes_and_continued_lines(rt: HostRuntime) -> Result<(), Fail> {
     let row = [
         (Quote, 0),
+        (EscapeSequence, 1),
         (Open, 3),
         (Identifier, 7),
+        (EscapeSequence, 8),
         (Close, 11),
         (Quote, 12),
     ];
@@ -158,4 +161,71 @@ fn escapes_and_continued_lines(rt: HostRuntime) -> Result<(), Fail> {
         "\"\\\n\\x7ba\\\n }\"",
         &row,
     )
+}
+
+#[test]
+fn escapes_in_text(rt: HostRuntime) -> Result<(), Fail> {
+    let row = [
+        (Quote, 0),
+        (Text, 1),
+        (EscapeSequence, 2),
+        (EscapeSequence, 4),
+        (EscapeSequence, 10),
+        (EscapeSequence, 13),
+        (Open, 15),
+        (Close, 19),
+        (Text, 20),
+        (Quote, 21),
+    ];
+    check_literal(
+        &rt,
+        rt.alloc(),
+        ParseMode::Format,
+        "a\té{}b",
+        "\"a\\t\\u{e9}\\\n \\\n\\x7b}b\"",
+        &row,
+    )
+}
+
+/// Checks the tokens of a text in a mode.
+fn check_text(
+    rt: &impl Abort,
+    alloc: Global,
+    mode: ParseMode,
+    input: &str,
+    expected: &[(Kind, usize)],
+) -> Result<(), Fail> {
+    assert!(rt; input.len() < 1000);
+    let found = tokens(alloc, input, None, None, false, mode)?;
+    check(rt, found.as_slice(), expected, input.len());
+    Ok(())
+}
+
+#[test]
+fn culprits(rt: HostRuntime) -> Result<(), Fail> {
+    let alloc = rt.alloc();
+    let inside = [
+        (Open, 0),
+        (Identifier, 1),
+        (White, 2),
+        (Unexpected, 3),
+        (Close, 4),
+    ];
+    check_text(&rt, alloc, ParseMode::Format, "{a b}", &inside)?;
+    let alone = [
+        (Unexpected, 0),
+        (Identifier, 1),
+        (White, 2),
+        (Open, 3),
+        (Close, 4),
+    ];
+    check_text(&rt, alloc, ParseMode::Format, "{a {}", &alone)?;
+    let underscore = [(Open, 0), (Unexpected, 1), (Close, 2)];
+    check_text(&rt, alloc, ParseMode::Format, "{_}", &underscore)?;
+    let fits = [(Open, 0), (Integer, 1), (Close, 6)];
+    check_text(&rt, alloc, ParseMode::Format, "{65535}", &fits)?;
+    let above = [(Open, 0), (Unexpected, 1), (Close, 6)];
+    check_text(&rt, alloc, ParseMode::Format, "{65536}", &above)?;
+    let unnamed = [(Unexpected, 0), (Unexpected, 1)];
+    check_text(&rt, alloc, ParseMode::DiagnosticNamed, "{}", &unnamed)
 }

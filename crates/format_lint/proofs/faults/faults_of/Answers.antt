@@ -3,7 +3,7 @@ use Rattle.rustc_parse_format.specs.Characters.{is_nil}
 use Rattle.rustc_parse_format.specs.SeenFaults.{seen_fault}
 use Rattle.rustc_parse_format.specs.State.{next_call}
 use Rattle.rustc_parse_format.specs.World.{faults_in}
-use Rattle.drawn_faults.proofs.FixLaws.{left-shorter}
+use Rattle.fault_fixes.proofs.FixLaws.{left-shorter}
 use Rattle.format_lint.proofs.Firsts.{found-end, found-next, found-start, no_errors}
 use Rattle.format_lint.proofs.faults.faults_of.Goals as goal
 

@@ -14,7 +14,7 @@ literal-seen (Some l) = refl
 
 pub returns-clause-tokens : goal.returns-clause-tokens
 returns-clause-tokens c =
-    c.in_ok-tokens.ensures (seen_mode c.args.mode)
+    c.in_ok-tokens.ensures
     (c.as_slice.ensures.value ∙ c.in_ok-labels.ensures.labels)
     ∙ ap (λ s. tokens (seen_mode c.args.mode) (chars c.args.source.text.now) c.args.source.style s
     false) (literal-seen c.args.source.literal)

@@ -1,7 +1,7 @@
 use Rattle.std.proofs.Common.{false, inl, inr, refl}
 use Rattle.rustc_parse_format.specs.Seen.{seen_mode}
-use Rattle.drawn_faults.specs.Rounds.{IsFixed}
-use Rattle.drawn_faults.specs.SeenEdits.{seen_fixed}
+use Rattle.fault_fixes.specs.Rounds.{IsFixed}
+use Rattle.fault_fixes.specs.SeenEdits.{seen_fixed}
 use Rattle.format_lint.specs.Lint.{Source, alone}
 use Rattle.format_lint.specs.SeenLint.{seen_source}
 use Rattle.format_lint.proofs.shown.fixed_output.Goals as goal

@@ -1,11 +1,11 @@
 use Rattle.std.proofs.Common.{◌≡◌, ◌++◌, drop, flat_map, map, string_bytes}
 use Rattle.rustc_parse_format.specs.Seen.{seen_mode}
-use Rattle.drawn_faults.specs.Places.{seen_picture}
+use Rattle.drawn_lines.specs.Places.{seen_picture}
 use Rattle.format_lint.specs.Lint.{drawn_finding}
 use Rattle.format_lint.specs.SeenLint.{seen_finding}
 use Rattle.format_lint.proofs.shown.put_each.Given as goal
 
--- The drawings so far and those of what is left are all the drawings.
+-- The drawings so far and those of the rest are all the drawings.
 abbrev pub invariant-loop-finding : goal.invariant-loop-finding
 invariant-loop-finding l =
     let drawing = drawn_finding (seen_mode l.mode) (seen_picture l.picture) in

@@ -1,4 +1,4 @@
-use Rattle.drawn_faults.proofs.PrintableLemmas.{whole-as-is}
+use Rattle.drawn_lines.proofs.PrintableLemmas.{whole-as-is}
 use Rattle.format_lint.proofs.tokens.put_drawn.Goals as goal
 
 -- The text is drawn as it is.

@@ -1,7 +1,7 @@
 use Rattle.std.proofs.Common.{◌≡◌, ◌∙◌, ap, chars, encode_utf8_all, true}
 use Rattle.std.proofs.lemmas.Str.{encodes-chars, scalars-chars}
 use Rattle.std.specs.List.{list_all}
-use Rattle.drawn_faults.specs.Glyphs.{is_ascii_or_as_is}
+use Rattle.drawn_lines.specs.Glyphs.{is_ascii_or_as_is}
 use Rattle.format_lint.proofs.Quoting.{quoted-as-is}
 use Rattle.format_lint.proofs.tokens.put_drawn_quoted.Goals as goal
 

@@ -6,7 +6,7 @@ use Rattle.format_tokens.specs.Seen.{seen_token}
 use Rattle.format_lint.specs.Colours.{shown_tokens, stays}
 use Rattle.format_lint.proofs.tokens.put_tokens.Given as goal
 
--- The tokens so far and those of what is left are all the tokens.
+-- The tokens so far and those of the rest are all the tokens.
 abbrev pub invariant-loop-token : goal.invariant-loop-token
 invariant-loop-token l = record {
   is_text : shadow (Utf8 l.rest);

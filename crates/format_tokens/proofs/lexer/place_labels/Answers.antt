@@ -1,13 +1,18 @@
-use Rattle.std.proofs.Common.{◌≡◌, ◌++◌, ◌∙◌, ap, sym, chars, false, length, map, arith, Some}
+use Rattle.std.proofs.Common.{◌≡◌, ◌++◌, ◌∙◌, ap, sym, chars, false, length, map, arith, refl, Some}
 use Rattle.rustc_parse_format.specs.Characters.{byte_length}
 use Rattle.rustc_parse_format.specs.Source.{unappended}
-use Rattle.rustc_parse_format.specs.World.{plain_world, world}
+use Rattle.rustc_parse_format.specs.World.{plain_world}
 use Rattle.rustc_parse_format.proofs.Sources.PlainPlaces.{length-plain_places}
-use Rattle.format_tokens.specs.Placed.{tokens}
+use Rattle.rustc_parse_format.specs.Seen.{seen_mode}
+use Rattle.format_tokens.specs.Culprits.{marked}
+use Rattle.format_tokens.specs.Escapes.{cut}
+use Rattle.format_tokens.specs.Placed.{cut_in, tokens, whole_tokens}
+use Rattle.format_tokens.proofs.Covering.{whole-cover}
+use Rattle.format_tokens.proofs.CutCovering.{source-cut}
 use Rattle.format_tokens.specs.Seen.{seen_text, seen_token}
 use Rattle.format_tokens.specs.Starts.{placed_sizes, starts_of}
-use Rattle.format_tokens.proofs.Lexing.{assembled, kept-is, kept-small, literal-places}
-use Rattle.format_tokens.proofs.Lexing.{plain-tokens, quoted-tokens}
+use Rattle.format_tokens.proofs.Lexing.{kept-is, kept-small}
+use Rattle.format_tokens.proofs.Lexing.{plain-tokens}
 use Rattle.format_tokens.proofs.lexer.place_labels.Goals as goal
 
 pub place-requires : goal.place-requires
@@ -18,18 +23,9 @@ place-requires c =
     (c.in_ok-starts.ensures false) (length-plain_places 0 input)
     (omega (arith, c.saturating_sub-kept.ensures, c.length_of.ensures)))
 
-pub place-requires-2 : goal.place-requires-2
-place-requires-2 c =
-    let input = chars c.args.input.now in
-    let literal = chars c.in-Some.literal.now in
-    let b = c.args.appended_newline in
-    rw c.as_slice-starts.ensures.value
-    (kept-small (world input c.args.style (Some literal) b) (length input) _ _
-    c.in_ok-offsets.ensures (literal-places input c.args.style literal b c.in-Some.ensures.1)
-    (omega (arith, c.saturating_sub-kept.ensures, c.length_of.ensures)))
-
 pub returns-in_default : goal.returns-in_default
-returns-in_default c mode labels =
+returns-in_default c labels =
+    let mode = seen_mode c.args.mode in
     let input = chars c.args.input.now in
     let kept : c.saturating_sub-kept.result ≡ length (unappended c.args.appended_newline input) =
     rw (c.saturating_sub-kept.ensures, c.length_of.ensures, c.from.ensures)
@@ -42,24 +38,34 @@ returns-in_default c mode labels =
     c.saturating_sub-kept.result _ kept c.in_default.ensures
     (c.in_ok-place.ensures w starts
     ∙ (ap (λ l. map seen_token l ++ placed_sizes w (length w.places) c.saturating_sub-kept.result
-    c.args.labels.now) c.in_ok-tokens.ensures.items
-    ∙ ap (placed_sizes w (length w.places) c.saturating_sub-kept.result) labels))
+    (marked c.wants_names-names.result false c.args.labels.now)) c.in_ok-tokens.ensures.items
+    ∙ rw (c.wants_names-names.ensures, labels) refl))
 
-pub returns : goal.returns
-returns c mode labels =
+pub returns-in-Some-style : goal.returns-in-Some-style
+returns-in-Some-style c labels =
+    let mode = seen_mode c.args.mode in
     let input = chars c.args.input.now in
-    let kept : c.saturating_sub-kept.result ≡ length (unappended c.args.appended_newline input) =
-    rw (c.saturating_sub-kept.ensures, c.length_of.ensures, c.from.ensures)
-    (kept-is c.args.appended_newline input) in
-    let source = c.in-Some.ensures in
     let literal = chars c.in-Some.literal.now in
-    let w = world input c.args.style (Some literal) c.args.appended_newline in
-    let starts = c.as_slice-starts.ensures.value ∙ c.in_ok-offsets.ensures in
-    let placed = c.in_ok-place-2.ensures w starts
-    ∙ ap (λ l. map seen_token c.push.new.self.items
-    ++ placed_sizes w (length w.places) c.saturating_sub-kept.result l) labels in
-    quoted-tokens mode input c.args.style literal c.args.appended_newline
-    c.saturating_sub-kept.result _ _ _ kept source.1 starts c.width_of-2.ensures
-    (assembled _ _ _ _ _ _ _ c.in_ok-tokens-2.ensures.items
-    c.in_ok-push.ensures.items placed c.in_ok-push-2.ensures.items)
-    ∙ ap (λ s. tokens mode input c.args.style s c.args.appended_newline) (sym source.0)
+    let b = c.args.appended_newline in
+    let source = c.in-Some.ensures in
+    let ts = whole_tokens mode input c.args.style (Some literal) b in
+    let whole = c.in_ok-tokens-2.ensures mode labels c.wants_names-names.ensures in
+    whole ∙ (sym (ap (λ s. cut_in s literal ts) c.in-Some-style.is)
+    ∙ (sym (source-cut mode input c.args.style literal b source.1)
+    ∙ ap (λ s. tokens mode input c.args.style s b) (sym source.0)))
+
+pub returns-in_ok-parts-in-None : goal.returns-in_ok-parts-in-None
+returns-in_ok-parts-in-None c labels =
+    let mode = seen_mode c.args.mode in
+    let input = chars c.args.input.now in
+    let literal = chars c.in-Some.literal.now in
+    let b = c.args.appended_newline in
+    let source = c.in-Some.ensures in
+    let ts = whole_tokens mode input c.args.style (Some literal) b in
+    let whole = c.in_ok-tokens-2.ensures mode labels c.wants_names-names.ensures in
+    c.in_ok-parts-in-None.ensures 0 (byte_length literal)
+    (rw whole (whole-cover mode input c.args.style literal b source.1))
+    ∙ (ap (cut literal) whole
+    ∙ (sym (ap (λ s. cut_in s literal ts) c.in-None.is)
+    ∙ (sym (source-cut mode input c.args.style literal b source.1)
+    ∙ ap (λ s. tokens mode input c.args.style s b) (sym source.0))))

@@ -3,7 +3,7 @@ use Rattle.rustc_parse_format.specs.Seen.{seen_mode, seen_snippet}
 use Rattle.format_tokens.specs.Placed.{tokens}
 use Rattle.format_tokens.specs.Seen.{seen_text}
 use Rattle.format_tokens.proofs.InText.{text-of}
-use Rattle.format_tokens.proofs.ReadingBack.{cover-of, reads_back-of, worlds-of}
+use Rattle.format_tokens.proofs.ReadingBack.{cover-of, reads_back-of}
 use Rattle.format_tokens.proofs.lexer.tokens.Goals as goal
 use Rattle.format_tokens.proofs.lexer.tokens.Goals.{in-None, in-Some}
 
@@ -15,13 +15,9 @@ returns-clause-tokens c =
       | in-Some v ↦ rw (v.text-is, v.in-Some.is)
           (ap (λ s. Some (chars s)) v.as_str.ensures.value)
     ] in
-    c.in_ok-tokens.ensures (seen_mode c.args.mode) (c.deref.ensures.value ∙ c.in_ok-labels.ensures)
+    c.in_ok-tokens.ensures (c.deref.ensures.value ∙ c.in_ok-labels.ensures)
     ∙ ap (λ s. tokens (seen_mode c.args.mode) (chars c.args.input.now) c.args.style s
     c.args.appended_newline) same
-
-pub returns-clause-worlds : goal.returns-clause-worlds
-returns-clause-worlds c =
-    worlds-of _ _ _ _ _ _ (returns-clause-tokens c)
 
 pub returns-clause-cover : goal.returns-clause-cover
 returns-clause-cover c =

@@ -1,12 +1,15 @@
-use Rattle.std.proofs.Common.{ap, chars, [], ◌∷◌, ◌∙◌}
+use Rattle.std.proofs.Common.{◌≡◌, ap, chars, [], ◌∷◌, ◌∙◌}
 use Rattle.std.specs.Int.{from_bool}
 use Rattle.rustc_parse_format.specs.Characters.{byte_length}
 use Rattle.rustc_parse_format.specs.Syntax.{align_part, alternate_part, fill_part, precision_part}
 use Rattle.rustc_parse_format.specs.Syntax.{sign_part, type_part, width_part}
 use Rattle.rustc_parse_format.specs.Types.{Spec}
+use Rattle.rustc_parse_format.specs.Values.{type_of}
+use Rattle.format_tokens.specs.declared.kinds.Kind.TheVariants.{«Type» as TypeKind}
+use Rattle.format_tokens.specs.Tokens.{word_kind}
 use Rattle.rustc_parse_format.proofs.Grammar.PartLaws.{IsPart-moved, IsRow, only, opened}
 use Rattle.format_tokens.proofs.Specifications.{alternate-width}
-use Rattle.format_tokens.proofs.Taking.{then}
+use Rattle.format_tokens.proofs.Taking.{as_kind, then}
 use Rattle.format_tokens.proofs.parts.format.Goals as goal
 
 pub returns : goal.returns
@@ -39,7 +42,10 @@ returns c p n r h v =
     (ap (λ (k : Spec (Unit {0})). k.zero_pad) v) (ap (λ (k : Spec (Unit {0})). k.width) v) in
     let t6 = c.in_ok-ty.ensures p.precision n q.seam (IsPart-moved _ _ _ _ t5.leaves q.first)
     (ap (λ (k : Spec (Unit {0})). k.precision) v) in
-    let t7 = c.in_ok-left.ensures (type_part p.type).spelling r (t6.leaves ∙ y.whole)
+    let kind : c.word_kind.result ≡ word_kind TypeKind (type_of p.type) =
+    c.word_kind.ensures ∙ ap (λ (k : Spec (Unit {0})). word_kind TypeKind k.ty) v in
+    let t7 = as_kind (type_part p.type).spelling kind
+    (c.in_ok-left.ensures (type_part p.type).spelling r (t6.leaves ∙ y.whole)
     (c.type_width.ensures p.type (ap (λ (k : Spec (Unit {0})). k.debug_hex) v)
-    (ap (λ (k : Spec (Unit {0})). k.ty) v)) in
+    (ap (λ (k : Spec (Unit {0})). k.ty) v))) in
     then t1 (then t2 (then t3 (then t4 (then t5 (then t6 t7)))))

@@ -7,7 +7,8 @@ use Rattle.format_tokens.proofs.parts.position.Goals.{then-is_raw, else-is_raw}
 
 pub returns-in_ok-left-in-ArgumentIs : goal.returns-in_ok-left-in-ArgumentIs
 returns-in_ok-left-in-ArgumentIs c p n r h v =
-    position-is _ _ _ _ _ _ c.run_width.ensures c.in_ok-left-in-ArgumentIs.ensures p n r h
+    position-is _ _ _ _ _ _ c.run_width.ensures
+    (rw c.integer_kind.ensures at c.in_ok-left-in-ArgumentIs.ensures) p n r h
     (sym (ap seen_position c.in-ArgumentIs.is) ∙ v)
 
 pub returns-in_ok-left-in-ArgumentNamed : goal.returns-in_ok-left-in-ArgumentNamed
@@ -19,5 +20,6 @@ returns-in_ok-left-in-ArgumentNamed c p n r h v =
       | else-is_raw w ↦ w.prefix-is ∙ ap prefix_width w.if-is_raw.ensures
     ] in
     position-named _ _ _ _ _ _ _ _ _ prefix c.width_of.ensures
-    c.in_ok-word-in-ArgumentNamed.ensures c.in_ok-left-in-ArgumentNamed.ensures p n r h
+    c.in_ok-word-in-ArgumentNamed.ensures
+    (rw c.word_kind-kind.ensures at c.in_ok-left-in-ArgumentNamed.ensures) p n r h
     (sym (ap seen_position c.in-ArgumentNamed.is) ∙ v)

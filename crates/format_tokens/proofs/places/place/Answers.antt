@@ -1,32 +1,44 @@
-use Rattle.std.proofs.Common.{◌∙◌, ap, map, arith}
+use Rattle.std.proofs.Common.{◌≡◌, ◌∙◌, ap, map, arith, if◌then◌else◌}
 use Rattle.std.proofs.lemmas.List.{map-append}
+use Rattle.format_tokens.specs.Culprits.{fits, inside_after, role_of}
 use Rattle.format_tokens.specs.Seen.{seen_token}
-use Rattle.format_tokens.specs.declared.kinds.Kind.TheVariants.{Text}
-use Rattle.format_tokens.proofs.Starts.{drop-next, place-none, place-some}
+use Rattle.format_tokens.specs.declared.kinds.Kind.TheVariants.{Unexpected}
+use Rattle.format_tokens.proofs.Starts.{place-none, place-some}
 use Rattle.format_tokens.proofs.places.place.Goals as goal
 use Rattle.format_tokens.proofs.places.place.Goals.{then-at-to+in_ok-push, else-at-to}
 
 pub loop-label-preserved : goal.loop-label-preserved
 loop-label-preserved c =
-    let here = drop-next c.args.labels.now c.loop-label.label-index (Text, 0) c.loop-label-test.true
-    in
+    let label = c.in-Some.label.now in
+    let others = c.in-Some.others.now in
+    let inside = c.loop-label.inside in
+    let fit : c.fits-fits.result ≡ fits c.args.names inside others (role_of label.0) =
+    c.fits-fits.ensures ∙ ap (fits c.args.names inside others) c.role_of-role.ensures in
+    let after : c.inside_after-inside.result
+    ≡ inside_after inside (fits c.args.names inside others (role_of label.0)) (role_of label.0) =
+    c.inside_after-inside.ensures
+    ∙ (ap (λ f. inside_after inside f c.role_of-role.result) fit
+    ∙ ap (inside_after inside (fits c.args.names inside others (role_of label.0)))
+    c.role_of-role.ensures) in
     elim c.if-at-to.branch [
       | then-at-to+in_ok-push v ↦ record {
-        kept = omega (arith, c.min.ensures, v.at-is, c.loop-label.invariant.kept);
+        kept = omega (arith, c.min.ensures, c.loop-label.invariant.kept);
         so_far = λ w e. (
-            let x = rw here at c.loop-label.invariant.so_far w e in
+            let x = rw c.in-Some.ensures.cases.0 at c.loop-label.invariant.so_far w e in
             let tokens = ap (map seen_token) v.in_ok-push.ensures.items
             ∙ map-append seen_token c.loop-label.tokens.items _ in
-            rw (v.at-is, v.tokens-is, tokens)
+            let kind = v.marked_kind.ensures
+            ∙ ap (λ f. if f then label.0 else Unexpected) fit in
+            rw (v.tokens-is, tokens, kind, after)
             (place-some w _ c.loop-label.at c.args.kept _ _ _ _ _ e c.loop-label.invariant.kept
             c.requires c.min.ensures v.if-at-to.true x)
             );
       }
       | else-at-to v ↦ record {
-        kept = omega (arith, c.min.ensures, v.at-is, c.loop-label.invariant.kept);
+        kept = omega (arith, c.min.ensures, c.loop-label.invariant.kept);
         so_far = λ w e. (
-            let x = rw here at c.loop-label.invariant.so_far w e in
-            rw (v.at-is, v.tokens-is)
+            let x = rw c.in-Some.ensures.cases.0 at c.loop-label.invariant.so_far w e in
+            rw (v.tokens-is, after)
             (place-none w c.loop-label.at c.args.kept _ _ _ _ _ c.min.ensures v.if-at-to.false x)
             );
       }
