@@ -1,24 +1,22 @@
 -- How operands are collected.
-use Rattle.std.proofs.Common.{◌≡◌, ℕ, suc, ◌+◌, ◌++◌, Bool, true, false, cond, ◌||◌, List, [], ◌∷◌}
+use Rattle.std.proofs.Common.{◌≡◌, ℕ, suc, ◌+◌, ◌++◌, Bool, true, false, cond, List, [], ◌∷◌}
 use Rattle.std.proofs.Common.{Option, Some, None, refl, sym, ap, ◌∙◌, map, chars, IsUtf8, arith}
-use Rattle.std.proofs.Common.{length}
+use Rattle.std.proofs.Common.{append_assoc, append-nil, length}
 use Rattle.std.specs.BTreeMap.{BTreeMap, UpdatesBy}
-use Rattle.std.specs.Bool.{Decides}
 use Rattle.std.specs.Cmp.Lexicographic.{slice_cmp}
-use Rattle.std.specs.List.{list_any}
 use Rattle.std.specs.Ordering.{nat_cmp}
 use Rattle.std.specs.Str.{bytes_eq, encode_utf8_all}
 use denote.Ref.{Bor}
 use Rattle.std.proofs.lemmas.Bool.Decides.{Decides-like, same_from_decides}
 use Rattle.std.proofs.lemmas.List.{map-append}
-use Rattle.std.proofs.lemmas.List.Folds.{list_any-append}
 use Rattle.std.proofs.lemmas.Map.Text.{btree_map_updates_str}
 use Rattle.std.proofs.lemmas.Slice.Eq.{bytes_eq-Decides}
 use Rattle.std.proofs.lemmas.Str.{chars_from_encodes, encodes-chars}
 use Rattle.rustc_parse_format.specs.Characters.{Text}
 use Rattle.asm_faults.specs.declared.operands.Operand.{Operand as DeclaredOperand}
 use Rattle.asm_faults.specs.declared.operands.Operands.{Operands}
-use Rattle.asm_faults.specs.Operands.{Operand, Named, has_name, index_from, index_of, is_other}
+use Rattle.asm_faults.specs.Operands.{Operand, Named, has_name, index_from, index_if, index_of}
+use Rattle.asm_faults.specs.Operands.{indices_from, is_named, is_register}
 use Rattle.asm_faults.specs.Seen.{Holds, found_in, seen_operand}
 
 -- texts are the same exactly if their bytes are
@@ -71,22 +69,17 @@ index-more ss n w t true e k f =
     ∙ sym (index-new 0 ss (Named w) t e (ap (index_of ss) s ∙ f))
 index-more ss n w t false e k f = sym (index-same 0 ss (Named w) t e)
 
-other-more : (ss : List Operand) (s : Operand) (b : Bool) → is_other s ≡ b
-    → list_any is_other (ss ++ s ∷ []) ≡ (list_any is_other ss || b)
-other-more ss s b e = list_any-append is_other ss (s ∷ [])
-    ∙ ap (λ c. list_any is_other ss || c) (one (is_other s) b e)
-  where
-    one : (a b : Bool) → a ≡ b → (a || false) ≡ b
-    one true b e = e
-    one false b e = e
+indices-more : (p : Operand → Bool) (i n : ℕ) (ss : List Operand) (s : Operand) → n ≡ i + length ss
+    → indices_from p i (ss ++ s ∷ []) ≡ indices_from p i ss ++ index_if (p s) n
+indices-more p i n [] s e = append-nil (index_if (p s) i)
+    ∙ ap (index_if (p s)) (let h : i ≡ n = omega (arith, e) in h)
+indices-more p i n (t ∷ ss) s e =
+    ap (λ (is : List ℕ). index_if (p t) i ++ is)
+    (indices-more p (suc i) n ss s (let h : n ≡ suc i + length ss = omega (arith, e) in h))
+    ∙ sym (append_assoc (index_if (p t) i) (indices_from p (suc i) ss) (index_if (p s) n))
 
-or-true : (b : Bool) → (b || true) ≡ true
-or-true true = refl
-or-true false = refl
-
-or-false : (b : Bool) → (b || false) ≡ b
-or-false true = refl
-or-false false = refl
+at_start : (n : ℕ) (ss : List Operand) → n ≡ length ss → n ≡ 0 + length ss
+at_start n ss k = let h : n ≡ 0 + length ss = omega (arith, k) in h
 
 slots-more : (ss : List Operand) (old new : Operands) (s : DeclaredOperand) → Holds ss old
     → new.slots.items ≡ old.slots.items ++ s ∷ []
@@ -101,30 +94,38 @@ pub Holds-named : (ss : List Operand) (old new : Operands) (s : DeclaredOperand)
     → index_of ss (chars w.now) ≡ None → new.slots.items ≡ old.slots.items ++ s ∷ []
     → ((t : Text) → found_in new.names t
     ≡ cond (bytes_eq t (chars w.now)) (Some n) (found_in old.names t))
-    → new.has_others ≡ true → Holds (ss ++ Named (chars w.now) ∷ []) new
-Holds-named ss old new s w n h e k f l m b = record {
+    → new.named.items ≡ old.named.items ++ n ∷ [] → new.registers.items ≡ old.registers.items
+    → Holds (ss ++ Named (chars w.now) ∷ []) new
+Holds-named ss old new s w n h e k f l m p r = record {
   slots = slots-more ss old new s h l ∙ ap (λ (o : Operand). ss ++ o ∷ []) e;
   names = λ t. m t ∙ ap (λ (o : Option ℕ). cond (bytes_eq t (chars w.now)) (Some n) o) (h.names t)
       ∙ index-more ss n (chars w.now) t (bytes_eq t (chars w.now)) refl k f;
-  has_others = b ∙ sym (other-more ss (Named (chars w.now)) true refl
-      ∙ or-true (list_any is_other ss));
+  named = p ∙ ap (λ (is : List ℕ). is ++ n ∷ []) h.named
+      ∙ sym (indices-more is_named 0 n ss (Named (chars w.now)) (at_start n ss k));
+  registers = r ∙ h.registers ∙ sym (append-nil (indices_from is_register 0 ss))
+      ∙ sym (indices-more is_register 0 n ss (Named (chars w.now)) (at_start n ss k));
 }
 
 -- an operand more, without one
-pub Holds-nameless : (ss : List Operand) (old new : Operands) (s : DeclaredOperand) (b : Bool)
+pub Holds-nameless : (ss : List Operand) (old new : Operands) (s : DeclaredOperand)
     → Holds ss old → ((t : Text) → has_name t (seen_operand s) ≡ false)
-    → is_other (seen_operand s) ≡ b → new.slots.items ≡ old.slots.items ++ s ∷ []
-    → new.names ≡ old.names → new.has_others ≡ (old.has_others || b)
+    → is_named (seen_operand s) ≡ false → new.slots.items ≡ old.slots.items ++ s ∷ []
+    → new.names ≡ old.names → new.named.items ≡ old.named.items
+    → new.registers.items ≡ old.registers.items
+    ++ index_if (is_register (seen_operand s)) (length ss)
     → Holds (ss ++ seen_operand s ∷ []) new
-Holds-nameless ss old new s b h n e l m o = record {
+Holds-nameless ss old new s h n e l m p r = record {
   slots = slots-more ss old new s h l;
   names = λ t. ap (λ (i : BTreeMap (Bor (List ℕ)) ℕ). found_in i t) m ∙ h.names t
       ∙ sym (index-same 0 ss (seen_operand s) t (n t));
-  has_others = o ∙ ap (λ c. c || b) h.has_others ∙ sym (other-more ss (seen_operand s) b e);
+  named = p ∙ h.named ∙ sym (append-nil (indices_from is_named 0 ss))
+      ∙ ap (λ (b : Bool). indices_from is_named 0 ss ++ index_if b (length ss)) (sym e)
+      ∙ sym (indices-more is_named 0 (length ss) ss (seen_operand s)
+      (at_start (length ss) ss refl));
+  registers = r ∙ ap (λ (is : List ℕ). is ++ index_if (is_register (seen_operand s)) (length ss))
+      h.registers ∙ sym (indices-more is_register 0 (length ss) ss (seen_operand s)
+      (at_start (length ss) ss refl));
 }
 
-pub with-none : (b : Bool) → b ≡ (b || false)
-with-none b = sym (or-false b)
-
-pub with-one : (b : Bool) → true ≡ (b || true)
-with-one b = sym (or-true b)
+pub with-none : (is : List ℕ) → is ≡ is ++ []
+with-none is = sym (append-nil is)

@@ -1,5 +1,5 @@
 -- How the operands that lookups mean are marked, and the others left.
-use Rattle.std.proofs.Common.{◌≡◌, ℕ, suc, zero, ◌+◌, ◌<◌, ◌++◌, ◌==◌, ◌||◌, ◌&&◌, Bool, true}
+use Rattle.std.proofs.Common.{◌≡◌, ℕ, suc, zero, ◌+◌, ◌<◌, ◌++◌, ◌==◌, ◌||◌, Bool, true}
 use Rattle.std.proofs.Common.{false, refl, List, [], ◌∷◌, length, map, take, get_or, cond}
 use Rattle.std.proofs.Common.{Some, arith, ap, ◌∙◌, sym}
 use Rattle.std.proofs.Common.{eqb-true}
@@ -9,7 +9,7 @@ use Rattle.std.proofs.lemmas.Bool.{and_parts}
 use Rattle.rustc_parse_format.specs.Characters.{Text}
 use Rattle.call_faults.proofs.Collecting.{list_any-next}
 use Rattle.call_faults.proofs.Comparing.{or-none}
-use Rattle.asm_faults.specs.Compared.{is_unnamed, means}
+use Rattle.asm_faults.specs.Compared.{is_unnamed, means, unused_from, unused_one}
 use Rattle.asm_faults.specs.Lookups.{Lookup, ByIndex, ByName, Long}
 use Rattle.asm_faults.specs.Operands.{Operand, has_name, index_from}
 
@@ -51,3 +51,15 @@ marked-next f ss ls j d i old new b l e g m = m ∙ ap (λ c. c || b) e
     ∙ ap (λ c. list_any (means ss i) (map f (take j ls)) || c) (g
     ∙ sym (or-none (means ss i (f (get_or ls j d))) false refl))
     ∙ sym (list_any-next f (means ss i) ls j d l)
+
+unused_one-same : (b c : Bool) (i : ℕ) (s : Operand) → b ≡ c
+    → unused_one (λ j. b) i s ≡ unused_one (λ j. c) i s
+unused_one-same b c i s e = ap (λ (d : Bool). unused_one (λ j. d) i s) e
+
+-- tests that hold for the same indices leave the same operands
+pub unused-same : (f g : ℕ → Bool) → ((i : ℕ) → f i ≡ g i) → (i : ℕ) (ss : List Operand)
+    → unused_from f i ss ≡ unused_from g i ss
+unused-same f g e i [] = refl
+unused-same f g e i (s ∷ ss) =
+    ap (λ (is : List ℕ). is ++ unused_from f (suc i) ss) (unused_one-same (f i) (g i) i s (e i))
+    ∙ ap (λ (is : List ℕ). unused_one g i s ++ is) (unused-same f g e (suc i) ss)

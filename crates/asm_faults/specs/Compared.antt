@@ -1,4 +1,4 @@
--- What is wrong between the placeholders of templates and the operands of their call.
+-- The faults between the placeholders of templates and the operands of their call.
 use Rattle.std.specs.Prelude.{ℕ, suc, Bool, true, false, ◌==◌, ◌&&◌, ◌||◌, ◌++◌, if◌then◌else◌}
 use Rattle.std.specs.Prelude.{List, [], ◌∷◌, Option, Some, None, is_some}
 use Rattle.std.specs.Option.{option_map_or}
@@ -22,11 +22,11 @@ means ss i (ByIndex s n) = is_unnamed (slice_get ss n) && (i == n)
 means ss i (ByName s w) = option_map_or (λ j. i == j) (index_of ss w) false
 means ss i (Long s) = false
 
--- The fault of a lookup, if there is one.
-abbrev pub fault_of : List Operand → Lookup → Option AsmFault
-fault_of ss (ByIndex s n) = if is_unnamed (slice_get ss n) then None else Some (WrongIndex s n)
-fault_of ss (ByName s w) = if is_some (index_of ss w) then None else Some (MissingName s w)
-fault_of ss (Long s) = Some (LongModifier s)
+-- The fault of a lookup, if there is one, where so many operands are unnamed.
+abbrev pub fault_of : List Operand → ℕ → Lookup → Option AsmFault
+fault_of ss n (ByIndex s i) = if is_unnamed (slice_get ss i) then None else Some (WrongIndex s i n)
+fault_of ss n (ByName s w) = if is_some (index_of ss w) then None else Some (MissingName s w)
+fault_of ss n (Long s) = Some (LongModifier s)
 
 -- The index i of an operand, if it is not used and has no register of its own.
 abbrev pub unused_one : (ℕ → Bool) → ℕ → Operand → List ℕ

@@ -1,6 +1,6 @@
 -- The labels of faults, in rustc's words and order, as bytes.
-use Rattle.std.specs.Prelude.{ℕ, suc, ◌==◌, ◌&&◌, ◌++◌, Bool, true, false, if◌then◌else◌, List, []}
-use Rattle.std.specs.Prelude.{◌∷◌, Option, Some, None, codes, map, nat_lt}
+use Rattle.std.specs.Prelude.{ℕ, ◌==◌, ◌&&◌, ◌++◌, Bool, true, false, List, [], ◌∷◌, Option, Some}
+use Rattle.std.specs.Prelude.{None, codes, map}
 use Rattle.std.specs.List.{slice_get}
 use Rattle.rustc_parse_format.specs.Faults.{Message, message}
 use Rattle.rustc_parse_format.specs.World.{Place}
@@ -37,31 +37,19 @@ kind_label i Unnamed = []
 kind_label i (Named w) = secondary (WholeOperand i) (codes "named argument") ∷ []
 kind_label i (Register b) = secondary (WholeOperand i) (codes "explicit register argument") ∷ []
 
--- The operand has a register of its own, or else a name.
-abbrev pub is_kind : Bool → Operand → Bool
-is_kind b Unnamed = false
-is_kind b (Named w) = if b then false else true
-is_kind b (Register c) = b
-
--- The label of an operand of the index i, if it is of this kind and in front of the operand n.
-abbrev pub front_label : Bool → ℕ → ℕ → Operand → List Label
-front_label b n i s = if nat_lt i n && is_kind b s then kind_label i s else []
-
--- The labels of those of these operands, of which the first has the index i, that are of this kind
--- and in front of the operand n.
-abbrev pub front_labels : Bool → ℕ → ℕ → List Operand → List Label
-front_labels b n i [] = []
-front_labels b n i (s ∷ ss) = front_label b n i s ++ front_labels b n (suc i) ss
-
--- The labels of the operand i without a name, which stands too late.
-abbrev pub late_labels : List Operand → ℕ → List Label
-late_labels ss i = primary (WholeOperand i) (codes "positional argument")
-    ∷ (front_labels false i 0 ss ++ front_labels true i 0 ss)
-
 -- The label of the operand of the index i, if there is one that an index does not mean.
 abbrev pub kind_at : ℕ → Option Operand → List Label
 kind_at i None = []
 kind_at i (Some o) = kind_label i o
+
+-- The labels of the operands of these indices.
+abbrev pub kinds_at : List Operand → List ℕ → List Label
+kinds_at ss [] = []
+kinds_at ss (i ∷ is) = kind_at i (slice_get ss i) ++ kinds_at ss is
+
+-- The labels of the operand i without a name, which stands after these others.
+abbrev pub late_labels : List Operand → ℕ → List ℕ → List Label
+late_labels ss i js = primary (WholeOperand i) (codes "positional argument") ∷ kinds_at ss js
 
 -- The labels of a placeholder there that refers to an operand by a wrong index, and of this
 -- operand.
@@ -86,11 +74,11 @@ unused_labels ss is = map (λ i. primary (WholeOperand i) (never_used (slice_get
 
 -- The labels of a fault of a call with the operands ss, as placeholders refer to them.
 unfoldable pub labels : List Operand → AsmFault → List Label
-labels ss (PositionalAfter i) = late_labels ss i
+labels ss (PositionalAfter i js) = late_labels ss i js
 labels ss (RepeatedName i f) = primary (WholeOperand i) (codes "duplicate argument")
     ∷ secondary (WholeOperand f) (codes "previously here") ∷ []
 labels ss (RegisterName i) = primary (WholeOperand i) [] ∷ []
-labels ss (WrongIndex s n) = wrong_labels s n (slice_get ss n)
+labels ss (WrongIndex s i n) = wrong_labels s i (slice_get ss i)
 labels ss (MissingName s w) = primary s [] ∷ []
 labels ss (LongModifier s) = primary s [] ∷ []
 labels ss (TemplateFault k f) = text_labels k (message f)

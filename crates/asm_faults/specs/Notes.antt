@@ -1,13 +1,13 @@
 -- The notes and helps of faults, in rustc's words and order, as bytes.
-use Rattle.std.specs.Prelude.{ℕ, suc, ◌==◌, ◌++◌, Bool, true, false, if◌then◌else◌, List, [], ◌∷◌}
-use Rattle.std.specs.Prelude.{Option, Some, None, codes, decimal, encode_utf8_all, length}
+use Rattle.std.specs.Prelude.{ℕ, ◌==◌, ◌++◌, if◌then◌else◌, List, [], ◌∷◌, Option, Some, None}
+use Rattle.std.specs.Prelude.{codes, decimal, encode_utf8_all, length}
 use Rattle.std.specs.List.{slice_get}
 use Rattle.rustc_parse_format.specs.Characters.{Text}
 use Rattle.rustc_parse_format.specs.Faults.{message}
 use Rattle.asm_faults.specs.AsmFaults.{AsmFault, PositionalAfter, RepeatedName, RegisterName}
 use Rattle.asm_faults.specs.AsmFaults.{WrongIndex, MissingName, LongModifier, TemplateFault}
 use Rattle.asm_faults.specs.AsmFaults.{UnusedOperands}
-use Rattle.asm_faults.specs.Operands.{Operand, Named, Register, Unnamed, is_other}
+use Rattle.asm_faults.specs.Operands.{Operand, Named, Register, Unnamed}
 use Rattle.asm_faults.specs.Words.{given_name}
 use Rattle.asm_faults.specs.declared.faults.AsmSpot.{AsmSpot}
 use Rattle.asm_faults.specs.declared.faults.AsmSpot.TheVariants.{Operand as WholeOperand}
@@ -21,14 +21,9 @@ pub record Note : Type 0 where
 abbrev pub note : List ℕ → Option AsmSpot → Note
 note t s = record { text = t; spot = s }
 
--- How many operands have neither a name nor a register of their own.
-abbrev pub count_unnamed : List Operand → ℕ
-count_unnamed [] = 0
-count_unnamed (s ∷ ss) = if is_other s then count_unnamed ss else suc (count_unnamed ss)
-
--- The operands that an index may mean, which are all or only some.
-abbrev pub noun : List Operand → List ℕ
-noun ss = if count_unnamed ss == length ss then codes "argument" else codes "positional argument"
+-- The operands that an index may mean, of which there are n: all of ss or only some.
+abbrev pub noun : List Operand → ℕ → List ℕ
+noun ss n = if n == length ss then codes "argument" else codes "positional argument"
 
 -- So many operands in words.
 abbrev pub count_text : ℕ → List ℕ → List ℕ
@@ -46,9 +41,9 @@ kind_notes i (Some (Register b)) =
     note (codes "explicit register arguments cannot be used in the asm template")
     (Some (WholeOperand i)) ∷ []
 
--- The notes of a wrong index.
-abbrev pub wrong_notes : List Operand → ℕ → List Note
-wrong_notes ss i = note (count_text (count_unnamed ss) (noun ss)) None
+-- The notes of a wrong index, where an index may mean n operands.
+abbrev pub wrong_notes : List Operand → ℕ → ℕ → List Note
+wrong_notes ss i n = note (count_text n (noun ss n)) None
     ∷ kind_notes i (slice_get ss i)
 
 -- The help of a wrong index, if it is that of an operand with a register of its own.
@@ -65,7 +60,7 @@ abbrev pub text_notes : Option (List ℕ) → List Note
 text_notes None = []
 text_notes (Some t) = note t None ∷ []
 
--- What a placeholder has for an operand of the index i: its name, or its index.
+-- The position of a placeholder for an operand of the index i: its name, or its index.
 abbrev pub reference : ℕ → Option Text → List ℕ
 reference i None = decimal i
 reference i (Some w) = encode_utf8_all w
@@ -89,10 +84,10 @@ unused_help ss is =
 
 -- The notes of a fault of a call with the operands ss, as placeholders refer to them.
 unfoldable pub notes : List Operand → AsmFault → List Note
-notes ss (PositionalAfter i) = []
+notes ss (PositionalAfter i js) = []
 notes ss (RepeatedName i f) = []
 notes ss (RegisterName i) = []
-notes ss (WrongIndex s n) = wrong_notes ss n
+notes ss (WrongIndex s i n) = wrong_notes ss i n
 notes ss (MissingName s w) = []
 notes ss (LongModifier s) = []
 notes ss (TemplateFault k f) = text_notes (message f).note
@@ -100,10 +95,10 @@ notes ss (UnusedOperands is) = []
 
 -- The help of a fault, if it has one.
 unfoldable pub help : List Operand → AsmFault → Option Note
-help ss (PositionalAfter i) = None
+help ss (PositionalAfter i js) = None
 help ss (RepeatedName i f) = None
 help ss (RegisterName i) = None
-help ss (WrongIndex s n) = wrong_help n (slice_get ss n)
+help ss (WrongIndex s i n) = wrong_help i (slice_get ss i)
 help ss (MissingName s w) = None
 help ss (LongModifier s) = None
 help ss (TemplateFault k f) = None

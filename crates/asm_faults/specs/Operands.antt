@@ -1,9 +1,8 @@
--- The operands of a call, and what is wrong with their list alone. The public rule is in the Rust
+-- The operands of a call, and the faults of their list alone. The public rule is in the Rust
 -- Reference, on inline assembly: operands by position stand in front of those by name, and these in
 -- front of those with a register of their own, which have no names.
-use Rattle.std.specs.Prelude.{ℕ, suc, ◌++◌, Bool, true, false, if◌then◌else◌, length}
-use Rattle.std.specs.Prelude.{List, [], ◌∷◌, Option, Some, None, is_some}
-use Rattle.std.specs.List.{list_any}
+use Rattle.std.specs.Prelude.{ℕ, suc, ◌++◌, Bool, true, false, if◌then◌else◌}
+use Rattle.std.specs.Prelude.{List, [], ◌∷◌, Option, Some, None, is_some, take}
 use Rattle.std.specs.Str.{bytes_eq}
 use Rattle.rustc_parse_format.specs.Characters.{Text}
 use Rattle.asm_faults.specs.AsmFaults.{AsmFault, PositionalAfter, RepeatedName, RegisterName}
@@ -21,11 +20,22 @@ is_other Unnamed = false
 is_other (Named w) = true
 is_other (Register b) = true
 
+-- The operand has a name, and no register of its own.
+abbrev pub is_named : Operand → Bool
+is_named Unnamed = false
+is_named (Named w) = true
+is_named (Register b) = false
+
 -- The operand has a register of its own.
 abbrev pub is_register : Operand → Bool
 is_register Unnamed = false
 is_register (Named w) = false
 is_register (Register b) = true
+
+-- How many of these operands have neither a name nor a register of their own.
+abbrev pub count_unnamed : List Operand → ℕ
+count_unnamed [] = 0
+count_unnamed (s ∷ ss) = if is_other s then count_unnamed ss else suc (count_unnamed ss)
 
 -- The operand has this name, and no register of its own.
 abbrev pub has_name : Text → Operand → Bool
@@ -43,7 +53,7 @@ index_from i (s ∷ ss) w = if has_name w s then Some i else index_from (suc i) 
 abbrev pub index_of : List Operand → Text → Option ℕ
 index_of ss w = index_from 0 ss w
 
--- An operand behind those of ss, as placeholders refer to it: a name that is there counts for
+-- An operand after those of ss, as placeholders refer to it: a name that is there counts for
 -- nothing.
 abbrev pub slot : List Operand → Operand → Operand
 slot ss Unnamed = Unnamed
@@ -60,13 +70,32 @@ abbrev pub repeated : ℕ → Option ℕ → List AsmFault
 repeated i None = []
 repeated i (Some f) = RepeatedName i f ∷ []
 
--- What is wrong with an operand of the index i behind those of ss.
+-- The index i, if a test holds.
+abbrev pub index_if : Bool → ℕ → List ℕ
+index_if b i = if b then i ∷ [] else []
+
+-- The indices of those of these operands, of which the first has the index i, that pass a test.
+abbrev pub indices_from : (Operand → Bool) → ℕ → List Operand → List ℕ
+indices_from p i [] = []
+indices_from p i (s ∷ ss) = index_if (p s) i ++ indices_from p (suc i) ss
+
+-- The first sixteen of these operands that have a name, and then the first sixteen that have a
+-- register of their own.
+abbrev pub others_of : List Operand → List ℕ
+others_of ss = take 16 (indices_from is_named 0 ss) ++ take 16 (indices_from is_register 0 ss)
+
+-- The fault of the operand of the index i without a name, if these others stand in front of it.
+abbrev pub late_faults : ℕ → List ℕ → List AsmFault
+late_faults i [] = []
+late_faults i (j ∷ js) = PositionalAfter i (j ∷ js) ∷ []
+
+-- The faults of an operand of the index i after those of ss.
 abbrev pub faults_of : List Operand → ℕ → Operand → List AsmFault
-faults_of ss i Unnamed = if list_any is_other ss then PositionalAfter i ∷ [] else []
+faults_of ss i Unnamed = late_faults i (others_of ss)
 faults_of ss i (Named w) = repeated i (index_of ss w)
 faults_of ss i (Register b) = if b then RegisterName i ∷ [] else []
 
--- What is wrong with the operands os, of which the first has the index i, behind those of ss.
+-- The faults of the operands os, of which the first has the index i, after those of ss.
 abbrev pub faults_from : List Operand → ℕ → List Operand → List AsmFault
 faults_from ss i [] = []
 faults_from ss i (o ∷ os) = faults_of ss i o ++ faults_from (ss ++ slot ss o ∷ []) (suc i) os

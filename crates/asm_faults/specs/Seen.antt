@@ -1,8 +1,7 @@
--- What a contract sees of the values of this crate: texts as their characters, ranges as places.
+-- The values of this crate as a contract sees them: texts as their characters, ranges as places.
 use Rattle.std.specs.Prelude.{◌≡◌, ℕ, List, Option, map, option_map, string_bytes}
 use Rattle.std.specs.BTreeMap.{BTreeMap, get_by}
 use Rattle.std.specs.Cmp.Lexicographic.{slice_cmp}
-use Rattle.std.specs.List.{list_any}
 use Rattle.std.specs.Ordering.{nat_cmp}
 use Rattle.std.specs.Str.{encode_utf8_all}
 use denote.Ref.{Bor}
@@ -35,7 +34,8 @@ use Rattle.asm_faults.specs.AsmFaults.{UnusedOperands}
 use Rattle.asm_faults.specs.Labels.{Label, label}
 use Rattle.asm_faults.specs.Lookups.{Lookup, ByIndex, ByName, Long}
 use Rattle.asm_faults.specs.Notes.{Note, note}
-use Rattle.asm_faults.specs.Operands.{Operand, Named, Register, Unnamed, index_of, is_other}
+use Rattle.asm_faults.specs.Operands.{Operand, Named, Register, Unnamed, index_of, indices_from}
+use Rattle.asm_faults.specs.Operands.{is_named, is_register}
 use Rattle.asm_faults.specs.Templates.{Template}
 
 -- An operand as a contract sees it.
@@ -60,10 +60,10 @@ seen_lookup (LongLookupIn s) = Long s
 
 -- A fault as a contract sees it.
 abbrev pub seen_fault : DeclaredFault → AsmFault
-seen_fault (LateIn i) = PositionalAfter i
+seen_fault (LateIn i js) = PositionalAfter i js.items
 seen_fault (RepeatedIn i f) = RepeatedName i f
 seen_fault (RegisterNameIn i) = RegisterName i
-seen_fault (WrongIn s n) = WrongIndex s n
+seen_fault (WrongIn s i n) = WrongIndex s i n
 seen_fault (MissingIn s w) = MissingName s (text w)
 seen_fault (LongIn s) = LongModifier s
 seen_fault (TextIn k f) = TemplateFault k (seen_text_fault f)
@@ -77,7 +77,7 @@ seen_label l = label l.spot l.is_primary (string_bytes l.text)
 abbrev pub seen_note : AsmNote → Note
 seen_note n = note (string_bytes n.text) n.spot
 
--- What a map has for a name.
+-- The number that a map has for a name.
 abbrev pub found_in : BTreeMap (Bor (List ℕ)) ℕ → Text → Option ℕ
 found_in m w = get_by (λ k. slice_cmp nat_cmp (encode_utf8_all w) k.now) m
 
@@ -85,4 +85,5 @@ found_in m w = get_by (λ k. slice_cmp nat_cmp (encode_utf8_all w) k.now) m
 pub record Holds (ss : List Operand) (a : Operands) : Type 0 where
   pub slots : map seen_operand a.slots.items ≡ ss
   pub names : (w : Text) → found_in a.names w ≡ index_of ss w
-  pub has_others : a.has_others ≡ list_any is_other ss
+  pub named : a.named.items ≡ indices_from is_named 0 ss
+  pub registers : a.registers.items ≡ indices_from is_register 0 ss

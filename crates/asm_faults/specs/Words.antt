@@ -11,12 +11,12 @@ use Rattle.asm_faults.specs.AsmFaults.{WrongIndex, MissingName, LongModifier, Te
 use Rattle.asm_faults.specs.AsmFaults.{UnusedOperands}
 use Rattle.asm_faults.specs.Operands.{Operand, Named, Register, Unnamed}
 
--- The id of a fault. That of a template has its own.
+-- The id of a fault. A fault of a template has its own.
 unfoldable pub asm_id : AsmFault → List ℕ
-asm_id (PositionalAfter i) = codes "operand-order"
+asm_id (PositionalAfter i js) = codes "operand-order"
 asm_id (RepeatedName i f) = codes "repeated-name"
 asm_id (RegisterName i) = codes "register-name"
-asm_id (WrongIndex s n) = codes "wrong-operand"
+asm_id (WrongIndex s i n) = codes "wrong-operand"
 asm_id (MissingName s w) = codes "missing-name"
 asm_id (LongModifier s) = codes "long-modifier"
 asm_id (TemplateFault k f) = fault_id f
@@ -48,12 +48,12 @@ unused_title ss (i ∷ j ∷ is) = codes "multiple unused asm arguments"
 
 -- The title of a fault of a call with the operands ss, as placeholders refer to them.
 unfoldable pub title : List Operand → AsmFault → List ℕ
-title ss (PositionalAfter i) =
+title ss (PositionalAfter i js) =
     codes "positional arguments cannot follow named arguments or explicit register arguments"
 title ss (RepeatedName i f) =
     codes "duplicate argument named " ++ quoted (name_of (slice_get ss f))
 title ss (RegisterName i) = codes "explicit register arguments cannot have names"
-title ss (WrongIndex s n) = codes "invalid reference to argument at index " ++ decimal n
+title ss (WrongIndex s i n) = codes "invalid reference to argument at index " ++ decimal i
 title ss (MissingName s w) = codes "there is no argument named " ++ quoted w
 title ss (LongModifier s) = codes "asm template modifier must be a single character"
 title ss (TemplateFault k f) = codes "invalid asm template string: " ++ (message f).description

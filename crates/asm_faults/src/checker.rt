@@ -1,4 +1,4 @@
-//! What is wrong with a call.
+//! The check of a call.
 
 ghost use Rattle.std.specs.Prelude.{◌≡◌, ◌+◌, ◌<◌, ◌^◌, ◌++◌, [], List, IfOk, OnOk, length, map};
 ghost use Rattle.std.specs.List.{AllByRecursion};
@@ -8,7 +8,7 @@ ghost use Rattle.asm_faults.specs.Operands.{Operand as OperandValue, slots_after
 ghost use Rattle.asm_faults.specs.Seen.{Holds, seen_fault, seen_operand, seen_template};
 ghost use Rattle.asm_faults.specs.Templates.{lookups_from, template_fault};
 
-use crate::compared::{look_up, tell_unused};
+use crate::compared::{check_unused, look_up};
 use crate::faults::AsmFault;
 use crate::lookups::Walk;
 use crate::operands::{Operand, Operands, operands_of};
@@ -21,11 +21,11 @@ pub struct AsmCall<'a> {
     /// The operands that are given, of which those whose name is that of an earlier one count as
     /// unnamed.
     pub operands: Vec<Operand<'a>>,
-    /// What is wrong, in the order in which rustc tells it.
+    /// The faults, in the order in which rustc reports them.
     pub faults: Vec<AsmFault<'a>>,
 }
 
-/// Adds what is wrong with templates and operands. Returns `Err` if an allocation fails.
+/// Adds the faults of templates and operands. Returns `Err` if an allocation fails.
 fn compare<'a>(
     alloc: Global,
     faults: &mut Vec<AsmFault<'a>>,
@@ -47,14 +47,14 @@ fn compare<'a>(
     look_up(faults, operands, &walk.lookups)?;
     match fault {
         Some(fault) => faults.push(fault)?,
-        None => tell_unused(alloc, faults, operands, &walk.lookups)?,
+        None => check_unused(alloc, faults, operands, &walk.lookups)?,
     }
     Ok(())
 }
 
 /// Checks a call of a macro for inline assembly, as `asm!`: reads its templates, compares their
-/// placeholders with the operands that are given, in the order of the source, and returns what is
-/// wrong, as rustc tells it. Placeholders without a position count through all templates.
+/// placeholders with the operands that are given, in the order of the source, and returns the
+/// faults, as rustc reports them. Placeholders without a position count through all templates.
 ///
 /// With `options(raw)` the templates have no placeholders, so none is to be given here. For each
 /// template the number of hashes, the length of the text in bytes, and 2 must together fit into a

@@ -4,14 +4,14 @@ ghost use Rattle.std.specs.Prelude.{◌≡◌, ◌==◌, ◌++◌, ◌||◌, ℕ
 ghost use Rattle.std.specs.Prelude.{map, option_map};
 ghost use Rattle.std.specs.Option.{option_map_or};
 ghost use Rattle.std.specs.List.{filter_map, list_any};
-ghost use Rattle.asm_faults.specs.Operands.{Operand as OperandValue, is_register};
+ghost use Rattle.asm_faults.specs.Operands.{Operand as OperandValue, count_unnamed, is_register};
 ghost use Rattle.asm_faults.specs.Compared.{fault_of, means, unused, unused_faults, unused_from};
 ghost use Rattle.asm_faults.specs.Compared.{unused_one};
 ghost use Rattle.asm_faults.specs.Seen.{Holds, seen_fault, seen_lookup, seen_operand};
 
 use crate::faults::AsmFault;
 use crate::lookups::Lookup;
-use crate::operands::{Operand, Operands, index_of};
+use crate::operands::{Operand, Operands, count_unnamed, index_of};
 use std::alloc::{AllocError, Global};
 
 /// Returns the index of the operand that a lookup means, or `None` if it means none.
@@ -86,16 +86,25 @@ fn unmarked(alloc: Global, slots: &[Operand<'_>], marks: &[bool]) -> Result<Vec<
     Ok(left)
 }
 
-/// Returns the fault of a lookup, or `None` if there is none.
-fn fault_of<'a>(operands: &Operands<'a>, lookup: &Lookup<'a>) -> Option<AsmFault<'a>>
+/// Returns the fault of a lookup, or `None` if there is none, where so many operands have neither a
+/// name nor a register of their own.
+fn fault_of<'a>(
+    operands: &Operands<'a>,
+    positional_count: usize,
+    lookup: &Lookup<'a>,
+) -> Option<AsmFault<'a>>
     ensures { (ss : List OperandValue) → Holds ss operands.now
-        → option_map seen_fault result ≡ fault_of ss (seen_lookup lookup.now) }
+        → option_map seen_fault result ≡ fault_of ss positional_count (seen_lookup lookup.now) }
 {
     match *lookup {
         Lookup::Index(spot, index) => match operands.slots.get(index) {
             Some(Operand::Unnamed) => None,
             Some(Operand::Named(_)) | Some(Operand::Register { .. }) | None => {
-                Some(AsmFault::WrongIndex { spot, index })
+                Some(AsmFault::WrongIndex {
+                    spot,
+                    index,
+                    positional_count,
+                })
             }
         },
         Lookup::Name(spot, name) => match index_of(&operands.names, name) {
@@ -114,19 +123,31 @@ pub(crate) fn look_up<'a>(
 ) -> Result<(), AllocError>
     ensures { OnOk result ((ss : List OperandValue) → Holds ss operands.now
         → map seen_fault faults.new.items ≡ map seen_fault faults.old.items
-        ++ filter_map (fault_of ss) (map seen_lookup lookups.now)) }
+        ++ filter_map (fault_of ss (count_unnamed ss)) (map seen_lookup lookups.now)) }
 {
+    let positional_count = count_unnamed(&operands.slots);
     for lookup in lookups {
-        if let Some(fault) = fault_of(operands, lookup) {
+        if let Some(fault) = fault_of(operands, positional_count, lookup) {
             faults.push(fault)?;
         }
     }
     Ok(())
 }
 
+/// Adds the fault of unused operands, if there are any. Returns `Err` if an allocation fails.
+fn push_unused(faults: &mut Vec<AsmFault<'_>>, unused: Vec<usize>) -> Result<(), AllocError>
+    ensures { OnOk result (map seen_fault faults.new.items ≡ map seen_fault faults.old.items
+        ++ unused_faults unused.items) }
+{
+    if !unused.is_empty() {
+        faults.push(AsmFault::UnusedOperands(unused))?;
+    }
+    Ok(())
+}
+
 /// Adds the fault of the operands that no lookup means, if there are any. Returns `Err` if an
 /// allocation fails.
-pub(crate) fn tell_unused<'a>(
+pub(crate) fn check_unused<'a>(
     alloc: Global,
     faults: &mut Vec<AsmFault<'a>>,
     operands: &Operands<'a>,
@@ -138,8 +159,6 @@ pub(crate) fn tell_unused<'a>(
 {
     let marks = marks(alloc, operands, lookups)?;
     let unused = unmarked(alloc, &operands.slots, &marks)?;
-    if !unused.is_empty() {
-        faults.push(AsmFault::UnusedOperands(unused))?;
-    }
+    push_unused(faults, unused)?;
     Ok(())
 }

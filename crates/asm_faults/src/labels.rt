@@ -1,5 +1,5 @@
-//! The labels of faults, in rustc's words. What begins with `push_` adds to the end of `labels`,
-//! and returns `Err` if an allocation fails.
+//! The labels of faults, in rustc's words. A function whose name begins with `push_` adds to the
+//! end of `labels`, and returns `Err` if an allocation fails.
 
 ghost use Rattle.std.specs.Prelude.{◌≡◌, ◌++◌, ◌∷◌, [], IfOk, OnOk, codes, map, option_map};
 ghost use Rattle.std.specs.Prelude.{string_bytes};
@@ -7,9 +7,8 @@ ghost use Rattle.std.specs.List.{slice_get};
 ghost use Rattle.rustc_parse_format.specs.Faults.{message};
 ghost use Rattle.rustc_parse_format.specs.Seen.{seen_error};
 ghost use Rattle.rustc_parse_format.specs.SeenFaults.{seen_fault as seen_text_fault};
-ghost use Rattle.asm_faults.specs.Labels.{front_label, front_labels, is_kind, kind_at, kind_label};
-ghost use Rattle.asm_faults.specs.Labels.{label, late_labels, second_labels, text_labels};
-ghost use Rattle.asm_faults.specs.Labels.{unused_labels, wrong_labels};
+ghost use Rattle.asm_faults.specs.Labels.{kind_at, kind_label, kinds_at, label, late_labels};
+ghost use Rattle.asm_faults.specs.Labels.{second_labels, text_labels, unused_labels, wrong_labels};
 ghost use Rattle.asm_faults.specs.Seen.{seen_label, seen_operand};
 
 use crate::checker::AsmCall;
@@ -68,67 +67,6 @@ fn push_kind(
     Ok(())
 }
 
-/// Returns whether an operand has a register of its own, or else a name.
-fn is_kind(is_register: bool, operand: &Operand<'_>) -> bool
-    ensures { result ≡ is_kind is_register (seen_operand operand.now) }
-{
-    match operand {
-        Operand::Unnamed => false,
-        Operand::Named(_) => !is_register,
-        Operand::Register { .. } => is_register,
-    }
-}
-
-/// Adds the label of an operand, if it is in front of an index and has a register of its own, or
-/// else a name.
-fn push_front(
-    labels: &mut Vec<AsmLabel>,
-    is_register: bool,
-    before: usize,
-    index: usize,
-    operand: &Operand<'_>,
-) -> Result<(), AllocError>
-    ensures { OnOk result (map seen_label labels.new.items ≡ map seen_label labels.old.items
-        ++ front_label is_register before index (seen_operand operand.now)) }
-{
-    if index < before && is_kind(is_register, operand) {
-        push_kind(labels, index, operand)?;
-    }
-    Ok(())
-}
-
-/// Adds the labels of those of operands in front of an index that have a register of their own, or
-/// else of those that have a name.
-fn push_fronts(
-    labels: &mut Vec<AsmLabel>,
-    is_register: bool,
-    before: usize,
-    operands: &[Operand<'_>],
-) -> Result<(), AllocError>
-    ensures { OnOk result (map seen_label labels.new.items ≡ map seen_label labels.old.items
-        ++ front_labels is_register before 0 (map seen_operand operands.now)) }
-{
-    for (index, operand) in operands.iter().enumerate() {
-        push_front(labels, is_register, before, index, operand)?;
-    }
-    Ok(())
-}
-
-/// Adds the labels of an operand that stands too late.
-fn push_late(
-    labels: &mut Vec<AsmLabel>,
-    operands: &[Operand<'_>],
-    index: usize,
-) -> Result<(), AllocError>
-    ensures { OnOk result (map seen_label labels.new.items ≡ map seen_label labels.old.items
-        ++ late_labels (map seen_operand operands.now) index) }
-{
-    push_label(labels, AsmSpot::Operand(index), true, "positional argument")?;
-    push_fronts(labels, false, index, operands)?;
-    push_fronts(labels, true, index, operands)?;
-    Ok(())
-}
-
 /// Adds the label of the operand of an index, if there is one, and an index does not mean it.
 fn push_kind_at(
     labels: &mut Vec<AsmLabel>,
@@ -141,6 +79,38 @@ fn push_kind_at(
     if let Some(operand) = operand {
         push_kind(labels, index, &operand)?;
     }
+    Ok(())
+}
+
+/// Adds the labels of the operands of these indices that an index does not mean.
+fn push_kinds(
+    labels: &mut Vec<AsmLabel>,
+    operands: &[Operand<'_>],
+    indices: &[usize],
+) -> Result<(), AllocError>
+    ensures { OnOk result (map seen_label labels.new.items ≡ map seen_label labels.old.items
+        ++ kinds_at (map seen_operand operands.now) indices.now) }
+{
+    let mut rest = indices;
+    while let Some((index, others)) = rest.split_first() {
+        push_kind_at(labels, *index, operand_at(operands, *index))?;
+        rest = others;
+    }
+    Ok(())
+}
+
+/// Adds the labels of an operand without a name, which stands after these others.
+fn push_late(
+    labels: &mut Vec<AsmLabel>,
+    operands: &[Operand<'_>],
+    index: usize,
+    others: &[usize],
+) -> Result<(), AllocError>
+    ensures { OnOk result (map seen_label labels.new.items ≡ map seen_label labels.old.items
+        ++ late_labels (map seen_operand operands.now) index others.now) }
+{
+    push_label(labels, AsmSpot::Operand(index), true, "positional argument")?;
+    push_kinds(labels, operands, others)?;
     Ok(())
 }
 
@@ -175,7 +145,7 @@ fn push_second(
     Ok(())
 }
 
-/// Returns what is said of the place of an error of a template. Returns `Err` if an allocation
+/// Returns the text of the place of an error of a template. Returns `Err` if an allocation
 /// fails.
 fn error_text(alloc: Global, error: &ParseError) -> Result<String, AllocError>
     ensures { IfOk result (λ t. string_bytes t
@@ -250,8 +220,8 @@ impl<'a> AsmCall<'a> {
     {
         let mut labels = Vec::new(alloc);
         match fault {
-            AsmFault::PositionalAfter { operand } => {
-                push_late(&mut labels, &self.operands, *operand)?;
+            AsmFault::PositionalAfter { operand, others } => {
+                push_late(&mut labels, &self.operands, *operand, others)?;
             }
             AsmFault::RepeatedName { operand, first } => {
                 let spot = AsmSpot::Operand(*operand);
@@ -262,7 +232,7 @@ impl<'a> AsmCall<'a> {
             AsmFault::RegisterName { operand } => {
                 push_label(&mut labels, AsmSpot::Operand(*operand), true, "")?;
             }
-            AsmFault::WrongIndex { spot, index } => {
+            AsmFault::WrongIndex { spot, index, .. } => {
                 push_wrong(&mut labels, &self.operands, *spot, *index)?;
             }
             AsmFault::MissingName { spot, .. } | AsmFault::LongModifier { spot } => {

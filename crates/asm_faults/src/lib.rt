@@ -1,5 +1,5 @@
-//! What is wrong with the templates of inline assembly and the operands of their call, as rustc
-//! tells it.
+//! The faults of templates of inline assembly and of the operands of their call, as rustc reports
+//! them.
 #![tactic(auto)]
 
 mod checker;

@@ -1,10 +1,11 @@
-//! What is looked up for the placeholders of a template, in rustc's order.
+//! The lookups for the placeholders of a template, in rustc's order.
 
 ghost use Rattle.std.specs.Prelude.{◌≡◌, ◌≤◌, ◌∷◌, ◌++◌, [], OnOk, Some, chars, drop, length, map};
 ghost use Rattle.std.specs.Prelude.{option_map};
 ghost use Rattle.rustc_parse_format.specs.Seen.{pair, seen, seen_argument, seen_position};
 ghost use Rattle.asm_faults.specs.Lookups.{argument_lookups, first_spot, is_long, is_next};
-ghost use Rattle.asm_faults.specs.Lookups.{modifier_lookups, next_after, next_behind, next_of};
+ghost use Rattle.asm_faults.specs.Lookups.{modifier_lookups, next_after};
+ghost use Rattle.asm_faults.specs.Lookups.{next_after_pieces, next_of};
 ghost use Rattle.asm_faults.specs.Lookups.{one_lookups, piece_lookups, places_after};
 ghost use Rattle.asm_faults.specs.Lookups.{position_lookup, spot_of};
 ghost use Rattle.asm_faults.specs.Seen.{seen_lookup};
@@ -14,7 +15,7 @@ use rustc_parse_format::{Argument, Piece, Position};
 use std::alloc::AllocError;
 use std::ops::Range;
 
-/// What is looked up for a placeholder.
+/// A lookup for a placeholder.
 #[derive(Clone, Copy)]
 pub(crate) enum Lookup<'a> {
     /// The operand of this index, for the placeholder there.
@@ -25,10 +26,10 @@ pub(crate) enum Lookup<'a> {
     LongModifier(AsmSpot),
 }
 
-/// What is looked up for the placeholders so far.
+/// The lookups for the placeholders so far.
 #[derive(Drop)]
 pub(crate) struct Walk<'a> {
-    /// What is looked up.
+    /// The lookups.
     pub lookups: Vec<Lookup<'a>>,
     /// The index of the operand that the next placeholder without a position means.
     pub next: usize,
@@ -82,8 +83,8 @@ fn is_next(position: &Position<'_>) -> bool
     matches!(position, Position::ArgumentImplicitlyIs(_))
 }
 
-/// Returns what the position of a placeholder at a place means, where one without a position means
-/// the operand of the index `next`.
+/// Returns the lookup of the position of a placeholder at a place, where one without a position
+/// means the operand of the index `next`.
 fn position_lookup<'a>(
     template: usize,
     next: usize,
@@ -116,7 +117,7 @@ fn is_long(ty: &str) -> bool
     length_of(ty) > 1
 }
 
-/// Adds what is looked up for the modifier of a placeholder. Returns `Err` if an allocation fails.
+/// Adds the lookup for the modifier of a placeholder. Returns `Err` if an allocation fails.
 fn push_modifier<'a>(
     lookups: &mut Vec<Lookup<'a>>,
     template: usize,
@@ -133,7 +134,7 @@ fn push_modifier<'a>(
     Ok(())
 }
 
-/// Adds what is looked up for a placeholder at a place. Returns `Err` if an allocation fails.
+/// Adds the lookups for a placeholder at a place. Returns `Err` if an allocation fails.
 fn push_argument<'a>(
     walk: &mut Walk<'a>,
     template: usize,
@@ -157,7 +158,7 @@ fn push_argument<'a>(
     Ok(())
 }
 
-/// Adds what is looked up for a piece, where `places` are those of its placeholder and of the later
+/// Adds the lookups for a piece, where `places` are those of its placeholder and of the later
 /// ones. Returns `Err` if an allocation fails.
 fn push_piece<'a>(
     walk: &mut Walk<'a>,
@@ -190,8 +191,8 @@ fn places_after<'p>(places: &'p [Range<usize>], piece: &Piece<'_>) -> &'p [Range
     }
 }
 
-/// Adds what is looked up for the pieces of a template, whose placeholders have these places, in
-/// their order. Returns `Err` if an allocation fails.
+/// Adds the lookups for the pieces of a template, whose placeholders have these places, in their
+/// order. Returns `Err` if an allocation fails.
 pub(crate) fn push_pieces<'a>(
     walk: &mut Walk<'a>,
     template: usize,
@@ -203,7 +204,7 @@ pub(crate) fn push_pieces<'a>(
         ≡ map seen_lookup walk.old.lookups.items
         ++ piece_lookups template walk.old.next (map pair places.now) (map seen pieces.now)) }
     ensures next { OnOk result (walk.new.next
-        ≡ next_behind walk.old.next (map seen pieces.now)) }
+        ≡ next_after_pieces walk.old.next (map seen pieces.now)) }
     ensures few { OnOk result (walk.new.next ≤ length walk.new.lookups.items) }
 {
     let mut places = places;

@@ -1,5 +1,5 @@
-//! The notes and helps of faults, in rustc's words. What begins with `push_` or `put_` adds to the
-//! end of a list or a text, and returns `Err` if an allocation fails.
+//! The notes and helps of faults, in rustc's words. A function whose name begins with `push_` or
+//! `put_` adds to the end of a list or a text, and returns `Err` if an allocation fails.
 
 ghost use Rattle.std.specs.Prelude.{◌≡◌, ◌++◌, ◌∷◌, [], IfOk, OnOk, chars, encode_utf8_all, map};
 ghost use Rattle.std.specs.Prelude.{option_map, string_bytes};
@@ -7,7 +7,7 @@ ghost use Rattle.std.specs.List.{slice_get};
 ghost use Rattle.rustc_parse_format.specs.Faults.{message};
 ghost use Rattle.rustc_parse_format.specs.SeenFaults.{seen_fault as seen_text_fault};
 ghost use Rattle.placeholder_check.specs.Seen.{text};
-ghost use Rattle.asm_faults.specs.Notes.{count_text, count_unnamed, kind_notes, note};
+ghost use Rattle.asm_faults.specs.Notes.{count_text, kind_notes, note};
 ghost use Rattle.asm_faults.specs.Notes.{noun, placeholders, reference, text_notes, unused_help};
 ghost use Rattle.asm_faults.specs.Notes.{unused_start, wrong_help, wrong_notes};
 ghost use Rattle.asm_faults.specs.Seen.{seen_note, seen_operand};
@@ -39,24 +39,11 @@ fn push_note(notes: &mut Vec<AsmNote>, text: &str, spot: Option<AsmSpot>) -> Res
     Ok(())
 }
 
-/// Returns how many operands have neither a name nor a register of their own.
-fn count_unnamed(operands: &[Operand<'_>]) -> usize
-    ensures { result ≡ count_unnamed (map seen_operand operands.now) }
+/// Returns the noun for the operands that an index may mean, of which there are so many.
+fn noun(operands: &[Operand<'_>], count: usize) -> &'static str
+    ensures { result.now ≡ noun (map seen_operand operands.now) count }
 {
-    let mut count = 0;
-    for operand in operands {
-        if let Operand::Unnamed = operand {
-            count += 1;
-        }
-    }
-    count
-}
-
-/// Returns what the operands are that an index may mean.
-fn noun(operands: &[Operand<'_>]) -> &'static str
-    ensures { result.now ≡ noun (map seen_operand operands.now) }
-{
-    if count_unnamed(operands) == operands.len() {
+    if count == operands.len() {
         "argument"
     } else {
         "positional argument"
@@ -113,26 +100,26 @@ fn push_kind(
 }
 
 /// Returns how many operands an index may mean, in words. Returns `Err` if an allocation fails.
-fn count_text(alloc: Global, operands: &[Operand<'_>]) -> Result<String, AllocError>
-    ensures { IfOk result (λ t. string_bytes t ≡ count_text
-        (count_unnamed (map seen_operand operands.now)) (noun (map seen_operand operands.now))) }
+fn count_text(alloc: Global, count: usize, word: &str) -> Result<String, AllocError>
+    ensures { IfOk result (λ t. string_bytes t ≡ count_text count word.now) }
 {
     let mut text = String::new(alloc);
-    put_count(&mut text, count_unnamed(operands), noun(operands))?;
+    put_count(&mut text, count, word)?;
     Ok(text)
 }
 
-/// Adds the notes of a wrong index.
+/// Adds the notes of a wrong index, where an index may mean so many operands.
 fn push_wrong(
     alloc: Global,
     notes: &mut Vec<AsmNote>,
     operands: &[Operand<'_>],
     index: usize,
+    count: usize,
 ) -> Result<(), AllocError>
     ensures { OnOk result (map seen_note notes.new.items ≡ map seen_note notes.old.items
-        ++ wrong_notes (map seen_operand operands.now) index) }
+        ++ wrong_notes (map seen_operand operands.now) index count) }
 {
-    let text = count_text(alloc, operands)?;
+    let text = count_text(alloc, count, noun(operands, count))?;
     push_note(notes, &text, None)?;
     push_kind(notes, index, operand_at(operands, index))?;
     Ok(())
@@ -181,7 +168,7 @@ fn put_name(out: &mut String, name: &str) -> Result<(), AllocError>
     Ok(())
 }
 
-/// Adds what a placeholder has for an operand with this name or this index.
+/// Adds the position of a placeholder for an operand with this name or this index.
 fn put_reference(out: &mut String, index: usize, name: Option<&str>) -> Result<(), AllocError>
     ensures { OnOk result (string_bytes out.new ≡ string_bytes out.old
         ++ reference index (option_map text name.entry)) }
@@ -252,8 +239,12 @@ impl<'a> AsmCall<'a> {
     {
         let mut notes = Vec::new(alloc);
         match fault {
-            AsmFault::WrongIndex { index, .. } => {
-                push_wrong(alloc, &mut notes, &self.operands, *index)?;
+            AsmFault::WrongIndex {
+                index,
+                positional_count,
+                ..
+            } => {
+                push_wrong(alloc, &mut notes, &self.operands, *index, *positional_count)?;
             }
             AsmFault::Text { fault, .. } => push_text(alloc, &mut notes, fault)?,
             AsmFault::PositionalAfter { .. }

@@ -1,12 +1,13 @@
 //! The list of operands of a call.
 
 ghost use Rattle.std.specs.Prelude.{◌≡◌, ◌∷◌, ◌++◌, [], List, IfOk, OnOk, Some, chars, length};
-ghost use Rattle.std.specs.Prelude.{if◌then◌else◌, map, option_map};
+ghost use Rattle.std.specs.Prelude.{if◌then◌else◌, map, option_map, take};
 ghost use Rattle.std.specs.List.{slice_get};
 ghost use Rattle.std.specs.Str.{bytes_eq};
 ghost use Rattle.rustc_parse_format.specs.Characters.{Text};
 ghost use Rattle.asm_faults.specs.Operands.{Named, Operand as OperandValue, Register, Unnamed};
-ghost use Rattle.asm_faults.specs.Operands.{faults_from, faults_of, slot, slots_after};
+ghost use Rattle.asm_faults.specs.Operands.{count_unnamed, faults_from, faults_of, late_faults};
+ghost use Rattle.asm_faults.specs.Operands.{others_of, slot, slots_after};
 ghost use Rattle.asm_faults.specs.Seen.{Holds, found_in, seen_fault, seen_operand};
 
 use crate::faults::AsmFault;
@@ -27,6 +28,10 @@ pub enum Operand<'a> {
     },
 }
 
+/// The most operands with a name, and the most with a register of their own, whose indices the
+/// fault of a later operand has. rustc lists all, so its messages grow with the square of a call.
+const MOST: usize = 16;
+
 /// The operands of a call so far.
 #[derive(Drop)]
 pub(crate) struct Operands<'a> {
@@ -34,8 +39,10 @@ pub(crate) struct Operands<'a> {
     pub slots: Vec<Operand<'a>>,
     /// The index of the operand with each name.
     pub names: BTreeMap<&'a str, usize>,
-    /// Whether any has a name or a register of its own.
-    pub has_others: bool,
+    /// The indices of those that have a name.
+    pub named: Vec<usize>,
+    /// The indices of those that have a register of their own.
+    pub registers: Vec<usize>,
 }
 
 /// Returns no operands. Does not allocate.
@@ -45,7 +52,8 @@ fn no_operands<'a>(alloc: Global) -> Operands<'a>
     Operands {
         slots: Vec::new(alloc),
         names: BTreeMap::new(alloc),
-        has_others: false,
+        named: Vec::new(alloc),
+        registers: Vec::new(alloc),
     }
 }
 
@@ -69,8 +77,43 @@ fn insert<'a>(
     Ok(())
 }
 
+/// Returns the first [`MOST`] of indices.
+fn first_of(indices: &[usize]) -> &[usize]
+    ensures { result.now ≡ take 16 indices.now }
+{
+    &indices[..indices.len().min(MOST)]
+}
+
+/// Returns the indices of the first operands that have a name, and then of the first that have a
+/// register of their own. Returns `Err` if an allocation fails.
+fn others_of(alloc: Global, operands: &Operands<'_>) -> Result<Vec<usize>, AllocError>
+    ensures { IfOk result (λ v. (ss : List OperandValue) → Holds ss operands.now
+        → v.items ≡ others_of ss) }
+{
+    let mut others = Vec::new(alloc);
+    others.extend_from_slice(first_of(&operands.named))?;
+    others.extend_from_slice(first_of(&operands.registers))?;
+    Ok(others)
+}
+
+/// Adds the fault of an operand without a name and without a register of its own, if these others
+/// stand in front of it. Returns `Err` if an allocation fails.
+fn push_late(
+    faults: &mut Vec<AsmFault<'_>>,
+    operand: usize,
+    others: Vec<usize>,
+) -> Result<(), AllocError>
+    ensures { OnOk result (map seen_fault faults.new.items ≡ map seen_fault faults.old.items
+        ++ late_faults operand others.items) }
+{
+    if !others.is_empty() {
+        faults.push(AsmFault::PositionalAfter { operand, others })?;
+    }
+    Ok(())
+}
+
 /// Adds an operand without a name and without a register of its own, and its fault if it stands
-/// behind one that has one of them. Returns `Err` if an allocation fails.
+/// after one that has one of them. Returns `Err` if an allocation fails.
 fn add_unnamed<'a>(
     operands: &mut Operands<'a>,
     faults: &mut Vec<AsmFault<'a>>,
@@ -78,13 +121,12 @@ fn add_unnamed<'a>(
 ) -> Result<(), AllocError>
     ensures held { OnOk result ((ss : List OperandValue) → Holds ss operands.old
         → Holds (ss ++ Unnamed ∷ []) operands.new) }
-    ensures told { OnOk result ((ss : List OperandValue) → Holds ss operands.old
+    ensures outcome { OnOk result ((ss : List OperandValue) → Holds ss operands.old
         → map seen_fault faults.new.items ≡ map seen_fault faults.old.items
         ++ faults_of ss index Unnamed) }
 {
-    if operands.has_others {
-        faults.push(AsmFault::PositionalAfter { operand: index })?;
-    }
+    let others = others_of(*faults.allocator(), operands)?;
+    push_late(faults, index, others)?;
     operands.slots.push(Operand::Unnamed)?;
     Ok(())
 }
@@ -100,7 +142,7 @@ fn add_named<'a>(
     ensures held { OnOk result ((ss : List OperandValue) → Holds ss operands.old
         → index ≡ length ss
         → Holds (ss ++ slot ss (Named (chars name.now)) ∷ []) operands.new) }
-    ensures told { OnOk result ((ss : List OperandValue) → Holds ss operands.old
+    ensures outcome { OnOk result ((ss : List OperandValue) → Holds ss operands.old
         → map seen_fault faults.new.items ≡ map seen_fault faults.old.items
         ++ faults_of ss index (Named (chars name.now))) }
 {
@@ -114,7 +156,7 @@ fn add_named<'a>(
         }
         None => {
             insert(&mut operands.names, name, index)?;
-            operands.has_others = true;
+            operands.named.push(index)?;
             operands.slots.push(Operand::Named(name))?;
         }
     }
@@ -130,15 +172,15 @@ fn add_register<'a>(
     has_name: bool,
 ) -> Result<(), AllocError>
     ensures held { OnOk result ((ss : List OperandValue) → Holds ss operands.old
-        → Holds (ss ++ Register has_name ∷ []) operands.new) }
-    ensures told { OnOk result ((ss : List OperandValue) → Holds ss operands.old
+        → index ≡ length ss → Holds (ss ++ Register has_name ∷ []) operands.new) }
+    ensures outcome { OnOk result ((ss : List OperandValue) → Holds ss operands.old
         → map seen_fault faults.new.items ≡ map seen_fault faults.old.items
         ++ faults_of ss index (Register has_name)) }
 {
     if has_name {
         faults.push(AsmFault::RegisterName { operand: index })?;
     }
-    operands.has_others = true;
+    operands.registers.push(index)?;
     operands.slots.push(Operand::Register { has_name })?;
     Ok(())
 }
@@ -153,7 +195,7 @@ fn add<'a>(
     ensures held { OnOk result ((ss : List OperandValue) → Holds ss operands.old
         → index ≡ length ss
         → Holds (ss ++ slot ss (seen_operand operand.entry) ∷ []) operands.new) }
-    ensures told { OnOk result ((ss : List OperandValue) → Holds ss operands.old
+    ensures outcome { OnOk result ((ss : List OperandValue) → Holds ss operands.old
         → map seen_fault faults.new.items ≡ map seen_fault faults.old.items
         ++ faults_of ss index (seen_operand operand.entry)) }
 {
@@ -175,6 +217,19 @@ pub(crate) fn operand_at<'a>(operands: &[Operand<'a>], index: usize) -> Option<O
     }
 }
 
+/// Returns how many operands have neither a name nor a register of their own.
+pub(crate) fn count_unnamed(operands: &[Operand<'_>]) -> usize
+    ensures { result ≡ count_unnamed (map seen_operand operands.now) }
+{
+    let mut count = 0;
+    for operand in operands {
+        if let Operand::Unnamed = operand {
+            count += 1;
+        }
+    }
+    count
+}
+
 /// Returns operands as placeholders refer to them, and adds the faults of their list. Returns `Err`
 /// if an allocation fails.
 pub(crate) fn operands_of<'a>(
@@ -183,7 +238,7 @@ pub(crate) fn operands_of<'a>(
     given: &[Operand<'a>],
 ) -> Result<Operands<'a>, AllocError>
     ensures held { IfOk result (λ a. Holds (slots_after [] (map seen_operand given.now)) a) }
-    ensures told { OnOk result (map seen_fault faults.new.items ≡ map seen_fault faults.old.items
+    ensures outcome { OnOk result (map seen_fault faults.new.items ≡ map seen_fault faults.old.items
         ++ faults_from [] 0 (map seen_operand given.now)) }
 {
     let mut operands = no_operands(alloc);

@@ -1,5 +1,5 @@
-//! The ids and the titles of faults, in rustc's words. What begins with `put_` appends to `out`,
-//! and returns `Err` if an allocation fails.
+//! The ids and the titles of faults, in rustc's words. A function whose name begins with `put_`
+//! appends to `out`, and returns `Err` if an allocation fails.
 
 ghost use Rattle.std.specs.Prelude.{◌≡◌, ◌++◌, OnOk, chars, codes, decimal, map, option_map};
 ghost use Rattle.std.specs.Prelude.{string_bytes};
@@ -25,7 +25,7 @@ impl AsmFault<'_> {
     ghost use Rattle.asm_faults.specs.Words.{asm_id};
 
     /// Returns the id of the fault in kebab case, as `wrong-operand`: the same for all faults of a
-    /// kind. That of a fault of a template is the id of [`Fault`]. Does not allocate.
+    /// kind. A fault of a template has the id of its [`Fault`]. Does not allocate.
     #[tactic(auto, unfolding(crate::specs::Words::asm_id))]
     pub fn id(&self) -> &'static str
         ensures { result.now ≡ asm_id (seen_fault self.now) }
@@ -85,7 +85,7 @@ fn name_of<'a>(operands: &[Operand<'a>], index: usize) -> &'a str
     }
 }
 
-/// Returns what is said of an operand that is not used.
+/// Returns the label of an operand that is not used.
 pub(crate) fn never_used(operands: &[Operand<'_>], index: usize) -> &'static str
     ensures { result.now ≡ never_used (slice_get (map seen_operand operands.now) index) }
 {

@@ -1,4 +1,4 @@
--- What can be wrong with a call of a macro that takes a format string, as plain data. An argument
+-- The faults of a call of a macro that takes a format string, as plain data. An argument
 -- is named by its index among all that are given, and a placeholder by its index among the pieces
 -- of the string.
 use Rattle.std.specs.Prelude.{ℕ, Bool, true, false, List}
@@ -9,7 +9,7 @@ use Rattle.call_faults.specs.declared.faults.Missing.{Missing}
 use Rattle.call_faults.specs.declared.faults.Reference.{Reference}
 
 pub data CallFault : Type 0 where
-  -- The first argument without a name behind one with a name, and those in front that have a name.
+  -- The first argument without a name after one with a name, and those in front that have a name.
   PositionalAfterNamed : ℕ → List ℕ → CallFault
   -- An argument has the name of an earlier one: both, and the second is the first with this name.
   RepeatedName : ℕ → ℕ → CallFault

@@ -1,4 +1,4 @@
--- What is wrong with a call, in the order in which rustc tells it.
+-- The faults of a call, in the order in which rustc reports them.
 use Rattle.std.specs.Prelude.{ℕ, Bool, true, false, ◌++◌, if◌then◌else◌, List, [], ◌∷◌}
 use Rattle.std.specs.Prelude.{Option, Some, None}
 use Rattle.std.specs.List.{list_any}
@@ -24,20 +24,20 @@ is_last (UnusedArguments is) = false
 is_last (RedundantArguments is) = false
 is_last (NameUsedByIndex r i) = false
 
--- The indices of the arguments that count among gs, unless one without a name behind one with a
+-- The indices of the arguments that count among gs, unless one without a name after one with a
 -- name ends the work.
 abbrev pub kept_indices : List Given → List ℕ
 kept_indices gs = if list_any is_last (list_faults [] 0 gs) then []
     else indices (kept_after [] 0 gs)
 
--- What is wrong with a string that has this fault or none, and these pieces, and with the arguments
+-- The faults of a string that has this fault or none, and these pieces, and of the arguments
 -- gs.
 abbrev pub string_faults : Bool → List Given → Option (Fault Place) → List (Piece Place)
     → List CallFault
 string_faults captures gs (Some f) ps = TextFault f ∷ []
 string_faults captures gs None ps = compared captures (kept_after [] 0 gs) (lookups_from 0 ps)
 
--- What is wrong with the list of arguments gs, and then with the string.
+-- The faults of the list of arguments gs, and then of the string.
 abbrev pub call_faults : Bool → List Given → Option (Fault Place) → List (Piece Place)
     → List CallFault
 call_faults captures gs fault ps =

@@ -10,7 +10,7 @@ use Rattle.placeholder_check.specs.Uses.{Use, ByIndex, ByName, uses}
 use Rattle.call_faults.specs.Arguments.{Given, MayPrecede}
 use Rattle.call_faults.specs.Lookups.{is_known}
 
--- The piece asks for a trait that exists. Text asks for none.
+-- The piece wants a trait that exists. Text wants none.
 abbrev pub HasTrait : Piece (Unit {0}) → Type 0
 HasTrait (Lit t) = Unit {0}
 HasTrait (NextArgument a) = IsTrue (is_known a.format.ty)
@@ -24,7 +24,7 @@ IsMet captures gs (ByName w) = IsTrue captures ⊎ Any (λ g. g.name ≡ Some w)
 abbrev pub IsUsed : List Use → ℕ → Given → Type 0
 IsUsed us i g = Contains us (ByIndex i) ⊎ IsSomeAnd g.name (λ w. Contains us (ByName w))
 
--- Names differ and stand behind the arguments without one, the string is in the grammar and asks
+-- Names differ and stand after the arguments without one, the string is in the grammar and asks
 -- only for traits that exist, each of its uses is met, and each argument is used.
 pub record IsClean (captures : Bool) (gs : List Given) (text : Text) : Type 0 where
   pub in_order : AllPairs (λ g h. MayPrecede g.name h.name) gs

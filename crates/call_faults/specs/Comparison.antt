@@ -1,4 +1,4 @@
--- What is wrong between the placeholders of a format string and the arguments that count.
+-- The faults between the placeholders of a format string and the arguments that count.
 use Rattle.std.specs.Prelude.{ℕ, Bool, true, false, ◌==◌, ◌++◌, ◌&&◌, ◌||◌, not, nat_le}
 use Rattle.std.specs.Prelude.{if◌then◌else◌, List, [], ◌∷◌, length, map, filter}
 use Rattle.std.specs.Prelude.{Option, Some, None, is_some, is_none, option_map}
@@ -28,7 +28,7 @@ abbrev pub means : List Kept → ℕ → Lookup → Bool
 means ks i (Refer r u) = option_map_or (λ j. i == j) (meant ks u) false
 means ks i (NoTrait k t) = false
 
--- Traits that do not exist, and names that are neither among these nor captured. A name is told
+-- Traits that do not exist, and names that are neither among these nor captured. A name is reported
 -- once.
 abbrev pub lookup_faults : Bool → List Text → List Lookup → List CallFault
 lookup_faults captures known [] = []
@@ -122,8 +122,8 @@ abbrev pub is_settled : List CallFault → List Missing → List Kept → Bool
 is_settled found lacked left =
     not (list_any is_missing_name found) && (length lacked == 0 && length left == 0)
 
--- What is wrong between the arguments ks that count and these lookups. References by index to
--- arguments with names are told only if no name and no argument is missing or unused.
+-- The faults between the arguments ks that count and these lookups. References by index to
+-- arguments with names are reported only if no name and no argument is missing or unused.
 abbrev pub compared : Bool → List Kept → List Lookup → List CallFault
 compared captures ks ls =
     let found = lookup_faults captures (names ks) ls in

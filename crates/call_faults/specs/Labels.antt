@@ -14,7 +14,14 @@ use Rattle.call_faults.specs.Arguments.{Given}
 use Rattle.call_faults.specs.CallFaults.{CallFault, PositionalAfterNamed, RepeatedName, TextFault}
 use Rattle.call_faults.specs.CallFaults.{MissingName, UnknownTrait, MissingArguments}
 use Rattle.call_faults.specs.CallFaults.{UnusedArguments, RedundantArguments, NameUsedByIndex}
-use Rattle.call_faults.specs.Spots.{Label, behind, bytes_at, named_spot, primary, reference_spot}
+use Rattle.call_faults.specs.Spots.{
+  Label,
+  rest_after,
+  bytes_at,
+  named_spot,
+  primary,
+  reference_spot,
+}
 use Rattle.call_faults.specs.Spots.{secondary, spot_of, type_spot, use_spot}
 use Rattle.call_faults.specs.Words.{has_number, name_of, never_used, quoted}
 use Rattle.call_faults.specs.declared.faults.Reference.{Reference}
@@ -22,16 +29,16 @@ use Rattle.call_faults.specs.declared.spots.Spot.TheVariants.{Argument as WholeA
 use Rattle.call_faults.specs.declared.spots.Spot.TheVariants.{Name as NameOf}
 use Rattle.call_faults.specs.declared.spots.Spot.TheVariants.{Value, ValueUpToNext, Literal}
 
--- What is known of a call where a fault of it is shown: the arguments that are given, and the
--- indices of those that count; the pieces, and of each how many placeholders stand before it; the
--- places of these; how many arguments they take one after the other; and the faults.
+-- A call as the messages of its faults need it: the arguments that are given, and the indices of
+-- those that count; the pieces, and of each how many placeholders stand before it; the places of
+-- these; how many arguments they take one after the other; and the faults.
 pub record Call : Type 0 where
   pub given : List Given
   pub kept : List ℕ
   pub pieces : List (Piece Place)
   pub counts : List ℕ
   pub places : List Place
-  pub taken : ℕ
+  pub total : ℕ
   pub faults : List CallFault
 
 -- The label of a second range of an error whose range is s. It is primary if it has that range.
@@ -85,7 +92,7 @@ next_label (NextArgument a) places =
 -- The labels of those of these pieces that take the next argument.
 abbrev pub next_labels : List (Piece Place) → List Place → List Label
 next_labels [] places = []
-next_labels (p ∷ ps) places = next_label p places ++ next_labels ps (behind p places)
+next_labels (p ∷ ps) places = next_label p places ++ next_labels ps (rest_after p places)
 
 -- How many arguments are expected.
 abbrev pub expected_count : ℕ → List ℕ
@@ -94,41 +101,41 @@ expected_count n = if n == 1 then codes "is 1 argument"
 
 -- The label of a precision that takes the argument n by `*`, where this many are taken in all.
 abbrev pub star_text : ℕ → ℕ → List ℕ
-star_text n taken = codes "this precision flag adds an extra required argument at position "
-    ++ (decimal n ++ (codes ", which is why there " ++ (expected_count taken ++ codes " expected")))
+star_text n total = codes "this precision flag adds an extra required argument at position "
+    ++ (decimal n ++ (codes ", which is why there " ++ (expected_count total ++ codes " expected")))
 
 -- The label of the precision of a placeholder, if it takes an argument by `*`. It is primary unless
 -- the placeholder is, which then takes an argument too.
 abbrev pub star_at : ℕ → Option ℕ → Argument Place → List Label
-star_at taken None a = []
-star_at taken (Some n) a = record {
+star_at total None a = []
+star_at total (Some n) a = record {
   spot = spot_of a.format.precision_span;
   is_primary = not (is_next a.position);
-  text = star_text n taken;
+  text = star_text n total;
 } ∷ []
 
 -- The label of the precision of a piece, if it takes an argument by `*`.
 abbrev pub star_label : ℕ → Piece Place → List Label
-star_label taken (Lit t) = []
-star_label taken (NextArgument a) = star_at taken (star_of a.format.precision) a
+star_label total (Lit t) = []
+star_label total (NextArgument a) = star_at total (star_of a.format.precision) a
 
 -- The labels of the precisions of these pieces that take arguments by `*`.
 abbrev pub star_labels : ℕ → List (Piece Place) → List Label
-star_labels taken [] = []
-star_labels taken (p ∷ ps) = star_label taken p ++ star_labels taken ps
+star_labels total [] = []
+star_labels total (p ∷ ps) = star_label total p ++ star_labels total ps
 
 -- The labels of too few arguments, where none is referred to by a number that is written: those
 -- that count, the precisions, and the placeholders.
 abbrev pub few_labels : Call → List Label
 few_labels c =
     map (λ i. secondary (Value i) []) c.kept
-    ++ (star_labels c.taken c.pieces ++ next_labels c.pieces c.places)
+    ++ (star_labels c.total c.pieces ++ next_labels c.pieces c.places)
 
 -- The labels of arguments that are not used.
 abbrev pub unused_labels : List Given → List ℕ → List Label
 unused_labels gs is = map (λ i. primary (Value i) (never_used (slice_get gs i))) is
 
--- What is said of a literal that lacks a placeholder.
+-- The label of a literal that lacks a placeholder.
 unfoldable pub single_text : List ℕ
 single_text = codes "formatting specifier missing"
 
@@ -137,7 +144,7 @@ abbrev pub one_unused : List Given → ℕ → List Label
 one_unused gs i =
     primary (Value i) (never_used (slice_get gs i)) ∷ secondary Literal single_text ∷ []
 
--- What is said of a literal that lacks several placeholders.
+-- The label of a literal that lacks several placeholders.
 unfoldable pub several_text : List ℕ
 several_text = codes "multiple missing formatting specifiers"
 
@@ -161,7 +168,7 @@ have_names gs = list_any (λ g. is_some g.name) gs
 abbrev pub is_last : List Given → ℕ → Bool
 is_last gs i = suc i == length gs
 
--- What is said of an argument that is left out.
+-- The label of an argument that is left out.
 unfoldable pub removal_text : List ℕ
 removal_text = codes "help: this can be removed"
 
@@ -175,7 +182,8 @@ abbrev pub removal_labels : List Given → ℕ → List Label
 removal_labels gs i = if is_last gs i then primary (Value i) removal_text ∷ []
     else removal_up_to_next i
 
--- The labels of redundant arguments. One alone is told that it can be removed, unless any argument
+-- The labels of redundant arguments. The label of one alone says that it can be removed, unless
+-- any argument
 -- has a name.
 abbrev pub redundant_labels : List Given → List ℕ → List Label
 redundant_labels gs [] = []
@@ -183,12 +191,12 @@ redundant_labels gs (i ∷ []) =
     if have_names gs then primary (Value i) [] ∷ [] else removal_labels gs i
 redundant_labels gs (i ∷ j ∷ is) = map (λ k. primary (Value k) []) (i ∷ j ∷ is)
 
--- What is said of an argument with a name that is used by its index.
+-- The label of an argument with a name that is used by its index.
 unfoldable pub by_index_text : List ℕ
 by_index_text =
     codes "this named argument is referred to by position in formatting string"
 
--- What is said of the use by index of an argument with this name.
+-- The label of the use by index of an argument with this name.
 unfoldable pub use_text : Text → List ℕ
 use_text w = codes "this formatting argument uses named argument "
     ++ (quoted w ++ codes " by position")
@@ -200,7 +208,7 @@ by_index_labels c r i =
     ∷ secondary (use_spot c.pieces c.counts c.places r)
     (use_text (name_of (slice_get c.given i))) ∷ []
 
--- What is said of an argument with a name in front of one without.
+-- The label of an argument with a name in front of one without.
 unfoldable pub named_text : List ℕ
 named_text = codes "named argument"
 

@@ -1,4 +1,4 @@
--- What rustc looks up for the placeholders of a format string, in its order.
+-- The lookups of rustc for the placeholders of a format string, in its order.
 use Rattle.std.specs.Prelude.{ℕ, suc, Bool, true, false, ◌==◌, ◌&&◌, ◌++◌, List, [], ◌∷◌, map}
 use Rattle.std.specs.Prelude.{codes}
 use Rattle.std.specs.Prelude.{if◌then◌else◌}
@@ -16,7 +16,7 @@ abbrev pub is_known : Text → Bool
 is_known [] = true
 is_known (c ∷ t) = list_any (λ d. c == d) (codes "?oxXpbeE") && is_nil t
 
--- What is looked up: an argument, or the trait of this type, which does not exist, for the
+-- A lookup: an argument, or the trait of this type, which does not exist, for the
 -- placeholder of this index.
 pub data Lookup : Type 0 where
   Refer : Reference → Use → Lookup
@@ -26,7 +26,7 @@ pub data Lookup : Type 0 where
 abbrev pub refer : ℕ → Part → List Use → List Lookup
 refer k p us = map (Refer (record { piece = k; part = p })) us
 
--- What is looked up for the placeholder k: its position, its trait if that does not exist, its
+-- The lookups for the placeholder k: its position, its trait if that does not exist, its
 -- precision and its width.
 abbrev pub argument_lookups : {A : Type 0} → ℕ → Argument A → List Lookup
 argument_lookups k a =
@@ -35,12 +35,12 @@ argument_lookups k a =
     ++ refer k Precision (count_uses a.format.precision)
     ++ refer k Width (count_uses a.format.width)
 
--- What is looked up for the piece k. Text has nothing to look up.
+-- The lookups for the piece k. Text has nothing to look up.
 abbrev pub piece_lookups : {A : Type 0} → ℕ → Piece A → List Lookup
 piece_lookups k (Lit t) = []
 piece_lookups k (NextArgument a) = argument_lookups k a
 
--- What is looked up for these pieces, the first of which has the index k.
+-- The lookups for these pieces, the first of which has the index k.
 abbrev pub lookups_from : {A : Type 0} → ℕ → List (Piece A) → List Lookup
 lookups_from k [] = []
 lookups_from k (p ∷ ps) = piece_lookups k p ++ lookups_from (suc k) ps

@@ -44,7 +44,7 @@ capture_text w = codes "did you intend to capture a variable "
 unfoldable pub ambiguity_text : List ℕ
 ambiguity_text = codes "to avoid ambiguity, `format_args!` cannot capture variables when the format string is expanded from a macro"
 
--- The traits that a placeholder may ask for, each on a line.
+-- The note on the traits that a placeholder may want, each on a line.
 unfoldable pub traits_text : List ℕ
 traits_text =
     codes "the only appropriate formatting traits are:\n"
@@ -73,13 +73,13 @@ is_aligned Right = true
 is_aligned Center = true
 is_aligned Unknown = false
 
--- A specification asks for more than a trait.
+-- A specification has more than a trait.
 abbrev pub has_flags : Spec Place → Bool
 has_flags s =
     ((is_some s.fill || is_aligned s.align) || (is_some s.sign || s.alternate))
     || ((s.zero_pad || is_some s.debug_hex) || (is_given s.width || is_given s.precision))
 
--- A placeholder asks for more than a trait.
+-- A placeholder has more than a trait.
 abbrev pub is_flagged : Piece Place → Bool
 is_flagged (Lit t) = false
 is_flagged (NextArgument a) = has_flags a.format
@@ -97,7 +97,7 @@ note_if b t = if b then plain t ∷ [] else []
 unfoldable pub count_note : List ℕ
 count_note = codes "positional arguments are zero-based"
 
--- The note on what else a placeholder may ask for.
+-- The note on the flags that a placeholder may have.
 unfoldable pub flags_note : List ℕ
 flags_note =
     codes "for information about formatting flags, visit https://doc.rust-lang.org/std/fmt/index.html"
@@ -171,7 +171,7 @@ abbrev pub named_positions : (Text → Bool) → List (Piece Place) → List Spo
 named_positions f [] = []
 named_positions f (p ∷ ps) = named_position f p ++ named_positions f ps
 
--- What the note of so many redundant arguments says.
+-- The text of the note of so many redundant arguments.
 abbrev pub redundant_text : ℕ → List ℕ
 redundant_text n = if n == 1
     then codes "the formatting specifier is referencing the binding already"
@@ -184,8 +184,8 @@ redundant_note c is = record {
   spots = named_positions (λ w. list_any (is_variable c.given w) is) c.pieces;
 }
 
--- What of an argument that is left out is removed: its value, and what is behind it up to the next
--- one, if there is one.
+-- The place that is removed with an argument that is left out: its value, and what is after it up
+-- to the next one, if there is one.
 abbrev pub removed_spot : List Given → ℕ → Spot
 removed_spot gs i = if is_last gs i then Value i else ValueUpToNext i
 
@@ -193,22 +193,22 @@ removed_spot gs i = if is_last gs i then Value i else ValueUpToNext i
 abbrev pub removal : List Given → ℕ → Edit
 removal gs i = edit (removed_spot gs i) []
 
--- The help for several redundant arguments. That for one alone is a label.
+-- The help for several redundant arguments. For one alone it is a label.
 abbrev pub redundant_help : List Given → List ℕ → Option Help
 redundant_help gs is = if nat_lt 1 (length is) && not (have_names gs) then Some (record {
   text = codes "this can be removed";
   edits = map (removal gs) is;
 }) else None
 
--- What is behind a name in a part of a placeholder.
-abbrev pub behind_name : Part → List ℕ
-behind_name PositionPart = []
-behind_name PrecisionPart = codes "$"
-behind_name WidthPart = codes "$"
+-- The text after a name in a part of a placeholder.
+abbrev pub after_name : Part → List ℕ
+after_name PositionPart = []
+after_name PrecisionPart = codes "$"
+after_name WidthPart = codes "$"
 
 -- The name of an argument as a part of a placeholder has it.
 abbrev pub name_in : Part → Text → List ℕ
-name_in p w = encode_utf8_all w ++ behind_name p
+name_in p w = encode_utf8_all w ++ after_name p
 
 -- The help for a use by index: the name in its place.
 abbrev pub by_index_help : Call → Reference → ℕ → Help

@@ -1,4 +1,4 @@
--- What a contract sees of the values of this crate: texts as their characters, ranges as places.
+-- The values of this crate as a contract sees them: texts as their characters, ranges as places.
 use Rattle.std.specs.Prelude.{◌≡◌, ℕ, Bool, List, Option, length, map, option_map}
 use Rattle.std.specs.Prelude.{chars, is_some, string_bytes}
 use Rattle.std.specs.BTreeMap.{BTreeMap, get_by}
@@ -46,7 +46,7 @@ use Rattle.call_faults.specs.CallFaults.{UnusedArguments, RedundantArguments, Na
 use Rattle.call_faults.specs.Lookups.{Lookup, Refer, NoTrait}
 use Rattle.call_faults.specs.Labels.{Call}
 use Rattle.call_faults.specs.Spots.{Edit, Help, Label, Note}
-use Rattle.call_faults.specs.Words.{Told}
+use Rattle.call_faults.specs.Words.{TitleParts}
 
 -- An argument as a contract sees it.
 abbrev pub seen_given : DeclaredGiven → Given
@@ -72,7 +72,7 @@ seen_fault (ByIndexIn r i) = NameUsedByIndex r i
 abbrev pub start : FormatString → State
 start s = first_state Format (text s.text) s.style (option_map text s.snippet) s.appended_newline
 
--- What a reference wants, as a contract sees it.
+-- The argument that a reference wants, as a contract sees it.
 abbrev pub seen_use : Wanted → Use
 seen_use (Index n) = ByIndex n
 seen_use (Name w) = ByName (text w)
@@ -82,7 +82,7 @@ abbrev pub seen_lookup : DeclaredLookup → Lookup
 seen_lookup (ReferIn r u) = Refer r (seen_use u)
 seen_lookup (NoTraitIn k t) = NoTrait k (text t)
 
--- What a map has for a name.
+-- The index that a map has for a name.
 abbrev pub found_in : BTreeMap (Bor (List ℕ)) ℕ → Text → Option ℕ
 found_in m w = get_by (λ k. slice_cmp nat_cmp (encode_utf8_all w) k.now) m
 
@@ -96,13 +96,13 @@ pub record Holds (ks : List Kept) (a : Arguments) : Type 0 where
   pub names : (w : Text) → found_in a.indices w ≡ index_of ks w
   pub has_names : a.has_names ≡ list_any (λ k. is_some k.given.name) ks
 
--- What titles tell of a call, with the numbers that are too large.
-abbrev pub told : Checked → List ℕ → Told Place
-told c numbers = record {
+-- A call as its titles need it, with the numbers that are too large.
+abbrev pub title_parts : Checked → List ℕ → TitleParts Place
+title_parts c numbers = record {
   given = map seen_given c.given.now;
   count = length c.kept.items;
   pieces = map seen c.pieces.items;
-  taken = c.parser.next;
+  total = c.parser.next;
   numbers = numbers;
 }
 
@@ -127,7 +127,7 @@ seen_edit e = record {
 abbrev pub seen_help : CallHelp → Help
 seen_help h = record { text = string_bytes h.text; edits = map seen_edit h.edits.items }
 
--- What is known of a call that was checked.
+-- A call that was checked, as the messages of its faults need it.
 abbrev pub seen_call : Checked → Call
 seen_call c = record {
   given = map seen_given c.given.now;
@@ -135,6 +135,6 @@ seen_call c = record {
   pieces = map seen c.pieces.items;
   counts = c.counts.items;
   places = c.parser.arg_places;
-  taken = c.parser.next;
+  total = c.parser.next;
   faults = map seen_fault c.faults.items;
 }

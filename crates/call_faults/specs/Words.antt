@@ -13,7 +13,7 @@ use Rattle.call_faults.specs.CallFaults.{CallFault, PositionalAfterNamed, Repeat
 use Rattle.call_faults.specs.CallFaults.{MissingName, UnknownTrait, MissingArguments}
 use Rattle.call_faults.specs.CallFaults.{UnusedArguments, RedundantArguments, NameUsedByIndex}
 
--- The id of a fault. That of the string has its own.
+-- The id of a fault. A fault of the string has its own.
 unfoldable pub call_id : CallFault → List ℕ
 call_id (PositionalAfterNamed i ns) = codes "positional-after-named"
 call_id (RepeatedName i f) = codes "repeated-name"
@@ -55,7 +55,7 @@ count_text n = if n == 0 then codes "no arguments were given"
     else (if n == 1 then codes "there is 1 argument"
     else codes "there are " ++ (decimal n ++ codes " arguments"))
 
--- What stands in front of these numbers in a list.
+-- The text in front of these numbers in a list.
 abbrev pub separator : List ℕ → List ℕ
 separator [] = []
 separator (n ∷ []) = codes " and "
@@ -89,7 +89,7 @@ numbers_title ns count = codes "invalid reference to positional "
 -- The title of too few arguments, where `count` are given and the placeholders take this many, one
 -- after the other.
 abbrev pub few_title : ℕ → ℕ → List ℕ
-few_title taken count = decimal taken ++ (plural (codes " positional argument") taken
+few_title total count = decimal total ++ (plural (codes " positional argument") total
     ++ (codes " in format string, but " ++ count_text count))
 
 -- An argument is not used.
@@ -102,18 +102,18 @@ unused_title gs [] = codes "multiple unused formatting arguments"
 unused_title gs (i ∷ []) = never_used (slice_get gs i)
 unused_title gs (i ∷ j ∷ is) = codes "multiple unused formatting arguments"
 
--- What a title tells of a call beside the fault: the arguments that are given and how many of them
--- count; the pieces; how many arguments their placeholders take one after the other; and the
--- numbers that are too large, each once and in rising order.
-pub record Told (A : Type 0) : Type 0 where
+-- The parts of a title that come from the call beside the fault: the arguments that are given and
+-- how many of them count; the pieces; how many arguments their placeholders take one after the
+-- other; and the numbers that are too large, each once and in rising order.
+pub record TitleParts (A : Type 0) : Type 0 where
   pub given : List Given
   pub count : ℕ
   pub pieces : List (Piece A)
-  pub taken : ℕ
+  pub total : ℕ
   pub numbers : List ℕ
 
 -- The title of a fault.
-unfoldable pub title : {A : Type 0} → Told A → CallFault → List ℕ
+unfoldable pub title : {A : Type 0} → TitleParts A → CallFault → List ℕ
 title c (PositionalAfterNamed i ns) = codes "positional arguments cannot follow named arguments"
 title c (RepeatedName i f) =
     codes "duplicate argument named " ++ quoted (name_of (slice_get c.given i))
@@ -121,7 +121,7 @@ title c (TextFault f) = codes "invalid format string: " ++ (message f).descripti
 title c (MissingName r w) = codes "there is no argument named " ++ quoted w
 title c (UnknownTrait k t) = codes "unknown format trait " ++ quoted t
 title c (MissingArguments ms) = if list_any has_number c.pieces then numbers_title c.numbers c.count
-    else few_title c.taken c.count
+    else few_title c.total c.count
 title c (UnusedArguments is) = unused_title c.given is
 title c (RedundantArguments is) = plural (codes "redundant argument") (length is)
 title c (NameUsedByIndex r i) = codes "named argument "

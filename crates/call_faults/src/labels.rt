@@ -1,5 +1,5 @@
-//! The labels of faults, in rustc's words. What begins with `push_` adds to the end of `labels`,
-//! and returns `Err` if an allocation fails.
+//! The labels of faults, in rustc's words. A function whose name begins with `push_` adds to the
+//! end of `labels`, and returns `Err` if an allocation fails.
 
 ghost use Rattle.std.specs.Prelude.{◌≡◌, ◌++◌, ◌∷◌, [], IfOk, OnOk, chars, map, string_bytes};
 ghost use Rattle.rustc_parse_format.specs.Faults.{message};
@@ -31,7 +31,7 @@ use rustc_parse_format::{Fault, ParseError, Suggestion};
 use std::alloc::{AllocError, Global};
 use std::ops::Range;
 
-/// Returns what is said of an argument with a name in front of one without.
+/// Returns the label of an argument with a name in front of one without.
 #[tactic(auto, unfolding(crate::specs::Labels::named_text))]
 fn named_text() -> &'static str
     ensures { result.now ≡ named_text }
@@ -140,7 +140,7 @@ fn push_unused(
     Ok(())
 }
 
-/// Returns what is said of a literal that lacks a placeholder.
+/// Returns the label of a literal that lacks a placeholder.
 #[tactic(auto, unfolding(crate::specs::Labels::single_text))]
 fn single_text() -> &'static str
     ensures { result.now ≡ single_text }
@@ -163,7 +163,7 @@ fn push_one_unused(
     Ok(())
 }
 
-/// Returns what is said of a literal that lacks several placeholders.
+/// Returns the label of a literal that lacks several placeholders.
 #[tactic(auto, unfolding(crate::specs::Labels::several_text))]
 fn several_text() -> &'static str
     ensures { result.now ≡ several_text }
@@ -221,7 +221,7 @@ pub(crate) fn have_names(given: &[Given<'_>]) -> bool
     false
 }
 
-/// Returns what is said of an argument that is left out.
+/// Returns the label of an argument that is left out.
 #[tactic(auto, unfolding(crate::specs::Labels::removal_text))]
 fn removal_text() -> &'static str
     ensures { result.now ≡ removal_text }
@@ -287,7 +287,7 @@ fn push_redundant(
     push_bare(labels, redundant)
 }
 
-/// Returns what is said of an argument with a name that is used by its index.
+/// Returns the label of an argument with a name that is used by its index.
 #[tactic(auto, unfolding(crate::specs::Labels::by_index_text))]
 fn by_index_text() -> &'static str
     ensures { result.now ≡ by_index_text }
@@ -295,7 +295,7 @@ fn by_index_text() -> &'static str
     "this named argument is referred to by position in formatting string"
 }
 
-/// Returns what is said of the use by index of an argument with a name. Returns `Err` if an
+/// Returns the label of the use by index of an argument with a name. Returns `Err` if an
 /// allocation fails.
 #[tactic(auto, unfolding(crate::specs::Labels::use_text))]
 fn use_text(alloc: Global, name: &str) -> Result<String, AllocError>

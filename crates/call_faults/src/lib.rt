@@ -1,4 +1,4 @@
-//! What is wrong with a format string and the arguments of its call, as rustc tells it.
+//! The faults of a format string and of the arguments of its call, as rustc reports them.
 #![tactic(auto)]
 
 mod arguments;

@@ -1,4 +1,4 @@
-//! What is looked up for the placeholders of a format string, in rustc's order.
+//! The lookups for the placeholders of a format string, in rustc's order.
 
 ghost use Rattle.std.specs.Prelude.{◌≡◌, ◌∷◌, ◌++◌, ◌==◌, [], IfOk, OnOk, chars, codes, map};
 ghost use Rattle.std.specs.List.{list_any};
@@ -21,7 +21,7 @@ pub(crate) enum Wanted<'a> {
     Name(&'a str),
 }
 
-/// What is looked up for a placeholder.
+/// A lookup for a placeholder.
 #[derive(Clone, Copy)]
 pub(crate) enum Lookup<'a> {
     /// An argument.
@@ -30,7 +30,7 @@ pub(crate) enum Lookup<'a> {
     NoTrait(usize, &'a str),
 }
 
-/// Returns what a position wants.
+/// Returns the argument that a position wants.
 fn wanted_by<'a>(position: &Position<'a>) -> Wanted<'a>
     ensures { seen_use result ≡ position_use (seen_position position.now) }
 {
@@ -80,7 +80,7 @@ fn is_known(ty: &str) -> bool
     }
 }
 
-/// Adds what is looked up for a placeholder. Returns `Err` if an allocation fails.
+/// Adds the lookups for a placeholder. Returns `Err` if an allocation fails.
 fn push_argument<'a>(
     list: &mut Vec<Lookup<'a>>,
     piece: usize,
@@ -102,7 +102,7 @@ fn push_argument<'a>(
     Ok(())
 }
 
-/// Adds what is looked up for a piece. Returns `Err` if an allocation fails.
+/// Adds the lookups for a piece. Returns `Err` if an allocation fails.
 fn push_piece<'a>(
     list: &mut Vec<Lookup<'a>>,
     index: usize,
@@ -117,7 +117,7 @@ fn push_piece<'a>(
     }
 }
 
-/// Returns what is looked up for pieces. Returns `Err` if an allocation fails.
+/// Returns the lookups for pieces. Returns `Err` if an allocation fails.
 pub(crate) fn lookups_of<'a>(
     alloc: Global,
     pieces: &[Piece<'a>],

@@ -1,5 +1,5 @@
-//! The labels of missing arguments. What begins with `push_` adds to the end of `labels`, and
-//! returns `Err` if an allocation fails.
+//! The labels of missing arguments. A function whose name begins with `push_` adds to the end of
+//! `labels`, and returns `Err` if an allocation fails.
 
 ghost use Rattle.std.specs.Prelude.{◌≡◌, ◌++◌, [], IfOk, OnOk, map, string_bytes};
 ghost use Rattle.rustc_parse_format.specs.Seen.{pair, seen, seen_count, seen_position};
@@ -13,7 +13,7 @@ ghost use Rattle.call_faults.specs.declared.spots.Spot.TheVariants.{Value};
 use crate::checker::Checked;
 use crate::faults::Missing;
 use crate::spots::{
-    CallLabel, Spot, behind, first_spot, push_plain, push_secondary, reference_spot, spot_of,
+    CallLabel, Spot, first_spot, push_plain, push_secondary, reference_spot, rest_after, spot_of,
 };
 use crate::titles::put_number;
 use rustc_parse_format::{Count, Piece, Position};
@@ -85,7 +85,7 @@ fn push_nexts(
     let mut left = places;
     for piece in pieces {
         push_next(labels, piece, left)?;
-        left = behind(piece, left);
+        left = rest_after(piece, left);
     }
     Ok(())
 }
@@ -117,23 +117,23 @@ fn put_expected(out: &mut String, count: usize) -> Result<(), AllocError>
     Ok(())
 }
 
-/// Adds the text of a precision that takes the argument `index` by `*`, where `taken` are taken in
-/// all.
-fn put_star(out: &mut String, index: usize, taken: usize) -> Result<(), AllocError>
-    ensures { OnOk result (string_bytes out.new ≡ string_bytes out.old ++ star_text index taken) }
+/// Adds the text of a precision that takes the argument `index` by `*`, where the
+/// placeholders take `total` in all.
+fn put_star(out: &mut String, index: usize, total: usize) -> Result<(), AllocError>
+    ensures { OnOk result (string_bytes out.new ≡ string_bytes out.old ++ star_text index total) }
 {
     out.push_str("this precision flag adds an extra required argument at position ")?;
     put_number(out, index)?;
     out.push_str(", which is why there ")?;
-    put_expected(out, taken)?;
+    put_expected(out, total)?;
     out.push_str(" expected")?;
     Ok(())
 }
 
 /// Adds the label of a precision that takes an argument by `*`, if the piece has one.
-fn push_star(labels: &mut Vec<CallLabel>, taken: usize, piece: &Piece<'_>) -> Result<(), AllocError>
+fn push_star(labels: &mut Vec<CallLabel>, total: usize, piece: &Piece<'_>) -> Result<(), AllocError>
     ensures { OnOk result (map seen_label labels.new.items ≡ map seen_label labels.old.items
-        ++ star_label taken (seen piece.now)) }
+        ++ star_label total (seen piece.now)) }
 {
     let Piece::NextArgument(argument) = piece else {
         return Ok(());
@@ -142,7 +142,7 @@ fn push_star(labels: &mut Vec<CallLabel>, taken: usize, piece: &Piece<'_>) -> Re
         return Ok(());
     };
     let mut text = String::new(*labels.allocator());
-    put_star(&mut text, index, taken)?;
+    put_star(&mut text, index, total)?;
     labels.push(CallLabel {
         spot: spot_of(&argument.format.precision_span),
         is_primary: !is_next(&argument.position),
@@ -154,14 +154,14 @@ fn push_star(labels: &mut Vec<CallLabel>, taken: usize, piece: &Piece<'_>) -> Re
 /// Adds the labels of the precisions of pieces that take arguments by `*`.
 fn push_stars(
     labels: &mut Vec<CallLabel>,
-    taken: usize,
+    total: usize,
     pieces: &[Piece<'_>],
 ) -> Result<(), AllocError>
     ensures { OnOk result (map seen_label labels.new.items ≡ map seen_label labels.old.items
-        ++ star_labels taken (map seen pieces.now)) }
+        ++ star_labels total (map seen pieces.now)) }
 {
     for piece in pieces {
-        push_star(labels, taken, piece)?;
+        push_star(labels, total, piece)?;
     }
     Ok(())
 }

@@ -1,5 +1,5 @@
-//! The notes of faults, in rustc's words. What begins with `push_` adds to the end of a list, and
-//! returns `Err` if an allocation fails.
+//! The notes of faults, in rustc's words. A function whose name begins with `push_` adds to the end
+//! of a list, and returns `Err` if an allocation fails.
 
 ghost use Rattle.std.specs.Prelude.{◌≡◌, ◌++◌, ◌∷◌, [], IfOk, OnOk, chars, is_some, map};
 ghost use Rattle.std.specs.Prelude.{option_map, string_bytes};
@@ -96,7 +96,7 @@ fn push_name(notes: &mut Vec<CallNote>, name: &str) -> Result<(), AllocError>
     Ok(())
 }
 
-/// Returns the traits that a placeholder may ask for, each on a line.
+/// Returns the note on the traits that a placeholder may want, each on a line.
 #[tactic(auto, unfolding(crate::specs::Notes::traits_text))]
 fn traits_text() -> &'static str
     ensures { result.now ≡ traits_text }
@@ -127,7 +127,7 @@ fn is_aligned(align: Alignment) -> bool
     !matches!(align, Alignment::AlignUnknown)
 }
 
-/// Returns whether a specification asks for more than a trait.
+/// Returns whether a specification has more than a trait.
 fn has_flags(format: &FormatSpec<'_>) -> bool
     ensures { result ≡ has_flags (seen_spec format.now) }
 {
@@ -137,7 +137,7 @@ fn has_flags(format: &FormatSpec<'_>) -> bool
             || (is_given(&format.width) || is_given(&format.precision)))
 }
 
-/// Returns whether a piece asks for more than a trait.
+/// Returns whether a piece has more than a trait.
 fn is_flagged(piece: &Piece<'_>) -> bool
     ensures { result ≡ is_flagged (seen piece.now) }
 {
@@ -147,7 +147,7 @@ fn is_flagged(piece: &Piece<'_>) -> bool
     }
 }
 
-/// Returns whether one of these pieces asks for more than a trait.
+/// Returns whether one of these pieces has more than a trait.
 fn are_flagged(pieces: &[Piece<'_>]) -> bool
     ensures { result ≡ list_any is_flagged (map seen pieces.now) }
 {
@@ -189,7 +189,7 @@ fn count_note() -> &'static str
     "positional arguments are zero-based"
 }
 
-/// Returns the note on what else a placeholder may ask for.
+/// Returns the note on the flags that a placeholder may have.
 #[tactic(auto, unfolding(crate::specs::Notes::flags_note))]
 fn flags_note() -> &'static str
     ensures { result.now ≡ flags_note }
@@ -326,7 +326,7 @@ fn named_positions<'a>(
     Ok(spots)
 }
 
-/// Returns what the note of so many redundant arguments says.
+/// Returns the text of the note of so many redundant arguments.
 fn redundant_text(count: usize) -> &'static str
     ensures { result.now ≡ redundant_text count }
 {

@@ -1,5 +1,5 @@
-//! The ids and the titles of faults, in rustc's words. What begins with `put_` appends to `out`,
-//! and returns `Err` if an allocation fails.
+//! The ids and the titles of faults, in rustc's words. A function whose name begins with `put_`
+//! appends to `out`, and returns `Err` if an allocation fails.
 
 ghost use Rattle.std.specs.Prelude.{◌≡◌, ◌++◌, ◌∷◌, [], OnOk, chars, codes, decimal, length, map};
 ghost use Rattle.std.specs.Prelude.{if◌then◌else◌, string_bytes};
@@ -9,7 +9,7 @@ ghost use Rattle.rustc_parse_format.specs.Seen.{seen, seen_count, seen_position}
 ghost use Rattle.rustc_parse_format.specs.SeenFaults.{seen_fault as seen_text_fault};
 ghost use Rattle.placeholder_check.specs.Report.{IsReport, Report};
 ghost use Rattle.placeholder_check.specs.Uses.{uses};
-ghost use Rattle.call_faults.specs.Seen.{seen_fault, seen_given, told};
+ghost use Rattle.call_faults.specs.Seen.{seen_fault, seen_given, title_parts};
 ghost use Rattle.call_faults.specs.Words.{call_id, count_text, few_title, has_number, is_counted};
 ghost use Rattle.call_faults.specs.Words.{is_named, is_number, listed, name_of, never_used};
 ghost use Rattle.call_faults.specs.Words.{numbers_title, plural, quoted, separator};
@@ -29,7 +29,7 @@ impl CallFault<'_> {
     ghost use Rattle.call_faults.specs.Words.{call_id};
 
     /// Returns the id of the fault in kebab case, as `unused-argument`: the same for all faults of
-    /// a kind. That of a fault of the format string is the id of [`Fault`]. Does not allocate.
+    /// a kind. A fault of the format string has the id of its [`Fault`]. Does not allocate.
     #[tactic(auto, unfolding(crate::specs::Words::call_id))]
     pub fn id(&self) -> &'static str
         ensures { result.now ≡ call_id (seen_fault self.now) }
@@ -86,7 +86,7 @@ pub(crate) fn put_noun(out: &mut String, noun: &str, count: usize) -> Result<(),
     Ok(())
 }
 
-/// Adds what stands between a number and those behind it.
+/// Adds the text between a number and those after it.
 fn put_separator(out: &mut String, others: &[usize]) -> Result<(), AllocError>
     ensures { OnOk result (string_bytes out.new ≡ string_bytes out.old ++ separator others.now) }
 {
@@ -201,12 +201,12 @@ fn put_numbers_title(out: &mut String, numbers: &[usize], count: usize) -> Resul
     Ok(())
 }
 
-/// Adds the title of too few arguments, where `count` are given and the placeholders take `taken`.
-fn put_few_title(out: &mut String, taken: usize, count: usize) -> Result<(), AllocError>
-    ensures { OnOk result (string_bytes out.new ≡ string_bytes out.old ++ few_title taken count) }
+/// Adds the title of too few arguments, where `count` are given and the placeholders take `total`.
+fn put_few_title(out: &mut String, total: usize, count: usize) -> Result<(), AllocError>
+    ensures { OnOk result (string_bytes out.new ≡ string_bytes out.old ++ few_title total count) }
 {
-    put_number(out, taken)?;
-    put_noun(out, " positional argument", taken)?;
+    put_number(out, total)?;
+    put_noun(out, " positional argument", total)?;
     out.push_str(" in format string, but ")?;
     put_count(out, count)?;
     Ok(())
@@ -235,7 +235,7 @@ fn is_named(given: &[Given<'_>], index: usize) -> bool
     }
 }
 
-/// Returns what is said of an argument that is not used.
+/// Returns the label of an argument that is not used.
 pub(crate) fn never_used(given: &[Given<'_>], index: usize) -> &'static str
     ensures { result.now ≡ never_used (slice_get (map seen_given given.now) index) }
 {
@@ -291,7 +291,7 @@ impl<'a> Checked<'a> {
     ghost use Rattle.rustc_parse_format.specs.Seen.{seen};
     ghost use Rattle.placeholder_check.specs.Report.{IsReport, Report};
     ghost use Rattle.placeholder_check.specs.Uses.{uses};
-    ghost use Rattle.call_faults.specs.Seen.{seen_fault, told};
+    ghost use Rattle.call_faults.specs.Seen.{seen_fault, title_parts};
     ghost use Rattle.call_faults.specs.Words.{title};
 
     /// Adds the title of one of the faults to the end of `out`, as rustc has it. Returns `Err` if
@@ -300,7 +300,7 @@ impl<'a> Checked<'a> {
     pub fn put_title(&self, out: &mut String, fault: &CallFault<'a>) -> Result<(), AllocError>
         ensures { OnOk result ((r : Report) → IsReport (uses (map seen self.now.pieces.items))
             (length self.now.kept.items) [] r → string_bytes out.new ≡ string_bytes out.old
-            ++ title (told self.now r.missing_index) (seen_fault fault.now)) }
+            ++ title (title_parts self.now r.missing_index) (seen_fault fault.now)) }
     {
         match fault {
             CallFault::PositionalAfterNamed { .. } => {

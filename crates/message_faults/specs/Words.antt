@@ -10,7 +10,7 @@ use Rattle.call_faults.specs.declared.spots.Spot.TheVariants.{Literal}
 use Rattle.message_faults.specs.Messages.{MessageFault, TextFault, Specifier, Positional}
 use Rattle.message_faults.specs.Messages.{MissingParameter}
 
--- The id of a fault. That of the text has its own.
+-- The id of a fault. A fault of the text has its own.
 unfoldable pub message_id : MessageFault → List ℕ
 message_id (TextFault f) = fault_id f
 message_id (Specifier s) = codes "specifier-in-message"

@@ -3,7 +3,7 @@
 use call_faults::Spot;
 use rustc_parse_format::Fault;
 
-/// What is wrong with a text of an attribute. All faults are warnings.
+/// A fault of a text of an attribute. All are warnings.
 #[derive(Drop)]
 pub enum MessageFault<'a> {
     /// The text is not in the grammar. No other fault follows.

@@ -1,5 +1,5 @@
-//! The ids, titles, labels and helps of faults, in rustc's words. What begins with `push_` or
-//! `put_` adds to the end of a list or a text, and returns `Err` if an allocation fails.
+//! The ids, titles, labels and helps of faults, in rustc's words. A function whose name begins with
+//! `push_` or `put_` adds to the end of a list or a text, and returns `Err` if an allocation fails.
 
 ghost use Rattle.std.specs.Prelude.{◌≡◌, ◌++◌, ◌∷◌, [], OnOk, chars, map, string_bytes};
 ghost use Rattle.rustc_parse_format.specs.Faults.{message};
@@ -102,7 +102,7 @@ impl<'a> MessageFault<'a> {
     ghost use Rattle.message_faults.specs.Words.{help, labels, message_id, title};
 
     /// Returns the id of the fault in kebab case, as `missing-parameter`: the same for all faults
-    /// of a kind. That of a fault of the text is the id of [`Fault`]. Does not allocate.
+    /// of a kind. A fault of the text has the id of its [`Fault`]. Does not allocate.
     #[tactic(auto, unfolding(crate::specs::Words::message_id))]
     pub fn id(&self) -> &'static str
         ensures { result.now ≡ message_id (seen_fault self.now) }

@@ -1,8 +1,11 @@
-//! Tests of `asm_faults` and `message_faults`: what they say of calls and of texts of attributes,
-//! beside what rustc 1.95 says of them.
+//! Tests of `asm_faults` and `message_faults`: their words for calls and for texts of attributes,
+//! beside those of rustc 1.95.
 #![tactic(auto)]
 
+mod operand_rows;
+mod reference_rows;
 mod rows;
+mod template_rows;
 #[cfg(test)]
 mod tests;
 mod text_rows;

@@ -1,6 +1,8 @@
-//! Calls that are checked, and what is said of them.
+//! Calls that are checked, and the words for their faults.
 
-use crate::rows::ROWS;
+use crate::operand_rows::OPERANDS;
+use crate::reference_rows::REFERENCES;
+use crate::template_rows::TEMPLATES;
 use asm_faults::{AsmCall, AsmFault, AsmLabel, AsmNote, AsmSpot, Operand, Template, asm_faults};
 use std::alloc::{AllocError, Global};
 use std::test::Fail;
@@ -111,7 +113,7 @@ fn put_note(
     Ok(())
 }
 
-/// Adds what is said of a fault.
+/// Adds the words for a fault.
 fn put_fault<'a>(
     out: &mut String,
     parts: &Parts<'_>,
@@ -131,7 +133,7 @@ fn put_fault<'a>(
     Ok(())
 }
 
-/// Returns what is said of a call.
+/// Returns the words for a call.
 fn said(alloc: Global, call: &str) -> Result<String, AllocError> {
     let parts = parts_of(alloc, call)?;
     let checked = asm_faults(alloc, &parts.templates, &parts.operands)?;
@@ -142,7 +144,7 @@ fn said(alloc: Global, call: &str) -> Result<String, AllocError> {
     Ok(out)
 }
 
-/// Returns the ids of what is wrong with a call, each on a line.
+/// Returns the ids of the faults of a call, each on a line.
 fn ids(alloc: Global, call: &str) -> Result<String, AllocError> {
     let parts = parts_of(alloc, call)?;
     let mut out = String::new(alloc);
@@ -158,9 +160,11 @@ fn ids(alloc: Global, call: &str) -> Result<String, AllocError> {
 #[test]
 fn calls_are_as_rustc_says(rt: HostRuntime) -> Result<(), Fail> {
     let alloc = rt.alloc();
-    for row in ROWS {
-        let said = said(alloc, row.call)?;
-        assert_eq!(&rt; said.as_str(), row.said, "{}", row.call);
+    for rows in [REFERENCES, OPERANDS, TEMPLATES] {
+        for row in rows {
+            let said = said(alloc, row.call)?;
+            assert_eq!(&rt; said.as_str(), row.said, "{}", row.call);
+        }
     }
     Ok(())
 }
@@ -169,16 +173,20 @@ fn calls_are_as_rustc_says(rt: HostRuntime) -> Result<(), Fail> {
 #[test]
 fn calls_out_of_memory_are_said_again(rt: HostRuntime) -> Result<(), Fail> {
     let alloc = rt.alloc();
-    for index in 0..7 {
-        let row = &ROWS[8 * index];
-        let said = match said(alloc, row.call) {
-            Ok(said) => said,
-            Err(_) => {
-                println!(rt; "refused")?;
-                said(alloc, row.call)?
+    for rows in [REFERENCES, OPERANDS, TEMPLATES] {
+        for (index, row) in rows.iter().enumerate() {
+            if index % 8 != 0 {
+                continue;
             }
-        };
-        assert_eq!(&rt; said.as_str(), row.said, "{}", row.call);
+            let said = match said(alloc, row.call) {
+                Ok(said) => said,
+                Err(_) => {
+                    println!(rt; "refused")?;
+                    said(alloc, row.call)?
+                }
+            };
+            assert_eq!(&rt; said.as_str(), row.said, "{}", row.call);
+        }
     }
     Ok(())
 }

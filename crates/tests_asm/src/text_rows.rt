@@ -1,6 +1,6 @@
-//! Texts of attributes, and what rustc 1.95 says of them.
+//! Texts of attributes, with the words of rustc 1.95 for them.
 
-/// A text of an attribute, and what rustc says of it.
+/// A text of an attribute, and the words of rustc for it.
 #[derive(Clone, Copy)]
 pub struct TextRow {
     /// The literal.
@@ -13,7 +13,7 @@ pub struct TextRow {
     pub said: &'static str,
 }
 
-/// What `rustc --edition 2021 --error-format=json` says of
+/// The output of `rustc --edition 2021 --error-format=json` for
 /// `#[diagnostic::on_unimplemented(message = LITERAL)] pub trait T<A, B: Copy, const N: usize> {}`.
 pub const TEXT_ROWS: [TextRow; 27] = [
     TextRow {

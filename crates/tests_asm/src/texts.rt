@@ -1,9 +1,10 @@
-//! Texts of attributes that are checked, and what is said of them.
+//! Texts of attributes that are checked, and the words for their faults.
 
 use crate::text_rows::TEXT_ROWS;
 use call_faults::{CallLabel, Spot};
-use message_faults::{Message, MessageFault, message_faults};
+use message_faults::{Message, MessageFault, message_faults, names_of};
 use std::alloc::{AllocError, Global};
+use std::collections::BTreeSet;
 use std::test::Fail;
 
 /// Adds the lines of labels in a literal of this length, sorted.
@@ -27,7 +28,7 @@ fn put_labels(out: &mut String, length: usize, labels: &[CallLabel]) -> Result<(
     Ok(())
 }
 
-/// Adds what is said of a fault in a literal of this length.
+/// Adds the words for a fault in a literal of this length.
 fn put_fault(out: &mut String, length: usize, fault: &MessageFault<'_>) -> Result<(), AllocError> {
     let alloc = *out.allocator();
     fault.put_title(alloc, out, "T")?;
@@ -46,7 +47,7 @@ fn faults<'a>(
     alloc: Global,
     text: &'a str,
     literal: &'a str,
-    parameters: Option<&'a [&'a str]>,
+    parameters: Option<&BTreeSet<&str>>,
 ) -> Result<Vec<MessageFault<'a>>, AllocError> {
     let message = Message {
         text,
@@ -56,10 +57,11 @@ fn faults<'a>(
     message_faults(alloc, message)
 }
 
-/// Returns what is said of a text with this literal: of each fault, sorted.
+/// Returns the words for a text with this literal: for each fault, sorted.
 fn said(alloc: Global, text: &str, literal: &str) -> Result<String, AllocError> {
+    let names = names_of(alloc, &["A", "B", "N"])?;
     let mut parts = Vec::new(alloc);
-    for fault in &faults(alloc, text, literal, Some(&["A", "B", "N"]))? {
+    for fault in &faults(alloc, text, literal, Some(&names))? {
         let mut part = String::new(alloc);
         put_fault(&mut part, literal.len(), fault)?;
         parts.push(part)?;
@@ -112,9 +114,10 @@ fn each_kind_of_text_has_its_id(rt: HostRuntime) -> Result<(), Fail> {
         ),
         ("}", "\"}\"", "unmatched-closing-brace "),
     ];
+    let names = names_of(alloc, &["A"])?;
     for (text, literal, expected) in rows {
         let mut said = String::new(alloc);
-        for fault in &faults(alloc, text, literal, Some(&["A"]))? {
+        for fault in &faults(alloc, text, literal, Some(&names))? {
             write!(&mut said, "{} ", fault.id())?;
         }
         assert_eq!(&rt; said.as_str(), expected, "{}", literal);

@@ -1,6 +1,6 @@
-//! Calls, and what rustc 1.95 says of them.
+//! Calls, and the titles of the messages of rustc 1.95 for them.
 
-/// A call of `format!`, and the titles of what rustc says of it.
+/// A call of `format!`, and the titles of the messages of rustc for it.
 #[derive(Clone, Copy)]
 pub struct Row {
     /// The text of the string, which stands for itself in an ordinary literal.
@@ -11,8 +11,8 @@ pub struct Row {
     pub titles: &'static str,
 }
 
-/// What `rustc --edition 2021` says of `format!("TEXT", ARGUMENTS)`, where `a`, `b`, `c`, `d` and
-/// `w` are variables.
+/// The titles of `rustc --edition 2021` for `format!("TEXT", ARGUMENTS)`, where `a`, `b`, `c`, `d`
+/// and `w` are variables.
 pub const ROWS: [Row; 61] = [
     Row {
         text: "{}",

@@ -1,7 +1,10 @@
-//! What is shown under the titles of faults, beside what rustc shows.
+//! The parts of messages under the titles of faults, beside those of rustc.
 
-use crate::shown_rows::SHOWN;
+use crate::missing_rows::MISSING;
+use crate::name_rows::NAMES;
+use crate::string_rows::STRINGS;
 use crate::tests::{arguments, plain};
+use crate::unused_rows::UNUSED;
 use call_faults::{CallHelp, CallLabel, CallNote, Spot, call_faults};
 use std::alloc::{AllocError, Global};
 use std::test::Fail;
@@ -149,7 +152,7 @@ fn put_help(
     Ok(())
 }
 
-/// Returns what is shown under the titles of a call.
+/// Returns the parts of messages under the titles of a call.
 fn shown(alloc: Global, text: &str, list: &str) -> Result<String, AllocError> {
     let mut literal = String::from_str(alloc, "\"")?;
     literal.push_str(text)?;
@@ -177,9 +180,11 @@ fn shown(alloc: Global, text: &str, list: &str) -> Result<String, AllocError> {
 #[test]
 fn labels_notes_and_helps_are_those_of_rustc(rt: HostRuntime) -> Result<(), Fail> {
     let alloc = rt.alloc();
-    for row in SHOWN {
-        let said = shown(alloc, row.text, row.arguments)?;
-        assert_eq!(&rt; said.as_str(), row.shown, "{} {}", row.text, row.arguments);
+    for rows in [MISSING, UNUSED, NAMES, STRINGS] {
+        for row in rows {
+            let said = shown(alloc, row.text, row.arguments)?;
+            assert_eq!(&rt; said.as_str(), row.shown, "{} {}", row.text, row.arguments);
+        }
     }
     Ok(())
 }
@@ -188,16 +193,20 @@ fn labels_notes_and_helps_are_those_of_rustc(rt: HostRuntime) -> Result<(), Fail
 #[test]
 fn labels_out_of_memory_are_made_again(rt: HostRuntime) -> Result<(), Fail> {
     let alloc = rt.alloc();
-    for index in 0..8 {
-        let row = &SHOWN[12 * index];
-        let said = match shown(alloc, row.text, row.arguments) {
-            Ok(said) => said,
-            Err(_) => {
-                println!(rt; "refused")?;
-                shown(alloc, row.text, row.arguments)?
+    for rows in [MISSING, UNUSED, NAMES, STRINGS] {
+        for (index, row) in rows.iter().enumerate() {
+            if index % 12 != 0 {
+                continue;
             }
-        };
-        assert_eq!(&rt; said.as_str(), row.shown, "{} {}", row.text, row.arguments);
+            let said = match shown(alloc, row.text, row.arguments) {
+                Ok(said) => said,
+                Err(_) => {
+                    println!(rt; "refused")?;
+                    shown(alloc, row.text, row.arguments)?
+                }
+            };
+            assert_eq!(&rt; said.as_str(), row.shown, "{} {}", row.text, row.arguments);
+        }
     }
     Ok(())
 }

@@ -1,4 +1,4 @@
-//! Calls that are checked, and what is said of them.
+//! Calls that are checked, and the messages for them.
 
 use crate::rows::ROWS;
 use call_faults::{CallFault, Checked, FormatString, Given, call_faults};
@@ -46,7 +46,7 @@ pub fn arguments<'a>(alloc: Global, list: &'a str) -> Result<Vec<Given<'a>>, All
     Ok(given)
 }
 
-/// Returns the titles of what is wrong with a call, each on a line.
+/// Returns the titles of the faults of a call, each on a line.
 fn titles(alloc: Global, string: FormatString<'_>, list: &str) -> Result<String, AllocError> {
     let given = arguments(alloc, list)?;
     let checked = call_faults(alloc, string, &given)?;
@@ -63,7 +63,7 @@ fn titles(alloc: Global, string: FormatString<'_>, list: &str) -> Result<String,
     Ok(out)
 }
 
-/// Returns the ids of what is wrong with a call, each on a line.
+/// Returns the ids of the faults of a call, each on a line.
 fn ids(alloc: Global, string: FormatString<'_>, list: &str) -> Result<String, AllocError> {
     let given = arguments(alloc, list)?;
     let mut out = String::new(alloc);
@@ -86,7 +86,7 @@ fn titles_are_those_of_rustc(rt: HostRuntime) -> Result<(), Fail> {
     Ok(())
 }
 
-/// What rustc 1.95 says where the literal is that of `concat!`, which captures no variable.
+/// The titles of rustc 1.95 where the literal is that of `concat!`, which captures no variable.
 #[test]
 fn names_that_are_not_captured(rt: HostRuntime) -> Result<(), Fail> {
     let alloc = rt.alloc();
@@ -122,7 +122,7 @@ fn names_that_are_not_captured(rt: HostRuntime) -> Result<(), Fail> {
     Ok(())
 }
 
-/// What rustc 1.95 says of `println!`, with the literal as it is in the source.
+/// The titles of rustc 1.95 for `println!`, with the literal as it is in the source.
 #[test]
 fn literals_of_println(rt: HostRuntime) -> Result<(), Fail> {
     let alloc = rt.alloc();
@@ -199,7 +199,7 @@ fn each_kind_has_its_id(rt: HostRuntime) -> Result<(), Fail> {
 }
 
 #[test]
-fn titles_out_of_memory_are_told_again(rt: HostRuntime) -> Result<(), Fail> {
+fn titles_out_of_memory_are_read_again(rt: HostRuntime) -> Result<(), Fail> {
     let alloc = rt.alloc();
     let string = plain("{:q}{a}{4}{x:y$}{");
     let expected = "duplicate argument named `x`\n\
@@ -216,7 +216,7 @@ fn titles_out_of_memory_are_told_again(rt: HostRuntime) -> Result<(), Fail> {
 }
 
 #[test]
-fn compared_out_of_memory_is_told_again(rt: HostRuntime) -> Result<(), Fail> {
+fn compared_out_of_memory_is_read_again(rt: HostRuntime) -> Result<(), Fail> {
     let alloc = rt.alloc();
     let string = plain("{:q}{b}{4}{x:y$}");
     let expected = "unknown format trait `q`\n\

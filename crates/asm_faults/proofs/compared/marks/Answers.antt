@@ -1,5 +1,5 @@
 use Rattle.std.proofs.Common.{◌≡◌, ◌<◌, ◌∙◌, ◌≤◌, ◌==◌, arith, rules, false, get_or, refl, sym, ap}
-use Rattle.std.proofs.Common.{length, map, eq-eqb, List}
+use Rattle.std.proofs.Common.{length, eq-eqb, List}
 use Rattle.std.proofs.lemmas.List.{length-map}
 use Rattle.call_faults.proofs.Comparing.{or-none, set-length, set-marks}
 use Rattle.asm_faults.specs.Operands.{Operand}

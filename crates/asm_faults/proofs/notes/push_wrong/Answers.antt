@@ -9,4 +9,5 @@ returns c =
       c.in_ok-push_note.ensures,
       c.deref.ensures,
       c.in_ok-text.ensures,
+      c.noun.ensures,
     ) (simp append_assoc)

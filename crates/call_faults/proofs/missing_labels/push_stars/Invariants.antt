@@ -7,5 +7,5 @@ use Rattle.call_faults.proofs.missing_labels.push_stars.Given as goal
 -- What is added, and then the labels of what is left, is all.
 abbrev pub invariant-loop-piece : goal.invariant-loop-piece
 invariant-loop-piece l = map seen_label l.labels.items
-    ++ star_labels l.taken (map seen (drop l.piece-index l.pieces))
-    ≡ map seen_label l.fn.labels.items ++ star_labels l.taken (map seen l.pieces)
+    ++ star_labels l.total (map seen (drop l.piece-index l.pieces))
+    ≡ map seen_label l.fn.labels.items ++ star_labels l.total (map seen l.pieces)

@@ -1,12 +1,12 @@
 use Rattle.std.proofs.Common.{◌≡◌, ◌++◌, drop, map}
 use Rattle.rustc_parse_format.specs.Seen.{seen}
 use Rattle.message_faults.specs.Messages.{faults_of}
-use Rattle.message_faults.specs.Seen.{seen_fault, seen_parameters}
+use Rattle.message_faults.specs.Seen.{known_names, seen_fault}
 use Rattle.message_faults.proofs.checker.push_pieces.Given as goal
 
--- What is added, and then the faults of what is left, is all.
+-- The faults so far, and then those of the pieces that are left, are all.
 abbrev pub invariant-loop-piece : goal.invariant-loop-piece
 invariant-loop-piece l = map seen_fault l.faults.items
-    ++ faults_of (seen_parameters l.parameters) l.is_known (map seen (drop l.piece-index l.pieces))
+    ++ faults_of (known_names l.names) l.is_known (map seen (drop l.piece-index l.pieces))
     ≡ map seen_fault l.fn.faults.items
-    ++ faults_of (seen_parameters l.parameters) l.is_known (map seen l.pieces)
+    ++ faults_of (known_names l.names) l.is_known (map seen l.pieces)

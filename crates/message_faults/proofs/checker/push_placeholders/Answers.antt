@@ -6,14 +6,14 @@ use Rattle.rustc_parse_format.specs.Types.{Diagnostic}
 use Rattle.rustc_parse_format.specs.World.{World, pieces_in}
 use Rattle.rustc_parse_format.proofs.Walking.StateWalks.{after_all-world}
 use Rattle.message_faults.specs.Messages.{faults_of, pieces}
-use Rattle.message_faults.specs.Seen.{seen_fault, seen_parameters, start}
+use Rattle.message_faults.specs.Seen.{known_names, seen_fault, start}
 use Rattle.message_faults.proofs.checker.push_placeholders.Goals as goal
 
 pub returns : goal.returns
 returns c =
     let s = start c.args.message in
     let old = map seen_fault c.args.faults.now.items in
-    let ps = seen_parameters c.args.message.parameters in
+    let ns = known_names c.args.message.parameters in
     let at_start : first_state Diagnostic (chars c.args.message.text.now) None _ false ≡ s
     = ap (λ t. first_state Diagnostic (chars c.args.message.text.now) None t false)
     c.in_ok-snippet.ensures in
@@ -26,6 +26,6 @@ returns c =
     = c.is_source_literal-is_known.ensures ∙ ap (λ (p : State). p.world.has_source) parser
     ∙ ap (λ (w : World). w.has_source) (after_all-world s (calls s)) in
     c.in_ok-push_pieces.ensures
-    ∙ ap (λ b. old ++ faults_of ps b (map seen c.deref.result.now)) known
-    ∙ ap (λ qs. old ++ faults_of ps s.world.has_source qs)
+    ∙ ap (λ b. old ++ faults_of ns b (map seen c.deref.result.now)) known
+    ∙ ap (λ qs. old ++ faults_of ns s.world.has_source qs)
     (ap (map seen) c.deref.ensures.value ∙ read)

@@ -1,0 +1,10 @@
+use Rattle.std.proofs.Common.{◌∙◌}
+use Rattle.call_faults.specs.Texts.{text_fault}
+use Rattle.message_faults.specs.Seen.{start}
+use Rattle.message_faults.proofs.Knowing.{same_faults}
+use Rattle.message_faults.proofs.checker.message_faults.Goals as goal
+
+pub returns : goal.returns
+returns c = λ ps h. c.in_ok-faults.ensures
+    ∙ same_faults ps c.args.message.parameters h (start c.args.message)
+    (text_fault (start c.args.message))
