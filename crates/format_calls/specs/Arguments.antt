@@ -1,7 +1,7 @@
 -- The arguments of a call.
 use Prim.Native.Char.{code}
 use Rattle.std.specs.Prelude.{◌≡◌, ◌+◌, ◌<◌, ◌⊎◌, ◌&&◌, ℕ, Bool, true, false, not, List, [], ◌∷◌}
-use Rattle.std.specs.Prelude.{IsTrue}
+use Rattle.std.specs.Prelude.{◌-◌, IsTrue, drop, take}
 use Rattle.std.specs.Prelude.{slice_get, Option, Some, None}
 use Rattle.rust_trees.specs.Leaves.{Leaf}
 use Rattle.rust_trees.specs.Forests.{IsPair}
@@ -62,3 +62,7 @@ AreArguments xs at (a ∷ more) to = (a.start ≡ at) × (at < to) × IsArgument
     × (a.is_named ≡ is_named xs at)
     × (((a.end ≡ to) × (more ≡ [])) ⊎ (IsTrue (is_mark (code ",") xs a.end)
     × AreArguments xs (a.end + 1) more to))
+
+-- The tokens of an argument.
+abbrev pub tokens_of : List Leaf → Argument → List Leaf
+tokens_of xs a = take (a.end - a.start) (drop a.start xs)

@@ -6,5 +6,6 @@ pub mod Marks
 pub mod Modes
 pub mod Parts
 pub mod Rows
+pub mod Searches
 pub mod Standard
 pub mod Strings

@@ -1,6 +1,7 @@
 -- Tokens by their index.
-use Rattle.std.specs.Prelude.{ℕ, zero, suc, Bool, true, false, ◌&&◌, ◌==◌, List, Option, Some, None}
-use Rattle.std.specs.Prelude.{nat_lt}
+use Prim.Native.Char.{code}
+use Rattle.std.specs.Prelude.{ℕ, zero, suc, Bool, true, false, ◌&&◌, ◌||◌, ◌==◌, List, Option}
+use Rattle.std.specs.Prelude.{Some, None, nat_lt}
 use Rattle.std.specs.Prelude.{slice_get, length, drop, if◌then◌else◌}
 use Rattle.rust_tokens.specs.declared.kinds.Kind.{Kind}
 use Rattle.rust_tokens.specs.declared.kinds.Kind.TheVariants.{Ident, RawIdent}
@@ -39,6 +40,10 @@ abbrev pub word : Leaf → List ℕ
 word x = if is_raw x.kind && nat_lt 2 (length x.text) then drop 2 x.text else x.text
 
 -- The token before the token i is this character of punctuation.
-abbrev pub is_behind : ℕ → List Leaf → ℕ → Bool
-is_behind m xs zero = false
-is_behind m xs (suc i) = is_mark m xs i
+abbrev pub is_after : ℕ → List Leaf → ℕ → Bool
+is_after m xs zero = false
+is_after m xs (suc i) = is_mark m xs i
+
+-- The token begins a variable of a macro: it is `$`, or `#` as in `quote!`.
+abbrev pub is_variable : Leaf → Bool
+is_variable x = is_mark_of (code "$") (Some x) || is_mark_of (code "#") (Some x)

@@ -44,9 +44,25 @@ reason_at xs (Some x) i =
 abbrev pub reason_of : List Leaf → Argument → Reason
 reason_of xs a = reason_at xs (slice_get xs a.start) a.start
 
--- The index of the first argument that is a string literal.
+-- The argument begins with a string literal that is all of it, or that `;` follows.
+abbrev pub begins_text_at : List Leaf → Option Leaf → Argument → Bool
+begins_text_at xs None a = false
+begins_text_at xs (Some x) a =
+    is_text xs a || (is_text_leaf x && is_mark (code ";") xs (a.start + 1))
+
+abbrev pub begins_text : List Leaf → Argument → Bool
+begins_text xs a = begins_text_at xs (slice_get xs a.start) a
+
+-- The index of the first argument that begins with a string literal.
 abbrev pub first_text : List Leaf → List Argument → Option ℕ
-first_text xs bs = position (λ a. is_text xs a) bs
+first_text xs bs = position (λ a. begins_text xs a) bs
+
+-- The argument is the format string by this rule. For macros of slog key-values may follow it.
+abbrev pub is_string_by : Rule → List Leaf → Argument → Bool
+is_string_by (At n) xs a = is_text xs a
+is_string_by (ByEdition n) xs a = is_text xs a
+is_string_by AfterFields xs a = begins_text xs a
+is_string_by Templates xs a = is_text xs a
 
 abbrev pub text_or : Option ℕ → Result ℕ Reason
 text_or None = Err Expression

@@ -1,20 +1,21 @@
 //! The arguments of a macro for inline assembly: templates, and then operands and options.
 
-ghost use Rattle.std.specs.Prelude.{◌≡◌, ◌-◌, ◌<◌, ◌≤◌, codes, length, map, option_map, slice_get};
+ghost use Rattle.std.specs.Prelude.{◌≡◌, ◌<◌, ◌≤◌, length, map, option_map};
 ghost use Rattle.rust_trees.specs.Leaves.{leaf};
-ghost use Rattle.format_calls.specs.Assembly.{asm_part, has_raw, is_direction, is_string_at};
-ghost use Rattle.format_calls.specs.Assembly.{is_parenthesis, is_value, is_word_at, part_of};
+ghost use Rattle.format_calls.specs.Assembly.{asm_part, is_direction, is_string_at};
+ghost use Rattle.format_calls.specs.Assembly.{is_parenthesis, is_value, part_of};
 ghost use Rattle.format_calls.specs.Assembly.{register_at};
 ghost use Rattle.format_calls.specs.Assembly.{setting_of, template_count, token_in};
 
 use crate::marks::{is_mark_of, token_at};
 use crate::modes::is_text as is_text_of;
+use crate::part::Part;
 use crate::split::Argument;
 use crate::strings::is_text;
 use rust_tokens::Kind;
 use rust_trees::Token;
 
-/// What an argument after the templates of a macro for inline assembly is.
+/// The kind of an argument after the templates of a macro for inline assembly.
 #[derive(Clone, Copy)]
 pub enum AsmPart {
     /// An operand without a register of its own, for example `in(reg) x` or `const 1`.
@@ -79,30 +80,6 @@ fn is_parenthesis(token: Option<Token<'_>>) -> bool
         Some(token) => is_mark_of(&token, b'('),
         None => false,
     }
-}
-
-/// Returns whether the token of an index is the word `raw`.
-fn is_raw(tokens: &[Token<'_>], index: usize) -> bool
-    ensures { result ≡ is_word_at (codes "raw") (slice_get (map leaf tokens.now) index) }
-{
-    match token_at(tokens, index) {
-        Some(token) => is_text_of(&token, "raw"),
-        None => false,
-    }
-}
-
-/// Returns whether `raw` is one of the tokens from one to the one before another.
-fn has_raw(tokens: &[Token<'_>], from: usize, to: usize) -> bool
-    ensures { result ≡ has_raw (map leaf tokens.now) from (to - from) }
-{
-    let mut index = from;
-    while index < to {
-        if is_raw(tokens, index) {
-            return true;
-        }
-        index += 1;
-    }
-    false
 }
 
 /// Returns which operand has its register, in parentheses, at this token.
@@ -173,10 +150,11 @@ fn part_of(
 }
 
 /// Returns what an argument after the templates is, which starts at one of the tokens.
-pub fn asm_part(tokens: &[Token<'_>], argument: &Argument) -> AsmPart
-    requires { argument.now.start < length tokens.now }
-    ensures { result ≡ asm_part (map leaf tokens.now) argument.now }
+pub fn asm_part(part: &Part<'_>, argument: &Argument) -> AsmPart
+    requires { argument.now.start < length part.now }
+    ensures { result ≡ asm_part part.now argument.now }
 {
+    let tokens = part.tokens();
     let start = if argument.is_named {
         argument.start + 2
     } else {
@@ -184,7 +162,7 @@ pub fn asm_part(tokens: &[Token<'_>], argument: &Argument) -> AsmPart
     };
     part_of(
         argument.is_named,
-        has_raw(tokens, argument.start, argument.end),
+        part.has_raw(argument),
         token_in(tokens, argument, start),
         token_in(tokens, argument, start + 1),
         token_in(tokens, argument, start + 2),

@@ -3,8 +3,9 @@
 ghost use Rattle.std.specs.Prelude.{◌≡◌, ◌+◌, ◌&&◌, ◌==◌, IfOk, IsTrue, Some, length, map};
 ghost use Rattle.std.specs.Prelude.{slice_get};
 ghost use Rattle.rust_trees.specs.Leaves.{leaf};
-ghost use Rattle.format_calls.specs.Strings.{argument_or, first_text, format_string, is_text};
-ghost use Rattle.format_calls.specs.Strings.{is_text_leaf, reason_of};
+ghost use Rattle.format_calls.specs.Strings.{argument_or, begins_text, first_text};
+ghost use Rattle.format_calls.specs.Strings.{format_string, is_string_by, is_text, is_text_leaf};
+ghost use Rattle.format_calls.specs.Strings.{reason_of};
 ghost use Rattle.format_calls.specs.declared.split.Argument.{Argument as ArgumentValue};
 
 use crate::marks::{is_mark, is_word, token_at};
@@ -70,13 +71,27 @@ fn reason_of(tokens: &[Token<'_>], argument: &Argument) -> Reason
     }
 }
 
-/// Returns the index of the first argument that is a string literal, or `None` if there is none.
+/// Returns whether an argument begins with a string literal that is all of it, or that `;` follows.
+fn begins_text(tokens: &[Token<'_>], argument: &Argument) -> bool
+    ensures { result ≡ begins_text (map leaf tokens.now) argument.now }
+{
+    match token_at(tokens, argument.start) {
+        Some(token) => {
+            is_text(tokens, argument)
+                || is_text_leaf(&token) && is_mark(tokens, argument.start + 1, b';')
+        }
+        None => false,
+    }
+}
+
+/// Returns the index of the first argument that begins with the format string, or `None` if there
+/// is none.
 fn first_text(tokens: &[Token<'_>], arguments: &[Argument]) -> Option<usize>
     ensures { result ≡ first_text (map leaf tokens.now) arguments.now }
 {
     arguments
         .iter()
-        .position(|argument| is_text(tokens, argument))
+        .position(|argument| begins_text(tokens, argument))
 }
 
 /// Returns this index if the argument with it is the format string, or the reason why none is read.
@@ -87,8 +102,10 @@ fn string_at(
     index: usize,
     is_last_none: bool,
 ) -> Result<usize, Reason>
-    ensures { result ≡ argument_or (map leaf tokens.now) index (slice_get arguments.now index)
-        (is_last_none && (index + 1) == length arguments.now) }
+    ensures value { result ≡ argument_or (map leaf tokens.now) index
+        (slice_get arguments.now index) (is_last_none && (index + 1) == length arguments.now) }
+    ensures literal { IfOk result (λ n. (a : ArgumentValue) × (slice_get arguments.now n ≡ Some a)
+        × IsTrue (is_text (map leaf tokens.now) a)) }
 {
     if index >= arguments.len() {
         return Err(Reason::Missing);
@@ -113,7 +130,7 @@ pub fn format_string(
 ) -> Result<usize, Reason>
     ensures value { result ≡ format_string source.now rule arguments.now is_from_2021 }
     ensures literal { IfOk result (λ n. (a : ArgumentValue) × (slice_get arguments.now n ≡ Some a)
-        × IsTrue (is_text source.now a)) }
+        × IsTrue (is_string_by rule source.now a)) }
 {
     let tokens = source.tokens();
     match rule {

@@ -57,7 +57,7 @@ in-mapped f (y ∷ ys) z h = by_first (in-first (f y) (map f ys) z h) (λ k. in-
         let c = again k in
         record { from = c.from; is_in = after-here y ys c.from c.is_in; is_it = c.is_it }
 
--- What is read of each element of two lists stays the same with one more of each.
+-- The reading of each element of two lists stays the same with one more of each.
 pub mapped-more : {A B C D : Type 0} (f : A → D) (g : C → D) (seen : B → C) (xs zs : List A)
     (ys : List B) (x : A) (y : B) → zs ≡ xs ++ x ∷ [] → map f xs ≡ map g (map seen ys)
     → f x ≡ g (seen y) → map f zs ≡ map g (map seen (ys ++ y ∷ []))

@@ -16,6 +16,7 @@ pub mod MovedAssembly
 pub mod MovedForms
 pub mod MovedReadings
 pub mod MovedStrings
+pub mod Operands
 pub mod Reporting
 pub mod Telling
 pub mod Undefined

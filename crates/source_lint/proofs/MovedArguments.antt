@@ -3,9 +3,10 @@ use Prim.Native.Char.{code}
 use Rattle.std.proofs.Common.{◌≡◌, ◌<◌, ◌≤◌, ◌+◌, ◌++◌, ◌⊎◌, ℕ, Bool, true, false, List, [], ◌∷◌}
 use Rattle.std.proofs.Common.{Option, Some, inl, inr, refl, ap, sym, subst, ◌∙◌, length}
 use Rattle.std.proofs.Common.{length-append, arith, map}
-use Rattle.std.specs.Prelude.{◌&&◌, ◌||◌, IsTrue, not, slice_get, if◌then◌else◌}
+use Rattle.std.specs.Prelude.{◌&&◌, ◌||◌, IsTrue, min, nat_lt, not, slice_get, if◌then◌else◌}
 use Rattle.std.specs.List.{AllByRecursion, list_any}
-use Rattle.std.proofs.lemmas.Bool.{cases_lt}
+use Rattle.std.proofs.lemmas.Bool.{cases_lt, le-ltb, lt-ltb}
+use Rattle.std.proofs.lemmas.Bool.Decides.{nat_tests}
 use Rattle.std.proofs.lemmas.List.{append_assoc}
 use Rattle.rust_trees.specs.Leaves.{Leaf}
 use Rattle.rust_trees.specs.Forests.{IsPair}
@@ -13,10 +14,11 @@ use Rattle.rust_trees.proofs.Growing.{pair-within}
 use Rattle.format_calls.specs.declared.split.Argument.{Argument}
 use Rattle.format_calls.specs.Arguments.{AreArguments, IsArgument, is_end, is_named}
 use Rattle.format_calls.specs.Arguments.{is_word_at}
-use Rattle.format_calls.specs.Counted.{AreTrees, is_uncounted, opens}
+use Rattle.format_calls.specs.Counted.{AreTrees, AreUpTo, is_stop, is_uncounted, opens}
 use Rattle.format_calls.specs.Marks.{is_mark, is_mark_of}
 use Rattle.format_calls.specs.Modes.{are_joint, is_followed}
 use Rattle.format_calls.proofs.Parting.{closing-no-mark, closing-punct, get-shift, punct-no-word}
+use Rattle.source_lint.specs.Readings.{arguments_before}
 use Rattle.source_lint.proofs.Embedding.{Embeds, end-at, get-at, mark-at, tree-at, tree-forward}
 use Rattle.source_lint.proofs.Embedding.{walks-at, walks-forward}
 
@@ -238,26 +240,161 @@ trees-forward xs from to (k ∷ ts) t =
     let b = trees-forward xs t.1 to ts t.3 in
     omega (arith, a, b)
 
-pub trees-at : (xs ys : List Leaf) (g o c from : ℕ) (ts : List ℕ) → Embeds xs ys g
-    → IsPair xs o c → o < from → AreTrees xs from ts c
-    → AreTrees ys (g + from) (map (λ t. g + t) ts) (g + c)
-trees-at xs ys g o c from [] e p h t = ap (λ v. g + v) t
-trees-at xs ys g o c from (k ∷ ts) e p h t =
+pub trees-at : (xs ys : List Leaf) (g o c from to : ℕ) (ts : List ℕ) → Embeds xs ys g
+    → IsPair xs o c → o < from → to ≤ c → AreTrees xs from ts to
+    → AreTrees ys (g + from) (map (λ t. g + t) ts) (g + to)
+trees-at xs ys g o c from to [] e p h w t = ap (λ v. g + v) t
+trees-at xs ys g o c from to (k ∷ ts) e p h w t =
     let a = tree-forward xs from t.1 t.2 in
-    let b = trees-forward xs t.1 c ts t.3 in (
+    let b = trees-forward xs t.1 to ts t.3 in (
       ap (λ v. g + v) t.0,
       g + t.1,
-      tree-at xs ys g o c from t.1 e p h (omega (arith, a, b)) t.2,
-      trees-at xs ys g o c t.1 ts e p (omega (arith, h, a)) t.3,
+      tree-at xs ys g o c from t.1 e p h (omega (arith, a, b, w)) t.2,
+      trees-at xs ys g o c t.1 to ts e p (omega (arith, h, a)) w t.3,
     )
 
-pub counted-at : (xs ys : List Leaf) (g o c from : ℕ) (ts : List ℕ) → Embeds xs ys g
-    → IsPair xs o c → AreTrees xs from ts c
-    → list_any (is_uncounted ys) (map (λ t. g + t) ts) ≡ list_any (is_uncounted xs) ts
-counted-at xs ys g o c from [] e p t = refl
-counted-at xs ys g o c from (k ∷ ts) e p t =
+-- The same is said of trees there.
+trees-any : (f k : ℕ → Bool) (xs : List Leaf) (g c from to : ℕ) (ts : List ℕ) → to ≤ c
+    → ((i : ℕ) → i < c → f (g + i) ≡ k i) → AreTrees xs from ts to
+    → list_any f (map (λ t. g + t) ts) ≡ list_any k ts
+trees-any f k xs g c from to [] w h t = refl
+trees-any f k xs g c from to (i ∷ ts) w h t =
     let a = tree-forward xs from t.1 t.2 in
-    let b = trees-forward xs t.1 c ts t.3 in
-    ap (λ v. v || list_any (is_uncounted ys) (map (λ t. g + t) ts))
-    (uncounted-at xs ys g o c k e p (omega (arith, a, b, t.0)))
-    ∙ ap (λ v. is_uncounted xs k || v) (counted-at xs ys g o c t.1 ts e p t.3)
+    let b = trees-forward xs t.1 to ts t.3 in
+    ap (λ v. v || list_any f (map (λ t. g + t) ts)) (h i (omega (arith, a, b, t.0, w)))
+    ∙ ap (λ v. k i || v) (trees-any f k xs g c t.1 to ts w h t.3)
+
+pub counted-at : (xs ys : List Leaf) (g o c from to : ℕ) (ts : List ℕ) → Embeds xs ys g
+    → IsPair xs o c → to ≤ c → AreTrees xs from ts to
+    → list_any (is_uncounted ys) (map (λ t. g + t) ts) ≡ list_any (is_uncounted xs) ts
+counted-at xs ys g o c from to ts e p w t =
+    trees-any (is_uncounted ys) (is_uncounted xs) xs g c from to ts w
+    (λ i h. uncounted-at xs ys g o c i e p h) t
+
+stop-at : (b : Bool) (xs ys : List Leaf) (g i : ℕ) → Embeds xs ys g → i < length xs
+    → is_stop b ys (g + i) ≡ is_stop b xs i
+stop-at b xs ys g i e h = ap (λ v. b && v) (mark-at (code ";") xs ys g i (g + i) e refl h)
+
+-- Arguments end at the same token.
+pub up-to-at : (b : Bool) (xs ys : List Leaf) (g o c from end : ℕ) (ts : List ℕ) → Embeds xs ys g
+    → IsPair xs o c → o < from → AreUpTo b xs from ts end c
+    → AreUpTo b ys (g + from) (map (λ t. g + t) ts) (g + end) (g + c)
+up-to-at b xs ys g o c from end ts e p h u = record {
+  are_trees = trees-at xs ys g o c from end ts e p h u.within u.are_trees;
+  go_on = trees-any (is_stop b ys) (is_stop b xs) xs g c from end ts u.within
+      (λ i l. stop-at b xs ys g i e (omega (arith, l, w))) u.are_trees ∙ u.go_on;
+  within = let l = u.within in omega (arith, l);
+  ends = by_end u.ends;
+}
+  where
+    w : c < length xs
+    w = (pair-within xs o c p).1
+
+    by_end : (end ≡ c) ⊎ IsTrue (is_stop b xs end)
+        → (g + end ≡ g + c) ⊎ IsTrue (is_stop b ys (g + end))
+    by_end (inl t) = inl (ap (λ v. g + v) t)
+    by_end (inr t) =
+        let l = u.within in inr (stop-at b xs ys g end e (omega (arith, l, w)) ∙ t)
+
+-- Both offsets are further on.
+pub less-same : (g s e : ℕ) → nat_lt (g + s) (g + e) ≡ nat_lt s e
+less-same g s e = by_order (cases_lt s e)
+  where
+    by_order : (s < e) ⊎ (e ≤ s) → nat_lt (g + s) (g + e) ≡ nat_lt s e
+    by_order (inl h) =
+        let l : g + s < g + e = omega (arith, h) in
+        let a : nat_lt (g + s) (g + e) ≡ true = grind (arith, nat_tests) in
+        let b : nat_lt s e ≡ true = grind (arith, nat_tests) in
+        a ∙ sym b
+    by_order (inr h) =
+        let l : g + e ≤ g + s = omega (arith, h) in
+        let a : nat_lt (g + s) (g + e) ≡ false = grind (arith, nat_tests) in
+        let b : nat_lt s e ≡ false = grind (arith, nat_tests) in
+        a ∙ sym b
+
+-- The arguments that start before a token, and where the last of them ends.
+kept : (g end : ℕ) (a : Argument) → shifted g (record {
+  start = a.start;
+  end = min a.end end;
+  is_named = a.is_named;
+}) ≡ record { start = g + a.start; end = min (g + a.end) (g + end); is_named = a.is_named }
+kept g end a =
+    let e : g + min a.end end ≡ min (g + a.end) (g + end) = omega arith in
+    ap (λ v. record { start = g + a.start; end = v; is_named = a.is_named }) e
+
+pub before-at : (g end : ℕ) (bs : List Argument)
+    → arguments_before (g + end) (map (shifted g) bs) ≡ map (shifted g) (arguments_before end bs)
+before-at g end [] = refl
+before-at g end (a ∷ bs) =
+    ap (λ t. if t then record {
+      start = g + a.start;
+      end = min (g + a.end) (g + end);
+      is_named = a.is_named;
+    } ∷ arguments_before (g + end) (map (shifted g) bs) else []) (less-same g a.start end)
+    ∙ by_place (nat_lt a.start end) (before-at g end bs)
+  where
+    by_place : (t : Bool) → arguments_before (g + end) (map (shifted g) bs)
+        ≡ map (shifted g) (arguments_before end bs) → (if t then record {
+          start = g + a.start;
+          end = min (g + a.end) (g + end);
+          is_named = a.is_named;
+        } ∷ arguments_before (g + end) (map (shifted g) bs) else [])
+        ≡ map (shifted g) (if t then record {
+          start = a.start;
+          end = min a.end end;
+          is_named = a.is_named;
+        } ∷ arguments_before end bs else [])
+    by_place true again =
+        ap (λ v. v ∷ arguments_before (g + end) (map (shifted g) bs)) (sym (kept g end a))
+        ∙ ap (λ vs. shifted g (record {
+          start = a.start;
+          end = min a.end end;
+          is_named = a.is_named;
+        }) ∷ vs) again
+    by_place false again = refl
+
+pub before-lie : (from to end : ℕ) (bs : List Argument) → AllByRecursion (λ a. LiesIn from to a) bs
+    → AllByRecursion (λ a. LiesIn from to a) (arguments_before end bs)
+before-lie from to end [] l = tt
+before-lie from to end (a ∷ bs) l =
+    by_place (cases_lt a.start end) (before-lie from to end bs l.1)
+  where
+    by_place : (a.start < end) ⊎ (end ≤ a.start)
+        → AllByRecursion (λ a. LiesIn from to a) (arguments_before end bs)
+        → AllByRecursion (λ a. LiesIn from to a) (arguments_before end (a ∷ bs))
+    by_place (inl h) again =
+        let r = l.0.rises in
+        let t = l.0.ends in
+        subst (λ t. AllByRecursion (λ a. LiesIn from to a) (if t then record {
+          start = a.start;
+          end = min a.end end;
+          is_named = a.is_named;
+        } ∷ arguments_before end bs else [])) (sym (lt-ltb a.start end h)) (
+          record {
+            starts = l.0.starts;
+            stops = l.0.stops;
+            rises = omega (arith, r, h);
+            ends = omega (arith, t);
+          },
+          again,
+        )
+    by_place (inr h) again =
+        subst (λ t. AllByRecursion (λ a. LiesIn from to a) (if t then record {
+          start = a.start;
+          end = min a.end end;
+          is_named = a.is_named;
+        } ∷ arguments_before end bs else [])) (sym (le-ltb a.start end h)) tt
+
+-- All arguments of a list start before its end.
+pub before-all : (from to : ℕ) (bs : List Argument) → AllByRecursion (λ a. LiesIn from to a) bs
+    → arguments_before to bs ≡ bs
+before-all from to [] l = refl
+before-all from to (a ∷ bs) l =
+    let t = l.0.ends in
+    let s = l.0.stops in
+    let e : min a.end to ≡ a.end = omega (arith, t) in
+    ap (λ t. if t then record { start = a.start; end = min a.end to; is_named = a.is_named }
+    ∷ arguments_before to bs else []) (lt-ltb a.start to s)
+    ∙ (ap (λ v. record { start = a.start; end = v; is_named = a.is_named }
+    ∷ arguments_before to bs) e
+    ∙ ap (λ vs. a ∷ vs) (before-all from to bs l.1))

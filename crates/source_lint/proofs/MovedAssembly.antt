@@ -1,10 +1,10 @@
 -- The templates and operands of a call among other tokens.
-use Rattle.std.proofs.Common.{◌≡◌, ◌<◌, ◌≤◌, ◌+◌, ◌-◌, ◌⊎◌, ◌&&◌, ℕ, zero, suc, Bool, true, false}
+use Rattle.std.proofs.Common.{◌≡◌, ◌<◌, ◌≤◌, ◌+◌, ◌⊎◌, ◌&&◌, ℕ, zero, suc, Bool, true, false}
 use Rattle.std.proofs.Common.{List, [], ◌∷◌, Option, Some, None, inl, inr, refl, ap, sym, subst}
 use Rattle.std.proofs.Common.{◌∙◌, length, arith, map, drop, take, cond}
 use Rattle.std.specs.Prelude.{nat_lt}
 use Rattle.std.proofs.lemmas.Bool.{cases_lt, cond-false, le-ltb}
-use Rattle.std.specs.Prelude.{◌||◌, not, codes, slice_get, if◌then◌else◌}
+use Rattle.std.specs.Prelude.{◌||◌, not, slice_get, if◌then◌else◌}
 use Rattle.std.specs.List.{AllByRecursion, cons_option, list_any}
 use Rattle.std.proofs.lemmas.List.{drop-map}
 use Rattle.call_faults.proofs.Collecting.{map-take}
@@ -19,7 +19,7 @@ use Rattle.format_calls.specs.declared.assembly.AsmPart.TheVariants.{Setting, Un
 use Rattle.format_calls.specs.declared.listing.Call.{Call}
 use Rattle.format_calls.specs.Arguments.{AreArguments}
 use Rattle.format_calls.specs.Counted.{AreTrees, is_uncounted}
-use Rattle.format_calls.specs.Assembly.{asm_part, has_raw, is_word_at, part_of}
+use Rattle.format_calls.specs.Assembly.{asm_part, has_raw, part_of}
 use Rattle.format_calls.specs.Assembly.{template_count, token_in, value_start}
 use Rattle.format_calls.specs.Parts.{moved}
 use Rattle.format_calls.specs.Strings.{is_text}
@@ -32,19 +32,10 @@ use Rattle.source_lint.specs.Assembly.{named, operands}
 use Rattle.source_lint.specs.declared.report.CallReading.{CallReading}
 use Rattle.source_lint.specs.declared.report.Finding.{Finding}
 use Rattle.source_lint.proofs.Embedding.{Embeds}
-use Rattle.source_lint.proofs.MovedArguments.{LiesIn, arguments-lie, counted-at, shifted, trees-at}
-use Rattle.source_lint.proofs.MovedStrings.{less-same, name-same, text-same}
-
--- The same word `raw` is among the tokens of an argument.
-raw-same : (xs ys : List Leaf) (g i n : ℕ) → Embeds xs ys g → i + n ≤ length xs
-    → has_raw ys (g + i) n ≡ has_raw xs i n
-raw-same xs ys g i zero e h = refl
-raw-same xs ys g i (suc n) e h =
-    let k : g + i + 1 ≡ g + (i + 1) = omega arith in
-    ap (λ o. is_word_at (codes "raw") o || has_raw ys (g + i + 1) n) (e.same i (omega (arith, h)))
-    ∙ (ap (λ m. is_word_at (codes "raw") (slice_get xs i) || has_raw ys m n) k
-    ∙ ap (λ b. is_word_at (codes "raw") (slice_get xs i) || b)
-    (raw-same xs ys g (i + 1) n e (omega (arith, h))))
+use Rattle.source_lint.proofs.MovedArguments.{LiesIn, arguments-lie, counted-at, less-same}
+use Rattle.source_lint.proofs.MovedArguments.{shifted, trees-at}
+use Rattle.source_lint.proofs.MovedForms.{tokens-same}
+use Rattle.source_lint.proofs.MovedStrings.{name-same, text-same}
 
 token-same : (xs ys : List Leaf) (g i n from to : ℕ) (a : Argument) → Embeds xs ys g
     → to < length xs → LiesIn from to a → n ≡ g + i
@@ -82,13 +73,9 @@ part-of b p q o m n s t u e f h k =
 part-same : (xs ys : List Leaf) (g from to : ℕ) (a : Argument) → Embeds xs ys g → to < length xs
     → LiesIn from to a → asm_part ys (shifted g a) ≡ asm_part xs a
 part-same xs ys g from to a e h l =
-    let s = l.rises in
-    let t = l.ends in
     let v = value-same g a in
-    let n : (g + a.end) - (g + a.start) ≡ a.end - a.start = omega arith in
     part-of a.is_named _ _ _ _ _ _ _ _
-    (ap (λ k. has_raw ys (g + a.start) k) n
-    ∙ raw-same xs ys g a.start (a.end - a.start) e (omega (arith, h, s, t)))
+    (ap has_raw (tokens-same xs ys g from to a e h l))
     (token-same xs ys g (value_start a) _ from to a e h l v)
     (token-same xs ys g (value_start a + 1) _ from to a e h l (omega (arith, v)))
     (token-same xs ys g (value_start a + 2) _ from to a e h l (omega (arith, v)))
@@ -216,15 +203,16 @@ asm-same xs ys g c bs r fs e p k h =
     record {
       trees = map (λ t. g + t) h.trees;
       are_trees = subst (λ v. AreTrees ys v (map (λ t. g + t) h.trees) (g + c.close)) o
-          (trees-at xs ys g (c.name + 2) c.close (c.name + 3) h.trees e p (omega arith)
-          h.are_trees);
+          (trees-at xs ys g (c.name + 2) c.close (c.name + 3) c.close h.trees e p (omega arith)
+          (omega arith) h.are_trees);
       reads = reads-as ys _ _ _ _ _ _ _ _ r fs first
           (sym (any-same is_raw_part xs ys g (c.name + 3) c.close (drop n bs) e w rest)
           ∙ ap (λ v. are_raw ys v) others)
           (sym (ap (λ b. not b && not (list_any (is_uncounted ys) (map (λ t. g + t) h.trees)))
           (any-same is_unknown_part xs ys g (c.name + 3) c.close (drop n bs) e w rest)
           ∙ ap (λ b. not (is_unknown xs (drop n bs)) && not b)
-          (counted-at xs ys g (c.name + 2) c.close (c.name + 3) h.trees e p h.are_trees))
+          (counted-at xs ys g (c.name + 2) c.close (c.name + 3) c.close h.trees e p (omega arith)
+          h.are_trees))
           ∙ ap (λ v. are_operands ys v (map (λ t. g + t) h.trees)) others)
           (sym (operands-same xs ys g (c.name + 3) c.close (drop n bs) e w rest)
           ∙ ap (λ v. operands ys v) others)

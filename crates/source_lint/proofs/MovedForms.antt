@@ -1,4 +1,4 @@
--- What is wrong with the arguments of a call among other tokens.
+-- The fault in the arguments of a call among other tokens.
 use Rattle.std.proofs.Common.{◌≡◌, ◌<◌, ◌≤◌, ◌+◌, ◌-◌, ℕ, zero, suc, Bool, List, [], ◌∷◌, refl, ap}
 use Rattle.std.proofs.Common.{sym, ◌∙◌, length, arith, map, drop, take, Some}
 use Rattle.std.specs.Prelude.{◌&&◌, ◌==◌, codes, not, slice_get}
@@ -8,7 +8,8 @@ use Rattle.std.proofs.lemmas.Bool.Decides.{Decides-eqb, Decides-like, same_from_
 use Rattle.rust_trees.specs.Leaves.{Leaf}
 use Rattle.format_calls.specs.declared.split.Argument.{Argument}
 use Rattle.format_calls.specs.declared.table.Rule.{Rule}
-use Rattle.source_lint.specs.Forms.{form_here, form_if, lacks_string, part}
+use Rattle.format_calls.specs.Arguments.{tokens_of}
+use Rattle.source_lint.specs.Forms.{form_here, form_if, lacks_string}
 use Rattle.source_lint.proofs.Embedding.{Embeds}
 use Rattle.source_lint.proofs.MovedArguments.{LiesIn, shifted}
 
@@ -20,13 +21,13 @@ same-length g m n = same_from_decides {P = m ≡ n} _ _
     (Decides-eqb m n)
 
 -- the tokens from one on
-from-here : (xs : List Leaf) (i : ℕ) (x : Leaf) → slice_get xs i ≡ Some x
+pub from-here : (xs : List Leaf) (i : ℕ) (x : Leaf) → slice_get xs i ≡ Some x
     → drop i xs ≡ x ∷ drop (suc i) xs
 from-here [] i x e = absurd cc
 from-here (y ∷ ys) zero x e = let h : y ≡ x = cc in ap (λ v. v ∷ ys) h
 from-here (y ∷ ys) (suc i) x e = from-here ys i x e
 
-token-at : (xs : List Leaf) (i : ℕ) → i < length xs → (x : Leaf) × (slice_get xs i ≡ Some x)
+pub token-at : (xs : List Leaf) (i : ℕ) → i < length xs → (x : Leaf) × (slice_get xs i ≡ Some x)
 token-at [] i h = absurd (omega (arith, h))
 token-at (y ∷ ys) zero h = (y, refl)
 token-at (y ∷ ys) (suc i) h = token-at ys i (omega (arith, h))
@@ -45,9 +46,9 @@ run-same xs ys g (suc n) i e h =
     ∙ (ap (λ v. t.0 ∷ v) (run-same xs ys g n (suc i) e (omega (arith, h)))
     ∙ sym (ap (take (suc n)) a)))
 
-part-same : (xs ys : List Leaf) (g from to : ℕ) (a : Argument) → Embeds xs ys g → to < length xs
-    → LiesIn from to a → part ys (shifted g a) ≡ part xs a
-part-same xs ys g from to a e w l =
+pub tokens-same : (xs ys : List Leaf) (g from to : ℕ) (a : Argument) → Embeds xs ys g
+    → to < length xs → LiesIn from to a → tokens_of ys (shifted g a) ≡ tokens_of xs a
+tokens-same xs ys g from to a e w l =
     let r = l.rises in
     let s = l.ends in
     let d : (g + a.end) - (g + a.start) ≡ a.end - a.start = omega arith in
@@ -56,11 +57,11 @@ part-same xs ys g from to a e w l =
 
 pub parts-same : (xs ys : List Leaf) (g from to : ℕ) (bs : List Argument) → Embeds xs ys g
     → to < length xs → AllByRecursion (λ a. LiesIn from to a) bs
-    → map (part ys) (map (shifted g) bs) ≡ map (part xs) bs
+    → map (tokens_of ys) (map (shifted g) bs) ≡ map (tokens_of xs) bs
 parts-same xs ys g from to [] e w l = refl
 parts-same xs ys g from to (a ∷ bs) e w l =
-    ap (λ p. p ∷ map (part ys) (map (shifted g) bs)) (part-same xs ys g from to a e w l.0)
-    ∙ ap (λ ps. part xs a ∷ ps) (parts-same xs ys g from to bs e w l.1)
+    ap (λ p. p ∷ map (tokens_of ys) (map (shifted g) bs)) (tokens-same xs ys g from to a e w l.0)
+    ∙ ap (λ ps. tokens_of xs a ∷ ps) (parts-same xs ys g from to bs e w l.1)
 
 lacks-same : (w : List ℕ) (g close : ℕ) (bs : List Argument)
     → lacks_string w (g + close) (map (shifted g) bs) ≡ lacks_string w close bs
@@ -73,9 +74,9 @@ lacks-same w g close (a ∷ b ∷ bs) = refl
 pub form-same : (is_new : Bool) (w : List ℕ) (r : Rule) (xs ys : List Leaf) (g from to : ℕ)
     (bs : List Argument) → Embeds xs ys g → to < length xs
     → AllByRecursion (λ a. LiesIn from to a) bs
-    → form_here is_new w r (g + to) (map (shifted g) bs) (map (part ys) (map (shifted g) bs))
-    ≡ form_here is_new w r to bs (map (part xs) bs)
+    → form_here is_new w r (g + to) (map (shifted g) bs) (map (tokens_of ys) (map (shifted g) bs))
+    ≡ form_here is_new w r to bs (map (tokens_of xs) bs)
 form-same is_new w r xs ys g from to bs e h l =
     ap (λ ps. form_here is_new w r (g + to) (map (shifted g) bs) ps)
     (parts-same xs ys g from to bs e h l)
-    ∙ ap (λ b. form_if is_new w r b (map (part xs) bs)) (lacks-same w g to bs)
+    ∙ ap (λ b. form_if is_new w r b (map (tokens_of xs) bs)) (lacks-same w g to bs)

@@ -8,7 +8,8 @@ use Rattle.std.proofs.lemmas.Option.{slice_get-map}
 use Rattle.rust_trees.specs.Leaves.{Leaf}
 use Rattle.rust_trees.specs.Forests.{IsPair}
 use Rattle.rust_trees.proofs.Growing.{pair-within}
-use Rattle.format_calls.specs.Arguments.{AreArguments}
+use Rattle.format_calls.specs.Arguments.{AreArguments, tokens_of}
+use Rattle.format_calls.specs.Counted.{AreUpTo}
 use Rattle.format_calls.specs.Parts.{moved}
 use Rattle.format_calls.specs.Strings.{format_string}
 use Rattle.format_calls.specs.declared.listing.Call.{Call}
@@ -20,15 +21,16 @@ use Rattle.source_lint.specs.declared.report.CallReading.{CallReading}
 use Rattle.source_lint.specs.declared.report.Finding.{Finding}
 use Rattle.source_lint.specs.Literals.{appends_newline}
 use Rattle.source_lint.specs.FormWords.{TellsForms}
-use Rattle.source_lint.specs.Forms.{form_here, joined, part}
+use Rattle.source_lint.specs.Forms.{form_here, joined}
 use Rattle.source_lint.specs.Readings.{Reads, ReadsAt, ReadsBy, ReadsOne, ReadsUnless, captures}
+use Rattle.source_lint.specs.Readings.{ends_early}
 use Rattle.source_lint.specs.Readings.{has_expressions, index_if, index_or, is_empty, name_at}
 use Rattle.source_lint.specs.Readings.{name_of_leaf}
 use Rattle.source_lint.proofs.Calling.{reads-by}
 use Rattle.source_lint.proofs.Embedding.{Embeds}
 use Rattle.source_lint.proofs.MovedAssembly.{asm-same}
 use Rattle.source_lint.proofs.MovedArguments.{LiesIn, arguments-at, arguments-lie, counted-at}
-use Rattle.source_lint.proofs.MovedArguments.{shifted, trees-at}
+use Rattle.source_lint.proofs.MovedArguments.{shifted, up-to-at}
 use Rattle.source_lint.proofs.MovedForms.{form-same, parts-same, same-length}
 use Rattle.source_lint.proofs.MovedStrings.{lies-get, others-same, string-same}
 
@@ -48,7 +50,6 @@ at-same is_new xs ys g c bs n r fs e p k h =
     lies-get (c.name + 3) c.close n bs h.string all h.is_string in
     let s = l.starts in
     let t = l.stops in
-    let u = l.rises in
     let name = name-same xs ys g c.name e (omega (arith, w, q)) in
     record {
       string = shifted g h.string;
@@ -56,13 +57,17 @@ at-same is_new xs ys g c bs n r fs e p k h =
       literal = h.literal;
       is_literal = e.same h.string.start (omega (arith, t, w)) ∙ h.is_literal;
       trees = map (λ v. g + v) h.trees;
-      are_trees = trees-at xs ys g (c.name + 2) c.close h.string.end h.trees e p
-          (omega (arith, s, u)) h.are_trees;
+      end = g + h.end;
+      are_up_to = let n : g + (h.string.start + 1) ≡ g + h.string.start + 1 = omega arith in
+          subst (λ v. AreUpTo (ends_early c.rule) ys v (map (λ v. g + v) h.trees) (g + h.end)
+          (g + c.close)) n
+          (up-to-at (ends_early c.rule) xs ys g (c.name + 2) c.close (h.string.start + 1) h.end
+          h.trees e p (omega (arith, s)) h.are_up_to);
       reads = reads-by _ _ _ _ _ _ _ _ _ r fs (ap appends_newline (sym name))
           (ap (captures is_new c.rule) (sym name))
-          (ap not (sym (counted-at xs ys g (c.name + 2) c.close h.string.end h.trees e p
-          h.are_trees)))
-          (sym (others-same xs ys g (c.name + 3) c.close (n + 1) bs e w all)) h.reads;
+          (ap not (sym (counted-at xs ys g (c.name + 2) c.close (h.string.start + 1) h.end h.trees e
+          p h.are_up_to.within h.are_up_to.are_trees)))
+          (sym (others-same xs ys g (c.name + 3) c.close h.end (n + 1) bs e w all)) h.reads;
     }
 
 one-same : (rule : Rule) (is_new : Bool) (xs ys : List Leaf) (g : ℕ) (c : Call)
@@ -89,7 +94,7 @@ by-same is_new xs ys g c bs (Err q) r fs e p k h =
     let s = p.ends in (
       h.0,
       subst (λ o. TellsForms o fs)
-          (ap (λ v. form_here is_new v c.rule c.close bs (map (part xs) bs))
+          (ap (λ v. form_here is_new v c.rule c.close bs (map (tokens_of xs) bs))
           (sym (name-same xs ys g c.name e (omega (arith, w, s))))
           ∙ sym (form-same is_new (name_at ys (g + c.name)) c.rule xs ys g (c.name + 3) c.close bs
           e w (arguments-lie xs (c.name + 3) c.close bs k)))
@@ -109,13 +114,13 @@ index-same : (xs ys : List Leaf) (g from to : ℕ) (r : Rule) (bs : List Argumen
     → index_or is_new ys r (map (shifted g) bs) ≡ index_or is_new xs r bs
 index-same xs ys g from to r bs is_new e w l =
     ap (λ b. index_if b (has_expressions r && list_any (λ p. is_some (joined p))
-    (map (part ys) (map (shifted g) bs)))
+    (map (tokens_of ys) (map (shifted g) bs)))
     (format_string ys r (map (shifted g) bs) is_new)) (empty-same g bs)
     ∙ (ap (λ ps. index_if (list_any is_empty bs)
     (has_expressions r && list_any (λ p. is_some (joined p)) ps)
     (format_string ys r (map (shifted g) bs) is_new)) (parts-same xs ys g from to bs e w l)
     ∙ ap (λ o. index_if (list_any is_empty bs)
-    (has_expressions r && list_any (λ p. is_some (joined p)) (map (part xs) bs)) o)
+    (has_expressions r && list_any (λ p. is_some (joined p)) (map (tokens_of xs) bs)) o)
     (string-same xs ys g from to r bs is_new e w l))
 
 unless-same : (b is_new : Bool) (xs ys : List Leaf) (g : ℕ) (c : Call) (r : CallReading)

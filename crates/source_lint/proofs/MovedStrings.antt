@@ -1,14 +1,12 @@
 -- The format string of a call among other tokens, and its arguments.
 use Prim.Native.Char.{code}
-use Rattle.std.proofs.Common.{◌≡◌, ◌<◌, ◌≤◌, ◌+◌, ◌-◌, ◌⊎◌, ℕ, zero, suc, Bool, true, false, cond}
+use Rattle.std.proofs.Common.{◌≡◌, ◌<◌, ◌+◌, ◌-◌, ℕ, zero, suc, Bool, false, cond}
 use Rattle.std.proofs.Common.{List, [], ◌∷◌}
-use Rattle.std.proofs.Common.{Option, Some, None, inl, inr, refl, ap, sym, subst, ◌∙◌, length}
+use Rattle.std.proofs.Common.{Option, Some, None, refl, ap, sym, subst, ◌∙◌, length}
 use Rattle.std.proofs.Common.{arith, map, drop}
 use Rattle.std.specs.Prelude.{◌&&◌, ◌||◌, ◌==◌, Result, Ok, Err, chars, not, nat_lt}
 use Rattle.std.specs.Prelude.{slice_get, option_and_then, option_map, if◌then◌else◌}
 use Rattle.std.specs.List.{AllByRecursion, prefix_len}
-use Rattle.std.proofs.lemmas.Bool.{cases_lt}
-use Rattle.std.proofs.lemmas.Bool.Decides.{nat_tests}
 use Rattle.std.proofs.lemmas.List.{drop-map, length-map}
 use Rattle.std.proofs.lemmas.Option.{slice_get-map}
 use Rattle.rust_trees.specs.Leaves.{Leaf}
@@ -20,27 +18,13 @@ use Rattle.format_calls.specs.declared.table.Rule.{Rule}
 use Rattle.format_calls.specs.declared.table.Rule.TheVariants.{At, ByEdition, AfterFields}
 use Rattle.format_calls.specs.declared.table.Rule.TheVariants.{Templates}
 use Rattle.format_calls.specs.Marks.{is_mark, is_word}
-use Rattle.format_calls.specs.Strings.{argument_or, first_text, format_string, is_string, is_text}
-use Rattle.format_calls.specs.Strings.{is_text_at, is_text_leaf, reason_at, reason_of, text_or}
+use Rattle.format_calls.specs.Strings.{argument_or, begins_text, begins_text_at, first_text}
+use Rattle.format_calls.specs.Strings.{format_string, is_string, is_text, is_text_at, is_text_leaf}
+use Rattle.format_calls.specs.Strings.{reason_at, reason_of, text_or}
 use Rattle.source_lint.specs.Givens.{given, name_of, variable, variable_of, without_raw}
 use Rattle.source_lint.proofs.Embedding.{Embeds, mark-at}
-use Rattle.source_lint.proofs.MovedArguments.{LiesIn, shifted}
-
--- Both offsets are further on.
-pub less-same : (g s e : ℕ) → nat_lt (g + s) (g + e) ≡ nat_lt s e
-less-same g s e = by_order (cases_lt s e)
-  where
-    by_order : (s < e) ⊎ (e ≤ s) → nat_lt (g + s) (g + e) ≡ nat_lt s e
-    by_order (inl h) =
-        let l : g + s < g + e = omega (arith, h) in
-        let a : nat_lt (g + s) (g + e) ≡ true = grind (arith, nat_tests) in
-        let b : nat_lt s e ≡ true = grind (arith, nat_tests) in
-        a ∙ sym b
-    by_order (inr h) =
-        let l : g + e ≤ g + s = omega (arith, h) in
-        let a : nat_lt (g + s) (g + e) ≡ false = grind (arith, nat_tests) in
-        let b : nat_lt s e ≡ false = grind (arith, nat_tests) in
-        a ∙ sym b
+use Rattle.source_lint.specs.Readings.{arguments_before}
+use Rattle.source_lint.proofs.MovedArguments.{LiesIn, before-at, before-lie, less-same, shifted}
 
 size-same : (g s e : ℕ) → ((g + e) - (g + s)) == 1 ≡ ((e - s) == 1)
 size-same g s e = let d : (g + e) - (g + s) ≡ e - s = omega arith in ap (λ n. n == 1) d
@@ -59,6 +43,23 @@ text-same xs ys g from to a e h l =
     let s = l.stops in
     ap (λ o. is_text_at o (shifted g a)) (e.same a.start (omega (arith, h, s)))
     ∙ text-by g (slice_get xs a.start) a
+
+begins-same : (xs ys : List Leaf) (g from to : ℕ) (a : Argument) → Embeds xs ys g
+    → to < length xs → LiesIn from to a → begins_text ys (shifted g a) ≡ begins_text xs a
+begins-same xs ys g from to a e h l =
+    let s = l.stops in
+    ap (λ o. begins_text_at ys o (shifted g a)) (e.same a.start (omega (arith, h, s)))
+    ∙ by_token (slice_get xs a.start)
+  where
+    by_token : (o : Option Leaf) → begins_text_at ys o (shifted g a) ≡ begins_text_at xs o a
+    by_token None = refl
+    by_token (Some x) =
+        let s = l.stops in
+        let n : g + a.start + 1 ≡ g + (a.start + 1) = omega arith in
+        ap (λ b. b || (is_text_leaf x && is_mark (code ";") ys (g + a.start + 1)))
+        (text-same xs ys g from to a e h l)
+        ∙ ap (λ b. is_text xs a || (is_text_leaf x && b))
+        (mark-at (code ";") xs ys g (a.start + 1) (g + a.start + 1) e n (omega (arith, h, s)))
 
 -- Why an argument is no literal, by what stands at its start and after that.
 abbrev reason_by : Option Leaf → Bool → Bool → Bool → Reason
@@ -121,13 +122,13 @@ chosen-same xs ys g from to n bs b e h l =
 
 before-same : (xs ys : List Leaf) (g from to : ℕ) (bs : List Argument) → Embeds xs ys g
     → to < length xs → AllByRecursion (λ a. LiesIn from to a) bs
-    → prefix_len (λ a. not (is_text ys a)) (map (shifted g) bs)
-    ≡ prefix_len (λ a. not (is_text xs a)) bs
+    → prefix_len (λ a. not (begins_text ys a)) (map (shifted g) bs)
+    ≡ prefix_len (λ a. not (begins_text xs a)) bs
 before-same xs ys g from to [] e h l = refl
 before-same xs ys g from to (a ∷ bs) e h l =
-    ap (λ t. cond (not t) (1 + prefix_len (λ a. not (is_text ys a)) (map (shifted g) bs)) 0)
-    (text-same xs ys g from to a e h l.0)
-    ∙ ap (λ n. cond (not (is_text xs a)) (1 + n) 0) (before-same xs ys g from to bs e h l.1)
+    ap (λ t. cond (not t) (1 + prefix_len (λ a. not (begins_text ys a)) (map (shifted g) bs)) 0)
+    (begins-same xs ys g from to a e h l.0)
+    ∙ ap (λ n. cond (not (begins_text xs a)) (1 + n) 0) (before-same xs ys g from to bs e h l.1)
 
 found-same : (xs ys : List Leaf) (g from to : ℕ) (bs : List Argument) → Embeds xs ys g
     → to < length xs → AllByRecursion (λ a. LiesIn from to a) bs
@@ -135,8 +136,8 @@ found-same : (xs ys : List Leaf) (g from to : ℕ) (bs : List Argument) → Embe
 found-same xs ys g from to bs e h l =
     let n = before-same xs ys g from to bs e h l in
     ap (λ m. cond (nat_lt m (length (map (shifted g) bs))) (Some m) None) n
-    ∙ ap (λ k. cond (nat_lt (prefix_len (λ a. not (is_text xs a)) bs) k)
-    (Some (prefix_len (λ a. not (is_text xs a)) bs)) None) (length-map bs (shifted g))
+    ∙ ap (λ k. cond (nat_lt (prefix_len (λ a. not (begins_text xs a)) bs) k)
+    (Some (prefix_len (λ a. not (begins_text xs a)) bs)) None) (length-map bs (shifted g))
 
 -- The format string is the argument of the same index.
 pub string-same : (xs ys : List Leaf) (g from to : ℕ) (r : Rule) (bs : List Argument)
@@ -188,9 +189,18 @@ givens-same xs ys g from to (a ∷ bs) e h l =
     ap (λ v. v ∷ map (given ys) (map (shifted g) bs)) (given-same xs ys g from to a e h l.0)
     ∙ ap (λ v. given xs a ∷ v) (givens-same xs ys g from to bs e h l.1)
 
-pub others-same : (xs ys : List Leaf) (g from to n : ℕ) (bs : List Argument) → Embeds xs ys g
+pub lies-drop : (from to n : ℕ) (bs : List Argument) → AllByRecursion (λ a. LiesIn from to a) bs
+    → AllByRecursion (λ a. LiesIn from to a) (drop n bs)
+lies-drop from to zero bs l = l
+lies-drop from to (suc n) [] l = tt
+lies-drop from to (suc n) (a ∷ bs) l = lies-drop from to n bs l.1
+
+pub others-same : (xs ys : List Leaf) (g from to end n : ℕ) (bs : List Argument) → Embeds xs ys g
     → to < length xs → AllByRecursion (λ a. LiesIn from to a) bs
-    → map (given ys) (drop n (map (shifted g) bs)) ≡ map (given xs) (drop n bs)
-others-same xs ys g from to n bs e h l =
-    sym (drop-map (given ys) n (map (shifted g) bs))
-    ∙ (ap (λ v. drop n v) (givens-same xs ys g from to bs e h l) ∙ drop-map (given xs) n bs)
+    → map (given ys) (arguments_before (g + end) (drop n (map (shifted g) bs)))
+    ≡ map (given xs) (arguments_before end (drop n bs))
+others-same xs ys g from to end n bs e h l =
+    ap (λ v. map (given ys) (arguments_before (g + end) v)) (drop-map (shifted g) n bs)
+    ∙ (ap (map (given ys)) (before-at g end (drop n bs))
+    ∙ givens-same xs ys g from to (arguments_before end (drop n bs)) e h
+    (before-lie from to end (drop n bs) (lies-drop from to n bs l)))

@@ -40,10 +40,10 @@ TellAllAsm ss (f ∷ fs) (x ∷ xs) = TellsAsm ss f x × TellAllAsm ss fs xs
 
 -- The fault is one of a template.
 abbrev pub is_template_fault : AsmFault → Bool
-is_template_fault (PositionalAfter i) = false
+is_template_fault (PositionalAfter i js) = false
 is_template_fault (RepeatedName i f) = false
 is_template_fault (RegisterName i) = false
-is_template_fault (WrongIndex s n) = false
+is_template_fault (WrongIndex s i n) = false
 is_template_fault (MissingName s w) = false
 is_template_fault (LongModifier s) = false
 is_template_fault (TemplateFault k f) = true

@@ -1,4 +1,4 @@
--- What rustc says of what is wrong with the arguments of a call, as bytes.
+-- The words of rustc for a fault in the arguments of a call, as bytes.
 use Rattle.std.specs.Prelude.{◌≡◌, ◌++◌, ℕ, zero, suc, Bool, true, false, List, [], ◌∷◌}
 use Rattle.std.specs.Prelude.{Option, Some, None, codes, option_map, string_bytes, if◌then◌else◌}
 use Rattle.call_faults.specs.Spots.{Help, edit}

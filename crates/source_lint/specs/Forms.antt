@@ -1,9 +1,9 @@
--- What is wrong with the arguments of a call whose format string is not read. The macros are those
+-- The fault in the arguments of a call whose format string is not read. The macros are those
 -- of the standard library, whose arguments rustc parses as expressions with commas between them.
 use Prim.Native.Char.{code}
 use Rattle.std.specs.Prelude.{ℕ, ◌+◌, ◌-◌, ◌==◌, ◌&&◌, ◌||◌, not, Bool, true, false}
 use Rattle.std.specs.Prelude.{List, [], ◌∷◌, Option, Some, None, is_some, option_map, nat_lt}
-use Rattle.std.specs.Prelude.{codes, drop, length, slice_get, take, if◌then◌else◌}
+use Rattle.std.specs.Prelude.{codes, length, slice_get, if◌then◌else◌}
 use Rattle.std.specs.List.{list_any}
 use Rattle.std.specs.Str.{bytes_eq}
 use Rattle.rust_tokens.specs.declared.kinds.Kind.{Kind}
@@ -14,7 +14,7 @@ use Rattle.rust_tokens.specs.declared.kinds.Kind.TheVariants.{RawByteStr, RawCSt
 use Rattle.rust_trees.specs.Leaves.{Leaf, leaf, side}
 use Rattle.rust_trees.specs.declared.sides.Side.{Side}
 use Rattle.rust_trees.specs.declared.sides.Side.TheVariants.{Opens, Closes, Neither}
-use Rattle.format_calls.specs.Marks.{is_mark_of}
+use Rattle.format_calls.specs.Marks.{is_mark_of, is_variable}
 use Rattle.format_calls.specs.Rows.{rule_of}
 use Rattle.format_calls.specs.Standard.{standard}
 use Rattle.format_calls.specs.Strings.{is_string, is_text_leaf}
@@ -28,7 +28,7 @@ use Rattle.source_lint.specs.declared.forms.Form.TheVariants.{NoLiteral as NoLit
 use Rattle.source_lint.specs.declared.forms.Form.TheVariants.{NoComma as NoCommaIn}
 use Rattle.source_lint.specs.declared.forms.Form.TheVariants.{NoExpression as NoExpressionIn}
 
--- What is wrong with the arguments of a call.
+-- A fault in the arguments of a call.
 pub data Form : Type 0 where
   -- There is no format string.
   NoString : Form
@@ -45,10 +45,6 @@ seen_form NoStringIn = NoString
 seen_form (NoLiteralIn n b) = NoLiteral n b
 seen_form (NoCommaIn x) = NoComma (leaf x).text
 seen_form (NoExpressionIn n) = NoExpression n
-
--- The tokens of an argument.
-abbrev pub part : List Leaf → Argument → List Leaf
-part xs a = take (a.end - a.start) (drop a.start xs)
 
 -- A keyword around which expressions may stand.
 abbrev pub is_control : List ℕ → Bool
@@ -113,10 +109,9 @@ next_operand b d [] = None
 next_operand b d (x ∷ xs) = if b && is_operand x then Some x else
     next_operand ((d == 0) && is_operand x) (depth_after d x) xs
 
--- A variable of a macro stands among the tokens: after `$`, or after `#` in `quote!`.
+-- A variable of a macro stands among the tokens.
 abbrev pub has_variable : List Leaf → Bool
-has_variable xs =
-    list_any (λ x. is_mark_of (code "$") (Some x) || is_mark_of (code "#") (Some x)) xs
+has_variable xs = list_any is_variable xs
 
 -- The first operand of an argument that stands right after another one.
 abbrev pub joined : List Leaf → Option Leaf
@@ -135,7 +130,7 @@ abbrev pub first_bad : ℕ → List (List Leaf) → Option ℕ
 first_bad k [] = None
 first_bad k (p ∷ ps) = if is_bad p then Some k else first_bad (k + 1) ps
 
--- What is wrong with such an argument, which should be the format string or not.
+-- The fault of such an argument, which should be the format string or not.
 abbrev pub bad_form : ℕ → Bool → List Leaf → Option Form
 bad_form k b xs = if is_nil xs then Some (NoExpression k) else
     (if b then option_map (λ x. NoComma x.text) (joined xs) else None)
@@ -161,7 +156,7 @@ semicolon_form x [] = None
 semicolon_form x (y ∷ ys) = if is_text_leaf x && is_mark_of (code ";") (Some y)
     then Some (NoComma y.text) else None
 
--- What is wrong with an argument that should be the format string, where n others stand after it.
+-- The fault of an argument that should be the format string, where n others stand after it.
 -- Only paths and literals are looked at.
 abbrev pub literal_form : ℕ → List Leaf → Option Form
 literal_form n [] = None
@@ -181,7 +176,7 @@ abbrev pub form_by : Bool → ℕ → List (List Leaf) → Option ℕ → Option
 form_by b n ps None = string_form b (length ps - (n + 1)) (slice_get ps n)
 form_by b n ps (Some k) = form_at n k (slice_get ps k)
 
--- What is wrong with arguments of which the one with the index n should be the format string. Where
+-- The fault in arguments of which the one with the index n should be the format string. Where
 -- it is a fault that there is none, b is true.
 abbrev pub form_of : Bool → ℕ → List (List Leaf) → Option Form
 form_of b n ps =
@@ -215,7 +210,7 @@ abbrev pub form_if : Bool → List ℕ → Rule → Bool → List (List Leaf) �
 form_if is_new w r b ps =
     if is_some (rule_of standard w) then form_from b ps (index_of is_new r) else None
 
--- What is wrong with the arguments of a call of a macro of this name, with this rule. Nothing is
+-- The fault in the arguments of a call of a macro of this name, with this rule. Nothing is
 -- known of macros that are not those of the standard library.
 abbrev pub form_here : Bool → List ℕ → Rule → ℕ → List Argument → List (List Leaf) → Option Form
 form_here is_new w r close args ps = form_if is_new w r (lacks_string w close args) ps

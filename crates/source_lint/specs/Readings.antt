@@ -1,7 +1,7 @@
 -- The reading of a call, and the findings in it.
 use Rattle.std.specs.Prelude.{◌≡◌, ◌+◌, ◌++◌, ◌⊎◌, ◌||◌, not, ℕ, Bool, true, false, List, [], ◌∷◌}
 use Rattle.std.specs.Prelude.{Option, Some, None, Result, Ok, Err, chars, codes, drop, map}
-use Rattle.std.specs.Prelude.{slice_get, ◌==◌, ◌&&◌, if◌then◌else◌, is_some}
+use Rattle.std.specs.Prelude.{slice_get, ◌==◌, ◌&&◌, if◌then◌else◌, is_some, min, nat_lt}
 use Rattle.std.specs.List.{list_any}
 use Rattle.std.specs.Str.{bytes_eq}
 use Rattle.rustc_parse_format.specs.Characters.{Text}
@@ -11,8 +11,8 @@ use Rattle.rustc_parse_format.specs.State.{State, after_all, calls, first_state}
 use Rattle.rustc_parse_format.specs.Types.{Format, Piece}
 use Rattle.rustc_parse_format.specs.World.{Place, pieces_in}
 use Rattle.rust_trees.specs.Leaves.{Leaf}
-use Rattle.format_calls.specs.Arguments.{AreArguments}
-use Rattle.format_calls.specs.Counted.{AreTrees, is_uncounted}
+use Rattle.format_calls.specs.Arguments.{AreArguments, tokens_of}
+use Rattle.format_calls.specs.Counted.{AreUpTo, is_uncounted}
 use Rattle.format_calls.specs.Marks.{word}
 use Rattle.format_calls.specs.Strings.{format_string}
 use Rattle.format_calls.specs.declared.listing.Call.{Call}
@@ -34,7 +34,7 @@ use Rattle.source_lint.specs.declared.report.Finding.{Finding}
 use Rattle.source_lint.specs.Assembly.{ReadsTemplates}
 use Rattle.source_lint.specs.Findings.{AreFindings, reading_of}
 use Rattle.source_lint.specs.FormWords.{TellsForms}
-use Rattle.source_lint.specs.Forms.{form_here, joined, part}
+use Rattle.source_lint.specs.Forms.{form_here, joined}
 use Rattle.source_lint.specs.Givens.{given}
 use Rattle.source_lint.specs.Literals.{appends_newline, without_crs}
 
@@ -56,7 +56,7 @@ call_of captures s gs = record {
   pieces = pieces s;
   counts = counts_before 0 (pieces s);
   places = (after_all s (calls s)).arg_places;
-  taken = (after_all s (calls s)).next;
+  total = (after_all s (calls s)).next;
   faults = call_faults captures gs (text_fault s) (pieces s);
 }
 
@@ -95,8 +95,22 @@ captures is_new (ByEdition n) w = is_new || not (bytes_eq w (codes "unreachable"
 captures is_new AfterFields w = true
 captures is_new Templates w = true
 
--- The same where the format string is the argument n of these, and the others after it are
--- formatted.
+-- `;` ends the arguments of a macro with this rule: key-values follow it in those of slog.
+abbrev pub ends_early : Rule → Bool
+ends_early (At n) = false
+ends_early (ByEdition n) = false
+ends_early AfterFields = true
+ends_early Templates = false
+
+-- The arguments that start before the token `end`, of which the last ends there at the latest.
+abbrev pub arguments_before : ℕ → List Argument → List Argument
+arguments_before end [] = []
+arguments_before end (a ∷ bs) = if nat_lt a.start end
+    then record { start = a.start; end = min a.end end; is_named = a.is_named }
+    ∷ arguments_before end bs else []
+
+-- The same where the format string begins the argument n of these, and the others after it are
+-- formatted, up to where they end.
 pub record ReadsAt (is_new : Bool) (xs : List Leaf) (c : Call) (args : List Argument) (n : ℕ)
     (r : CallReading) (fs : List Finding) : Type 0 where
   pub string : Argument
@@ -104,10 +118,11 @@ pub record ReadsAt (is_new : Bool) (xs : List Leaf) (c : Call) (args : List Argu
   pub literal : Leaf
   pub is_literal : slice_get xs string.start ≡ Some literal
   pub trees : List ℕ
-  pub are_trees : AreTrees xs string.end trees c.close
+  pub end : ℕ
+  pub are_up_to : AreUpTo (ends_early c.rule) xs (string.start + 1) trees end c.close
   pub reads : ReadsLiteral (without_crs (chars literal.text)) (appends_newline (name_at xs c.name))
       (captures is_new c.rule (name_at xs c.name)) (not (list_any (is_uncounted xs) trees))
-      (map (given xs) (drop (n + 1) args)) r fs
+      (map (given xs) (arguments_before end (drop (n + 1) args))) r fs
 
 -- The same where the argument n is the format string by this rule, or where it is the first
 -- template.
@@ -125,7 +140,7 @@ abbrev pub ReadsBy : Bool → List Leaf → Call → List Argument → Result �
     → List Finding → Type 0
 ReadsBy is_new xs c args (Ok n) r fs = ReadsOne c.rule is_new xs c args n r fs
 ReadsBy is_new xs c args (Err q) r fs = (r ≡ q) × TellsForms
-    (form_here is_new (name_at xs c.name) c.rule c.close args (map (part xs) args)) fs
+    (form_here is_new (name_at xs c.name) c.rule c.close args (map (tokens_of xs) args)) fs
 
 -- No token stands where the argument should.
 abbrev pub is_empty : Argument → Bool
@@ -151,7 +166,7 @@ has_expressions Templates = false
 -- argument is one.
 abbrev pub index_or : Bool → List Leaf → Rule → List Argument → Result ℕ CallReading
 index_or is_new xs r args = index_if (list_any is_empty args)
-    (has_expressions r && list_any (λ p. is_some (joined p)) (map (part xs) args))
+    (has_expressions r && list_any (λ p. is_some (joined p)) (map (tokens_of xs) args))
     (format_string xs r args is_new)
 
 -- The same, unless the file defines a macro of this name.

@@ -4,6 +4,7 @@ ghost use Rattle.std.specs.Prelude.{◌≡◌, ◌+◌, ◌<◌, ◌≤◌, ◌+
 ghost use Rattle.std.specs.Prelude.{IsTrue, OnOk, chars, false, length, map, option_map};
 ghost use Rattle.std.specs.Prelude.{slice_get};
 ghost use Rattle.std.specs.List.{All, AllByRecursion};
+ghost use Rattle.message_faults.specs.Seen.{HasNames};
 ghost use Rattle.rust_trees.specs.Forests.{IsPair};
 ghost use Rattle.rust_trees.specs.Leaves.{leaf};
 ghost use Rattle.source_lint.specs.Attributes.{IsAttribute, IsFront, IsItem, ReadsAt, ReadsFronts};
@@ -17,7 +18,8 @@ ghost use Rattle.source_lint.specs.declared.report.Finding.{Finding as FindingVa
 use crate::generics::parameters;
 use crate::messages::{Item, read_text};
 use crate::report::Finding;
-use format_calls::{Argument, arguments, is_mark, is_text, is_text_leaf, token_at};
+use format_calls::{Argument, arguments, closing, is_mark, is_text, is_text_leaf, token_at};
+use message_faults::names_of;
 use rust_trees::{Source, Token};
 use std::alloc::{AllocError, Global};
 
@@ -44,17 +46,6 @@ fn begins_attribute(tokens: &[Token<'_>], index: usize) -> bool
         && is_mark(tokens, index + 4, b':')
         && is_word_there(tokens, index + 5, "on_unimplemented")
         && is_mark(tokens, index + 6, b'(')
-}
-
-/// Returns the token that closes the pair that a token opens, or `None` if it opens none.
-fn closing(source: &Source<'_>, index: usize) -> Option<usize>
-    ensures some { IfSome result (λ j. IsPair source.now index j) }
-    ensures none { IsNone result → (j : ℕ) → IsPair source.now index j → ⊥ }
-{
-    match source.partner(index) {
-        Some(partner) if partner > index => Some(partner),
-        _ => None,
-    }
 }
 
 /// Returns the token that closes the list of the attribute that stands at a token, or `None` if no
@@ -191,6 +182,7 @@ fn read_texts<'a>(
     item: Item<'_, '_>,
     literals: &[Token<'a>],
 ) -> Result<(), AllocError>
+    requires { HasNames (map (λ p. p.now) item.parameters.now) item.names.now }
     ensures read { OnOk result ((xs : List FindingValue)
         × (findings.new.items ≡ findings.old.items ++ xs) × ReadsTexts (chars item.entry.name.now)
         (map (λ p. p.now) item.entry.parameters.now) (map leaf literals.now) xs) }
@@ -235,6 +227,7 @@ fn read_at<'a>(
     item: Item<'_, '_>,
     index: usize,
 ) -> Result<(), AllocError>
+    requires { HasNames (map (λ p. p.now) item.parameters.now) item.names.now }
     ensures read { OnOk result ((xs : List FindingValue)
         × (findings.new.items ≡ findings.old.items ++ xs) × ReadsAt (chars item.entry.name.now)
         (map (λ p. p.now) item.entry.parameters.now) source.now index xs) }
@@ -262,6 +255,7 @@ fn read_fronts<'a>(
     item: Item<'_, '_>,
     starts: &[usize],
 ) -> Result<(), AllocError>
+    requires { HasNames (map (λ p. p.now) item.parameters.now) item.names.now }
     ensures read { OnOk result ((xs : List FindingValue)
         × (findings.new.items ≡ findings.old.items ++ xs) × ReadsFronts (chars item.entry.name.now)
         (map (λ p. p.now) item.entry.parameters.now) source.now starts.now xs) }
@@ -303,10 +297,12 @@ fn read_item<'a>(
     if !is_word_there(tokens, front.end, "trait") {
         return Ok(());
     }
-    let names = parameters(alloc, tokens, front.end + 2)?;
+    let parameters = parameters(alloc, tokens, front.end + 2)?;
+    let names = names_of(alloc, &parameters)?;
     let item = Item {
         name: text_at(tokens, front.end + 1),
-        parameters: &names,
+        parameters: &parameters,
+        names: &names,
     };
     read_fronts(alloc, findings, text, source, item, &front.starts)?;
     Ok(())

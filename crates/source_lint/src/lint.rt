@@ -16,7 +16,7 @@ use crate::attributes::read_attributes;
 use crate::macros::macro_names;
 use crate::readings::{File, read_call};
 use crate::report::{CallReading, Finding, Options, Report};
-use format_calls::{Table, calls, next_part};
+use format_calls::{Part, Table, calls, next_part};
 use rust_trees::{Balance, Source, Tokens};
 use std::alloc::{AllocError, Global};
 
@@ -33,7 +33,7 @@ fn read_part<'a>(
     alloc: Global,
     found: &mut Readings,
     file: File<'_, 'a>,
-    part: &Source<'a>,
+    part: &Part<'a>,
     table: &Table<'_>,
 ) -> Result<(), AllocError>
     ensures read { OnOk result ((rs : List ReadingValue) × (xs : List FindingValue)
@@ -45,7 +45,7 @@ fn read_part<'a>(
         found.old.findings.items
         → All (HasSpans file.entry.text.now) found.new.findings.items) }
 {
-    let calls = calls(alloc, part, table)?;
+    let calls = calls(alloc, part.source(), table)?;
     let mut rest = calls.as_slice();
     while let Some((call, others)) = rest.split_first() {
         let reading = read_call(alloc, &mut found.findings, file, part, call)?;
@@ -75,7 +75,8 @@ fn read_file(
         findings: Vec::new(alloc),
     };
     let mut rest = Tokens::new(file.text);
-    while let Some(part) = next_part(alloc, &mut rest, table, balance)? {
+    while let Some(source) = next_part(alloc, &mut rest, table, balance)? {
+        let part = Part::new(alloc, source)?;
         read_part(alloc, &mut found, file, &part, table)?;
     }
     Ok(found)

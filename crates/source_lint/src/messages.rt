@@ -5,7 +5,7 @@ ghost use Rattle.std.specs.Prelude.{◌≡◌, ◌++◌, ◌∷◌, [], List, So
 ghost use Rattle.std.specs.Prelude.{option_map, string_bytes};
 ghost use Rattle.std.specs.List.{All};
 ghost use Rattle.message_faults.specs.Messages.{message_faults};
-ghost use Rattle.message_faults.specs.Seen.{seen_fault, start};
+ghost use Rattle.message_faults.specs.Seen.{HasNames, seen_fault, start};
 ghost use Rattle.source_lint.specs.Attributes.{ReadsText, TellMessages, TellsMessage};
 ghost use Rattle.source_lint.specs.Findings.{HasSpans};
 ghost use Rattle.source_lint.specs.Literals.{without_crs};
@@ -18,6 +18,7 @@ use crate::spans::Site;
 use message_faults::{Message, MessageFault, message_faults};
 use rust_trees::Token;
 use std::alloc::{AllocError, Global};
+use std::collections::BTreeSet;
 
 /// A trait that an attribute stands before.
 #[derive(Clone, Copy)]
@@ -26,6 +27,8 @@ pub struct Item<'s, 'a> {
     pub name: &'a str,
     /// Its parameters that are types or constants.
     pub parameters: &'s [&'a str],
+    /// The set of their names.
+    pub names: &'s BTreeSet<&'a str>,
 }
 
 /// Returns a help, which has no edits. Returns `Err` if an allocation fails.
@@ -51,7 +54,7 @@ fn finding(
     name: &str,
     fault: &MessageFault<'_>,
 ) -> Result<Finding, AllocError>
-    ensures tells { IfOk result (λ x. TellsMessage (chars name.now) (seen_fault fault.now) x) }
+    ensures outcome { IfOk result (λ x. TellsMessage (chars name.now) (seen_fault fault.now) x) }
     ensures spans { IfOk result (λ x. HasSpans site.entry.text.now x) }
 {
     let mut title = String::new(alloc);
@@ -78,7 +81,7 @@ fn put_findings(
     name: &str,
     faults: &[MessageFault<'_>],
 ) -> Result<(), AllocError>
-    ensures told { OnOk result ((xs : List FindingValue)
+    ensures outcome { OnOk result ((xs : List FindingValue)
         × (findings.new.items ≡ findings.old.items ++ xs)
         × TellMessages (chars name.now) (map seen_fault faults.now) xs) }
     ensures spans { OnOk result (All (HasSpans site.entry.text.now) findings.old.items
@@ -99,6 +102,7 @@ pub fn read_text<'a>(
     item: Item<'_, '_>,
     token: &Token<'a>,
 ) -> Result<(), AllocError>
+    requires { HasNames (map (λ p. p.now) item.parameters.now) item.names.now }
     ensures read { OnOk result ((xs : List FindingValue)
         × (findings.new.items ≡ findings.old.items ++ xs)
         × ReadsText (chars item.entry.name.now) (map (λ p. p.now) item.entry.parameters.now)
@@ -122,7 +126,7 @@ pub fn read_text<'a>(
     let message = Message {
         text: literal.text.as_str(),
         snippet: Some(literal.snippet.as_str()),
-        parameters: Some(item.parameters),
+        parameters: Some(item.names),
     };
     let faults = message_faults(alloc, message)?;
     put_findings(alloc, findings, site, item.name, &faults)?;

@@ -7,16 +7,17 @@ ghost use Rattle.rustc_parse_format.specs.World.{hashes};
 ghost use Rattle.rust_trees.specs.Forests.{IsPair};
 ghost use Rattle.rust_trees.specs.Leaves.{leaf};
 ghost use Rattle.format_calls.specs.Arguments.{AreArguments};
-ghost use Rattle.format_calls.specs.Strings.{is_text};
+ghost use Rattle.format_calls.specs.Strings.{is_string_by};
 ghost use Rattle.format_calls.specs.declared.split.Argument.{Argument as ArgumentValue};
 ghost use Rattle.call_faults.specs.Seen.{seen_given, start};
 ghost use Rattle.source_lint.specs.Findings.{AreFindings, HasSpans};
 ghost use Rattle.source_lint.specs.Givens.{given};
-ghost use Rattle.source_lint.specs.Literals.{without_crs};
+ghost use Rattle.source_lint.specs.Literals.{appends_newline, without_crs};
 ghost use Rattle.source_lint.specs.Macros.{names_in};
 ghost use Rattle.source_lint.specs.Readings.{Reads, ReadsAt, ReadsLiteral, ReadsOne, call_of};
-ghost use Rattle.source_lint.specs.Readings.{captures, counted_givens, has_expressions, index_or};
-ghost use Rattle.source_lint.specs.Readings.{is_empty, name_at};
+ghost use Rattle.source_lint.specs.Readings.{arguments_before, captures, counted_givens};
+ghost use Rattle.source_lint.specs.Readings.{ends_early, has_expressions, index_or, is_empty};
+ghost use Rattle.source_lint.specs.Readings.{name_at};
 ghost use Rattle.source_lint.specs.declared.report.Finding.{Finding as FindingValue};
 
 use crate::assembly::read_asm;
@@ -29,8 +30,10 @@ use crate::macros::is_defined;
 use crate::report::{CallReading, Finding};
 use crate::spans::Site;
 use call_faults::{FormatString, Given, call_faults};
-use format_calls::{Argument, Call, Rule, are_counted, arguments, format_string, token_at, word};
-use rust_trees::{Source, Token};
+use format_calls::{
+    Argument, Call, Part, Rule, arguments, extent_of, format_string, token_at, word,
+};
+use rust_trees::Token;
 use std::alloc::{AllocError, Global};
 use std::collections::BTreeSet;
 
@@ -84,7 +87,7 @@ fn check_string<'c>(
     is_counted: bool,
 ) -> Result<(), AllocError>
     requires { hashes string.style + length string.text.now + 2 < 2 ^ 64 }
-    ensures told { OnOk result (let s = start string.entry in (xs : List FindingValue)
+    ensures outcome { OnOk result (let s = start string.entry in (xs : List FindingValue)
         × (findings.new.items ≡ findings.old.items ++ xs)
         × AreFindings is_counted (call_of string.entry.captures s (map seen_given given.now)) xs) }
     ensures spans { OnOk result (All (HasSpans site.entry.text.now) findings.old.items
@@ -152,49 +155,72 @@ fn argument_at(arguments: &[Argument], index: usize) -> Option<Argument>
     }
 }
 
-/// Reads a call whose format string is the argument of this index, and adds its findings. Returns
-/// `Err` if an allocation fails.
-fn read_at(
+/// Returns whether `;` ends the arguments of a macro with this rule: key-values follow it in those
+/// of slog.
+fn ends_early(rule: Rule) -> bool
+    ensures { result ≡ ends_early rule }
+{
+    matches!(rule, Rule::AfterFields)
+}
+
+/// Returns the arguments that start before a token, of which the last ends there at the latest.
+/// Returns `Err` if an allocation fails.
+fn arguments_before(
+    alloc: Global,
+    arguments: &[Argument],
+    end: usize,
+) -> Result<Vec<Argument>, AllocError>
+    ensures { IfOk result (λ v. v.items ≡ arguments_before end arguments.now) }
+{
+    let mut found = Vec::new(alloc);
+    for argument in arguments {
+        if argument.start >= end {
+            return Ok(found);
+        }
+        found.push(Argument {
+            start: argument.start,
+            end: argument.end.min(end),
+            is_named: argument.is_named,
+        })?;
+    }
+    Ok(found)
+}
+
+/// Reads a call with this literal as its format string and these arguments after it, and adds its
+/// findings. Returns `Err` if an allocation fails.
+fn read_with(
     alloc: Global,
     findings: &mut Vec<Finding>,
     file: File<'_, '_>,
-    part: &Source<'_>,
+    part: &Part<'_>,
     call: &Call,
+    literal: Token<'_>,
     arguments: &[Argument],
-    index: usize,
+    is_counted: bool,
 ) -> Result<CallReading, AllocError>
-    requires pair { IsPair part.now (call.now.name + 2) call.now.close }
-    requires split { AreArguments part.now (call.now.name + 3) arguments.now call.now.close }
-    requires literal { (a : ArgumentValue) × (slice_get arguments.now index ≡ Some a)
-        × IsTrue (is_text part.now a) }
     ensures read { IfOk result (λ r. (xs : List FindingValue)
         × (findings.new.items ≡ findings.old.items ++ xs)
-        × ReadsAt file.entry.is_from_2021 part.now call.now arguments.now index r xs) }
+        × ReadsLiteral (without_crs (chars literal.entry.text.now))
+        (appends_newline (name_at part.now call.now.name))
+        (captures file.entry.is_from_2021 call.now.rule (name_at part.now call.now.name))
+        is_counted (map (given part.now) arguments.now) r xs) }
     ensures spans { OnOk result (All (HasSpans file.entry.text.now) findings.old.items
         → All (HasSpans file.entry.text.now) findings.new.items) }
 {
     let tokens = part.tokens();
-    let Some(string) = argument_at(arguments, index) else {
-        return Ok(CallReading::Malformed);
-    };
-    let Some(literal) = token_at(tokens, string.start) else {
-        return Ok(CallReading::Malformed);
-    };
-    let others = &arguments[index + 1..];
     let crs = dropped_crs(alloc, literal.text)?;
     let site = Site {
         text: file.text,
         tokens,
         literal,
         crs: &crs,
-        arguments: others,
+        arguments,
         name: call.name,
         close: call.close,
     };
     let name = name_at(tokens, call.name);
     let appended_newline = appends_newline(name);
     let captures = captures(call.rule, name, file.is_from_2021);
-    let is_counted = are_counted(part, call.name + 2, string.end, call.close);
     let reading = read_string(
         alloc,
         findings,
@@ -206,13 +232,13 @@ fn read_at(
     Ok(reading)
 }
 
-/// Reads a call whose format string is the argument of this index, or whose templates begin with
-/// it, and adds its findings. Returns `Err` if an allocation fails.
-fn read_one<'a>(
+/// Reads a call whose format string begins the argument of this index, and adds its findings.
+/// Returns `Err` if an allocation fails.
+fn read_at(
     alloc: Global,
     findings: &mut Vec<Finding>,
-    file: File<'_, 'a>,
-    part: &Source<'a>,
+    file: File<'_, '_>,
+    part: &Part<'_>,
     call: &Call,
     arguments: &[Argument],
     index: usize,
@@ -220,7 +246,52 @@ fn read_one<'a>(
     requires pair { IsPair part.now (call.now.name + 2) call.now.close }
     requires split { AreArguments part.now (call.now.name + 3) arguments.now call.now.close }
     requires literal { (a : ArgumentValue) × (slice_get arguments.now index ≡ Some a)
-        × IsTrue (is_text part.now a) }
+        × IsTrue (is_string_by call.now.rule part.now a) }
+    ensures read { IfOk result (λ r. (xs : List FindingValue)
+        × (findings.new.items ≡ findings.old.items ++ xs)
+        × ReadsAt file.entry.is_from_2021 part.now call.now arguments.now index r xs) }
+    ensures spans { OnOk result (All (HasSpans file.entry.text.now) findings.old.items
+        → All (HasSpans file.entry.text.now) findings.new.items) }
+{
+    let Some(string) = argument_at(arguments, index) else {
+        return Ok(CallReading::Malformed);
+    };
+    let Some(literal) = token_at(part.tokens(), string.start) else {
+        return Ok(CallReading::Malformed);
+    };
+    let extent = extent_of(
+        part.source(),
+        ends_early(call.rule),
+        call.name + 2,
+        string.start + 1,
+        call.close,
+    );
+    let counted = extent.is_counted;
+    let others = &arguments[index + 1..];
+    if extent.end == call.close {
+        let reading = read_with(alloc, findings, file, part, call, literal, others, counted)?;
+        return Ok(reading);
+    }
+    let before = arguments_before(alloc, others, extent.end)?;
+    let reading = read_with(alloc, findings, file, part, call, literal, &before, counted)?;
+    Ok(reading)
+}
+
+/// Reads a call whose format string is the argument of this index, or whose templates begin with
+/// it, and adds its findings. Returns `Err` if an allocation fails.
+fn read_one<'a>(
+    alloc: Global,
+    findings: &mut Vec<Finding>,
+    file: File<'_, 'a>,
+    part: &Part<'a>,
+    call: &Call,
+    arguments: &[Argument],
+    index: usize,
+) -> Result<CallReading, AllocError>
+    requires pair { IsPair part.now (call.now.name + 2) call.now.close }
+    requires split { AreArguments part.now (call.now.name + 3) arguments.now call.now.close }
+    requires literal { (a : ArgumentValue) × (slice_get arguments.now index ≡ Some a)
+        × IsTrue (is_string_by call.now.rule part.now a) }
     ensures read { IfOk result (λ r. (xs : List FindingValue)
         × (findings.new.items ≡ findings.old.items ++ xs)
         × ReadsOne call.now.rule file.entry.is_from_2021 part.now call.now arguments.now index r
@@ -270,22 +341,22 @@ fn has_expressions(rule: Rule) -> bool
 /// call if none is read.
 fn index_or(
     file: File<'_, '_>,
-    part: &Source<'_>,
+    part: &Part<'_>,
     call: &Call,
     arguments: &[Argument],
 ) -> Result<usize, CallReading>
     ensures value { result ≡ index_or file.entry.is_from_2021 part.now call.now.rule
         arguments.now }
     ensures literal { IfOk result (λ n. (a : ArgumentValue) × (slice_get arguments.now n ≡ Some a)
-        × IsTrue (is_text part.now a)) }
+        × IsTrue (is_string_by call.now.rule part.now a)) }
 {
     if has_empty(arguments) {
         return Err(CallReading::NoExpression);
     }
-    if has_expressions(call.rule) && have_joined(part.tokens(), arguments) {
+    if has_expressions(call.rule) && have_joined(part, arguments) {
         return Err(CallReading::NoComma);
     }
-    match format_string(part, call.rule, arguments, file.is_from_2021) {
+    match format_string(part.source(), call.rule, arguments, file.is_from_2021) {
         Ok(index) => Ok(index),
         Err(reason) => Err(CallReading::Unread(reason)),
     }
@@ -296,7 +367,7 @@ pub fn read_call<'a>(
     alloc: Global,
     findings: &mut Vec<Finding>,
     file: File<'_, 'a>,
-    part: &Source<'a>,
+    part: &Part<'a>,
     call: &Call,
 ) -> Result<CallReading, AllocError>
     requires { IsPair part.now (call.now.name + 2) call.now.close }
@@ -312,7 +383,7 @@ pub fn read_call<'a>(
     if is_defined(file.macros, name) {
         return Ok(CallReading::Redefined);
     }
-    let Some(arguments) = arguments(alloc, part, call.close)? else {
+    let Some(arguments) = arguments(alloc, part.source(), call.close)? else {
         return Ok(CallReading::Whole);
     };
     let list = arguments.as_slice();
@@ -322,7 +393,7 @@ pub fn read_call<'a>(
             Ok(reading)
         }
         Err(reading) => {
-            let form = form_here(tokens, name, call.rule, file.is_from_2021, list, call.close);
+            let form = form_here(part, name, call.rule, file.is_from_2021, list, call.close);
             put_form(findings, file.text, tokens, call, list, form)?;
             Ok(reading)
         }

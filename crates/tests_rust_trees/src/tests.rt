@@ -1,9 +1,9 @@
-//! Trees, places and calls of small files. Places are those that rustc 1.95 tells; the other
+//! Trees, places and calls of small files. Places are those that rustc 1.95 reports; the other
 //! expected values are worked out by hand from the Rust Reference.
 
 use crate::strings::format_strings;
 use format_calls::{
-    AsmPart, Reason, Row, Table, arguments, asm_part, calls, format_string, is_mark, is_text,
+    AsmPart, Part, Reason, Row, Table, arguments, asm_part, calls, format_string, is_mark, is_text,
     next_part, template_count,
 };
 use rust_trees::{Balance, Break, Places, Source, Tokens, place_at};
@@ -171,7 +171,7 @@ fn macro_calls(rt: HostRuntime) -> Result<(), Fail> {
     )
 }
 
-/// The number of a result: of an argument, or of a reason behind 10.
+/// The number of a result: of an argument, or of a reason after 10.
 fn number(string: Result<usize, Reason>) -> usize {
     match string {
         Ok(index) => index % 10,
@@ -321,12 +321,12 @@ fn operands(rt: HostRuntime) -> Result<(), Fail> {
         ("asm!()", 0, ""),
     ];
     for (text, templates, parts) in rows {
-        let source = Source::new(alloc, text)?;
-        let tokens = source.tokens();
-        let found = calls(alloc, &source, &table)?;
+        let part = Part::new(alloc, Source::new(alloc, text)?)?;
+        let tokens = part.tokens();
+        let found = calls(alloc, part.source(), &table)?;
         assert!(&rt; !found.is_empty());
         if let Some(call) = found.first() {
-            let list = match arguments(alloc, &source, call.close)? {
+            let list = match arguments(alloc, part.source(), call.close)? {
                 Some(list) => list,
                 None => Vec::new(alloc),
             };
@@ -334,7 +334,7 @@ fn operands(rt: HostRuntime) -> Result<(), Fail> {
             let mut letters = String::new(alloc);
             for (index, argument) in list.iter().enumerate() {
                 if index >= templates && argument.start < tokens.len() {
-                    letters.push(letter(asm_part(tokens, argument)))?;
+                    letters.push(letter(asm_part(&part, argument)))?;
                 }
             }
             assert_eq!(&rt; letters.as_str(), parts);

@@ -3,8 +3,22 @@ use Rattle.format_calls.specs.Strings.{first_text}
 use Rattle.format_calls.proofs.StringArguments.{text-found}
 use Rattle.format_calls.proofs.strings.format_string.Goals as goal
 
+pub returns-in-At-clause-literal : goal.returns-in-At-clause-literal
+returns-in-At-clause-literal c =
+    rw c.in-At.is (rw c.tokens-tokens.ensures at c.string_at.ensures.literal)
+
+pub returns-in-Templates-clause-literal : goal.returns-in-Templates-clause-literal
+returns-in-Templates-clause-literal c =
+    rw c.in-Templates.is
+    (rw c.tokens-tokens.ensures at c.string_at-in-Templates.ensures.literal)
+
+pub returns-in-ByEdition-clause-literal : goal.returns-in-ByEdition-clause-literal
+returns-in-ByEdition-clause-literal c =
+    rw c.in-ByEdition.is
+    (rw c.tokens-tokens.ensures at c.string_at-in-ByEdition.ensures.literal)
+
 pub returns-in-Some-clause-literal : goal.returns-in-Some-clause-literal
 returns-in-Some-clause-literal c =
-    text-found c.args.source.now c.args.arguments.now c.in-Some.index
+    rw c.in-AfterFields.is (text-found c.args.source.now c.args.arguments.now c.in-Some.index
     (sym (subst (λ v. Some c.in-Some.index ≡ first_text v c.args.arguments.now)
-    c.tokens-tokens.ensures c.in-Some.ensures))
+    c.tokens-tokens.ensures c.in-Some.ensures)))

@@ -1,5 +1,4 @@
-use Rattle.std.proofs.Common.{◌+◌, map}
-use Rattle.rust_trees.specs.Leaves.{leaf}
+use Rattle.std.proofs.Common.{◌+◌}
 use Rattle.format_calls.specs.Assembly.{asm_part}
 use Rattle.source_lint.specs.Assembly.{is_raw_part, is_unknown_part}
 use Rattle.source_lint.proofs.AsmSteps.{any-step, list-step}
@@ -8,7 +7,7 @@ use Rattle.source_lint.proofs.assembly.operands_of.Goals as goal
 
 pub loop-argument-preserved : goal.loop-argument-preserved
 loop-argument-preserved c =
-    let xs = map leaf c.args.tokens.now in
+    let xs = c.args.part.now in
     let i = c.loop-argument.argument-index in
     let more = c.in_ok-add.ensures in
     record {

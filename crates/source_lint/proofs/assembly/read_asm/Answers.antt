@@ -4,7 +4,7 @@ use Rattle.rust_trees.specs.Leaves.{leaf}
 use Rattle.rust_trees.proofs.Growing.{pair-within}
 use Rattle.format_calls.specs.Assembly.{template_count}
 use Rattle.source_lint.specs.Assembly.{are_raw, is_unknown, operands}
-use Rattle.source_lint.proofs.AsmSteps.{all-after, starts-there}
+use Rattle.source_lint.proofs.AsmSteps.{all-after, starts-in, starts-there, whole-trees}
 use Rattle.source_lint.proofs.MovedArguments.{arguments-lie}
 use Rattle.source_lint.proofs.MovedAssembly.{all-front, all-rest, reads-as}
 use Rattle.source_lint.proofs.assembly.read_asm.Goals as goal
@@ -15,8 +15,8 @@ operands_of-requires c =
     let args = c.args.arguments.now in
     let from = c.args.call.now.name in
     let to = c.args.call.now.close in
-    all-front _ (length args - n) (drop n args) (all-rest _ n args (starts-there leaf
-    c.tokens-tokens.result.now c.args.part.now (from + 3) to args c.tokens-tokens.ensures
+    all-front _ (length args - n) (drop n args) (all-rest _ n args (starts-in
+    c.args.part.now (from + 3) to args
     (pair-within c.args.part.now (from + 2) to c.requires.pair).1
     (arguments-lie c.args.part.now (from + 3) to args c.requires.split)))
 
@@ -39,20 +39,21 @@ returns-clause-read c =
     let n : m ≡ template_count xs args = rw tokens at c.template_count-count.ensures.value in
     let others : take (length args - m) (drop m args) ≡ drop (template_count xs args) args =
     all-after args m ∙ ap (λ k. drop k args) n in
-    let t = c.are_counted-is_counted.ensures in
+    let t = rw c.source.ensures at c.extent_of-extent.ensures.trees in
     let r = rw tokens at c.in_ok-reading.ensures.read in
-    let list = rw tokens at c.in_ok-operands.ensures.list in
-    let raw = rw tokens at c.in_ok-operands.ensures.raw in
-    let unknown = rw tokens at c.in_ok-operands.ensures.unknown in (
+    let list = c.in_ok-operands.ensures.list in
+    let raw = c.in_ok-operands.ensures.raw in
+    let unknown = c.in_ok-operands.ensures.unknown in (
       r.0,
       r.1,
       record {
         trees = t.0;
-        are_trees = t.1;
+        are_trees = whole-trees xs (c.args.call.now.name + 3) c.extent_of-extent.result.end
+            c.args.call.now.close t.0 t.1;
         reads = reads-as _ _ _ _ _ _ _ _ _ _ _ (ap (λ k. take k args) n)
             (raw ∙ ap (λ v. are_raw xs v) others)
             (c.are_known-is_whole.ensures
-            ∙ (ap (λ b. not b && c.are_counted-is_counted.result)
+            ∙ (ap (λ b. not b && c.extent_of-extent.result.is_counted)
             (unknown ∙ ap (λ v. is_unknown xs v) others)
             ∙ ap (λ b. not (is_unknown xs (drop (template_count xs args) args)) && b) t.2))
             (list ∙ ap (λ v. operands xs v) others) r.2;

@@ -1,12 +1,12 @@
 use Rattle.std.proofs.Common.{◌≡◌, drop, map}
-use Rattle.rust_trees.specs.Leaves.{leaf}
 use Rattle.std.specs.Prelude.{is_some}
 use Rattle.std.specs.List.{list_any}
-use Rattle.source_lint.specs.Forms.{joined, part}
+use Rattle.format_calls.specs.Arguments.{tokens_of}
+use Rattle.source_lint.specs.Forms.{joined}
 use Rattle.source_lint.proofs.forms.have_joined.Given as goal
 
 -- The answer for what is left is the answer for all.
 abbrev pub invariant-loop-argument : goal.invariant-loop-argument
-invariant-loop-argument l = list_any (λ p. is_some (joined p)) (map (part (map leaf l.tokens))
+invariant-loop-argument l = list_any (λ p. is_some (joined p)) (map (tokens_of l.part)
     (drop l.argument-index l.arguments))
-    ≡ list_any (λ p. is_some (joined p)) (map (part (map leaf l.tokens)) l.arguments)
+    ≡ list_any (λ p. is_some (joined p)) (map (tokens_of l.part) l.arguments)

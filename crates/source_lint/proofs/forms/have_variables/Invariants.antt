@@ -1,11 +1,11 @@
 use Rattle.std.proofs.Common.{◌≡◌, drop, map}
-use Rattle.rust_trees.specs.Leaves.{leaf}
 use Rattle.std.specs.List.{list_any}
-use Rattle.source_lint.specs.Forms.{has_variable, part}
+use Rattle.format_calls.specs.Arguments.{tokens_of}
+use Rattle.source_lint.specs.Forms.{has_variable}
 use Rattle.source_lint.proofs.forms.have_variables.Given as goal
 
 -- The answer for what is left is the answer for all.
 abbrev pub invariant-loop-argument : goal.invariant-loop-argument
 invariant-loop-argument l =
-    list_any has_variable (map (part (map leaf l.tokens)) (drop l.argument-index l.arguments))
-    ≡ list_any has_variable (map (part (map leaf l.tokens)) l.arguments)
+    list_any has_variable (map (tokens_of l.part) (drop l.argument-index l.arguments))
+    ≡ list_any has_variable (map (tokens_of l.part) l.arguments)

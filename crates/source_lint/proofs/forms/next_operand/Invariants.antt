@@ -1,12 +1,16 @@
-use Rattle.std.proofs.Common.{◌≡◌, ◌≤◌, false, drop, map}
-use Rattle.rust_trees.specs.Leaves.{leaf}
+use Rattle.std.proofs.Common.{◌≡◌, ◌≤◌, ◌-◌, false, drop, take}
+use Rattle.format_calls.specs.Arguments.{tokens_of}
 use Rattle.source_lint.specs.Forms.{next_operand}
 use Rattle.source_lint.proofs.forms.next_operand.Given as goal
 
 -- The answer for what is left is the answer for all. As many tokens at least were read as are open.
-abbrev pub invariant-loop-token : goal.invariant-loop-token
-invariant-loop-token l = record {
-  rest : next_operand l.is_after l.depth (map leaf (drop l.token-index l.tokens))
-      ≡ next_operand false 0 (map leaf l.tokens);
-  small : l.depth ≤ l.token-index;
+abbrev pub invariant-loop-index : goal.invariant-loop-index
+invariant-loop-index l = record {
+  rest : next_operand l.is_after l.depth
+      (take (l.argument.end - l.index) (drop l.index l.source))
+      ≡ next_operand false 0 (tokens_of l.source l.argument);
+  small : l.depth ≤ l.index;
 }
+
+abbrev pub decreases-loop-index : goal.decreases-loop-index
+decreases-loop-index l = l.argument.end - l.index

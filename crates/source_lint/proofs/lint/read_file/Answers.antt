@@ -10,15 +10,15 @@ loop-found-init c = record {
 
 pub loop-found-preserved : goal.loop-found-preserved
 loop-found-preserved c =
-    let p = rw c.in-Some.is at c.in_ok-part.ensures.some in
+    let p = rw c.in-Some.is at c.in_ok-source.ensures.some in
+    let r = rw c.in_ok-part.ensures at c.in_ok-read_part.ensures.read in
     record {
-      read = file-more _ _ _ _ _ _ _ _ _ _ _ _ _ _ c.loop-found.invariant.read p
-          c.in_ok-read_part.ensures.read;
+      read = file-more _ _ _ _ _ _ _ _ _ _ _ _ _ _ c.loop-found.invariant.read p r;
       spans = c.in_ok-read_part.ensures.spans c.loop-found.invariant.spans;
     }
 
 pub returns-clause-read : goal.returns-clause-read
 returns-clause-read c =
-    let n = (rw c.in_default.is at c.in_ok-part.ensures.none) refl in
+    let n = (rw c.in_default.is at c.in_ok-source.ensures.none) refl in
     let f = file-all _ _ _ _ _ _ _ _ _ c.next_part.new.balance c.loop-found.invariant.read n in
     (f.0, c.new-rest.ensures.left f.0 f.1, f.2, f.3)

@@ -10,7 +10,7 @@ use Rattle.source_lint.proofs.lint.read_part.Goals as goal
 pub loop-call-init : goal.loop-call-init
 loop-call-init c = record {
   read = reading-none _ _ _ c.as_slice-rest.result.now _ _;
-  are_calls = λ d h. (c.in_ok-calls.ensures.each d).0
+  are_calls = λ d h. ((rw c.source.ensures at c.in_ok-calls.ensures.each) d).0
       (subst (λ v. Contains v d) c.as_slice-rest.ensures.value h);
   spans = λ h. h;
 }
@@ -45,8 +45,8 @@ returns-clause-read c =
       record {
         calls = c.in_ok-calls.calls.items;
         are_calls = record {
-          each = c.in_ok-calls.ensures.each;
-          in_order = c.in_ok-calls.ensures.in_order;
+          each = rw c.source.ensures at c.in_ok-calls.ensures.each;
+          in_order = rw c.source.ensures at c.in_ok-calls.ensures.in_order;
         };
         reads = subst (λ v. ReadsAll (names_in c.args.file.macros.now)
             c.args.file.is_from_2021 c.args.part.now v r.0 r.1) c.as_slice-rest.ensures.value r.4;

@@ -1,11 +1,10 @@
-use Rattle.std.proofs.Common.{◌≡◌, ◌∙◌, ◌+◌, ap, arith, map, sym}
+use Rattle.std.proofs.Common.{◌≡◌, ◌∙◌, ◌+◌, ap, arith, drop, map, refl, sym}
 use Rattle.rust_trees.specs.Leaves.{leaf}
 use Rattle.source_lint.specs.Givens.{given}
-use Rattle.source_lint.specs.Literals.{appends_newline}
-use Rattle.source_lint.specs.Readings.{captures}
+use Rattle.source_lint.specs.Readings.{arguments_before}
 use Rattle.source_lint.proofs.Calling.{after-one, reads-by, string-there}
-use Rattle.source_lint.proofs.MovedArguments.{LiesIn, arguments-lie}
-use Rattle.source_lint.proofs.MovedStrings.{lies-get}
+use Rattle.source_lint.proofs.MovedArguments.{LiesIn, arguments-lie, before-all}
+use Rattle.source_lint.proofs.MovedStrings.{lies-drop, lies-get}
 use Rattle.source_lint.proofs.readings.read_at.Goals as goal
 
 pub returns-in_default-clause-read : goal.returns-in_default-clause-read
@@ -13,21 +12,27 @@ returns-in_default-clause-read c =
     string-there c.args.arguments.now c.args.index c.requires.literal.0 c.requires.literal.1
     c.in_default.ensures
 
-pub are_counted-is_counted-requires : goal.are_counted-is_counted-requires
-are_counted-is_counted-requires c =
+pub extent_of-extent-requires-clause-start : goal.extent_of-extent-requires-clause-start
+extent_of-extent-requires-clause-start c =
     let l : LiesIn (c.args.call.now.name + 3) c.args.call.now.close c.in-Some.string =
     lies-get _ _ c.args.index c.args.arguments.now c.in-Some.string
     (arguments-lie c.args.part.now _ _ _ c.requires.split) (sym c.in-Some.ensures) in
     let s = l.starts in
-    let r = l.rises in
-    record { pair = c.requires.pair; start = (omega (arith, s, r), l.ends) }
+    let t = l.stops in
+    (omega (arith, s), omega (arith, t))
 
-pub returns-clause-read : goal.returns-clause-read
-returns-clause-read c =
-    let tokens : map leaf c.tokens-tokens.result.now ≡ c.args.part.now = c.tokens-tokens.ensures in
-    let name = rw tokens at c.name_at-name.ensures in
-    let t = c.are_counted-is_counted.ensures in
-    let r = rw tokens at c.in_ok-reading.ensures.read in (
+pub returns-then-extent-call-clause-read : goal.returns-then-extent-call-clause-read
+returns-then-extent-call-clause-read c =
+    let xs = c.args.part.now in
+    let args = c.args.arguments.now in
+    let n = c.args.index + 1 in
+    let from = c.args.call.now.name + 3 in
+    let to = c.args.call.now.close in
+    let tokens : map leaf c.tokens.result.now ≡ xs = c.tokens.ensures in
+    let t = rw c.source.ensures at c.extent_of-extent.ensures.trees in
+    let r = c.in_ok-reading.ensures.read in
+    let all = before-all from to (drop n args)
+    (lies-drop from to n args (arguments-lie xs from to args c.requires.split)) in (
       r.0,
       r.1,
       record {
@@ -36,12 +41,34 @@ returns-clause-read c =
         literal = leaf c.in-Some-token_at.literal;
         is_literal = sym (rw tokens at c.in-Some-token_at.ensures.value);
         trees = t.0;
-        are_trees = t.1;
-        reads = reads-by _ _ _ _ _ _ _ _ _ _ _
-            (c.appends_newline-appended_newline.ensures ∙ ap appends_newline name)
-            (c.captures-captures.ensures
-            ∙ ap (captures c.args.file.is_from_2021 c.args.call.now.rule) name)
-            t.2 (ap (map (given c.args.part.now)) (after-one c.args.arguments.now c.args.index))
-            r.2;
+        end = c.extent_of-extent.result.end;
+        are_up_to = rw c.ends_early.ensures at t.1;
+        reads = reads-by _ _ _ _ _ _ _ _ _ _ _ refl refl t.2
+            (ap (map (given xs)) (after-one args c.args.index ∙ (sym all
+            ∙ ap (λ v. arguments_before v (drop n args)) (sym c.if-extent-call.true)))) r.2;
+      },
+    )
+
+pub returns-clause-read : goal.returns-clause-read
+returns-clause-read c =
+    let xs = c.args.part.now in
+    let args = c.args.arguments.now in
+    let tokens : map leaf c.tokens.result.now ≡ xs = c.tokens.ensures in
+    let t = rw c.source.ensures at c.extent_of-extent.ensures.trees in
+    let r = c.in_ok-reading-2.ensures.read in (
+      r.0,
+      r.1,
+      record {
+        string = c.in-Some.string;
+        is_string = sym c.in-Some.ensures;
+        literal = leaf c.in-Some-token_at.literal;
+        is_literal = sym (rw tokens at c.in-Some-token_at.ensures.value);
+        trees = t.0;
+        end = c.extent_of-extent.result.end;
+        are_up_to = rw c.ends_early.ensures at t.1;
+        reads = reads-by _ _ _ _ _ _ _ _ _ _ _ refl refl t.2
+            (ap (map (given xs)) (c.deref.ensures.value ∙ (c.in_ok-before.ensures
+            ∙ ap (arguments_before c.extent_of-extent.result.end)
+            (after-one args c.args.index)))) r.2;
       },
     )

@@ -2,9 +2,10 @@ use Rattle.std.proofs.Common.{◌∙◌, ◌+◌, [], ap, map, refl, subst, sym}
 use Rattle.std.specs.List.{list_any}
 use Rattle.std.specs.Str.{bytes_eq}
 use Rattle.std.proofs.lemmas.List.{append-nil}
+use Rattle.format_calls.specs.Arguments.{tokens_of}
 use Rattle.source_lint.specs.declared.report.CallReading.TheVariants.{Redefined}
 use Rattle.source_lint.specs.FormWords.{TellsForms}
-use Rattle.source_lint.specs.Forms.{form_here, part}
+use Rattle.source_lint.specs.Forms.{form_here}
 use Rattle.source_lint.specs.Macros.{names_in}
 use Rattle.source_lint.specs.Readings.{ReadsUnless, name_at}
 use Rattle.source_lint.proofs.Calling.{arguments-here, reads-here}
@@ -23,18 +24,18 @@ returns-then-is_defined-clause-read c = (
 
 pub returns-in_default-clause-read : goal.returns-in_default-clause-read
 returns-in_default-clause-read c =
-    absurd ((rw c.in_default.is at c.in_ok-arguments.ensures.none) refl
+    absurd ((rw (c.in_default.is, c.source.ensures) at c.in_ok-arguments.ensures.none) refl
     (c.args.call.now.name + 2) c.requires)
 
 pub read_one-requires-clause-split : goal.read_one-requires-clause-split
 read_one-requires-clause-split c =
-    let a = rw c.in-Some.is at c.in_ok-arguments.ensures.some in
+    let a = rw (c.in-Some.is, c.source.ensures) at c.in_ok-arguments.ensures.some in
     arguments-here c.args.part.now c.args.call.now c.in-Some.arguments.items
     c.as_slice-list.result.now a.0 c.as_slice-list.ensures.value c.requires a.1 a.2
 
 pub returns-in-Ok-clause-read : goal.returns-in-Ok-clause-read
 returns-in-Ok-clause-read c =
-    let a = rw c.in-Some.is at c.in_ok-arguments.ensures.some in
+    let a = rw (c.in-Some.is, c.source.ensures) at c.in_ok-arguments.ensures.some in
     let name = rw c.tokens-tokens.ensures at c.name_at-name.ensures in
     let r = c.in_ok-reading-in-Ok.ensures.read in (
       r.0,
@@ -54,10 +55,10 @@ returns-clause-read c =
     let call = c.args.call.now in
     let is_new = c.args.file.is_from_2021 in
     let args = c.as_slice-list.result.now in
-    let a = rw c.in-Some.is at c.in_ok-arguments.ensures.some in
+    let a = rw (c.in-Some.is, c.source.ensures) at c.in_ok-arguments.ensures.some in
     let name = rw c.tokens-tokens.ensures at c.name_at-name.ensures in
-    let form = rw c.tokens-tokens.ensures at c.form_here-form.ensures in
-    let t = c.in_ok-put_form-in-Err.ensures.told in (
+    let form = c.form_here-form.ensures in
+    let t = c.in_ok-put_form-in-Err.ensures.outcome in (
       t.0,
       t.1,
       reads-here is_new _ xs call args _ _ t.0
@@ -68,7 +69,8 @@ returns-clause-read c =
           c.in-Err.ensures.value (
             refl,
             subst (λ o. TellsForms o t.0)
-                (form ∙ ap (λ w. form_here is_new w call.rule call.close args (map (part xs) args))
+                (form
+                ∙ ap (λ w. form_here is_new w call.rule call.close args (map (tokens_of xs) args))
                 name)
                 t.2,
           ),

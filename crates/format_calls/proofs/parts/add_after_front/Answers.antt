@@ -4,11 +4,11 @@ use Rattle.std.proofs.lemmas.List.{drop-map, take_all}
 use Rattle.rust_trees.specs.Balances.{IsBalanced}
 use Rattle.rust_trees.specs.Leaves.{Leaf, leaf}
 use Rattle.rust_trees.specs.declared.leaves.Token.{Token}
-use Rattle.format_calls.proofs.parts.add_behind_front.Goals as goal
+use Rattle.format_calls.proofs.parts.add_after_front.Goals as goal
 
-behind-front : (ts : List Token) (part : List Leaf) → map leaf ts ≡ part
+rest_after-front : (ts : List Token) (part : List Leaf) → map leaf ts ≡ part
     → map leaf (take (length ts - 3) (drop 3 ts)) ≡ drop 3 part
-behind-front ts part e =
+rest_after-front ts part e =
     let d = length-drop 3 ts in
     ap (λ v. map leaf v) (take_all (length ts - 3) (drop 3 ts) (omega (arith, d)))
     ∙ (sym (drop-map leaf 3 ts) ∙ ap (λ v. drop 3 v) e)
@@ -16,5 +16,5 @@ behind-front ts part e =
 pub returns : goal.returns
 returns c w h =
     subst (λ v. IsBalanced (w ++ v) c.add_all.new.self)
-    (behind-front c.tokens-tokens.result.now c.args.part.now c.tokens-tokens.ensures)
+    (rest_after-front c.tokens-tokens.result.now c.args.part.now c.tokens-tokens.ensures)
     (c.in_ok-add_all.ensures w h)

@@ -1,0 +1,7 @@
+use Rattle.format_calls.specs.declared.part.Wanted.TheVariants.{Raw}
+use Rattle.format_calls.proofs.part.Part.has_raw.Goals as goal
+
+pub returns : goal.returns
+returns c =
+    rw (← c.self.view_is)
+    (c.is_one_in.ensures Raw c.self.inside.source (rw c.deref.ensures.value c.self.invariant.1))

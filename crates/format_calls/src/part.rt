@@ -1,0 +1,147 @@
+//! A part of a file, whose arguments are searched for tokens.
+
+ghost use Rattle.std.specs.Prelude.{◌≡◌, List, IfOk, map};
+ghost use Rattle.std.specs.List.{list_any};
+ghost use Rattle.rust_trees.specs.Leaves.{Leaf, leaf};
+ghost use Rattle.format_calls.specs.Arguments.{tokens_of};
+ghost use Rattle.format_calls.specs.Assembly.{has_raw};
+ghost use Rattle.format_calls.specs.Marks.{is_variable};
+ghost use Rattle.format_calls.specs.Searches.{AreLast, is_wanted};
+ghost use Rattle.format_calls.specs.declared.part.Wanted.{Wanted};
+
+use crate::marks::is_mark_of;
+use crate::modes::is_text;
+use crate::split::Argument;
+use rust_trees::{Source, Token};
+use std::alloc::{AllocError, Global};
+use std::marker::Model;
+
+/// A kind of token that arguments are searched for.
+#[derive(Clone, Copy)]
+pub enum Wanted {
+    /// `$`, which begins a variable of a macro, or `#`, which does so in `quote!`.
+    Variable,
+    /// The word `raw`.
+    Raw,
+}
+
+/// Returns whether arguments are searched for this token.
+fn is_wanted(wanted: Wanted, token: &Token<'_>) -> bool
+    ensures { result ≡ is_wanted wanted (leaf token.now) }
+{
+    match wanted {
+        Wanted::Variable => is_mark_of(token, b'$') || is_mark_of(token, b'#'),
+        Wanted::Raw => is_text(token, "raw"),
+    }
+}
+
+/// Returns whether one of these tokens is wanted.
+fn is_one_wanted(tokens: &[Token<'_>], wanted: Wanted) -> bool
+    ensures { result ≡ list_any (is_wanted wanted) (map leaf tokens.now) }
+{
+    for token in tokens {
+        if is_wanted(wanted, token) {
+            return true;
+        }
+    }
+    false
+}
+
+/// Returns for each number of tokens from the first one on how many of them end with the last one
+/// that is wanted, or nothing if none is. Returns `Err` if an allocation fails.
+fn last_ones(alloc: Global, tokens: &[Token<'_>], wanted: Wanted) -> Result<Vec<usize>, AllocError>
+    ensures { IfOk result (λ v. AreLast wanted (map leaf tokens.now) v.items) }
+{
+    let mut found = Vec::new(alloc);
+    if !is_one_wanted(tokens, wanted) {
+        return Ok(found);
+    }
+    let mut last = 0;
+    found.push(last)?;
+    for (index, token) in tokens.iter().enumerate() {
+        if is_wanted(wanted, token) {
+            last = index + 1;
+        }
+        found.push(last)?;
+    }
+    Ok(found)
+}
+
+/// Returns whether one of the tokens of an argument is wanted, where `last_ones` are the numbers
+/// that are returned for them.
+fn is_one_in(last_ones: &[usize], argument: &Argument) -> bool
+    ensures { (wanted : Wanted) (xs : List Leaf) → AreLast wanted xs last_ones.now
+        → result ≡ list_any (is_wanted wanted) (tokens_of xs argument.now) }
+{
+    let count = last_ones.len().saturating_sub(1);
+    match last_ones.get(argument.end.min(count)) {
+        Some(last) => argument.start < *last,
+        None => false,
+    }
+}
+
+/// A part of a file, whose arguments are searched in a time that does not grow with them. A
+/// contract sees the tokens.
+#[derive(Drop)]
+pub struct Part<'a> {
+    source: Source<'a>,
+    variables: Vec<usize>,
+    raws: Vec<usize>,
+}
+
+impl<'a> Model for Part<'a> {
+    ghost use Rattle.std.specs.Prelude.{List};
+    ghost use Rattle.rust_trees.specs.Leaves.{Leaf};
+    ghost use Rattle.format_calls.specs.Searches.{AreLast};
+    ghost use Rattle.format_calls.specs.declared.part.Wanted.TheVariants.{Raw, Variable};
+
+    ghost Value = { List Leaf };
+
+    ghost view = { λ p. p.source };
+
+    ghost invariant = { λ p. AreLast Variable p.source p.variables.items
+        × AreLast Raw p.source p.raws.items };
+}
+
+impl<'a> Part<'a> {
+    /// Reads the tokens of a part. Returns `Err` if an allocation fails.
+    pub fn new(alloc: Global, source: Source<'a>) -> Result<Self, AllocError>
+        ensures { IfOk result (λ p. p ≡ source.entry) }
+    {
+        let variables = last_ones(alloc, source.tokens(), Wanted::Variable)?;
+        let raws = last_ones(alloc, source.tokens(), Wanted::Raw)?;
+        Ok(Part {
+            source,
+            variables,
+            raws,
+        })
+    }
+
+    /// Returns the tokens with their pairs of delimiters.
+    pub fn source(&self) -> &Source<'a>
+        ensures { result.now ≡ self.now }
+    {
+        &self.source
+    }
+
+    /// Returns the tokens.
+    pub fn tokens(&self) -> &[Token<'a>]
+        ensures { map leaf result.now ≡ self.now }
+    {
+        self.source.tokens()
+    }
+
+    /// Returns whether a variable of a macro stands in an argument.
+    pub fn has_variable(&self, argument: &Argument) -> bool
+        ensures { result ≡ list_any is_variable (tokens_of self.now argument.now) }
+    {
+        is_one_in(&self.variables, argument)
+    }
+
+    /// Returns whether the word `raw` stands in an argument.
+    pub fn has_raw(&self, argument: &Argument) -> bool
+        ensures { result ≡ has_raw (tokens_of self.now argument.now) }
+    {
+        is_one_in(&self.raws, argument)
+    }
+}

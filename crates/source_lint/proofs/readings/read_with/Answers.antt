@@ -1,0 +1,19 @@
+use Rattle.std.proofs.Common.{◌∙◌, ap, refl}
+use Rattle.source_lint.specs.Literals.{appends_newline}
+use Rattle.source_lint.specs.Readings.{captures}
+use Rattle.source_lint.proofs.Calling.{reads-by}
+use Rattle.source_lint.proofs.readings.read_with.Goals as goal
+
+pub returns-clause-read : goal.returns-clause-read
+returns-clause-read c =
+    let tokens = c.tokens-tokens.ensures in
+    let name = rw tokens at c.name_at-name.ensures in
+    let r = rw tokens at c.in_ok-reading.ensures.read in (
+      r.0,
+      r.1,
+      reads-by _ _ _ _ _ _ _ _ _ _ _
+          (c.appends_newline-appended_newline.ensures ∙ ap appends_newline name)
+          (c.captures-captures.ensures
+          ∙ ap (captures c.args.file.is_from_2021 c.args.call.now.rule) name)
+          refl refl r.2,
+    )
