@@ -81,7 +81,7 @@ fn add_error(digest: &mut Digest, error: &ParseError) {
     digest.add_range(&error.span);
 }
 
-/// Adds what a parser has at its end.
+/// Adds the findings of a parser at its end.
 fn add_parser(digest: &mut Digest, parser: &Parser<'_>) {
     digest.add(u64::from(parser.is_source_literal()));
     for error in parser.errors() {

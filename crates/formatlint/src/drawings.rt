@@ -3,9 +3,9 @@
 ghost use Rattle.std.specs.Prelude.{◌≡◌};
 
 use crate::forms::File;
-use drawn_faults::{
-    Diagnostic, Edit, Level, Picture, SourceHelp, SourceLabel, SourceNote, put_labels,
-};
+use drawn_faults::{Diagnostic, Level, SourceHelp, SourceLabel, SourceNote, put_labels};
+use drawn_lines::Picture;
+use fault_fixes::Edit;
 use source_lint::Finding;
 use std::alloc::{AllocError, Global};
 use std::ops::Range;

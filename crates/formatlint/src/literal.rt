@@ -4,7 +4,7 @@ use crate::arguments::{file_of, has_colours, list_words, task_of};
 use crate::failure::Failure;
 use crate::recorder::Recorder;
 use clap::ArgMatches;
-use drawn_faults::put_glyphs;
+use drawn_lines::put_glyphs;
 use format_lint::run::run;
 use lint_words::{put_failure, put_not_literal, system_words};
 use listing_json::{Listing, list};

@@ -177,8 +177,8 @@ fn files_status(rt: &HostRuntime, matches: &ArgMatches<'_>) -> Result<u8, Error>
     Ok(read_files(rt, matches, &request, options))
 }
 
-/// Reads the arguments of the program and does what they ask for. Returns the exit status, and
-/// `Err` if the arguments are invalid, an allocation fails, or help or the version is asked for.
+/// Reads the arguments of the program and runs their task. Returns the exit status, and `Err` if
+/// the arguments are invalid or request help or the version, or if an allocation fails.
 fn status(rt: &HostRuntime, words: &[String]) -> Result<u8, Error> {
     let matches = command(rt.alloc())?.try_get_matches_from(words)?;
     if matches.get_flag("list-ids") {

@@ -113,7 +113,7 @@ impl Totals {
         self.progress.show(rt, self.files);
     }
 
-    /// Removes what shows the progress, before other text is written.
+    /// Removes the line of the progress, before other text is written.
     pub fn clear_progress(&mut self, rt: &HostRuntime) {
         self.progress.clear(rt);
     }
