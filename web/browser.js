@@ -52,7 +52,7 @@ class Browser {
     return new Promise((done, fail) => this.asked.set(message.id, { done, fail }));
   }
 
-  /** Opens a page. What it then says to its console is in `events`. */
+  /** Opens a page. The messages to its console are in `events`. */
   async open(address) {
     const { targetId } = await this.call('Target.createTarget', { url: 'about:blank' });
     const attached = await this.call('Target.attachToTarget', { targetId, flatten: true });

@@ -47,7 +47,7 @@ function quoted(text) {
   return `"${text.replace(/['"\\\x00-\x1f\x7f]/g, written)}"`;
 }
 
-/** What a listing calls the parts of a placeholder, and the widths and precisions. */
+/** The names that a listing has for the parts of a placeholder, and for widths and precisions. */
 const NAMES = {
   'next argument': 'implicit', 'argument number': 'index', 'argument name': 'name',
   fill: 'fill', alignment: 'align', sign: 'sign', 'alternate form': 'alt', 'zero padding': 'zero',
@@ -57,7 +57,7 @@ const COUNTS = {
   '': 'is', ' from': 'name', ' from argument': 'param', ' from next argument': 'star',
 };
 
-/** How a listing writes a part of a placeholder, of which `next` is the one behind it. */
+/** How a listing writes a part of a placeholder, of which `next` is the one after it. */
 function partLine([name, value, ...span], [, , ...named]) {
   const [range, place] = [span, named].map((it) => it.join('..'));
   const at = range && `@${range}`;
@@ -72,7 +72,7 @@ function partLine([name, value, ...span], [, , ...named]) {
   return ` ${word}=${['fill', 'ty'].includes(word) ? quoted(value) : value}${at}`;
 }
 
-/** How a listing writes a piece: the parts behind its place. One that is not there has neither a
+/** How a listing writes a piece: the parts after its place. One that is not there has neither a
  * value nor a range. */
 function pieceLine([, ...told]) {
   const parts = told.filter(([, value, start]) => value || start !== undefined);
@@ -87,8 +87,8 @@ function pieceLine([, ...told]) {
 
 const faultLine = ([[, text, ...span]]) => `fault ${span.join('..')} ${text}`;
 
-/** The listing of what is read, as the program formatread writes it: with the report of arguments
- * if these are given. */
+/** The listing of an answer, as the program formatread writes it: with the report of arguments if
+ * these are given. */
 function listing(answer, args) {
   if (!answer) return null;
   const lines = [...answer.pieces.first.flatMap(pieceLine), ...answer.faults.first.map(faultLine)];

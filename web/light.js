@@ -1,5 +1,5 @@
-/** What lights up together, and the arrow keys. What stands for a part of the text has its byte
- * range (`span`), and a token the row of the part that it belongs to (`owner`). */
+/** The elements that light up together, and the arrow keys. An element of a part of the text has
+ * its byte range (`span`), and a token the row of the part that it belongs to (`owner`). */
 
 /** Lights up the part of an element and its characters, or nothing. */
 function light(element) {

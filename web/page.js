@@ -1,11 +1,11 @@
-/** The page: what is typed, and what is read of it. Texts go into the page as text only. What is
- * read is told in parts: a name, a value, and where it starts and ends if that is known. */
+/** The page: the typed text, and its reading. Texts go into the page as text only. A reading has
+ * parts: a name, a value, and where it starts and ends if that is known. */
 
 /** The most bytes of a text, the most of these that are shown, and the most letters of a part. */
 const [LIMIT, SHOWN, WIDE] = [1048576, 20000, 200];
 /** A longer text is read after a pause, and is not kept in the address. */
 const LONG = 8192;
-/** What is not kept in the address. */
+/** The values that are not kept in the address. */
 const USUAL = { text: '', form: 'text', mode: 'format', args: '' };
 const NO_LITERAL = 'This is no string literal: it needs its quotes, as in "hi {name}" or r#"{}"#.';
 const REPORT = ['missing argument', 'missing name', 'unused argument', 'unused name'];
@@ -18,9 +18,9 @@ const TOKEN_OF = {
 const by = (id) => document.getElementById(id);
 const decoder = new TextDecoder('utf-8', { ignoreBOM: true });
 let reader = null;
-/** What waits for a pause in typing. */
+/** The tasks that wait for a pause in typing. */
 const pauses = {};
-/** The bytes of the literal, and the ends of what is shown of it. */
+/** The bytes of the literal, and the ends of the part of it that is shown. */
 let shown = { bytes: [], before: 0, end: 0 };
 
 const slice = ([start, end]) => decoder.decode(shown.bytes.subarray(start, end));
@@ -79,7 +79,7 @@ function cardOf([piece, ...parts], tokens) {
   return make('li', 'card', row('h3', ['', slice(place), ...place]), make('ul', '', ...rows));
 }
 
-/** A button that puts another text in place of what is typed. */
+/** A button that puts another text in place of the typed one. */
 function fixButton(words, fixed) {
   const button = make('button', 'fix', words);
   button.onclick = () => {
@@ -147,7 +147,7 @@ function showView(tokens, faults) {
   }
 }
 
-/** Keeps what is typed in the address, after a pause: a browser allows few changes of it. */
+/** Keeps the form in the address, after a pause: a browser allows few changes of it. */
 function keep(state) {
   const kept = Object.entries(state).filter(([key, value]) => value !== USUAL[key]);
   const address = state.text.length > LONG ? '' : new URLSearchParams(kept).toString();
@@ -159,7 +159,7 @@ function keep(state) {
 
 const typed = () => Object.fromEntries(new FormData(by('form')));
 
-/** Types what an address keeps. */
+/** Types the values that an address keeps. */
 function load(address) {
   by('form').reset();
   for (const [key, value] of new URLSearchParams(address.slice(1))) {
@@ -168,7 +168,7 @@ function load(address) {
   show();
 }
 
-/** What is read of what is typed, or nothing. Says what is wrong with it. */
+/** The reading of the typed text, or nothing. Shows why it cannot be read. */
 function answerTo({ text, form, mode, args }) {
   const source = sourceOf(text, form);
   const bytes = new TextEncoder().encode(source.literal);
@@ -187,7 +187,7 @@ function answerTo({ text, form, mode, args }) {
   return answer;
 }
 
-/** Reads what is typed and shows what is found. */
+/** Reads the typed text and shows the findings. */
 function show() {
   const state = typed();
   keep(state);

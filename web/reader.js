@@ -18,11 +18,11 @@ class Reader {
     this.code = code;
   }
 
-  /** What is read of a source, or null if it is no literal. */
+  /** The reading of a source, or null if it is no literal. */
   read({ literal, start, before }, mode, args, all = true) {
     if (start === null) return null;
     const { calls = new WebAssembly.Instance(this.code).exports } = this;
-    // what is left of a call that stops is not used again
+    // the remains of a call that stops are not used again
     this.calls = undefined;
     const room = (length) => {
       const at = calls.buffer(length);

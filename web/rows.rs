@@ -26,7 +26,7 @@ pub extern "C" fn compare() -> usize {
     )
 }
 
-/// How many bytes are said of what is wrong.
+/// The number of bytes of the message about failures.
 #[no_mangle]
 pub extern "C" fn said() -> usize {
     SAID.lock().unwrap().len()

@@ -166,7 +166,7 @@ enum {
 
 /* an error in the input, with ranges of texts for what it says */
 typedef struct dephungo_fault {
-    dephungo_range description;        /* what is wrong, as a range of texts */
+    dephungo_range description;        /* the message, as a range of texts */
     dephungo_maybe_range note;         /* an additional note, as a range of texts */
     dephungo_range label;              /* the label of span, as a range of texts */
     dephungo_range span;               /* the byte range of the error in the source */

@@ -1,6 +1,6 @@
-/* Reads some inputs first into no room, then into exactly what the answer says is needed, and then into one less of each
- * buffer in turn. The codes are as they should be, and nothing behind a buffer is written: its end is the end of a block of
- * memory, for tools that see what goes beyond, and behind a buffer that is one less stands the one that is left out. */
+/* Reads some inputs first into no room, then into exactly the room that the answer needs, and then into one less of each
+ * buffer in turn. The codes are as they should be, and nothing past a buffer is written: its end is the end of a block of
+ * memory, for tools that see writes beyond, and after a buffer that is one less stands the record that is left out. */
 #include "rows.h"
 #include <stdio.h>
 #include <stdlib.h>
@@ -17,8 +17,8 @@ static void make(void *buffers[BUFFERS], const size_t rooms[BUFFERS]) {
     }
 }
 
-/* Whether a call with these rooms, but one record less in the buffer `less`, answers the code, tells what is needed and leaves
- * the record that is left out. */
+/* Whether a call with these rooms, but one record less in the buffer `less`, answers the code, counts the room needed and
+ * leaves the record that is left out. */
 static int answers(const row *r, const size_t rooms[BUFFERS], int less, uint32_t code, dephungo_answer *answer) {
     void *buffers[BUFFERS];
     size_t told[BUFFERS];

@@ -8,7 +8,7 @@
 
 namespace {
 
-/// What a call of dephungo_read wrote.
+/// The records that a call of dephungo_read wrote.
 struct Reading {
     std::vector<dephungo_step> steps;
     std::vector<dephungo_spec> specs;

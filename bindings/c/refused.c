@@ -1,4 +1,4 @@
-/* Refuses in turn each request for memory of reading some inputs: the code is NO_MEMORY, the answer is as it was, and nothing
+/* Refuses in turn each request for memory while inputs are read: the code is NO_MEMORY, the answer is as it was, and nothing
  * leaks. Where nothing is refused any more, the code is DONE. It is linked with --wrap=malloc, realloc and free. */
 #include "rows.h"
 #include <stdio.h>

@@ -102,7 +102,7 @@ fn same_state(
     }
 }
 
-/// Both parsers side by side, up to two calls behind the end, with fields written in between.
+/// Both parsers side by side, up to two calls after the end, with fields written in between.
 fn compare(case: &Case, random: &mut Random, counts: &mut Counts) {
     if let Some(name) = left_out(case) {
         return counts.add(name);

@@ -1,6 +1,6 @@
 //! Times in one run, over the same inputs: cost STRINGS, a file with a string and its literal on a
-//! line, with a tab between them. A line of what it writes is a row's name, with a tab behind it
-//! and behind each time in microseconds: of the crate of bindings/rust, of the original, and with
+//! line, with a tab between them. A line of its output is a row's name, with a tab after it and
+//! after each time in microseconds: of the crate of bindings/rust, of the original, and with
 //! `--cfg library` of the library's own walk and of the export into buffers that are kept. With
 //! `--cfg growth` there are only walks of the library, over kinds of input at growing sizes.
 #![allow(dead_code)]
@@ -76,7 +76,7 @@ mod export {
         })
     }
 
-    /// What its records say of the walk up to its first None.
+    /// The counts in its records of the walk up to its first None.
     pub fn counted(input: &str, snippet: Option<&str>) -> Counts {
         let (steps, faults) = alone(input, snippet);
         KEPT.with_borrow(|kept| {
@@ -104,8 +104,8 @@ fn sum_of(walk: Walk, inputs: &[Input]) -> Counts {
     counts.fold((0, 0), |sum, (pieces, errors)| (sum.0 + pieces, sum.1 + errors))
 }
 
-/// What there is to count, and the shortest of the times of each walk, in microseconds; in turn, so
-/// that another load on the machine hits all of them.
+/// The counts, and the shortest of the times of each walk, in microseconds; in turn, so that another
+/// load on the machine hits all of them.
 fn timed(name: &str, inputs: &[Input], times: usize) -> (Counts, Vec<f64>) {
     let counts: Vec<_> = WALKS.iter().map(|(_, counting)| sum_of(*counting, inputs)).collect();
     assert!(counts.iter().all(|it| *it == counts[0]), "{name}: the counts differ: {counts:?}");

@@ -1,6 +1,6 @@
 //! The crate of bindings/rust beside another build of itself, over random files of Rust: files SEED
-//! COUNT. Tokens, places, breaks, calls with their arguments, and what is wrong with each call are
-//! the same.
+//! COUNT. Tokens, places, breaks, calls with their arguments, and the faults of each call are the
+//! same.
 mod cases;
 use cases::Random;
 
@@ -83,7 +83,7 @@ macro_rules! seen_by {
                 }
             }
 
-            /// What a fault has besides its title.
+            /// The parts of a fault besides its title.
             fn detail(fault: &CallFault<'_>) -> String {
                 match fault {
                     CallFault::PositionalAfterNamed { index, named } => format!("{index} {named:?}"),

@@ -1,10 +1,19 @@
 //! The call into the static library, and its records as the proved sources have them. All that is
-//! unsafe is in this file.
+//! unsafe is in this file. With `--cfg portable` the library is that of bindings/c/portable.
+#[cfg(portable)]
+#[path = "../c/portable/src/lib.rs"]
+mod portable;
+#[cfg(not(portable))]
 #[path = "../../crates/flat_reading/src/records.rt"]
 #[allow(dead_code)]
 pub mod records;
+#[cfg(portable)]
+use portable::dephungo_read;
+#[cfg(portable)]
+pub use portable::records;
 use records::*;
 
+#[cfg(not(portable))]
 #[link(name = "dephungo", kind = "static")]
 #[link(name = "libc_c", kind = "static")]
 unsafe extern "C" {
@@ -28,7 +37,7 @@ unsafe extern "C" {
     ) -> u32;
 }
 
-/// What a reading is written into. The length of each vector is its room.
+/// The buffers into which a reading is written. The length of each vector is its room.
 pub struct Buffers {
     pub steps: Vec<Step>,
     pub specs: Vec<Spec>,
@@ -45,7 +54,7 @@ pub fn blank<T: Copy>() -> T {
 }
 
 impl Buffers {
-    /// Buffers with room for what an answer tells.
+    /// Buffers with room for the records that an answer counts.
     pub fn with_room(told: Answer) -> Self {
         Buffers {
             steps: vec![blank(); told.steps],

@@ -1,6 +1,6 @@
 //! Random literals, over the crate of bindings/rust and over the proved program formatlint: lint
-//! PROGRAM SEED COUNT. What the program writes, without an option, with `--all` and with `--fix`, is
-//! what the crate makes of the literal.
+//! PROGRAM SEED COUNT. The output of the program, without an option, with `--all` and with `--fix`,
+//! is that of the crate for the literal.
 mod cases;
 use cases::{quoted, Random};
 use dephungo::faults::{draw, error_of, faults_of, fix, Fault, Picture};
@@ -62,8 +62,8 @@ fn calls<'t>(
     calls
 }
 
-/// What the program writes of a literal's faults: the first of the first call that has one, or all
-/// with their ids and whether they follow from an earlier one.
+/// The output of the program about a literal's faults: the first of the first call that has one, or
+/// all with their ids and whether they follow from an earlier one.
 fn drawings(
     snippet: &str,
     text: &str,
@@ -101,8 +101,8 @@ fn drawings(
     out
 }
 
-/// What the program writes to standard output, and to standard error but for its last line on how
-/// many others there are.
+/// The standard output of the program, and its standard error but for the last line on how many
+/// others there are.
 fn said(program: &str, words: &[&str], input: &str) -> (String, String) {
     let mut command = Command::new(program);
     command.arg("--literal").args(words).stdin(Stdio::piped());

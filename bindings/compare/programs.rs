@@ -14,7 +14,7 @@ const READ_WORDS: &[&str] = &[
     "1,a,b", "1,,a", "formats", "", "--help",
 ];
 
-/// Words of formatlint, right and wrong. What is in capitals is a path in the folder of the runs.
+/// Words of formatlint, right and wrong. A word in capitals is a path in the folder of the runs.
 const LINT_WORDS: &[&str] = &[
     "--literal", "--literal", "--literal", "--text", "--mode", "format", "asm", "asmm", "--mode=",
     "--mode=diagnostic", "--mode=formt", "--text=x", "--fix", "--tokens", "--tokns", "--all",
@@ -69,7 +69,7 @@ fn words(random: &mut Random, all: &[&str], folder: &str) -> Vec<String> {
     (0..random.below(5)).map(|_| word(random.of(all))).collect()
 }
 
-/// A file: some parts, one behind the other.
+/// A file: some parts, one after the other.
 fn file(random: &mut Random) -> String {
     (0..random.below(12)).map(|_| random.of(FILE_PARTS)).collect()
 }

@@ -1,5 +1,5 @@
-//! What the static library writes of random inputs, and of as many literals with right and wrong
-//! escapes, beside what the crate of bindings/rust reads of them: records SEED COUNT.
+//! The records of the static library for random inputs, and for as many literals with right and
+//! wrong escapes, beside the readings of the crate of bindings/rust: records SEED COUNT.
 mod cases;
 mod library;
 #[macro_use]
@@ -20,7 +20,7 @@ fn maybe(at: MaybeExtent) -> Option<Range<usize>> {
     (at.is_present != 0).then_some(at.from..at.to)
 }
 
-/// What a number stands for.
+/// The meaning of a number.
 fn meant<T: Clone>(tag: u32, meanings: &[(u32, T)]) -> T {
     let found = meanings.iter().find(|(number, _)| *number == tag);
     found.unwrap_or_else(|| panic!("a record with the tag {tag}")).1.clone()
@@ -115,7 +115,7 @@ fn error(texts: &[u8], fault: &Fault) -> ParseError {
     }
 }
 
-/// Reads a case twice: without any room, and with as much as is then told.
+/// Reads a case twice: without any room, and with as much as the answer then counts.
 fn read(case: &Case, peeks: bool) -> Buffers {
     let options = Options {
         mode: [MODE_FORMAT, MODE_INLINE_ASM, MODE_DIAGNOSTIC, MODE_DIAGNOSTIC_NAMED][case.mode],
@@ -133,8 +133,8 @@ fn read(case: &Case, peeks: bool) -> Buffers {
     buffers
 }
 
-/// Compares what is read of a case, before each call and up to two calls behind the end, with
-/// fields written in between. Returns the number of faults.
+/// Compares the readings of a case, before each call and up to two calls after the end, with fields
+/// written in between. Returns the number of faults.
 fn compare(case: &Case, random: &mut Random) -> usize {
     same_as_its_literal(case);
     let has_peeks = random.one_in(2);

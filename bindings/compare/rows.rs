@@ -1,7 +1,7 @@
 //! Rows of answers from outside, over the crate of bindings/rust: rows FILE... Each row is read as
 //! it stands there, and all that this gives is compared; then its input is read in three worlds, as
-//! it is, as an ordinary literal in which each character is an escape with a continuation behind
-//! it, and as a raw literal, and what these give is compared without its spans.
+//! it is, as an ordinary literal in which each character is an escape with a continuation after it,
+//! and as a raw literal, and the readings of these are compared without their spans.
 use dephungo::*;
 use std::fmt::Write;
 use std::ops::Range;

@@ -1,17 +1,40 @@
-//! The calls of the rows of crates/tests_calls, each in a file, over the crate of bindings/rust: what
-//! is wrong with them has the titles that rustc gives it, and the labels, the notes and the help under
-//! these. The tables are read as they stand there.
+//! The calls of the rows of crates/tests_calls, the calls of `asm!` and the texts of attributes of
+//! crates/tests_asm, each in a file, over the crate of bindings/rust: what is wrong with them has the
+//! titles that rustc gives it, and the labels, the notes and the help under these. The tables are read
+//! as they stand there.
 use dephungo::source::{call_faults, calls, file_faults};
 use dephungo::source::{CallArgument, CallFault, Finding, FormatString, Given, Table};
 use std::ops::Range;
 
-#[path = "../../crates/tests_calls/src/rows.rt"]
+#[path = "../../crates/tests_calls/src/missing_rows.rt"]
+mod missing_rows;
+#[path = "../../crates/tests_calls/src/name_rows.rt"]
+mod name_rows;
+#[path = "../../crates/tests_asm/src/operand_rows.rt"]
+mod operand_rows;
+#[path = "../../crates/tests_asm/src/reference_rows.rt"]
+mod reference_rows;
+#[path = "../../crates/tests_asm/src/rows.rt"]
 mod rows;
 #[path = "../../crates/tests_calls/src/shown_rows.rt"]
 mod shown_rows;
+#[path = "../../crates/tests_calls/src/string_rows.rt"]
+mod string_rows;
+#[path = "../../crates/tests_asm/src/template_rows.rt"]
+mod template_rows;
+#[path = "../../crates/tests_asm/src/text_rows.rt"]
+mod text_rows;
+#[path = "../../crates/tests_calls/src/rows.rt"]
+mod title_rows;
+#[path = "../../crates/tests_calls/src/unused_rows.rt"]
+mod unused_rows;
 
 /// What is in front of the literal in a file.
 const FRONT: &str = "fn f() { format!(";
+/// What is in front of the first template in a file.
+const ASM_FRONT: &str = "fn f() { asm!(";
+/// What is in front of the literal of an attribute in a file.
+const TEXT_FRONT: &str = "#[diagnostic::on_unimplemented(message = ";
 
 /// A file with a call.
 fn file_of(text: &str, arguments: &str) -> String {
@@ -48,11 +71,11 @@ fn titles(file: &str, text: &str) -> String {
     checked.faults().iter().map(title).collect::<Vec<_>>().join("\n")
 }
 
-/// What is shown under the title of a finding, as a row has it. Ranges count from the literal on, and
-/// that of the whole call is `call`.
-fn shown(finding: &Finding) -> String {
-    let at = |it: &Range<usize>| match it.start.checked_sub(FRONT.len()) {
-        Some(start) => format!("{start}..{}", it.end - FRONT.len()),
+/// What is shown under the title of a finding, as a row has it. Ranges count from the end of what is
+/// in front, and that of the whole call is `call`.
+fn shown(front: &str, finding: &Finding) -> String {
+    let at = |it: &Range<usize>| match it.start.checked_sub(front.len()) {
+        Some(start) => format!("{start}..{}", it.end - front.len()),
         None => "call".to_string(),
     };
     let label = |sign, range, text: &str| format!("{sign}{} {text}\n", at(range));
@@ -71,17 +94,52 @@ fn shown(finding: &Finding) -> String {
     lines.concat()
 }
 
+/// The findings of a file, each with its title, as a row of crates/tests_asm has them.
+fn said(front: &str, file: &str) -> Vec<String> {
+    let findings = file_faults(file, &Table::standard(), true).findings;
+    findings.iter().map(|it| format!("{}\n{}", it.title, shown(front, it))).collect()
+}
+
+/// What a row says without the range that a help shows, which a finding does not have.
+fn without_range_of_help(said: &str) -> String {
+    let is_range = |c: char| c.is_ascii_digit() || c == '.' || c == ' ';
+    let line = |it: &str| match it.starts_with("? ") {
+        true => format!("{}\n", it.trim_end_matches(is_range)),
+        false => format!("{it}\n"),
+    };
+    said.lines().map(line).collect()
+}
+
 fn main() {
-    for row in &rows::ROWS {
+    for row in &title_rows::ROWS {
         let file = file_of(row.text, row.arguments);
         assert_eq!(titles(&file, row.text), row.titles, "{file}");
     }
-    for row in &shown_rows::SHOWN {
+    let all_shown = [
+        missing_rows::MISSING, unused_rows::UNUSED, name_rows::NAMES, string_rows::STRINGS,
+    ].concat();
+    for row in &all_shown {
         let file = file_of(row.text, row.arguments);
         let findings = file_faults(&file, &Table::standard(), true).findings;
-        let lines: String = findings.iter().map(shown).collect();
+        let lines: String = findings.iter().map(|it| shown(FRONT, it)).collect();
         assert_eq!(lines, row.shown, "{file}");
     }
-    let (titles, shown) = (rows::ROWS.len(), shown_rows::SHOWN.len());
+    let asm_calls = [
+        operand_rows::OPERANDS, reference_rows::REFERENCES, template_rows::TEMPLATES,
+    ].concat();
+    for row in &asm_calls {
+        let file = format!("{ASM_FRONT}{}); }}", row.call);
+        assert_eq!(said(ASM_FRONT, &file).concat(), without_range_of_help(row.said), "{file}");
+    }
+    for row in &text_rows::TEXT_ROWS {
+        let item = "pub trait T<A, B: Copy, const N: usize> {}";
+        let file = format!("{TEXT_FRONT}{})]\n{item}\n", row.literal);
+        let mut said = said(TEXT_FRONT, &file);
+        said.sort();
+        assert_eq!(said.concat(), row.said, "{file}");
+    }
+    let (titles, shown) = (title_rows::ROWS.len(), all_shown.len());
     println!("{titles} calls with their titles, {shown} with what is under them: all as of rustc");
+    let (calls, texts) = (asm_calls.len(), text_rows::TEXT_ROWS.len());
+    println!("{calls} calls of asm! and {texts} texts of attributes: all as of rustc");
 }

@@ -10,11 +10,11 @@ from extraction.tokens import Refused
 
 TOP = Path(__file__).resolve().parent.parent.parent
 RUST = TOP / "bindings/rust/src"
-CRATES = ("rustc_parse_format", "placeholder_check", "format_tokens", "drawn_faults", "rust_tokens",
-          "rust_trees", "format_calls", "call_faults", "asm_faults", "message_faults",
-          "piece_listing", "listing_json", "literal_faults", "format_lint", "lint_words",
-          "source_lint", "fault_rules", "message_forms", "package_edition", "formatread",
-          "formatlint")
+CRATES = ("rustc_parse_format", "placeholder_check", "format_tokens", "fault_fixes", "drawn_lines",
+          "drawn_labels", "drawn_edits", "drawn_faults", "rust_tokens", "rust_trees",
+          "format_calls", "call_faults", "asm_faults", "message_faults", "piece_listing",
+          "listing_json", "literal_faults", "format_lint", "lint_words", "source_lint",
+          "fault_rules", "message_forms", "package_edition", "formatread", "formatlint")
 NOTICE = """\
 // Extracted from {place} by tools/extract: not to be edited.
 // That source is proved, and each contract here is its. That this text means the same is tested:
@@ -49,6 +49,16 @@ class Read:
         self.sources[at] = source_of(self.sources[at].crate, self.sources[at].name, path, text)
         self.erase(self.sources[at])
 
+    def changed(self, path, text):
+        """What another text of a file becomes in Rust, whose bodies of functions are all that differs
+        and need nothing else, after `made`."""
+        old = next(it for it in self.sources if it.path == str(path))
+        source = source_of(old.crate, old.name, path, text)
+        self.erase(source)
+        for item, known in zip(items_of(source), items_of(old)):
+            item.is_kept = known.is_kept
+        return self.text(source, self.needs, self.cloned)
+
     def made(self, callers, programs=()):
         """The sources in Rust, by their names, of all items that the callers need, which are files in
         Rust. What only those of the programs need is there with the feature `std` alone. It can be
@@ -58,8 +68,10 @@ class Read:
         needs.plain = {module for module in needs.files if needs.has(*module)}
         needs.plainly_passed = set(needs.passed)
         needs.add_callers(programs)
+        needs.note_plain()
         cloned = {item.name for source in self.sources for item in source.items
                   if any(clones_in(source, part) for part in item.parts)}
+        self.needs, self.cloned = needs, cloned
         head = "// The crates that are extracted. Made by tools/extract: not to be edited.\n\n"
         modules = (f"{needs.feature(name)}pub mod {name};\n" for name in sorted(self.crates)
                    if needs.has(name))
@@ -74,7 +86,7 @@ class Read:
     def text(self, source, needs, cloned):
         """The text in Rust of a source."""
         here = (source.crate, *module_of(source.name))
-        items = [it for item in source.items for it in (item, *item.parts)]
+        items = items_of(source)
         has = [(needs.has(*here, it.name), needs.feature(*here, it.name))
                for it in items if it.kind == "mod"]
         passed = sorted(it for it in needs.passed if it[0] == source.path)
@@ -94,10 +106,14 @@ def source_of(crate, name, path, text):
     return source
 
 
+def items_of(source):
+    """The items of a file, and those in them."""
+    return [it for item in source.items for it in (item, *item.parts)]
+
+
 def functions_of(sources):
     """The names of all functions and methods."""
-    items = [it for source in sources for item in source.items for it in (item, *item.parts)]
-    return {it.name for it in items if it.kind == "fn"}
+    return {it.name for source in sources for it in items_of(source) if it.kind == "fn"}
 
 
 def read_repository():
@@ -222,6 +238,18 @@ class Needs:
                     if part is not item:
                         self.items.add((source.path, item.name))
 
+    def note_plain(self):
+        """Notes what the modules that are there without the feature `std` import through others."""
+        all_passed, self.passed = self.passed, set()
+        for module in self.plain:
+            source = self.files[module]
+            for item in source.items:
+                for part in [it for it in item.parts if it.is_kept] or [item]:
+                    if part.is_kept:
+                        self.add(source, part)
+        self.plainly_passed |= self.passed
+        self.passed |= all_passed
+
     def has(self, *module):
         """Whether something of a module is needed, or of one in it."""
         inside = [it for here, it in self.files.items() if here[: len(module)] == module]
@@ -331,6 +359,10 @@ def head_of(source, item):
         if (source.name, item.name) == ("main.rt", "main"):
             # a program of the crate for Rust calls it
             source.tokens[item.head].text = "pub fn"
+        for at in source.places(item.start, item.head):
+            if source.text(at) == "super":
+                # what calls the crates stands outside of them
+                source.tokens[at].text = "crate"
         words = source.texts(item.start, item.head)
         inline = "" if "inline" in words else "#[inline]\n"
         source.tokens[item.start].text = item.clauses + inline + source.tokens[item.start].text

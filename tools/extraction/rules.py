@@ -68,7 +68,7 @@ DERIVES = {"Clone", "Copy", "Debug", "Default", "Drop", "Eq", "Ord", "PartialEq"
 SHOWN = ("Debug", "Eq", "PartialEq")
 ADDED = {("placeholder_check", "Report"): ("Clone", *SHOWN),
          ("rustc_parse_format", "Fault"): ("Clone", *SHOWN),
-         ("drawn_faults", "Fixed"): ("Clone",),
+         ("fault_fixes", "Fixed"): ("Clone",),
          ("call_faults", "Given"): SHOWN, ("source_lint", "CallReading"): SHOWN,
          **{("source_lint", name): ("Clone", *SHOWN)
             for name in ("Edit", "Finding", "Help", "Label", "Note", "Report")},
@@ -284,7 +284,9 @@ def refuse_unknown(source, at):
     elif text == ".." and ends_value(source, source.prev(at)):
         if behind in (")", "]", ",", ";", "{", "}", "=>") and not is_place(source, at):
             source.refuse(at, "a range without an end")
-    elif text == ".." and before in (",", "{") and behind not in ("}", ")", "]"):
+    elif (text == ".." and before in (",", "{") and behind not in ("}", ")", "]")
+          and not (behind.isupper() and source.text(source.next(at, 2)) == "}")):
+        # (a constant is the same whether it is read or not)
         source.refuse(at, "a value that takes members over from another")
     elif text == "[" and before == "(" and is_pattern(source, at):
         source.refuse(at, "a pattern of an array inside of another pattern")

@@ -1,16 +1,16 @@
-//! The extracted parser for the page: a literal goes in, and what is read of it comes out as JSON.
+//! The extracted parser for the page: a literal goes in, and its reading comes out as JSON.
 use dephungo::faults::{draw, edits, fix, Picture};
 use dephungo::{check, literal::read_content, tokens::*, ParseMode::*, *};
 use std::{fmt::Display, ops::Range, slice::from_ref, sync::Mutex};
 
-/// The most faults, or arguments of a kind, that are told.
+/// The most faults, or arguments of a kind, that are listed.
 const MOST: usize = 50;
 /// The most faults of a text with tokens and a fix, which take time that grows with their square.
 const FEW: usize = 4000;
 /// The most bytes of a text in which faults are drawn.
 const SHORT: usize = 20_000;
 
-/// What goes in, and then what comes out.
+/// The input, and then the answer.
 static BUFFER: Mutex<Vec<u8>> = Mutex::new(Vec::new());
 
 /// Gives the buffer `len` bytes, and returns where they are.
@@ -22,7 +22,7 @@ pub extern "C" fn buffer(len: usize) -> *mut u8 {
 }
 
 /// Reads the arguments, a newline and a literal in the buffer, and leaves the answer there: nothing
-/// if that is none. Its text is behind `start` bytes, of which `before` are not shown; 0 is for a
+/// if that is none. Its text is after `start` bytes, of which `before` are not shown; 0 is for a
 /// text alone. Unless `all` is to be read, reading stops at a brace that closes nothing.
 #[no_mangle]
 pub extern "C" fn read(before: usize, start: usize, mode: usize, all: bool) -> usize {
@@ -60,7 +60,7 @@ fn answer(input: &str, before: usize, start: usize, mode: usize, all: bool) -> O
     let mut words = args.split(',');
     let positional = words.next()?.parse().unwrap_or(0);
     let report = check(&pieces, positional, &words.collect::<Vec<_>>());
-    // what is not shown becomes a line in front
+    // the part that is not shown becomes a line in front
     let source = " ".repeat(before) + "\n" + if before > 0 { &text } else { literal };
     let picture = Picture {
         path: "text",
@@ -125,7 +125,7 @@ fn count(name: &str, count: &Count<'_>, span: Option<&Range<usize>>) -> String {
     }
 }
 
-/// What a fault says, its drawing, its note, and what is suggested.
+/// The description of a fault, its drawing, its note, and its suggestion.
 fn fault(mode: ParseMode, error: &ParseError, picture: &Picture<'_>) -> String {
     let drawn = if picture.source.len() > SHORT { "".into() } else { draw(mode, picture, error) };
     let is_local = matches!(error.suggestion, Suggestion::UsePositional);

@@ -10,6 +10,8 @@ fn colour(kind: Kind) -> u8 {
         Kind::Quote | Kind::Text => 32,
         Kind::Open | Kind::Close => 35,
         Kind::Identifier => 36,
+        Kind::EscapeSequence => 34,
+        Kind::Unexpected => 31,
         _ => 33,
     }
 }

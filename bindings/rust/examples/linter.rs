@@ -1,5 +1,5 @@
-//! A linter: `linter FILE..` tells what is wrong with the format strings of files of Rust, a line
-//! each, and its status is 1 if there is anything.
+//! A linter: `linter FILE..` reports the faults of the format strings of files of Rust, a line
+//! each, and its status is 1 if there is any.
 use dephungo::source::{file_faults, Places, Table};
 use std::process::ExitCode;
 

@@ -1,9 +1,8 @@
 //! The faults of a string literal for the one who wrote it: [`draw`] draws a fault under its
 //! source, as rustc does, and [`fix`] applies the edits that the suggestions of faults have. A
 //! [`Fault`] is what an error is made of, with the [`id`](Fault::id) of its kind.
-use crate::proved::drawn_faults::{
-    draw as draw_in, edits as edits_in, errors_of as errors_of_in, fix as fix_in,
-};
+use crate::proved::drawn_faults::draw as draw_in;
+use crate::proved::fault_fixes::{edits as edits_in, errors_of as errors_of_in, fix as fix_in};
 use crate::proved::rustc_parse_format::error_list::empty_error;
 use crate::proved::rustc_parse_format::messages::set_error;
 use crate::shim::alloc::{answer, Global};
@@ -13,7 +12,8 @@ use alloc::string::String;
 use alloc::vec::Vec;
 use core::fmt::{self, Display, Formatter};
 
-pub use crate::proved::drawn_faults::{Edit, Fixed, Picture};
+pub use crate::proved::drawn_lines::Picture;
+pub use crate::proved::fault_fixes::{Edit, Fixed};
 pub use crate::proved::rustc_parse_format::Fault;
 
 /// Returns the text that shows an error of a literal of this mode under its source, as rustc 1.95
@@ -30,7 +30,7 @@ pub use crate::proved::rustc_parse_format::Fault;
 /// crate `unicode_width`, of Unicode 18.
 ///
 /// A span that does not fit is drawn too: an offset inside a character means the start of that
-/// character, one behind the source its end, and a range that ends before it begins is empty.
+/// character, one past the source its end, and a range that ends before it begins is empty.
 ///
 /// ```
 /// use dephungo::faults::{draw, errors_of, Picture};
@@ -63,13 +63,13 @@ pub fn draw(mode: ParseMode, picture: &Picture<'_>, error: &ParseError) -> Strin
 }
 
 /// Returns the edits of these errors of a text of this mode, in the order of the source, each
-/// behind the end of the one before it.
+/// after the end of the one before it.
 ///
 /// As from the compiler, there are none in a template of assembly; and where no placeholder may
 /// have a specification, none leads to one.
 ///
 /// The errors are in the order of a parser, in which each error that has an edit comes before those
-/// of earlier places. An edit that does not start behind the end of the one before it is left out.
+/// of earlier places. An edit that does not start after the end of the one before it is left out.
 /// An allocation failure aborts, as elsewhere in Rust.
 ///
 /// ```

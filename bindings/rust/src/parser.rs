@@ -3,6 +3,7 @@
 use crate::proved::rustc_parse_format::cursor::Cursor;
 use crate::proved::rustc_parse_format::error_list::empty_error;
 use crate::proved::rustc_parse_format::messages::set_error;
+use crate::proved::rustc_parse_format::parser::ahead::Ahead;
 use crate::proved::rustc_parse_format::reader::Reader;
 use crate::proved::rustc_parse_format::source::{quote_offset, source_of};
 use crate::shim::alloc::{answer, Global};
@@ -61,9 +62,10 @@ impl<'input> Parser<'input> {
     ) -> Self {
         let source = source_of(input, style, snippet, appended_newline);
         let is_source_literal = source.is_literal;
+        let cursor = Cursor::new(source, Ahead::new(input));
         Parser {
             mode,
-            reader: Reader::new(Global, Cursor::new(source, input), quote_offset(style)),
+            reader: Reader::new(Global, cursor, quote_offset(style)),
             keeps_faults: false,
             errors: Vec::new(),
             curarg: 0,
@@ -97,7 +99,7 @@ impl<'input> Parser<'input> {
     }
 
     /// Adds an error for each fault that a call found, at the start or the end of the list. The
-    /// first error makes room for four, as it would without being told, but by fewer steps.
+    /// first error makes room for four, as a growing list does, but by fewer steps.
     #[inline(never)]
     fn add_errors(&mut self) {
         if self.errors.capacity() == 0 {

@@ -12,7 +12,8 @@ pub fn formatread() -> ExitCode {
     formatread_in(HostRuntime)
 }
 
-/// Runs the program that tells and draws the faults of format strings, and returns its exit status.
+/// Runs the program that reports and draws the faults of format strings, and returns its exit
+/// status.
 pub fn formatlint() -> ExitCode {
     formatlint_in(HostRuntime)
 }

@@ -1,9 +1,9 @@
-//! Rust source text, without a compiler: what is wrong with the format strings of a file, as rustc
-//! 1.95 tells it ([`file_faults`]), and what that is made of: the [`tokens`], the [`calls`] of macros
-//! that take a format string, and what is wrong with one ([`call_faults`]).
+//! Rust source text, without a compiler: the faults of the format strings of a file, as rustc 1.95
+//! reports them ([`file_faults`]), and the steps to these: the [`tokens`], the [`calls`] of macros
+//! that take a format string, and the faults of one call ([`call_faults`]).
 //!
-//! Nothing is expanded and no name is resolved: a call is found by the name of its macro, also where
-//! it is never compiled.
+//! Nothing is expanded and no name is resolved: a call is found by the name of its macro, even
+//! where it is never compiled.
 //!
 //! ```
 //! use dephungo::source::{file_faults, Places, Table};
@@ -36,7 +36,7 @@ pub use crate::proved::rust_tokens::{Kind, Token};
 pub use crate::proved::rust_trees::{BreakAt, BreakKind, Place};
 pub use crate::proved::source_lint::{CallReading, Finding, Report};
 
-/// Returns the tokens of a file, with white space and comments, one behind the other from its start
+/// Returns the tokens of a file, with white space and comments, one after the other from its start
 /// to its end. An allocation failure aborts, as elsewhere in Rust.
 ///
 /// There is one reading for all editions, that of the newest one: `c"a"` is a C string and `'r#a` a
@@ -77,7 +77,7 @@ impl<'a> Places<'a> {
         }
     }
 
-    /// Returns the line and the column of a byte offset, as rustc tells them.
+    /// Returns the line and the column of a byte offset, as rustc counts them.
     ///
     /// ```
     /// use dephungo::source::Places;
@@ -146,7 +146,7 @@ pub struct Call<'a> {
     pub name: &'a str,
     /// Its byte range, from the name to the closing delimiter.
     pub span: Range<usize>,
-    /// What stands between the delimiters, split at commas, with the format string.
+    /// The text between the delimiters, split at commas, with the format string.
     pub arguments: Vec<CallArgument<'a>>,
     /// The index of the argument that is the format string or the first template, or why none is
     /// read.
@@ -156,13 +156,13 @@ pub struct Call<'a> {
 /// An argument of a call of a macro.
 #[derive(Clone, Debug, Eq, PartialEq)]
 pub struct CallArgument<'a> {
-    /// What [`call_faults`] has to know of it.
+    /// The argument as [`call_faults`] takes it.
     pub given: Given<'a>,
     /// Its text, with its name.
     pub text: &'a str,
     /// The byte range of that. It is empty if nothing stands between two commas.
     pub span: Range<usize>,
-    /// The byte range of its value, which is what stands behind the `=` of a name.
+    /// The byte range of its value, which is the text after the `=` of a name.
     pub value: Range<usize>,
 }
 
@@ -174,7 +174,7 @@ impl<'a> Call<'a> {
         self.arguments.get(index).map(|argument| argument.text)
     }
 
-    /// Returns the arguments behind the format string, which its placeholders may show, or none if
+    /// Returns the arguments after the format string, which its placeholders may show, or none if
     /// no format string is read.
     pub fn formatted(&self) -> &[CallArgument<'a>] {
         match self.string {
@@ -250,8 +250,8 @@ pub fn broken_at(text: &str) -> Option<usize> {
     source.tokens().get(index).map(|token| token.start)
 }
 
-/// Reads a file, and returns what is wrong with its calls of the macros of a table, as rustc tells it,
-/// with how much of each call was read, and where the file breaks. `is_from_2021` is whether the
+/// Reads a file, and returns the faults of its calls of the macros of a table, as rustc reports
+/// them, with how much of each call was read, and where the file breaks. `is_from_2021` is whether the
 /// edition of the file is 2021 or a later one.
 ///
 /// Lines may end with LF or CRLF, and a byte order mark may stand at the start. An allocation failure
@@ -282,8 +282,8 @@ pub struct CheckedCall<'a> {
 }
 
 /// Checks a call of a macro that takes a format string: reads the string, compares its placeholders
-/// with the arguments that are given, in the order of the source, and tells what is wrong, as rustc
-/// does.
+/// with the arguments that are given, in the order of the source, and finds the faults that rustc
+/// finds.
 ///
 /// The number of hashes, the length of the text in bytes, and 2 must together fit into a `usize`. An
 /// allocation failure aborts, as elsewhere in Rust.
@@ -314,7 +314,7 @@ pub fn call_faults<'a>(string: FormatString<'a>, given: &'a [Given<'a>]) -> Chec
 }
 
 impl<'a> CheckedCall<'a> {
-    /// Returns what is wrong, in the order in which rustc tells it.
+    /// Returns the faults, in the order in which rustc reports them.
     pub fn faults(&self) -> &[CallFault<'a>] {
         &self.checked.faults
     }

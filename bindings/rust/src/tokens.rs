@@ -10,11 +10,12 @@ pub use crate::proved::format_tokens::{Kind, Token};
 /// Returns the tokens of an input, faulty or not, with their byte ranges in its source literal, or
 /// in the input if there is none. Nothing is left out but an appended newline.
 ///
-/// The arguments are those of [`Parser::new`](crate::Parser::new). The kinds and the characters of
-/// the tokens never depend on `style` and `snippet`. If the snippet is the source literal of the
-/// input, the byte ranges are those of the snippet, and the first and the last token are what is
-/// around the text. Otherwise the byte ranges are those of the input, from 0 on. An allocation
-/// failure aborts, as elsewhere in Rust.
+/// The arguments are those of [`Parser::new`](crate::Parser::new). If the snippet is the source
+/// literal of the input, the byte ranges are those of the snippet, and the first and the last token
+/// are what is around the text. Otherwise the byte ranges are those of the input, from 0 on. The
+/// kinds and the characters of the tokens do not depend on `style` and `snippet`, but for escapes:
+/// each escape of an ordinary source literal in text, and each continued line, is a token of its
+/// own, and cuts the token that it is in. An allocation failure aborts, as elsewhere in Rust.
 ///
 /// ```
 /// use dephungo::tokens::{tokens, Kind};
@@ -24,7 +25,7 @@ pub use crate::proved::format_tokens::{Kind, Token};
 /// let starts: Vec<_> = found.iter().map(|token| (token.kind, token.span.start)).collect();
 /// let wanted = [
 ///     (Kind::Quote, 0),
-///     (Kind::Text, 1),
+///     (Kind::EscapeSequence, 1),
 ///     (Kind::Open, 5),
 ///     (Kind::Colon, 6),
 ///     (Kind::Type, 7),

@@ -1,5 +1,5 @@
-//! What is made of faults: the fixes of literals, and the drawings of spans that no parser gives,
-//! or of which there is no drawing of rustc. The others are compared by bindings/compare.
+//! Fixes and drawings: the fixes of literals, and the drawings of spans that no parser gives, or of
+//! which there is no drawing of rustc. The others are compared by bindings/compare.
 use dephungo::faults::{draw, edits, error_of, errors_of, faults_of, fix, Picture};
 use dephungo::ParseMode::{self, *};
 use dephungo::{ParseError, Suggestion};
@@ -91,7 +91,7 @@ fn texts_of(parts: usize) -> Vec<String> {
     all
 }
 
-/// What texts that may have edits are made of.
+/// The parts of texts that may have edits.
 const PARTS: &[&str] = &["{", "}", "{{", "a", ":", "?", "#", "r#", ".", "0", "$", " "];
 
 #[test]
@@ -279,7 +279,7 @@ fn a_long_drawing() {
 #[test]
 fn spans() {
     for (source, span, second, wanted) in [
-        // behind the end of the source, and in a character: its start
+        // past the end of the source, and in a character: its start
         (
             "日a",
             9..usize::MAX,

@@ -52,7 +52,7 @@ fn check_report(text: &str, given: usize, names: &[&str]) {
     assert_eq!(report.unused_name, lacked(names, &used_names), "{text}");
 }
 
-/// Checks each text of some parts, one behind the other, with each of these lists.
+/// Checks each text of some parts, one after the other, with each of these lists.
 fn check_texts(parts: &[&str], count: u32, given: &[usize], names: &[&[&str]]) {
     for number in 0..parts.len().pow(count) {
         let part = |place| parts[number / parts.len().pow(place) % parts.len()];

@@ -1,5 +1,5 @@
 //! Tokens, places and calls of files. Expected values are worked out by hand from the Rust Reference,
-//! and places are those that rustc 1.95 tells.
+//! and places are those that rustc 1.95 reports.
 use dephungo::source::{broken_at, calls, file_faults, tokens};
 use dephungo::source::{BreakKind, CallReading, Kind, Places, Reason, Row, Rule, Table};
 use std::path::{Path, PathBuf};
@@ -16,7 +16,7 @@ fn files(folder: &Path, found: &mut Vec<PathBuf>) {
     }
 }
 
-/// The tokens of a file are one behind the other, from its start to its end.
+/// The tokens of a file are one after the other, from its start to its end.
 #[test]
 fn tokens_join() {
     let mut found = Vec::new();
@@ -167,6 +167,13 @@ fn arguments() {
         (Some("g"), None, "g = 1 + h", "1 + h"),
     ];
     assert_eq!(shown, wanted);
+    // (`=>` is one token)
+    let arrow = &calls("print!(\"\", a => b)", &Table::standard(), true)[0].arguments[1];
+    assert_eq!((arrow.given.name, arrow.text), (None, "a => b"));
+    // (what is after the parameters of a closure is an expression)
+    let closure = &calls("print!(\"\", |a| a < b, c > d)", &Table::standard(), true)[0];
+    let texts = closure.formatted().iter().map(|it| it.text);
+    assert_eq!(texts.collect::<Vec<_>>(), ["|a| a < b", "c > d"]);
     let empty = &calls("print!(\"\", , a)", &Table::standard(), true)[0].arguments[1];
     assert_eq!((empty.span.clone(), empty.text), (11..11, ""));
 }
@@ -184,7 +191,7 @@ fn tables() {
     assert_eq!(shown, [Some("\"a\""), Some("\"c\"")]);
 }
 
-/// How much of each call is read, and what is found, at the places that rustc 1.95 tells.
+/// How much of each call is read, and the findings, at the places that rustc 1.95 reports.
 #[test]
 fn reports() {
     let text = [

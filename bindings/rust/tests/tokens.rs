@@ -3,7 +3,7 @@ use dephungo::tokens::tokens;
 use dephungo::tokens::Kind::{self, *};
 use dephungo::ParseMode::{self, *};
 
-/// The tokens of the literal are those of the list, one behind the other.
+/// The tokens of the literal are those of the list, one after the other.
 fn check(mode: ParseMode, input: &str, style: Option<usize>, wanted: &[(Kind, &str)]) {
     let snippet: String = wanted.iter().map(|token| token.1).collect();
     let (mut start, mut end) = (0, 0);
@@ -93,7 +93,7 @@ fn what_recovery_takes() {
         (Open, "{"),
         (Identifier, "a"),
         (Unexpected, "?"),
-        (Unexpected, "}"),
+        (Close, "}"),
         (Quote, "\""),
     ];
     check(Format, "{a?}", None, &wanted);
@@ -101,7 +101,8 @@ fn what_recovery_takes() {
         (Quote, "r#\""),
         (Open, "{"),
         (Identifier, "a"),
-        (Unexpected, ".b}"),
+        (Unexpected, ".b"),
+        (Close, "}"),
         (Quote, "\"#"),
     ];
     check(Format, "{a.b}", Some(1), &wanted);
@@ -110,13 +111,64 @@ fn what_recovery_takes() {
 #[test]
 fn escapes_and_continued_lines() {
     let wanted = [
-        (Quote, "\"\\\n"),
+        (Quote, "\""),
+        (EscapeSequence, "\\\n"),
         (Open, "\\x7b"),
-        (Identifier, "a\\\n "),
+        (Identifier, "a"),
+        (EscapeSequence, "\\\n "),
         (Close, "}"),
         (Quote, "\""),
     ];
     check(Format, "{a}", None, &wanted);
+    let wanted = [
+        (Quote, "\""),
+        (Text, "a"),
+        (EscapeSequence, "\\t"),
+        (EscapeSequence, "\\u{e9}"),
+        (EscapeSequence, "\\\n "),
+        (EscapeSequence, "\\\n"),
+        (Open, "\\x7b"),
+        (Close, "}"),
+        (Escape, "}\\x7d"),
+        (Text, "b"),
+        (Quote, "\""),
+    ];
+    check(Format, "a\té{}}}b", None, &wanted);
+}
+
+#[test]
+fn culprits() {
+    let check = |mode, wanted: &[(Kind, &str)]| {
+        let input: String = wanted.iter().map(|token| token.1).collect();
+        let found = tokens(&input, None, None, false, mode);
+        let found: Vec<_> = found
+            .into_iter()
+            .map(|token| (token.kind, &input[token.span]))
+            .collect();
+        assert_eq!(found, wanted);
+    };
+    let inside = [
+        (Open, "{"),
+        (Identifier, "a"),
+        (White, " "),
+        (Unexpected, "b"),
+        (Unexpected, "{{"),
+        (Unexpected, "c"),
+        (Close, "}"),
+    ];
+    check(Format, &inside);
+    let alone = [
+        (Unexpected, "{"),
+        (Identifier, "a"),
+        (White, " "),
+        (Open, "{"),
+        (Close, "}"),
+    ];
+    check(Format, &alone);
+    check(Format, &[(Open, "{"), (Unexpected, "_"), (Close, "}")]);
+    check(Format, &[(Open, "{"), (Integer, "65535"), (Close, "}")]);
+    check(Format, &[(Open, "{"), (Unexpected, "65536"), (Close, "}")]);
+    check(DiagnosticNamed, &[(Unexpected, "{"), (Unexpected, "}")]);
 }
 
 /// Without a source literal the ranges are those of the input, and an appended newline has none.

@@ -2,7 +2,11 @@
 
 pub mod asm_faults;
 pub mod call_faults;
+pub mod drawn_edits;
 pub mod drawn_faults;
+pub mod drawn_labels;
+pub mod drawn_lines;
+pub mod fault_fixes;
 #[cfg(feature = "std")]
 pub mod fault_rules;
 pub mod format_calls;

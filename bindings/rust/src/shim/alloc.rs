@@ -267,8 +267,8 @@ impl StrIn for str {
     }
 }
 
-/// Returns the text of bytes that are proved to be UTF-8. That is tried all the same, and a mistake
-/// panics.
+/// Returns the text of bytes that are proved to be UTF-8. They are checked all the same, and a
+/// mistake panics.
 #[inline(always)]
 pub fn proved_text(bytes: &[u8]) -> &str {
     core::str::from_utf8(bytes).expect("bytes that are proved to be UTF-8")

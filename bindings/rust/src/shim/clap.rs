@@ -8,7 +8,7 @@ mod parse;
 mod suggestions;
 mod texts;
 
-/// What went wrong, or what was asked for.
+/// The kinds of errors and of requests.
 pub mod error {
     /// A kind of error.
     #[derive(Clone, Copy, Debug, Eq, PartialEq)]
@@ -25,16 +25,16 @@ pub mod error {
         ArgumentConflict,
         /// A required argument is missing.
         MissingRequiredArgument,
-        /// Help was asked for.
+        /// Help was requested.
         DisplayHelp,
-        /// The version was asked for.
+        /// The version was requested.
         DisplayVersion,
     }
 }
 
 use error::ErrorKind;
 
-/// What an argument does where it is used.
+/// The effect of an argument where it is used.
 #[derive(Clone, Copy, Debug, Eq, PartialEq)]
 pub enum ArgAction {
     /// It sets its value, once.
@@ -43,9 +43,9 @@ pub enum ArgAction {
     Append,
     /// It is set.
     SetTrue,
-    /// It asks for help.
+    /// It requests help.
     Help,
-    /// It asks for the version.
+    /// It requests the version.
     Version,
 }
 
@@ -157,9 +157,9 @@ impl<'a> Arg<'a> {
         Ok(self)
     }
 
-    /// Says that it needs another one.
-    pub fn requires_arg(mut self, id: &'a str) -> Result<Arg<'a>, AllocError> {
-        self.needs.push(id);
+    /// Says that it needs others.
+    pub fn requires_all(mut self, ids: &[&'a str]) -> Result<Arg<'a>, AllocError> {
+        self.needs.extend_from_slice(ids);
         Ok(self)
     }
 
@@ -249,7 +249,7 @@ impl<'a> Command<'a> {
         self
     }
 
-    /// Adds a text behind the help.
+    /// Adds a text after the help.
     pub fn after_help(mut self, text: &'a str) -> Command<'a> {
         self.after_help = Some(text);
         self
@@ -281,7 +281,7 @@ impl<'a> Command<'a> {
         Ok(self.fault(kind, message, Some(usage)))
     }
 
-    /// Adds the flags that ask for help and for the version.
+    /// Adds the flags that request help and the version.
     fn add_requests(&mut self) {
         let help = Arg::new(Global, "help").short('h').long("help");
         self.args

@@ -1,5 +1,5 @@
-//! What a program gets from its process: arguments, streams, files and the environment. A call that
-//! fails is not tried again, and nothing that was written waits in a buffer.
+//! The process of a program: arguments, streams, files and the environment. A call that fails is
+//! not tried again, and nothing that was written waits in a buffer.
 use super::alloc::Global;
 use std::fmt::Display;
 use std::io::{self, Read, Write};
@@ -97,7 +97,7 @@ impl Instant {
     }
 }
 
-/// What the standard library says of a terminal only since Rust 1.70.
+/// The trait that the standard library has only since Rust 1.70.
 pub trait IsTerminal {
     /// Returns whether the stream is a terminal.
     fn is_terminal(&self) -> bool;

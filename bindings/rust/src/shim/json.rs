@@ -97,7 +97,7 @@ impl Writer {
 mod tests {
     use super::*;
 
-    /// Commas and colons, in nested objects and behind a text.
+    /// Commas and colons, in nested objects and after a text.
     #[test]
     fn tokens() {
         let mut writer = Writer::new(b"x\n".to_vec());

@@ -1,5 +1,5 @@
-//! What the extracted modules use in place of the standard library of the language that they are
-//! proved in.
+//! Modules that the extracted ones use in place of the standard library of the language that they
+//! are proved in.
 pub mod alloc;
 // The programs use a part of these two.
 #[allow(dead_code)]
@@ -63,7 +63,7 @@ macro_rules! eprint_in {
 }
 pub(crate) use eprint_in;
 
-pub use alloc::proved_text;
+pub use self::alloc::proved_text;
 
 #[cfg(test)]
 mod tests {

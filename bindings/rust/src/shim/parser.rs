@@ -32,8 +32,8 @@ impl<'input> Parser<'input> {
         self.parser.is_source_literal
     }
 
-    /// Returns the next piece, and reads a placeholder into `argument`. How many errors were put
-    /// before all others is not told.
+    /// Returns the next piece, and reads a placeholder into `argument`. The number of errors that
+    /// were put before all others is left out.
     pub fn next_into(
         &mut self,
         argument: &mut Argument<'input>,

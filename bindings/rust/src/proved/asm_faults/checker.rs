@@ -1,10 +1,10 @@
-//! What is wrong with a call.
+//! The check of a call.
 
 // Extracted from crates/asm_faults/src/checker.rt by tools/extract: not to be edited.
 // That source is proved, and each contract here is its. That this text means the same is tested:
 // by results from outside, and beside what is proved (.ci/bindings) and the original (tools/agree).
 
-use crate::proved::asm_faults::compared::{look_up, tell_unused};
+use crate::proved::asm_faults::compared::{check_unused, look_up};
 use crate::proved::asm_faults::faults::AsmFault;
 use crate::proved::asm_faults::lookups::Walk;
 use crate::proved::asm_faults::operands::{operands_of, Operand, Operands};
@@ -17,11 +17,11 @@ pub struct AsmCall<'a> {
     /// The operands that are given, of which those whose name is that of an earlier one count as
     /// unnamed.
     pub operands: Vec<Operand<'a>>,
-    /// What is wrong, in the order in which rustc tells it.
+    /// The faults, in the order in which rustc reports them.
     pub faults: Vec<AsmFault<'a>>,
 }
 
-/// Adds what is wrong with templates and operands. Returns `Err` if an allocation fails.
+/// Adds the faults of templates and operands. Returns `Err` if an allocation fails.
 // requires { AllByRecursion (λ t. hashes t.style + length t.text.now + 2 < 2 ^ 64)
 //     templates.now }
 // ensures { OnOk result ((ss : List OperandValue) → Holds ss operands.now
@@ -43,14 +43,14 @@ fn compare<'a>(
     look_up(faults, operands, &walk.lookups)?;
     match fault {
         Some(fault) => faults.try_push(fault)?,
-        None => tell_unused(alloc, faults, operands, &walk.lookups)?,
+        None => check_unused(alloc, faults, operands, &walk.lookups)?,
     }
     Ok(())
 }
 
 /// Checks a call of a macro for inline assembly, as `asm!`: reads its templates, compares their
-/// placeholders with the operands that are given, in the order of the source, and returns what is
-/// wrong, as rustc tells it. Placeholders without a position count through all templates.
+/// placeholders with the operands that are given, in the order of the source, and returns the
+/// faults, as rustc reports them. Placeholders without a position count through all templates.
 ///
 /// With `options(raw)` the templates have no placeholders, so none is to be given here. For each
 /// template the number of hashes, the length of the text in bytes, and 2 must together fit into a

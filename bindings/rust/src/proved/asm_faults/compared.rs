@@ -6,7 +6,7 @@
 
 use crate::proved::asm_faults::faults::AsmFault;
 use crate::proved::asm_faults::lookups::Lookup;
-use crate::proved::asm_faults::operands::{index_of, Operand, Operands};
+use crate::proved::asm_faults::operands::{count_unnamed, index_of, Operand, Operands};
 use crate::shim::alloc::{AllocError, Global};
 use crate::shim::prelude::*;
 
@@ -86,16 +86,25 @@ fn unmarked(
     Ok(left)
 }
 
-/// Returns the fault of a lookup, or `None` if there is none.
+/// Returns the fault of a lookup, or `None` if there is none, where so many operands have neither a
+/// name nor a register of their own.
 // ensures { (ss : List OperandValue) → Holds ss operands.now
-//     → option_map seen_fault result ≡ fault_of ss (seen_lookup lookup.now) }
+//     → option_map seen_fault result ≡ fault_of ss positional_count (seen_lookup lookup.now) }
 #[inline]
-fn fault_of<'a>(operands: &Operands<'a>, lookup: &Lookup<'a>) -> Option<AsmFault<'a>> {
+fn fault_of<'a>(
+    operands: &Operands<'a>,
+    positional_count: usize,
+    lookup: &Lookup<'a>,
+) -> Option<AsmFault<'a>> {
     match *lookup {
         Lookup::Index(spot, index) => match operands.slots.get(index) {
             Some(Operand::Unnamed) => None,
             Some(Operand::Named(_)) | Some(Operand::Register { .. }) | None => {
-                Some(AsmFault::WrongIndex { spot, index })
+                Some(AsmFault::WrongIndex {
+                    spot,
+                    index,
+                    positional_count,
+                })
             }
         },
         Lookup::Name(spot, name) => match index_of(&operands.names, name) {
@@ -109,17 +118,29 @@ fn fault_of<'a>(operands: &Operands<'a>, lookup: &Lookup<'a>) -> Option<AsmFault
 /// Adds the faults of lookups. Returns `Err` if an allocation fails.
 // ensures { OnOk result ((ss : List OperandValue) → Holds ss operands.now
 //     → map seen_fault faults.new.items ≡ map seen_fault faults.old.items
-//     ++ filter_map (fault_of ss) (map seen_lookup lookups.now)) }
+//     ++ filter_map (fault_of ss (count_unnamed ss)) (map seen_lookup lookups.now)) }
 #[inline]
 pub(crate) fn look_up<'a>(
     faults: &mut Vec<AsmFault<'a>>,
     operands: &Operands<'a>,
     lookups: &[Lookup<'a>],
 ) -> Result<(), AllocError> {
+    let positional_count = count_unnamed(&operands.slots);
     for lookup in lookups {
-        if let Some(fault) = fault_of(operands, lookup) {
+        if let Some(fault) = fault_of(operands, positional_count, lookup) {
             faults.try_push(fault)?;
         }
+    }
+    Ok(())
+}
+
+/// Adds the fault of unused operands, if there are any. Returns `Err` if an allocation fails.
+// ensures { OnOk result (map seen_fault faults.new.items ≡ map seen_fault faults.old.items
+//     ++ unused_faults unused.items) }
+#[inline]
+fn push_unused(faults: &mut Vec<AsmFault<'_>>, unused: Vec<usize>) -> Result<(), AllocError> {
+    if !unused.is_empty() {
+        faults.try_push(AsmFault::UnusedOperands(unused))?;
     }
     Ok(())
 }
@@ -130,7 +151,7 @@ pub(crate) fn look_up<'a>(
 //     → map seen_fault faults.new.items ≡ map seen_fault faults.old.items
 //     ++ unused_faults (unused ss (map seen_lookup lookups.now))) }
 #[inline]
-pub(crate) fn tell_unused<'a>(
+pub(crate) fn check_unused<'a>(
     alloc: Global,
     faults: &mut Vec<AsmFault<'a>>,
     operands: &Operands<'a>,
@@ -138,8 +159,6 @@ pub(crate) fn tell_unused<'a>(
 ) -> Result<(), AllocError> {
     let marks = marks(alloc, operands, lookups)?;
     let unused = unmarked(alloc, &operands.slots, &marks)?;
-    if !unused.is_empty() {
-        faults.try_push(AsmFault::UnusedOperands(unused))?;
-    }
+    push_unused(faults, unused)?;
     Ok(())
 }

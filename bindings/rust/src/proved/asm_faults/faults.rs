@@ -21,19 +21,21 @@ pub enum AsmSpot {
         template: usize,
         /// The offset of the first byte.
         start: usize,
-        /// The offset behind the last byte.
+        /// The offset after the last byte.
         end: usize,
     },
 }
 
-/// What is wrong with a call. An operand and a template are named by their index among all that are
-/// given.
+/// A fault of a call. An operand and a template are named by their index among all that are given.
 pub enum AsmFault<'a> {
-    /// An operand without a name and without a register of its own stands behind one that has one
+    /// An operand without a name and without a register of its own stands after one that has one
     /// of them.
     PositionalAfter {
         /// The operand.
         operand: usize,
+        /// The first sixteen operands in front of it that have a name, and then the first sixteen
+        /// that have a register of their own.
+        others: Vec<usize>,
     },
     /// An operand has the name of an earlier one. Placeholders mean it by its index alone.
     RepeatedName {
@@ -54,6 +56,8 @@ pub enum AsmFault<'a> {
         spot: AsmSpot,
         /// The index.
         index: usize,
+        /// The number of operands that have neither a name nor a register of their own.
+        positional_count: usize,
     },
     /// A placeholder refers to a name that no operand has.
     MissingName {

@@ -1,5 +1,5 @@
-//! The labels of faults, in rustc's words. What begins with `push_` adds to the end of `labels`,
-//! and returns `Err` if an allocation fails.
+//! The labels of faults, in rustc's words. A function whose name begins with `push_` adds to the
+//! end of `labels`, and returns `Err` if an allocation fails.
 
 // Extracted from crates/asm_faults/src/labels.rt by tools/extract: not to be edited.
 // That source is proved, and each contract here is its. That this text means the same is tested:
@@ -62,67 +62,6 @@ fn push_kind(
     Ok(())
 }
 
-/// Returns whether an operand has a register of its own, or else a name.
-// ensures { result ≡ is_kind is_register (seen_operand operand.now) }
-#[inline]
-fn is_kind(is_register: bool, operand: &Operand<'_>) -> bool {
-    match operand {
-        Operand::Unnamed => false,
-        Operand::Named(_) => !is_register,
-        Operand::Register { .. } => is_register,
-    }
-}
-
-/// Adds the label of an operand, if it is in front of an index and has a register of its own, or
-/// else a name.
-// ensures { OnOk result (map seen_label labels.new.items ≡ map seen_label labels.old.items
-//     ++ front_label is_register before index (seen_operand operand.now)) }
-#[inline]
-fn push_front(
-    labels: &mut Vec<AsmLabel>,
-    is_register: bool,
-    before: usize,
-    index: usize,
-    operand: &Operand<'_>,
-) -> Result<(), AllocError> {
-    if index < before && is_kind(is_register, operand) {
-        push_kind(labels, index, operand)?;
-    }
-    Ok(())
-}
-
-/// Adds the labels of those of operands in front of an index that have a register of their own, or
-/// else of those that have a name.
-// ensures { OnOk result (map seen_label labels.new.items ≡ map seen_label labels.old.items
-//     ++ front_labels is_register before 0 (map seen_operand operands.now)) }
-#[inline]
-fn push_fronts(
-    labels: &mut Vec<AsmLabel>,
-    is_register: bool,
-    before: usize,
-    operands: &[Operand<'_>],
-) -> Result<(), AllocError> {
-    for (index, operand) in operands.iter().enumerate() {
-        push_front(labels, is_register, before, index, operand)?;
-    }
-    Ok(())
-}
-
-/// Adds the labels of an operand that stands too late.
-// ensures { OnOk result (map seen_label labels.new.items ≡ map seen_label labels.old.items
-//     ++ late_labels (map seen_operand operands.now) index) }
-#[inline]
-fn push_late(
-    labels: &mut Vec<AsmLabel>,
-    operands: &[Operand<'_>],
-    index: usize,
-) -> Result<(), AllocError> {
-    push_label(labels, AsmSpot::Operand(index), true, "positional argument")?;
-    push_fronts(labels, false, index, operands)?;
-    push_fronts(labels, true, index, operands)?;
-    Ok(())
-}
-
 /// Adds the label of the operand of an index, if there is one, and an index does not mean it.
 // ensures { OnOk result (map seen_label labels.new.items ≡ map seen_label labels.old.items
 //     ++ kind_at index (option_map seen_operand operand.entry)) }
@@ -135,6 +74,38 @@ fn push_kind_at(
     if let Some(operand) = operand {
         push_kind(labels, index, &operand)?;
     }
+    Ok(())
+}
+
+/// Adds the labels of the operands of these indices that an index does not mean.
+// ensures { OnOk result (map seen_label labels.new.items ≡ map seen_label labels.old.items
+//     ++ kinds_at (map seen_operand operands.now) indices.now) }
+#[inline]
+fn push_kinds(
+    labels: &mut Vec<AsmLabel>,
+    operands: &[Operand<'_>],
+    indices: &[usize],
+) -> Result<(), AllocError> {
+    let mut rest = indices;
+    while let Some((index, others)) = rest.split_first() {
+        push_kind_at(labels, *index, operand_at(operands, *index))?;
+        rest = others;
+    }
+    Ok(())
+}
+
+/// Adds the labels of an operand without a name, which stands after these others.
+// ensures { OnOk result (map seen_label labels.new.items ≡ map seen_label labels.old.items
+//     ++ late_labels (map seen_operand operands.now) index others.now) }
+#[inline]
+fn push_late(
+    labels: &mut Vec<AsmLabel>,
+    operands: &[Operand<'_>],
+    index: usize,
+    others: &[usize],
+) -> Result<(), AllocError> {
+    push_label(labels, AsmSpot::Operand(index), true, "positional argument")?;
+    push_kinds(labels, operands, others)?;
     Ok(())
 }
 
@@ -169,7 +140,7 @@ fn push_second(
     Ok(())
 }
 
-/// Returns what is said of the place of an error of a template. Returns `Err` if an allocation
+/// Returns the text of the place of an error of a template. Returns `Err` if an allocation
 /// fails.
 // ensures { IfOk result (λ t. string_bytes t
 //     ≡ (seen_error error.now).label ++ codes " in asm template string") }
@@ -238,8 +209,8 @@ impl<'a> AsmCall<'a> {
     pub fn labels(&self, alloc: Global, fault: &AsmFault<'a>) -> Result<Vec<AsmLabel>, AllocError> {
         let mut labels = Vec::made_in(alloc);
         match fault {
-            AsmFault::PositionalAfter { operand } => {
-                push_late(&mut labels, &self.operands, *operand)?;
+            AsmFault::PositionalAfter { operand, others } => {
+                push_late(&mut labels, &self.operands, *operand, others)?;
             }
             AsmFault::RepeatedName { operand, first } => {
                 let spot = AsmSpot::Operand(*operand);
@@ -250,7 +221,7 @@ impl<'a> AsmCall<'a> {
             AsmFault::RegisterName { operand } => {
                 push_label(&mut labels, AsmSpot::Operand(*operand), true, "")?;
             }
-            AsmFault::WrongIndex { spot, index } => {
+            AsmFault::WrongIndex { spot, index, .. } => {
                 push_wrong(&mut labels, &self.operands, *spot, *index)?;
             }
             AsmFault::MissingName { spot, .. } | AsmFault::LongModifier { spot } => {

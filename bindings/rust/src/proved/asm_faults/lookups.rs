@@ -1,4 +1,4 @@
-//! What is looked up for the placeholders of a template, in rustc's order.
+//! The lookups for the placeholders of a template, in rustc's order.
 
 // Extracted from crates/asm_faults/src/lookups.rt by tools/extract: not to be edited.
 // That source is proved, and each contract here is its. That this text means the same is tested:
@@ -10,7 +10,7 @@ use crate::shim::alloc::AllocError;
 use crate::shim::prelude::*;
 use core::ops::Range;
 
-/// What is looked up for a placeholder.
+/// A lookup for a placeholder.
 #[derive(Clone, Copy)]
 pub(crate) enum Lookup<'a> {
     /// The operand of this index, for the placeholder there.
@@ -21,9 +21,9 @@ pub(crate) enum Lookup<'a> {
     LongModifier(AsmSpot),
 }
 
-/// What is looked up for the placeholders so far.
+/// The lookups for the placeholders so far.
 pub(crate) struct Walk<'a> {
-    /// What is looked up.
+    /// The lookups.
     pub lookups: Vec<Lookup<'a>>,
     /// The index of the operand that the next placeholder without a position means.
     pub next: usize,
@@ -77,8 +77,8 @@ fn is_next(position: &Position<'_>) -> bool {
     matches!(position, Position::ArgumentImplicitlyIs(_))
 }
 
-/// Returns what the position of a placeholder at a place means, where one without a position means
-/// the operand of the index `next`.
+/// Returns the lookup of the position of a placeholder at a place, where one without a position
+/// means the operand of the index `next`.
 // ensures { seen_lookup result
 //     ≡ position_lookup template next spot (seen_argument argument.now) }
 #[inline]
@@ -111,7 +111,7 @@ fn is_long(ty: &str) -> bool {
     length_of(ty) > 1
 }
 
-/// Adds what is looked up for the modifier of a placeholder. Returns `Err` if an allocation fails.
+/// Adds the lookup for the modifier of a placeholder. Returns `Err` if an allocation fails.
 // ensures lookups { OnOk result (map seen_lookup lookups.new.items
 //     ≡ map seen_lookup lookups.old.items
 //     ++ modifier_lookups template (seen_argument argument.now).format) }
@@ -131,7 +131,7 @@ fn push_modifier<'a>(
     Ok(())
 }
 
-/// Adds what is looked up for a placeholder at a place. Returns `Err` if an allocation fails.
+/// Adds the lookups for a placeholder at a place. Returns `Err` if an allocation fails.
 // requires { walk.old.next ≤ length walk.old.lookups.items }
 // ensures lookups { OnOk result (map seen_lookup walk.new.lookups.items
 //     ≡ map seen_lookup walk.old.lookups.items
@@ -155,7 +155,7 @@ fn push_argument<'a>(
     Ok(())
 }
 
-/// Adds what is looked up for a piece, where `places` are those of its placeholder and of the later
+/// Adds the lookups for a piece, where `places` are those of its placeholder and of the later
 /// ones. Returns `Err` if an allocation fails.
 // requires { walk.old.next ≤ length walk.old.lookups.items }
 // ensures lookups { OnOk result (map seen_lookup walk.new.lookups.items
@@ -188,14 +188,14 @@ fn places_after<'p>(places: &'p [Range<usize>], piece: &Piece<'_>) -> &'p [Range
     }
 }
 
-/// Adds what is looked up for the pieces of a template, whose placeholders have these places, in
-/// their order. Returns `Err` if an allocation fails.
+/// Adds the lookups for the pieces of a template, whose placeholders have these places, in their
+/// order. Returns `Err` if an allocation fails.
 // requires { walk.old.next ≤ length walk.old.lookups.items }
 // ensures lookups { OnOk result (map seen_lookup walk.new.lookups.items
 //     ≡ map seen_lookup walk.old.lookups.items
 //     ++ piece_lookups template walk.old.next (map pair places.now) (map seen pieces.now)) }
 // ensures next { OnOk result (walk.new.next
-//     ≡ next_behind walk.old.next (map seen pieces.now)) }
+//     ≡ next_after_pieces walk.old.next (map seen pieces.now)) }
 // ensures few { OnOk result (walk.new.next ≤ length walk.new.lookups.items) }
 #[inline]
 pub(crate) fn push_pieces<'a>(

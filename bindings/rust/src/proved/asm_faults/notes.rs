@@ -1,5 +1,5 @@
-//! The notes and helps of faults, in rustc's words. What begins with `push_` or `put_` adds to the
-//! end of a list or a text, and returns `Err` if an allocation fails.
+//! The notes and helps of faults, in rustc's words. A function whose name begins with `push_` or
+//! `put_` adds to the end of a list or a text, and returns `Err` if an allocation fails.
 
 // Extracted from crates/asm_faults/src/notes.rt by tools/extract: not to be edited.
 // That source is proved, and each contract here is its. That this text means the same is tested:
@@ -37,24 +37,11 @@ fn push_note(
     Ok(())
 }
 
-/// Returns how many operands have neither a name nor a register of their own.
-// ensures { result ≡ count_unnamed (map seen_operand operands.now) }
+/// Returns the noun for the operands that an index may mean, of which there are so many.
+// ensures { result.now ≡ noun (map seen_operand operands.now) count }
 #[inline]
-fn count_unnamed(operands: &[Operand<'_>]) -> usize {
-    let mut count = 0;
-    for operand in operands {
-        if let Operand::Unnamed = operand {
-            count += 1;
-        }
-    }
-    count
-}
-
-/// Returns what the operands are that an index may mean.
-// ensures { result.now ≡ noun (map seen_operand operands.now) }
-#[inline]
-fn noun(operands: &[Operand<'_>]) -> &'static str {
-    if count_unnamed(operands) == operands.len() {
+fn noun(operands: &[Operand<'_>], count: usize) -> &'static str {
+    if count == operands.len() {
         "argument"
     } else {
         "positional argument"
@@ -110,26 +97,26 @@ fn push_kind(
 }
 
 /// Returns how many operands an index may mean, in words. Returns `Err` if an allocation fails.
-// ensures { IfOk result (λ t. string_bytes t ≡ count_text
-//     (count_unnamed (map seen_operand operands.now)) (noun (map seen_operand operands.now))) }
+// ensures { IfOk result (λ t. string_bytes t ≡ count_text count word.now) }
 #[inline]
-fn count_text(alloc: Global, operands: &[Operand<'_>]) -> Result<String, AllocError> {
+fn count_text(alloc: Global, count: usize, word: &str) -> Result<String, AllocError> {
     let mut text = String::made_in(alloc);
-    put_count(&mut text, count_unnamed(operands), noun(operands))?;
+    put_count(&mut text, count, word)?;
     Ok(text)
 }
 
-/// Adds the notes of a wrong index.
+/// Adds the notes of a wrong index, where an index may mean so many operands.
 // ensures { OnOk result (map seen_note notes.new.items ≡ map seen_note notes.old.items
-//     ++ wrong_notes (map seen_operand operands.now) index) }
+//     ++ wrong_notes (map seen_operand operands.now) index count) }
 #[inline]
 fn push_wrong(
     alloc: Global,
     notes: &mut Vec<AsmNote>,
     operands: &[Operand<'_>],
     index: usize,
+    count: usize,
 ) -> Result<(), AllocError> {
-    let text = count_text(alloc, operands)?;
+    let text = count_text(alloc, count, noun(operands, count))?;
     push_note(notes, &text, None)?;
     push_kind(notes, index, operand_at(operands, index))?;
     Ok(())
@@ -177,7 +164,7 @@ fn put_name(out: &mut String, name: &str) -> Result<(), AllocError> {
     Ok(())
 }
 
-/// Adds what a placeholder has for an operand with this name or this index.
+/// Adds the position of a placeholder for an operand with this name or this index.
 // ensures { OnOk result (string_bytes out.new ≡ string_bytes out.old
 //     ++ reference index (option_map text name.entry)) }
 #[inline]
@@ -242,8 +229,12 @@ impl<'a> AsmCall<'a> {
     pub fn notes(&self, alloc: Global, fault: &AsmFault<'a>) -> Result<Vec<AsmNote>, AllocError> {
         let mut notes = Vec::made_in(alloc);
         match fault {
-            AsmFault::WrongIndex { index, .. } => {
-                push_wrong(alloc, &mut notes, &self.operands, *index)?;
+            AsmFault::WrongIndex {
+                index,
+                positional_count,
+                ..
+            } => {
+                push_wrong(alloc, &mut notes, &self.operands, *index, *positional_count)?;
             }
             AsmFault::Text { fault, .. } => push_text(alloc, &mut notes, fault)?,
             AsmFault::PositionalAfter { .. }

@@ -23,14 +23,20 @@ pub enum Operand<'a> {
     },
 }
 
+/// The most operands with a name, and the most with a register of their own, whose indices the
+/// fault of a later operand has. rustc lists all, so its messages grow with the square of a call.
+const MOST: usize = 16;
+
 /// The operands of a call so far.
 pub(crate) struct Operands<'a> {
     /// The operands, of which those whose name is that of an earlier one count as unnamed.
     pub slots: Vec<Operand<'a>>,
     /// The index of the operand with each name.
     pub names: BTreeMap<&'a str, usize>,
-    /// Whether any has a name or a register of its own.
-    pub has_others: bool,
+    /// The indices of those that have a name.
+    pub named: Vec<usize>,
+    /// The indices of those that have a register of their own.
+    pub registers: Vec<usize>,
 }
 
 /// Returns no operands. Does not allocate.
@@ -40,7 +46,8 @@ fn no_operands<'a>(alloc: Global) -> Operands<'a> {
     Operands {
         slots: Vec::made_in(alloc),
         names: BTreeMap::made_in(alloc),
-        has_others: false,
+        named: Vec::made_in(alloc),
+        registers: Vec::made_in(alloc),
     }
 }
 
@@ -64,11 +71,46 @@ fn insert<'a>(
     Ok(())
 }
 
+/// Returns the first [`MOST`] of indices.
+// ensures { result.now ≡ take 16 indices.now }
+#[inline]
+fn first_of(indices: &[usize]) -> &[usize] {
+    &indices[..indices.len().min(MOST)]
+}
+
+/// Returns the indices of the first operands that have a name, and then of the first that have a
+/// register of their own. Returns `Err` if an allocation fails.
+// ensures { IfOk result (λ v. (ss : List OperandValue) → Holds ss operands.now
+//     → v.items ≡ others_of ss) }
+#[inline]
+fn others_of(alloc: Global, operands: &Operands<'_>) -> Result<Vec<usize>, AllocError> {
+    let mut others = Vec::made_in(alloc);
+    others.try_extend_from_slice(first_of(&operands.named))?;
+    others.try_extend_from_slice(first_of(&operands.registers))?;
+    Ok(others)
+}
+
+/// Adds the fault of an operand without a name and without a register of its own, if these others
+/// stand in front of it. Returns `Err` if an allocation fails.
+// ensures { OnOk result (map seen_fault faults.new.items ≡ map seen_fault faults.old.items
+//     ++ late_faults operand others.items) }
+#[inline]
+fn push_late(
+    faults: &mut Vec<AsmFault<'_>>,
+    operand: usize,
+    others: Vec<usize>,
+) -> Result<(), AllocError> {
+    if !others.is_empty() {
+        faults.try_push(AsmFault::PositionalAfter { operand, others })?;
+    }
+    Ok(())
+}
+
 /// Adds an operand without a name and without a register of its own, and its fault if it stands
-/// behind one that has one of them. Returns `Err` if an allocation fails.
+/// after one that has one of them. Returns `Err` if an allocation fails.
 // ensures held { OnOk result ((ss : List OperandValue) → Holds ss operands.old
 //     → Holds (ss ++ Unnamed ∷ []) operands.new) }
-// ensures told { OnOk result ((ss : List OperandValue) → Holds ss operands.old
+// ensures outcome { OnOk result ((ss : List OperandValue) → Holds ss operands.old
 //     → map seen_fault faults.new.items ≡ map seen_fault faults.old.items
 //     ++ faults_of ss index Unnamed) }
 #[inline]
@@ -77,9 +119,8 @@ fn add_unnamed<'a>(
     faults: &mut Vec<AsmFault<'a>>,
     index: usize,
 ) -> Result<(), AllocError> {
-    if operands.has_others {
-        faults.try_push(AsmFault::PositionalAfter { operand: index })?;
-    }
+    let others = others_of(*faults.own_allocator(), operands)?;
+    push_late(faults, index, others)?;
     operands.slots.try_push(Operand::Unnamed)?;
     Ok(())
 }
@@ -89,7 +130,7 @@ fn add_unnamed<'a>(
 // ensures held { OnOk result ((ss : List OperandValue) → Holds ss operands.old
 //     → index ≡ length ss
 //     → Holds (ss ++ slot ss (Named (chars name.now)) ∷ []) operands.new) }
-// ensures told { OnOk result ((ss : List OperandValue) → Holds ss operands.old
+// ensures outcome { OnOk result ((ss : List OperandValue) → Holds ss operands.old
 //     → map seen_fault faults.new.items ≡ map seen_fault faults.old.items
 //     ++ faults_of ss index (Named (chars name.now))) }
 #[inline]
@@ -109,7 +150,7 @@ fn add_named<'a>(
         }
         None => {
             insert(&mut operands.names, name, index)?;
-            operands.has_others = true;
+            operands.named.try_push(index)?;
             operands.slots.try_push(Operand::Named(name))?;
         }
     }
@@ -119,8 +160,8 @@ fn add_named<'a>(
 /// Adds an operand with a register of its own, and its fault if it has a name. Returns `Err` if an
 /// allocation fails.
 // ensures held { OnOk result ((ss : List OperandValue) → Holds ss operands.old
-//     → Holds (ss ++ Register has_name ∷ []) operands.new) }
-// ensures told { OnOk result ((ss : List OperandValue) → Holds ss operands.old
+//     → index ≡ length ss → Holds (ss ++ Register has_name ∷ []) operands.new) }
+// ensures outcome { OnOk result ((ss : List OperandValue) → Holds ss operands.old
 //     → map seen_fault faults.new.items ≡ map seen_fault faults.old.items
 //     ++ faults_of ss index (Register has_name)) }
 #[inline]
@@ -133,7 +174,7 @@ fn add_register<'a>(
     if has_name {
         faults.try_push(AsmFault::RegisterName { operand: index })?;
     }
-    operands.has_others = true;
+    operands.registers.try_push(index)?;
     operands.slots.try_push(Operand::Register { has_name })?;
     Ok(())
 }
@@ -142,7 +183,7 @@ fn add_register<'a>(
 // ensures held { OnOk result ((ss : List OperandValue) → Holds ss operands.old
 //     → index ≡ length ss
 //     → Holds (ss ++ slot ss (seen_operand operand.entry) ∷ []) operands.new) }
-// ensures told { OnOk result ((ss : List OperandValue) → Holds ss operands.old
+// ensures outcome { OnOk result ((ss : List OperandValue) → Holds ss operands.old
 //     → map seen_fault faults.new.items ≡ map seen_fault faults.old.items
 //     ++ faults_of ss index (seen_operand operand.entry)) }
 #[inline]
@@ -170,10 +211,23 @@ pub(crate) fn operand_at<'a>(operands: &[Operand<'a>], index: usize) -> Option<O
     }
 }
 
+/// Returns how many operands have neither a name nor a register of their own.
+// ensures { result ≡ count_unnamed (map seen_operand operands.now) }
+#[inline]
+pub(crate) fn count_unnamed(operands: &[Operand<'_>]) -> usize {
+    let mut count = 0;
+    for operand in operands {
+        if let Operand::Unnamed = operand {
+            count += 1;
+        }
+    }
+    count
+}
+
 /// Returns operands as placeholders refer to them, and adds the faults of their list. Returns `Err`
 /// if an allocation fails.
 // ensures held { IfOk result (λ a. Holds (slots_after [] (map seen_operand given.now)) a) }
-// ensures told { OnOk result (map seen_fault faults.new.items ≡ map seen_fault faults.old.items
+// ensures outcome { OnOk result (map seen_fault faults.new.items ≡ map seen_fault faults.old.items
 //     ++ faults_from [] 0 (map seen_operand given.now)) }
 #[inline]
 pub(crate) fn operands_of<'a>(

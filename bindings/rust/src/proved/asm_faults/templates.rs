@@ -53,14 +53,14 @@ fn fault_of<'a>(alloc: Global, template: Template<'a>) -> Result<Option<Fault<'a
     Ok(fault)
 }
 
-/// Adds what is looked up for the placeholders of a template. Returns `Err` if an allocation fails.
+/// Adds the lookups for the placeholders of a template. Returns `Err` if an allocation fails.
 // requires fits { hashes template.style + length template.text.now + 2 < 2 ^ 64 }
 // requires few { walk.old.next ≤ length walk.old.lookups.items }
 // ensures lookups { OnOk result (map seen_lookup walk.new.lookups.items
 //     ≡ map seen_lookup walk.old.lookups.items
 //     ++ template_lookups index walk.old.next (seen_template template.entry)) }
 // ensures next { OnOk result (walk.new.next
-//     ≡ next_behind_template walk.old.next (seen_template template.entry)) }
+//     ≡ next_after_template walk.old.next (seen_template template.entry)) }
 // ensures few { OnOk result (walk.new.next ≤ length walk.new.lookups.items) }
 #[inline]
 fn push_template<'a>(
@@ -82,9 +82,8 @@ fn push_template<'a>(
     Ok(())
 }
 
-/// Adds what is looked up for the placeholders of templates, up to the first that is not in the
-/// grammar, and returns its fault, or `None` if there is none. Returns `Err` if an allocation
-/// fails.
+/// Adds the lookups for the placeholders of templates, up to the first that is not in the grammar,
+/// and returns its fault, or `None` if there is none. Returns `Err` if an allocation fails.
 // requires fits { AllByRecursion (λ t. hashes t.style + length t.text.now + 2 < 2 ^ 64)
 //     templates.now }
 // requires few { walk.old.next ≤ length walk.old.lookups.items }

@@ -1,5 +1,5 @@
-//! The ids and the titles of faults, in rustc's words. What begins with `put_` appends to `out`,
-//! and returns `Err` if an allocation fails.
+//! The ids and the titles of faults, in rustc's words. A function whose name begins with `put_`
+//! appends to `out`, and returns `Err` if an allocation fails.
 
 // Extracted from crates/asm_faults/src/titles.rt by tools/extract: not to be edited.
 // That source is proved, and each contract here is its. That this text means the same is tested:
@@ -15,7 +15,7 @@ use crate::shim::prelude::*;
 
 impl AsmFault<'_> {
     /// Returns the id of the fault in kebab case, as `wrong-operand`: the same for all faults of a
-    /// kind. That of a fault of a template is the id of [`Fault`]. Does not allocate.
+    /// kind. A fault of a template has the id of its [`Fault`]. Does not allocate.
     // ensures { result.now ≡ asm_id (seen_fault self.now) }
     #[inline]
     pub fn id(&self) -> &'static str {
@@ -74,7 +74,7 @@ fn name_of<'a>(operands: &[Operand<'a>], index: usize) -> &'a str {
     }
 }
 
-/// Returns what is said of an operand that is not used.
+/// Returns the label of an operand that is not used.
 // ensures { result.now ≡ never_used (slice_get (map seen_operand operands.now) index) }
 #[inline]
 pub(crate) fn never_used(operands: &[Operand<'_>], index: usize) -> &'static str {

@@ -1,4 +1,4 @@
-//! What is wrong with a call.
+//! The check of a call.
 
 // Extracted from crates/call_faults/src/checker.rt by tools/extract: not to be edited.
 // That source is proved, and each contract here is its. That this text means the same is tested:
@@ -36,7 +36,7 @@ pub struct Checked<'a> {
     /// The arguments that are given.
     pub given: &'a [Given<'a>],
     /// The indices of the arguments that count: of those whose name is not that of an earlier one.
-    /// Empty if an argument without a name behind one with a name ended the check.
+    /// Empty if an argument without a name after one with a name ended the check.
     pub kept: Vec<usize>,
     /// The pieces of the format string.
     pub pieces: Vec<Piece<'a>>,
@@ -44,7 +44,7 @@ pub struct Checked<'a> {
     pub counts: Vec<usize>,
     /// The parser after them, which has the places of the placeholders.
     pub parser: Parser<'a>,
-    /// What is wrong, in the order in which rustc tells it.
+    /// The faults, in the order in which rustc reports them.
     pub faults: Vec<CallFault<'a>>,
 }
 
@@ -77,7 +77,7 @@ fn fault_of<'a>(alloc: Global, string: FormatString<'a>) -> Result<Option<Fault<
     Ok(fault)
 }
 
-/// Returns what is wrong with a call whose format string has these pieces, and puts the indices of
+/// Returns the faults of a call whose format string has these pieces, and puts the indices of
 /// the arguments that count into `kept`. `is_read` is whether the string is in the grammar. Returns
 /// `Err` if an allocation fails.
 // requires { hashes string.style + length string.text.now + 2 < 2 ^ 64 }
@@ -119,8 +119,8 @@ fn faults_of<'a>(
 }
 
 /// Checks a call of a macro that takes a format string: reads the string, compares its placeholders
-/// with the arguments that are given, in the order of the source, and returns its pieces and what
-/// is wrong, as rustc tells it. A placeholder's spans are those of the parser.
+/// with the arguments that are given, in the order of the source, and returns its pieces and the
+/// faults, as rustc reports them. A placeholder's spans are those of the parser.
 ///
 /// The number of hashes, the length of the text in bytes, and 2 must together fit into a `usize`.
 /// Returns `Err` if an allocation fails.

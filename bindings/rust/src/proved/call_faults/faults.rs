@@ -36,9 +36,9 @@ pub struct Missing {
     pub index: usize,
 }
 
-/// What is wrong with a call. An argument is named by its index among all that are given.
+/// A fault of a call. An argument is named by its index among all that are given.
 pub enum CallFault<'a> {
-    /// An argument without a name stands behind one with a name. No other fault follows.
+    /// An argument without a name stands after one with a name. No other fault follows.
     PositionalAfterNamed {
         /// The first such argument.
         index: usize,
@@ -61,7 +61,7 @@ pub enum CallFault<'a> {
         /// The name.
         name: &'a str,
     },
-    /// A placeholder asks for a trait that does not exist.
+    /// A placeholder wants a trait that does not exist.
     UnknownTrait {
         /// The index of the placeholder among the pieces.
         piece: usize,

@@ -1,4 +1,4 @@
-//! What rustc suggests for faults, in its words.
+//! The suggestions of rustc for faults, in its words.
 
 // Extracted from crates/call_faults/src/helps.rt by tools/extract: not to be edited.
 // That source is proved, and each contract here is its. That this text means the same is tested:
@@ -124,10 +124,10 @@ fn redundant_help(
     Ok(Some(CallHelp { text, edits }))
 }
 
-/// Returns what is behind a name in a part of a placeholder.
-// ensures { result.now ≡ behind_name part }
+/// Returns the text after a name in a part of a placeholder.
+// ensures { result.now ≡ after_name part }
 #[inline]
-fn behind_name(part: Part) -> &'static str {
+fn after_name(part: Part) -> &'static str {
     match part {
         Part::Position => "",
         Part::Precision | Part::Width => "$",
@@ -140,7 +140,7 @@ fn behind_name(part: Part) -> &'static str {
 #[inline]
 fn name_in(alloc: Global, part: Part, name: &str) -> Result<String, AllocError> {
     let mut text = String::made_from(alloc, name)?;
-    text.try_push_str(behind_name(part))?;
+    text.try_push_str(after_name(part))?;
     Ok(text)
 }
 
@@ -274,8 +274,8 @@ fn text_help(
 }
 
 impl<'a> Checked<'a> {
-    /// Returns what rustc suggests for one of the faults, or `None` if it suggests nothing or does
-    /// so in a label. The suggestions for the directives of other languages are left out. Returns
+    /// Returns the suggestion of rustc for one of the faults, or `None` if there is none or it is
+    /// in a label. The suggestions for the directives of other languages are left out. Returns
     /// `Err` if an allocation fails.
     // ensures { IfOk result (λ o. option_map seen_help o
     //     ≡ help (seen_call self.now) (seen_fault fault.now)) }

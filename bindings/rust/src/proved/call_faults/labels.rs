@@ -1,5 +1,5 @@
-//! The labels of faults, in rustc's words. What begins with `push_` adds to the end of `labels`,
-//! and returns `Err` if an allocation fails.
+//! The labels of faults, in rustc's words. A function whose name begins with `push_` adds to the
+//! end of `labels`, and returns `Err` if an allocation fails.
 
 // Extracted from crates/call_faults/src/labels.rt by tools/extract: not to be edited.
 // That source is proved, and each contract here is its. That this text means the same is tested:
@@ -19,7 +19,7 @@ use crate::shim::alloc::{AllocError, Global};
 use crate::shim::prelude::*;
 use core::ops::Range;
 
-/// Returns what is said of an argument with a name in front of one without.
+/// Returns the label of an argument with a name in front of one without.
 // ensures { result.now ≡ named_text }
 #[inline]
 fn named_text() -> &'static str {
@@ -125,7 +125,7 @@ fn push_unused(
     Ok(())
 }
 
-/// Returns what is said of a literal that lacks a placeholder.
+/// Returns the label of a literal that lacks a placeholder.
 // ensures { result.now ≡ single_text }
 #[inline]
 fn single_text() -> &'static str {
@@ -146,7 +146,7 @@ fn push_one_unused(
     Ok(())
 }
 
-/// Returns what is said of a literal that lacks several placeholders.
+/// Returns the label of a literal that lacks several placeholders.
 // ensures { result.now ≡ several_text }
 #[inline]
 fn several_text() -> &'static str {
@@ -202,7 +202,7 @@ pub(crate) fn have_names(given: &[Given<'_>]) -> bool {
     false
 }
 
-/// Returns what is said of an argument that is left out.
+/// Returns the label of an argument that is left out.
 // ensures { result.now ≡ removal_text }
 #[inline]
 fn removal_text() -> &'static str {
@@ -266,14 +266,14 @@ fn push_redundant(
     push_bare(labels, redundant)
 }
 
-/// Returns what is said of an argument with a name that is used by its index.
+/// Returns the label of an argument with a name that is used by its index.
 // ensures { result.now ≡ by_index_text }
 #[inline]
 fn by_index_text() -> &'static str {
     "this named argument is referred to by position in formatting string"
 }
 
-/// Returns what is said of the use by index of an argument with a name. Returns `Err` if an
+/// Returns the label of the use by index of an argument with a name. Returns `Err` if an
 /// allocation fails.
 // ensures { IfOk result (λ s. string_bytes s ≡ use_text (chars name.now)) }
 #[inline]

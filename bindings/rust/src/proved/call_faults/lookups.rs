@@ -1,4 +1,4 @@
-//! What is looked up for the placeholders of a format string, in rustc's order.
+//! The lookups for the placeholders of a format string, in rustc's order.
 
 // Extracted from crates/call_faults/src/lookups.rt by tools/extract: not to be edited.
 // That source is proved, and each contract here is its. That this text means the same is tested:
@@ -18,7 +18,7 @@ pub(crate) enum Wanted<'a> {
     Name(&'a str),
 }
 
-/// What is looked up for a placeholder.
+/// A lookup for a placeholder.
 #[derive(Clone, Copy)]
 pub(crate) enum Lookup<'a> {
     /// An argument.
@@ -27,7 +27,7 @@ pub(crate) enum Lookup<'a> {
     NoTrait(usize, &'a str),
 }
 
-/// Returns what a position wants.
+/// Returns the argument that a position wants.
 // ensures { seen_use result ≡ position_use (seen_position position.now) }
 #[inline]
 fn wanted_by<'a>(position: &Position<'a>) -> Wanted<'a> {
@@ -77,7 +77,7 @@ fn is_known(ty: &str) -> bool {
     }
 }
 
-/// Adds what is looked up for a placeholder. Returns `Err` if an allocation fails.
+/// Adds the lookups for a placeholder. Returns `Err` if an allocation fails.
 // ensures { OnOk result (map seen_lookup list.new.items ≡ map seen_lookup list.old.items
 //     ++ argument_lookups piece (seen_argument argument.now)) }
 #[inline]
@@ -102,7 +102,7 @@ fn push_argument<'a>(
     Ok(())
 }
 
-/// Adds what is looked up for a piece. Returns `Err` if an allocation fails.
+/// Adds the lookups for a piece. Returns `Err` if an allocation fails.
 // ensures { OnOk result (map seen_lookup list.new.items ≡ map seen_lookup list.old.items
 //     ++ piece_lookups index (seen piece.now)) }
 #[inline]
@@ -117,7 +117,7 @@ fn push_piece<'a>(
     }
 }
 
-/// Returns what is looked up for pieces. Returns `Err` if an allocation fails.
+/// Returns the lookups for pieces. Returns `Err` if an allocation fails.
 // ensures { IfOk result (λ v. map seen_lookup v.items ≡ lookups_from 0 (map seen pieces.now)) }
 #[inline]
 pub(crate) fn lookups_of<'a>(

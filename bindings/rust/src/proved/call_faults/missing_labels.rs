@@ -1,5 +1,5 @@
-//! The labels of missing arguments. What begins with `push_` adds to the end of `labels`, and
-//! returns `Err` if an allocation fails.
+//! The labels of missing arguments. A function whose name begins with `push_` adds to the end of
+//! `labels`, and returns `Err` if an allocation fails.
 
 // Extracted from crates/call_faults/src/missing_labels.rt by tools/extract: not to be edited.
 // That source is proved, and each contract here is its. That this text means the same is tested:
@@ -8,7 +8,7 @@
 use crate::proved::call_faults::checker::Checked;
 use crate::proved::call_faults::faults::Missing;
 use crate::proved::call_faults::spots::{
-    behind, first_spot, push_plain, push_secondary, reference_spot, spot_of, CallLabel, Spot,
+    first_spot, push_plain, push_secondary, reference_spot, rest_after, spot_of, CallLabel, Spot,
 };
 use crate::proved::call_faults::titles::put_number;
 use crate::proved::rustc_parse_format::{Count, Piece, Position};
@@ -83,7 +83,7 @@ fn push_nexts(
     let mut left = places;
     for piece in pieces {
         push_next(labels, piece, left)?;
-        left = behind(piece, left);
+        left = rest_after(piece, left);
     }
     Ok(())
 }
@@ -115,26 +115,26 @@ fn put_expected(out: &mut String, count: usize) -> Result<(), AllocError> {
     Ok(())
 }
 
-/// Adds the text of a precision that takes the argument `index` by `*`, where `taken` are taken in
-/// all.
-// ensures { OnOk result (string_bytes out.new ≡ string_bytes out.old ++ star_text index taken) }
+/// Adds the text of a precision that takes the argument `index` by `*`, where the
+/// placeholders take `total` in all.
+// ensures { OnOk result (string_bytes out.new ≡ string_bytes out.old ++ star_text index total) }
 #[inline]
-fn put_star(out: &mut String, index: usize, taken: usize) -> Result<(), AllocError> {
+fn put_star(out: &mut String, index: usize, total: usize) -> Result<(), AllocError> {
     out.try_push_str("this precision flag adds an extra required argument at position ")?;
     put_number(out, index)?;
     out.try_push_str(", which is why there ")?;
-    put_expected(out, taken)?;
+    put_expected(out, total)?;
     out.try_push_str(" expected")?;
     Ok(())
 }
 
 /// Adds the label of a precision that takes an argument by `*`, if the piece has one.
 // ensures { OnOk result (map seen_label labels.new.items ≡ map seen_label labels.old.items
-//     ++ star_label taken (seen piece.now)) }
+//     ++ star_label total (seen piece.now)) }
 #[inline]
 fn push_star(
     labels: &mut Vec<CallLabel>,
-    taken: usize,
+    total: usize,
     piece: &Piece<'_>,
 ) -> Result<(), AllocError> {
     let Piece::NextArgument(argument) = piece else {
@@ -144,7 +144,7 @@ fn push_star(
         return Ok(());
     };
     let mut text = String::made_in(*labels.own_allocator());
-    put_star(&mut text, index, taken)?;
+    put_star(&mut text, index, total)?;
     labels.try_push(CallLabel {
         spot: spot_of(&argument.format.precision_span),
         is_primary: !is_next(&argument.position),
@@ -155,15 +155,15 @@ fn push_star(
 
 /// Adds the labels of the precisions of pieces that take arguments by `*`.
 // ensures { OnOk result (map seen_label labels.new.items ≡ map seen_label labels.old.items
-//     ++ star_labels taken (map seen pieces.now)) }
+//     ++ star_labels total (map seen pieces.now)) }
 #[inline]
 fn push_stars(
     labels: &mut Vec<CallLabel>,
-    taken: usize,
+    total: usize,
     pieces: &[Piece<'_>],
 ) -> Result<(), AllocError> {
     for piece in pieces {
-        push_star(labels, taken, piece)?;
+        push_star(labels, total, piece)?;
     }
     Ok(())
 }

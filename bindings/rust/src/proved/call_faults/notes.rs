@@ -1,5 +1,5 @@
-//! The notes of faults, in rustc's words. What begins with `push_` adds to the end of a list, and
-//! returns `Err` if an allocation fails.
+//! The notes of faults, in rustc's words. A function whose name begins with `push_` adds to the end
+//! of a list, and returns `Err` if an allocation fails.
 
 // Extracted from crates/call_faults/src/notes.rt by tools/extract: not to be edited.
 // That source is proved, and each contract here is its. That this text means the same is tested:
@@ -83,7 +83,7 @@ fn push_name(notes: &mut Vec<CallNote>, name: &str) -> Result<(), AllocError> {
     Ok(())
 }
 
-/// Returns the traits that a placeholder may ask for, each on a line.
+/// Returns the note on the traits that a placeholder may want, each on a line.
 // ensures { result.now ≡ traits_text }
 #[inline]
 fn traits_text() -> &'static str {
@@ -113,7 +113,7 @@ fn is_aligned(align: Alignment) -> bool {
     !matches!(align, Alignment::AlignUnknown)
 }
 
-/// Returns whether a specification asks for more than a trait.
+/// Returns whether a specification has more than a trait.
 // ensures { result ≡ has_flags (seen_spec format.now) }
 #[inline]
 fn has_flags(format: &FormatSpec<'_>) -> bool {
@@ -123,7 +123,7 @@ fn has_flags(format: &FormatSpec<'_>) -> bool {
             || (is_given(&format.width) || is_given(&format.precision)))
 }
 
-/// Returns whether a piece asks for more than a trait.
+/// Returns whether a piece has more than a trait.
 // ensures { result ≡ is_flagged (seen piece.now) }
 #[inline]
 fn is_flagged(piece: &Piece<'_>) -> bool {
@@ -133,7 +133,7 @@ fn is_flagged(piece: &Piece<'_>) -> bool {
     }
 }
 
-/// Returns whether one of these pieces asks for more than a trait.
+/// Returns whether one of these pieces has more than a trait.
 // ensures { result ≡ list_any is_flagged (map seen pieces.now) }
 #[inline]
 fn are_flagged(pieces: &[Piece<'_>]) -> bool {
@@ -174,7 +174,7 @@ fn count_note() -> &'static str {
     "positional arguments are zero-based"
 }
 
-/// Returns the note on what else a placeholder may ask for.
+/// Returns the note on the flags that a placeholder may have.
 // ensures { result.now ≡ flags_note }
 #[inline]
 fn flags_note() -> &'static str {
@@ -309,7 +309,7 @@ fn named_positions<'a>(
     Ok(spots)
 }
 
-/// Returns what the note of so many redundant arguments says.
+/// Returns the text of the note of so many redundant arguments.
 // ensures { result.now ≡ redundant_text count }
 #[inline]
 fn redundant_text(count: usize) -> &'static str {

@@ -1,5 +1,5 @@
-//! The ids and the titles of faults, in rustc's words. What begins with `put_` appends to `out`,
-//! and returns `Err` if an allocation fails.
+//! The ids and the titles of faults, in rustc's words. A function whose name begins with `put_`
+//! appends to `out`, and returns `Err` if an allocation fails.
 
 // Extracted from crates/call_faults/src/titles.rt by tools/extract: not to be edited.
 // That source is proved, and each contract here is its. That this text means the same is tested:
@@ -16,7 +16,7 @@ use crate::shim::prelude::*;
 
 impl CallFault<'_> {
     /// Returns the id of the fault in kebab case, as `unused-argument`: the same for all faults of
-    /// a kind. That of a fault of the format string is the id of [`Fault`]. Does not allocate.
+    /// a kind. A fault of the format string has the id of its [`Fault`]. Does not allocate.
     // ensures { result.now ≡ call_id (seen_fault self.now) }
     #[inline]
     pub fn id(&self) -> &'static str {
@@ -72,7 +72,7 @@ pub(crate) fn put_noun(out: &mut String, noun: &str, count: usize) -> Result<(),
     Ok(())
 }
 
-/// Adds what stands between a number and those behind it.
+/// Adds the text between a number and those after it.
 // ensures { OnOk result (string_bytes out.new ≡ string_bytes out.old ++ separator others.now) }
 #[inline]
 fn put_separator(out: &mut String, others: &[usize]) -> Result<(), AllocError> {
@@ -187,12 +187,12 @@ fn put_numbers_title(out: &mut String, numbers: &[usize], count: usize) -> Resul
     Ok(())
 }
 
-/// Adds the title of too few arguments, where `count` are given and the placeholders take `taken`.
-// ensures { OnOk result (string_bytes out.new ≡ string_bytes out.old ++ few_title taken count) }
+/// Adds the title of too few arguments, where `count` are given and the placeholders take `total`.
+// ensures { OnOk result (string_bytes out.new ≡ string_bytes out.old ++ few_title total count) }
 #[inline]
-fn put_few_title(out: &mut String, taken: usize, count: usize) -> Result<(), AllocError> {
-    put_number(out, taken)?;
-    put_noun(out, " positional argument", taken)?;
+fn put_few_title(out: &mut String, total: usize, count: usize) -> Result<(), AllocError> {
+    put_number(out, total)?;
+    put_noun(out, " positional argument", total)?;
     out.try_push_str(" in format string, but ")?;
     put_count(out, count)?;
     Ok(())
@@ -221,7 +221,7 @@ fn is_named(given: &[Given<'_>], index: usize) -> bool {
     }
 }
 
-/// Returns what is said of an argument that is not used.
+/// Returns the label of an argument that is not used.
 // ensures { result.now ≡ never_used (slice_get (map seen_given given.now) index) }
 #[inline]
 pub(crate) fn never_used(given: &[Given<'_>], index: usize) -> &'static str {
@@ -277,7 +277,7 @@ impl<'a> Checked<'a> {
     /// an allocation fails; a part may then be at the end of `out`.
     // ensures { OnOk result ((r : Report) → IsReport (uses (map seen self.now.pieces.items))
     //     (length self.now.kept.items) [] r → string_bytes out.new ≡ string_bytes out.old
-    //     ++ title (told self.now r.missing_index) (seen_fault fault.now)) }
+    //     ++ title (title_parts self.now r.missing_index) (seen_fault fault.now)) }
     #[inline]
     pub fn put_title(&self, out: &mut String, fault: &CallFault<'a>) -> Result<(), AllocError> {
         match fault {

@@ -1,17 +1,18 @@
-//! The drawing of a diagnostic under its source: a title, several labels, notes and helps. What
-//! begins with `put_` appends to `out`, and returns `Err` if an allocation fails.
+//! The drawing of a diagnostic under its source: a title, several labels, notes and helps. A
+//! function whose name begins with `put_` appends to `out`, and returns `Err` if an allocation
+//! fails.
 
 // Extracted from crates/drawn_faults/src/diagnostics.rt by tools/extract: not to be edited.
 // That source is proved, and each contract here is its. That this text means the same is tested:
 // by results from outside, and beside what is proved (.ci/bindings) and the original (tools/agree).
 
 use crate::proved::drawn_faults::helps::{last_help_line, put_helps, SourceHelp};
-use crate::proved::drawn_faults::labels::{digits, Frame, Label};
-use crate::proved::drawn_faults::lines::put_parting;
 use crate::proved::drawn_faults::marked::{frame_of, last_label_line};
 use crate::proved::drawn_faults::notes::{last_note_line, put_notes, put_titled, SourceNote};
-use crate::proved::drawn_faults::paint::{palette_of, Gutter, Palette};
-use crate::proved::drawn_faults::places::Picture;
+use crate::proved::drawn_labels::Label;
+use crate::proved::drawn_lines::{
+    digits, extent_of, palette_of, put_parting, Frame, Gutter, Palette, Picture,
+};
 use crate::shim::alloc::{AllocError, Global};
 use crate::shim::prelude::*;
 use core::ops::Range;
@@ -60,7 +61,7 @@ fn label_of<'a>(picture: &Picture<'_>, label: &SourceLabel<'a>) -> Label<'a> {
     Label {
         sign: if label.is_primary { '^' } else { '-' },
         text: label.text,
-        extent: picture.extent(&label.span),
+        extent: extent_of(picture, &label.span),
     }
 }
 

@@ -1,27 +1,22 @@
-//! The text that shows a fault under its source. What begins with `put_` appends to `out`, and
-//! returns `Err` if an allocation fails.
+//! The text that shows a fault under its source. A function whose name begins with `put_` appends
+//! to `out`, and returns `Err` if an allocation fails.
 
 // Extracted from crates/drawn_faults/src/drawing.rt by tools/extract: not to be edited.
 // That source is proved, and each contract here is its. That this text means the same is tested:
 // by results from outside, and beside what is proved (.ci/bindings) and the original (tools/agree).
 
-use crate::proved::drawn_faults::extent::Spot;
-use crate::proved::drawn_faults::glyphs::{put_glyphs, put_run};
-use crate::proved::drawn_faults::labels::{
-    edit_of, frame_for, mark, second, text_name, Edit, Frame, Label,
+use crate::proved::drawn_edits::{put_edit, Edit};
+use crate::proved::drawn_faults::labels::{edit_of, frame_for, second, text_name};
+use crate::proved::drawn_labels::{mark_of, put_labelled, put_long, put_two_labels, Label};
+use crate::proved::drawn_lines::{
+    extent_of, has_colours, put_closing, put_decimal, put_glyphs, put_note_sign, put_opening,
+    put_painted, put_parting, put_run, Frame, Gutter, Palette, Picture, Spot, Style,
 };
-use crate::proved::drawn_faults::lines::{put_decimal, put_labelled, put_parting, put_two_labels};
-use crate::proved::drawn_faults::long::put_long;
-use crate::proved::drawn_faults::paint::{
-    has_colours, put_closing, put_note_sign, put_opening, put_painted, Gutter, Palette, Style,
-};
-use crate::proved::drawn_faults::places::Picture;
-use crate::proved::drawn_faults::suggestions::put_edit;
 use crate::proved::rustc_parse_format::{ParseError, ParseMode};
 use crate::shim::alloc::{AllocError, Global};
 use crate::shim::prelude::*;
 
-/// Adds what all titles begin with, up to the name of the text, in which the style goes on.
+/// Adds the start of all titles, up to the name of the text, in which the style goes on.
 // ensures { OnOk result (string_bytes out.new ≡ string_bytes out.old
 //     ++ (painted palette Primary (codes "error") ++ (opening palette Bold
 //     ++ codes ": invalid "))) }
@@ -36,7 +31,7 @@ fn put_title_start(out: &mut String, palette: Palette) -> Result<(), AllocError>
     Ok(())
 }
 
-/// Adds what the error is.
+/// Adds the title of the error.
 // ensures { OnOk result (string_bytes out.new ≡ string_bytes out.old
 //     ++ title palette (seen_mode mode) description.now) }
 #[inline]
@@ -104,7 +99,7 @@ fn put_head(
 #[inline]
 fn put_label(out: &mut String, frame: &Frame<'_>, label: &Label<'_>) -> Result<(), AllocError> {
     if label.extent.start.line == label.extent.end.line {
-        put_labelled(out, frame, &mark(label, frame.cut))?;
+        put_labelled(out, frame, &mark_of(label, frame.cut))?;
     } else {
         put_long(out, frame, label)?;
     }
@@ -131,14 +126,14 @@ fn put_labels(
     match second {
         None => put_label(out, frame, label)?,
         Some(second) => {
-            let (m, n) = (mark(label, frame.cut), mark(second, frame.cut));
+            let (m, n) = (mark_of(label, frame.cut), mark_of(second, frame.cut));
             put_two_labels(out, frame, &m, &n)?;
         }
     }
     Ok(())
 }
 
-/// Adds what a note begins with.
+/// Adds the start of a note.
 // ensures { OnOk result (string_bytes out.new ≡ string_bytes out.old ++ note_word gutter) }
 #[inline]
 pub fn put_note_word(out: &mut String, gutter: Gutter) -> Result<(), AllocError> {
@@ -194,7 +189,7 @@ fn put_help(
     Ok(())
 }
 
-/// Adds what is below the labels.
+/// Adds the rows below the labels.
 // requires first { IfSome edit.now (λ e. e.extent.start.line < 2 ^ 59) }
 // requires last { IfSome edit.now (λ e. e.extent.end.line < 2 ^ 59) }
 // ensures { OnOk result (string_bytes out.new ≡ string_bytes out.old
@@ -272,7 +267,7 @@ fn least_length(picture: &Picture<'_>, error: &ParseError) -> usize {
 ///
 /// From top to bottom: what the error is, and its path, line and column, which counts characters;
 /// the lines with labels, each with its number and the signs of the labels under it; the note; the
-/// suggestion, if one is made in this mode (see [`edits`](crate::edits)); an empty line. A
+/// suggestion, if one is made in this mode (see [`edits`](fault_fixes::edits)); an empty line. A
 /// suggestion to remove or to insert something is a second label, one to replace a text shows the
 /// old and the new lines. Those for which the arguments of the call are needed, `UsePositional` and
 /// `UseRustDebugPrintingMacro`, are left out. Long lines are not cut at their right. Of two labels
@@ -332,7 +327,7 @@ pub fn put_drawing(
     let label = Label {
         sign: '^',
         text: text.as_str(),
-        extent: picture.extent(&error.span),
+        extent: extent_of(picture, &error.span),
     };
     out.try_reserve_more(least_length(picture, error))?;
     put_with_label(out, mode, picture, error, &label)?;

@@ -1,17 +1,14 @@
-//! Helps of a diagnostic. What begins with `put_` appends to `out`, and returns `Err` if an
-//! allocation fails.
+//! Helps of a diagnostic. A function whose name begins with `put_` appends to `out`, and returns
+//! `Err` if an allocation fails.
 
 // Extracted from crates/drawn_faults/src/helps.rt by tools/extract: not to be edited.
 // That source is proved, and each contract here is its. That this text means the same is tested:
 // by results from outside, and beside what is proved (.ci/bindings) and the original (tools/agree).
 
-use crate::proved::drawn_faults::changes::put_edits;
-use crate::proved::drawn_faults::fixes::Edit as SourceEdit;
-use crate::proved::drawn_faults::glyphs::put_glyphs;
-use crate::proved::drawn_faults::labels::{placed, Edit, Frame};
+use crate::proved::drawn_edits::{placed, put_edits, put_help_word, Edit};
 use crate::proved::drawn_faults::marked::last_edit_line;
-use crate::proved::drawn_faults::places::Picture;
-use crate::proved::drawn_faults::suggestions::put_help_word;
+use crate::proved::drawn_lines::{put_glyphs, Frame, Picture};
+use crate::proved::fault_fixes::Edit as SourceEdit;
 use crate::shim::alloc::{AllocError, Global};
 use crate::shim::prelude::*;
 

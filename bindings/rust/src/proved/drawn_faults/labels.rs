@@ -1,54 +1,19 @@
-//! What is drawn of an error: its labels and its edit, with their places in the source.
+//! The labels and the edit of an error, with their places in the source.
 
 // Extracted from crates/drawn_faults/src/labels.rt by tools/extract: not to be edited.
 // That source is proved, and each contract here is its. That this text means the same is tested:
 // by results from outside, and beside what is proved (.ci/bindings) and the original (tools/agree).
 
-use crate::proved::drawn_faults::extent::Extent;
-use crate::proved::drawn_faults::fixes::is_offered;
-use crate::proved::drawn_faults::glyphs::indent;
-use crate::proved::drawn_faults::mark::Mark;
-use crate::proved::drawn_faults::paint::{palette_of, Gutter, Palette};
-use crate::proved::drawn_faults::places::{behind_lines, Picture};
+use crate::proved::drawn_edits::{placed, Edit};
+use crate::proved::drawn_labels::Label;
+use crate::proved::drawn_lines::{
+    cut_of, digits, extent_of, line_indent, palette_of, Frame, Gutter, Palette, Picture,
+};
+use crate::proved::fault_fixes::is_offered;
 use crate::proved::rustc_parse_format::{ParseError, ParseMode, Suggestion};
 use core::ops::Range;
 
-/// A label of a range of the source.
-#[derive(Clone, Copy)]
-pub struct Label<'a> {
-    /// The sign under its columns.
-    pub sign: char,
-    /// Its text.
-    pub text: &'a str,
-    /// Where it is.
-    pub extent: Extent,
-}
-
-/// An edit that is drawn with its lines.
-#[derive(Clone, Copy)]
-pub struct Edit<'a> {
-    /// The new text.
-    pub text: &'a str,
-    /// Where the text is that it replaces.
-    pub extent: Extent,
-    /// The byte offset in the source at which that text begins.
-    pub from: usize,
-    /// The byte offset in the source at which it ends.
-    pub to: usize,
-}
-
-/// How a picture is laid out.
-#[derive(Clone, Copy)]
-pub struct Frame<'a> {
-    /// The source.
-    pub picture: &'a Picture<'a>,
-    /// The columns of the numbers of the lines, and the colours.
-    pub gutter: Gutter,
-    /// How many columns at the start of each line are cut.
-    pub cut: usize,
-}
-
-/// Returns what the compiler calls the text of a literal in a mode.
+/// Returns the name of the compiler for the text of a literal in a mode.
 // ensures { result.now ≡ text_name (seen_mode mode) }
 #[inline]
 pub fn text_name(mode: ParseMode) -> &'static str {
@@ -97,24 +62,8 @@ pub fn second<'a>(
     Some(Label {
         sign: if is_same { '^' } else { '-' },
         text,
-        extent: picture.extent(span),
+        extent: extent_of(picture, span),
     })
-}
-
-/// Returns an edit with its place in the source.
-// requires { length picture.now.source.now < 2 ^ 59 }
-// ensures value { seen_edit result ≡ placed (seen_picture picture.now) text.now (pair range.now) }
-// ensures small { result.extent.end.line < 2 ^ 59 }
-// ensures small_start { result.extent.start.line < 2 ^ 59 }
-#[inline]
-pub fn placed<'a>(picture: &Picture<'_>, text: &'a str, range: &Range<usize>) -> Edit<'a> {
-    let (from, to) = picture.offsets(range);
-    Edit {
-        text,
-        extent: picture.extent(range),
-        from,
-        to,
-    }
 }
 
 /// Returns the edit that is drawn, or `None` if there is none.
@@ -172,15 +121,6 @@ fn other_line(label: &Label<'_>, second: &Option<Label<'_>>) -> usize {
     }
 }
 
-/// Returns the indent of a line of the source, unless it is blank.
-// requires { length picture.now.source.now < 2 ^ 59 }
-// ensures value { result ≡ line_indent (seen_picture picture.now) number }
-// ensures small { IfSome result (λ n. n < 2 ^ 62) }
-#[inline]
-pub fn line_indent(picture: &Picture<'_>, number: usize) -> Option<usize> {
-    indent(behind_lines(picture.source, number))
-}
-
 /// Returns the least indent, where a blank line has none.
 // requires small_first { IfSome m (λ k. k < 2 ^ 62) }
 // requires small_second { IfSome n (λ k. k < 2 ^ 62) }
@@ -217,31 +157,6 @@ fn least_indent(picture: &Picture<'_>, number: usize, other: usize) -> usize {
     least(indent, line_indent(picture, other))
 }
 
-/// Returns how many columns are cut of lines with an indent.
-// ensures value { result ≡ cut_of indent }
-// ensures less { result ≤ indent }
-#[inline]
-pub fn cut_of(indent: usize) -> usize {
-    if indent > 26 {
-        indent - 22
-    } else {
-        0
-    }
-}
-
-/// Returns the number of digits of a number.
-// ensures { result ≡ length (decimal number) }
-#[inline]
-pub fn digits(number: usize) -> usize {
-    let mut rest = number;
-    let mut count = 1;
-    while rest >= 10 {
-        rest /= 10;
-        count += 1;
-    }
-    count
-}
-
 /// Returns the layout for labels and an edit.
 // requires source { length picture.now.source.now < 2 ^ 59 }
 // requires small { label.now.extent.end.line < 2 ^ 59 }
@@ -269,28 +184,5 @@ pub fn frame_for<'a>(
         picture,
         gutter: Gutter { columns, palette },
         cut: cut_of(indent),
-    }
-}
-
-/// Returns a label in the line in which it begins.
-// requires { label.now.extent.start.column < 2 ^ 61 }
-// ensures value { seen_mark result ≡ mark cut (seen_label label.now) }
-// ensures line { result.line ≡ label.now.extent.start.line }
-#[inline]
-pub fn mark<'a>(label: &Label<'a>, cut: usize) -> Mark<'a> {
-    let start = label.extent.start;
-    let end = label.extent.end;
-    let from = start.column.saturating_sub(cut);
-    let to = if end.line == start.line {
-        end.column.saturating_sub(cut)
-    } else {
-        0
-    };
-    Mark {
-        line: start.line,
-        from,
-        to: to.max(from + 1),
-        sign: label.sign,
-        text: label.text,
     }
 }

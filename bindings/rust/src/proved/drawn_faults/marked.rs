@@ -1,19 +1,15 @@
-//! Lines of the source with several labels. What begins with `put_` appends to `out`, and returns
-//! `Err` if an allocation fails.
+//! Lines of the source with several labels. A function whose name begins with `put_` appends to
+//! `out`, and returns `Err` if an allocation fails.
 
 // Extracted from crates/drawn_faults/src/marked.rt by tools/extract: not to be edited.
 // That source is proved, and each contract here is its. That this text means the same is tested:
 // by results from outside, and beside what is proved (.ci/bindings) and the original (tools/agree).
 
-use crate::proved::drawn_faults::extent::Spot;
-use crate::proved::drawn_faults::labels::{cut_of, line_indent, mark, Edit, Frame, Label};
-use crate::proved::drawn_faults::lines::{put_code, put_gap};
-use crate::proved::drawn_faults::long::put_long;
-use crate::proved::drawn_faults::mark::Mark;
-use crate::proved::drawn_faults::marks::put_mark_rows;
-use crate::proved::drawn_faults::order::from_right;
-use crate::proved::drawn_faults::paint::Gutter;
-use crate::proved::drawn_faults::places::{Picture, ORIGIN};
+use crate::proved::drawn_edits::Edit;
+use crate::proved::drawn_labels::{from_right, mark_of, put_long, put_mark_rows, Label, Mark};
+use crate::proved::drawn_lines::{
+    cut_of, line_indent, put_code, put_gap, Frame, Gutter, Picture, Spot, ORIGIN,
+};
 use crate::shim::alloc::{AllocError, Global};
 use crate::shim::prelude::*;
 
@@ -159,7 +155,7 @@ fn marks_of<'a>(
 ) -> Result<Vec<Mark<'a>>, AllocError> {
     let mut list = Vec::made_in(alloc);
     for label in labels {
-        list.try_push(mark(label, cut))?;
+        list.try_push(mark_of(label, cut))?;
     }
     let marks = from_right(alloc, &list)?;
     Ok(marks)
@@ -183,7 +179,7 @@ fn in_line<'a>(
     Ok(list)
 }
 
-/// Adds what is between a line that was drawn, if there is one, and the next one.
+/// Adds the rows between a line that was drawn, if there is one, and the next one.
 // requires cut { frame.now.cut < 2 ^ 62 }
 // requires before { IfSome before (λ n. n < 2 ^ 59) }
 // ensures { OnOk result (string_bytes out.new ≡ string_bytes out.old

@@ -1,19 +1,17 @@
-//! Notes of a diagnostic, and labels under a title. What begins with `put_` appends to `out`, and
-//! returns `Err` if an allocation fails.
+//! Notes of a diagnostic, and labels under a title. A function whose name begins with `put_`
+//! appends to `out`, and returns `Err` if an allocation fails.
 
 // Extracted from crates/drawn_faults/src/notes.rt by tools/extract: not to be edited.
 // That source is proved, and each contract here is its. That this text means the same is tested:
 // by results from outside, and beside what is proved (.ci/bindings) and the original (tools/agree).
 
 use crate::proved::drawn_faults::drawing::{put_arrow, put_note_word};
-use crate::proved::drawn_faults::glyphs::{glyph, glyph_count, put_glyphs, put_run, split_first};
-use crate::proved::drawn_faults::labels::{Frame, Label};
-use crate::proved::drawn_faults::lines::put_parting;
 use crate::proved::drawn_faults::marked::{first_spot, frame_of, last_label_line, put_labels_rows};
-use crate::proved::drawn_faults::paint::{
-    palette_of, put_closing, put_opening, put_painted, Gutter, Palette, Style,
+use crate::proved::drawn_labels::Label;
+use crate::proved::drawn_lines::{
+    extent_of, glyph, glyph_count, palette_of, put_closing, put_glyphs, put_opening, put_painted,
+    put_parting, put_run, split_first, Frame, Gutter, Palette, Picture, Style,
 };
-use crate::proved::drawn_faults::places::Picture;
 use crate::shim::alloc::{AllocError, Global};
 use crate::shim::prelude::*;
 use core::ops::Range;
@@ -42,7 +40,7 @@ fn shown_labels(
         list.try_push(Label {
             sign: '^',
             text: "",
-            extent: picture.extent(span),
+            extent: extent_of(picture, span),
         })?;
     }
     Ok(list)
@@ -95,7 +93,7 @@ pub fn put_titled(
     Ok(())
 }
 
-/// Adds what is after a character of a note: after a line feed the margin of the next line.
+/// Adds the text after a character of a note: after a line feed the margin of the next line.
 // ensures { OnOk result (string_bytes out.new ≡ string_bytes out.old ++ margin gutter c) }
 #[inline]
 fn put_margin(out: &mut String, gutter: Gutter, c: char) -> Result<(), AllocError> {

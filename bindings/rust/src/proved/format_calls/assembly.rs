@@ -6,12 +6,13 @@
 
 use crate::proved::format_calls::marks::{is_mark_of, token_at};
 use crate::proved::format_calls::modes::is_text as is_text_of;
+use crate::proved::format_calls::part::Part;
 use crate::proved::format_calls::split::Argument;
 use crate::proved::format_calls::strings::is_text;
 use crate::proved::rust_tokens::Kind;
 use crate::proved::rust_trees::Token;
 
-/// What an argument after the templates of a macro for inline assembly is.
+/// The kind of an argument after the templates of a macro for inline assembly.
 #[derive(Clone, Copy)]
 pub enum AsmPart {
     /// An operand without a register of its own, for example `in(reg) x` or `const 1`.
@@ -76,30 +77,6 @@ fn is_parenthesis(token: Option<Token<'_>>) -> bool {
         Some(token) => is_mark_of(&token, b'('),
         None => false,
     }
-}
-
-/// Returns whether the token of an index is the word `raw`.
-// ensures { result ≡ is_word_at (codes "raw") (slice_get (map leaf tokens.now) index) }
-#[inline]
-fn is_raw(tokens: &[Token<'_>], index: usize) -> bool {
-    match token_at(tokens, index) {
-        Some(token) => is_text_of(&token, "raw"),
-        None => false,
-    }
-}
-
-/// Returns whether `raw` is one of the tokens from one to the one before another.
-// ensures { result ≡ has_raw (map leaf tokens.now) from (to - from) }
-#[inline]
-fn has_raw(tokens: &[Token<'_>], from: usize, to: usize) -> bool {
-    let mut index = from;
-    while index < to {
-        if is_raw(tokens, index) {
-            return true;
-        }
-        index += 1;
-    }
-    false
 }
 
 /// Returns which operand has its register, in parentheses, at this token.
@@ -170,10 +147,11 @@ fn part_of(
 }
 
 /// Returns what an argument after the templates is, which starts at one of the tokens.
-// requires { argument.now.start < length tokens.now }
-// ensures { result ≡ asm_part (map leaf tokens.now) argument.now }
+// requires { argument.now.start < length part.now }
+// ensures { result ≡ asm_part part.now argument.now }
 #[inline]
-pub fn asm_part(tokens: &[Token<'_>], argument: &Argument) -> AsmPart {
+pub fn asm_part(part: &Part<'_>, argument: &Argument) -> AsmPart {
+    let tokens = part.tokens();
     let start = if argument.is_named {
         argument.start + 2
     } else {
@@ -181,7 +159,7 @@ pub fn asm_part(tokens: &[Token<'_>], argument: &Argument) -> AsmPart {
     };
     part_of(
         argument.is_named,
-        has_raw(tokens, argument.start, argument.end),
+        part.has_raw(argument),
         token_in(tokens, argument, start),
         token_in(tokens, argument, start + 1),
         token_in(tokens, argument, start + 2),

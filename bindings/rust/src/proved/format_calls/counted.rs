@@ -1,11 +1,11 @@
-//! Whether the number of arguments is known.
+//! Where arguments end, and whether their number is known.
 
 // Extracted from crates/format_calls/src/counted.rt by tools/extract: not to be edited.
 // That source is proved, and each contract here is its. That this text means the same is tested:
 // by results from outside, and beside what is proved (.ci/bindings) and the original (tools/agree).
 
 use crate::proved::format_calls::marks::{is_mark, token_at};
-use crate::proved::format_calls::split::{behind_tree, is_named};
+use crate::proved::format_calls::split::{after_tree, is_named};
 use crate::proved::rust_trees::{is_opening, Source, Token};
 
 /// Returns whether a token opens a pair.
@@ -33,21 +33,47 @@ fn is_uncounted(tokens: &[Token<'_>], index: usize) -> bool {
     is_mark(tokens, index, b';')
 }
 
-/// Returns whether the number of arguments is known that stand between a token and the delimiter
-/// that closes their pair: no macro repeats some of them, as `$(..)*` does and `#x` in `quote!`, or
-/// names one, as `$name = x` does, and no `;` stands among them.
+/// Returns whether a token ends arguments: it is `;`, and `ends_early` says that one does.
+// ensures { result ≡ is_stop ends_early (map leaf tokens.now) index }
+#[inline]
+fn is_stop(tokens: &[Token<'_>], index: usize, ends_early: bool) -> bool {
+    ends_early && is_mark(tokens, index, b';')
+}
+
+/// Where arguments end, and whether their number is known.
+#[derive(Clone, Copy)]
+pub struct Extent {
+    /// The index of the token after them.
+    pub end: usize,
+    /// Whether their number is known: no macro repeats some of them, as `$(..)*` does and `#x` in
+    /// `quote!`, or names one, as `$name = x` does, and no `;` stands among them.
+    pub is_counted: bool,
+}
+
+/// Returns where the arguments end that start at a token between delimiters: at the delimiter that
+/// closes the pair or, where `ends_early` says so, at the first `;` among them.
 // requires pair { IsPair source.now opening close }
 // requires start { (opening < from) × (from ≤ close) }
-// ensures { (ts : List ℕ) × AreTrees source.now from ts close
-//     × (result ≡ not (list_any (is_uncounted source.now) ts)) }
+// ensures trees { (ts : List ℕ) × AreUpTo ends_early source.now from ts result.end close
+//     × (result.is_counted ≡ not (list_any (is_uncounted source.now) ts)) }
+// ensures within { (from ≤ result.end) × (result.end ≤ close) }
 #[inline]
-pub fn are_counted(source: &Source<'_>, opening: usize, from: usize, close: usize) -> bool {
+pub fn extent_of(
+    source: &Source<'_>,
+    ends_early: bool,
+    opening: usize,
+    from: usize,
+    close: usize,
+) -> Extent {
     let tokens = source.tokens();
     let mut found = false;
-    let mut index = from;
-    while index < close {
-        found = found || is_uncounted(tokens, index);
-        index = behind_tree(source, index);
+    let mut end = from;
+    while end < close && !is_stop(tokens, end, ends_early) {
+        found = found || is_uncounted(tokens, end);
+        end = after_tree(source, end);
     }
-    !found
+    Extent {
+        end,
+        is_counted: !found,
+    }
 }

@@ -43,19 +43,24 @@ pub fn is_named(tokens: &[Token<'_>], index: usize) -> bool {
     }
 }
 
+/// Returns the token that closes the pair that a token opens, or `None` if it opens none.
+// ensures some { IfSome result (λ j. IsPair source.now index j) }
+// ensures none { IsNone result → (j : ℕ) → IsPair source.now index j → ⊥ }
+#[inline]
+pub fn closing(source: &Source<'_>, index: usize) -> Option<usize> {
+    match source.partner(index) {
+        Some(partner) if partner > index => Some(partner),
+        _ => None,
+    }
+}
+
 /// Returns the token after the tree at a token between two delimiters that are a pair.
 // requires { (o c : ℕ) × IsPair source.now o c × (o < index) × (index < c) × (c < 2 ^ 64) }
 // ensures { IsTree source.now index result }
 #[inline]
-pub fn behind_tree(source: &Source<'_>, index: usize) -> usize {
-    match source.partner(index) {
-        Some(close) => {
-            if close > index {
-                close + 1
-            } else {
-                index + 1
-            }
-        }
+pub fn after_tree(source: &Source<'_>, index: usize) -> usize {
+    match closing(source, index) {
+        Some(close) => close + 1,
         None => index + 1,
     }
 }
@@ -73,7 +78,7 @@ fn argument_end(source: &Source<'_>, opening: usize, from: usize, to: usize) -> 
     let mut end = from;
     while end < to && !is_end(tokens, end, mode) {
         mode = mode_after(tokens, end, mode);
-        end = behind_tree(source, end);
+        end = after_tree(source, end);
     }
     end
 }

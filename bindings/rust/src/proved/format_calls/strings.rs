@@ -67,19 +67,35 @@ fn reason_of(tokens: &[Token<'_>], argument: &Argument) -> Reason {
     }
 }
 
-/// Returns the index of the first argument that is a string literal, or `None` if there is none.
+/// Returns whether an argument begins with a string literal that is all of it, or that `;` follows.
+// ensures { result ≡ begins_text (map leaf tokens.now) argument.now }
+#[inline]
+fn begins_text(tokens: &[Token<'_>], argument: &Argument) -> bool {
+    match token_at(tokens, argument.start) {
+        Some(token) => {
+            is_text(tokens, argument)
+                || is_text_leaf(&token) && is_mark(tokens, argument.start + 1, b';')
+        }
+        None => false,
+    }
+}
+
+/// Returns the index of the first argument that begins with the format string, or `None` if there
+/// is none.
 // ensures { result ≡ first_text (map leaf tokens.now) arguments.now }
 #[inline]
 fn first_text(tokens: &[Token<'_>], arguments: &[Argument]) -> Option<usize> {
     arguments
         .iter()
-        .position(|argument| is_text(tokens, argument))
+        .position(|argument| begins_text(tokens, argument))
 }
 
 /// Returns this index if the argument with it is the format string, or the reason why none is read.
 /// The last argument may be none.
-// ensures { result ≡ argument_or (map leaf tokens.now) index (slice_get arguments.now index)
-//     (is_last_none && (index + 1) == length arguments.now) }
+// ensures value { result ≡ argument_or (map leaf tokens.now) index
+//     (slice_get arguments.now index) (is_last_none && (index + 1) == length arguments.now) }
+// ensures literal { IfOk result (λ n. (a : ArgumentValue) × (slice_get arguments.now n ≡ Some a)
+//     × IsTrue (is_text (map leaf tokens.now) a)) }
 #[inline]
 fn string_at(
     tokens: &[Token<'_>],
@@ -104,7 +120,7 @@ fn string_at(
 /// read.
 // ensures value { result ≡ format_string source.now rule arguments.now is_from_2021 }
 // ensures literal { IfOk result (λ n. (a : ArgumentValue) × (slice_get arguments.now n ≡ Some a)
-//     × IsTrue (is_text source.now a)) }
+//     × IsTrue (is_string_by rule source.now a)) }
 #[inline]
 pub fn format_string(
     source: &Source<'_>,

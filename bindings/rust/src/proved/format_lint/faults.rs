@@ -46,7 +46,7 @@ fn faults_of<'a>(alloc: Global, parser: &mut Parser<'a>) -> Result<Findings<'a>,
 /// the calls of a parser at its start. Returns `Err` as `faults_of` does.
 // requires { parser.old ≡ start (seen_mode mode) (seen_source source) }
 // ensures labels { IfOk result (λ x. x.0.items
-//     ≡ map sized (tokens_of (seen_mode mode) (chars source.entry.text.now))) }
+//     ≡ map sized (read_tokens (seen_mode mode) (chars source.entry.text.now))) }
 // ensures faults { IfOk result (λ x. Keeps x.1
 //     (findings (seen_mode mode) (seen_source source.entry))) }
 #[inline]
@@ -121,6 +121,7 @@ pub fn tokens_in<'a>(
         source.style,
         source.literal,
         false,
+        mode,
         labels.as_slice(),
     )?;
     Ok((tokens, faults))

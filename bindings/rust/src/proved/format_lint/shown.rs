@@ -1,4 +1,4 @@
-//! What is shown of an input in UTF-8.
+//! The result of a task for an input in UTF-8.
 
 // Extracted from crates/format_lint/src/shown.rt by tools/extract: not to be edited.
 // That source is proved, and each contract here is its. That this text means the same is tested:
@@ -8,7 +8,9 @@ use super::faults::{faults_in, tokens_in, Source};
 use super::findings::{Finding, Findings};
 use super::task::{Show, Task};
 use super::tokens::put_tokens;
-use crate::proved::drawn_faults::{fix, put_drawing, Picture};
+use crate::proved::drawn_faults::put_drawing;
+use crate::proved::drawn_lines::Picture;
+use crate::proved::fault_fixes::fix;
 use crate::proved::literal_faults::snippet_of;
 use crate::proved::piece_listing::literal::literal_text;
 use crate::proved::piece_listing::verdict::RunFault;
@@ -16,7 +18,7 @@ use crate::proved::rustc_parse_format::ParseMode;
 use crate::shim::alloc::{AllocError, Global};
 use crate::shim::prelude::*;
 
-/// What a task shows of an input.
+/// The result of a task for an input.
 pub struct Shown {
     /// The text for the output.
     pub output: String,
@@ -118,7 +120,7 @@ fn put_first(
 //     (map seen_finding faults.now.first.items) ++ more faults.now.others
 //     else first_drawing (seen_mode mode) (seen_picture picture.now)
 //     (map seen_finding faults.now.first.items))) }
-// ensures told { IfOk result (λ told. told ≡ faults.now.mistakes) }
+// ensures report { IfOk result (λ report. report ≡ faults.now.mistakes) }
 #[inline]
 fn put_drawings(
     alloc: Global,
@@ -142,7 +144,7 @@ fn put_drawings(
 // requires { Keeps faults.now (findings (seen_mode task.mode) (seen_source source)) }
 // ensures drawn { OnOk result (string_bytes out.new ≡ string_bytes out.old
 //     ++ drawing_of all (seen_task task.entry) (seen_source source.entry)) }
-// ensures told { IfOk result (λ told. told
+// ensures report { IfOk result (λ report. report
 //     ≡ mistakes (findings (seen_mode task.entry.mode) (seen_source source.entry))) }
 #[inline]
 fn put_faults(
@@ -264,7 +266,7 @@ fn token_output(alloc: Global, task: Task<'_>, source: Source<'_>) -> Result<Sho
     Ok(with_drawing(alloc, output, task, source, &faults)?)
 }
 
-/// Returns what a task shows of a source. Returns `Err` if an allocation fails.
+/// Returns the result of a task for a source. Returns `Err` if an allocation fails.
 // requires { hashes source.style ≤ limit }
 // ensures { IfOk result (λ x. IsShown (seen_task task.entry) (seen_source source.entry)
 //     (seen_shown x)) }
@@ -278,7 +280,7 @@ fn shown_of(alloc: Global, source: Source<'_>, task: Task<'_>) -> Result<Shown, 
     }
 }
 
-/// Returns what a task shows of the input as a string literal, perhaps with a byte order mark
+/// Returns the result of a task for the input as a string literal, perhaps with a byte order mark
 /// before it and white space around it. Returns `Err` if the input is not a string literal or an
 /// allocation fails.
 // requires { IsShort input.now }
@@ -319,8 +321,8 @@ fn bare<'a>(text: &'a str, lines: &'a str) -> Source<'a> {
     }
 }
 
-/// Returns what a task shows of an input. Returns `Err` if the task needs a string literal and the
-/// input is none, or if an allocation fails.
+/// Returns the result of a task for an input. Returns `Err` if the task needs a string literal and
+/// the input is none, or if an allocation fails.
 // requires { IsShort input.now }
 // ensures shown { IfOk result (λ x. (s : SourceValue)
 //     × IsSourceIn task.entry.is_literal input.now s

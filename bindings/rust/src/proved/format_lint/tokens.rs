@@ -5,7 +5,7 @@
 // That source is proved, and each contract here is its. That this text means the same is tested:
 // by results from outside, and beside what is proved (.ci/bindings) and the original (tools/agree).
 
-use crate::proved::drawn_faults::{is_ascii_or_as_is, is_drawn_as_is, put_glyphs};
+use crate::proved::drawn_lines::{is_ascii_or_as_is, is_drawn_as_is, put_glyphs};
 use crate::proved::format_tokens::{Kind, Token};
 use crate::proved::piece_listing::{put_quoted, put_span};
 use crate::shim::alloc::AllocError;
@@ -38,6 +38,7 @@ fn kind_name(kind: Kind) -> &'static str {
         Kind::DiagnosticText => "diagnostic-text",
         Kind::Unexpected => "unexpected",
         Kind::Quote => "quote",
+        Kind::EscapeSequence => "escape-sequence",
     }
 }
 
@@ -56,6 +57,7 @@ fn colour_escape(kind: Kind) -> Option<&'static str> {
         Kind::Fill | Kind::Align | Kind::Sign | Kind::NumberSign | Kind::Zero => Some("\u{1b}[33m"),
         Kind::Type | Kind::Modifier => Some("\u{1b}[32m"),
         Kind::Unexpected => Some("\u{1b}[31m"),
+        Kind::EscapeSequence => Some("\u{1b}[94m"),
     }
 }
 
@@ -143,7 +145,7 @@ fn put_token(
 /// Returns the first characters of a text, as many as end within `width` bytes, and the rest after
 /// them.
 // ensures front { chars result.0.now ≡ within width (chars text.now) }
-// ensures back { chars result.1.now ≡ behind width (chars text.now) }
+// ensures back { chars result.1.now ≡ rest_after width (chars text.now) }
 // ensures whole { text.now ≡ result.0.now ++ result.1.now }
 #[inline]
 fn split_within(text: &str, width: usize) -> (&str, &str) {
@@ -184,9 +186,9 @@ pub fn put_tokens(
     let mut rest = text;
     for token in tokens {
         let width = token.span.end.saturating_sub(token.span.start);
-        let (text, behind) = split_within(rest, width);
+        let (text, rest_after) = split_within(rest, width);
         put_token(out, colours, as_is, token, text)?;
-        rest = behind;
+        rest = rest_after;
     }
     Ok(())
 }

@@ -50,11 +50,21 @@ pub enum Kind {
     Modifier,
     /// The text after the colon in a diagnostic.
     DiagnosticText,
-    /// Text that has no place in the grammar: a `}` that closes nothing, and the characters that
-    /// the parser skips in place of a missing closing brace.
+    /// What a fault is about:
+    ///
+    /// - a `}` that closes nothing, a `{` that nothing closes, and between two braces text and
+    ///   doubled braces, since a closing brace is missing before them;
+    /// - the characters that the parser skips in place of a closing brace;
+    /// - a lone `_` in place of a name, a type or a modifier;
+    /// - a number above 65535;
+    /// - in `DiagnosticNamed` a number, text after a colon, and the braces around no argument.
+    ///
+    /// The prefix `r#` is a fault of its own kind, `RawPrefix`.
     Unexpected,
     /// The opening or the closing of a source literal, around its text.
     Quote,
+    /// An escape of an ordinary source literal in text, such as `\n`, or a continued line anywhere.
+    EscapeSequence,
 }
 
 /// A token: a kind and a byte range of the source.

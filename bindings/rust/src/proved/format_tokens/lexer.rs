@@ -4,6 +4,7 @@
 // That source is proved, and each contract here is its. That this text means the same is tested:
 // by results from outside, and beside what is proved (.ci/bindings) and the original (tools/agree).
 
+use crate::proved::format_tokens::escapes::cut_escapes;
 use crate::proved::format_tokens::kinds::{Kind, Token};
 use crate::proved::format_tokens::parts::{length_of, width_of};
 use crate::proved::format_tokens::places::{ordinary_starts, place, plain_starts};
@@ -12,6 +13,13 @@ use crate::proved::rustc_parse_format::literal::is_source_literal;
 use crate::proved::rustc_parse_format::ParseMode;
 use crate::shim::alloc::{AllocError, Global};
 use crate::shim::prelude::*;
+
+/// Returns whether each argument has to be a name and nothing else.
+// ensures { result ≡ wants_names (seen_mode mode) }
+#[inline]
+fn wants_names(mode: ParseMode) -> bool {
+    matches!(mode, ParseMode::DiagnosticNamed)
+}
 
 /// Returns the snippet if it is the source literal of the input.
 // ensures { MatchOption result
@@ -61,29 +69,26 @@ fn literal_starts(
     }
 }
 
-/// Returns the tokens of an input with their byte ranges. `labels` has the kind of each and its
-/// number of characters; the other arguments are those of `tokens`. Returns `Err` if an allocation
-/// fails.
-// requires { hashes style + length input.now + 2 < 2 ^ 64 }
+/// Returns the tokens of an input with their byte ranges, where escapes are in the tokens of the
+/// characters that they stand for, and the opening and the closing of `literal`, its source literal
+/// if it has one. Returns `Err` if an allocation fails.
+// requires room { hashes style + length input.now + 2 < 2 ^ 64 }
+// requires source { IsSource (chars input.now) style (chars literal.now) appended_newline }
 // ensures { IfOk result (λ v. (mode : Mode)
-//     → labels.now ≡ map sized (tokens_of mode (chars input.now)) → map seen_token v.items
-//     ≡ tokens mode (chars input.now) style (seen_text snippet.entry) appended_newline) }
+//     → labels.now ≡ map sized (read_tokens mode (chars input.now)) → names ≡ wants_names mode
+//     → map seen_token v.items
+//     ≡ whole_tokens mode (chars input.now) style (Some (chars literal.now)) appended_newline) }
 #[inline]
-pub fn place_labels(
+fn place_whole(
     alloc: Global,
     input: &str,
     style: Option<usize>,
-    snippet: Option<&str>,
+    literal: &str,
     appended_newline: bool,
+    names: bool,
     labels: &[(Kind, usize)],
 ) -> Result<Vec<Token>, AllocError> {
     let kept = length_of(input).saturating_sub(usize::from(appended_newline));
-    let Some(literal) = source_of(input, style, snippet, appended_newline) else {
-        let starts = plain_starts(alloc, 0, input, width_of(input))?;
-        let mut tokens = Vec::made_for(alloc, labels.len())?;
-        place(&mut tokens, labels, starts.as_slice(), kept)?;
-        return Ok(tokens);
-    };
     let offsets = literal_starts(alloc, input, style, literal, appended_newline)?;
     let starts = offsets.as_slice();
     let mut tokens = Vec::made_for(alloc, labels.len().saturating_add(2))?;
@@ -91,12 +96,56 @@ pub fn place_labels(
         kind: Kind::Quote,
         span: 0..starts[0],
     })?;
-    place(&mut tokens, labels, starts, kept)?;
+    place(&mut tokens, names, labels, starts, kept)?;
     tokens.try_push(Token {
         kind: Kind::Quote,
         span: starts[starts.len() - 1]..width_of(literal),
     })?;
     Ok(tokens)
+}
+
+/// Returns the tokens of an input with their byte ranges. `labels` has the kind of each, as `label`
+/// adds them, and its number of characters; the other arguments are those of `tokens`. Returns
+/// `Err` if an allocation fails.
+// requires { hashes style + length input.now + 2 < 2 ^ 64 }
+// ensures { IfOk result (λ v.
+//     labels.now ≡ map sized (read_tokens (seen_mode mode) (chars input.now))
+//     → map seen_token v.items ≡ tokens (seen_mode mode) (chars input.now) style
+//     (seen_text snippet.entry) appended_newline) }
+#[inline]
+pub fn place_labels(
+    alloc: Global,
+    input: &str,
+    style: Option<usize>,
+    snippet: Option<&str>,
+    appended_newline: bool,
+    mode: ParseMode,
+    labels: &[(Kind, usize)],
+) -> Result<Vec<Token>, AllocError> {
+    let names = wants_names(mode);
+    let Some(literal) = source_of(input, style, snippet, appended_newline) else {
+        let kept = length_of(input).saturating_sub(usize::from(appended_newline));
+        let starts = plain_starts(alloc, 0, input, width_of(input))?;
+        let mut tokens = Vec::made_for(alloc, labels.len())?;
+        place(&mut tokens, names, labels, starts.as_slice(), kept)?;
+        return Ok(tokens);
+    };
+    let tokens = place_whole(
+        alloc,
+        input,
+        style,
+        literal,
+        appended_newline,
+        names,
+        labels,
+    )?;
+    match style {
+        Some(_) => Ok(tokens),
+        None => {
+            let parts = cut_escapes(alloc, literal, tokens)?;
+            Ok(parts)
+        }
+    }
 }
 
 /// Returns the tokens of an input, faulty or not, with their byte ranges in its source literal, or
@@ -108,32 +157,32 @@ pub fn place_labels(
 /// not have. The number of hashes, the byte length of the input and 2 must add up to less than
 /// 2^64.
 ///
-/// The kinds and the characters of the tokens never depend on `style` and `snippet`. If the snippet
-/// is the source literal of the input, the byte ranges are those of the snippet, and the first and
-/// the last token are the opening and the closing of the literal. Otherwise the byte ranges are
-/// those of the input, from 0 on.
+/// If the snippet is the source literal of the input, the byte ranges are those of the snippet, and
+/// the first and the last token are the opening and the closing of the literal. Otherwise the byte
+/// ranges are those of the input, from 0 on.
+///
+/// The kinds and the characters of the tokens do not depend on `style` and `snippet`, but for the
+/// escapes of an ordinary source literal: each escape in text and each continued line is a token of
+/// its own, `EscapeSequence`, and cuts the token that it is in. An escape that stands for a brace,
+/// or for another character of a placeholder, stays in the token of that character.
 ///
 /// Returns `Err` if an allocation fails.
 // requires { hashes style + length input.now + 2 < 2 ^ 64 }
 // ensures tokens { IfOk result (λ v. map seen_token v.items ≡ tokens (seen_mode mode)
 //     (chars input.now) style (seen_snippet snippet) appended_newline) }
-// The kinds do not depend on style and snippet: with a source literal they are the same,
-// between those of two quotes.
-// ensures worlds { IfOk result (λ v. let ts = map seen_token v.items in
-//     let ls = shown (seen_mode mode) (chars input.now) appended_newline in
-//     (HasSource (chars input.now) style (seen_snippet snippet) appended_newline
-//     → kinds_of ts ≡ kinds_of (in_quotes ls))
-//     × ((HasSource (chars input.now) style (seen_snippet snippet) appended_newline → ⊥)
-//     → kinds_of ts ≡ kinds_of ls)) }
-// With a source literal the byte ranges cover it. The part of the snippet in each, with its
-// escapes decoded, is the characters of the token; in those of the quotes there are none.
+// With a source literal the byte ranges cover it.
 // ensures cover { IfOk result (λ v. (source : Text) → seen_snippet snippet ≡ Some source
 //     → IsSource (chars input.now) style source appended_newline
 //     → IsCover 0 (byte_length source) (ranges_of (map seen_token v.items))) }
+// They are other tokens, cut at the escapes of the literal: those of the input, in the same
+// kinds and order for each style and snippet, between those of two quotes. The part of the
+// snippet in each of those, with its escapes decoded, is the characters of the token; in the
+// quotes there are none.
 // ensures reads_back { IfOk result (λ v. (source : Text) → seen_snippet snippet ≡ Some source
 //     → IsSource (chars input.now) style source appended_newline
-//     → read_back (chars input.now) style source appended_newline (map seen_token v.items)
-//     ≡ in_quotes (shown (seen_mode mode) (chars input.now) appended_newline)) }
+//     → (whole : List Placed) × (map seen_token v.items ≡ cut_in style source whole)
+//     × (read_back (chars input.now) style source appended_newline whole
+//     ≡ in_quotes (shown (seen_mode mode) (chars input.now) appended_newline))) }
 // Without one they cover the text, and the part of the input in each is the characters of the
 // token.
 // ensures in_text { IfOk result (λ v.
@@ -156,6 +205,6 @@ pub fn tokens(
         Some(literal) => Some(literal.as_str()),
     };
     let labels = labels(alloc, input, mode)?;
-    let tokens = place_labels(alloc, input, style, text, appended_newline, &labels)?;
+    let tokens = place_labels(alloc, input, style, text, appended_newline, mode, &labels)?;
     Ok(tokens)
 }

@@ -4,6 +4,8 @@
 // That source is proved, and each contract here is its. That this text means the same is tested:
 // by results from outside, and beside what is proved (.ci/bindings) and the original (tools/agree).
 
+pub(crate) mod culprits;
+pub(crate) mod escapes;
 pub(crate) mod kinds;
 pub(crate) mod lexer;
 pub(crate) mod parts;

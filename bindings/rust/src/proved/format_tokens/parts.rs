@@ -58,9 +58,9 @@ fn first(text: &str) -> Option<char> {
 }
 
 /// Returns the text after the first character, or an empty text if there is none.
-// ensures { chars result.now ≡ behind_first (chars text.now) }
+// ensures { chars result.now ≡ after_first (chars text.now) }
 #[inline]
-fn behind_first(text: &str) -> &str {
+pub fn after_first(text: &str) -> &str {
     let mut rest = text.chars();
     rest.next();
     rest.as_str()
@@ -112,13 +112,59 @@ pub fn run_width(text: &str, run: Run) -> usize {
     width
 }
 
+/// Returns the kind of a word that is of a kind unless it is a lone `_`.
+// ensures { result ≡ word_kind kind (chars word.now) }
+#[inline]
+fn word_kind(kind: Kind, word: &str) -> Kind {
+    if first(word) == Some('_') && first(after_first(word)).is_none() {
+        Kind::Unexpected
+    } else {
+        kind
+    }
+}
+
+/// Returns a number with one more digit, or 65536 if it is greater.
+// requires number { number ≤ 65536 }
+// requires digit { IsTrue (is_ascii_digit digit) }
+// ensures { result ≡ min (number * 10 + digit_value digit) 65536 }
+#[inline]
+fn with_digit(number: u32, digit: char) -> u32 {
+    (number * 10 + (u32::from(digit) - 48)).min(65536)
+}
+
+/// Returns whether the number that the digits at the start of a text write is above 65535.
+// ensures { result ≡ is_over (front is_ascii_digit (chars text.now)) }
+#[inline]
+fn is_over(text: &str) -> bool {
+    let mut number = 0;
+    let mut rest = text.chars();
+    while let Some(c) = rest.next() {
+        if !c.is_ascii_digit() {
+            return number > 65535;
+        }
+        number = with_digit(number, c);
+    }
+    number > 65535
+}
+
+/// Returns the kind of the digits at the start of a text.
+// ensures { result ≡ integer_kind (front is_ascii_digit (chars text.now)) }
+#[inline]
+fn integer_kind(text: &str) -> Kind {
+    if is_over(text) {
+        Kind::Unexpected
+    } else {
+        Kind::Integer
+    }
+}
+
 /// Returns whether a text that begins with a name has an `r#` before it.
 // ensures { result ≡ names_raw (chars text.now) (chars name.now) }
 #[inline]
 fn is_raw(text: &str, name: &str) -> bool {
-    let hash = behind_first(text);
+    let hash = after_first(text);
     match first(name) {
-        Some(c) => begins(text, 'r') && begins(hash, '#') && begins(behind_first(hash), c),
+        Some(c) => begins(text, 'r') && begins(hash, '#') && begins(after_first(hash), c),
         None => false,
     }
 }
@@ -137,13 +183,19 @@ pub fn position<'a>(
     match position {
         Position::ArgumentImplicitlyIs(_) => Ok(text),
         Position::ArgumentIs(_) => {
-            let left = take(labels, Kind::Integer, run_width(text, Run::Digits), text)?;
+            let left = take(
+                labels,
+                integer_kind(text),
+                run_width(text, Run::Digits),
+                text,
+            )?;
             Ok(left)
         }
         Position::ArgumentNamed(name) => {
             let prefix = if is_raw(text, name) { 2 } else { 0 };
             let word = take(labels, Kind::RawPrefix, prefix, text)?;
-            let left = take(labels, Kind::Identifier, width_of(name), word)?;
+            let kind = word_kind(Kind::Identifier, name);
+            let left = take(labels, kind, width_of(name), word)?;
             Ok(left)
         }
     }
@@ -167,16 +219,27 @@ fn count<'a>(
 ) -> Result<&'a str, AllocError> {
     match count {
         Count::CountIs(_) => {
-            let left = take(labels, Kind::Integer, run_width(text, Run::Digits), text)?;
+            let left = take(
+                labels,
+                integer_kind(text),
+                run_width(text, Run::Digits),
+                text,
+            )?;
             Ok(left)
         }
         Count::CountIsParam(_) => {
-            let dollar = take(labels, Kind::Integer, run_width(text, Run::Digits), text)?;
+            let dollar = take(
+                labels,
+                integer_kind(text),
+                run_width(text, Run::Digits),
+                text,
+            )?;
             let left = take(labels, Kind::DollarSign, 1, dollar)?;
             Ok(left)
         }
         Count::CountIsName(name, _) => {
-            let dollar = take(labels, Kind::Identifier, width_of(name), text)?;
+            let kind = word_kind(Kind::Identifier, name);
+            let dollar = take(labels, kind, width_of(name), text)?;
             let left = take(labels, Kind::DollarSign, 1, dollar)?;
             Ok(left)
         }
@@ -200,8 +263,8 @@ fn width<'a>(
     width: &Count<'_>,
     text: &'a str,
 ) -> Result<&'a str, AllocError> {
-    let behind = take(labels, Kind::Zero, usize::from(zero_pad), text)?;
-    let left = count(labels, width, behind)?;
+    let rest_after = take(labels, Kind::Zero, usize::from(zero_pad), text)?;
+    let left = count(labels, width, rest_after)?;
     Ok(left)
 }
 
@@ -216,8 +279,8 @@ fn precision<'a>(
     precision: &Count<'_>,
     text: &'a str,
 ) -> Result<&'a str, AllocError> {
-    let behind = take(labels, Kind::Dot, usize::from(begins(text, '.')), text)?;
-    let left = count(labels, precision, behind)?;
+    let rest_after = take(labels, Kind::Dot, usize::from(begins(text, '.')), text)?;
+    let left = count(labels, precision, rest_after)?;
     Ok(left)
 }
 
@@ -286,7 +349,7 @@ fn format<'a>(
     let ty = precision(labels, &format.precision, dot)?;
     let left = take(
         labels,
-        Kind::Type,
+        word_kind(Kind::Type, format.ty),
         type_width(format.debug_hex, format.ty),
         ty,
     )?;
@@ -308,18 +371,19 @@ pub fn specification<'a>(
     if !begins(text, ':') {
         return Ok(text);
     }
-    let behind = take(labels, Kind::Colon, 1, text)?;
+    let rest_after = take(labels, Kind::Colon, 1, text)?;
     match mode {
         ParseMode::Format => {
-            let left = format(labels, spec, behind)?;
+            let left = format(labels, spec, rest_after)?;
             Ok(left)
         }
         ParseMode::InlineAsm => {
-            let left = take(labels, Kind::Modifier, width_of(spec.ty), behind)?;
+            let kind = word_kind(Kind::Modifier, spec.ty);
+            let left = take(labels, kind, width_of(spec.ty), rest_after)?;
             Ok(left)
         }
         ParseMode::Diagnostic | ParseMode::DiagnosticNamed => {
-            let left = take(labels, Kind::DiagnosticText, width_of(spec.ty), behind)?;
+            let left = take(labels, Kind::DiagnosticText, width_of(spec.ty), rest_after)?;
             Ok(left)
         }
     }

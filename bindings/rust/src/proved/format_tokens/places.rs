@@ -4,6 +4,7 @@
 // That source is proved, and each contract here is its. That this text means the same is tested:
 // by results from outside, and beside what is proved (.ci/bindings) and the original (tools/agree).
 
+use crate::proved::format_tokens::culprits::{fits, inside_after, marked_kind, role_of};
 use crate::proved::format_tokens::kinds::{Kind, Token};
 use crate::proved::format_tokens::parts::length_of;
 use crate::proved::rustc_parse_format::literal::{between_quotes, read_content};
@@ -63,29 +64,37 @@ pub fn ordinary_starts(
     Ok(starts)
 }
 
-/// Adds the tokens of the first `kept` characters. `labels` has the kind of each and its number of
+/// Adds the tokens of the first `kept` characters, with those marked that are out of place. `names`
+/// says whether only names are accepted, `labels` has the kind of each token and its number of
 /// characters, `starts` where the characters start. Returns `Err` if an allocation fails.
 // requires { kept < length starts.now }
 // ensures { OnOk result ((w : World) → starts.now ≡ starts_of w
 //     → map seen_token tokens.new.items ≡ map seen_token tokens.old.items
-//     ++ placed_sizes w (length w.places) kept labels.now) }
+//     ++ placed_sizes w (length w.places) kept (marked names false labels.now)) }
 #[inline]
 pub fn place(
     tokens: &mut Vec<Token>,
+    names: bool,
     labels: &[(Kind, usize)],
     starts: &[usize],
     kept: usize,
 ) -> Result<(), AllocError> {
     let mut at = 0;
-    for label in labels {
+    let mut inside = false;
+    let mut rest = labels;
+    while let Some((label, others)) = rest.split_first() {
+        let role = role_of(label.0);
+        let fits = fits(names, inside, role, others);
         let to = at + label.1.min(kept - at);
         if at < to {
             tokens.try_push(Token {
-                kind: label.0,
+                kind: marked_kind(label.0, fits),
                 span: starts[at]..starts[to],
             })?;
         }
         at = to;
+        inside = inside_after(inside, fits, role);
+        rest = others;
     }
     Ok(())
 }

@@ -13,6 +13,42 @@ use crate::shim::alloc::{AllocError, Global};
 use crate::shim::parser::Parser;
 use crate::shim::prelude::*;
 
+/// Returns the text before the closing brace at its end, or `None` if it does not end with one.
+// ensures { MatchOption result
+//     ((t : List ℕ) → t ++ codes "}" ≡ chars text.now → ⊥)
+//     (λ t. chars t.now ++ codes "}" ≡ chars text.now) }
+#[inline]
+fn before_brace(text: &str) -> Option<&str> {
+    text.strip_suffix('}')
+}
+
+/// Returns whether the first `bytes` bytes of a text end with a closing brace.
+// ensures { (u r : Text) → chars text.now ≡ u ++ r → bytes ≡ byte_length u
+//     → result ≡ is_closed u }
+#[inline]
+fn is_closed(bytes: usize, text: &str) -> bool {
+    match text.parts_at(bytes) {
+        Some((front, _)) => before_brace(front).is_some(),
+        None => false,
+    }
+}
+
+/// Adds the tokens of the first `bytes` bytes of a text, which the call reads in place of a closing
+/// brace, and returns the rest of the text.
+// ensures { IfOk result (λ left. (u r : Text) → chars text.now ≡ u ++ r → bytes ≡ byte_length u
+//     → Took (skipped_tokens u) r labels.old.items labels.new.items left.now) }
+#[inline]
+fn skipped<'a>(
+    labels: &mut Vec<(Kind, usize)>,
+    bytes: usize,
+    text: &'a str,
+) -> Result<&'a str, AllocError> {
+    let brace = usize::from(is_closed(bytes, text));
+    let close = take(labels, Kind::Unexpected, bytes.saturating_sub(brace), text)?;
+    let left = take(labels, Kind::Close, brace, close)?;
+    Ok(left)
+}
+
 /// Adds the tokens of a placeholder at the start of a text, and returns the rest of the text after
 /// the call that read it: `left` bytes.
 // ensures { IfOk result (λ after. (n : ℕ) (t : Text) → chars text.now ≡ codes "{" ++ t
@@ -36,12 +72,7 @@ fn placeholder<'a>(
     let last = specification(labels, mode, &argument.format, spec)?;
     let end = take(labels, Kind::White, run_width(last, Run::White), last)?;
     let rest = take(labels, Kind::Close, usize::from(begins(end, '}')), end)?;
-    let after = take(
-        labels,
-        Kind::Unexpected,
-        width_of(rest).saturating_sub(left),
-        rest,
-    )?;
+    let after = skipped(labels, width_of(rest).saturating_sub(left), rest)?;
     Ok(after)
 }
 
@@ -102,7 +133,7 @@ pub fn label<'a>(
     let Some(piece) = taken else {
         let after = take(
             labels,
-            Kind::Unexpected,
+            Kind::Close,
             width_of(text).saturating_sub(left),
             text,
         )?;
@@ -123,7 +154,7 @@ pub fn label<'a>(
 /// Returns the labels of an input, by the calls of a parser at its start.
 // requires { parser.old ≡ first_state (seen_mode mode) (chars input.now) None None false }
 // ensures { IfOk result (λ v. v.items
-//     ≡ map sized (tokens_of (seen_mode mode) (chars input.now))) }
+//     ≡ map sized (read_tokens (seen_mode mode) (chars input.now))) }
 #[inline]
 fn labels_by<'a>(
     alloc: Global,
@@ -144,10 +175,11 @@ fn labels_by<'a>(
     Ok(labels)
 }
 
-/// Returns the kinds of the tokens of a text and the number of characters of each.
+/// Returns the kinds of the tokens of a text, none of them marked, and the number of characters of
+/// each.
 // requires { length input.now + 2 < 2 ^ 64 }
 // ensures { IfOk result (λ v. v.items
-//     ≡ map sized (tokens_of (seen_mode mode) (chars input.now))) }
+//     ≡ map sized (read_tokens (seen_mode mode) (chars input.now))) }
 #[inline]
 pub fn labels(
     alloc: Global,

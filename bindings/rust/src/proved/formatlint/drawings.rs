@@ -5,8 +5,10 @@
 // by results from outside, and beside what is proved (.ci/bindings) and the original (tools/agree).
 
 use crate::proved::drawn_faults::{
-    put_labels, Diagnostic, Edit, Level, Picture, SourceHelp, SourceLabel, SourceNote,
+    put_labels, Diagnostic, Level, SourceHelp, SourceLabel, SourceNote,
 };
+use crate::proved::drawn_lines::Picture;
+use crate::proved::fault_fixes::Edit;
 use crate::proved::formatlint::forms::File;
 use crate::proved::source_lint::Finding;
 use crate::shim::alloc::{AllocError, Global};

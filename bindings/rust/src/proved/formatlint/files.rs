@@ -293,7 +293,7 @@ impl<'a> Run<'a> {
     }
 }
 
-/// Reads all paths of a request, and writes the messages about them. Returns the totals, also if
+/// Reads all paths of a request, and writes the messages about them. Returns the totals, even if
 /// the run ended with a failure.
 #[inline]
 pub fn lint<'a>(

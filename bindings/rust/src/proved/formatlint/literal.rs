@@ -4,7 +4,7 @@
 // That source is proved, and each contract here is its. That this text means the same is tested:
 // by results from outside, and beside what is proved (.ci/bindings) and the original (tools/agree).
 
-use crate::proved::drawn_faults::put_glyphs;
+use crate::proved::drawn_lines::put_glyphs;
 use crate::proved::format_lint::run::run;
 use crate::proved::formatlint::arguments::{file_of, has_colours, list_words, task_of};
 use crate::proved::formatlint::failure::Failure;

@@ -197,8 +197,8 @@ fn files_status(
     Ok(read_files(rt, matches, &request, options))
 }
 
-/// Reads the arguments of the program and does what they ask for. Returns the exit status, and
-/// `Err` if the arguments are invalid, an allocation fails, or help or the version is asked for.
+/// Reads the arguments of the program and runs their task. Returns the exit status, and `Err` if
+/// the arguments are invalid or request help or the version, or if an allocation fails.
 #[inline]
 fn status(rt: &crate::shim::host::HostRuntime, words: &[String]) -> Result<u8, Error> {
     let matches = command(rt.alloc())?.try_get_matches_from(words)?;

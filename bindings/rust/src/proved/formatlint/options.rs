@@ -25,198 +25,208 @@ const LISTINGS: [&str; 2] = ["text", "json"];
 /// The editions.
 const EDITIONS: [&str; 4] = ["2015", "2018", "2021", "2024"];
 
-/// Returns an option without a value.
-#[inline]
-fn flag<'a>(alloc: Global, name: &'a str, help: &'a str) -> Arg<'a> {
-    Arg::new(alloc, name)
-        .long(name)
-        .action(ArgAction::SetTrue)
-        .help(help)
+/// The options about files, which are not given with those about a string.
+const FILES: [&str; 5] = ["exclude", "edition", "macro", "message-format", "stats"];
+
+/// An option, as a row of a table.
+struct Row {
+    /// The name, without its two dashes.
+    name: &'static str,
+    /// The name of its value, or `None` for an option without a value.
+    value: Option<&'static str>,
+    help: &'static str,
+    /// Its short name, without the dash.
+    short: Option<char>,
+    /// The values that it may have, or none if it may have any.
+    values: &'static [&'static str],
+    /// The value that it has where it is not given.
+    default: Option<&'static str>,
+    /// Whether it may be given again and again.
+    is_repeated: bool,
+    /// The options, or the group, without which it is not given.
+    needs: &'static [&'static str],
+    /// The options with which it is not given.
+    conflicts: &'static [&'static str],
 }
 
-/// Returns an option with a value.
+/// An option without a value that may be given with all others.
+const FLAG: Row = Row {
+    name: "",
+    value: None,
+    help: "",
+    short: None,
+    values: &[],
+    default: None,
+    is_repeated: false,
+    needs: &[],
+    conflicts: &[],
+};
+
+/// The options, in the order of the help.
+static OPTIONS: [Row; 19] = [
+    Row {
+        name: "exclude",
+        value: Some("NAME"),
+        help: "Leave out files and folders with this name; it can be given again",
+        is_repeated: true,
+        ..FLAG
+    },
+    Row {
+        name: "stdin-path",
+        value: Some("PATH"),
+        help: "The path that stands for standard input in messages; without a path that is read",
+        ..FLAG
+    },
+    Row {
+        name: "edition",
+        value: Some("YEAR"),
+        help: "The edition of the files, in place of that in the nearest Cargo.toml",
+        values: &EDITIONS,
+        ..FLAG
+    },
+    Row {
+        name: "macro",
+        value: Some("NAME:INDEX"),
+        help: "A macro, and which of its arguments, from 0, is a format string; it can be given again",
+        is_repeated: true,
+        ..FLAG
+    },
+    Row {
+        name: "message-format",
+        value: Some("FORM"),
+        help: "The form of messages; short is a line, and json has rustc's members",
+        values: &FORMS,
+        default: Some("human"),
+        ..FLAG
+    },
+    Row {
+        name: "stats",
+        help: "Say on standard error what was read, and what was not and why",
+        ..FLAG
+    },
+    Row {
+        name: "quiet",
+        help: "Do not say on standard error how many faults there are",
+        short: Some('q'),
+        ..FLAG
+    },
+    Row {
+        name: "literal",
+        help: "Read one string literal, of a file or of standard input",
+        conflicts: &FILES,
+        ..FLAG
+    },
+    Row {
+        name: "text",
+        help: "Read the text of one string, of a file or of standard input",
+        conflicts: &FILES,
+        ..FLAG
+    },
+    Row {
+        name: "fix",
+        help: "Print the literal with the suggestions applied, and the fault that it then has",
+        needs: &["literal"],
+        conflicts: &["text"],
+        ..FLAG
+    },
+    Row {
+        name: "tokens",
+        help: "Print the tokens of the string, in colours or each in a line, and then the fault",
+        needs: &["string"],
+        conflicts: &["fix"],
+        ..FLAG
+    },
+    Row {
+        name: "all",
+        help: "Draw all faults of the string, each with its id and whether it follows from another",
+        needs: &["string"],
+        conflicts: &["fix", "tokens"],
+        ..FLAG
+    },
+    Row {
+        name: "list",
+        help: "List the pieces and the faults of the string, each in a line, as formatread does",
+        needs: &["string"],
+        conflicts: &["fix", "tokens", "all"],
+        ..FLAG
+    },
+    Row {
+        name: "args",
+        value: Some("LIST"),
+        help: "With --list: name arguments, as in 2,w, and list those that are missing or unused",
+        needs: &["list"],
+        ..FLAG
+    },
+    Row {
+        name: "format",
+        value: Some("FORM"),
+        help: "With --list: text, as formatread writes it, or json, an object in each line",
+        values: &LISTINGS,
+        needs: &["list"],
+        ..FLAG
+    },
+    Row {
+        name: "mode",
+        value: Some("MODE"),
+        help: "What the string is",
+        values: &MODES,
+        default: Some("format"),
+        needs: &["string"],
+        ..FLAG
+    },
+    Row {
+        name: "color",
+        value: Some("WHEN"),
+        help: "Whether tokens and drawings have colours; auto: if standard output is a terminal that has them",
+        values: &TIMES,
+        default: Some("auto"),
+        ..FLAG
+    },
+    Row {
+        name: "list-ids",
+        help: "List the ids of all kinds of faults",
+        ..FLAG
+    },
+    Row {
+        name: "explain",
+        value: Some("ID"),
+        help: "Say what a kind of fault is, with an example",
+        ..FLAG
+    },
+];
+
+/// Returns an option. Returns `Err` if an allocation fails.
 #[inline]
-fn option<'a>(alloc: Global, name: &'a str, value: &'a str, help: &'a str) -> Arg<'a> {
-    Arg::new(alloc, name)
-        .long(name)
-        .value_name(value)
-        .help(help)
+fn option<'a>(alloc: Global, row: &'a Row) -> Result<Arg<'a>, AllocError> {
+    let mut arg = Arg::new(alloc, row.name).long(row.name).help(row.help);
+    arg = match row.value {
+        Some(value) => arg.value_name(value),
+        None => arg.action(ArgAction::SetTrue),
+    };
+    if row.is_repeated {
+        arg = arg.action(ArgAction::Append);
+    }
+    if let Some(short) = row.short {
+        arg = arg.short(short);
+    }
+    if !row.values.is_empty() {
+        arg = arg.value_parser(row.values);
+    }
+    if let Some(value) = row.default {
+        arg = arg.default_value(value);
+    }
+    arg.requires_all(row.needs)?
+        .conflicts_with_all(row.conflicts)
 }
 
-/// Adds the options that say which files are read. Returns `Err` if an allocation fails.
+/// Adds all options to a command. Returns `Err` if an allocation fails.
 #[inline]
-fn with_files<'a>(alloc: Global, command: Command<'a>) -> Result<Command<'a>, AllocError> {
-    let path = Arg::new(alloc, "path")
-        .value_name("PATH")
-        .num_args(0..)
-        .action(ArgAction::Append)
-        .help("The files and folders to read; - is standard input; without one, this folder");
-    let exclude = option(
-        alloc,
-        "exclude",
-        "NAME",
-        "Leave out files and folders with this name; it can be given again",
-    );
-    let stdin_path = option(
-        alloc,
-        "stdin-path",
-        "PATH",
-        "The path that stands for standard input in messages; without a path that is read",
-    );
-    let with_path = command.arg(path)?;
-    let with_exclude = with_path.arg(exclude.action(ArgAction::Append))?;
-    with_exclude.arg(stdin_path)
-}
-
-/// Adds the options that say how files are read. Returns `Err` if an allocation fails.
-#[inline]
-fn with_reading<'a>(alloc: Global, command: Command<'a>) -> Result<Command<'a>, AllocError> {
-    let edition = option(
-        alloc,
-        "edition",
-        "YEAR",
-        "The edition of the files, in place of that in the nearest Cargo.toml",
-    );
-    let name = option(
-        alloc,
-        "macro",
-        "NAME:INDEX",
-        "A macro, and which of its arguments, from 0, is a format string; it can be given again",
-    );
-    let with_edition = command.arg(edition.value_parser(EDITIONS.as_slice()))?;
-    with_edition.arg(name.action(ArgAction::Append))
-}
-
-/// Adds the options that say what is written of files. Returns `Err` if an allocation fails.
-#[inline]
-fn with_messages<'a>(alloc: Global, command: Command<'a>) -> Result<Command<'a>, AllocError> {
-    let form = option(
-        alloc,
-        "message-format",
-        "FORM",
-        "The form of messages; short is a line, and json has rustc's members",
-    );
-    let stats = flag(
-        alloc,
-        "stats",
-        "Say on standard error what was read, and what was not and why",
-    );
-    let quiet = flag(
-        alloc,
-        "quiet",
-        "Do not say on standard error how many faults there are",
-    );
-    let with_form = command.arg(form.value_parser(FORMS.as_slice()).default_value("human"))?;
-    let with_stats = with_form.arg(stats)?;
-    with_stats.arg(quiet.short('q'))
-}
-
-/// Says that an option is not given with those about files. Returns `Err` if an allocation fails.
-#[inline]
-fn without_files<'a>(arg: Arg<'a>) -> Result<Arg<'a>, AllocError> {
-    let one = arg.conflicts_with("exclude")?.conflicts_with("edition")?;
-    let two = one
-        .conflicts_with("macro")?
-        .conflicts_with("message-format")?;
-    two.conflicts_with("stats")
-}
-
-/// Adds the options that say that one string is read, and not files. Returns `Err` if an allocation
-/// fails.
-#[inline]
-fn with_string<'a>(alloc: Global, command: Command<'a>) -> Result<Command<'a>, AllocError> {
-    let literal = flag(
-        alloc,
-        "literal",
-        "Read one string literal, of a file or of standard input",
-    );
-    let text = flag(
-        alloc,
-        "text",
-        "Read the text of one string, of a file or of standard input",
-    );
-    let with_literal = command.arg(without_files(literal)?)?;
-    let with_text = with_literal.arg(without_files(text)?)?;
-    let group = ArgGroup::new(alloc, "string").arg("literal")?;
-    with_text.group(group.arg("text")?)
-}
-
-/// Adds the options that say what is shown of a string. Returns `Err` if an allocation fails.
-#[inline]
-fn with_faults<'a>(alloc: Global, command: Command<'a>) -> Result<Command<'a>, AllocError> {
-    let fix = flag(
-        alloc,
-        "fix",
-        "Print the literal with the suggestions applied, and the fault that it then has",
-    );
-    let tokens = flag(
-        alloc,
-        "tokens",
-        "Print the tokens of the string, in colours or each in a line, and then the fault",
-    );
-    let all = flag(
-        alloc,
-        "all",
-        "Draw all faults of the string, each with its id and whether it follows from another",
-    );
-    let of_literal = fix.requires_arg("literal")?.conflicts_with("text")?;
-    let with_fix = command.arg(of_literal)?;
-    let apart = tokens.requires_arg("string")?.conflicts_with("fix")?;
-    let with_tokens = with_fix.arg(apart)?;
-    let all_apart = all.requires_arg("string")?.conflicts_with("fix")?;
-    with_tokens.arg(all_apart.conflicts_with("tokens")?)
-}
-
-/// Adds the options that list the pieces of a string. Returns `Err` if an allocation fails.
-#[inline]
-fn with_list<'a>(alloc: Global, command: Command<'a>) -> Result<Command<'a>, AllocError> {
-    let list = flag(
-        alloc,
-        "list",
-        "List the pieces and the faults of the string, each in a line, as formatread does",
-    );
-    let args = option(
-        alloc,
-        "args",
-        "LIST",
-        "With --list: name arguments, as in 2,w, and list those that are missing or unused",
-    );
-    let form = option(
-        alloc,
-        "format",
-        "FORM",
-        "With --list: text, as formatread writes it, or json, an object in each line",
-    );
-    let mode = option(alloc, "mode", "MODE", "What the string is");
-    let apart = list.conflicts_with("fix")?.conflicts_with("tokens")?;
-    let listed = apart.conflicts_with("all")?.requires_arg("string")?;
-    let with_list = command.arg(listed)?;
-    let with_args = with_list.arg(args.requires_arg("list")?)?;
-    let some_form = form.value_parser(LISTINGS.as_slice());
-    let with_form = with_args.arg(some_form.requires_arg("list")?)?;
-    let some_mode = mode.value_parser(MODES.as_slice()).default_value("format");
-    with_form.arg(some_mode.requires_arg("string")?)
-}
-
-/// Adds the options that say something of the program itself. Returns `Err` if an allocation fails.
-#[inline]
-fn with_others<'a>(alloc: Global, command: Command<'a>) -> Result<Command<'a>, AllocError> {
-    let color = option(
-        alloc,
-        "color",
-        "WHEN",
-        "Whether tokens and drawings have colours; auto: if standard output is a terminal that has them",
-    );
-    let ids = flag(alloc, "list-ids", "List the ids of all kinds of faults");
-    let explain = option(
-        alloc,
-        "explain",
-        "ID",
-        "Say what a kind of fault is, with an example",
-    );
-    let with_color = command.arg(color.value_parser(TIMES.as_slice()).default_value("auto"))?;
-    let with_ids = with_color.arg(ids)?;
-    with_ids.arg(explain)
+fn with_options<'a>(alloc: Global, command: Command<'a>) -> Result<Command<'a>, AllocError> {
+    let mut all = command;
+    for row in &OPTIONS {
+        all = all.arg(option(alloc, row)?)?;
+    }
+    Ok(all)
 }
 
 /// Returns the options and the arguments of the program. Returns `Err` if an allocation fails.
@@ -226,11 +236,12 @@ pub fn command<'a>(alloc: Global) -> Result<Command<'a>, AllocError> {
         .bin_name("formatlint")?
         .version(VERSION)
         .about("Finds the faults of format strings in Rust sources, as the Rust compiler does");
-    let with_files = with_files(alloc, named)?;
-    let with_reading = with_reading(alloc, with_files)?;
-    let with_messages = with_messages(alloc, with_reading)?;
-    let with_string = with_string(alloc, with_messages)?;
-    let with_faults = with_faults(alloc, with_string)?;
-    let with_list = with_list(alloc, with_faults)?;
-    with_others(alloc, with_list)
+    let path = Arg::new(alloc, "path")
+        .value_name("PATH")
+        .num_args(0..)
+        .action(ArgAction::Append)
+        .help("The files and folders to read; - is standard input; without one, this folder");
+    let with_all = with_options(alloc, named.arg(path)?)?;
+    let group = ArgGroup::new(alloc, "string").arg("literal")?;
+    with_all.group(group.arg("text")?)
 }

@@ -126,7 +126,7 @@ impl Totals {
         self.progress.show(rt, self.files);
     }
 
-    /// Removes what shows the progress, before other text is written.
+    /// Removes the line of the progress, before other text is written.
     #[inline]
     pub fn clear_progress(&mut self, rt: &crate::shim::host::HostRuntime) {
         self.progress.clear(rt);

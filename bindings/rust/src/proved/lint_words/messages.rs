@@ -4,7 +4,7 @@
 // That source is proved, and each contract here is its. That this text means the same is tested:
 // by results from outside, and beside what is proved (.ci/bindings) and the original (tools/agree).
 
-use crate::proved::drawn_faults::put_glyphs;
+use crate::proved::drawn_lines::put_glyphs;
 use crate::proved::literal_faults::LiteralFault;
 use crate::proved::piece_listing::verdict::RunFault;
 use crate::proved::rust_trees::{place_at, Place};

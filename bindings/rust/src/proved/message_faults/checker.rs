@@ -1,4 +1,4 @@
-//! What is wrong with a text.
+//! The check of a text.
 
 // Extracted from crates/message_faults/src/checker.rt by tools/extract: not to be edited.
 // That source is proved, and each contract here is its. That this text means the same is tested:
@@ -10,19 +10,20 @@ use crate::proved::rustc_parse_format::{Argument, Fault, ParseMode, Piece, Posit
 use crate::shim::alloc::{AllocError, Global};
 use crate::shim::parser::{read_all, Parser};
 use crate::shim::prelude::*;
+use alloc::collections::BTreeSet;
 use core::ops::Range;
 
 /// A text of an attribute.
 #[derive(Clone, Copy)]
-pub struct Message<'a> {
+pub struct Message<'a, 's, 'p> {
     /// The text that its literal stands for.
     pub text: &'a str,
     /// The literal as it is in the source, if it is known. In a raw one no place is shown: rustc
     /// takes it for an ordinary one.
     pub snippet: Option<&'a str>,
-    /// The parameters of the trait that are types or constants, or `None` if other names mean
-    /// something too, as in the attribute of the compiler itself.
-    pub parameters: Option<&'a [&'a str]>,
+    /// The names of the parameters of the trait that are types or constants, or `None` if other
+    /// names mean something too, as in the attribute of the compiler itself.
+    pub parameters: Option<&'s BTreeSet<&'p str>>,
 }
 
 /// Returns a text as a string. Returns `Err` if an allocation fails.
@@ -41,7 +42,10 @@ fn owned(alloc: Global, text: Option<&str>) -> Result<Option<String>, AllocError
 // ensures { IfOk result (λ o. option_map seen_text_fault o
 //     ≡ text_fault (start message.entry)) }
 #[inline]
-fn fault_of<'a>(alloc: Global, message: Message<'a>) -> Result<Option<Fault<'a>>, AllocError> {
+fn fault_of<'a>(
+    alloc: Global,
+    message: Message<'a, '_, '_>,
+) -> Result<Option<Fault<'a>>, AllocError> {
     let snippet = owned(alloc, message.snippet)?;
     let mut parser = Parser::new(
         alloc,
@@ -55,31 +59,42 @@ fn fault_of<'a>(alloc: Global, message: Message<'a>) -> Result<Option<Fault<'a>>
     Ok(fault)
 }
 
-/// Returns whether a name is one of these parameters.
-// ensures { result ≡ list_any (λ p. bytes_eq p name.now) (map (λ p. p.now) parameters.now) }
+/// Puts a name into a set. Returns `Err` if an allocation fails.
+// ensures { OnOk result ((w : Text) → has_text names.new w
+//     ≡ (bytes_eq w (chars name.now) || has_text names.old w)) }
 #[inline]
-fn is_one_of(parameters: &[&str], name: &str) -> bool {
+fn insert<'a>(names: &mut BTreeSet<&'a str>, name: &'a str) -> Result<(), AllocError> {
+    names.insert_in(name)?;
+    Ok(())
+}
+
+/// Returns the set of the names of parameters, for [`Message::parameters`]. Returns `Err` if an
+/// allocation fails.
+// ensures { IfOk result (λ s. HasNames (map (λ p. p.now) parameters.now) s) }
+#[inline]
+pub fn names_of<'a>(
+    alloc: Global,
+    parameters: &[&'a str],
+) -> Result<BTreeSet<&'a str>, AllocError> {
+    let mut names = BTreeSet::made_in(alloc);
     for parameter in parameters {
-        if *parameter == name {
-            return true;
-        }
+        insert(&mut names, parameter)?;
     }
-    false
+    Ok(names)
 }
 
-/// Returns whether a name is `Self` or that of a parameter.
-// ensures { result ≡ is_parameter (map (λ p. p.now) parameters.now) name.now }
+/// Returns whether a set has a name.
+// ensures { result ≡ has_text names.now (chars name.now) }
 #[inline]
-fn is_parameter(parameters: &[&str], name: &str) -> bool {
-    name == "Self" || is_one_of(parameters, name)
+fn has_name(names: &BTreeSet<&str>, name: &str) -> bool {
+    names.contains(name)
 }
 
-/// The same, in the words of the definition: its names are texts.
-// ensures { result ≡ is_parameter (map (λ p. p.now) parameters.now)
-//     (encode_utf8_all (chars name.now)) }
+/// Returns whether a name is `Self`.
+// ensures { result ≡ bytes_eq (encode_utf8_all (chars name.now)) (codes "Self") }
 #[inline]
-fn is_known(parameters: &[&str], name: &str) -> bool {
-    is_parameter(parameters, name)
+fn is_self(name: &str) -> bool {
+    name == "Self"
 }
 
 /// Returns a range of the literal, or all of it where its ranges are not known.
@@ -115,16 +130,16 @@ fn push_specifier<'a>(
 
 /// Adds the fault of a name, if it is that of no parameter. Returns `Err` if an allocation fails.
 // ensures { OnOk result (map seen_fault faults.new.items ≡ map seen_fault faults.old.items
-//     ++ name_faults (seen_parameters parameters.entry) spot (chars name.now)) }
+//     ++ name_faults (known_names names.entry) spot (chars name.now)) }
 #[inline]
 fn push_name<'a>(
     faults: &mut Vec<MessageFault<'a>>,
-    parameters: Option<&[&str]>,
+    names: Option<&BTreeSet<&str>>,
     spot: Spot,
     name: &'a str,
 ) -> Result<(), AllocError> {
-    if let Some(parameters) = parameters {
-        if !is_known(parameters, name) {
+    if let Some(names) = names {
+        if !is_self(name) && !has_name(names, name) {
             faults.try_push(MessageFault::MissingParameter { spot, name })?;
         }
     }
@@ -133,19 +148,19 @@ fn push_name<'a>(
 
 /// Adds the faults of a placeholder. Returns `Err` if an allocation fails.
 // ensures { OnOk result (map seen_fault faults.new.items ≡ map seen_fault faults.old.items
-//     ++ placeholder_faults (seen_parameters parameters.entry) is_known
+//     ++ placeholder_faults (known_names names.entry) is_known
 //     (seen_argument argument.now)) }
 #[inline]
 fn push_placeholder<'a>(
     faults: &mut Vec<MessageFault<'a>>,
-    parameters: Option<&[&str]>,
+    names: Option<&BTreeSet<&str>>,
     is_known: bool,
     argument: &Argument<'a>,
 ) -> Result<(), AllocError> {
     push_specifier(faults, is_known, &argument.format.ty_span)?;
     let spot = spot_of(is_known, &argument.position_span);
     match argument.position {
-        Position::ArgumentNamed(name) => push_name(faults, parameters, spot, name)?,
+        Position::ArgumentNamed(name) => push_name(faults, names, spot, name)?,
         Position::ArgumentIs(_) | Position::ArgumentImplicitlyIs(_) => {
             faults.try_push(MessageFault::Positional { spot })?;
         }
@@ -155,32 +170,32 @@ fn push_placeholder<'a>(
 
 /// Adds the faults of a piece. Returns `Err` if an allocation fails.
 // ensures { OnOk result (map seen_fault faults.new.items ≡ map seen_fault faults.old.items
-//     ++ piece_faults (seen_parameters parameters.entry) is_known (seen piece.now)) }
+//     ++ piece_faults (known_names names.entry) is_known (seen piece.now)) }
 #[inline]
 fn push_piece<'a>(
     faults: &mut Vec<MessageFault<'a>>,
-    parameters: Option<&[&str]>,
+    names: Option<&BTreeSet<&str>>,
     is_known: bool,
     piece: &Piece<'a>,
 ) -> Result<(), AllocError> {
     match piece {
         Piece::Lit(_) => Ok(()),
-        Piece::NextArgument(argument) => push_placeholder(faults, parameters, is_known, argument),
+        Piece::NextArgument(argument) => push_placeholder(faults, names, is_known, argument),
     }
 }
 
 /// Adds the faults of pieces. Returns `Err` if an allocation fails.
 // ensures { OnOk result (map seen_fault faults.new.items ≡ map seen_fault faults.old.items
-//     ++ faults_of (seen_parameters parameters.entry) is_known (map seen pieces.now)) }
+//     ++ faults_of (known_names names.entry) is_known (map seen pieces.now)) }
 #[inline]
 fn push_pieces<'a>(
     faults: &mut Vec<MessageFault<'a>>,
-    parameters: Option<&[&str]>,
+    names: Option<&BTreeSet<&str>>,
     is_known: bool,
     pieces: &[Piece<'a>],
 ) -> Result<(), AllocError> {
     for piece in pieces {
-        push_piece(faults, parameters, is_known, piece)?;
+        push_piece(faults, names, is_known, piece)?;
     }
     Ok(())
 }
@@ -188,12 +203,12 @@ fn push_pieces<'a>(
 /// Adds the faults of the placeholders of a text. Returns `Err` if an allocation fails.
 // requires { length message.text.now + 2 < 2 ^ 64 }
 // ensures { OnOk result (map seen_fault faults.new.items ≡ map seen_fault faults.old.items
-//     ++ faults_or (seen_parameters message.entry.parameters) (start message.entry) None) }
+//     ++ faults_or (known_names message.entry.parameters) (start message.entry) None) }
 #[inline]
 fn push_placeholders<'a>(
     alloc: Global,
     faults: &mut Vec<MessageFault<'a>>,
-    message: Message<'a>,
+    message: Message<'a, '_, '_>,
 ) -> Result<(), AllocError> {
     let snippet = owned(alloc, message.snippet)?;
     let (pieces, parser) = read_all(
@@ -209,23 +224,38 @@ fn push_placeholders<'a>(
     Ok(())
 }
 
-/// Checks a text of the attribute `diagnostic::on_unimplemented`, and returns what is wrong, in the
-/// order of its placeholders. Their specifications and positions are both looked at.
-///
-/// The length of the text in bytes and 2 must together be less than 2^64. Returns `Err` if an
-/// allocation fails.
+/// Returns the faults of a text. Returns `Err` if an allocation fails.
 // requires { length message.text.now + 2 < 2 ^ 64 }
-// ensures { IfOk result (λ v. map seen_fault v.items ≡ message_faults
-//     (seen_parameters message.entry.parameters) (start message.entry)) }
+// ensures { IfOk result (λ v. map seen_fault v.items ≡ faults_or
+//     (known_names message.entry.parameters) (start message.entry)
+//     (text_fault (start message.entry))) }
 #[inline]
-pub fn message_faults<'a>(
+fn faults_of<'a>(
     alloc: Global,
-    message: Message<'a>,
+    message: Message<'a, '_, '_>,
 ) -> Result<Vec<MessageFault<'a>>, AllocError> {
     let mut faults = Vec::made_in(alloc);
     match fault_of(alloc, message)? {
         Some(fault) => faults.try_push(MessageFault::Text(fault))?,
         None => push_placeholders(alloc, &mut faults, message)?,
     }
+    Ok(faults)
+}
+
+/// Checks a text of the attribute `diagnostic::on_unimplemented`, and returns its faults in the
+/// order of its placeholders, of which the specifications and the positions are looked at.
+///
+/// The length of the text in bytes and 2 must together be less than 2^64. Returns `Err` if an
+/// allocation fails.
+// requires { length message.text.now + 2 < 2 ^ 64 }
+// ensures { IfOk result (λ v. (ps : Option (List (List ℕ)))
+//     → HasParameters ps message.entry.parameters
+//     → map seen_fault v.items ≡ message_faults ps (start message.entry)) }
+#[inline]
+pub fn message_faults<'a>(
+    alloc: Global,
+    message: Message<'a, '_, '_>,
+) -> Result<Vec<MessageFault<'a>>, AllocError> {
+    let faults = faults_of(alloc, message)?;
     Ok(faults)
 }

@@ -7,7 +7,7 @@
 use crate::proved::call_faults::Spot;
 use crate::proved::rustc_parse_format::Fault;
 
-/// What is wrong with a text of an attribute. All faults are warnings.
+/// A fault of a text of an attribute. All are warnings.
 pub enum MessageFault<'a> {
     /// The text is not in the grammar. No other fault follows.
     Text(Fault<'a>),

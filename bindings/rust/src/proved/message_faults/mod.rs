@@ -1,4 +1,4 @@
-//! What is wrong with a text of the attribute `diagnostic::on_unimplemented`, as rustc tells it.
+//! The faults of a text of the attribute `diagnostic::on_unimplemented`, as rustc reports them.
 
 // Extracted from crates/message_faults/src/lib.rt by tools/extract: not to be edited.
 // That source is proved, and each contract here is its. That this text means the same is tested:
@@ -8,5 +8,5 @@ pub(crate) mod checker;
 pub(crate) mod faults;
 pub(crate) mod words;
 
-pub use checker::{message_faults, Message};
+pub use checker::{message_faults, names_of, Message};
 pub use faults::MessageFault;

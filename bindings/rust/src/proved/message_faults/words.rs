@@ -1,5 +1,5 @@
-//! The ids, titles, labels and helps of faults, in rustc's words. What begins with `push_` or
-//! `put_` adds to the end of a list or a text, and returns `Err` if an allocation fails.
+//! The ids, titles, labels and helps of faults, in rustc's words. A function whose name begins with
+//! `push_` or `put_` adds to the end of a list or a text, and returns `Err` if an allocation fails.
 
 // Extracted from crates/message_faults/src/words.rt by tools/extract: not to be edited.
 // That source is proved, and each contract here is its. That this text means the same is tested:
@@ -92,7 +92,7 @@ fn push_text(
 
 impl<'a> MessageFault<'a> {
     /// Returns the id of the fault in kebab case, as `missing-parameter`: the same for all faults
-    /// of a kind. That of a fault of the text is the id of [`Fault`]. Does not allocate.
+    /// of a kind. A fault of the text has the id of its [`Fault`]. Does not allocate.
     // ensures { result.now ≡ message_id (seen_fault self.now) }
     #[inline]
     pub fn id(&self) -> &'static str {

@@ -4,7 +4,7 @@
 // That source is proved, and each contract here is its. That this text means the same is tested:
 // by results from outside, and beside what is proved (.ci/bindings) and the original (tools/agree).
 
-use crate::proved::drawn_faults::put_glyphs;
+use crate::proved::drawn_lines::put_glyphs;
 use crate::proved::message_forms::escapes::put_number;
 use crate::proved::message_forms::message::{level_name, Message};
 use crate::proved::rust_trees::Place;

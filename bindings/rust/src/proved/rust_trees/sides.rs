@@ -1,4 +1,4 @@
-//! What a token is among pairs of delimiters.
+//! The side of a token in a pair of delimiters.
 
 // Extracted from crates/rust_trees/src/sides.rt by tools/extract: not to be edited.
 // That source is proved, and each contract here is its. That this text means the same is tested:
@@ -17,7 +17,7 @@ pub enum Delimiter {
     Brace,
 }
 
-/// What a token is among pairs of delimiters.
+/// The side of a token in a pair of delimiters.
 #[derive(Clone, Copy)]
 pub enum Side {
     /// It opens a pair.

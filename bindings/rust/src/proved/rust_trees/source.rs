@@ -45,7 +45,7 @@ impl<'a> Source<'a> {
 
     /// Reads the tokens of a file after these, up to the closing delimiter that closes the last
     /// open one of them, or to the end of the file if there is none. Returns all these tokens.
-    /// Returns `Err` if an allocation fails; what was read is then left out.
+    /// Returns `Err` if an allocation fails; the tokens that were read are then left out.
     // ensures file { rest.new.whole ≡ rest.old.whole }
     // ensures fewer { length rest.new.rest ≤ length rest.old.rest }
     // ensures joins { IfOk result (λ s. (more : List Leaf) × (s ≡ map leaf front.now ++ more)

@@ -6,119 +6,113 @@
 
 pub(crate) mod words;
 
-use crate::proved::rustc_parse_format::characters::{
-    before, begins, begins_digit, begins_word, behind_first, first,
-};
+use crate::proved::rustc_parse_format::parser::ahead::Ahead;
+pub use crate::proved::rustc_parse_format::parser::ahead::Checkpoint;
 use crate::proved::rustc_parse_format::source::{first_anchor, Anchor, Source};
 use core::ops::Range;
 
 /// A position in the input: the text that is left, and where that starts in the source.
 pub struct Cursor<'input> {
     pub(crate) source: Source<'input>,
-    rest: &'input str,
-    anchor: Anchor<'input>,
-}
-
-/// An earlier position of a cursor, with the count of its steps there.
-pub struct Checkpoint<'input> {
-    rest: &'input str,
+    ahead: Ahead<'input>,
     anchor: Anchor<'input>,
 }
 
 impl<'input> Cursor<'input> {
-    /// Returns a cursor at the start of `input`, the input of `source`. Does not allocate.
-    // requires input { source.input.now ≡ input.now }
+    /// Returns a cursor at the start of the input of `source`, which `ahead` is. Does not allocate.
+    // requires input { source.input.now ≡ ahead.rest.text.now }
+    // requires left { IsLeft source.input.now ahead.rest.text.now }
+    // requires first { ahead.tally
+    //     ≡ record { made = 0; left = length (chars ahead.rest.text.now) } }
+    // requires undo_count { ahead.undo_count.made ≡ 0 }
     // requires kept { IsKept source }
-    // requires fits { source.offset + length input.now < 2 ^ 64 }
-    // ensures { result ≡ unread_at source.entry input.now (nothing_back (chars input.now)) 0 }
+    // requires fits { source.offset + length source.input.now < 2 ^ 64 }
+    // ensures { result ≡ unread_at source.entry source.entry.input.now
+    //     (nothing_back (chars source.entry.input.now)) 0 }
     #[inline(always)]
-    pub fn new(source: Source<'input>, input: &'input str) -> Cursor<'input> {
+    pub fn new(source: Source<'input>, ahead: Ahead<'input>) -> Cursor<'input> {
         let anchor = first_anchor(&source);
         Cursor {
             source,
-            rest: input,
+            ahead,
             anchor,
         }
     }
 
     /// Returns the current position, for `since`, `rewind` and `undo`.
-    // ensures at { self.now ≡ unread_at self.now.source result.rest.now
-    //     (back_at (chars self.now.source.input.now) (chars result.rest.now) result.tally)
+    // ensures at { self.now ≡ unread_at self.now.source result.rest.text.now
+    //     (back_at (chars self.now.source.input.now) (chars result.rest.text.now) result.tally)
     //     self.now.undo_count }
-    // ensures anchored { IsAnchored self.now.source result.rest.now result.anchor }
+    // ensures anchored { IsAnchored self.now.source result.rest.text.now result.anchor }
     // ensures counted { IsCounted (chars self.now.source.input.now)
-    //     (chars result.rest.now) result.tally }
+    //     (chars result.rest.text.now) result.tally }
     #[inline(always)]
     pub fn checkpoint(&self) -> Checkpoint<'input> {
-        Checkpoint {
-            rest: self.rest,
-            anchor: self.anchor,
-        }
+        self.ahead.checkpoint(self.anchor)
     }
 
     /// Proves that the cursor has made few steps, at most two for each character of the input. Does
     /// nothing when the program runs.
     // ensures few { AreFew self.now.input self.now.rest self.now.back }
-    // ensures word { behind_part self.now.rest ≤ self.now.back.left }
+    // ensures word { after_part self.now.rest ≤ self.now.back.left }
     #[inline]
     pub fn steps_are_few(&self) {
-        let _rest = self.rest;
+        let _rest = self.ahead.next();
     }
 
     /// Returns the text between `from` and the current position.
-    // requires { (read : Text) × (chars from.now.rest.now ≡ read ++ self.now.rest) }
-    // ensures { (read : Text) → chars from.now.rest.now ≡ read ++ self.now.rest
+    // requires { (read : Text) × (chars from.now.rest.text.now ≡ read ++ self.now.rest) }
+    // ensures { (read : Text) → chars from.now.rest.text.now ≡ read ++ self.now.rest
     //     → chars result.now ≡ read }
     #[inline(always)]
     pub fn since(&self, from: &Checkpoint<'input>) -> &'input str {
-        before(from.rest, self.rest)
+        self.ahead.since(from.rest)
     }
 
     /// Returns the next character, or `None` at the end of the input.
     // ensures { result ≡ first self.now.rest }
     #[inline(always)]
     pub fn peek(&self) -> Option<char> {
-        first(self.rest)
+        self.ahead.next().character()
     }
 
     /// Returns the character after the next one, or `None` if there is none.
-    // ensures { result ≡ first (behind_first self.now.rest) }
+    // ensures { result ≡ first (after_first self.now.rest) }
     #[inline]
     pub fn peek_ahead(&self) -> Option<char> {
-        first(behind_first(self.rest))
+        self.ahead.second().character()
     }
 
     /// Moves past the next character, if there is one. Only this function, `consume_place` and the
     /// functions of `words` move forward.
-    // ensures rest { self.new ≡ record self.old { rest = behind_first self.old.rest } }
+    // ensures rest { self.new ≡ record self.old { rest = after_first self.old.rest } }
     #[inline]
     pub fn skip_char(&mut self) {
-        self.rest = behind_first(self.rest);
+        self.ahead.skip_char();
     }
 
     /// Moves past the next character, if there is one, and returns its byte range in the source. At
     /// the end of the input, returns the empty range where the text ends.
     // ensures place { pair result ≡ place_at self.old.world (length self.old.rest) }
-    // ensures rest { self.new ≡ record self.old { rest = behind_first self.old.rest } }
+    // ensures rest { self.new ≡ record self.old { rest = after_first self.old.rest } }
     #[inline(always)]
     pub fn consume_place(&mut self) -> Range<usize> {
-        let (place, rest) = self.source.pass(self.rest, &mut self.anchor);
-        self.rest = rest;
-        place
+        self.ahead.consume_place(&self.source, &mut self.anchor)
     }
 
     /// Goes back to the position `to`. The characters from there on can then be read again, which
     /// counts as new steps.
-    // requires anchored { IsAnchored self.old.source to.rest.now to.anchor }
-    // requires furthest { IsFurthest (chars to.rest.now) self.old.back }
-    // requires earlier { length self.old.rest ≤ length (chars to.rest.now) }
-    // requires word { behind_part (chars to.rest.now) ≤ length self.old.rest }
-    // ensures { self.new ≡ unread_at self.old.source to.entry.rest.now (given_back self.old.rest
-    //     (chars to.entry.rest.now) self.old.back) self.old.undo_count }
+    // requires anchored { IsAnchored self.old.source to.rest.text.now to.anchor }
+    // requires furthest { IsFurthest (chars to.rest.text.now) self.old.back }
+    // requires earlier { length self.old.rest ≤ length (chars to.rest.text.now) }
+    // requires word { after_part (chars to.rest.text.now) ≤ length self.old.rest }
+    // ensures { self.new ≡ unread_at self.old.source to.entry.rest.text.now
+    //     (given_back self.old.rest (chars to.entry.rest.text.now) self.old.back)
+    //     self.old.undo_count }
     #[inline]
     pub fn rewind(&mut self, to: Checkpoint<'input>) {
-        self.rest = to.rest;
         self.anchor = to.anchor;
+        self.ahead.rewind(to.rest);
     }
 
     /// Returns the byte offset in the source at which the next character starts, or at the end of
@@ -126,7 +120,7 @@ impl<'input> Cursor<'input> {
     // ensures { result ≡ number_of self.now.world (Start (length self.now.rest)) }
     #[inline(always)]
     pub fn start(&self) -> usize {
-        self.source.start(self.rest, &self.anchor)
+        self.ahead.next().start(&self.source, &self.anchor)
     }
 
     /// Returns whether the next character `c` is past the indentation of a line that starts at the
@@ -135,7 +129,7 @@ impl<'input> Cursor<'input> {
     //     → IsPastIndent c byte self.now.world self.now.rest }
     #[inline(always)]
     pub fn is_past_indent(&self, c: char, byte: usize) -> bool {
-        let start = self.source.start(self.rest, &self.anchor);
+        let start = self.ahead.next().start(&self.source, &self.anchor);
         start > byte || start == byte && !c.is_whitespace()
     }
 
@@ -144,9 +138,9 @@ impl<'input> Cursor<'input> {
     // ensures { self.new ≡ self.old }
     #[inline(always)]
     pub fn move_anchor(&mut self) {
-        if let Some(snippet) = &self.source.kept_snippet {
-            self.anchor.move_anchor(snippet.as_str(), self.rest);
-        }
+        self.ahead
+            .next()
+            .move_anchor(&self.source, &mut self.anchor);
     }
 
     /// Returns the byte offset in the source at which the next character ends, or at the end of the
@@ -154,7 +148,7 @@ impl<'input> Cursor<'input> {
     // ensures { result ≡ number_of self.now.world (End (length self.now.rest)) }
     #[inline(always)]
     pub fn stop(&self) -> usize {
-        self.source.stop(self.rest, &self.anchor)
+        self.ahead.next().stop(&self.source, &self.anchor)
     }
 
     /// Returns whether the snippet is the source literal of the input.
@@ -170,17 +164,16 @@ impl<'input> Cursor<'input> {
     //     ≡ first_of self.now.world self.now.input self.now.rest }
     #[inline(always)]
     pub fn peek_place(&self) -> Option<(Range<usize>, usize, char)> {
-        self.source.peek_place(self.rest, &self.anchor)
+        self.ahead.next().place(&self.source, &self.anchor)
     }
 
     /// Returns, for the character after the next one, its byte range in the source, its byte offset
     /// in the input, and the character itself, or `None` if there is none.
     // ensures { option_map (λ x. (pair x.0, x.1, x.2)) result
-    //     ≡ first_of self.now.world self.now.input (behind_first self.now.rest) }
+    //     ≡ first_of self.now.world self.now.input (after_first self.now.rest) }
     #[inline(always)]
     pub fn peek_place_ahead(&self) -> Option<(Range<usize>, usize, char)> {
-        self.source
-            .peek_place(behind_first(self.rest), &self.anchor)
+        self.ahead.second().place(&self.source, &self.anchor)
     }
 
     /// Returns the byte offset of the next character in the input, or at the end the length of the
@@ -188,7 +181,7 @@ impl<'input> Cursor<'input> {
     // ensures { result ≡ byte_length self.now.input - byte_length self.now.rest }
     #[inline(always)]
     pub fn position(&self) -> usize {
-        self.source.input.len() - self.rest.len()
+        self.ahead.next().position(&self.source)
     }
 
     /// Returns whether the next character is `c`, which is ASCII.
@@ -196,14 +189,14 @@ impl<'input> Cursor<'input> {
     // ensures { result ≡ begins_with c self.now.rest }
     #[inline]
     pub fn is_next(&self, c: char) -> bool {
-        begins(self.rest, c)
+        self.ahead.next().is(c)
     }
 
     /// Moves past the next character if it is `c`, which is ASCII. Returns whether it is.
     // requires { c < 128 }
     // ensures value { result ≡ begins_with c self.old.rest }
     // ensures rest { self.new ≡ record self.old {
-    //   rest = if begins_with c self.old.rest then behind_first self.old.rest else self.old.rest;
+    //   rest = if begins_with c self.old.rest then after_first self.old.rest else self.old.rest;
     // } }
     #[inline]
     pub fn consume(&mut self, c: char) -> bool {
@@ -216,10 +209,10 @@ impl<'input> Cursor<'input> {
 
     /// Returns whether the character after the next one is `c`, which is ASCII.
     // requires { c < 128 }
-    // ensures { result ≡ begins_with c (behind_first self.now.rest) }
+    // ensures { result ≡ begins_with c (after_first self.now.rest) }
     #[inline]
     pub fn is_ahead(&self, c: char) -> bool {
-        begins(behind_first(self.rest), c)
+        self.ahead.second().is(c)
     }
 
     /// Returns whether a placeholder opens here: the next character is an opening brace, and the
@@ -234,14 +227,14 @@ impl<'input> Cursor<'input> {
     // ensures { result ≡ first_passes is_ascii_digit self.now.rest }
     #[inline]
     pub fn is_digit_next(&self) -> bool {
-        begins_digit(self.rest)
+        self.ahead.next().is_digit()
     }
 
     /// Returns whether the next character can begin a word.
     // ensures { result ≡ first_passes is_id_start self.now.rest }
     #[inline]
     pub fn is_word_next(&self) -> bool {
-        begins_word(self.rest)
+        self.ahead.next().is_id_start()
     }
 
     /// Returns whether the next two characters are `r#`.
@@ -252,9 +245,9 @@ impl<'input> Cursor<'input> {
     }
 
     /// Returns whether the character after the next one can begin a word.
-    // ensures { result ≡ first_passes is_id_start (behind_first self.now.rest) }
+    // ensures { result ≡ first_passes is_id_start (after_first self.now.rest) }
     #[inline]
     pub fn is_word_ahead(&self) -> bool {
-        begins_word(behind_first(self.rest))
+        self.ahead.second().is_id_start()
     }
 }

@@ -9,8 +9,8 @@ use crate::shim::prelude::*;
 use core::mem;
 use core::ops::Range;
 
-/// A fault of an input: what is wrong there, as plain data, of which a parser makes an error. The
-/// ranges are byte ranges of the source.
+/// A fault of an input as plain data, of which a parser makes an error. The ranges are byte ranges
+/// of the source.
 #[derive(Clone, Debug, Eq, PartialEq)]
 pub enum Fault<'input> {
     /// A closing brace that closes nothing.

@@ -2,9 +2,9 @@
 //! and the texts of diagnostic attributes.
 //!
 //! [`Parser`] reads an input piece by piece, [`read_all`] reads a whole input, and [`literal`] is
-//! about the string literals that an input may come from. A *fault* is what is wrong in an input,
-//! as plain data ([`Fault`]); an *error* is the message that a parser makes of it ([`ParseError`]).
-//! After a fault, parsing goes on.
+//! about the string literals that an input may come from. A *fault* is one thing that is wrong in
+//! an input, as plain data ([`Fault`]); an *error* is the message that a parser makes of it
+//! ([`ParseError`]). After a fault, parsing goes on.
 //!
 //! All offsets and lengths are in bytes, and spans and places are byte ranges of the source. If the
 //! snippet is the source literal of the input, the source is the snippet. Otherwise a span is that
@@ -34,6 +34,7 @@ pub mod laws;
 pub mod literal;
 pub(crate) mod messages;
 pub(crate) mod methods;
+pub(crate) mod parser;
 pub(crate) mod placeholder;
 pub(crate) mod reader;
 pub(crate) mod recover;

@@ -7,7 +7,7 @@
 use crate::shim::prelude::*;
 pub(crate) mod anchor;
 
-use crate::proved::rustc_parse_format::characters::{behind_first, first};
+use crate::proved::rustc_parse_format::characters::{after_first, first};
 use crate::proved::rustc_parse_format::literal::source_end;
 use anchor::continuations_width;
 pub use anchor::Anchor;
@@ -15,7 +15,7 @@ use core::ops::Range;
 
 /// The place of an input in its source.
 pub struct Source<'input> {
-    pub input: &'input str,
+    input: &'input str,
     /// The byte offset in the source at which the input starts.
     pub offset: usize,
     /// The byte offset in the source at which the text of the input ends.
@@ -56,7 +56,7 @@ impl<'input> Source<'input> {
         }
         match &self.kept_snippet {
             Some(snippet) => anchor.stop_of(snippet.as_str(), rest),
-            None => self.offset + (self.input.len() - behind_first(rest).len()),
+            None => self.offset + (self.input.len() - after_first(rest).len()),
         }
     }
 
@@ -65,7 +65,7 @@ impl<'input> Source<'input> {
     /// to the text that is left.
     // requires { IsAnchored self.now rest.now anchor.old }
     // ensures place { pair result.0 ≡ place_at (seen_world self.now) (length (chars rest.now)) }
-    // ensures rest { chars result.1.now ≡ behind_first (chars rest.now) }
+    // ensures rest { chars result.1.now ≡ after_first (chars rest.now) }
     // ensures anchored { IsAnchored self.now result.1.now anchor.new }
     #[inline(always)]
     pub fn pass(
@@ -79,14 +79,23 @@ impl<'input> Source<'input> {
         match &self.kept_snippet {
             Some(snippet) => anchor.pass(snippet.as_str(), rest),
             None => {
-                let behind = behind_first(rest);
+                let rest_after = after_first(rest);
                 let start = self.offset + (self.input.len() - rest.len());
                 (
-                    start..self.offset + (self.input.len() - behind.len()),
-                    behind,
+                    start..self.offset + (self.input.len() - rest_after.len()),
+                    rest_after,
                 )
             }
         }
+    }
+
+    /// Returns the byte offset of `rest` in the input.
+    // requires { IsLeft self.now.input.now rest.now }
+    // ensures { result
+    //     ≡ byte_length (chars self.now.input.now) - byte_length (chars rest.now) }
+    #[inline(always)]
+    pub fn position(&self, rest: &'input str) -> usize {
+        self.input.len() - rest.len()
     }
 
     /// Returns the byte range in the source of the first character of `rest`, its byte offset in
@@ -101,7 +110,7 @@ impl<'input> Source<'input> {
         anchor: &Anchor<'input>,
     ) -> Option<(Range<usize>, usize, char)> {
         let c = first(rest)?;
-        let position = self.input.len() - rest.len();
+        let position = self.position(rest);
         Some((
             self.start(rest, anchor)..self.stop(rest, anchor),
             position,

@@ -5,8 +5,10 @@
 // by results from outside, and beside what is proved (.ci/bindings) and the original (tools/agree).
 
 use crate::proved::asm_faults::{asm_faults, Operand, Template};
-use crate::proved::format_calls::{are_counted, asm_part, template_count, Argument, AsmPart, Call};
-use crate::proved::rust_trees::{Source, Token};
+use crate::proved::format_calls::{
+    asm_part, extent_of, template_count, Argument, AsmPart, Call, Part,
+};
+use crate::proved::rust_trees::Token;
 use crate::proved::source_lint::asm_findings::{put_findings, AsmSite, Read};
 use crate::proved::source_lint::findings::reading_of;
 use crate::proved::source_lint::givens::name_of;
@@ -45,41 +47,41 @@ struct Operands<'a> {
 }
 
 /// Adds an argument after the templates. Returns `Err` if an allocation fails.
-// requires { argument.now.start < length tokens.now }
+// requires { argument.now.start < length part.now }
 // ensures list { OnOk result (map seen_operand found.new.list.items
 //     ≡ map seen_operand found.old.list.items
-//     ++ operands (map leaf tokens.now) (argument.now ∷ [])) }
+//     ++ operands part.now (argument.now ∷ [])) }
 // ensures raw { OnOk result (found.new.are_raw
-//     ≡ (found.old.are_raw || is_raw_part (asm_part (map leaf tokens.now) argument.now))) }
+//     ≡ (found.old.are_raw || is_raw_part (asm_part part.now argument.now))) }
 // ensures unknown { OnOk result (found.new.is_unknown
-//     ≡ (found.old.is_unknown || is_unknown_part (asm_part (map leaf tokens.now) argument.now))) }
+//     ≡ (found.old.is_unknown || is_unknown_part (asm_part part.now argument.now))) }
 #[inline]
 fn add<'a>(
     found: &mut Operands<'a>,
-    tokens: &[Token<'a>],
+    part: &Part<'a>,
     argument: &Argument,
 ) -> Result<(), AllocError> {
-    let part = asm_part(tokens, argument);
-    if let Some(operand) = operand_of(tokens, argument, part) {
+    let kind = asm_part(part, argument);
+    if let Some(operand) = operand_of(part.tokens(), argument, kind) {
         found.list.try_push(operand)?;
         found.arguments.try_push(*argument)?;
     }
-    found.are_raw = found.are_raw || matches!(part, AsmPart::Raw);
-    found.is_unknown = found.is_unknown || matches!(part, AsmPart::Unknown);
+    found.are_raw = found.are_raw || matches!(kind, AsmPart::Raw);
+    found.is_unknown = found.is_unknown || matches!(kind, AsmPart::Unknown);
     Ok(())
 }
 
 /// Returns the arguments after the templates. Returns `Err` if an allocation fails.
-// requires { AllByRecursion (λ a. a.start < length tokens.now) arguments.now }
+// requires { AllByRecursion (λ a. a.start < length part.now) arguments.now }
 // ensures list { IfOk result (λ o. map seen_operand o.list.items
-//     ≡ operands (map leaf tokens.now) arguments.now) }
-// ensures raw { IfOk result (λ o. o.are_raw ≡ are_raw (map leaf tokens.now) arguments.now) }
+//     ≡ operands part.now arguments.now) }
+// ensures raw { IfOk result (λ o. o.are_raw ≡ are_raw part.now arguments.now) }
 // ensures unknown { IfOk result (λ o. o.is_unknown
-//     ≡ is_unknown (map leaf tokens.now) arguments.now) }
+//     ≡ is_unknown part.now arguments.now) }
 #[inline]
 fn operands_of<'a>(
     alloc: Global,
-    tokens: &[Token<'a>],
+    part: &Part<'a>,
     arguments: &[Argument],
 ) -> Result<Operands<'a>, AllocError> {
     let mut found = Operands {
@@ -89,7 +91,7 @@ fn operands_of<'a>(
         is_unknown: false,
     };
     for argument in arguments {
-        add(&mut found, tokens, argument)?;
+        add(&mut found, part, argument)?;
     }
     Ok(found)
 }
@@ -175,7 +177,7 @@ fn templates_of<'c>(alloc: Global, read: &'c [Read<'_>]) -> Result<Vec<Template<
 /// allocation fails.
 // requires { AllByRecursion (λ t. hashes t.style + length t.text.now + 2 < 2 ^ 64)
 //     templates.now }
-// ensures told { OnOk result ((xs : List FindingValue)
+// ensures outcome { OnOk result ((xs : List FindingValue)
 //     × (findings.new.items ≡ findings.old.items ++ xs)
 //     × TellAllAsm (slots_after [] (map seen_operand operands.now)) (counted_asm is_whole
 //     (asm_faults (map seen_template templates.now) (map seen_operand operands.now))) xs) }
@@ -272,15 +274,21 @@ pub fn read_asm<'a>(
     alloc: Global,
     findings: &mut Vec<Finding>,
     text: &'a str,
-    part: &Source<'a>,
+    part: &Part<'a>,
     call: &Call,
     arguments: &[Argument],
 ) -> Result<CallReading, AllocError> {
     let tokens = part.tokens();
     let count = template_count(tokens, arguments);
-    let operands = operands_of(alloc, tokens, &arguments[count..])?;
-    let is_counted = are_counted(part, call.name + 2, call.name + 3, call.close);
-    let is_whole = are_known(operands.is_unknown, is_counted);
+    let operands = operands_of(alloc, part, &arguments[count..])?;
+    let extent = extent_of(
+        part.source(),
+        false,
+        call.name + 2,
+        call.name + 3,
+        call.close,
+    );
+    let is_whole = are_known(operands.is_unknown, extent.is_counted);
     let reading = read_literals(
         alloc,
         findings,

@@ -4,7 +4,10 @@
 // That source is proved, and each contract here is its. That this text means the same is tested:
 // by results from outside, and beside what is proved (.ci/bindings) and the original (tools/agree).
 
-use crate::proved::format_calls::{arguments, is_mark, is_text, is_text_leaf, token_at, Argument};
+use crate::proved::format_calls::{
+    arguments, closing, is_mark, is_text, is_text_leaf, token_at, Argument,
+};
+use crate::proved::message_faults::names_of;
 use crate::proved::rust_trees::{Source, Token};
 use crate::proved::source_lint::generics::parameters;
 use crate::proved::source_lint::messages::{read_text, Item};
@@ -35,17 +38,6 @@ fn begins_attribute(tokens: &[Token<'_>], index: usize) -> bool {
         && is_mark(tokens, index + 4, b':')
         && is_word_there(tokens, index + 5, "on_unimplemented")
         && is_mark(tokens, index + 6, b'(')
-}
-
-/// Returns the token that closes the pair that a token opens, or `None` if it opens none.
-// ensures some { IfSome result (λ j. IsPair source.now index j) }
-// ensures none { IsNone result → (j : ℕ) → IsPair source.now index j → ⊥ }
-#[inline]
-fn closing(source: &Source<'_>, index: usize) -> Option<usize> {
-    match source.partner(index) {
-        Some(partner) if partner > index => Some(partner),
-        _ => None,
-    }
 }
 
 /// Returns the token that closes the list of the attribute that stands at a token, or `None` if no
@@ -174,6 +166,7 @@ fn put_literal<'a>(
 
 /// Reads these literals before a trait, and adds their findings. Returns `Err` if an allocation
 /// fails.
+// requires { HasNames (map (λ p. p.now) item.parameters.now) item.names.now }
 // ensures read { OnOk result ((xs : List FindingValue)
 //     × (findings.new.items ≡ findings.old.items ++ xs) × ReadsTexts (chars item.entry.name.now)
 //     (map (λ p. p.now) item.entry.parameters.now) (map leaf literals.now) xs) }
@@ -217,6 +210,7 @@ fn literals<'a>(
 
 /// Reads the attribute of a trait that stands at a token, if one does, and adds its findings.
 /// Returns `Err` if an allocation fails.
+// requires { HasNames (map (λ p. p.now) item.parameters.now) item.names.now }
 // ensures read { OnOk result ((xs : List FindingValue)
 //     × (findings.new.items ≡ findings.old.items ++ xs) × ReadsAt (chars item.entry.name.now)
 //     (map (λ p. p.now) item.entry.parameters.now) source.now index xs) }
@@ -244,6 +238,7 @@ fn read_at<'a>(
 
 /// Reads the attributes among the parts of the front of a trait, which start at these tokens, and
 /// adds their findings. Returns `Err` if an allocation fails.
+// requires { HasNames (map (λ p. p.now) item.parameters.now) item.names.now }
 // ensures read { OnOk result ((xs : List FindingValue)
 //     × (findings.new.items ≡ findings.old.items ++ xs) × ReadsFronts (chars item.entry.name.now)
 //     (map (λ p. p.now) item.entry.parameters.now) source.now starts.now xs) }
@@ -293,10 +288,12 @@ fn read_item<'a>(
     if !is_word_there(tokens, front.end, "trait") {
         return Ok(());
     }
-    let names = parameters(alloc, tokens, front.end + 2)?;
+    let parameters = parameters(alloc, tokens, front.end + 2)?;
+    let names = names_of(alloc, &parameters)?;
     let item = Item {
         name: text_at(tokens, front.end + 1),
-        parameters: &names,
+        parameters: &parameters,
+        names: &names,
     };
     read_fronts(alloc, findings, text, source, item, &front.starts)?;
     Ok(())

@@ -1,14 +1,16 @@
-//! What is wrong with the arguments of a call whose format string is not read.
+//! The fault in the arguments of a call whose format string is not read.
 
 // Extracted from crates/source_lint/src/forms.rt by tools/extract: not to be edited.
 // That source is proved, and each contract here is its. That this text means the same is tested:
 // by results from outside, and beside what is proved (.ci/bindings) and the original (tools/agree).
 
-use crate::proved::format_calls::{is_mark_of, is_standard, is_text_leaf, Argument, Rule};
+use crate::proved::format_calls::{
+    closing, is_mark_of, is_standard, is_text_leaf, token_at, Argument, Part, Rule,
+};
 use crate::proved::rust_tokens::Kind;
-use crate::proved::rust_trees::{Side, Token};
+use crate::proved::rust_trees::{Side, Source, Token};
 
-/// What is wrong with the arguments of a call.
+/// A fault in the arguments of a call.
 #[derive(Clone, Copy)]
 pub enum Form<'a> {
     /// There is no format string.
@@ -27,9 +29,9 @@ pub enum Form<'a> {
 }
 
 /// Returns the tokens of an argument.
-// ensures { map leaf result.now ≡ part (map leaf tokens.now) argument.now }
+// ensures { map leaf result.now ≡ tokens_of (map leaf tokens.now) argument.now }
 #[inline]
-pub fn part<'s, 'a>(tokens: &'s [Token<'a>], argument: &Argument) -> &'s [Token<'a>] {
+fn tokens_of<'s, 'a>(tokens: &'s [Token<'a>], argument: &Argument) -> &'s [Token<'a>] {
     let rest = &tokens[argument.start.min(tokens.len())..];
     let count = argument.end.saturating_sub(argument.start);
     &rest[..count.min(rest.len())]
@@ -132,54 +134,88 @@ fn depth_after(depth: usize, token: &Token<'_>) -> usize {
     }
 }
 
-/// Returns the first operand outside delimiters that stands right after another one, or `None` if
-/// there is none.
-// ensures { option_map leaf result ≡ next_operand false 0 (map leaf tokens.now) }
+/// Returns whether a token is an operand after another one.
+// ensures { result ≡ (is_after && is_operand (leaf token.now)) }
 #[inline]
-fn next_operand<'a>(tokens: &[Token<'a>]) -> Option<Token<'a>> {
+fn is_second(is_after: bool, token: &Token<'_>) -> bool {
+    is_after && is_operand(token)
+}
+
+/// Returns whether a token is an operand outside delimiters, of which `depth` are open.
+// ensures { result ≡ (depth == 0 && is_operand (leaf token.now)) }
+#[inline]
+fn is_outside(depth: usize, token: &Token<'_>) -> bool {
+    depth == 0 && is_operand(token)
+}
+
+/// Returns the token before another one that closes the pair that a token opens, or `None` if it
+/// opens none.
+// ensures { IfSome result (λ j. IsPair source.now index j × (j < end)
+//     × (is_operand (leaf token.now) ≡ false)) }
+#[inline]
+fn closing_before(
+    source: &Source<'_>,
+    index: usize,
+    token: &Token<'_>,
+    end: usize,
+) -> Option<usize> {
+    if is_operand(token) {
+        return None;
+    }
+    match closing(source, index) {
+        Some(close) if close < end => Some(close),
+        _ => None,
+    }
+}
+
+/// Returns the first operand of an argument outside delimiters that stands right after another one,
+/// or `None` if there is none. Pairs of delimiters are passed at once.
+// ensures { option_map leaf result ≡ next_operand false 0 (tokens_of source.now argument.now) }
+#[inline]
+fn next_operand<'a>(source: &Source<'a>, argument: &Argument) -> Option<Token<'a>> {
+    let tokens = source.tokens();
+    let mut index = argument.start;
     let mut is_after = false;
     let mut depth = 0;
-    for token in tokens {
-        let is_operand = is_operand(token);
-        if is_after && is_operand {
-            return Some(*token);
+    while index < argument.end {
+        let Some(token) = token_at(tokens, index) else {
+            return None;
+        };
+        if is_second(is_after, &token) {
+            return Some(token);
         }
-        is_after = depth == 0 && is_operand;
-        depth = depth_after(depth, token);
+        match closing_before(source, index, &token, argument.end) {
+            Some(close) => {
+                is_after = false;
+                index = close + 1;
+            }
+            None => {
+                is_after = is_outside(depth, &token);
+                depth = depth_after(depth, &token);
+                index += 1;
+            }
+        }
     }
     None
 }
 
-/// Returns whether one of these tokens is `$`, which begins a variable of a macro, or `#`, which
-/// does so in `quote!`.
-// ensures { result ≡ has_variable (map leaf tokens.now) }
-#[inline]
-fn has_variable(tokens: &[Token<'_>]) -> bool {
-    for token in tokens {
-        if is_mark_of(token, b'$') || is_mark_of(token, b'#') {
-            return true;
-        }
-    }
-    false
-}
-
 /// Returns the first operand of an argument that stands right after another one, or `None` if there
 /// is none or a variable of a macro stands there.
-// ensures { option_map leaf result ≡ joined (map leaf tokens.now) }
+// ensures { option_map leaf result ≡ joined (tokens_of part.now argument.now) }
 #[inline]
-fn joined<'a>(tokens: &[Token<'a>]) -> Option<Token<'a>> {
-    if has_variable(tokens) {
+fn joined<'a>(part: &Part<'a>, argument: &Argument) -> Option<Token<'a>> {
+    if part.has_variable(argument) {
         return None;
     }
-    next_operand(tokens)
+    next_operand(part.source(), argument)
 }
 
 /// Returns whether an argument is no expression, as far as its tokens show: it has none, or two
 /// operands stand next to each other.
-// ensures { result ≡ is_bad (map leaf tokens.now) }
+// ensures { result ≡ is_bad (tokens_of part.now argument.now) }
 #[inline]
-fn is_bad(tokens: &[Token<'_>]) -> bool {
-    tokens.is_empty() || joined(tokens).is_some()
+fn is_bad(part: &Part<'_>, argument: &Argument) -> bool {
+    tokens_of(part.tokens(), argument).is_empty() || joined(part, argument).is_some()
 }
 
 /// Returns whether a token may stand in a path or in the access to a field.
@@ -238,7 +274,7 @@ fn literal_form<'a>(tokens: &[Token<'a>], others: usize) -> Option<Form<'a>> {
 
 /// Returns the tokens of the argument with an index, or `None` if there is none.
 // ensures { option_map (λ s. map leaf s.now) result
-//     ≡ slice_get (map (part (map leaf tokens.now)) arguments.now) index }
+//     ≡ slice_get (map (tokens_of (map leaf tokens.now)) arguments.now) index }
 #[inline]
 fn part_at<'s, 'a>(
     tokens: &'s [Token<'a>],
@@ -246,17 +282,17 @@ fn part_at<'s, 'a>(
     index: usize,
 ) -> Option<&'s [Token<'a>]> {
     match arguments.get(index) {
-        Some(argument) => Some(part(tokens, argument)),
+        Some(argument) => Some(tokens_of(tokens, argument)),
         None => None,
     }
 }
 
 /// Returns whether a variable of a macro stands in one of these arguments.
-// ensures { result ≡ list_any has_variable (map (part (map leaf tokens.now)) arguments.now) }
+// ensures { result ≡ list_any has_variable (map (tokens_of part.now) arguments.now) }
 #[inline]
-fn have_variables(tokens: &[Token<'_>], arguments: &[Argument]) -> bool {
+fn have_variables(part: &Part<'_>, arguments: &[Argument]) -> bool {
     for argument in arguments {
-        if has_variable(part(tokens, argument)) {
+        if part.has_variable(argument) {
             return true;
         }
     }
@@ -264,11 +300,11 @@ fn have_variables(tokens: &[Token<'_>], arguments: &[Argument]) -> bool {
 }
 
 /// Returns the index of the first argument that is no expression, or `None` if there is none.
-// ensures { result ≡ first_bad 0 (map (part (map leaf tokens.now)) arguments.now) }
+// ensures { result ≡ first_bad 0 (map (tokens_of part.now) arguments.now) }
 #[inline]
-fn first_bad(tokens: &[Token<'_>], arguments: &[Argument]) -> Option<usize> {
+fn first_bad(part: &Part<'_>, arguments: &[Argument]) -> Option<usize> {
     for (index, argument) in arguments.iter().enumerate() {
-        if is_bad(part(tokens, argument)) {
+        if is_bad(part, argument) {
             return Some(index);
         }
     }
@@ -277,18 +313,41 @@ fn first_bad(tokens: &[Token<'_>], arguments: &[Argument]) -> Option<usize> {
 
 /// Returns what is wrong with an argument that is no expression. `is_string` is whether it should
 /// be the format string.
-// ensures { option_map seen_form result ≡ bad_form index is_string (map leaf tokens.now) }
+// ensures { option_map seen_form result
+//     ≡ bad_form index is_string (tokens_of part.now argument.now) }
 #[inline]
-fn bad_form<'a>(tokens: &[Token<'a>], index: usize, is_string: bool) -> Option<Form<'a>> {
-    if tokens.is_empty() {
+fn bad_form<'a>(
+    part: &Part<'a>,
+    argument: &Argument,
+    index: usize,
+    is_string: bool,
+) -> Option<Form<'a>> {
+    if tokens_of(part.tokens(), argument).is_empty() {
         return Some(Form::NoExpression(index));
     }
     if !is_string {
         return None;
     }
-    match joined(tokens) {
+    match joined(part, argument) {
         Some(token) => Some(Form::NoComma(token)),
         None => None,
+    }
+}
+
+/// Returns what is wrong with arguments of which the one with the index `bad` is no expression, and
+/// the one with the index `string` should be the format string.
+// ensures { option_map seen_form result
+//     ≡ form_at string bad (slice_get (map (tokens_of part.now) arguments.now) bad) }
+#[inline]
+fn form_at<'a>(
+    part: &Part<'a>,
+    arguments: &[Argument],
+    string: usize,
+    bad: usize,
+) -> Option<Form<'a>> {
+    match arguments.get(bad) {
+        Some(argument) if bad >= string => bad_form(part, argument, bad, bad == string),
+        _ => None,
     }
 }
 
@@ -303,24 +362,21 @@ fn others_after(arguments: &[Argument], index: usize) -> usize {
 /// the format string, or `None` if nothing is known to be. `lacks_string` is whether it is a fault
 /// that there is none.
 // ensures { option_map seen_form result
-//     ≡ form_of lacks_string index (map (part (map leaf tokens.now)) arguments.now) }
+//     ≡ form_of lacks_string index (map (tokens_of part.now) arguments.now) }
 #[inline]
 fn form_of<'a>(
-    tokens: &[Token<'a>],
+    part: &Part<'a>,
     arguments: &[Argument],
     index: usize,
     lacks_string: bool,
 ) -> Option<Form<'a>> {
-    if have_variables(tokens, arguments) {
+    if have_variables(part, arguments) {
         return None;
     }
-    match first_bad(tokens, arguments) {
-        Some(bad) => match part_at(tokens, arguments, bad) {
-            Some(part) if bad >= index => bad_form(part, bad, bad == index),
-            _ => None,
-        },
-        None => match part_at(tokens, arguments, index) {
-            Some(part) => literal_form(part, others_after(arguments, index)),
+    match first_bad(part, arguments) {
+        Some(bad) => form_at(part, arguments, index, bad),
+        None => match part_at(part.tokens(), arguments, index) {
+            Some(string) => literal_form(string, others_after(arguments, index)),
             None => {
                 if lacks_string {
                     Some(Form::NoString)
@@ -376,10 +432,10 @@ fn index_of(rule: Rule, is_from_2021: bool) -> Option<usize> {
 /// Returns what is wrong with the arguments of a call of a macro of this name and with this rule,
 /// or `None` if nothing is known to be, as of macros that are not those of the standard library.
 // ensures { option_map seen_form result ≡ form_here is_from_2021 name.now rule close
-//     arguments.now (map (part (map leaf tokens.now)) arguments.now) }
+//     arguments.now (map (tokens_of part.now) arguments.now) }
 #[inline]
 pub fn form_here<'a>(
-    tokens: &[Token<'a>],
+    part: &Part<'a>,
     name: &[u8],
     rule: Rule,
     is_from_2021: bool,
@@ -390,23 +446,17 @@ pub fn form_here<'a>(
         return None;
     }
     match index_of(rule, is_from_2021) {
-        Some(index) => form_of(
-            tokens,
-            arguments,
-            index,
-            lacks_string(name, arguments, close),
-        ),
+        Some(index) => form_of(part, arguments, index, lacks_string(name, arguments, close)),
         None => None,
     }
 }
 
 /// Returns whether an argument that has tokens is no expression.
-// ensures { result ≡ list_any (λ p. is_some (joined p))
-//     (map (part (map leaf tokens.now)) arguments.now) }
+// ensures { result ≡ list_any (λ p. is_some (joined p)) (map (tokens_of part.now) arguments.now) }
 #[inline]
-pub fn have_joined(tokens: &[Token<'_>], arguments: &[Argument]) -> bool {
+pub fn have_joined(part: &Part<'_>, arguments: &[Argument]) -> bool {
     for argument in arguments {
-        if joined(part(tokens, argument)).is_some() {
+        if joined(part, argument).is_some() {
             return true;
         }
     }

@@ -4,7 +4,7 @@
 // That source is proved, and each contract here is its. That this text means the same is tested:
 // by results from outside, and beside what is proved (.ci/bindings) and the original (tools/agree).
 
-use crate::proved::format_calls::{calls, next_part, Table};
+use crate::proved::format_calls::{calls, next_part, Part, Table};
 use crate::proved::rust_trees::{Balance, Source, Tokens};
 use crate::proved::source_lint::attributes::read_attributes;
 use crate::proved::source_lint::macros::macro_names;
@@ -34,10 +34,10 @@ fn read_part<'a>(
     alloc: Global,
     found: &mut Readings,
     file: File<'_, 'a>,
-    part: &Source<'a>,
+    part: &Part<'a>,
     table: &Table<'_>,
 ) -> Result<(), AllocError> {
-    let calls = calls(alloc, part, table)?;
+    let calls = calls(alloc, part.source(), table)?;
     let mut rest = calls.as_slice();
     while let Some((call, others)) = rest.split_first() {
         let reading = read_call(alloc, &mut found.findings, file, part, call)?;
@@ -67,7 +67,8 @@ fn read_file(
         findings: Vec::made_in(alloc),
     };
     let mut rest = Tokens::new(file.text);
-    while let Some(part) = next_part(alloc, &mut rest, table, balance)? {
+    while let Some(source) = next_part(alloc, &mut rest, table, balance)? {
+        let part = Part::new(alloc, source)?;
         read_part(alloc, &mut found, file, &part, table)?;
     }
     Ok(found)

@@ -13,6 +13,7 @@ use crate::proved::source_lint::report::{Finding, Help};
 use crate::proved::source_lint::spans::Site;
 use crate::shim::alloc::{AllocError, Global};
 use crate::shim::prelude::*;
+use alloc::collections::BTreeSet;
 
 /// A trait that an attribute stands before.
 #[derive(Clone, Copy)]
@@ -21,6 +22,8 @@ pub struct Item<'s, 'a> {
     pub name: &'a str,
     /// Its parameters that are types or constants.
     pub parameters: &'s [&'a str],
+    /// The set of their names.
+    pub names: &'s BTreeSet<&'a str>,
 }
 
 /// Returns a help, which has no edits. Returns `Err` if an allocation fails.
@@ -40,7 +43,7 @@ fn help(alloc: Global, help: Option<&str>) -> Result<Option<Help>, AllocError> {
 }
 
 /// Returns the finding of a fault, for a trait of this name. Returns `Err` if an allocation fails.
-// ensures tells { IfOk result (λ x. TellsMessage (chars name.now) (seen_fault fault.now) x) }
+// ensures outcome { IfOk result (λ x. TellsMessage (chars name.now) (seen_fault fault.now) x) }
 // ensures spans { IfOk result (λ x. HasSpans site.entry.text.now x) }
 #[inline]
 fn finding(
@@ -66,7 +69,7 @@ fn finding(
 }
 
 /// Adds the findings of faults, for a trait of this name. Returns `Err` if an allocation fails.
-// ensures told { OnOk result ((xs : List FindingValue)
+// ensures outcome { OnOk result ((xs : List FindingValue)
 //     × (findings.new.items ≡ findings.old.items ++ xs)
 //     × TellMessages (chars name.now) (map seen_fault faults.now) xs) }
 // ensures spans { OnOk result (All (HasSpans site.entry.text.now) findings.old.items
@@ -87,6 +90,7 @@ fn put_findings(
 
 /// Reads the text that a literal stands for, before a trait, and adds its findings. Returns `Err`
 /// if an allocation fails.
+// requires { HasNames (map (λ p. p.now) item.parameters.now) item.names.now }
 // ensures read { OnOk result ((xs : List FindingValue)
 //     × (findings.new.items ≡ findings.old.items ++ xs)
 //     × ReadsText (chars item.entry.name.now) (map (λ p. p.now) item.entry.parameters.now)
@@ -117,7 +121,7 @@ pub fn read_text<'a>(
     let message = Message {
         text: literal.text.as_str(),
         snippet: Some(literal.snippet.as_str()),
-        parameters: Some(item.parameters),
+        parameters: Some(item.names),
     };
     let faults = message_faults(alloc, message)?;
     put_findings(alloc, findings, site, item.name, &faults)?;

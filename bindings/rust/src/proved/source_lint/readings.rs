@@ -6,9 +6,9 @@
 
 use crate::proved::call_faults::{call_faults, FormatString, Given};
 use crate::proved::format_calls::{
-    are_counted, arguments, format_string, token_at, word, Argument, Call, Rule,
+    arguments, extent_of, format_string, token_at, word, Argument, Call, Part, Rule,
 };
-use crate::proved::rust_trees::{Source, Token};
+use crate::proved::rust_trees::Token;
 use crate::proved::source_lint::assembly::read_asm;
 use crate::proved::source_lint::findings::{put_findings, reading_of};
 use crate::proved::source_lint::form_words::put_form;
@@ -64,7 +64,7 @@ fn counted_givens<'a>(
 /// Checks a call with this format string and these arguments, and adds its findings. Returns `Err`
 /// if an allocation fails.
 // requires { hashes string.style + length string.text.now + 2 < 2 ^ 64 }
-// ensures told { OnOk result (let s = start string.entry in (xs : List FindingValue)
+// ensures outcome { OnOk result (let s = start string.entry in (xs : List FindingValue)
 //     × (findings.new.items ≡ findings.old.items ++ xs)
 //     × AreFindings is_counted (call_of string.entry.captures s (map seen_given given.now)) xs) }
 // ensures spans { OnOk result (All (HasSpans site.entry.text.now) findings.old.items
@@ -140,49 +140,72 @@ fn argument_at(arguments: &[Argument], index: usize) -> Option<Argument> {
     }
 }
 
-/// Reads a call whose format string is the argument of this index, and adds its findings. Returns
-/// `Err` if an allocation fails.
-// requires pair { IsPair part.now (call.now.name + 2) call.now.close }
-// requires split { AreArguments part.now (call.now.name + 3) arguments.now call.now.close }
-// requires literal { (a : ArgumentValue) × (slice_get arguments.now index ≡ Some a)
-//     × IsTrue (is_text part.now a) }
+/// Returns whether `;` ends the arguments of a macro with this rule: key-values follow it in those
+/// of slog.
+// ensures { result ≡ ends_early rule }
+#[inline]
+fn ends_early(rule: Rule) -> bool {
+    matches!(rule, Rule::AfterFields)
+}
+
+/// Returns the arguments that start before a token, of which the last ends there at the latest.
+/// Returns `Err` if an allocation fails.
+// ensures { IfOk result (λ v. v.items ≡ arguments_before end arguments.now) }
+#[inline]
+fn arguments_before(
+    alloc: Global,
+    arguments: &[Argument],
+    end: usize,
+) -> Result<Vec<Argument>, AllocError> {
+    let mut found = Vec::made_in(alloc);
+    for argument in arguments {
+        if argument.start >= end {
+            return Ok(found);
+        }
+        found.try_push(Argument {
+            start: argument.start,
+            end: argument.end.min(end),
+            is_named: argument.is_named,
+        })?;
+    }
+    Ok(found)
+}
+
+/// Reads a call with this literal as its format string and these arguments after it, and adds its
+/// findings. Returns `Err` if an allocation fails.
 // ensures read { IfOk result (λ r. (xs : List FindingValue)
 //     × (findings.new.items ≡ findings.old.items ++ xs)
-//     × ReadsAt file.entry.is_from_2021 part.now call.now arguments.now index r xs) }
+//     × ReadsLiteral (without_crs (chars literal.entry.text.now))
+//     (appends_newline (name_at part.now call.now.name))
+//     (captures file.entry.is_from_2021 call.now.rule (name_at part.now call.now.name))
+//     is_counted (map (given part.now) arguments.now) r xs) }
 // ensures spans { OnOk result (All (HasSpans file.entry.text.now) findings.old.items
 //     → All (HasSpans file.entry.text.now) findings.new.items) }
 #[inline]
-fn read_at(
+fn read_with(
     alloc: Global,
     findings: &mut Vec<Finding>,
     file: File<'_, '_>,
-    part: &Source<'_>,
+    part: &Part<'_>,
     call: &Call,
+    literal: Token<'_>,
     arguments: &[Argument],
-    index: usize,
+    is_counted: bool,
 ) -> Result<CallReading, AllocError> {
     let tokens = part.tokens();
-    let Some(string) = argument_at(arguments, index) else {
-        return Ok(CallReading::Malformed);
-    };
-    let Some(literal) = token_at(tokens, string.start) else {
-        return Ok(CallReading::Malformed);
-    };
-    let others = &arguments[index + 1..];
     let crs = dropped_crs(alloc, literal.text)?;
     let site = Site {
         text: file.text,
         tokens,
         literal,
         crs: &crs,
-        arguments: others,
+        arguments,
         name: call.name,
         close: call.close,
     };
     let name = name_at(tokens, call.name);
     let appended_newline = appends_newline(name);
     let captures = captures(call.rule, name, file.is_from_2021);
-    let is_counted = are_counted(part, call.name + 2, string.end, call.close);
     let reading = read_string(
         alloc,
         findings,
@@ -194,12 +217,57 @@ fn read_at(
     Ok(reading)
 }
 
+/// Reads a call whose format string begins the argument of this index, and adds its findings.
+/// Returns `Err` if an allocation fails.
+// requires pair { IsPair part.now (call.now.name + 2) call.now.close }
+// requires split { AreArguments part.now (call.now.name + 3) arguments.now call.now.close }
+// requires literal { (a : ArgumentValue) × (slice_get arguments.now index ≡ Some a)
+//     × IsTrue (is_string_by call.now.rule part.now a) }
+// ensures read { IfOk result (λ r. (xs : List FindingValue)
+//     × (findings.new.items ≡ findings.old.items ++ xs)
+//     × ReadsAt file.entry.is_from_2021 part.now call.now arguments.now index r xs) }
+// ensures spans { OnOk result (All (HasSpans file.entry.text.now) findings.old.items
+//     → All (HasSpans file.entry.text.now) findings.new.items) }
+#[inline]
+fn read_at(
+    alloc: Global,
+    findings: &mut Vec<Finding>,
+    file: File<'_, '_>,
+    part: &Part<'_>,
+    call: &Call,
+    arguments: &[Argument],
+    index: usize,
+) -> Result<CallReading, AllocError> {
+    let Some(string) = argument_at(arguments, index) else {
+        return Ok(CallReading::Malformed);
+    };
+    let Some(literal) = token_at(part.tokens(), string.start) else {
+        return Ok(CallReading::Malformed);
+    };
+    let extent = extent_of(
+        part.source(),
+        ends_early(call.rule),
+        call.name + 2,
+        string.start + 1,
+        call.close,
+    );
+    let counted = extent.is_counted;
+    let others = &arguments[index + 1..];
+    if extent.end == call.close {
+        let reading = read_with(alloc, findings, file, part, call, literal, others, counted)?;
+        return Ok(reading);
+    }
+    let before = arguments_before(alloc, others, extent.end)?;
+    let reading = read_with(alloc, findings, file, part, call, literal, &before, counted)?;
+    Ok(reading)
+}
+
 /// Reads a call whose format string is the argument of this index, or whose templates begin with
 /// it, and adds its findings. Returns `Err` if an allocation fails.
 // requires pair { IsPair part.now (call.now.name + 2) call.now.close }
 // requires split { AreArguments part.now (call.now.name + 3) arguments.now call.now.close }
 // requires literal { (a : ArgumentValue) × (slice_get arguments.now index ≡ Some a)
-//     × IsTrue (is_text part.now a) }
+//     × IsTrue (is_string_by call.now.rule part.now a) }
 // ensures read { IfOk result (λ r. (xs : List FindingValue)
 //     × (findings.new.items ≡ findings.old.items ++ xs)
 //     × ReadsOne call.now.rule file.entry.is_from_2021 part.now call.now arguments.now index r
@@ -211,7 +279,7 @@ fn read_one<'a>(
     alloc: Global,
     findings: &mut Vec<Finding>,
     file: File<'_, 'a>,
-    part: &Source<'a>,
+    part: &Part<'a>,
     call: &Call,
     arguments: &[Argument],
     index: usize,
@@ -259,21 +327,21 @@ fn has_expressions(rule: Rule) -> bool {
 // ensures value { result ≡ index_or file.entry.is_from_2021 part.now call.now.rule
 //     arguments.now }
 // ensures literal { IfOk result (λ n. (a : ArgumentValue) × (slice_get arguments.now n ≡ Some a)
-//     × IsTrue (is_text part.now a)) }
+//     × IsTrue (is_string_by call.now.rule part.now a)) }
 #[inline]
 fn index_or(
     file: File<'_, '_>,
-    part: &Source<'_>,
+    part: &Part<'_>,
     call: &Call,
     arguments: &[Argument],
 ) -> Result<usize, CallReading> {
     if has_empty(arguments) {
         return Err(CallReading::NoExpression);
     }
-    if has_expressions(call.rule) && have_joined(part.tokens(), arguments) {
+    if has_expressions(call.rule) && have_joined(part, arguments) {
         return Err(CallReading::NoComma);
     }
-    match format_string(part, call.rule, arguments, file.is_from_2021) {
+    match format_string(part.source(), call.rule, arguments, file.is_from_2021) {
         Ok(index) => Ok(index),
         Err(reason) => Err(CallReading::Unread(reason)),
     }
@@ -292,7 +360,7 @@ pub fn read_call<'a>(
     alloc: Global,
     findings: &mut Vec<Finding>,
     file: File<'_, 'a>,
-    part: &Source<'a>,
+    part: &Part<'a>,
     call: &Call,
 ) -> Result<CallReading, AllocError> {
     let tokens = part.tokens();
@@ -300,7 +368,7 @@ pub fn read_call<'a>(
     if is_defined(file.macros, name) {
         return Ok(CallReading::Redefined);
     }
-    let Some(arguments) = arguments(alloc, part, call.close)? else {
+    let Some(arguments) = arguments(alloc, part.source(), call.close)? else {
         return Ok(CallReading::Whole);
     };
     let list = arguments.as_slice();
@@ -310,7 +378,7 @@ pub fn read_call<'a>(
             Ok(reading)
         }
         Err(reading) => {
-            let form = form_here(tokens, name, call.rule, file.is_from_2021, list, call.close);
+            let form = form_here(part, name, call.rule, file.is_from_2021, list, call.close);
             put_form(findings, file.text, tokens, call, list, form)?;
             Ok(reading)
         }

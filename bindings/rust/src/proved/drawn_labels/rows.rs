@@ -1,15 +1,15 @@
 //! The rows under a line of the source. Each function appends to `out`, and returns `Err` if an
 //! allocation fails.
 
-// Extracted from crates/drawn_faults/src/rows.rt by tools/extract: not to be edited.
+// Extracted from crates/drawn_labels/src/rows.rt by tools/extract: not to be edited.
 // That source is proved, and each contract here is its. That this text means the same is tested:
 // by results from outside, and beside what is proved (.ci/bindings) and the original (tools/agree).
 
-use crate::proved::drawn_faults::cells::{put_written, space, style_of, text_style, Cell};
-use crate::proved::drawn_faults::glyphs::{put_painted_glyphs, put_painted_run, put_run};
-use crate::proved::drawn_faults::mark::Mark;
-use crate::proved::drawn_faults::paint::{
-    has_colours, put_gutter_bar, put_painted, Gutter, Palette, Style,
+use crate::proved::drawn_labels::cells::{put_written, space, style_of, text_style, Cell};
+use crate::proved::drawn_labels::mark::Mark;
+use crate::proved::drawn_lines::{
+    has_colours, put_gutter, put_painted, put_painted_glyphs, put_painted_run, put_run, Gutter,
+    Palette, Style,
 };
 use crate::shim::alloc::AllocError;
 use crate::shim::prelude::*;
@@ -87,25 +87,6 @@ fn put_bars(
     } else {
         put_run(out, ' ', columns)?;
     }
-    Ok(())
-}
-
-/// Adds the gutter of a row that has no number.
-// ensures { OnOk result (string_bytes out.new ≡ string_bytes out.old ++ blank gutter) }
-#[inline]
-pub fn put_blank(out: &mut String, gutter: Gutter) -> Result<(), AllocError> {
-    put_run(out, ' ', gutter.columns)?;
-    put_gutter_bar(out, gutter.palette)?;
-    Ok(())
-}
-
-/// Adds the gutter of a row under a line, and the space after it.
-// ensures { OnOk result (string_bytes out.new
-//     ≡ string_bytes out.old ++ (blank gutter ++ codes " ")) }
-#[inline]
-pub fn put_gutter(out: &mut String, gutter: Gutter) -> Result<(), AllocError> {
-    put_blank(out, gutter)?;
-    out.try_push_str(" ")?;
     Ok(())
 }
 
@@ -321,8 +302,8 @@ fn put_hanging(
 // ensures { result ≡ r.now.from - (l.now.to + 1 + length l.now.text.now) }
 #[inline]
 fn columns_between(l: &Mark<'_>, r: &Mark<'_>) -> usize {
-    let behind = r.from.saturating_sub(l.to);
-    behind.saturating_sub(1).saturating_sub(l.text.len())
+    let rest_after = r.from.saturating_sub(l.to);
+    rest_after.saturating_sub(1).saturating_sub(l.text.len())
 }
 
 /// Adds the row of two labels beside each other, of which `l` is the first one.

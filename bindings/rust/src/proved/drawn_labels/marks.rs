@@ -1,18 +1,17 @@
-//! The rows under a line with several labels. What begins with `put_` appends to `out` or writes
-//! into a row, and returns `Err` if an allocation fails.
+//! The rows under a line with several labels. A function whose name begins with `put_` appends to
+//! `out` or writes into a row, and returns `Err` if an allocation fails.
 
-// Extracted from crates/drawn_faults/src/marks.rt by tools/extract: not to be edited.
+// Extracted from crates/drawn_labels/src/marks.rt by tools/extract: not to be edited.
 // That source is proved, and each contract here is its. That this text means the same is tested:
 // by results from outside, and beside what is proved (.ci/bindings) and the original (tools/agree).
 
-use crate::proved::drawn_faults::cells::{
+use crate::proved::drawn_labels::cells::{
     put_after, put_at, put_from, put_run_at, put_written, style_of, text_style, Cell,
 };
-use crate::proved::drawn_faults::hanging::{depth, hang, has_text, Hung};
-use crate::proved::drawn_faults::mark::Mark;
-use crate::proved::drawn_faults::order::covered_first;
-use crate::proved::drawn_faults::paint::Gutter;
-use crate::proved::drawn_faults::rows::put_gutter;
+use crate::proved::drawn_labels::hanging::{depth, hang, has_text, Hung};
+use crate::proved::drawn_labels::mark::Mark;
+use crate::proved::drawn_labels::order::covered_first;
+use crate::proved::drawn_lines::{put_gutter, Gutter};
 use crate::shim::alloc::{AllocError, Global};
 use crate::shim::prelude::*;
 

@@ -1,6 +1,6 @@
 //! The errors of all calls of a parser.
 
-// Extracted from crates/drawn_faults/src/errors.rt by tools/extract: not to be edited.
+// Extracted from crates/fault_fixes/src/errors.rt by tools/extract: not to be edited.
 // That source is proved, and each contract here is its. That this text means the same is tested:
 // by results from outside, and beside what is proved (.ci/bindings) and the original (tools/agree).
 

@@ -1,18 +1,16 @@
-//! Lines of the source with labels in one line. What begins with `put_` appends to `out`, and
-//! returns `Err` if an allocation fails.
+//! Lines of the source, and the gutter. A function whose name begins with `put_` appends to `out`,
+//! and returns `Err` if an allocation fails.
 
-// Extracted from crates/drawn_faults/src/lines.rt by tools/extract: not to be edited.
+// Extracted from crates/drawn_lines/src/lines.rt by tools/extract: not to be edited.
 // That source is proved, and each contract here is its. That this text means the same is tested:
 // by results from outside, and beside what is proved (.ci/bindings) and the original (tools/agree).
 
-use crate::proved::drawn_faults::glyphs::{draws_nothing, put_glyphs, put_run};
-use crate::proved::drawn_faults::labels::{digits, Frame};
-use crate::proved::drawn_faults::mark::Mark;
-use crate::proved::drawn_faults::paint::{
-    put_closing, put_gutter_bar, put_opening, put_painted, Palette, Style,
+use crate::proved::drawn_lines::frame::{digits, Frame};
+use crate::proved::drawn_lines::glyphs::{draws_nothing, put_glyphs, put_run};
+use crate::proved::drawn_lines::paint::{
+    put_closing, put_gutter_bar, put_opening, put_painted, Gutter, Palette, Style,
 };
-use crate::proved::drawn_faults::places::line;
-use crate::proved::drawn_faults::rows::{put_blank, put_both, put_one};
+use crate::proved::drawn_lines::places::line;
 use crate::shim::alloc::AllocError;
 use crate::shim::itoa::Buffer;
 use crate::shim::prelude::*;
@@ -23,6 +21,25 @@ use crate::shim::prelude::*;
 pub fn put_decimal(out: &mut String, number: usize) -> Result<(), AllocError> {
     let mut digits = Buffer::new();
     out.try_push_str(digits.format(number))?;
+    Ok(())
+}
+
+/// Adds the gutter of a row that has no number.
+// ensures { OnOk result (string_bytes out.new ≡ string_bytes out.old ++ blank gutter) }
+#[inline]
+pub fn put_blank(out: &mut String, gutter: Gutter) -> Result<(), AllocError> {
+    put_run(out, ' ', gutter.columns)?;
+    put_gutter_bar(out, gutter.palette)?;
+    Ok(())
+}
+
+/// Adds the gutter of a row under a line, and the space after it.
+// ensures { OnOk result (string_bytes out.new
+//     ≡ string_bytes out.old ++ (blank gutter ++ codes " ")) }
+#[inline]
+pub fn put_gutter(out: &mut String, gutter: Gutter) -> Result<(), AllocError> {
+    put_blank(out, gutter)?;
+    out.try_push_str(" ")?;
     Ok(())
 }
 
@@ -80,12 +97,12 @@ fn put_shown(out: &mut String, palette: Palette, text: &str, cut: usize) -> Resu
     Ok(())
 }
 
-/// Adds what is after a bar: a line, and what is in front of it.
+/// Adds the text after a bar: a line, after a text in front of it.
 // requires { cut < 2 ^ 62 }
 // ensures { OnOk result (string_bytes out.new
-//     ≡ string_bytes out.old ++ behind_bar palette front.now cut (chars text.now)) }
+//     ≡ string_bytes out.old ++ after_bar palette front.now cut (chars text.now)) }
 #[inline]
-fn put_behind_bar(
+fn put_after_bar(
     out: &mut String,
     palette: Palette,
     front: &str,
@@ -99,7 +116,7 @@ fn put_behind_bar(
     Ok(())
 }
 
-/// Adds a line of the source, and what is in front of it.
+/// Adds a line of the source, after a text in front of it.
 // requires { frame.now.cut < 2 ^ 62 }
 // ensures { OnOk result (string_bytes out.new ≡ string_bytes out.old
 //     ++ source_line (seen_frame frame.now) front.now number) }
@@ -111,12 +128,12 @@ pub fn put_source_line(
     number: usize,
 ) -> Result<(), AllocError> {
     let line = line(frame.picture.source, number);
-    put_behind_bar(out, frame.gutter.palette, front, line, frame.cut)?;
+    put_after_bar(out, frame.gutter.palette, front, line, frame.cut)?;
     out.try_push_str("\n")?;
     Ok(())
 }
 
-/// Adds a line of the source with its number, after what is in front of it.
+/// Adds a line of the source with its number, after a text in front of it.
 // requires number { number < 2 ^ 61 }
 // requires cut { frame.now.cut < 2 ^ 62 }
 // ensures { OnOk result (string_bytes out.new ≡ string_bytes out.old
@@ -144,23 +161,7 @@ pub fn put_code(out: &mut String, frame: &Frame<'_>, number: usize) -> Result<()
     Ok(())
 }
 
-/// Adds a line of the source with a label.
-// requires number { mark.now.line < 2 ^ 61 }
-// requires cut { frame.now.cut < 2 ^ 62 }
-// ensures { OnOk result (string_bytes out.new ≡ string_bytes out.old
-//     ++ labelled (seen_frame frame.now) (seen_mark mark.now)) }
-#[inline]
-pub fn put_labelled(
-    out: &mut String,
-    frame: &Frame<'_>,
-    mark: &Mark<'_>,
-) -> Result<(), AllocError> {
-    put_code(out, frame, mark.line)?;
-    put_one(out, frame.gutter, mark)?;
-    Ok(())
-}
-
-/// Adds what is between two lines with labels.
+/// Adds the rows between two lines with labels.
 // requires number { first < 2 ^ 60 }
 // requires cut { frame.now.cut < 2 ^ 62 }
 // ensures { OnOk result (string_bytes out.new ≡ string_bytes out.old
@@ -177,49 +178,6 @@ pub fn put_gap(
     } else if last > first + 2 {
         put_painted(out, frame.gutter.palette, Style::Secondary, "...")?;
         out.try_push_str("\n")?;
-    }
-    Ok(())
-}
-
-/// Adds two lines with labels, of which `m` is the first one.
-// requires number { m.now.line < 2 ^ 60 }
-// requires second_number { n.now.line < 2 ^ 60 }
-// requires cut { frame.now.cut < 2 ^ 62 }
-// ensures { OnOk result (string_bytes out.new ≡ string_bytes out.old
-//     ++ apart (seen_frame frame.now) (seen_mark m.now) (seen_mark n.now)) }
-#[inline]
-fn put_apart(
-    out: &mut String,
-    frame: &Frame<'_>,
-    m: &Mark<'_>,
-    n: &Mark<'_>,
-) -> Result<(), AllocError> {
-    put_labelled(out, frame, m)?;
-    put_gap(out, frame, m.line, n.line)?;
-    put_labelled(out, frame, n)?;
-    Ok(())
-}
-
-/// Adds the lines with two labels.
-// requires number { m.now.line < 2 ^ 60 }
-// requires second_number { n.now.line < 2 ^ 60 }
-// requires cut { frame.now.cut < 2 ^ 62 }
-// ensures { OnOk result (string_bytes out.new ≡ string_bytes out.old
-//     ++ two_labels (seen_frame frame.now) (seen_mark m.now) (seen_mark n.now)) }
-#[inline]
-pub fn put_two_labels(
-    out: &mut String,
-    frame: &Frame<'_>,
-    m: &Mark<'_>,
-    n: &Mark<'_>,
-) -> Result<(), AllocError> {
-    if m.line == n.line {
-        put_code(out, frame, m.line)?;
-        put_both(out, frame.gutter, m, n)?;
-    } else if m.line < n.line {
-        put_apart(out, frame, m, n)?;
-    } else {
-        put_apart(out, frame, n, m)?;
     }
     Ok(())
 }

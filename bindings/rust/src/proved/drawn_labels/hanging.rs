@@ -1,10 +1,10 @@
 //! How far below the signs of a line the texts of labels hang.
 
-// Extracted from crates/drawn_faults/src/hanging.rt by tools/extract: not to be edited.
+// Extracted from crates/drawn_labels/src/hanging.rt by tools/extract: not to be edited.
 // That source is proved, and each contract here is its. That this text means the same is tested:
 // by results from outside, and beside what is proved (.ci/bindings) and the original (tools/agree).
 
-use crate::proved::drawn_faults::mark::Mark;
+use crate::proved::drawn_labels::mark::Mark;
 use crate::shim::alloc::{AllocError, Global};
 use crate::shim::prelude::*;
 

@@ -1,12 +1,12 @@
 //! The source around a literal, its lines and places.
 
-// Extracted from crates/drawn_faults/src/places.rt by tools/extract: not to be edited.
+// Extracted from crates/drawn_lines/src/places.rt by tools/extract: not to be edited.
 // That source is proved, and each contract here is its. That this text means the same is tested:
 // by results from outside, and beside what is proved (.ci/bindings) and the original (tools/agree).
 
-use crate::proved::drawn_faults::extent::{Extent, Spot};
-use crate::proved::drawn_faults::glyphs::{split_first, width};
-use crate::proved::drawn_faults::printable::split_printable;
+use crate::proved::drawn_lines::extent::{Extent, Spot};
+use crate::proved::drawn_lines::glyphs::{split_first, width};
+use crate::proved::drawn_lines::printable::split_printable;
 use core::ops::Range;
 
 /// The source that a fault is drawn in: a whole file, or those lines of it that have the literal.
@@ -60,7 +60,7 @@ fn past(spot: Spot, c: char) -> Spot {
 
 /// Returns the place after printable characters.
 // requires printable { list_all is_printable front.now ≡ true }
-// requires behind_indent { spot.is_indent ≡ false }
+// requires after_indent { spot.is_indent ≡ false }
 // requires small_chars { spot.chars + length front.now < 2 ^ 62 }
 // requires small_column { spot.column + length front.now < 2 ^ 62 }
 // ensures value { result ≡ fold past spot front.now }
@@ -79,7 +79,7 @@ fn past_printable(spot: Spot, front: &str) -> Spot {
 
 /// Passes the printable characters at the start of a text that end within `width` bytes. Returns
 /// the place after them, what is left of the text, and how many of the bytes are left.
-// requires behind_indent { from.is_indent ≡ false }
+// requires after_indent { from.is_indent ≡ false }
 // requires small_chars { from.chars + length text.now < 2 ^ 60 }
 // requires small_column { from.column + 4 * length text.now < 2 ^ 61 }
 // ensures value { fold past result.0 (within result.2 (chars result.1.now))
@@ -124,18 +124,18 @@ fn pass(from: Spot, text: &str, width: usize) -> (Spot, &str, usize) {
         at = past(at, c);
         rest = tail;
         if !at.is_indent {
-            let (spot, behind, fewer) = pass_printable(at, rest, left);
+            let (spot, rest_after, fewer) = pass_printable(at, rest, left);
             at = spot;
-            rest = behind;
+            rest = rest_after;
             left = fewer;
         }
     }
     (at, rest, left)
 }
 
-/// Returns the first line of a text, and what is left of the text after that line.
+/// Returns the first line of a text, and the rest of the text after that line.
 // ensures line { result.0.now ≡ first_line text.now }
-// ensures rest { result.1.now ≡ behind_lines 1 text.now }
+// ensures rest { result.1.now ≡ after_lines 1 text.now }
 // ensures short_line { length result.0.now ≤ length text.now }
 // ensures short { length result.1.now ≤ length text.now }
 #[inline]
@@ -146,16 +146,16 @@ pub fn split_line(text: &str) -> (&str, &str) {
     }
 }
 
-/// Returns what is left of a text after its first lines.
-// ensures value { result.now ≡ behind_lines count text.now }
+/// Returns the rest of a text after its first lines.
+// ensures value { result.now ≡ after_lines count text.now }
 // ensures short { length result.now ≤ length text.now }
 #[inline]
-pub fn behind_lines(text: &str, count: usize) -> &str {
+pub fn after_lines(text: &str, count: usize) -> &str {
     let mut rest = text;
     let mut left = count;
     while left > 0 {
-        let (_, behind) = split_line(rest);
-        rest = behind;
+        let (_, rest_after) = split_line(rest);
+        rest = rest_after;
         left -= 1;
     }
     rest
@@ -166,36 +166,37 @@ pub fn behind_lines(text: &str, count: usize) -> &str {
 // ensures short { length result.now ≤ length text.now }
 #[inline]
 pub fn line(text: &str, number: usize) -> &str {
-    let (first, _) = split_line(behind_lines(text, number));
+    let (first, _) = split_line(after_lines(text, number));
     first
 }
 
-impl Picture<'_> {
-    /// Returns the byte offsets in the source at which a range of the literal begins and ends.
-    // ensures start { result.0 ≡ offset (seen_picture self.now) (pair range.now).0 }
-    // ensures end { result.1 ≡ max (offset (seen_picture self.now) (pair range.now).0)
-    //     (offset (seen_picture self.now) (pair range.now).1) }
-    #[inline]
-    pub(crate) fn offsets(&self, range: &Range<usize>) -> (usize, usize) {
-        let length = self.source.len();
-        let from = self.literal_start.saturating_add(range.start).min(length);
-        let to = self.literal_start.saturating_add(range.end).min(length);
-        (from, to.max(from))
-    }
+/// Returns the byte offsets in the source at which a range of the literal begins and ends.
+// ensures start { result.0 ≡ offset (seen_picture picture.now) (pair range.now).0 }
+// ensures end { result.1 ≡ max (offset (seen_picture picture.now) (pair range.now).0)
+//     (offset (seen_picture picture.now) (pair range.now).1) }
+#[inline]
+pub fn offsets(picture: &Picture<'_>, range: &Range<usize>) -> (usize, usize) {
+    let length = picture.source.len();
+    let from = picture
+        .literal_start
+        .saturating_add(range.start)
+        .min(length);
+    let to = picture.literal_start.saturating_add(range.end).min(length);
+    (from, to.max(from))
+}
 
-    /// Returns where a range of the literal begins and ends.
-    // requires { length self.now.source.now < 2 ^ 59 }
-    // ensures value { seen_extent result ≡ extent (seen_picture self.now) (pair range.now) }
-    // ensures small_line { result.start.line < 2 ^ 59 }
-    // ensures small_end { result.end.line < 2 ^ 59 }
-    // ensures small_chars { result.start.chars < 2 ^ 59 }
-    // ensures small_column { result.start.column < 2 ^ 61 }
-    // ensures small_end_column { result.end.column < 2 ^ 61 }
-    #[inline]
-    pub(crate) fn extent(&self, range: &Range<usize>) -> Extent {
-        let (from, to) = self.offsets(range);
-        let (start, rest, left) = pass(ORIGIN, self.source, from);
-        let (end, _, _) = pass(start, rest, left + (to - from));
-        Extent { start, end }
-    }
+/// Returns where a range of the literal begins and ends.
+// requires { length picture.now.source.now < 2 ^ 59 }
+// ensures value { seen_extent result ≡ extent (seen_picture picture.now) (pair range.now) }
+// ensures small_line { result.start.line < 2 ^ 59 }
+// ensures small_end { result.end.line < 2 ^ 59 }
+// ensures small_chars { result.start.chars < 2 ^ 59 }
+// ensures small_column { result.start.column < 2 ^ 61 }
+// ensures small_end_column { result.end.column < 2 ^ 61 }
+#[inline]
+pub fn extent_of(picture: &Picture<'_>, range: &Range<usize>) -> Extent {
+    let (from, to) = offsets(picture, range);
+    let (start, rest, left) = pass(ORIGIN, picture.source, from);
+    let (end, _, _) = pass(start, rest, left + (to - from));
+    Extent { start, end }
 }

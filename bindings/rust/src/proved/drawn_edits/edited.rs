@@ -1,17 +1,46 @@
 //! Texts with edits, line by line. Functions that return a `Result` return `Err` if an allocation
 //! fails.
 
-// Extracted from crates/drawn_faults/src/edited.rt by tools/extract: not to be edited.
+// Extracted from crates/drawn_edits/src/edited.rt by tools/extract: not to be edited.
 // That source is proved, and each contract here is its. That this text means the same is tested:
 // by results from outside, and beside what is proved (.ci/bindings) and the original (tools/agree).
 
-use crate::proved::drawn_faults::glyphs::split_first;
-use crate::proved::drawn_faults::labels::Edit;
-use crate::proved::drawn_faults::paint::{rank, Style};
-use crate::proved::drawn_faults::places::split_line;
+use crate::proved::drawn_lines::{
+    extent_of, offsets, rank, split_first, split_line, Extent, Picture, Style,
+};
 use crate::shim::alloc::{AllocError, Global};
 use crate::shim::prelude::*;
 use core::mem;
+use core::ops::Range;
+
+/// An edit that is drawn with its lines.
+#[derive(Clone, Copy)]
+pub struct Edit<'a> {
+    /// The new text.
+    pub text: &'a str,
+    /// Where the text is that it replaces.
+    pub extent: Extent,
+    /// The byte offset in the source at which that text begins.
+    pub from: usize,
+    /// The byte offset in the source at which it ends.
+    pub to: usize,
+}
+
+/// Returns an edit with its place in the source.
+// requires { length picture.now.source.now < 2 ^ 59 }
+// ensures value { seen_edit result ≡ placed (seen_picture picture.now) text.now (pair range.now) }
+// ensures small { result.extent.end.line < 2 ^ 59 }
+// ensures small_start { result.extent.start.line < 2 ^ 59 }
+#[inline]
+pub fn placed<'a>(picture: &Picture<'_>, text: &'a str, range: &Range<usize>) -> Edit<'a> {
+    let (from, to) = offsets(picture, range);
+    Edit {
+        text,
+        extent: extent_of(picture, range),
+        from,
+        to,
+    }
+}
 
 /// A part of a line.
 #[derive(Clone, Copy)]
@@ -31,7 +60,7 @@ pub struct Line<'a> {
 /// Returns the first characters of a text, as many as end within `width` bytes, and what is after
 /// them.
 // ensures front { result.0.now ≡ front width text.now }
-// ensures behind { result.1.now ≡ behind width text.now }
+// ensures rest_after { result.1.now ≡ rest_after width text.now }
 #[inline]
 pub fn split_within(text: &str, width: usize) -> (&str, &str) {
     let mut rest = text;
@@ -63,8 +92,8 @@ pub fn parts_of<'a>(
     for edit in edits {
         let from = edit.from.max(at);
         let to = edit.to.max(from);
-        let (before, behind) = split_within(rest, from - at);
-        let (removed, behind) = split_within(behind, to - from);
+        let (before, rest_after) = split_within(rest, from - at);
+        let (removed, rest_after) = split_within(rest_after, to - from);
         list.try_push(Part {
             style: Style::Plain,
             text: before,
@@ -77,7 +106,7 @@ pub fn parts_of<'a>(
             style: Style::Addition,
             text: edit.text,
         })?;
-        rest = behind;
+        rest = rest_after;
         at = to;
     }
     let (line, _) = split_line(rest);
@@ -105,7 +134,7 @@ fn end_line<'a>(
     Ok(())
 }
 
-/// Returns the first line of a text and what is after it, or `None` if the text has one line.
+/// Returns the first line of a text and the text after it, or `None` if the text has one line.
 // ensures lines { MatchOption result (slice_split is_line_feed text.now ≡ text.now ∷ [])
 //     (λ x. slice_split is_line_feed text.now
 //     ≡ x.0.now ∷ slice_split is_line_feed x.1.now) }
@@ -127,9 +156,9 @@ fn push_text<'a>(
     text: &'a str,
 ) -> Result<(), AllocError> {
     let mut rest = text;
-    while let Some((line, behind)) = split_feed(rest) {
+    while let Some((line, rest_after)) = split_feed(rest) {
         end_line(lines, row, Part { style, text: line })?;
-        rest = behind;
+        rest = rest_after;
     }
     row.try_push(Part { style, text: rest })?;
     Ok(())

@@ -1,13 +1,14 @@
-//! A row as cells, into which texts are put over one another. What begins with `put_` writes into a
-//! row or appends to `out`, and returns `Err` if an allocation fails.
+//! A row as cells, into which texts are put over one another. A function whose name begins with
+//! `put_` writes into a row or appends to `out`, and returns `Err` if an allocation fails.
 
-// Extracted from crates/drawn_faults/src/cells.rt by tools/extract: not to be edited.
+// Extracted from crates/drawn_labels/src/cells.rt by tools/extract: not to be edited.
 // That source is proved, and each contract here is its. That this text means the same is tested:
 // by results from outside, and beside what is proved (.ci/bindings) and the original (tools/agree).
 
-use crate::proved::drawn_faults::glyphs::{glyph, glyph_count, split_first};
-use crate::proved::drawn_faults::mark::Mark;
-use crate::proved::drawn_faults::paint::{has_colours, put_change, put_reset, Palette, Style};
+use crate::proved::drawn_labels::mark::Mark;
+use crate::proved::drawn_lines::{
+    glyph, glyph_count, has_colours, put_change, put_reset, split_first, Palette, Style,
+};
 use crate::shim::alloc::AllocError;
 use crate::shim::prelude::*;
 

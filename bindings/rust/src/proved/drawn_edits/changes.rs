@@ -1,23 +1,21 @@
-//! The rows of edits. What begins with `put_` appends to `out`, and returns `Err` if an allocation
-//! fails.
+//! The rows of edits. A function whose name begins with `put_` appends to `out`, and returns `Err`
+//! if an allocation fails.
 
-// Extracted from crates/drawn_faults/src/changes.rt by tools/extract: not to be edited.
+// Extracted from crates/drawn_edits/src/changes.rt by tools/extract: not to be edited.
 // That source is proved, and each contract here is its. That this text means the same is tested:
 // by results from outside, and beside what is proved (.ci/bindings) and the original (tools/agree).
 
-use crate::proved::drawn_faults::edit_rows::{
+use crate::proved::drawn_edits::edit_rows::{
     put_kept_lines, put_kept_row, put_sign_row, put_sign_rows,
 };
-use crate::proved::drawn_faults::edited::{
+use crate::proved::drawn_edits::edited::{
     are_blank, do_remove, have_addition, is_added, is_same_end, new_lines, old_lines, parts_of,
-    Line, Part,
+    Edit, Line, Part,
 };
-use crate::proved::drawn_faults::glyphs::{put_painted_run, put_run, split_first, width};
-use crate::proved::drawn_faults::labels::{Edit, Frame};
-use crate::proved::drawn_faults::lines::put_parting;
-use crate::proved::drawn_faults::paint::{Gutter, Palette, Style};
-use crate::proved::drawn_faults::places::behind_lines;
-use crate::proved::drawn_faults::rows::put_gutter;
+use crate::proved::drawn_lines::{
+    after_lines, put_gutter, put_painted_run, put_parting, put_run, split_first, width, Frame,
+    Gutter, Palette, Style,
+};
 use crate::shim::alloc::{AllocError, Global};
 use crate::shim::prelude::*;
 
@@ -198,7 +196,7 @@ fn columns_of(text: &str) -> Result<usize, AllocError> {
 /// signs the addition ends.
 // ensures added { OnOk result (string_bytes out.new
 //     ≡ string_bytes out.old ++ pluses palette gap text.now) }
-// ensures value { IfOk result (λ n. n ≡ behind_pluses text.now) }
+// ensures value { IfOk result (λ n. n ≡ after_pluses text.now) }
 #[inline]
 fn put_pluses(
     out: &mut String,
@@ -352,7 +350,7 @@ fn edited_parts<'a>(
     edits: &[Edit<'a>],
 ) -> Result<Vec<Part<'a>>, AllocError> {
     let source = frame.picture.source;
-    let text = behind_lines(source, number);
+    let text = after_lines(source, number);
     let parts = parts_of(alloc, source.len() - text.len(), text, edits)?;
     Ok(parts)
 }

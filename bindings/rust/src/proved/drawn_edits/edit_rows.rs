@@ -1,16 +1,14 @@
-//! Rows of lines with edits. What begins with `put_` appends to `out`, and returns `Err` if an
-//! allocation fails.
+//! Rows of lines with edits. A function whose name begins with `put_` appends to `out`, and returns
+//! `Err` if an allocation fails.
 
-// Extracted from crates/drawn_faults/src/edit_rows.rt by tools/extract: not to be edited.
+// Extracted from crates/drawn_edits/src/edit_rows.rt by tools/extract: not to be edited.
 // That source is proved, and each contract here is its. That this text means the same is tested:
 // by results from outside, and beside what is proved (.ci/bindings) and the original (tools/agree).
 
-use crate::proved::drawn_faults::edited::{Line, Part};
-use crate::proved::drawn_faults::glyphs::{draws_nothing, put_glyphs, put_glyphs_after};
-use crate::proved::drawn_faults::labels::Frame;
-use crate::proved::drawn_faults::lines::{put_line_number, put_number_bar};
-use crate::proved::drawn_faults::paint::{
-    has_colours, put_painted, put_reset, put_sign, Palette, Style,
+use crate::proved::drawn_edits::edited::{Line, Part};
+use crate::proved::drawn_lines::{
+    draws_nothing, has_colours, put_glyphs, put_glyphs_after, put_line_number, put_number_bar,
+    put_painted, put_reset, put_sign, Frame, Palette, Style,
 };
 use crate::shim::alloc::AllocError;
 use crate::shim::prelude::*;
@@ -120,7 +118,7 @@ fn draw_nothing(parts: &[Part<'_>]) -> bool {
     true
 }
 
-/// Adds what is after the bar of a line.
+/// Adds the text after the bar of a line.
 // ensures { OnOk result (string_bytes out.new ≡ string_bytes out.old
 //     ++ spaced (plain_text (drawn (map seen_part parts.now)))) }
 #[inline]

@@ -1,18 +1,15 @@
-//! A label over several lines. What begins with `put_` appends to `out`, and returns `Err` if an
-//! allocation fails.
+//! A label over several lines. A function whose name begins with `put_` appends to `out`, and
+//! returns `Err` if an allocation fails.
 
-// Extracted from crates/drawn_faults/src/long.rt by tools/extract: not to be edited.
+// Extracted from crates/drawn_labels/src/long.rt by tools/extract: not to be edited.
 // That source is proved, and each contract here is its. That this text means the same is tested:
 // by results from outside, and beside what is proved (.ci/bindings) and the original (tools/agree).
 
-use crate::proved::drawn_faults::glyphs::{put_painted_glyphs, put_run, split_first};
-use crate::proved::drawn_faults::labels::{Frame, Label};
-use crate::proved::drawn_faults::lines::{put_number_bar, put_source, put_source_line};
-use crate::proved::drawn_faults::paint::{
-    put_closing, put_opening, put_painted, Gutter, Palette, Style,
+use crate::proved::drawn_labels::labels::Label;
+use crate::proved::drawn_lines::{
+    line, put_closing, put_gutter, put_number_bar, put_opening, put_painted, put_painted_glyphs,
+    put_run, put_source, put_source_line, split_first, Frame, Gutter, Palette, Style,
 };
-use crate::proved::drawn_faults::places::line;
-use crate::proved::drawn_faults::rows::put_gutter;
 use crate::shim::alloc::AllocError;
 use crate::shim::prelude::*;
 
@@ -23,7 +20,7 @@ fn is_bracket(c: char) -> bool {
     c == '(' || c == ')' || c == '[' || c == ']' || c == '{' || c == '}'
 }
 
-/// Returns whether what begins with a text after `//` is a comment, but no documentation.
+/// Returns whether a line with this text after `//` is a comment, but no documentation.
 // ensures { result ≡ is_plain_comment (chars text.now) }
 #[inline]
 fn is_plain_comment(text: &str) -> bool {
@@ -33,7 +30,7 @@ fn is_plain_comment(text: &str) -> bool {
     }
 }
 
-/// Returns whether what begins with a text after `/` is a comment, but no documentation.
+/// Returns whether a line with this text after `/` is a comment, but no documentation.
 // ensures { result ≡ is_comment (chars text.now) }
 #[inline]
 fn is_comment(text: &str) -> bool {
@@ -136,13 +133,13 @@ fn put_bar_rows(
     first: usize,
     count: usize,
 ) -> Result<(), AllocError> {
-    for behind in 0..count {
-        put_bar_row(out, frame, first + behind + 1)?;
+    for rest_after in 0..count {
+        put_bar_row(out, frame, first + rest_after + 1)?;
     }
     Ok(())
 }
 
-/// Adds what is between two lines of the label that are drawn.
+/// Adds the rows between two lines of the label that are drawn.
 // requires number { first < 2 ^ 60 }
 // requires cut { frame.now.cut < 2 ^ 62 }
 // ensures { OnOk result (string_bytes out.new ≡ string_bytes out.old
@@ -250,7 +247,7 @@ fn put_last_rows(out: &mut String, frame: &Frame<'_>, label: &Label<'_>) -> Resu
     Ok(())
 }
 
-/// Adds what is between the first and the last line of a label.
+/// Adds the rows between the first and the last line of a label.
 // requires first { first < 2 ^ 59 }
 // requires last { last < 2 ^ 60 }
 // requires cut { frame.now.cut < 2 ^ 62 }
@@ -263,8 +260,8 @@ fn put_between(
     first: usize,
     last: usize,
 ) -> Result<(), AllocError> {
-    let behind = last.saturating_sub(first).saturating_sub(1);
-    let count = without_bare(frame, first, behind.min(3));
+    let rest_after = last.saturating_sub(first).saturating_sub(1);
+    let count = without_bare(frame, first, rest_after.min(3));
     put_bar_rows(out, frame, first, count)?;
     if last > first + 5 && !is_bare_line(frame, last - 1) {
         put_bar_gap(out, frame, first + count, last - 1)?;

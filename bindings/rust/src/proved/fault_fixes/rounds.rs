@@ -1,10 +1,10 @@
 //! The literal that the suggestions of its faults make of it, round by round.
 
-// Extracted from crates/drawn_faults/src/rounds.rt by tools/extract: not to be edited.
+// Extracted from crates/fault_fixes/src/rounds.rt by tools/extract: not to be edited.
 // That source is proved, and each contract here is its. That this text means the same is tested:
 // by results from outside, and beside what is proved (.ci/bindings) and the original (tools/agree).
 
-use crate::proved::drawn_faults::fixes::{round, Fixed};
+use crate::proved::fault_fixes::fixes::{round, Fixed};
 use crate::proved::rustc_parse_format::{Argument, Fault, ParseMode};
 use crate::shim::alloc::{AllocError, Global};
 use crate::shim::parser::Parser;

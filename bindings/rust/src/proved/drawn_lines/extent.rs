@@ -1,6 +1,6 @@
 //! Places in a source, and ranges between them.
 
-// Extracted from crates/drawn_faults/src/extent.rt by tools/extract: not to be edited.
+// Extracted from crates/drawn_lines/src/extent.rt by tools/extract: not to be edited.
 // That source is proved, and each contract here is its. That this text means the same is tested:
 // by results from outside, and beside what is proved (.ci/bindings) and the original (tools/agree).
 

@@ -1,7 +1,7 @@
 //! Prefixes of characters that are drawn as they are, found sixteen bytes at a time. Of these, the
 //! printable ones of ASCII take one column.
 
-// Extracted from crates/drawn_faults/src/printable.rt by tools/extract: not to be edited.
+// Extracted from crates/drawn_lines/src/printable.rt by tools/extract: not to be edited.
 // That source is proved, and each contract here is its. That this text means the same is tested:
 // by results from outside, and beside what is proved (.ci/bindings) and the original (tools/agree).
 

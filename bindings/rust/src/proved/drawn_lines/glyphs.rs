@@ -1,19 +1,19 @@
-//! Characters as they are drawn, and the columns that they take. What begins with `put_` appends
-//! to `out`, and returns `Err` if an allocation fails.
+//! Characters as they are drawn, and the columns that they take. A function whose name begins with
+//! `put_` appends to `out`, and returns `Err` if an allocation fails.
 
-// Extracted from crates/drawn_faults/src/glyphs.rt by tools/extract: not to be edited.
+// Extracted from crates/drawn_lines/src/glyphs.rt by tools/extract: not to be edited.
 // That source is proved, and each contract here is its. That this text means the same is tested:
 // by results from outside, and beside what is proved (.ci/bindings) and the original (tools/agree).
 
-use crate::proved::drawn_faults::paint::{
+use crate::proved::drawn_lines::paint::{
     has_colours, put_change, put_closing, put_opening, Palette, Style,
 };
-use crate::proved::drawn_faults::printable::{split_as_is, split_printable};
+use crate::proved::drawn_lines::printable::{split_as_is, split_printable};
 use crate::shim::alloc::AllocError;
 use crate::shim::prelude::*;
 use crate::shim::unicode_width::UnicodeWidthChar;
 
-/// Returns the first character and what is after it, or `None` if the text is empty.
+/// Returns the first character and the text after it, or `None` if the text is empty.
 // ensures parts { MatchOption result (chars text.now ≡ [])
 //     (λ x. chars text.now ≡ x.0 ∷ chars x.1.now) }
 // ensures shorter { IfSome result (λ x. length x.1.now < length text.now) }
@@ -199,16 +199,16 @@ fn put_as_is<'a>(
 // ensures harmless { IsHarmless (encode_utf8_all (drop skipped (glyphs (chars text.now)))) }
 #[inline]
 pub fn put_glyphs(out: &mut String, text: &str, skipped: usize) -> Result<(), AllocError> {
-    let (front, behind) = split_printable(text, text.len());
-    if skipped == 0 && behind.is_empty() {
+    let (front, rest_after) = split_printable(text, text.len());
+    if skipped == 0 && rest_after.is_empty() {
         return Ok(out.try_push_str(front)?);
     }
     let (mut rest, mut skip) = put_printable(out, text, skipped)?;
     while let Some((c, tail)) = split_first(rest) {
         let count = glyph_count(c);
         put_run(out, glyph(c), count.saturating_sub(skip))?;
-        let (behind, fewer) = put_as_is(out, tail, skip.saturating_sub(count))?;
-        rest = behind;
+        let (rest_after, fewer) = put_as_is(out, tail, skip.saturating_sub(count))?;
+        rest = rest_after;
         skip = fewer;
     }
     Ok(())

@@ -1,6 +1,6 @@
 //! A label as it is drawn in a line.
 
-// Extracted from crates/drawn_faults/src/mark.rt by tools/extract: not to be edited.
+// Extracted from crates/drawn_labels/src/mark.rt by tools/extract: not to be edited.
 // That source is proved, and each contract here is its. That this text means the same is tested:
 // by results from outside, and beside what is proved (.ci/bindings) and the original (tools/agree).
 

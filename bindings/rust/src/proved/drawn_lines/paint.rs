@@ -1,7 +1,7 @@
-//! Texts in the styles that rustc gives them on a terminal. What begins with `put_` appends to
-//! `out`, and returns `Err` if an allocation fails.
+//! Texts in the styles that rustc gives them on a terminal. A function whose name begins with
+//! `put_` appends to `out`, and returns `Err` if an allocation fails.
 
-// Extracted from crates/drawn_faults/src/paint.rt by tools/extract: not to be edited.
+// Extracted from crates/drawn_lines/src/paint.rt by tools/extract: not to be edited.
 // That source is proved, and each contract here is its. That this text means the same is tested:
 // by results from outside, and beside what is proved (.ci/bindings) and the original (tools/agree).
 
@@ -12,11 +12,11 @@ use crate::shim::prelude::*;
 #[derive(Clone, Copy)]
 pub enum Palette {
     Colourless,
-    /// Those of an error.
+    /// The colours of an error.
     Error,
-    /// Those of a warning.
+    /// The colours of a warning.
     Warning,
-    /// Those of a note that shows something.
+    /// The colours of a note that shows something.
     Note,
 }
 
@@ -158,7 +158,7 @@ pub fn put_sign(
     Ok(())
 }
 
-/// Adds what is before a text in a style.
+/// Adds the escapes before a text in a style.
 // ensures { OnOk result (string_bytes out.new
 //     ≡ string_bytes out.old ++ opening palette style) }
 #[inline]
@@ -169,7 +169,7 @@ pub fn put_opening(out: &mut String, palette: Palette, style: Style) -> Result<(
     Ok(())
 }
 
-/// Adds what is after a text in a style.
+/// Adds the escape after a text in a style.
 // ensures { OnOk result (string_bytes out.new ≡ string_bytes out.old ++ closing palette) }
 #[inline]
 pub fn put_closing(out: &mut String, palette: Palette) -> Result<(), AllocError> {
@@ -211,7 +211,7 @@ pub fn put_gutter_bar(out: &mut String, palette: Palette) -> Result<(), AllocErr
     Ok(())
 }
 
-/// Adds what a note begins with, after the columns of the gutter.
+/// Adds the start of a note, after the columns of the gutter.
 // ensures { OnOk result (string_bytes out.new ≡ string_bytes out.old
 //     ++ (codes " " ++ (painted palette Secondary (codes "= ")
 //     ++ (painted palette Bold (codes "note") ++ codes ": ")))) }

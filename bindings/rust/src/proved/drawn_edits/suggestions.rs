@@ -1,14 +1,13 @@
-//! A suggestion with its old and its new lines. What begins with `put_` appends to `out`, and
-//! returns `Err` if an allocation fails.
+//! A suggestion with its old and its new lines. A function whose name begins with `put_` appends to
+//! `out`, and returns `Err` if an allocation fails.
 
-// Extracted from crates/drawn_faults/src/suggestions.rt by tools/extract: not to be edited.
+// Extracted from crates/drawn_edits/src/suggestions.rt by tools/extract: not to be edited.
 // That source is proved, and each contract here is its. That this text means the same is tested:
 // by results from outside, and beside what is proved (.ci/bindings) and the original (tools/agree).
 
-use crate::proved::drawn_faults::changes::put_edits;
-use crate::proved::drawn_faults::glyphs::put_glyphs;
-use crate::proved::drawn_faults::labels::{Edit, Frame};
-use crate::proved::drawn_faults::paint::{put_painted, Palette, Style};
+use crate::proved::drawn_edits::changes::put_edits;
+use crate::proved::drawn_edits::edited::Edit;
+use crate::proved::drawn_lines::{put_glyphs, put_painted, Frame, Palette, Style};
 use crate::shim::alloc::AllocError;
 use crate::shim::prelude::*;
 
@@ -21,7 +20,7 @@ pub fn put_help_word(out: &mut String, palette: Palette) -> Result<(), AllocErro
     Ok(())
 }
 
-/// Adds what a suggestion is.
+/// Adds the title of a suggestion.
 // ensures { OnOk result (string_bytes out.new
 //     ≡ string_bytes out.old ++ help_title palette text.now) }
 #[inline]

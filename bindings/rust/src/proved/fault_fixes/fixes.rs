@@ -1,7 +1,7 @@
 //! What the suggestions of errors make of a literal: the edits that a machine may apply, and the
 //! literal with them applied.
 
-// Extracted from crates/drawn_faults/src/fixes.rt by tools/extract: not to be edited.
+// Extracted from crates/fault_fixes/src/fixes.rt by tools/extract: not to be edited.
 // That source is proved, and each contract here is its. That this text means the same is tested:
 // by results from outside, and beside what is proved (.ci/bindings) and the original (tools/agree).
 
@@ -120,15 +120,15 @@ fn front(bytes: &[u8], n: usize) -> &[u8] {
 /// Returns the bytes after the first n, or none if there are no more.
 // ensures { result.now ≡ drop n bytes.now }
 #[inline]
-fn behind(bytes: &[u8], n: usize) -> &[u8] {
+fn rest_after(bytes: &[u8], n: usize) -> &[u8] {
     bytes.get(n..).unwrap_or(&[])
 }
 
 /// A text in the middle of its edits.
 struct Edited<'t> {
-    /// What is written of the text with its edits.
+    /// The part of the text with its edits that is written.
     bytes: Vec<u8>,
-    /// What is left of the text.
+    /// The rest of the text.
     rest: &'t [u8],
     /// The byte offset at which that starts.
     start: usize,
@@ -153,7 +153,7 @@ fn make(
         let kept = front(edited.rest, edit.span.start.saturating_sub(edited.start));
         edited.bytes.try_extend_from_slice(kept)?;
         edited.bytes.try_extend_from_slice(edit.text.as_bytes())?;
-        edited.rest = behind(edited.rest, edit.span.end.saturating_sub(edited.start));
+        edited.rest = rest_after(edited.rest, edit.span.end.saturating_sub(edited.start));
         edited.start = edit.span.end;
         edited.end = edit.span.end;
     }

@@ -1,0 +1,343 @@
+//! The call of `dephungo.h` over the crate for Rust, for hosts on which the proved library does not
+//! run: `cargo build --release` makes `libdephungo_c.a`. It writes the same records, and never returns
+//! `NO_MEMORY`: a failed allocation aborts. All that is unsafe is in this file.
+#![deny(unsafe_op_in_unsafe_fn)]
+#[path = "../../../../crates/flat_reading/src/records.rt"]
+#[allow(dead_code)]
+pub mod records;
+
+use dephungo::faults::{error_of, faults_of};
+use dephungo::{AlignCenter, AlignLeft, AlignRight, AlignUnknown, Argument, ArgumentImplicitlyIs};
+use dephungo::{ArgumentIs, ArgumentNamed, Count, CountImplied, CountIs, CountIsName, CountIsParam};
+use dephungo::{CountIsStar, DebugHex, FormatSpec, ParseError, ParseMode, Parser, Piece, Sign};
+use dephungo::Suggestion;
+use records::*;
+use std::ops::Range;
+
+const NOWHERE: Extent = Extent { from: 0, to: 0 };
+const NONE: MaybeExtent = MaybeExtent { is_present: 0, from: 0, to: 0 };
+/// The most bytes of an input, and the most hashes of a raw literal.
+const LIMIT: u64 = 1_000_000_000_000;
+
+fn extent(range: &Range<usize>) -> Extent {
+    Extent { from: range.start, to: range.end }
+}
+
+fn maybe(range: Option<&Range<usize>>) -> MaybeExtent {
+    range.map_or(NONE, |it| MaybeExtent { is_present: 1, from: it.start, to: it.end })
+}
+
+/// Where a text of an input stands in it, or nowhere if it is another text.
+fn place(input: &str, text: &str) -> Option<Range<usize>> {
+    let start = (text.as_ptr() as usize).wrapping_sub(input.as_ptr() as usize);
+    (start <= input.len() && text.len() <= input.len() - start).then(|| start..start + text.len())
+}
+
+fn place_in(input: &str, text: &str) -> Extent {
+    place(input, text).as_ref().map_or(NOWHERE, extent)
+}
+
+/// A buffer of the caller, and how many records there would be in it if all fitted.
+struct Buffer<'b, T> {
+    room: &'b mut [T],
+    used: usize,
+}
+
+impl<T> Buffer<'_, T> {
+    fn push(&mut self, record: T) {
+        if let Some(place) = self.room.get_mut(self.used) {
+            *place = record;
+        }
+        self.used += 1;
+    }
+
+    fn fits(&self) -> bool {
+        self.used <= self.room.len()
+    }
+}
+
+impl Buffer<'_, u8> {
+    fn push_text(&mut self, text: &str) -> Extent {
+        let from = self.used;
+        text.bytes().for_each(|byte| self.push(byte));
+        Extent { from, to: self.used }
+    }
+}
+
+fn count(input: &str, count: &Count<'_>) -> CountRecord {
+    let (kind, number, name, name_span) = match count {
+        CountImplied => (COUNT_IMPLIED, 0, NOWHERE, NOWHERE),
+        CountIs(n) => (COUNT_IS, usize::from(*n), NOWHERE, NOWHERE),
+        CountIsName(name, span) => (COUNT_IS_NAME, 0, place_in(input, name), extent(span)),
+        CountIsParam(n) => (COUNT_IS_PARAM, *n, NOWHERE, NOWHERE),
+        CountIsStar(n) => (COUNT_IS_STAR, *n, NOWHERE, NOWHERE),
+    };
+    CountRecord { kind, number, name, name_span }
+}
+
+fn spec(input: &str, format: &FormatSpec<'_>) -> Spec {
+    let (type_kind, ty) = match (format.ty, place(input, format.ty)) {
+        ("", _) => (TYPE_NONE, NOWHERE),
+        (_, Some(place)) => (TYPE_TEXT, extent(&place)),
+        ("x", None) => (TYPE_LOWER_HEX, NOWHERE),
+        ("X", None) => (TYPE_UPPER_HEX, NOWHERE),
+        (_, None) => (TYPE_DEBUG, NOWHERE),
+    };
+    Spec {
+        fill: format.fill.map_or(NO_FILL, u32::from),
+        align: match format.align {
+            AlignUnknown => ALIGN_UNKNOWN,
+            AlignLeft => ALIGN_LEFT,
+            AlignRight => ALIGN_RIGHT,
+            AlignCenter => ALIGN_CENTER,
+        },
+        sign: match format.sign {
+            None => SIGN_NONE,
+            Some(Sign::Plus) => SIGN_PLUS,
+            Some(Sign::Minus) => SIGN_MINUS,
+        },
+        debug_hex: match format.debug_hex {
+            None => HEX_NONE,
+            Some(DebugHex::Lower) => HEX_LOWER,
+            Some(DebugHex::Upper) => HEX_UPPER,
+        },
+        alternate: format.alternate.into(),
+        zero_pad: format.zero_pad.into(),
+        type_kind,
+        width: count(input, &format.width),
+        precision: count(input, &format.precision),
+        ty,
+        fill_span: maybe(format.fill_span.as_ref()),
+        width_span: maybe(format.width_span.as_ref()),
+        precision_span: maybe(format.precision_span.as_ref()),
+        ty_span: maybe(format.ty_span.as_ref()),
+    }
+}
+
+/// A step with an argument, and without the state after it.
+fn argument(input: &str, argument: &Argument<'_>, specs: &mut Buffer<'_, Spec>) -> Step {
+    let (position, number, text) = match argument.position {
+        ArgumentImplicitlyIs(n) => (POSITION_IMPLICIT, n, NOWHERE),
+        ArgumentIs(n) => (POSITION_INDEX, n, NOWHERE),
+        ArgumentNamed(name) => (POSITION_NAMED, 0, place_in(input, name)),
+    };
+    let is_default = argument.format == FormatSpec::default();
+    if !is_default {
+        specs.push(spec(input, &argument.format));
+    }
+    let spec = if is_default { 0 } else { specs.used };
+    let position_span = extent(&argument.position_span);
+    Step { kind: PIECE_ARGUMENT, position, number, text, position_span, spec, ..blank_step() }
+}
+
+fn blank_step() -> Step {
+    Step {
+        kind: PIECE_NONE,
+        position: POSITION_IMPLICIT,
+        number: 0,
+        text: NOWHERE,
+        position_span: NOWHERE,
+        spec: 0,
+        place: NONE,
+        read: 0,
+        next: 0,
+        lines: 0,
+        peek: NONE,
+        peek_ahead: NONE,
+    }
+}
+
+fn fault(error: &ParseError, step: usize, texts: &mut Buffer<'_, u8>) -> Fault {
+    let mut text = |text: &str| texts.push_text(text);
+    let mut maybe_text = |it: Option<&String>| {
+        it.map_or(NONE, |it| {
+            let Extent { from, to } = text(it);
+            MaybeExtent { is_present: 1, from, to }
+        })
+    };
+    let second = error.secondary_label.as_ref();
+    let note = maybe_text(error.note.as_ref());
+    let second_label = maybe_text(second.map(|(label, _)| label));
+    let (suggestion, suggestion_span, suggestion_text) = match &error.suggestion {
+        Suggestion::None => (MEND_NONE, NOWHERE, NOWHERE),
+        Suggestion::UsePositional => (MEND_USE_POSITIONAL, NOWHERE, NOWHERE),
+        Suggestion::RemoveRawIdent(at) => (MEND_REMOVE_RAW_IDENT, extent(at), NOWHERE),
+        Suggestion::ReorderFormatParameter(at, new) => {
+            (MEND_REORDER_FORMAT_PARAMETER, extent(at), text(new))
+        }
+        Suggestion::AddMissingColon(at) => (MEND_ADD_MISSING_COLON, extent(at), NOWHERE),
+        Suggestion::UseRustDebugPrintingMacro => {
+            (MEND_USE_RUST_DEBUG_PRINTING_MACRO, NOWHERE, NOWHERE)
+        }
+    };
+    Fault {
+        description: text(&error.description),
+        note,
+        label: text(&error.label),
+        span: extent(&error.span),
+        second_label,
+        second_span: second.map_or(NOWHERE, |(_, span)| extent(span)),
+        suggestion,
+        suggestion_span,
+        suggestion_text,
+        step,
+    }
+}
+
+/// The places of the next two characters, if they are wanted.
+fn peeks(parser: &Parser<'_>, options: &Options) -> (MaybeExtent, MaybeExtent) {
+    if options.peeks == 0 {
+        return (NONE, NONE);
+    }
+    let [next, after_next] = [parser.peek(), parser.peek_ahead()];
+    (maybe(next.map(|it| it.0).as_ref()), maybe(after_next.map(|it| it.0).as_ref()))
+}
+
+/// An input, how it is read, and its mode.
+struct Task<'a> {
+    input: &'a str,
+    style: Option<usize>,
+    snippet: Option<String>,
+    mode: ParseMode,
+}
+
+/// What is asked for, or the code for what is wrong in it.
+fn task<'a>(input: &'a [u8], snippet: &[u8], options: &Options) -> Result<Task<'a>, u32> {
+    let mode = match options.mode {
+        MODE_FORMAT => ParseMode::Format,
+        MODE_INLINE_ASM => ParseMode::InlineAsm,
+        MODE_DIAGNOSTIC => ParseMode::Diagnostic,
+        MODE_DIAGNOSTIC_NAMED => ParseMode::DiagnosticNamed,
+        _ => return Err(NO_SUCH_MODE),
+    };
+    let input = std::str::from_utf8(input).map_err(|_| NOT_TEXT)?;
+    let snippet = match options.has_snippet {
+        0 => None,
+        _ => Some(std::str::from_utf8(snippet).map_err(|_| SNIPPET_NOT_TEXT)?.to_string()),
+    };
+    let style = (options.is_raw != 0).then_some(options.hashes);
+    if style.unwrap_or(0) as u64 > LIMIT || input.len() as u64 > LIMIT {
+        return Err(TOO_LONG);
+    }
+    Ok(Task { input, style, snippet, mode })
+}
+
+/// Reads an input into buffers, as `dephungo_read` does.
+#[allow(clippy::too_many_arguments)]
+fn read(
+    input: &[u8],
+    snippet: &[u8],
+    options: &Options,
+    steps: &mut [Step],
+    specs: &mut [Spec],
+    faults: &mut [Fault],
+    texts: &mut [u8],
+    lines: &mut [Extent],
+    answer: &mut Answer,
+) -> u32 {
+    let Task { input, style, snippet, mode } = match task(input, snippet, options) {
+        Ok(task) => task,
+        Err(code) => return code,
+    };
+    let newline = options.appended_newline != 0;
+    let mut found = faults_of(input, style, snippet.clone(), newline, mode).into_iter();
+    let mut parser = Parser::new(input, style, snippet, newline, mode);
+    let (peek, peek_ahead) = peeks(&parser, options);
+    let mut steps = Buffer { room: steps, used: 0 };
+    let mut specs = Buffer { room: specs, used: 0 };
+    // (the last fault that goes to the front is the first one of the list)
+    let (mut fronts, mut backs) = (vec![], vec![]);
+    loop {
+        let (is_end, places) = (parser.peek().is_none(), parser.arg_places.len());
+        let piece = parser.next();
+        for fault in found.by_ref().take(parser.errors.len()) {
+            let list = if fault.is_front() { &mut fronts } else { &mut backs };
+            list.push((error_of(&fault), steps.used));
+        }
+        parser.errors.clear();
+        let step = match &piece {
+            None => blank_step(),
+            Some(Piece::Lit(text)) => {
+                Step { kind: PIECE_TEXT, text: place_in(input, text), ..blank_step() }
+            }
+            Some(Piece::NextArgument(it)) => argument(input, it, &mut specs),
+        };
+        let closed = parser.arg_places.get(places).filter(|_| parser.is_source_literal);
+        let (peek, peek_ahead) = peeks(&parser, options);
+        steps.push(Step {
+            place: maybe(closed),
+            read: parser.peek().map_or(input.len(), |(_, at, _)| at),
+            next: parser.curarg,
+            lines: parser.line_spans.len(),
+            peek,
+            peek_ahead,
+            ..step
+        });
+        if is_end {
+            break;
+        }
+    }
+    let mut faults = Buffer { room: faults, used: 0 };
+    let mut texts = Buffer { room: texts, used: 0 };
+    for (error, step) in fronts.iter().rev().chain(&backs) {
+        faults.push(fault(error, *step, &mut texts));
+    }
+    let mut lines = Buffer { room: lines, used: 0 };
+    parser.line_spans.iter().for_each(|it| lines.push(extent(it)));
+    *answer = Answer {
+        steps: steps.used,
+        specs: specs.used,
+        faults: faults.used,
+        texts: texts.used,
+        lines: lines.used,
+        fronts: fronts.len(),
+        is_source_literal: parser.is_source_literal.into(),
+        peek,
+        peek_ahead,
+    };
+    let fits = steps.fits() && specs.fits() && faults.fits() && texts.fits() && lines.fits();
+    if fits { DONE } else { SHORT }
+}
+
+/// The call that `dephungo.h` describes.
+///
+/// # Safety
+///
+/// No pointer is null, each has as much behind it as its length or its room says, and what is written
+/// overlaps nothing else.
+#[no_mangle]
+#[allow(clippy::too_many_arguments)]
+pub unsafe extern "C" fn dephungo_read(
+    input: *const u8,
+    input_length: usize,
+    snippet: *const u8,
+    snippet_length: usize,
+    options: *const Options,
+    steps: *mut Step,
+    step_room: usize,
+    specs: *mut Spec,
+    spec_room: usize,
+    faults: *mut Fault,
+    fault_room: usize,
+    texts: *mut u8,
+    text_room: usize,
+    lines: *mut Extent,
+    line_room: usize,
+    answer: *mut Answer,
+) -> u32 {
+    use std::slice::{from_raw_parts, from_raw_parts_mut};
+    // SAFETY: the caller promises all of it, and records and bytes may hold any numbers.
+    unsafe {
+        read(
+            from_raw_parts(input, input_length),
+            from_raw_parts(snippet, snippet_length),
+            &*options,
+            from_raw_parts_mut(steps, step_room),
+            from_raw_parts_mut(specs, spec_room),
+            from_raw_parts_mut(faults, fault_room),
+            from_raw_parts_mut(texts, text_room),
+            from_raw_parts_mut(lines, line_room),
+            &mut *answer,
+        )
+    }
+}

@@ -1,0 +1,17 @@
+//! Edits of a source as rustc draws them: the lines that they change, and the new ones.
+
+// Extracted from crates/drawn_edits/src/lib.rt by tools/extract: not to be edited.
+// That source is proved, and each contract here is its. That this text means the same is tested:
+// by results from outside, and beside what is proved (.ci/bindings) and the original (tools/agree).
+
+pub(crate) mod changes;
+pub(crate) mod edit_rows;
+pub(crate) mod edited;
+pub(crate) mod suggestions;
+
+#[cfg(feature = "std")]
+pub use changes::put_edits;
+pub use edited::{placed, Edit};
+pub use suggestions::put_edit;
+#[cfg(feature = "std")]
+pub use suggestions::put_help_word;

@@ -1,0 +1,105 @@
+//! Labels of ranges of the source, and lines with one or two of them. A function whose name begins
+//! with `put_` appends to `out`, and returns `Err` if an allocation fails.
+
+// Extracted from crates/drawn_labels/src/labels.rt by tools/extract: not to be edited.
+// That source is proved, and each contract here is its. That this text means the same is tested:
+// by results from outside, and beside what is proved (.ci/bindings) and the original (tools/agree).
+
+use crate::proved::drawn_labels::mark::Mark;
+use crate::proved::drawn_labels::rows::{put_both, put_one};
+use crate::proved::drawn_lines::{put_code, put_gap, Extent, Frame};
+use crate::shim::alloc::AllocError;
+use crate::shim::prelude::*;
+
+/// A label of a range of the source.
+#[derive(Clone, Copy)]
+pub struct Label<'a> {
+    /// The sign under its columns.
+    pub sign: char,
+    /// Its text.
+    pub text: &'a str,
+    /// Where it is.
+    pub extent: Extent,
+}
+
+/// Returns a label in the line in which it begins.
+// requires { label.now.extent.start.column < 2 ^ 61 }
+// ensures value { seen_mark result ≡ mark cut (seen_label label.now) }
+// ensures line { result.line ≡ label.now.extent.start.line }
+#[inline]
+pub fn mark_of<'a>(label: &Label<'a>, cut: usize) -> Mark<'a> {
+    let start = label.extent.start;
+    let end = label.extent.end;
+    let from = start.column.saturating_sub(cut);
+    let to = if end.line == start.line {
+        end.column.saturating_sub(cut)
+    } else {
+        0
+    };
+    Mark {
+        line: start.line,
+        from,
+        to: to.max(from + 1),
+        sign: label.sign,
+        text: label.text,
+    }
+}
+
+/// Adds a line of the source with a label.
+// requires number { mark.now.line < 2 ^ 61 }
+// requires cut { frame.now.cut < 2 ^ 62 }
+// ensures { OnOk result (string_bytes out.new ≡ string_bytes out.old
+//     ++ labelled (seen_frame frame.now) (seen_mark mark.now)) }
+#[inline]
+pub fn put_labelled(
+    out: &mut String,
+    frame: &Frame<'_>,
+    mark: &Mark<'_>,
+) -> Result<(), AllocError> {
+    put_code(out, frame, mark.line)?;
+    put_one(out, frame.gutter, mark)?;
+    Ok(())
+}
+
+/// Adds two lines with labels, of which `m` is the first one.
+// requires number { m.now.line < 2 ^ 60 }
+// requires second_number { n.now.line < 2 ^ 60 }
+// requires cut { frame.now.cut < 2 ^ 62 }
+// ensures { OnOk result (string_bytes out.new ≡ string_bytes out.old
+//     ++ apart (seen_frame frame.now) (seen_mark m.now) (seen_mark n.now)) }
+#[inline]
+fn put_apart(
+    out: &mut String,
+    frame: &Frame<'_>,
+    m: &Mark<'_>,
+    n: &Mark<'_>,
+) -> Result<(), AllocError> {
+    put_labelled(out, frame, m)?;
+    put_gap(out, frame, m.line, n.line)?;
+    put_labelled(out, frame, n)?;
+    Ok(())
+}
+
+/// Adds the lines with two labels.
+// requires number { m.now.line < 2 ^ 60 }
+// requires second_number { n.now.line < 2 ^ 60 }
+// requires cut { frame.now.cut < 2 ^ 62 }
+// ensures { OnOk result (string_bytes out.new ≡ string_bytes out.old
+//     ++ two_labels (seen_frame frame.now) (seen_mark m.now) (seen_mark n.now)) }
+#[inline]
+pub fn put_two_labels(
+    out: &mut String,
+    frame: &Frame<'_>,
+    m: &Mark<'_>,
+    n: &Mark<'_>,
+) -> Result<(), AllocError> {
+    if m.line == n.line {
+        put_code(out, frame, m.line)?;
+        put_both(out, frame.gutter, m, n)?;
+    } else if m.line < n.line {
+        put_apart(out, frame, m, n)?;
+    } else {
+        put_apart(out, frame, n, m)?;
+    }
+    Ok(())
+}

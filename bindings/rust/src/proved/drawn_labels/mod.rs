@@ -1,0 +1,27 @@
+//! Labels under lines of a source as rustc draws them: one or two of an error, any number of them
+//! in a line, and one over several lines.
+
+// Extracted from crates/drawn_labels/src/lib.rt by tools/extract: not to be edited.
+// That source is proved, and each contract here is its. That this text means the same is tested:
+// by results from outside, and beside what is proved (.ci/bindings) and the original (tools/agree).
+
+pub(crate) mod cells;
+#[cfg(feature = "std")]
+pub(crate) mod hanging;
+pub(crate) mod labels;
+pub(crate) mod long;
+pub(crate) mod mark;
+#[cfg(feature = "std")]
+pub(crate) mod marks;
+#[cfg(feature = "std")]
+pub(crate) mod order;
+pub(crate) mod rows;
+
+pub use labels::{mark_of, put_labelled, put_two_labels, Label};
+pub use long::put_long;
+#[cfg(feature = "std")]
+pub use mark::Mark;
+#[cfg(feature = "std")]
+pub use marks::put_mark_rows;
+#[cfg(feature = "std")]
+pub use order::from_right;

@@ -1,0 +1,54 @@
+//! The layout of a picture.
+
+// Extracted from crates/drawn_lines/src/frame.rt by tools/extract: not to be edited.
+// That source is proved, and each contract here is its. That this text means the same is tested:
+// by results from outside, and beside what is proved (.ci/bindings) and the original (tools/agree).
+
+use crate::proved::drawn_lines::glyphs::indent;
+use crate::proved::drawn_lines::paint::Gutter;
+use crate::proved::drawn_lines::places::{after_lines, Picture};
+
+/// How a picture is laid out.
+#[derive(Clone, Copy)]
+pub struct Frame<'a> {
+    /// The source.
+    pub picture: &'a Picture<'a>,
+    /// The columns of the numbers of the lines, and the colours.
+    pub gutter: Gutter,
+    /// How many columns at the start of each line are cut.
+    pub cut: usize,
+}
+
+/// Returns the indent of a line of the source, unless it is blank.
+// requires { length picture.now.source.now < 2 ^ 59 }
+// ensures value { result ≡ line_indent (seen_picture picture.now) number }
+// ensures small { IfSome result (λ n. n < 2 ^ 62) }
+#[inline]
+pub fn line_indent(picture: &Picture<'_>, number: usize) -> Option<usize> {
+    indent(after_lines(picture.source, number))
+}
+
+/// Returns how many columns are cut of lines with an indent.
+// ensures value { result ≡ cut_of indent }
+// ensures less { result ≤ indent }
+#[inline]
+pub fn cut_of(indent: usize) -> usize {
+    if indent > 26 {
+        indent - 22
+    } else {
+        0
+    }
+}
+
+/// Returns the number of digits of a number.
+// ensures { result ≡ length (decimal number) }
+#[inline]
+pub fn digits(number: usize) -> usize {
+    let mut rest = number;
+    let mut count = 1;
+    while rest >= 10 {
+        rest /= 10;
+        count += 1;
+    }
+    count
+}

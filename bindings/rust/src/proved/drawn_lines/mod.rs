@@ -1,0 +1,34 @@
+//! Lines of a source as rustc draws them: the characters and the columns that these take, colours,
+//! places, and the gutter with the numbers of the lines.
+
+// Extracted from crates/drawn_lines/src/lib.rt by tools/extract: not to be edited.
+// That source is proved, and each contract here is its. That this text means the same is tested:
+// by results from outside, and beside what is proved (.ci/bindings) and the original (tools/agree).
+
+pub(crate) mod extent;
+pub(crate) mod frame;
+pub(crate) mod glyphs;
+pub(crate) mod lines;
+pub(crate) mod paint;
+pub(crate) mod places;
+pub(crate) mod printable;
+
+pub use extent::{Extent, Spot};
+pub use frame::{cut_of, digits, line_indent, Frame};
+pub use glyphs::{
+    draws_nothing, glyph, glyph_count, put_glyphs, put_glyphs_after, put_painted_glyphs,
+    put_painted_run, put_run, split_first, width,
+};
+pub use lines::{
+    put_code, put_decimal, put_gap, put_gutter, put_line_number, put_number_bar, put_parting,
+    put_source, put_source_line,
+};
+pub use paint::{
+    has_colours, palette_of, put_change, put_closing, put_note_sign, put_opening, put_painted,
+    put_reset, put_sign, rank, Gutter, Palette, Style,
+};
+#[cfg(feature = "std")]
+pub use places::ORIGIN;
+pub use places::{after_lines, extent_of, line, offsets, split_line, Picture};
+#[cfg(feature = "std")]
+pub use printable::{is_ascii_or_as_is, is_drawn_as_is};

@@ -1,0 +1,14 @@
+//! The edits that the suggestions of faults in a string literal have: [`edits`] finds them, and
+//! [`fix`] applies them.
+
+// Extracted from crates/fault_fixes/src/lib.rt by tools/extract: not to be edited.
+// That source is proved, and each contract here is its. That this text means the same is tested:
+// by results from outside, and beside what is proved (.ci/bindings) and the original (tools/agree).
+
+pub(crate) mod errors;
+pub(crate) mod fixes;
+pub(crate) mod rounds;
+
+pub use errors::errors_of;
+pub use fixes::{edits, is_offered, Edit, Fixed};
+pub use rounds::fix;

@@ -1,0 +1,131 @@
+//! A part of a file, whose arguments are searched for tokens.
+
+// Extracted from crates/format_calls/src/part.rt by tools/extract: not to be edited.
+// That source is proved, and each contract here is its. That this text means the same is tested:
+// by results from outside, and beside what is proved (.ci/bindings) and the original (tools/agree).
+
+use crate::proved::format_calls::marks::is_mark_of;
+use crate::proved::format_calls::modes::is_text;
+use crate::proved::format_calls::split::Argument;
+use crate::proved::rust_trees::{Source, Token};
+use crate::shim::alloc::{AllocError, Global};
+use crate::shim::prelude::*;
+
+/// A kind of token that arguments are searched for.
+#[derive(Clone, Copy)]
+pub enum Wanted {
+    /// `$`, which begins a variable of a macro, or `#`, which does so in `quote!`.
+    Variable,
+    /// The word `raw`.
+    Raw,
+}
+
+/// Returns whether arguments are searched for this token.
+// ensures { result ≡ is_wanted wanted (leaf token.now) }
+#[inline]
+fn is_wanted(wanted: Wanted, token: &Token<'_>) -> bool {
+    match wanted {
+        Wanted::Variable => is_mark_of(token, b'$') || is_mark_of(token, b'#'),
+        Wanted::Raw => is_text(token, "raw"),
+    }
+}
+
+/// Returns whether one of these tokens is wanted.
+// ensures { result ≡ list_any (is_wanted wanted) (map leaf tokens.now) }
+#[inline]
+fn is_one_wanted(tokens: &[Token<'_>], wanted: Wanted) -> bool {
+    for token in tokens {
+        if is_wanted(wanted, token) {
+            return true;
+        }
+    }
+    false
+}
+
+/// Returns for each number of tokens from the first one on how many of them end with the last one
+/// that is wanted, or nothing if none is. Returns `Err` if an allocation fails.
+// ensures { IfOk result (λ v. AreLast wanted (map leaf tokens.now) v.items) }
+#[inline]
+fn last_ones(
+    alloc: Global,
+    tokens: &[Token<'_>],
+    wanted: Wanted,
+) -> Result<Vec<usize>, AllocError> {
+    let mut found = Vec::made_in(alloc);
+    if !is_one_wanted(tokens, wanted) {
+        return Ok(found);
+    }
+    let mut last = 0;
+    found.try_push(last)?;
+    for (index, token) in tokens.iter().enumerate() {
+        if is_wanted(wanted, token) {
+            last = index + 1;
+        }
+        found.try_push(last)?;
+    }
+    Ok(found)
+}
+
+/// Returns whether one of the tokens of an argument is wanted, where `last_ones` are the numbers
+/// that are returned for them.
+// ensures { (wanted : Wanted) (xs : List Leaf) → AreLast wanted xs last_ones.now
+//     → result ≡ list_any (is_wanted wanted) (tokens_of xs argument.now) }
+#[inline]
+fn is_one_in(last_ones: &[usize], argument: &Argument) -> bool {
+    let count = last_ones.len().saturating_sub(1);
+    match last_ones.get(argument.end.min(count)) {
+        Some(last) => argument.start < *last,
+        None => false,
+    }
+}
+
+/// A part of a file, whose arguments are searched in a time that does not grow with them. A
+/// contract sees the tokens.
+pub struct Part<'a> {
+    source: Source<'a>,
+    variables: Vec<usize>,
+    raws: Vec<usize>,
+}
+
+impl<'a> Part<'a> {
+    /// Reads the tokens of a part. Returns `Err` if an allocation fails.
+    // ensures { IfOk result (λ p. p ≡ source.entry) }
+    #[inline]
+    pub fn new(alloc: Global, source: Source<'a>) -> Result<Self, AllocError> {
+        let variables = last_ones(alloc, source.tokens(), Wanted::Variable)?;
+        let raws = last_ones(alloc, source.tokens(), Wanted::Raw)?;
+        Ok(Part {
+            source,
+            variables,
+            raws,
+        })
+    }
+
+    /// Returns the tokens with their pairs of delimiters.
+    // ensures { result.now ≡ self.now }
+    #[inline]
+    pub fn source(&self) -> &Source<'a> {
+        &self.source
+    }
+
+    /// Returns the tokens.
+    // ensures { map leaf result.now ≡ self.now }
+    #[inline]
+    pub fn tokens(&self) -> &[Token<'a>] {
+        self.source.tokens()
+    }
+
+    /// Returns whether a variable of a macro stands in an argument.
+    // ensures { result ≡ list_any is_variable (tokens_of self.now argument.now) }
+    #[inline]
+    pub fn has_variable(&self, argument: &Argument) -> bool {
+        is_one_in(&self.variables, argument)
+    }
+
+    /// Returns whether the word `raw` stands in an argument.
+    // ensures { result ≡ has_raw (tokens_of self.now argument.now) }
+    #[inline]
+    pub fn has_raw(&self, argument: &Argument) -> bool {
+        is_one_in(&self.raws, argument)
+    }
+}

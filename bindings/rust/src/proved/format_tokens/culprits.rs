@@ -1,0 +1,122 @@
+//! Finds the tokens that are out of place, as `marked` says.
+
+// Extracted from crates/format_tokens/src/culprits.rt by tools/extract: not to be edited.
+// That source is proved, and each contract here is its. That this text means the same is tested:
+// by results from outside, and beside what is proved (.ci/bindings) and the original (tools/agree).
+
+use crate::proved::format_tokens::kinds::Kind;
+
+/// The part of a token among those of a placeholder.
+#[derive(Clone, Copy)]
+pub enum Role {
+    /// An opening brace that stands alone.
+    Open,
+    /// A closing brace that stands alone.
+    Close,
+    /// Text or a doubled brace.
+    Text,
+    /// The name of an argument, or a token in its place.
+    Name,
+    /// A number.
+    Number,
+    /// Text after a colon.
+    Message,
+    /// Anything else.
+    Other,
+}
+
+/// Returns the role of a kind.
+// ensures { result ≡ role_of kind }
+#[inline]
+pub fn role_of(kind: Kind) -> Role {
+    match kind {
+        Kind::Open => Role::Open,
+        Kind::Close => Role::Close,
+        Kind::Text | Kind::Escape => Role::Text,
+        Kind::Identifier | Kind::RawPrefix | Kind::Unexpected => Role::Name,
+        Kind::Integer => Role::Number,
+        Kind::DiagnosticText => Role::Message,
+        Kind::White
+        | Kind::Colon
+        | Kind::Fill
+        | Kind::Align
+        | Kind::Sign
+        | Kind::NumberSign
+        | Kind::Zero
+        | Kind::DollarSign
+        | Kind::Dot
+        | Kind::Asterisk
+        | Kind::Type
+        | Kind::Modifier
+        | Kind::Quote
+        | Kind::EscapeSequence => Role::Other,
+    }
+}
+
+/// Returns whether the first brace that stands alone is a closing one.
+// ensures { result ≡ closes labels.now }
+#[inline]
+fn closes(labels: &[(Kind, usize)]) -> bool {
+    for label in labels {
+        match role_of(label.0) {
+            Role::Open => return false,
+            Role::Close => return true,
+            Role::Text | Role::Name | Role::Number | Role::Message | Role::Other => {}
+        }
+    }
+    false
+}
+
+/// Returns whether a role is that of an argument.
+// ensures { result ≡ is_argument role }
+#[inline]
+fn is_argument(role: Role) -> bool {
+    match role {
+        Role::Name | Role::Number => true,
+        Role::Open | Role::Close | Role::Text | Role::Message | Role::Other => false,
+    }
+}
+
+/// Returns whether the first token is that of an argument.
+// ensures { result ≡ has_argument labels.now }
+#[inline]
+fn has_argument(labels: &[(Kind, usize)]) -> bool {
+    !labels.is_empty() && is_argument(role_of(labels[0].0))
+}
+
+/// Returns whether a token is in place before `others`. `names` says that only names are accepted,
+/// `inside` that the token is inside a pair of braces.
+// ensures { result ≡ fits names inside others.now role }
+#[inline]
+pub fn fits(names: bool, inside: bool, role: Role, others: &[(Kind, usize)]) -> bool {
+    match role {
+        Role::Open => closes(others) && (!names || has_argument(others)),
+        Role::Close => inside,
+        Role::Text => !inside,
+        Role::Number | Role::Message => !names,
+        Role::Name | Role::Other => true,
+    }
+}
+
+/// Returns the kind of a token that is in place or not.
+// ensures { result ≡ (if fits then kind else Unexpected) }
+#[inline]
+pub fn marked_kind(kind: Kind, fits: bool) -> Kind {
+    if fits {
+        kind
+    } else {
+        Kind::Unexpected
+    }
+}
+
+/// Returns whether the tokens after one of this role are inside a pair of braces. `inside` says
+/// that it is inside one, `fits` that it is in place.
+// ensures { result ≡ inside_after inside fits role }
+#[inline]
+pub fn inside_after(inside: bool, fits: bool, role: Role) -> bool {
+    match role {
+        Role::Open => fits,
+        Role::Close => false,
+        Role::Text | Role::Name | Role::Number | Role::Message | Role::Other => inside,
+    }
+}

@@ -1,0 +1,174 @@
+//! Tokens cut at the escapes of an ordinary literal.
+
+// Extracted from crates/format_tokens/src/escapes.rt by tools/extract: not to be edited.
+// That source is proved, and each contract here is its. That this text means the same is tested:
+// by results from outside, and beside what is proved (.ci/bindings) and the original (tools/agree).
+
+use crate::proved::format_tokens::kinds::{Kind, Token};
+use crate::proved::format_tokens::parts::{after_first, begins, width_of};
+use crate::proved::rustc_parse_format::literal::split_first_unit;
+use crate::shim::alloc::{AllocError, Global};
+use crate::shim::prelude::*;
+use core::ops::Range;
+
+/// Returns the character that the escape at the start of a text stands for, if any, and the rest of
+/// the text after it, or `None` if the text begins with no escape.
+// ensures { option_map (λ x. (at_most_one x.0, chars x.1.now)) result
+//     ≡ escape_at (chars text.now) }
+#[inline]
+fn escape_at(text: &str) -> Option<(Option<char>, &str)> {
+    if begins(text, '\\') {
+        split_first_unit(text)
+    } else {
+        None
+    }
+}
+
+/// Returns whether a token is text without braces.
+// ensures { result ≡ is_text kind }
+#[inline]
+fn is_text(kind: Kind) -> bool {
+    match kind {
+        Kind::Text => true,
+        Kind::Escape
+        | Kind::Open
+        | Kind::Close
+        | Kind::Integer
+        | Kind::Identifier
+        | Kind::RawPrefix
+        | Kind::White
+        | Kind::Colon
+        | Kind::Fill
+        | Kind::Align
+        | Kind::Sign
+        | Kind::NumberSign
+        | Kind::Zero
+        | Kind::DollarSign
+        | Kind::Dot
+        | Kind::Asterisk
+        | Kind::Type
+        | Kind::Modifier
+        | Kind::DiagnosticText
+        | Kind::Unexpected
+        | Kind::Quote
+        | Kind::EscapeSequence => false,
+    }
+}
+
+/// Returns whether an escape that stands for this character, or for nothing, is a token of its own
+/// inside a token of this kind.
+// ensures { result ≡ is_apart kind (at_most_one character) }
+#[inline]
+fn is_apart(kind: Kind, character: Option<char>) -> bool {
+    match character {
+        Some(_) => is_text(kind),
+        None => true,
+    }
+}
+
+/// Adds the token of a byte range if that is not empty.
+// ensures { OnOk result (map seen_token tokens.new.items
+//     ≡ map seen_token tokens.old.items ++ run kind from to) }
+#[inline]
+fn put_run(tokens: &mut Vec<Token>, kind: Kind, from: usize, to: usize) -> Result<(), AllocError> {
+    if from < to {
+        tokens.try_push(Token {
+            kind,
+            span: from..to,
+        })?;
+    }
+    Ok(())
+}
+
+/// Adds an escape of a byte range.
+// ensures { OnOk result (map seen_token tokens.new.items ≡ map seen_token tokens.old.items
+//     ++ (EscapeSequence, pair span) ∷ []) }
+#[inline]
+fn put_escape(tokens: &mut Vec<Token>, span: Range<usize>) -> Result<(), AllocError> {
+    tokens.try_push(Token {
+        kind: Kind::EscapeSequence,
+        span,
+    })?;
+    Ok(())
+}
+
+/// Adds the parts of a token with these source characters.
+// ensures { OnOk result (map seen_token tokens.new.items
+//     ≡ map seen_token tokens.old.items ++ parts (seen_token token.now) (chars text.now)) }
+#[inline]
+fn put_parts(tokens: &mut Vec<Token>, token: &Token, text: &str) -> Result<(), AllocError> {
+    let end = token.span.end;
+    let mut from = token.span.start;
+    let mut rest = text;
+    while !rest.is_empty() {
+        match escape_at(rest) {
+            None => rest = after_first(rest),
+            Some((character, others)) => {
+                if is_apart(token.kind, character) {
+                    let at = end.saturating_sub(width_of(rest));
+                    let to = end.saturating_sub(width_of(others));
+                    put_run(tokens, token.kind, from, at)?;
+                    put_escape(tokens, at..to)?;
+                    from = to;
+                }
+                rest = others;
+            }
+        }
+    }
+    put_run(tokens, token.kind, from, end)?;
+    Ok(())
+}
+
+/// Returns the first characters of a text, as many as end within `width` bytes, and the rest after
+/// them.
+// ensures front { chars result.0.now ≡ front_within width (chars text.now) }
+// ensures back { chars result.1.now ≡ rest_within width (chars text.now) }
+#[inline]
+fn split_within(text: &str, width: usize) -> (&str, &str) {
+    text.split_at(text.boundary_at_most(width))
+}
+
+/// Returns whether a text has a backslash.
+// ensures { result ≡ not (list_all is_other text.now) }
+#[inline]
+fn has_backslash(text: &str) -> bool {
+    for byte in text.as_bytes() {
+        if *byte == b'\\' {
+            return true;
+        }
+    }
+    false
+}
+
+/// Returns the tokens of an ordinary literal cut at its escapes. Returns `Err` if an allocation
+/// fails.
+// ensures { IfOk result (λ v. map seen_token v.items
+//     ≡ cut (chars literal.now) (map seen_token tokens.now)) }
+#[inline]
+fn cut(alloc: Global, literal: &str, tokens: &[Token]) -> Result<Vec<Token>, AllocError> {
+    let mut found = Vec::made_for(alloc, tokens.len())?;
+    let mut rest = literal;
+    for token in tokens {
+        let width = token.span.end.saturating_sub(token.span.start);
+        let (text, others) = split_within(rest, width);
+        put_parts(&mut found, token, text)?;
+        rest = others;
+    }
+    Ok(found)
+}
+
+/// Returns the tokens of an ordinary literal, which cover it, cut at its escapes. Returns `Err` if
+/// an allocation fails.
+// ensures { IfOk result (λ v. (a b : ℕ) → IsCover a b (ranges_of (map seen_token tokens.items))
+//     → map seen_token v.items ≡ cut (chars literal.now) (map seen_token tokens.items)) }
+#[inline]
+pub fn cut_escapes(
+    alloc: Global,
+    literal: &str,
+    tokens: Vec<Token>,
+) -> Result<Vec<Token>, AllocError> {
+    if has_backslash(literal) {
+        return cut(alloc, literal, tokens.as_slice());
+    }
+    Ok(tokens)
+}
