@@ -7,7 +7,7 @@ use Rattle.rustc_parse_format.specs.World.{Place}
 use Rattle.asm_faults.specs.declared.faults.AsmSpot.{AsmSpot}
 
 pub data AsmFault : Type 0 where
-  -- An operand without a name and a register of its own behind one that has one of them.
+  -- An operand without a name and a register of its own after one that has one of them.
   PositionalAfter : ℕ → AsmFault
   -- An operand has the name of an earlier one: both, and the second is the first with this name.
   RepeatedName : ℕ → ℕ → AsmFault

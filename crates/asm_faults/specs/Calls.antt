@@ -1,4 +1,4 @@
--- What is wrong with a call, in the order in which rustc tells it.
+-- What is wrong with a call, in the order in which rustc reports it.
 use Rattle.std.specs.Prelude.{ℕ, ◌++◌, List, [], ◌∷◌, Option, Some, None}
 use Rattle.std.specs.List.{filter_map}
 use Rattle.asm_faults.specs.AsmFaults.{AsmFault}

@@ -31,7 +31,7 @@ is_next (Implicit n) = true
 is_next (Index n) = false
 is_next (Named w) = false
 
--- The index that the next placeholder without a position means, behind one with this position, for
+-- The index that the next placeholder without a position means, after one with this position, for
 -- which it is n.
 abbrev pub next_after : ℕ → Position → ℕ
 next_after n p = if is_next p then suc n else n
@@ -64,12 +64,12 @@ abbrev pub one_lookups : ℕ → ℕ → List Place → Piece Place → List Loo
 one_lookups k n ps (Lit t) = []
 one_lookups k n ps (NextArgument a) = argument_lookups k n (first_spot k ps) a
 
--- The index that the next placeholder without a position means behind a piece.
+-- The index that the next placeholder without a position means after a piece.
 abbrev pub next_of : ℕ → Piece Place → ℕ
 next_of n (Lit t) = n
 next_of n (NextArgument a) = next_after n a.position
 
--- The places that are left behind a piece.
+-- The places that are left after a piece.
 abbrev pub places_after : List Place → Piece Place → List Place
 places_after ps (Lit t) = ps
 places_after ps (NextArgument a) = drop 1 ps
@@ -80,7 +80,7 @@ piece_lookups k n ps [] = []
 piece_lookups k n ps (q ∷ qs) = one_lookups k n ps q
     ++ piece_lookups k (next_of n q) (places_after ps q) qs
 
--- The index that the next placeholder without a position means behind these pieces.
-abbrev pub next_behind : ℕ → List (Piece Place) → ℕ
-next_behind n [] = n
-next_behind n (q ∷ qs) = next_behind (next_of n q) qs
+-- The index that the next placeholder without a position means after these pieces.
+abbrev pub next_after_pieces : ℕ → List (Piece Place) → ℕ
+next_after_pieces n [] = n
+next_after_pieces n (q ∷ qs) = next_after_pieces (next_of n q) qs

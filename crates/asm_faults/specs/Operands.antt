@@ -43,7 +43,7 @@ index_from i (s ∷ ss) w = if has_name w s then Some i else index_from (suc i) 
 abbrev pub index_of : List Operand → Text → Option ℕ
 index_of ss w = index_from 0 ss w
 
--- An operand behind those of ss, as placeholders refer to it: a name that is there counts for
+-- An operand after those of ss, as placeholders refer to it: a name that is there counts for
 -- nothing.
 abbrev pub slot : List Operand → Operand → Operand
 slot ss Unnamed = Unnamed
@@ -60,13 +60,13 @@ abbrev pub repeated : ℕ → Option ℕ → List AsmFault
 repeated i None = []
 repeated i (Some f) = RepeatedName i f ∷ []
 
--- What is wrong with an operand of the index i behind those of ss.
+-- What is wrong with an operand of the index i after those of ss.
 abbrev pub faults_of : List Operand → ℕ → Operand → List AsmFault
 faults_of ss i Unnamed = if list_any is_other ss then PositionalAfter i ∷ [] else []
 faults_of ss i (Named w) = repeated i (index_of ss w)
 faults_of ss i (Register b) = if b then RegisterName i ∷ [] else []
 
--- What is wrong with the operands os, of which the first has the index i, behind those of ss.
+-- What is wrong with the operands os, of which the first has the index i, after those of ss.
 abbrev pub faults_from : List Operand → ℕ → List Operand → List AsmFault
 faults_from ss i [] = []
 faults_from ss i (o ∷ os) = faults_of ss i o ++ faults_from (ss ++ slot ss o ∷ []) (suc i) os

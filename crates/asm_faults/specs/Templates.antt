@@ -10,7 +10,7 @@ use Rattle.rustc_parse_format.specs.Types.{Piece, InlineAsm}
 use Rattle.rustc_parse_format.specs.World.{Place, pieces_in}
 use Rattle.call_faults.specs.Texts.{text_fault}
 use Rattle.asm_faults.specs.AsmFaults.{AsmFault, TemplateFault}
-use Rattle.asm_faults.specs.Lookups.{Lookup, next_behind, piece_lookups}
+use Rattle.asm_faults.specs.Lookups.{Lookup, next_after_pieces, piece_lookups}
 
 -- A template: the text that it stands for, the number of hashes of a raw literal, and the literal
 -- as it is in the source, if it is known.
@@ -32,16 +32,16 @@ abbrev pub template_lookups : ℕ → ℕ → Template → List Lookup
 template_lookups k n t =
     piece_lookups k n (after_all (start t) (calls (start t))).arg_places (pieces t)
 
--- The index that the next placeholder without a position means behind a template.
-abbrev pub next_behind_template : ℕ → Template → ℕ
-next_behind_template n t = next_behind n (pieces t)
+-- The index that the next placeholder without a position means after a template.
+abbrev pub next_after_template : ℕ → Template → ℕ
+next_after_template n t = next_after_pieces n (pieces t)
 
 -- What is looked up for these templates, of which the first has the index k, up to the first one
 -- that is not in the grammar.
 abbrev pub lookups_from : ℕ → ℕ → List Template → List Lookup
 lookups_from k n [] = []
 lookups_from k n (t ∷ ts) = if is_some (text_fault (start t)) then []
-    else template_lookups k n t ++ lookups_from (suc k) (next_behind_template n t) ts
+    else template_lookups k n t ++ lookups_from (suc k) (next_after_template n t) ts
 
 -- The fault of the template k, or else this one.
 abbrev pub fault_or : ℕ → Option (Fault Place) → Option AsmFault → Option AsmFault

@@ -21,7 +21,7 @@ pub struct AsmCall<'a> {
     /// The operands that are given, of which those whose name is that of an earlier one count as
     /// unnamed.
     pub operands: Vec<Operand<'a>>,
-    /// What is wrong, in the order in which rustc tells it.
+    /// What is wrong, in the order in which rustc reports it.
     pub faults: Vec<AsmFault<'a>>,
 }
 
@@ -54,7 +54,7 @@ fn compare<'a>(
 
 /// Checks a call of a macro for inline assembly, as `asm!`: reads its templates, compares their
 /// placeholders with the operands that are given, in the order of the source, and returns what is
-/// wrong, as rustc tells it. Placeholders without a position count through all templates.
+/// wrong, as rustc reports it. Placeholders without a position count through all templates.
 ///
 /// With `options(raw)` the templates have no placeholders, so none is to be given here. For each
 /// template the number of hashes, the length of the text in bytes, and 2 must together fit into a

@@ -16,7 +16,7 @@ pub enum AsmSpot {
         template: usize,
         /// The offset of the first byte.
         start: usize,
-        /// The offset behind the last byte.
+        /// The offset after the last byte.
         end: usize,
     },
 }
@@ -25,7 +25,7 @@ pub enum AsmSpot {
 /// given.
 #[derive(Drop)]
 pub enum AsmFault<'a> {
-    /// An operand without a name and without a register of its own stands behind one that has one
+    /// An operand without a name and without a register of its own stands after one that has one
     /// of them.
     PositionalAfter {
         /// The operand.

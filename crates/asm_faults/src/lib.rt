@@ -1,5 +1,5 @@
 //! What is wrong with the templates of inline assembly and the operands of their call, as rustc
-//! tells it.
+//! reports it.
 #![tactic(auto)]
 
 mod checker;

@@ -4,7 +4,8 @@ ghost use Rattle.std.specs.Prelude.{◌≡◌, ◌≤◌, ◌∷◌, ◌++◌, [
 ghost use Rattle.std.specs.Prelude.{option_map};
 ghost use Rattle.rustc_parse_format.specs.Seen.{pair, seen, seen_argument, seen_position};
 ghost use Rattle.asm_faults.specs.Lookups.{argument_lookups, first_spot, is_long, is_next};
-ghost use Rattle.asm_faults.specs.Lookups.{modifier_lookups, next_after, next_behind, next_of};
+ghost use Rattle.asm_faults.specs.Lookups.{modifier_lookups, next_after};
+ghost use Rattle.asm_faults.specs.Lookups.{next_after_pieces, next_of};
 ghost use Rattle.asm_faults.specs.Lookups.{one_lookups, piece_lookups, places_after};
 ghost use Rattle.asm_faults.specs.Lookups.{position_lookup, spot_of};
 ghost use Rattle.asm_faults.specs.Seen.{seen_lookup};
@@ -203,7 +204,7 @@ pub(crate) fn push_pieces<'a>(
         ≡ map seen_lookup walk.old.lookups.items
         ++ piece_lookups template walk.old.next (map pair places.now) (map seen pieces.now)) }
     ensures next { OnOk result (walk.new.next
-        ≡ next_behind walk.old.next (map seen pieces.now)) }
+        ≡ next_after_pieces walk.old.next (map seen pieces.now)) }
     ensures few { OnOk result (walk.new.next ≤ length walk.new.lookups.items) }
 {
     let mut places = places;

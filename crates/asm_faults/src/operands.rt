@@ -70,7 +70,7 @@ fn insert<'a>(
 }
 
 /// Adds an operand without a name and without a register of its own, and its fault if it stands
-/// behind one that has one of them. Returns `Err` if an allocation fails.
+/// after one that has one of them. Returns `Err` if an allocation fails.
 fn add_unnamed<'a>(
     operands: &mut Operands<'a>,
     faults: &mut Vec<AsmFault<'a>>,
@@ -78,7 +78,7 @@ fn add_unnamed<'a>(
 ) -> Result<(), AllocError>
     ensures held { OnOk result ((ss : List OperandValue) → Holds ss operands.old
         → Holds (ss ++ Unnamed ∷ []) operands.new) }
-    ensures told { OnOk result ((ss : List OperandValue) → Holds ss operands.old
+    ensures outcome { OnOk result ((ss : List OperandValue) → Holds ss operands.old
         → map seen_fault faults.new.items ≡ map seen_fault faults.old.items
         ++ faults_of ss index Unnamed) }
 {
@@ -100,7 +100,7 @@ fn add_named<'a>(
     ensures held { OnOk result ((ss : List OperandValue) → Holds ss operands.old
         → index ≡ length ss
         → Holds (ss ++ slot ss (Named (chars name.now)) ∷ []) operands.new) }
-    ensures told { OnOk result ((ss : List OperandValue) → Holds ss operands.old
+    ensures outcome { OnOk result ((ss : List OperandValue) → Holds ss operands.old
         → map seen_fault faults.new.items ≡ map seen_fault faults.old.items
         ++ faults_of ss index (Named (chars name.now))) }
 {
@@ -131,7 +131,7 @@ fn add_register<'a>(
 ) -> Result<(), AllocError>
     ensures held { OnOk result ((ss : List OperandValue) → Holds ss operands.old
         → Holds (ss ++ Register has_name ∷ []) operands.new) }
-    ensures told { OnOk result ((ss : List OperandValue) → Holds ss operands.old
+    ensures outcome { OnOk result ((ss : List OperandValue) → Holds ss operands.old
         → map seen_fault faults.new.items ≡ map seen_fault faults.old.items
         ++ faults_of ss index (Register has_name)) }
 {
@@ -153,7 +153,7 @@ fn add<'a>(
     ensures held { OnOk result ((ss : List OperandValue) → Holds ss operands.old
         → index ≡ length ss
         → Holds (ss ++ slot ss (seen_operand operand.entry) ∷ []) operands.new) }
-    ensures told { OnOk result ((ss : List OperandValue) → Holds ss operands.old
+    ensures outcome { OnOk result ((ss : List OperandValue) → Holds ss operands.old
         → map seen_fault faults.new.items ≡ map seen_fault faults.old.items
         ++ faults_of ss index (seen_operand operand.entry)) }
 {
@@ -183,7 +183,7 @@ pub(crate) fn operands_of<'a>(
     given: &[Operand<'a>],
 ) -> Result<Operands<'a>, AllocError>
     ensures held { IfOk result (λ a. Holds (slots_after [] (map seen_operand given.now)) a) }
-    ensures told { OnOk result (map seen_fault faults.new.items ≡ map seen_fault faults.old.items
+    ensures outcome { OnOk result (map seen_fault faults.new.items ≡ map seen_fault faults.old.items
         ++ faults_from [] 0 (map seen_operand given.now)) }
 {
     let mut operands = no_operands(alloc);

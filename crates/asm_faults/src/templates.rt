@@ -9,7 +9,7 @@ ghost use Rattle.rustc_parse_format.specs.World.{hashes};
 ghost use Rattle.placeholder_check.specs.Seen.{text as seen_text};
 ghost use Rattle.call_faults.specs.Texts.{text_fault};
 ghost use Rattle.asm_faults.specs.Seen.{seen_fault, seen_lookup, seen_template};
-ghost use Rattle.asm_faults.specs.Templates.{lookups_from, next_behind_template, start};
+ghost use Rattle.asm_faults.specs.Templates.{lookups_from, next_after_template, start};
 ghost use Rattle.asm_faults.specs.Templates.{template_fault, template_lookups};
 
 use crate::faults::AsmFault;
@@ -72,7 +72,7 @@ fn push_template<'a>(
         ≡ map seen_lookup walk.old.lookups.items
         ++ template_lookups index walk.old.next (seen_template template.entry)) }
     ensures next { OnOk result (walk.new.next
-        ≡ next_behind_template walk.old.next (seen_template template.entry)) }
+        ≡ next_after_template walk.old.next (seen_template template.entry)) }
     ensures few { OnOk result (walk.new.next ≤ length walk.new.lookups.items) }
 {
     let snippet = owned(alloc, template.snippet)?;

@@ -39,7 +39,7 @@ map-nil f [] e = refl
 map-nil f (x ∷ xs) e = absurd (cc e)
 
 -- Nothing but warnings is found exactly if the call is clean, where s is the parser at the start of
--- its string, and es are the errors of the parser behind it.
+-- its string, and es are the errors of the parser after it.
 pub clean-is : (captures : Bool) (gs : List Given) (t : Text) (s : State) (ps : List (Piece Place))
     (fs : List CallFault) (new : State) → s.errors ≡ [] → new ≡ after_all s (calls s)
     → ((new.errors ≡ []) ↔ IsInGrammar Format t)

@@ -27,7 +27,7 @@ use Rattle.call_faults.specs.Comparison.{named_use, names, unused, unused_faults
 use Rattle.call_faults.specs.Lookups.{Lookup, NoTrait, Refer, lookups_from}
 use Rattle.call_faults.proofs.Empty.{all-join, all-left, all-right}
 use Rattle.call_faults.proofs.Lists.{InOrder, none-order, numbered, order-none, order-pairs}
-use Rattle.call_faults.proofs.Lists.{pairs-order, Faultless, Behind, Precede}
+use Rattle.call_faults.proofs.Lists.{pairs-order, Faultless, After, Precede}
 use Rattle.call_faults.proofs.Looked.{any-uses, by_use, far-of, fine-of, is_far, is_no_trait}
 use Rattle.call_faults.proofs.Looked.{is_unknown, of-far, of-fine, of-traits, traits-of, uses-bare}
 use Rattle.call_faults.proofs.Meant.{all-used, met-of, numbered-length, of-met-far, of-met-known}
@@ -124,17 +124,17 @@ quiet-of captures ks ls w =
     let found = lookup_faults captures (names ks) ls in
     let lacked = missing ks ls in
     let left = unused ks ls in
-    let told = left_faults (indices (filter (is_redundant ls) left)) (indices left) in
-    let three = all-left _ ((found ++ missing_faults lacked) ++ told) _ w in
-    let two = all-left _ (found ++ missing_faults lacked) told three in
+    let outcome = left_faults (indices (filter (is_redundant ls) left)) (indices left) in
+    let three = all-left _ ((found ++ missing_faults lacked) ++ outcome) _ w in
+    let two = all-left _ (found ++ missing_faults lacked) outcome three in
     record {
       looked = none-left found (lookup-serious captures (names ks) ls)
           (all-left _ found (missing_faults lacked) two);
       lacked = no-missing lacked (none-left (missing_faults lacked) (missing-serious lacked)
           (all-right _ found (missing_faults lacked) two));
       left = no-index left (no-left (indices (filter (is_redundant ls) left)) (indices left)
-          (none-left told (left-serious (indices (filter (is_redundant ls) left)) (indices left))
-          (all-right _ (found ++ missing_faults lacked) told three)));
+          (none-left outcome (left-serious (indices (filter (is_redundant ls) left)) (indices left))
+          (all-right _ (found ++ missing_faults lacked) outcome three)));
     }
 
 pub quiet-compared : (captures : Bool) (ks : List Kept) (ls : List Lookup) → Quiet captures ks ls
@@ -199,9 +199,9 @@ clean-of captures gs fault ps t r w =
     text None r w o k = clean-compared captures gs ps t o (r refl)
         (quiet-of captures (numbered 0 gs) (lookups_from 0 ps) (rw k at w))
 
-nothing-behind : (gs : List Given) → Behind [] gs
-nothing-behind [] = tt
-nothing-behind (g ∷ gs) = (tt, nothing-behind gs)
+nothing-rest_after : (gs : List Given) → After [] gs
+nothing-rest_after [] = tt
+nothing-rest_after (g ∷ gs) = (tt, nothing-rest_after gs)
 
 -- what is found in a clean call
 pub found-clean : (captures : Bool) (gs : List Given) (fault : Option (Fault Place))
@@ -210,7 +210,7 @@ pub found-clean : (captures : Bool) (gs : List Given) (fault : Option (Fault Pla
     ≡ filter_map (by_index (numbered 0 gs)) (lookups_from 0 ps)
 found-clean captures gs fault ps t c e f =
     let o = pairs-order gs c.in_order in
-    let none = order-none [] 0 gs (nothing-behind gs) o in
+    let none = order-none [] 0 gs (nothing-rest_after gs) o in
     let kept : kept_after [] 0 gs ≡ numbered 0 gs = (none-order [] 0 gs none).kept in
     rw (e, none, kept) (quiet-compared captures (numbered 0 gs) (lookups_from 0 ps)
     (compared-clean captures gs ps t c f))

@@ -50,13 +50,14 @@ map-option : {Y Z : Type 0} (g : Z → Y) (o : Option Z)
 map-option g None = refl
 map-option g (Some z) = refl
 
--- the same behind what was there before
-pub gathered-behind : {A X Y Z : Type 0} (f : A → X) (g : Z → Y) (h : X → Option Y) (xs : List A)
+-- the same after what was there before
+pub gathered-rest_after : {A X Y Z : Type 0} (f : A → X) (g : Z → Y) (h : X
+    → Option Y) (xs : List A)
     (i : ℕ) (d : A) (before : List Y) (old new : List Z) (o : Option Z) → i < length xs
     → map g old ≡ before ++ filter_map h (map f (take i xs))
     → option_map g o ≡ h (f (get_or xs i d)) → new ≡ old ++ cons_option o []
     → map g new ≡ before ++ filter_map h (map f (take (i + 1) xs))
-gathered-behind f g h xs i d before old new o l e k m =
+gathered-rest_after f g h xs i d before old new o l e k m =
     ap (map g) m ∙ map-append g old (cons_option o [])
     ∙ ap (λ ys. ys ++ map g (cons_option o [])) e
     ∙ append_assoc before (filter_map h (map f (take i xs))) (map g (cons_option o []))

@@ -28,12 +28,12 @@ use Rattle.call_faults.specs.Comparison.{is_settled, missing, missing_faults, na
 use Rattle.call_faults.specs.Lookups.{Lookup, NoTrait, Refer}
 use Rattle.call_faults.proofs.Collecting.{list_any-next, map-next}
 
--- a name that is told
-pub told-name : (old : List CallFault) (captures : Bool) (known : List Text) (r : Reference)
+-- a name that is reported
+pub outcome-name : (old : List CallFault) (captures : Bool) (known : List Text) (r : Reference)
     (w : Text) (ls : List Lookup) → captures ≡ false → list_any (bytes_eq w) known ≡ false
     → (old ++ MissingName r w ∷ []) ++ lookup_faults captures (w ∷ known) ls
     ≡ old ++ lookup_faults captures known (Refer r (ByName w) ∷ ls)
-told-name old captures known r w ls e f = append_assoc old (MissingName r w ∷ [])
+outcome-name old captures known r w ls e f = append_assoc old (MissingName r w ∷ [])
     (lookup_faults captures (w ∷ known) ls)
     ∙ ap (λ xs. old ++ xs) (sym (not-there (captures || list_any (bytes_eq w) known) _ _
     (or_from captures (list_any (bytes_eq w) known) e f)))

@@ -109,9 +109,9 @@ abbrev pub numbered : ℕ → List Given → List Kept
 numbered i [] = []
 numbered i (g ∷ gs) = record { index = i; given = g } ∷ numbered (suc i) gs
 
--- each argument of the second list may stand behind each of the first
-abbrev pub Behind : List Kept → List Given → Type 0
-Behind ks gs = AllByRecursion (λ g. Precede ks g.name) gs
+-- each argument of the second list may stand after each of the first
+abbrev pub After : List Kept → List Given → Type 0
+After ks gs = AllByRecursion (λ g. Precede ks g.name) gs
 
 no_repeat : (i : ℕ) (o : Option ℕ) → repeated i o ≡ [] → o ≡ None
 no_repeat i None e = refl
@@ -135,29 +135,29 @@ precede-join : (ks : List Kept) (k : Kept) (n : Option Text) → Precede ks n
 precede-join [] k n h p = (p, tt)
 precede-join (l ∷ ks) k n h p = (h.0, precede-join ks k n h.1 p)
 
-behind-split : (ks : List Kept) (k : Kept) (gs : List Given) → Behind (ks ++ k ∷ []) gs
-    → Behind ks gs × AllByRecursion (λ h. MayPrecede k.given.name h.name) gs
-behind-split ks k [] b = (tt, tt)
-behind-split ks k (g ∷ gs) b =
+rest_after-split : (ks : List Kept) (k : Kept) (gs : List Given) → After (ks ++ k ∷ []) gs
+    → After ks gs × AllByRecursion (λ h. MayPrecede k.given.name h.name) gs
+rest_after-split ks k [] b = (tt, tt)
+rest_after-split ks k (g ∷ gs) b =
     let here = precede-split ks k g.name b.0 in
-    let there = behind-split ks k gs b.1 in
+    let there = rest_after-split ks k gs b.1 in
     ((here.0, there.0), (here.1, there.1))
 
-behind-join : (ks : List Kept) (k : Kept) (gs : List Given) → Behind ks gs
-    → AllByRecursion (λ h. MayPrecede k.given.name h.name) gs → Behind (ks ++ k ∷ []) gs
-behind-join ks k [] b a = tt
-behind-join ks k (g ∷ gs) b a =
-    (precede-join ks k g.name b.0 a.0, behind-join ks k gs b.1 a.1)
+rest_after-join : (ks : List Kept) (k : Kept) (gs : List Given) → After ks gs
+    → AllByRecursion (λ h. MayPrecede k.given.name h.name) gs → After (ks ++ k ∷ []) gs
+rest_after-join ks k [] b a = tt
+rest_after-join ks k (g ∷ gs) b a =
+    (precede-join ks k g.name b.0 a.0, rest_after-join ks k gs b.1 a.1)
 
 -- A list of arguments with nothing wrong.
 pub record Faultless (ks : List Kept) (i : ℕ) (gs : List Given) : Type 0 where
-  pub behind : Behind ks gs
+  pub rest_after : After ks gs
   pub in_order : InOrder gs
   pub kept : kept_after ks i gs ≡ ks ++ numbered i gs
 
 pub none-order : (ks : List Kept) (i : ℕ) (gs : List Given) → list_faults ks i gs ≡ []
     → Faultless ks i gs
-none-order ks i [] e = record { behind = tt; in_order = tt; kept = sym (append-nil ks) }
+none-order ks i [] e = record { rest_after = tt; in_order = tt; kept = sym (append-nil ks) }
 none-order ks i (g ∷ gs) e =
     let first = else-nil (is_late ks g) _ _ _ e in
     let new : first_of ks g ≡ None = no_repeat i (first_of ks g) (left-nil _ _ first.1) in
@@ -166,19 +166,19 @@ none-order ks i (g ∷ gs) e =
     let later : list_faults (ks ++ k ∷ []) (suc i) gs ≡ []
     = ap (λ (l : List Kept). list_faults l (suc i) gs) (sym more) ∙ right-nil _ _ first.1 in
     let rest = none-order (ks ++ k ∷ []) (suc i) gs later in
-    let both = behind-split ks k gs rest.behind in
+    let both = rest_after-split ks k gs rest.rest_after in
     record {
-      behind = (clean-precede ks g.name g.variable first.0 new, both.0);
+      rest_after = (clean-precede ks g.name g.variable first.0 new, both.0);
       in_order = (both.1, rest.in_order);
       kept = ap (λ (l : List Kept). kept_after l (suc i) gs) more
           ∙ (rest.kept ∙ append_assoc ks (k ∷ []) (numbered (suc i) gs));
     }
 
-pub order-none : (ks : List Kept) (i : ℕ) (gs : List Given) → Behind ks gs → InOrder gs
+pub order-none : (ks : List Kept) (i : ℕ) (gs : List Given) → After ks gs → InOrder gs
     → list_faults ks i gs ≡ []
 order-none ks i [] b o = refl
 order-none ks i (g ∷ gs) b o =
     let clean = precede-clean ks g.name g.variable b.0 in
     let k : Kept = record { index = i; given = g } in
-    let later = order-none (ks ++ k ∷ []) (suc i) gs (behind-join ks k gs b.1 o.0) o.1 in
+    let later = order-none (ks ++ k ∷ []) (suc i) gs (rest_after-join ks k gs b.1 o.0) o.1 in
     rw (clean.0, clean.1) later

@@ -7,7 +7,7 @@ use Rattle.std.specs.Prelude.{is_none, is_some, option_map, if◌then◌else◌}
 use Rattle.std.proofs.lemmas.List.{append-nil}
 use Rattle.rustc_parse_format.specs.Call.{Call, call, end_call, text_call, unmatched_call}
 use Rattle.rustc_parse_format.specs.Call.{placeholder}
-use Rattle.rustc_parse_format.specs.Characters.{Text, begins_with, behind_first, is_brace, is_nil}
+use Rattle.rustc_parse_format.specs.Characters.{Text, begins_with, after_first, is_brace, is_nil}
 use Rattle.rustc_parse_format.specs.Faults.{Fault, is_front, map_fault}
 use Rattle.rustc_parse_format.specs.Marks.{Span}
 use Rattle.rustc_parse_format.specs.State.{State, after, after_all, calls, next_call}
@@ -63,7 +63,7 @@ none-faulty : (mode : Mode) (c b : ℕ) (t : Text) → (call mode c (b ∷ t)).p
 unfolding call
 none-faulty mode c b t e f =
     none-of (is_brace b) (begins_with b t) (b == code "{") c (b ∷ t) t
-    (text_call c (b ∷ []) (behind_first t)) (text_call c [] (b ∷ t))
+    (text_call c (b ∷ []) (after_first t)) (text_call c [] (b ∷ t))
     (placeholder mode c (b ∷ t) t) _ (placeholder-piece mode c (b ∷ t) t) (λ h. cc h) (λ h. cc h) e
     f
 

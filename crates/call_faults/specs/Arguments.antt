@@ -15,7 +15,7 @@ pub record Given : Type 0 where
   pub variable : Option Text
 
 -- An argument with the first of these names, or none, may stand in front of one with the second:
--- names differ, and stand behind the arguments without one.
+-- names differ, and stand after the arguments without one.
 abbrev pub MayPrecede : Option Text → Option Text → Type 0
 MayPrecede None n = Unit {0}
 MayPrecede (Some w) None = ⊥
@@ -39,7 +39,7 @@ index_of (k ∷ ks) w = if has_name w k.given then Some k.index else index_of ks
 abbrev pub first_of : List Kept → Given → Option ℕ
 first_of ks g = option_and_then (index_of ks) g.name
 
--- The argument g stands without a name behind these, and one of them has a name.
+-- The argument g stands without a name after these, and one of them has a name.
 abbrev pub is_late : List Kept → Given → Bool
 is_late ks g = not (is_some g.name) && list_any (λ k. is_some k.given.name) ks
 
@@ -63,7 +63,7 @@ repeated i None = []
 repeated i (Some f) = RepeatedName i f ∷ []
 
 -- What is wrong with the list of arguments, where ks are those that count of the first i ones, and
--- gs are the others. The first one without a name behind one with a name ends it.
+-- gs are the others. The first one without a name after one with a name ends it.
 abbrev pub list_faults : List Kept → ℕ → List Given → List CallFault
 list_faults ks i [] = []
 list_faults ks i (g ∷ gs) = if is_late ks g then PositionalAfterNamed i (named_of ks) ∷ []

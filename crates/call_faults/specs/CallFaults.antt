@@ -9,7 +9,7 @@ use Rattle.call_faults.specs.declared.faults.Missing.{Missing}
 use Rattle.call_faults.specs.declared.faults.Reference.{Reference}
 
 pub data CallFault : Type 0 where
-  -- The first argument without a name behind one with a name, and those in front that have a name.
+  -- The first argument without a name after one with a name, and those in front that have a name.
   PositionalAfterNamed : ℕ → List ℕ → CallFault
   -- An argument has the name of an earlier one: both, and the second is the first with this name.
   RepeatedName : ℕ → ℕ → CallFault

@@ -1,4 +1,4 @@
--- What is wrong with a call, in the order in which rustc tells it.
+-- What is wrong with a call, in the order in which rustc reports it.
 use Rattle.std.specs.Prelude.{ℕ, Bool, true, false, ◌++◌, if◌then◌else◌, List, [], ◌∷◌}
 use Rattle.std.specs.Prelude.{Option, Some, None}
 use Rattle.std.specs.List.{list_any}
@@ -24,7 +24,7 @@ is_last (UnusedArguments is) = false
 is_last (RedundantArguments is) = false
 is_last (NameUsedByIndex r i) = false
 
--- The indices of the arguments that count among gs, unless one without a name behind one with a
+-- The indices of the arguments that count among gs, unless one without a name after one with a
 -- name ends the work.
 abbrev pub kept_indices : List Given → List ℕ
 kept_indices gs = if list_any is_last (list_faults [] 0 gs) then []

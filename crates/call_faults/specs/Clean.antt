@@ -24,7 +24,7 @@ IsMet captures gs (ByName w) = IsTrue captures ⊎ Any (λ g. g.name ≡ Some w)
 abbrev pub IsUsed : List Use → ℕ → Given → Type 0
 IsUsed us i g = Contains us (ByIndex i) ⊎ IsSomeAnd g.name (λ w. Contains us (ByName w))
 
--- Names differ and stand behind the arguments without one, the string is in the grammar and asks
+-- Names differ and stand after the arguments without one, the string is in the grammar and asks
 -- only for traits that exist, each of its uses is met, and each argument is used.
 pub record IsClean (captures : Bool) (gs : List Given) (text : Text) : Type 0 where
   pub in_order : AllPairs (λ g h. MayPrecede g.name h.name) gs

@@ -28,7 +28,7 @@ abbrev pub means : List Kept → ℕ → Lookup → Bool
 means ks i (Refer r u) = option_map_or (λ j. i == j) (meant ks u) false
 means ks i (NoTrait k t) = false
 
--- Traits that do not exist, and names that are neither among these nor captured. A name is told
+-- Traits that do not exist, and names that are neither among these nor captured. A name is reported
 -- once.
 abbrev pub lookup_faults : Bool → List Text → List Lookup → List CallFault
 lookup_faults captures known [] = []
@@ -123,7 +123,7 @@ is_settled found lacked left =
     not (list_any is_missing_name found) && (length lacked == 0 && length left == 0)
 
 -- What is wrong between the arguments ks that count and these lookups. References by index to
--- arguments with names are told only if no name and no argument is missing or unused.
+-- arguments with names are reported only if no name and no argument is missing or unused.
 abbrev pub compared : Bool → List Kept → List Lookup → List CallFault
 compared captures ks ls =
     let found = lookup_faults captures (names ks) ls in

@@ -14,7 +14,14 @@ use Rattle.call_faults.specs.Arguments.{Given}
 use Rattle.call_faults.specs.CallFaults.{CallFault, PositionalAfterNamed, RepeatedName, TextFault}
 use Rattle.call_faults.specs.CallFaults.{MissingName, UnknownTrait, MissingArguments}
 use Rattle.call_faults.specs.CallFaults.{UnusedArguments, RedundantArguments, NameUsedByIndex}
-use Rattle.call_faults.specs.Spots.{Label, behind, bytes_at, named_spot, primary, reference_spot}
+use Rattle.call_faults.specs.Spots.{
+  Label,
+  rest_after,
+  bytes_at,
+  named_spot,
+  primary,
+  reference_spot,
+}
 use Rattle.call_faults.specs.Spots.{secondary, spot_of, type_spot, use_spot}
 use Rattle.call_faults.specs.Words.{has_number, name_of, never_used, quoted}
 use Rattle.call_faults.specs.declared.faults.Reference.{Reference}
@@ -85,7 +92,7 @@ next_label (NextArgument a) places =
 -- The labels of those of these pieces that take the next argument.
 abbrev pub next_labels : List (Piece Place) → List Place → List Label
 next_labels [] places = []
-next_labels (p ∷ ps) places = next_label p places ++ next_labels ps (behind p places)
+next_labels (p ∷ ps) places = next_label p places ++ next_labels ps (rest_after p places)
 
 -- How many arguments are expected.
 abbrev pub expected_count : ℕ → List ℕ
@@ -175,7 +182,8 @@ abbrev pub removal_labels : List Given → ℕ → List Label
 removal_labels gs i = if is_last gs i then primary (Value i) removal_text ∷ []
     else removal_up_to_next i
 
--- The labels of redundant arguments. One alone is told that it can be removed, unless any argument
+-- The labels of redundant arguments. The label of one alone says that it can be removed, unless
+-- any argument
 -- has a name.
 abbrev pub redundant_labels : List Given → List ℕ → List Label
 redundant_labels gs [] = []

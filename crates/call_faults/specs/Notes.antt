@@ -184,7 +184,7 @@ redundant_note c is = record {
   spots = named_positions (λ w. list_any (is_variable c.given w) is) c.pieces;
 }
 
--- What of an argument that is left out is removed: its value, and what is behind it up to the next
+-- What of an argument that is left out is removed: its value, and what is after it up to the next
 -- one, if there is one.
 abbrev pub removed_spot : List Given → ℕ → Spot
 removed_spot gs i = if is_last gs i then Value i else ValueUpToNext i
@@ -200,15 +200,15 @@ redundant_help gs is = if nat_lt 1 (length is) && not (have_names gs) then Some 
   edits = map (removal gs) is;
 }) else None
 
--- What is behind a name in a part of a placeholder.
-abbrev pub behind_name : Part → List ℕ
-behind_name PositionPart = []
-behind_name PrecisionPart = codes "$"
-behind_name WidthPart = codes "$"
+-- What is after a name in a part of a placeholder.
+abbrev pub after_name : Part → List ℕ
+after_name PositionPart = []
+after_name PrecisionPart = codes "$"
+after_name WidthPart = codes "$"
 
 -- The name of an argument as a part of a placeholder has it.
 abbrev pub name_in : Part → Text → List ℕ
-name_in p w = encode_utf8_all w ++ behind_name p
+name_in p w = encode_utf8_all w ++ after_name p
 
 -- The help for a use by index: the name in its place.
 abbrev pub by_index_help : Call → Reference → ℕ → Help

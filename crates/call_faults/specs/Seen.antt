@@ -46,7 +46,7 @@ use Rattle.call_faults.specs.CallFaults.{UnusedArguments, RedundantArguments, Na
 use Rattle.call_faults.specs.Lookups.{Lookup, Refer, NoTrait}
 use Rattle.call_faults.specs.Labels.{Call}
 use Rattle.call_faults.specs.Spots.{Edit, Help, Label, Note}
-use Rattle.call_faults.specs.Words.{Told}
+use Rattle.call_faults.specs.Words.{TitleParts}
 
 -- An argument as a contract sees it.
 abbrev pub seen_given : DeclaredGiven → Given
@@ -97,8 +97,8 @@ pub record Holds (ks : List Kept) (a : Arguments) : Type 0 where
   pub has_names : a.has_names ≡ list_any (λ k. is_some k.given.name) ks
 
 -- What titles tell of a call, with the numbers that are too large.
-abbrev pub told : Checked → List ℕ → Told Place
-told c numbers = record {
+abbrev pub title_parts : Checked → List ℕ → TitleParts Place
+title_parts c numbers = record {
   given = map seen_given c.given.now;
   count = length c.kept.items;
   pieces = map seen c.pieces.items;

@@ -102,10 +102,10 @@ named_spot ps r = option_map_or (name_spot r.part) (placeholder_at ps r.piece) L
 abbrev pub type_spot : List (Piece Place) → ℕ → Spot
 type_spot ps k = option_map_or (λ a. spot_of a.format.ty_span) (placeholder_at ps k) Literal
 
--- The places of the placeholders behind a piece, from those from that piece on.
-abbrev pub behind : Piece Place → List Place → List Place
-behind (Lit t) places = places
-behind (NextArgument a) places = drop 1 places
+-- The places of the placeholders after a piece, from those from that piece on.
+abbrev pub rest_after : Piece Place → List Place → List Place
+rest_after (Lit t) places = places
+rest_after (NextArgument a) places = drop 1 places
 
 -- The number of placeholders up to a piece, where n stand before it.
 abbrev pub count_with : ℕ → Piece Place → ℕ
@@ -123,15 +123,15 @@ abbrev pub place_of : List ℕ → List Place → ℕ → Option Place
 place_of counts places k = option_and_then (slice_get places) (slice_get counts k)
 
 -- A range without its first byte, which is the dot of a precision.
-abbrev pub behind_dot : Option Place → Spot
-behind_dot None = Literal
-behind_dot (Some p) = Bytes (min (p.0 + 1) p.1) p.1
+abbrev pub after_dot : Option Place → Spot
+after_dot None = Literal
+after_dot (Some p) = Bytes (min (p.0 + 1) p.1) p.1
 
 -- Where a use by index is shown: the whole placeholder, or the width or the precision without its
 -- dot.
 abbrev pub shown_part : Part → Option Place → Argument Place → Spot
 shown_part Position place a = spot_of place
-shown_part Precision place a = behind_dot a.format.precision_span
+shown_part Precision place a = after_dot a.format.precision_span
 shown_part Width place a = spot_of a.format.width_span
 
 -- Where a use by index is shown, in a string with these pieces, counts and places.
@@ -142,7 +142,7 @@ use_spot ps counts places r = option_map_or (shown_part r.part (place_of counts 
 -- Where the index is written: the position, or the width or the precision without its dot.
 abbrev pub index_part : Part → Argument Place → Spot
 index_part Position a = bytes_at a.position_span
-index_part Precision a = behind_dot a.format.precision_span
+index_part Precision a = after_dot a.format.precision_span
 index_part Width a = spot_of a.format.width_span
 
 -- Where a reference has the index of its argument.

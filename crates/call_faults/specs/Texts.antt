@@ -16,7 +16,7 @@ abbrev pub first_faults : List Call → List (Fault Span)
 first_faults [] = []
 first_faults (k ∷ ks) = or_else k.faults (first_faults ks)
 
--- The one of these faults of a call, behind f, whose error comes first in the list of a parser: the
+-- The one of these faults of a call, after f, whose error comes first in the list of a parser: the
 -- last one whose error is put in front of all others, or else the first of all.
 abbrev pub shown_of : {A : Type 0} → Fault A → List (Fault A) → Fault A
 shown_of f [] = f

@@ -102,10 +102,10 @@ unused_title gs [] = codes "multiple unused formatting arguments"
 unused_title gs (i ∷ []) = never_used (slice_get gs i)
 unused_title gs (i ∷ j ∷ is) = codes "multiple unused formatting arguments"
 
--- What a title tells of a call beside the fault: the arguments that are given and how many of them
--- count; the pieces; how many arguments their placeholders take one after the other; and the
--- numbers that are too large, each once and in rising order.
-pub record Told (A : Type 0) : Type 0 where
+-- The parts of a title that come from the call beside the fault: the arguments that are given and
+-- how many of them count; the pieces; how many arguments their placeholders take one after the
+-- other; and the numbers that are too large, each once and in rising order.
+pub record TitleParts (A : Type 0) : Type 0 where
   pub given : List Given
   pub count : ℕ
   pub pieces : List (Piece A)
@@ -113,7 +113,7 @@ pub record Told (A : Type 0) : Type 0 where
   pub numbers : List ℕ
 
 -- The title of a fault.
-unfoldable pub title : {A : Type 0} → Told A → CallFault → List ℕ
+unfoldable pub title : {A : Type 0} → TitleParts A → CallFault → List ℕ
 title c (PositionalAfterNamed i ns) = codes "positional arguments cannot follow named arguments"
 title c (RepeatedName i f) =
     codes "duplicate argument named " ++ quoted (name_of (slice_get c.given i))

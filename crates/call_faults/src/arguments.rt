@@ -110,7 +110,7 @@ fn add<'a>(
 ) -> Result<(), AllocError>
     ensures kept { OnOk result ((ks : List KeptValue) → Holds ks arguments.old
         → Holds (with_given ks index (seen_given given.entry)) arguments.new) }
-    ensures told { OnOk result ((ks : List KeptValue) → Holds ks arguments.old
+    ensures outcome { OnOk result ((ks : List KeptValue) → Holds ks arguments.old
         → map seen_fault faults.new.items ≡ map seen_fault faults.old.items
         ++ repeated index (first_of ks (seen_given given.entry))) }
 {
@@ -143,14 +143,14 @@ fn named_of(alloc: Global, list: &[Kept<'_>]) -> Result<Vec<usize>, AllocError>
     Ok(named)
 }
 
-/// Returns the arguments that count, or `None` if the first one without a name behind one with a
+/// Returns the arguments that count, or `None` if the first one without a name after one with a
 /// name ends the list. Adds the faults of the list. Returns `Err` if an allocation fails.
 pub(crate) fn arguments_of<'a>(
     alloc: Global,
     faults: &mut Vec<CallFault<'a>>,
     given: &[Given<'a>],
 ) -> Result<Option<Arguments<'a>>, AllocError>
-    ensures told { OnOk result (map seen_fault faults.new.items ≡ map seen_fault faults.old.items
+    ensures outcome { OnOk result (map seen_fault faults.new.items ≡ map seen_fault faults.old.items
         ++ list_faults [] 0 (map seen_given given.now)) }
     ensures some { IfOk result (λ o. IfSome o (λ a.
         Holds (kept_after [] 0 (map seen_given given.now)) a)) }

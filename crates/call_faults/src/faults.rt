@@ -34,7 +34,7 @@ pub struct Missing {
 /// What is wrong with a call. An argument is named by its index among all that are given.
 #[derive(Drop)]
 pub enum CallFault<'a> {
-    /// An argument without a name stands behind one with a name. No other fault follows.
+    /// An argument without a name stands after one with a name. No other fault follows.
     PositionalAfterNamed {
         /// The first such argument.
         index: usize,

@@ -5,7 +5,7 @@ ghost use Rattle.std.specs.Prelude.{string_bytes};
 ghost use Rattle.rustc_parse_format.specs.Faults.{message};
 ghost use Rattle.rustc_parse_format.specs.Seen.{pair};
 ghost use Rattle.rustc_parse_format.specs.SeenFaults.{seen_fault as seen_text_fault};
-ghost use Rattle.call_faults.specs.Notes.{added_spot, behind_name, by_index_help, debug_help};
+ghost use Rattle.call_faults.specs.Notes.{added_spot, after_name, by_index_help, debug_help};
 ghost use Rattle.call_faults.specs.Notes.{name_in, placeholders, positional_help};
 ghost use Rattle.call_faults.specs.Notes.{redundant_help, removal, removed_spot};
 ghost use Rattle.call_faults.specs.Notes.{replacing, text_help};
@@ -132,9 +132,9 @@ fn redundant_help(
     Ok(Some(CallHelp { text, edits }))
 }
 
-/// Returns what is behind a name in a part of a placeholder.
-fn behind_name(part: Part) -> &'static str
-    ensures { result.now ≡ behind_name part }
+/// Returns what is after a name in a part of a placeholder.
+fn after_name(part: Part) -> &'static str
+    ensures { result.now ≡ after_name part }
 {
     match part {
         Part::Position => "",
@@ -148,7 +148,7 @@ fn name_in(alloc: Global, part: Part, name: &str) -> Result<String, AllocError>
     ensures { IfOk result (λ s. string_bytes s ≡ name_in part (chars name.now)) }
 {
     let mut text = String::from_str(alloc, name)?;
-    text.push_str(behind_name(part))?;
+    text.push_str(after_name(part))?;
     Ok(text)
 }
 

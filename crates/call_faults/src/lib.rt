@@ -1,4 +1,4 @@
-//! What is wrong with a format string and the arguments of its call, as rustc tells it.
+//! What is wrong with a format string and the arguments of its call, as rustc reports it.
 #![tactic(auto)]
 
 mod arguments;

@@ -13,7 +13,7 @@ ghost use Rattle.call_faults.specs.declared.spots.Spot.TheVariants.{Value};
 use crate::checker::Checked;
 use crate::faults::Missing;
 use crate::spots::{
-    CallLabel, Spot, behind, first_spot, push_plain, push_secondary, reference_spot, spot_of,
+    CallLabel, Spot, first_spot, push_plain, push_secondary, reference_spot, rest_after, spot_of,
 };
 use crate::titles::put_number;
 use rustc_parse_format::{Count, Piece, Position};
@@ -85,7 +85,7 @@ fn push_nexts(
     let mut left = places;
     for piece in pieces {
         push_next(labels, piece, left)?;
-        left = behind(piece, left);
+        left = rest_after(piece, left);
     }
     Ok(())
 }

@@ -3,7 +3,7 @@
 ghost use Rattle.std.specs.Prelude.{◌≡◌, ◌+◌, ◌<◌, ◌^◌, ◌++◌, ◌∷◌, [], IfOk, OnOk, map, option_map};
 ghost use Rattle.std.specs.List.{slice_get};
 ghost use Rattle.rustc_parse_format.specs.Seen.{pair, seen, seen_argument, seen_count};
-ghost use Rattle.call_faults.specs.Spots.{behind, behind_dot, bytes_at, count_spot, count_with};
+ghost use Rattle.call_faults.specs.Spots.{rest_after, after_dot, bytes_at, count_spot, count_with};
 ghost use Rattle.call_faults.specs.Spots.{counts_before, index_spot};
 ghost use Rattle.call_faults.specs.Spots.{name_spot, named_spot, part_spot, place_of};
 ghost use Rattle.call_faults.specs.Spots.{placeholder_at, primary, reference_spot, secondary};
@@ -25,7 +25,7 @@ pub enum Spot {
     Name(usize),
     /// The value of an argument: its expression.
     Value(usize),
-    /// The value of an argument, and what is behind it up to the value of the next one.
+    /// The value of an argument, and what is after it up to the value of the next one.
     ValueUpToNext(usize),
     /// The empty range after the value of an argument.
     ValueEnd(usize),
@@ -41,7 +41,7 @@ pub enum Spot {
     Bytes {
         /// The offset of the first byte.
         start: usize,
-        /// The offset behind the last byte.
+        /// The offset after the last byte.
         end: usize,
     },
 }
@@ -155,7 +155,7 @@ pub(crate) fn spot_of(span: &Option<Range<usize>>) -> Spot
     }
 }
 
-/// Returns the placeholder with an index among pieces, or `None` if that is text or behind the end.
+/// Returns the placeholder with an index among pieces, or `None` if that is text or after the end.
 fn placeholder_at<'p, 'a>(pieces: &'p [Piece<'a>], index: usize) -> Option<&'p Argument<'a>>
     ensures { option_map (λ a. seen_argument a.now) result
         ≡ placeholder_at (map seen pieces.now) index }
@@ -229,9 +229,9 @@ pub(crate) fn type_spot(pieces: &[Piece<'_>], index: usize) -> Spot
     }
 }
 
-/// Returns the places of the placeholders behind a piece, from those from that piece on.
-pub(crate) fn behind<'p>(piece: &Piece<'_>, places: &'p [Range<usize>]) -> &'p [Range<usize>]
-    ensures { map pair result.now ≡ behind (seen piece.now) (map pair places.now) }
+/// Returns the places of the placeholders after a piece, from those from that piece on.
+pub(crate) fn rest_after<'p>(piece: &Piece<'_>, places: &'p [Range<usize>]) -> &'p [Range<usize>]
+    ensures { map pair result.now ≡ rest_after (seen piece.now) (map pair places.now) }
 {
     match piece {
         Piece::Lit(_) => places,
@@ -293,8 +293,8 @@ fn place_spot(counts: &[usize], places: &[Range<usize>], index: usize) -> Spot
 }
 
 /// Returns a range without its first byte, which is the dot of a precision.
-fn behind_dot(span: &Option<Range<usize>>) -> Spot
-    ensures { result ≡ behind_dot (option_map pair span.now) }
+fn after_dot(span: &Option<Range<usize>>) -> Spot
+    ensures { result ≡ after_dot (option_map pair span.now) }
 {
     match span {
         None => Spot::Literal,
@@ -319,7 +319,7 @@ pub(crate) fn use_spot(
         None => Spot::Literal,
         Some(argument) => match reference.part {
             Part::Position => place_spot(counts, places, reference.piece),
-            Part::Precision => behind_dot(&argument.format.precision_span),
+            Part::Precision => after_dot(&argument.format.precision_span),
             Part::Width => spot_of(&argument.format.width_span),
         },
     }
@@ -334,7 +334,7 @@ pub(crate) fn index_spot(pieces: &[Piece<'_>], reference: Reference) -> Spot
         None => Spot::Literal,
         Some(argument) => match reference.part {
             Part::Position => bytes_at(&argument.position_span),
-            Part::Precision => behind_dot(&argument.format.precision_span),
+            Part::Precision => after_dot(&argument.format.precision_span),
             Part::Width => spot_of(&argument.format.width_span),
         },
     }

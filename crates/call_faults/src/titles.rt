@@ -9,7 +9,7 @@ ghost use Rattle.rustc_parse_format.specs.Seen.{seen, seen_count, seen_position}
 ghost use Rattle.rustc_parse_format.specs.SeenFaults.{seen_fault as seen_text_fault};
 ghost use Rattle.placeholder_check.specs.Report.{IsReport, Report};
 ghost use Rattle.placeholder_check.specs.Uses.{uses};
-ghost use Rattle.call_faults.specs.Seen.{seen_fault, seen_given, told};
+ghost use Rattle.call_faults.specs.Seen.{seen_fault, seen_given, title_parts};
 ghost use Rattle.call_faults.specs.Words.{call_id, count_text, few_title, has_number, is_counted};
 ghost use Rattle.call_faults.specs.Words.{is_named, is_number, listed, name_of, never_used};
 ghost use Rattle.call_faults.specs.Words.{numbers_title, plural, quoted, separator};
@@ -86,7 +86,7 @@ pub(crate) fn put_noun(out: &mut String, noun: &str, count: usize) -> Result<(),
     Ok(())
 }
 
-/// Adds what stands between a number and those behind it.
+/// Adds what stands between a number and those after it.
 fn put_separator(out: &mut String, others: &[usize]) -> Result<(), AllocError>
     ensures { OnOk result (string_bytes out.new ≡ string_bytes out.old ++ separator others.now) }
 {
@@ -291,7 +291,7 @@ impl<'a> Checked<'a> {
     ghost use Rattle.rustc_parse_format.specs.Seen.{seen};
     ghost use Rattle.placeholder_check.specs.Report.{IsReport, Report};
     ghost use Rattle.placeholder_check.specs.Uses.{uses};
-    ghost use Rattle.call_faults.specs.Seen.{seen_fault, told};
+    ghost use Rattle.call_faults.specs.Seen.{seen_fault, title_parts};
     ghost use Rattle.call_faults.specs.Words.{title};
 
     /// Adds the title of one of the faults to the end of `out`, as rustc has it. Returns `Err` if
@@ -300,7 +300,7 @@ impl<'a> Checked<'a> {
     pub fn put_title(&self, out: &mut String, fault: &CallFault<'a>) -> Result<(), AllocError>
         ensures { OnOk result ((r : Report) → IsReport (uses (map seen self.now.pieces.items))
             (length self.now.kept.items) [] r → string_bytes out.new ≡ string_bytes out.old
-            ++ title (told self.now r.missing_index) (seen_fault fault.now)) }
+            ++ title (title_parts self.now r.missing_index) (seen_fault fault.now)) }
     {
         match fault {
             CallFault::PositionalAfterNamed { .. } => {

@@ -4,7 +4,7 @@ use Rattle.std.proofs.Common.{refl, ap, ◌∙◌, sym, append-nil, subst, arith
 use Rattle.std.proofs.lemmas.Bool.{cond-false}
 use Rattle.std.proofs.lemmas.List.{map-append}
 use Rattle.std.specs.Char.{is_whitespace}
-use Rattle.rustc_parse_format.specs.Characters.{Text, begins_with, behind_white, front}
+use Rattle.rustc_parse_format.specs.Characters.{Text, begins_with, after_white, front}
 use Rattle.rustc_parse_format.specs.Types.{Mode}
 use Rattle.rustc_parse_format.specs.Marks.{Span}
 use Rattle.rustc_parse_format.specs.Faults.{Fault, map_fault}
@@ -61,9 +61,9 @@ call-opens mode c t h = cond-false (begins_with 123 t) _ _ h
 
 -- The call that reads the placeholder at `opening` with this cut.
 abbrev pub cut_call : Mode → ℕ → Text → Cut → Call
-cut_call mode c opening a = cond (begins_with 125 (behind_white a.rest))
-    (closed_call mode c opening a (behind_white a.rest))
-    (unclosed_call mode c opening a (behind_white a.rest))
+cut_call mode c opening a = cond (begins_with 125 (after_white a.rest))
+    (closed_call mode c opening a (after_white a.rest))
+    (unclosed_call mode c opening a (after_white a.rest))
 
 pub placeholder-cut_call : (mode : Mode) (c : ℕ) (opening t : Text)
     → placeholder mode c opening t ≡ cut_call mode c opening (cut mode t)
@@ -76,11 +76,11 @@ cut_at mode p t u = record {
   field = record {
     position = p;
     space = front is_whitespace u;
-    spec = (specification mode (behind_white u)).0;
+    spec = (specification mode (after_white u)).0;
   };
   position_at = t;
-  spec_at = behind_white u;
-  rest = (specification mode (behind_white u)).1;
+  spec_at = after_white u;
+  rest = (specification mode (after_white u)).1;
 }
 
 pub cut-cut_at : (mode : Mode) (t : Text) → cut mode t

@@ -14,7 +14,7 @@ use Rattle.rustc_parse_format.specs.Call.{unmatched_call}
 use Rattle.rustc_parse_format.proofs.Rows.Definitions.{computing}
 use Rattle.drawn_faults.specs.Fixing.{all_faults}
 use Rattle.drawn_faults.specs.Losing.{LosesOnly, moved_count, colon_moves, colon_faults}
-use Rattle.drawn_faults.proofs.Moving.{faults-fixed, all_faults-forward, moved-behind, span_of}
+use Rattle.drawn_faults.proofs.Moving.{faults-fixed, all_faults-forward, moved-rest_after, span_of}
 use Rattle.drawn_faults.proofs.Moving.{moved_count-before}
 use Rattle.drawn_faults.proofs.PositionMoves.{Replaces, position_faults-moves, cut_of}
 use Rattle.drawn_faults.proofs.PositionMoves.{calls, call-stops, three-lose, unmatched}
@@ -124,11 +124,11 @@ before mode c u r reads e h =
     (calls mode n 125 r (unmatched_call n (125 ∷ r) r) _ n r (unmatched mode n r h) refl refl refl)
 
 -- After it: the position's, and those of what follows.
-behind : (mode : Mode) (c : ℕ) (u r : Text) → Reads mode c (position u).0 u (position u).1 r
+rest_after : (mode : Mode) (c : ℕ) (u r : Text) → Reads mode c (position u).0 u (position u).1 r
     → (cut mode u).spec_at ≡ [] → all_faults mode c (123 ∷ u ++ coloned r)
     ≡ position_faults (u ++ coloned r) (position u).0
     ++ all_faults mode (number_after_position c (position u).0) r
-behind mode c u r reads e =
+rest_after mode c u r reads e =
     calls mode c 123 (u ++ coloned r) _ _ (number_after_position c (position u).0) r
     (call-stops mode c u 58 (asked r) colon-stops e) reads.edited_faults reads.edited_next
     reads.edited_rest
@@ -141,7 +141,7 @@ colon-loses mode c u r reads e h =
     let n : ℕ = length (125 ∷ r) in
     let next : ℕ = number_after_position c (position u).0 in
     three-lose (colon_moves r) _ _ _ (position_faults (u ++ asked r) (position u).0)
-    (all_faults mode next r) _ _ _ (before mode c u r reads e h) (behind mode c u r reads e)
+    (all_faults mode next r) _ _ _ (before mode c u r reads e h) (rest_after mode c u r reads e)
     (position_faults-moves (colon_moves r) 63 (125 ∷ r) 58 (asked r) u (replaces r))
-    (faults-fixed n (colon_moves r) (moved-behind n 1 2) (all_faults mode next r)
+    (faults-fixed n (colon_moves r) (moved-rest_after n 1 2) (all_faults mode next r)
     (all_faults-forward n mode next r (omega arith)))

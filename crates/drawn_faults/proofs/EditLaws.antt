@@ -7,13 +7,13 @@ use Rattle.rustc_parse_format.specs.Types.{Mode}
 use Rattle.rustc_parse_format.specs.World.{Place}
 use Rattle.rustc_parse_format.specs.Faults.{Message}
 use borrow.Author.Tests.{ltb-true, leb-true}
-use Rattle.drawn_faults.specs.Edits.{Edit, edit_of, is_behind, is_empty, made, AreInOrder}
+use Rattle.drawn_faults.specs.Edits.{Edit, edit_of, is_after, is_empty, made, AreInOrder}
 
 -- The edits that are made are in order.
 pub made-order : (at : ℕ) (es : List Edit) → AreInOrder at (made at es)
 made-order at [] = tt
 made-order at (e ∷ es) =
-    cond_both (is_behind at e) (e ∷ made e.span.1 es) (made at es) (AreInOrder at)
+    cond_both (is_after at e) (e ∷ made e.span.1 es) (made at es) (AreInOrder at)
     (λ yes. let h = and_parts _ _ yes in
     (ltb-true _ _ h.0, leb-true _ _ h.1, made-order e.span.1 es))
     (λ no. made-order at es)
@@ -26,13 +26,13 @@ no_nil (x ∷ xs) e es h = absurd (cc)
 pub some-made : (mode : Mode) (found : List Edit) (at : ℕ) (rest left : List (Message Place))
     (m : Message Place) (e : Edit) (all : List Edit)
     → found ++ made at (filter_map (edit_of mode) rest) ≡ all → rest ≡ m ∷ left
-    → edit_of mode m ≡ Some e → is_behind at e ≡ true → all ≡ [] → ⊥
+    → edit_of mode m ≡ Some e → is_after at e ≡ true → all ≡ [] → ⊥
 some-made mode found at rest left m e all h r s b n =
     let first : made at (filter_map (edit_of mode) rest)
     ≡ e ∷ made e.span.1 (filter_map (edit_of mode) left) =
     ap (λ ms. made at (filter_map (edit_of mode) ms)) r
     ∙ ap (λ o. made at (cons_option o (filter_map (edit_of mode) left))) s
-    ∙ cond-true (is_behind at e) _ _ b in
+    ∙ cond-true (is_after at e) _ _ b in
     no_nil found e (made e.span.1 (filter_map (edit_of mode) left))
     (ap (λ l. found ++ l) (sym first) ∙ h ∙ n)
 

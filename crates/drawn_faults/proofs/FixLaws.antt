@@ -64,19 +64,19 @@ found-edits mode old [] = sym (append-nil (filter_map (edit_of mode) (reverse ol
 found-edits mode old (f ∷ fs) =
     let m = message f in
     let before = filter_map (edit_of mode) (reverse old) in
-    let behind = fault_edits mode fs in
+    let rest_after = fault_edits mode fs in
     cond_both (is_front f) (m ∷ old) (old ++ m ∷ [])
     (λ es. filter_map (edit_of mode) (reverse (add_errors es fs)) ≡ before ++ fault_edits mode (f ∷
     fs))
     (λ yes. found-edits mode (m ∷ old) fs
-    ∙ ap (λ ms. filter_map (edit_of mode) ms ++ behind) (reverse-append (m ∷ []) old)
-    ∙ ap (λ es. es ++ behind) (filter_map-append (edit_of mode) (reverse old) (m ∷ []))
-    ∙ append_assoc before (cons_option (edit_of mode m) []) behind
-    ∙ ap (λ es. before ++ es) (cons_option-more (edit_of mode m) [] behind))
+    ∙ ap (λ ms. filter_map (edit_of mode) ms ++ rest_after) (reverse-append (m ∷ []) old)
+    ∙ ap (λ es. es ++ rest_after) (filter_map-append (edit_of mode) (reverse old) (m ∷ []))
+    ∙ append_assoc before (cons_option (edit_of mode m) []) rest_after
+    ∙ ap (λ es. before ++ es) (cons_option-more (edit_of mode m) [] rest_after))
     (λ no. found-edits mode (old ++ m ∷ []) fs
-    ∙ ap (λ ms. filter_map (edit_of mode) ms ++ behind) (reverse-append old (m ∷ []))
-    ∙ ap (λ o. cons_option o before ++ behind) (unedited mode f no)
-    ∙ ap (λ o. before ++ cons_option o behind) (sym (unedited mode f no)))
+    ∙ ap (λ ms. filter_map (edit_of mode) ms ++ rest_after) (reverse-append old (m ∷ []))
+    ∙ ap (λ o. cons_option o before ++ rest_after) (unedited mode f no)
+    ∙ ap (λ o. before ++ cons_option o rest_after) (sym (unedited mode f no)))
 
 -- The edits of all calls of a parser from a state on.
 abbrev pub left_edits : Mode → State → List Edit

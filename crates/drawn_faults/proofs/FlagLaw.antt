@@ -6,7 +6,7 @@ use Rattle.std.proofs.Common.{subst, length-append, inl, inr, not}
 use Rattle.std.specs.Char.{is_whitespace}
 use Rattle.std.proofs.lemmas.Bool.{cond-true, false≢true}
 use Rattle.std.proofs.lemmas.Bool.{false_from_ne_true, or_cases, eqb-true}
-use Rattle.rustc_parse_format.specs.Characters.{Text, begins_with, behind, behind_white}
+use Rattle.rustc_parse_format.specs.Characters.{Text, begins_with, rest_after, after_white}
 use Rattle.rustc_parse_format.specs.Characters.{front, is_brace, is_no_brace}
 use Rattle.rustc_parse_format.specs.Types.{Format, DebugHex, Lower, Upper}
 use Rattle.rustc_parse_format.specs.Marks.{Mark, Start, End, Span, through, over_first}
@@ -107,24 +107,24 @@ white-no_flag c h = false_from_ne_true (is_debug_flag c) (λ e. elim (or_cases _
   | inr o ↦ false≢true (ap is_whitespace (sym (eqb-true c 88 o)) ∙ h)
 ])
 
-first-no_flag : (d : ℕ) (z r : Text) → behind_white (d ∷ z) ≡ 125 ∷ r → is_debug_flag d ≡ false
-unfolding behind_white
+first-no_flag : (d : ℕ) (z r : Text) → after_white (d ∷ z) ≡ 125 ∷ r → is_debug_flag d ≡ false
+unfolding after_white
 first-no_flag d z r h = by_test (is_whitespace d) refl h
   where
     by_test : (b : Bool) → is_whitespace d ≡ b
-        → cond b (behind is_whitespace z) (d ∷ z) ≡ 125 ∷ r → is_debug_flag d ≡ false
+        → cond b (rest_after is_whitespace z) (d ∷ z) ≡ 125 ∷ r → is_debug_flag d ≡ false
     by_test true e k = white-no_flag d e
     by_test false e k = let same : d ≡ 125 = cc in rw same refl
 
-run-ends : (z r : Text) → behind_white z ≡ 125 ∷ r → behind is_no_brace z ≡ 125 ∷ r
-unfolding behind_white
+run-ends : (z r : Text) → after_white z ≡ 125 ∷ r → rest_after is_no_brace z ≡ 125 ∷ r
+unfolding after_white
 run-ends [] r h = h
 run-ends (c ∷ z) r h = by_test (is_whitespace c) refl h (run-ends z r)
   where
     by_test : (b : Bool) → is_whitespace c ≡ b
-        → cond b (behind is_whitespace z) (c ∷ z) ≡ 125 ∷ r
-        → (behind is_whitespace z ≡ 125 ∷ r → behind is_no_brace z ≡ 125 ∷ r)
-        → behind is_no_brace (c ∷ z) ≡ 125 ∷ r
+        → cond b (rest_after is_whitespace z) (c ∷ z) ≡ 125 ∷ r
+        → (rest_after is_whitespace z ≡ 125 ∷ r → rest_after is_no_brace z ≡ 125 ∷ r)
+        → rest_after is_no_brace (c ∷ z) ≡ 125 ∷ r
     by_test true e k ih = cond-true (is_no_brace c) _ _ (white-no_brace c e) ∙ ih k
     by_test false e k ih = let same : c ≡ 125 = cc in let rest : z ≡ r = cc in rw (same, rest) refl
 
@@ -143,7 +143,7 @@ record ReadsFlag (f : ℕ) : Type 0 where
   next : (c : ℕ) (o : Text) (p : PositionText) (t v s : Text) (b : FormatText) (d : ℕ) (z : Text)
       → (cut_call Format c o (spec_cut p t v s (b, f ∷ d ∷ z))).next ≡ next_of c p b
   text : (c : ℕ) (z : Text) → call Format c (f ∷ z) ≡ text_call c [] (f ∷ z)
-  run : (z : Text) → behind is_no_brace (f ∷ z) ≡ behind is_no_brace z
+  run : (z : Text) → rest_after is_no_brace (f ∷ z) ≡ rest_after is_no_brace z
 
 number_sign-reads : ReadsFlag 35
 unfolding computing
@@ -194,7 +194,7 @@ with_two xs ys y z = rw (append-nil xs, sym (append_assoc xs ys (y ∷ [])))
 
 reorders-at : (f : ℕ) → ReadsFlag f → (c : ℕ) (u s : Text) (d : ℕ) (z r : Text) (b a : FormatText)
     (own : List (Fault Span)) → (cut Format u).spec_at ≡ [] → Reorders f s d z b a own
-    → behind_white (d ∷ z) ≡ 125 ∷ r → begins_with 125 r ≡ false
+    → after_white (d ∷ z) ≡ 125 ∷ r → begins_with 125 r ≡ false
     → LosesOnly (late_flag_faults c u s f (d ∷ z) r) (λ x. x)
     (all_faults Format c (123 ∷ (u ++ 58 ∷ (s ++ 63 ∷ f ∷ d ∷ z))))
     (all_faults Format c (123 ∷ (u ++ 58 ∷ (s ++ f ∷ 63 ∷ d ∷ z))))
@@ -262,8 +262,8 @@ reorders-at f k c u s d z r b a own e h w n =
     (was ∙ ap (λ fs. (first ++ late ∷ brace ∷ []) ++ fs) (middle ∙ last)) is stay
     (all_stay later))
 
-none-ends : (r : Text) → behind_white [] ≡ 125 ∷ r → ⊥
-unfolding behind_white
+none-ends : (r : Text) → after_white [] ≡ 125 ∷ r → ⊥
+unfolding after_white
 none-ends r h = absurd (cc)
 
 pub number_sign-reorders : MovesFlag 35 (λ s. alternate_at s)

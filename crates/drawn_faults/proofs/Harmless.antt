@@ -121,11 +121,11 @@ pub glyphs-harmless : (t : Text) → IsHarmless (encode_utf8_all (glyphs t))
 glyphs-harmless t = (glyphs t, refl, none-glyphs t)
 
 -- and without its first characters
-pub behind-harmless : (n : ℕ) (t : Text) → IsHarmless (encode_utf8_all (drop n (glyphs t)))
-behind-harmless n t = (drop n (glyphs t), refl, none-drop n (glyphs t) (none-glyphs t))
+pub rest_after-harmless : (n : ℕ) (t : Text) → IsHarmless (encode_utf8_all (drop n (glyphs t)))
+rest_after-harmless n t = (drop n (glyphs t), refl, none-drop n (glyphs t) (none-glyphs t))
 
 -- what `put_glyphs` needs
-pub ruleset harmless_glyphs = (behind-harmless)
+pub ruleset harmless_glyphs = (rest_after-harmless)
 
 digit-written : (n : ℕ) → is_written (digit_glyph false (n % 10)) ≡ true
 digit-written n = let l : n % 10 < 10 = omega arith in grind (arith, nat_tests)

@@ -8,7 +8,7 @@ use Rattle.std.specs.Str.{trim, trim_start}
 use Rattle.drawn_faults.specs.Edited.{are_blank, do_remove, is_added, is_same_end, new_lines}
 use Rattle.drawn_faults.specs.Edited.{old_lines}
 use Rattle.drawn_faults.specs.Glyphs.{IsHarmless, run}
-use Rattle.drawn_faults.specs.Helps.{behind_pluses, changed_row, changed_rows, columns_of, drawn}
+use Rattle.drawn_faults.specs.Helps.{after_pluses, changed_row, changed_rows, columns_of, drawn}
 use Rattle.drawn_faults.specs.Helps.{edited_parts, edits_rows, have_bytes, cells_of, help_word}
 use Rattle.drawn_faults.specs.Helps.{inserted_rows, is_whole, kept_lines, kept_row, kept_rows}
 use Rattle.drawn_faults.specs.Helps.{lone_addition, lone_sign, new_row, new_rows}
@@ -143,7 +143,7 @@ of_plus_signs : (p : Palette) (n : ℕ) (xs : List Piece)
 of_plus_signs p n [] = nothing
 of_plus_signs p n (x ∷ xs) =
     either (is_added x)
-    (join (of_pluses p n x.text) (of_plus_signs p (behind_pluses x.text) xs))
+    (join (of_pluses p n x.text) (of_plus_signs p (after_pluses x.text) xs))
     (of_plus_signs p (n + columns_of 0 (chars x.text)) xs)
 
 of_inserted : (f : Frame) (n : ℕ) (ls : List (List Piece))

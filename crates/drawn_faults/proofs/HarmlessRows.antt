@@ -7,7 +7,7 @@ use Rattle.rustc_parse_format.specs.Characters.{Text}
 use Rattle.drawn_faults.specs.Glyphs.{IsHarmless, glyph_bytes, glyphs, is_obeyed, run}
 use Rattle.drawn_faults.specs.Labels.{Frame, Label}
 use Rattle.drawn_faults.specs.Lines.{apart, code_row, gap, labelled, number_bar, numbered, shown}
-use Rattle.drawn_faults.specs.Lines.{behind_bar, source_line, source_row, two_labels}
+use Rattle.drawn_faults.specs.Lines.{after_bar, source_line, source_row, two_labels}
 use Rattle.drawn_faults.specs.Long.{bar_gap, bar_row, bar_rows, between, first_rows, is_bare_line}
 use Rattle.drawn_faults.specs.Long.{last_rows, lead, long_rows, signed_row, without_bare}
 use Rattle.drawn_faults.specs.Painting.{IsColourOf, painted}
@@ -24,7 +24,7 @@ use Rattle.drawn_faults.specs.declared.paint.Style.{Style}
 use Rattle.drawn_faults.specs.declared.paint.Style.TheVariants.{Primary, PrimaryText, Secondary}
 use Rattle.drawn_faults.proofs.Coloured.{Quiet, either, join, nothing, of_closing, of_opening}
 use Rattle.drawn_faults.proofs.Coloured.{of_painted, of_written, plain, quiet-append}
-use Rattle.drawn_faults.proofs.Harmless.{behind-harmless, decimal-harmless, glyphs-harmless}
+use Rattle.drawn_faults.proofs.Harmless.{rest_after-harmless, decimal-harmless, glyphs-harmless}
 use Rattle.drawn_faults.proofs.Harmless.{join as join_harmless, run-harmless, text as harmless_text}
 use Rattle.drawn_faults.proofs.Harmless.{is_written, written-harmless}
 use Rattle.std.specs.List.{list_all}
@@ -165,11 +165,11 @@ of_shown : (p : Palette) (cut : ℕ) (t : Text) → IsColourOf (shown p cut t) (
 unfolding shown
 of_shown p cut t =
     either (cut == 0) (plain (glyphs-harmless t))
-    (join (of_dots p) (plain (behind-harmless (cut + 3) t)))
+    (join (of_dots p) (plain (rest_after-harmless (cut + 3) t)))
 
-of_behind_bar : (p : Palette) {front : List ℕ} (cut : ℕ) (t : Text) → IsHarmless front
-    → IsColourOf (behind_bar p front cut t) (behind_bar Colourless front cut t)
-of_behind_bar p cut t h =
+of_after_bar : (p : Palette) {front : List ℕ} (cut : ℕ) (t : Text) → IsHarmless front
+    → IsColourOf (after_bar p front cut t) (after_bar Colourless front cut t)
+of_after_bar p cut t h =
     either ((cut == 0) && (length (encode_utf8_all (glyphs t)) == 0)) nothing
     (join (plain h) (of_shown p cut t))
 
@@ -177,7 +177,7 @@ of_source_line : (f : Frame) {front : List ℕ} (n : ℕ) → IsHarmless front
     → IsColourOf (source_line f front n) (source_line (plain_frame f) front n)
 unfolding source_line
 of_source_line f n h =
-    join (of_behind_bar f.gutter.palette f.cut (chars (line n f.picture.source)) h)
+    join (of_after_bar f.gutter.palette f.cut (chars (line n f.picture.source)) h)
     (text (codes "\n") refl)
 
 of_source : (f : Frame) {front : List ℕ} (n : ℕ) → IsHarmless front

@@ -19,27 +19,27 @@ use Rattle.drawn_faults.specs.Fixing.{faults_within, all_faults}
 use Rattle.drawn_faults.specs.Losing.{moved_count, moved_mark, moved}
 
 -- A count of characters that are left after the edit, or before it.
-pub moved_count-behind : (n r a k : ℕ) → k ≤ n → moved_count n r a k ≡ k
-moved_count-behind n r a k h = grind (arith, nat_tests)
+pub moved_count-rest_after : (n r a k : ℕ) → k ≤ n → moved_count n r a k ≡ k
+moved_count-rest_after n r a k h = grind (arith, nat_tests)
 
 pub moved_count-before : (n r a k : ℕ) → n < k → moved_count n r a k ≡ (k - r) + a
 moved_count-before n r a k h = grind (arith, nat_tests)
 
-pub moved_mark-behind : (n r a : ℕ) (m : Mark) → left_at m ≤ n → moved_mark n r a m ≡ m
-moved_mark-behind n r a (Start k) h = ap Start (moved_count-behind n r a k h)
-moved_mark-behind n r a (End k) h = ap End (moved_count-behind n r a k h)
+pub moved_mark-rest_after : (n r a : ℕ) (m : Mark) → left_at m ≤ n → moved_mark n r a m ≡ m
+moved_mark-rest_after n r a (Start k) h = ap Start (moved_count-rest_after n r a k h)
+moved_mark-rest_after n r a (End k) h = ap End (moved_count-rest_after n r a k h)
 
 -- A span by its marks.
 abbrev pub span_of : Mark → Mark → Span
 span_of x y = record { from = x; to = y }
 
 -- A span after the edit stays.
-pub moved-behind : (n r a : ℕ) (s : Span) → IsForward n s → moved n r a s ≡ s
-moved-behind n r a s h =
+pub moved-rest_after : (n r a : ℕ) (s : Span) → IsForward n s → moved n r a s ≡ s
+moved-rest_after n r a s h =
     let w = h.within in
     let o = h.in_order in
     let to : left_at s.to ≤ n = omega arith in
-    both (moved_mark-behind n r a s.from w) (moved_mark-behind n r a s.to to)
+    both (moved_mark-rest_after n r a s.from w) (moved_mark-rest_after n r a s.to to)
   where
     both : {x y u v : Mark} → x ≡ y → u ≡ v → span_of x u ≡ span_of y v
     both e f = cc

@@ -7,8 +7,8 @@ use Rattle.std.specs.Char.{is_ascii_digit, is_whitespace}
 use Rattle.std.proofs.lemmas.Bool.{cond_both, cond-false, false≢true, and_parts, false_from_ne_true}
 use Rattle.std.proofs.lemmas.Bool.{eqb-true}
 use Rattle.std.proofs.lemmas.List.{map-append}
-use Rattle.rustc_parse_format.specs.Characters.{Text, begins_raw, begins_with, behind_digits, front}
-use Rattle.rustc_parse_format.specs.Characters.{behind_white, behind_word, digits, is_id_start}
+use Rattle.rustc_parse_format.specs.Characters.{Text, begins_raw, begins_with, after_digits, front}
+use Rattle.rustc_parse_format.specs.Characters.{after_white, after_word, digits, is_id_start}
 use Rattle.rustc_parse_format.specs.Characters.{is_over}
 use Rattle.rustc_parse_format.specs.Characters.{word}
 use Rattle.rustc_parse_format.specs.Types.{Mode}
@@ -26,27 +26,27 @@ use Rattle.rustc_parse_format.proofs.Rows.Definitions.{computing}
 use Rattle.drawn_faults.specs.Fixing.{all_faults}
 use Rattle.drawn_faults.proofs.CallFaults.{all_faults-step}
 use Rattle.drawn_faults.proofs.CallMoves.{call-opens, cut_call, placeholder-cut_call, cut-cut_at}
-use Rattle.drawn_faults.proofs.Stopping.{Stops, word-stop, behind_word-stop, digits-stop}
-use Rattle.drawn_faults.proofs.Stopping.{behind_digits-stop, behind_white-stop, position-stop}
+use Rattle.drawn_faults.proofs.Stopping.{Stops, word-stop, after_word-stop, digits-stop}
+use Rattle.drawn_faults.proofs.Stopping.{after_digits-stop, after_white-stop, position-stop}
 
 -- The faults of a word, of a number and of a raw identifier before such a character.
 pub word_faults-at : (u : Text) (x : ℕ) (r : Text) → Stops x → word_faults (u ++ x ∷ r)
     ≡ cond (bytes_eq (word u) (codes "_"))
-    (Underscore (up_to (u ++ x ∷ r) (behind_word u ++ x ∷ r)) ∷ []) []
+    (Underscore (up_to (u ++ x ∷ r) (after_word u ++ x ∷ r)) ∷ []) []
 word_faults-at u x r h =
     ap (λ w. cond (bytes_eq w (codes "_"))
-    (Underscore (up_to (u ++ x ∷ r) (behind_word (u ++ x ∷ r))) ∷ []) []) (word-stop u x r h)
+    (Underscore (up_to (u ++ x ∷ r) (after_word (u ++ x ∷ r))) ∷ []) []) (word-stop u x r h)
     ∙ ap (λ s. cond (bytes_eq (word u) (codes "_")) (Underscore (up_to (u ++ x ∷ r) s) ∷ []) [])
-    (behind_word-stop u x r h)
+    (after_word-stop u x r h)
 
 pub number_faults-at : (u : Text) (x : ℕ) (r : Text) → is_ascii_digit x ≡ false →
     number_faults (u ++ x ∷ r) ≡ cond (is_over (digits u))
-    (TooLarge (digits u) (through (u ++ x ∷ r) (behind_digits u ++ x ∷ r)) ∷ []) []
+    (TooLarge (digits u) (through (u ++ x ∷ r) (after_digits u ++ x ∷ r)) ∷ []) []
 number_faults-at u x r h =
     ap (λ w. cond (is_over w)
-    (TooLarge w (through (u ++ x ∷ r) (behind_digits (u ++ x ∷ r))) ∷ []) []) (digits-stop u x r h)
+    (TooLarge w (through (u ++ x ∷ r) (after_digits (u ++ x ∷ r))) ∷ []) []) (digits-stop u x r h)
     ∙ ap (λ s. cond (is_over (digits u)) (TooLarge (digits u) (through (u ++ x ∷ r) s) ∷ []) [])
-    (behind_digits-stop u x r h)
+    (after_digits-stop u x r h)
 
 -- A text x, with the rest r, becomes y with q, and what is before moves.
 pub record Replaces (move : Span → Span) (x : ℕ) (r : Text) (y : ℕ) (q : Text) : Type 0 where
@@ -65,10 +65,10 @@ word_faults-moves move x r y q u h =
     (either (bytes_eq (word u) (codes "_")))
   where
     either : (b : Bool)
-        → cond b (Underscore (up_to (u ++ y ∷ q) (behind_word u ++ y ∷ q)) ∷ []) []
+        → cond b (Underscore (up_to (u ++ y ∷ q) (after_word u ++ y ∷ q)) ∷ []) []
         ≡ map (map_fault move)
-        (cond b (Underscore (up_to (u ++ x ∷ r) (behind_word u ++ x ∷ r)) ∷ []) [])
-    either true = ap (λ s. Underscore s ∷ []) (h.up_to u (behind_word u))
+        (cond b (Underscore (up_to (u ++ x ∷ r) (after_word u ++ x ∷ r)) ∷ []) [])
+    either true = ap (λ s. Underscore s ∷ []) (h.up_to u (after_word u))
     either false = refl
 
 number_faults-moves : (move : Span → Span) (x : ℕ) (r : Text) (y : ℕ) (q u : Text)
@@ -79,10 +79,10 @@ number_faults-moves move x r y q u h =
     (either (is_over (digits u)))
   where
     either : (b : Bool) → cond b
-        (TooLarge (digits u) (through (u ++ y ∷ q) (behind_digits u ++ y ∷ q)) ∷ []) []
+        (TooLarge (digits u) (through (u ++ y ∷ q) (after_digits u ++ y ∷ q)) ∷ []) []
         ≡ map (map_fault move) (cond b
-        (TooLarge (digits u) (through (u ++ x ∷ r) (behind_digits u ++ x ∷ r)) ∷ []) [])
-    either true = ap (λ s. TooLarge (digits u) s ∷ []) (h.through u (behind_digits u))
+        (TooLarge (digits u) (through (u ++ x ∷ r) (after_digits u ++ x ∷ r)) ∷ []) [])
+    either true = ap (λ s. TooLarge (digits u) s ∷ []) (h.through u (after_digits u))
     either false = refl
 
 raw_faults-moves : (move : Span → Span) (x : ℕ) (r : Text) (y : ℕ) (q u : Text)
@@ -91,10 +91,10 @@ raw_faults-moves : (move : Span → Span) (x : ℕ) (r : Text) (y : ℕ) (q u : 
 raw_faults-moves move x r y q [] h k = absurd (false≢true k)
 raw_faults-moves move x r y q (c ∷ []) h k = absurd (false≢true (and_parts (c == 114) false k).1)
 raw_faults-moves move x r y q (c ∷ d ∷ u) h k =
-    let s : up_to (c ∷ d ∷ u ++ y ∷ q) (behind_word (u ++ y ∷ q))
-    ≡ move (up_to (c ∷ d ∷ u ++ x ∷ r) (behind_word (u ++ x ∷ r))) =
-    rw (behind_word-stop u x r h.old_stops, behind_word-stop u y q h.new_stops)
-    (h.up_to (c ∷ d ∷ u) (behind_word u)) in
+    let s : up_to (c ∷ d ∷ u ++ y ∷ q) (after_word (u ++ y ∷ q))
+    ≡ move (up_to (c ∷ d ∷ u ++ x ∷ r) (after_word (u ++ x ∷ r))) =
+    rw (after_word-stop u x r h.old_stops, after_word-stop u y q h.new_stops)
+    (h.up_to (c ∷ d ∷ u) (after_word u)) in
     joined (word_faults-moves move x r y q u h) s (h.through (c ∷ d ∷ u) (d ∷ u))
     ∙ sym (map-append (map_fault move) (word_faults (u ++ x ∷ r)) _)
   where
@@ -137,10 +137,10 @@ pub cut-stops : (mode : Mode) (u : Text) (x : ℕ) (r : Text) → Stops x → (c
 unfolding cut
 cut-stops mode u x r h e =
     let v : Text = (position u).1 in
-    let white : behind_white (v ++ x ∷ r) ≡ x ∷ r =
-    behind_white-stop v x r h ∙ ap (λ l. l ++ x ∷ r) e in
+    let white : after_white (v ++ x ∷ r) ≡ x ∷ r =
+    after_white-stop v x r h ∙ ap (λ l. l ++ x ∷ r) e in
     cut-cut_at mode (u ++ x ∷ r)
-    ∙ ap (λ y. cut_of mode y.0 (u ++ x ∷ r) y.1 (behind_white y.1)) (position-stop u x r h)
+    ∙ ap (λ y. cut_of mode y.0 (u ++ x ∷ r) y.1 (after_white y.1)) (position-stop u x r h)
     ∙ ap (cut_of mode (position u).0 (u ++ x ∷ r) (v ++ x ∷ r)) white
 
 opening-is_left : (mode : Mode) (u : Text) → (cut mode (123 ∷ u)).spec_at ≡ 123 ∷ u

@@ -5,8 +5,8 @@ use Rattle.std.proofs.Common.{append-nil, subst}
 use Rattle.std.proofs.lemmas.Bool.{cond-false, cond-true, false≢true, false_from_ne_true, eqb-true}
 use Rattle.std.proofs.lemmas.List.{map-append}
 use Rattle.rustc_parse_format.proofs.Rows.Definitions.{computing}
-use Rattle.rustc_parse_format.specs.Characters.{Text, begins_raw, begins_with, behind_word, word}
-use Rattle.rustc_parse_format.specs.Characters.{behind_white, first_passes, is_id_start}
+use Rattle.rustc_parse_format.specs.Characters.{Text, begins_raw, begins_with, after_word, word}
+use Rattle.rustc_parse_format.specs.Characters.{after_white, first_passes, is_id_start}
 use Rattle.rustc_parse_format.specs.Types.{Mode, Format, InlineAsm, Diagnostic, DiagnosticNamed}
 use Rattle.rustc_parse_format.specs.Types.{Named}
 use Rattle.rustc_parse_format.specs.Types.{NextArgument}
@@ -21,7 +21,7 @@ use Rattle.rustc_parse_format.specs.Recovery.{recovery}
 use Rattle.rustc_parse_format.specs.Call.{Call, call, unclosed_fault}
 use Rattle.rustc_parse_format.specs.ReadBack.{spans_of, spans_of_spec}
 use Rattle.rustc_parse_format.proofs.Grammar.PartFronts.{start-no_digit}
-use Rattle.rustc_parse_format.proofs.Grammar.Rests.{IsRest-le, cut_rest, behind_white_rest}
+use Rattle.rustc_parse_format.proofs.Grammar.Rests.{IsRest-le, cut_rest, after_white_rest}
 use Rattle.rustc_parse_format.proofs.Readers.RawWords.{raw-position}
 use Rattle.rustc_parse_format.proofs.Spans.Forward.{cut_faults-forward, argument-forward}
 use Rattle.rustc_parse_format.proofs.Spans.Forward.{AreForward, AreFaultsForward}
@@ -29,8 +29,8 @@ use Rattle.rustc_parse_format.proofs.Walking.Progress.{call-lt}
 use Rattle.drawn_faults.specs.Fixing.{all_faults}
 use Rattle.drawn_faults.specs.Losing.{IsMerged, LosesOnly, moved, moved_count}
 use Rattle.drawn_faults.proofs.Merging.{merged-append, merged-first, merged-second}
-use Rattle.drawn_faults.proofs.Moving.{faults-fixed, moved-behind, moved_count-before}
-use Rattle.drawn_faults.proofs.Moving.{moved_mark-behind, span_of}
+use Rattle.drawn_faults.proofs.Moving.{faults-fixed, moved-rest_after, moved_count-before}
+use Rattle.drawn_faults.proofs.Moving.{moved_mark-rest_after, span_of}
 use Rattle.drawn_faults.proofs.CallMoves.{CallLoses, calls-lose, call-opens, cut_call, cut_at}
 use Rattle.drawn_faults.proofs.CallMoves.{placeholder-cut_call, cut-cut_at}
 use Rattle.drawn_faults.proofs.RecoveryMoves.{Moves, cond_alike, recovery-alike}
@@ -41,14 +41,14 @@ abbrev removes : Text → Span → Span
 removes t = moved (length t) 2 0
 
 abbrev raw_fault : Text → Fault Span
-raw_fault t = RawIdentifier (up_to (114 ∷ 35 ∷ t) (behind_word t)) (through (114 ∷ 35 ∷ t) (35 ∷ t))
+raw_fault t = RawIdentifier (up_to (114 ∷ 35 ∷ t) (after_word t)) (through (114 ∷ 35 ∷ t) (35 ∷ t))
 
 -- The cuts before and after it.
 abbrev raw_cut : Mode → Text → Cut
-raw_cut mode t = cut_at mode (RawWord (word t)) (114 ∷ 35 ∷ t) (behind_word t)
+raw_cut mode t = cut_at mode (RawWord (word t)) (114 ∷ 35 ∷ t) (after_word t)
 
 abbrev word_cut : Mode → Text → Cut
-word_cut mode t = cut_at mode (Word (word t)) t (behind_word t)
+word_cut mode t = cut_at mode (Word (word t)) t (after_word t)
 
 cut-raw : (mode : Mode) (t : Text) → first_passes is_id_start t ≡ true
     → cut mode (114 ∷ 35 ∷ t) ≡ raw_cut mode t
@@ -56,7 +56,7 @@ cut-raw mode t h = cut-cut_at mode (114 ∷ 35 ∷ t)
     ∙ ap (λ x. cut_at mode x.0 (114 ∷ 35 ∷ t) x.1) (raw-position (114 ∷ 35 ∷ t) refl h)
 
 position-word : (t : Text) → begins_raw t ≡ false → first_passes is_id_start t ≡ true
-    → position t ≡ (Word (word t), behind_word t)
+    → position t ≡ (Word (word t), after_word t)
 position-word [] n e = absurd (false≢true e)
 position-word (c ∷ t) n e =
     cond-false _ _ _ (start-no_digit c e)
@@ -91,7 +91,7 @@ raw-faults : (mode : Mode) (t : Text) → cut_faults mode (raw_cut mode t)
 unfolding cut_faults
 raw-faults mode t =
     ap (λ l. ((word_faults t ++ raw_fault t ∷ []) ++ l) ++ later_faults mode t)
-    (named-faultless mode (word t) (up_to (114 ∷ 35 ∷ t) (behind_white (behind_word t))))
+    (named-faultless mode (word t) (up_to (114 ∷ 35 ∷ t) (after_white (after_word t))))
     ∙ ap (λ l. l ++ later_faults mode t) (append-nil (word_faults t ++ raw_fault t ∷ []))
 
 word-faults : (mode : Mode) (t : Text) → cut_faults mode (word_cut mode t)
@@ -99,7 +99,7 @@ word-faults : (mode : Mode) (t : Text) → cut_faults mode (word_cut mode t)
 unfolding cut_faults
 word-faults mode t =
     ap (λ l. (word_faults t ++ l) ++ later_faults mode t)
-    (named-faultless mode (word t) (up_to t (behind_white (behind_word t))))
+    (named-faultless mode (word t) (up_to t (after_white (after_word t))))
     ∙ ap (λ l. l ++ later_faults mode t) (append-nil (word_faults t))
 
 cuts-merge : (mode : Mode) (t : Text) → IsMerged (raw_fault t ∷ [])
@@ -117,12 +117,12 @@ cuts-merge mode t = rw (raw-faults mode t, word-faults mode t)
 removes-moves : (t : Text) → Moves (length t) (removes t) (123 ∷ 114 ∷ 35 ∷ t) (123 ∷ t)
     (Start (length (114 ∷ 35 ∷ t))) (Start (length t))
 removes-moves t = record {
-  stays = moved-behind (length t) 2 0;
+  stays = moved-rest_after (length t) 2 0;
   opens = ap (λ k. span_of (Start k) (End k)) (before (length t) (length (123 ∷ 114 ∷ 35 ∷ t))
       (length (123 ∷ t)) (omega arith) (omega arith));
   starts = λ e h. both (ap Start (before (length t) (length (114 ∷ 35 ∷ t)) (length t) (omega arith)
       (omega arith)))
-      (moved_mark-behind (length t) 2 0 e h);
+      (moved_mark-rest_after (length t) 2 0 e h);
 }
   where
     before : (n k j : ℕ) → n < k → k ≡ j + 2 → moved_count n 2 0 k ≡ j
@@ -142,10 +142,10 @@ cut_calls-lose mode c t e =
     let a : Cut = raw_cut mode t in
     let b : Cut = word_cut mode t in
     let moves = removes-moves t in
-    let r : Text = behind_white a.rest in
+    let r : Text = after_white a.rest in
     let cut_left : length b.rest ≤ n =
     subst (λ (x : Cut). length x.rest ≤ n) e (IsRest-le (cut_rest mode t)) in
-    let left : length r ≤ n = omega (arith, cut_left, IsRest-le (behind_white_rest a.rest)) in
+    let left : length r ≤ n = omega (arith, cut_left, IsRest-le (after_white_rest a.rest)) in
     let kept : map (map_fault move) (cut_faults mode b) ≡ cut_faults mode b =
     faults-fixed n move moves.stays (cut_faults mode b)
     (subst (λ (x : Cut). AreFaultsForward n (cut_faults mode x)) e
@@ -203,5 +203,5 @@ raw-loses mode c t h k =
     let loses : CallLoses (raw_fault t ∷ []) (removes t) (call mode c o) (call mode c (123 ∷ t)) =
     rw (x, y) (cut_calls-lose mode c t word) in
     calls-lose (length t) (raw_fault t ∷ []) (removes t) mode c 123 123 (114 ∷ 35 ∷ t) t
-    (moved-behind (length t) 2 0)
+    (moved-rest_after (length t) 2 0)
     (omega (arith, call-lt mode c (123 ∷ t) (λ e. absurd (cc)))) loses

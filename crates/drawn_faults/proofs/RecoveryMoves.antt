@@ -4,7 +4,7 @@ use Rattle.std.proofs.Common.{◌∷◌, length, map, refl, ap, ◌∙◌, sym, 
 use Prim.Native.Char.{code}
 use Rattle.std.proofs.lemmas.Bool.{cond_both}
 use Rattle.std.proofs.lemmas.List.{map-append}
-use Rattle.rustc_parse_format.specs.Characters.{Text, is_align, behind_first, begins_with}
+use Rattle.rustc_parse_format.specs.Characters.{Text, is_align, after_first, begins_with}
 use Rattle.rustc_parse_format.specs.Characters.{first}
 use Rattle.rustc_parse_format.specs.Types.{Mode, Position, Implicit, Index, Named, Argument, Spec}
 use Rattle.rustc_parse_format.specs.Marks.{Mark, Span, up_to, over_first}
@@ -19,7 +19,7 @@ use Rattle.rustc_parse_format.specs.Recovery.{Recovery, recovery, field, field_f
 use Rattle.rustc_parse_format.specs.Recovery.{sign, sign_fault}
 use Rattle.rustc_parse_format.specs.Call.{unclosed_fault}
 use Rattle.rustc_parse_format.specs.ReadBack.{IsForward, left_at, optional, spans_of_spec}
-use Rattle.rustc_parse_format.proofs.Grammar.Rests.{IsRest-le, behind_first_rest}
+use Rattle.rustc_parse_format.proofs.Grammar.Rests.{IsRest-le, after_first_rest}
 use Rattle.rustc_parse_format.proofs.Spans.Forward.{AreForward, cut_faults-forward}
 use Rattle.rustc_parse_format.proofs.Spans.Forward.{cut-spec_at, word_faults-forward, up_to-forward}
 use Rattle.rustc_parse_format.proofs.Spans.Forward.{through-forward, all-append}
@@ -55,10 +55,10 @@ field-alike : (n c : ℕ) (mode : Mode) (move : Span → Span) (o p : Text) (m q
     → Moves n move o p m q → length t ≤ n → Alike move (field mode c m t) (field mode c q t)
 unfolding field argument
 field-alike n c mode move o p m q t h l =
-    let u : Text = behind_first t in
+    let u : Text = after_first t in
     let a = cut mode u in
     let f = argument c a in
-    let less : length u ≤ length t = IsRest-le (behind_first_rest t) in
+    let less : length u ≤ length t = IsRest-le (after_first_rest t) in
     let ends : length a.spec_at ≤ n = omega (arith, less, l, cut-spec_at mode u) in
     let kept : map (map_fault move) (cut_faults mode a) ≡ cut_faults mode a =
     faults-fixed n move h.stays (cut_faults mode a)
@@ -80,14 +80,14 @@ late_debug-alike : (n c : ℕ) (move : Span → Span) (t : Text)
     → Alike move (late_debug c t) (late_debug c t)
 unfolding late_debug
 late_debug-alike n c move t h l =
-    let w : Text = behind_first (behind_first t) in
+    let w : Text = after_first (after_first t) in
     let less : length w ≤ length t =
     omega (
       arith,
-      IsRest-le (behind_first_rest t),
-      IsRest-le (behind_first_rest (behind_first t)),
+      IsRest-le (after_first_rest t),
+      IsRest-le (after_first_rest (after_first t)),
     ) in
-    cond_both {A = Recovery} (begins_with 58 (behind_first t)) _ _ (λ k. Alike move k k)
+    cond_both {A = Recovery} (begins_with 58 (after_first t)) _ _ (λ k. Alike move k k)
     (λ e. record {
       faults = sym (faults-fixed n move h _ (all-append _ (word_faults w) _
           (word_faults-forward n w (omega (arith, less, l)))

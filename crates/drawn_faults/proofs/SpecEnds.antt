@@ -4,7 +4,7 @@ use Rattle.std.proofs.Common.{sym, Option}
 use Rattle.std.specs.Char.{is_ascii_digit}
 use Rattle.std.proofs.lemmas.Bool.{cond-false, cond-true}
 use Rattle.rustc_parse_format.specs.Characters.{Text, is_align, is_id_start, is_id_continue, front}
-use Rattle.rustc_parse_format.specs.Characters.{behind, word, behind_word, digits, behind_digits}
+use Rattle.rustc_parse_format.specs.Characters.{rest_after, word, after_word, digits, after_digits}
 use Rattle.rustc_parse_format.specs.Characters.{begins_with, first_passes}
 use Rattle.rustc_parse_format.specs.Types.{Alignment, Sign}
 use Rattle.rustc_parse_format.specs.Syntax.{CountText, NoCount, WidthText, PlainWidth, PaddedWidth}
@@ -12,10 +12,10 @@ use Rattle.rustc_parse_format.specs.Syntax.{PrecisionText, NoPrecision, DotPreci
 use Rattle.rustc_parse_format.specs.Specification.{fill, align, sign, alternate, type, align_at}
 use Rattle.rustc_parse_format.specs.Specification.{sign_at, alternate_at, width_at, precision_at}
 use Rattle.rustc_parse_format.specs.Specification.{type_at, format_text}
-use Rattle.rustc_parse_format.specs.Counts.{count, width, precision, behind_number, behind_name}
-use Rattle.rustc_parse_format.specs.Counts.{behind_zero, behind_dot}
+use Rattle.rustc_parse_format.specs.Counts.{count, width, precision, after_number, after_name}
+use Rattle.rustc_parse_format.specs.Counts.{after_zero, after_dot}
 use Rattle.drawn_faults.proofs.RecoveryMoves.{cond_alike}
-use Rattle.drawn_faults.proofs.Stopping.{digits-stop, behind_digits-stop}
+use Rattle.drawn_faults.proofs.Stopping.{digits-stop, after_digits-stop}
 
 -- A character that ends fill, alignment and sign, with r after it.
 pub record EndsSigns (y : ℕ) (r : Text) : Type 0 where
@@ -95,7 +95,7 @@ pub record EndsCounts (y : ℕ) (r : Text) : Type 0 where
   pub digit : is_ascii_digit y ≡ false
   pub dollar : (y == 36) ≡ false
   pub star : (y == 42) ≡ false
-  pub no_name : begins_with 36 (behind is_id_continue (y ∷ r)) ≡ false
+  pub no_name : begins_with 36 (rest_after is_id_continue (y ∷ r)) ≡ false
 
 alternate-ends : (s : Text) (y : ℕ) (r : Text) → EndsCounts y r
     → alternate (s ++ y ∷ r) ≡ ((alternate s).0, (alternate s).1 ++ y ∷ r)
@@ -105,7 +105,7 @@ alternate-ends (c ∷ s) y r h =
     cond_alike {A = Bool × Text} (c == 35) _ _ _ _ P (λ e. refl) (λ e. refl)
 
 number-ends : (ds u : Text) (y : ℕ) (r : Text) → EndsCounts y r
-    → behind_number ds (u ++ y ∷ r) ≡ ((behind_number ds u).0, (behind_number ds u).1 ++ y ∷ r)
+    → after_number ds (u ++ y ∷ r) ≡ ((after_number ds u).0, (after_number ds u).1 ++ y ∷ r)
 number-ends ds [] y r h = cond-false (y == 36) _ _ h.dollar
 number-ends ds (c ∷ u) y r h =
     let P = λ (x z : CountText × Text). x ≡ (z.0, z.1 ++ y ∷ r) in
@@ -113,61 +113,62 @@ number-ends ds (c ∷ u) y r h =
 
 -- A word that goes on after the text is no name of a count, and one that ends in the text is the
 -- same word.
-no_dollar : (t w u : Text) → begins_with 36 u ≡ false → behind_name t w u ≡ (NoCount, t)
+no_dollar : (t w u : Text) → begins_with 36 u ≡ false → after_name t w u ≡ (NoCount, t)
 no_dollar t w [] h = refl
 no_dollar t w (c ∷ u) h = cond-false (c == 36) _ _ h
 
-behind-past : (p : ℕ → Bool) (u v : Text) → behind p u ≡ [] → behind p (u ++ v) ≡ behind p v
-behind-past p [] v h = refl
-behind-past p (c ∷ u) v h = by_test (p c) h (behind-past p u v)
+rest_after-past : (p : ℕ → Bool) (u v : Text) → rest_after p u ≡ []
+    → rest_after p (u ++ v) ≡ rest_after p v
+rest_after-past p [] v h = refl
+rest_after-past p (c ∷ u) v h = by_test (p c) h (rest_after-past p u v)
   where
-    by_test : (b : Bool) → cond b (behind p u) (c ∷ u) ≡ []
-        → (behind p u ≡ [] → behind p (u ++ v) ≡ behind p v)
-        → cond b (behind p (u ++ v)) (c ∷ u ++ v) ≡ behind p v
+    by_test : (b : Bool) → cond b (rest_after p u) (c ∷ u) ≡ []
+        → (rest_after p u ≡ [] → rest_after p (u ++ v) ≡ rest_after p v)
+        → cond b (rest_after p (u ++ v)) (c ∷ u ++ v) ≡ rest_after p v
     by_test true e ih = ih e
     by_test false e ih = absurd (cc)
 
-behind-inside : (p : ℕ → Bool) (u v : Text) (d : ℕ) (t : Text) → behind p u ≡ d ∷ t
-    → behind p (u ++ v) ≡ (d ∷ t) ++ v
-behind-inside p [] v d t h = absurd (cc)
-behind-inside p (c ∷ u) v d t h = by_test (p c) h (behind-inside p u v d t)
+rest_after-inside : (p : ℕ → Bool) (u v : Text) (d : ℕ) (t : Text) → rest_after p u ≡ d ∷ t
+    → rest_after p (u ++ v) ≡ (d ∷ t) ++ v
+rest_after-inside p [] v d t h = absurd (cc)
+rest_after-inside p (c ∷ u) v d t h = by_test (p c) h (rest_after-inside p u v d t)
   where
-    by_test : (b : Bool) → cond b (behind p u) (c ∷ u) ≡ d ∷ t
-        → (behind p u ≡ d ∷ t → behind p (u ++ v) ≡ (d ∷ t) ++ v)
-        → cond b (behind p (u ++ v)) (c ∷ u ++ v) ≡ (d ∷ t) ++ v
+    by_test : (b : Bool) → cond b (rest_after p u) (c ∷ u) ≡ d ∷ t
+        → (rest_after p u ≡ d ∷ t → rest_after p (u ++ v) ≡ (d ∷ t) ++ v)
+        → cond b (rest_after p (u ++ v)) (c ∷ u ++ v) ≡ (d ∷ t) ++ v
     by_test true e ih = ih e
     by_test false e ih = ap (λ l. l ++ v) e
 
-front-inside : (p : ℕ → Bool) (u v : Text) (d : ℕ) (t : Text) → behind p u ≡ d ∷ t
+front-inside : (p : ℕ → Bool) (u v : Text) (d : ℕ) (t : Text) → rest_after p u ≡ d ∷ t
     → front p (u ++ v) ≡ front p u
 front-inside p [] v d t h = absurd (cc)
 front-inside p (c ∷ u) v d t h = by_test (p c) h (front-inside p u v d t)
   where
-    by_test : (b : Bool) → cond b (behind p u) (c ∷ u) ≡ d ∷ t
-        → (behind p u ≡ d ∷ t → front p (u ++ v) ≡ front p u)
+    by_test : (b : Bool) → cond b (rest_after p u) (c ∷ u) ≡ d ∷ t
+        → (rest_after p u ≡ d ∷ t → front p (u ++ v) ≡ front p u)
         → cond b (c ∷ front p (u ++ v)) [] ≡ cond b (c ∷ front p u) []
     by_test true e ih = ap (λ l. c ∷ l) (ih e)
     by_test false e ih = refl
 
 name-ends : (c : ℕ) (u : Text) (y : ℕ) (r : Text) → EndsCounts y r → (b : Text)
-    → behind is_id_continue u ≡ b →
-    behind_name (c ∷ u ++ y ∷ r) (c ∷ front is_id_continue (u ++ y ∷ r))
-    (behind is_id_continue (u ++ y ∷ r))
+    → rest_after is_id_continue u ≡ b →
+    after_name (c ∷ u ++ y ∷ r) (c ∷ front is_id_continue (u ++ y ∷ r))
+    (rest_after is_id_continue (u ++ y ∷ r))
     ≡ (
-      (behind_name (c ∷ u) (c ∷ front is_id_continue u) b).0,
-      (behind_name (c ∷ u) (c ∷ front is_id_continue u) b).1 ++ y ∷ r,
+      (after_name (c ∷ u) (c ∷ front is_id_continue u) b).0,
+      (after_name (c ∷ u) (c ∷ front is_id_continue u) b).1 ++ y ∷ r,
     )
 name-ends c u y r h [] e =
-    ap (behind_name (c ∷ u ++ y ∷ r) (c ∷ front is_id_continue (u ++ y ∷ r)))
-    (behind-past is_id_continue u (y ∷ r) e)
+    ap (after_name (c ∷ u ++ y ∷ r) (c ∷ front is_id_continue (u ++ y ∷ r)))
+    (rest_after-past is_id_continue u (y ∷ r) e)
     ∙ no_dollar (c ∷ u ++ y ∷ r) (c ∷ front is_id_continue (u ++ y ∷ r))
-    (behind is_id_continue (y ∷ r)) h.no_name
+    (rest_after is_id_continue (y ∷ r)) h.no_name
 name-ends c u y r h (d ∷ t) e =
     let P = λ (x z : CountText × Text). x ≡ (z.0, z.1 ++ y ∷ r) in
-    ap (λ w. behind_name (c ∷ u ++ y ∷ r) (c ∷ w) (behind is_id_continue (u ++ y ∷ r)))
+    ap (λ w. after_name (c ∷ u ++ y ∷ r) (c ∷ w) (rest_after is_id_continue (u ++ y ∷ r)))
     (front-inside is_id_continue u (y ∷ r) d t e)
-    ∙ ap (behind_name (c ∷ u ++ y ∷ r) (c ∷ front is_id_continue u))
-    (behind-inside is_id_continue u (y ∷ r) d t e)
+    ∙ ap (after_name (c ∷ u ++ y ∷ r) (c ∷ front is_id_continue u))
+    (rest_after-inside is_id_continue u (y ∷ r) d t e)
     ∙ cond_alike {A = CountText × Text} (d == 36) _ _ _ _ P (λ e. refl) (λ e. refl)
 
 word-starts : (c : ℕ) (u : Text) → is_id_start c ≡ true
@@ -175,15 +176,15 @@ word-starts : (c : ℕ) (u : Text) → is_id_start c ≡ true
 unfolding word
 word-starts c u h = cond-true (is_id_start c) _ _ h
 
-behind_word-starts : (c : ℕ) (u : Text) → is_id_start c ≡ true
-    → behind_word (c ∷ u) ≡ behind is_id_continue u
-unfolding behind_word
-behind_word-starts c u h = cond-true (is_id_start c) _ _ h
+after_word-starts : (c : ℕ) (u : Text) → is_id_start c ≡ true
+    → after_word (c ∷ u) ≡ rest_after is_id_continue u
+unfolding after_word
+after_word-starts c u h = cond-true (is_id_start c) _ _ h
 
 named : (c : ℕ) (u : Text) → is_id_start c ≡ true
-    → behind_name (c ∷ u) (word (c ∷ u)) (behind_word (c ∷ u))
-    ≡ behind_name (c ∷ u) (c ∷ front is_id_continue u) (behind is_id_continue u)
-named c u h = rw (word-starts c u h, behind_word-starts c u h) refl
+    → after_name (c ∷ u) (word (c ∷ u)) (after_word (c ∷ u))
+    ≡ after_name (c ∷ u) (c ∷ front is_id_continue u) (rest_after is_id_continue u)
+named c u h = rw (word-starts c u h, after_word-starts c u h) refl
 
 count-ends : (u : Text) (y : ℕ) (r : Text) → EndsCounts y r
     → count (u ++ y ∷ r) ≡ ((count u).0, (count u).1 ++ y ∷ r)
@@ -192,11 +193,11 @@ count-ends (c ∷ u) y r h =
     let t : Text = c ∷ u in
     let P = λ (x z : CountText × Text). x ≡ (z.0, z.1 ++ y ∷ r) in
     cond_alike {A = CountText × Text} (is_ascii_digit c) _ _ _ _ P
-    (λ e. ap (λ ds. behind_number ds (behind_digits (t ++ y ∷ r))) (digits-stop t y r h.digit)
-    ∙ ap (behind_number (digits t)) (behind_digits-stop t y r h.digit)
-    ∙ number-ends (digits t) (behind_digits t) y r h)
+    (λ e. ap (λ ds. after_number ds (after_digits (t ++ y ∷ r))) (digits-stop t y r h.digit)
+    ∙ ap (after_number (digits t)) (after_digits-stop t y r h.digit)
+    ∙ number-ends (digits t) (after_digits t) y r h)
     (λ e. cond_alike {A = CountText × Text} (is_id_start c) _ _ _ _ P
-    (λ g. named c (u ++ y ∷ r) g ∙ name-ends c u y r h (behind is_id_continue u) refl
+    (λ g. named c (u ++ y ∷ r) g ∙ name-ends c u y r h (rest_after is_id_continue u) refl
     ∙ ap (λ x. (x.0, x.1 ++ y ∷ r)) (sym (named c u g)))
     (λ g. refl))
 
@@ -210,7 +211,7 @@ width-ends (c ∷ u) y r h =
     (λ e. ap (λ x. (PlainWidth x.0, x.1)) (count-ends (c ∷ u) y r h))
   where
     zero-ends : (u : Text)
-        → behind_zero (u ++ y ∷ r) ≡ ((behind_zero u).0, (behind_zero u).1 ++ y ∷ r)
+        → after_zero (u ++ y ∷ r) ≡ ((after_zero u).0, (after_zero u).1 ++ y ∷ r)
     zero-ends [] = cond-false (y == 36) _ _ h.dollar ∙ ap (λ x. (PaddedWidth x.0, x.1)) h.no_count
     zero-ends (d ∷ u) =
         let P = λ (x z : WidthText × Text). x ≡ (z.0, z.1 ++ y ∷ r) in
@@ -225,7 +226,7 @@ precision-ends (c ∷ u) y r h =
     cond_alike {A = PrecisionText × Text} (c == 46) _ _ _ _ P (λ e. dot-ends u) (λ e. refl)
   where
     dot-ends : (u : Text)
-        → behind_dot (u ++ y ∷ r) ≡ ((behind_dot u).0, (behind_dot u).1 ++ y ∷ r)
+        → after_dot (u ++ y ∷ r) ≡ ((after_dot u).0, (after_dot u).1 ++ y ∷ r)
     dot-ends [] = cond-false (y == 42) _ _ h.star ∙ ap (λ x. (DotPrecision x.0, x.1)) h.no_count
     dot-ends (d ∷ u) =
         let P = λ (x z : PrecisionText × Text). x ≡ (z.0, z.1 ++ y ∷ r) in

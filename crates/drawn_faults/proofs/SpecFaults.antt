@@ -5,8 +5,8 @@ use Rattle.std.specs.Prelude.{bytes_eq}
 use Rattle.std.specs.Char.{is_ascii_digit}
 use Rattle.std.proofs.lemmas.Bool.{cond_both, cond-false, cond-true, false≢true}
 use Rattle.std.proofs.lemmas.Bool.{false_from_ne_true}
-use Rattle.rustc_parse_format.specs.Characters.{Text, is_id_start, is_over, word, behind_word}
-use Rattle.rustc_parse_format.specs.Characters.{digits, behind_digits, front}
+use Rattle.rustc_parse_format.specs.Characters.{Text, is_id_start, is_over, word, after_word}
+use Rattle.rustc_parse_format.specs.Characters.{digits, after_digits, front}
 use Rattle.rustc_parse_format.specs.Marks.{Mark, Start, End, Span, through, up_to}
 use Rattle.rustc_parse_format.specs.Faults.{Fault, TooLarge, Underscore}
 use Rattle.rustc_parse_format.specs.PartFaults.{argument_faults, number_faults, word_faults}
@@ -15,8 +15,8 @@ use Rattle.rustc_parse_format.specs.Syntax.{CountText, NumberCount, IndexCount, 
 use Rattle.rustc_parse_format.specs.Syntax.{WidthText, PaddedWidth, ZeroIndexWidth, PlainWidth}
 use Rattle.rustc_parse_format.specs.Syntax.{PrecisionText, NoPrecision, StarPrecision, DotPrecision}
 use Rattle.rustc_parse_format.specs.Syntax.{count_part, width_part, precision_part}
-use Rattle.rustc_parse_format.specs.Counts.{count, width, precision, behind_number, behind_name}
-use Rattle.rustc_parse_format.specs.Counts.{behind_zero, behind_dot}
+use Rattle.rustc_parse_format.specs.Counts.{count, width, precision, after_number, after_name}
+use Rattle.rustc_parse_format.specs.Counts.{after_zero, after_dot}
 use Rattle.rustc_parse_format.proofs.Grammar.PartFronts.{start-no_digit}
 use Rattle.rustc_parse_format.proofs.Rows.Definitions.{computing}
 use Rattle.drawn_faults.proofs.Moving.{span_of}
@@ -71,7 +71,7 @@ empty-word c t h = cond-false (is_id_start c) _ _ h
 
 no_word : (c : ℕ) (t : Text) → is_id_start c ≡ false → word_faults (c ∷ t) ≡ []
 no_word c t h =
-    ap (λ w. cond (bytes_eq w (codes "_")) (Underscore (up_to (c ∷ t) (behind_word (c ∷ t))) ∷ [])
+    ap (λ w. cond (bytes_eq w (codes "_")) (Underscore (up_to (c ∷ t) (after_word (c ∷ t))) ∷ [])
     []) (empty-word c t h)
 
 digits-no_word : (c : ℕ) (t v : Text) → is_ascii_digit c ≡ true
@@ -82,12 +82,12 @@ digits-no_word c t v h =
     ∙ no_word c (front is_ascii_digit t ++ v) (digit-no_start c h)
 
 number-is : (ds u : Text) → ((v : Text) → word_faults (ds ++ v) ≡ [])
-    → IsNumber (behind_number ds u).0
+    → IsNumber (after_number ds u).0
 number-is ds [] h = h
 number-is ds (c ∷ u) h =
     cond_both {A = CountText × Text} (c == 36) _ _ (λ x. IsNumber x.0) (λ e. tt) (λ e. h)
 
-name-is : (t w u : Text) → IsNumber (behind_name t w u).0
+name-is : (t w u : Text) → IsNumber (after_name t w u).0
 name-is t w [] = tt
 name-is t w (c ∷ u) =
     cond_both {A = CountText × Text} (c == 36) _ _ (λ x. IsNumber x.0) (λ e. tt) (λ e. tt)
@@ -96,11 +96,11 @@ count-is : (t : Text) → IsNumber (count t).0
 count-is [] = tt
 count-is (c ∷ t) =
     cond_both {A = CountText × Text} (is_ascii_digit c) _ _ (λ x. IsNumber x.0)
-    (λ e. number-is (digits (c ∷ t)) (behind_digits (c ∷ t)) (λ v. digits-no_word c t v e))
+    (λ e. number-is (digits (c ∷ t)) (after_digits (c ∷ t)) (λ v. digits-no_word c t v e))
     (λ e. cond_both {A = CountText × Text} (is_id_start c) _ _ (λ x. IsNumber x.0)
-    (λ g. name-is (c ∷ t) (word (c ∷ t)) (behind_word (c ∷ t))) (λ g. tt))
+    (λ g. name-is (c ∷ t) (word (c ∷ t)) (after_word (c ∷ t))) (λ g. tt))
 
-zero-is : (t : Text) → IsNumberWidth (behind_zero t).0
+zero-is : (t : Text) → IsNumberWidth (after_zero t).0
 zero-is [] = tt
 zero-is (c ∷ t) = cond_both {A = WidthText × Text} (c == 36) _ _ (λ x. IsNumberWidth x.0)
     (λ e. tt) (λ e. count-is (c ∷ t))
@@ -110,7 +110,7 @@ width-is [] = tt
 width-is (c ∷ t) = cond_both {A = WidthText × Text} (c == 48) _ _ (λ x. IsNumberWidth x.0)
     (λ e. zero-is t) (λ e. count-is (c ∷ t))
 
-dot-is : (t : Text) → IsNumberPrecision (behind_dot t).0
+dot-is : (t : Text) → IsNumberPrecision (after_dot t).0
 dot-is [] = tt
 dot-is (c ∷ t) = cond_both {A = PrecisionText × Text} (c == 42) _ _ (λ x. IsNumberPrecision x.0)
     (λ e. tt) (λ e. count-is (c ∷ t))
@@ -133,10 +133,10 @@ numbers-alike : (u : Text) (x : ℕ) (p : Text) (y : ℕ) (q : Text) → is_asci
     → is_ascii_digit y ≡ false → length p ≡ length q
     → number_faults (u ++ x ∷ p) ≡ number_faults (u ++ y ∷ q)
 numbers-alike u x p y q h k e =
-    let same : through (u ++ x ∷ p) (behind_digits u ++ x ∷ p)
-    ≡ through (u ++ y ∷ q) (behind_digits u ++ y ∷ q) =
+    let same : through (u ++ x ∷ p) (after_digits u ++ x ∷ p)
+    ≡ through (u ++ y ∷ q) (after_digits u ++ y ∷ q) =
     both (ap Start (length-alike u x p y q e))
-    (ap End (length-alike (behind_digits u) x p y q e)) in
+    (ap End (length-alike (after_digits u) x p y q e)) in
     number_faults-at u x p h
     ∙ ap (λ s. cond (is_over (digits u)) (TooLarge (digits u) s ∷ []) []) same
     ∙ sym (number_faults-at u y q k)
@@ -144,10 +144,10 @@ numbers-alike u x p y q h k e =
 words-alike : (u p q : Text) → length p ≡ length q
     → word_faults (u ++ 36 ∷ p) ≡ word_faults (u ++ 36 ∷ q)
 words-alike u p q e =
-    let same : up_to (u ++ 36 ∷ p) (behind_word u ++ 36 ∷ p)
-    ≡ up_to (u ++ 36 ∷ q) (behind_word u ++ 36 ∷ q) =
+    let same : up_to (u ++ 36 ∷ p) (after_word u ++ 36 ∷ p)
+    ≡ up_to (u ++ 36 ∷ q) (after_word u ++ 36 ∷ q) =
     both (ap Start (length-alike u 36 p 36 q e))
-    (ap Start (length-alike (behind_word u) 36 p 36 q e)) in
+    (ap Start (length-alike (after_word u) 36 p 36 q e)) in
     word_faults-at u 36 p dollar-stops
     ∙ ap (λ s. cond (bytes_eq (word u) (codes "_")) (Underscore s ∷ []) []) same
     ∙ sym (word_faults-at u 36 q dollar-stops)

@@ -3,10 +3,16 @@ use Rattle.std.proofs.Common.{◌≡◌, ℕ, ◌++◌, ◌==◌, Bool, true, fa
 use Rattle.std.proofs.Common.{◌∙◌}
 use Rattle.std.specs.Char.{is_ascii_digit, is_whitespace}
 use Rattle.std.proofs.lemmas.Bool.{cond-false, false≢true, and_parts}
-use Rattle.rustc_parse_format.specs.Characters.{Text, is_id_start, is_id_continue, front, behind}
+use Rattle.rustc_parse_format.specs.Characters.{
+  Text,
+  is_id_start,
+  is_id_continue,
+  front,
+  rest_after,
+}
 use Rattle.rustc_parse_format.specs.Characters.{word}
-use Rattle.rustc_parse_format.specs.Characters.{behind_word, digits, behind_digits, behind_white}
-use Rattle.rustc_parse_format.specs.Characters.{begins_raw, behind_prefix}
+use Rattle.rustc_parse_format.specs.Characters.{after_word, digits, after_digits, after_white}
+use Rattle.rustc_parse_format.specs.Characters.{begins_raw, after_prefix}
 use Rattle.rustc_parse_format.specs.Placeholder.{position, raw_word}
 use Rattle.rustc_parse_format.specs.Syntax.{PositionText, Digits, Word, RawWord}
 use Rattle.rustc_parse_format.proofs.Rows.Definitions.{computing}
@@ -46,13 +52,13 @@ question-stops = record {
   opening = refl;
 }
 
-pub behind-stop : (p : ℕ → Bool) (u : Text) (x : ℕ) (r : Text) → p x ≡ false
-    → behind p (u ++ x ∷ r) ≡ behind p u ++ x ∷ r
-behind-stop p [] x r h = cond-false (p x) _ _ h
-behind-stop p (c ∷ u) x r h =
-    elim (p c) as (λ b. cond b (behind p (u ++ x ∷ r)) (c ∷ u ++ x ∷ r)
-    ≡ cond b (behind p u) (c ∷ u) ++ x ∷ r) [
-      | true ↦ behind-stop p u x r h
+pub rest_after-stop : (p : ℕ → Bool) (u : Text) (x : ℕ) (r : Text) → p x ≡ false
+    → rest_after p (u ++ x ∷ r) ≡ rest_after p u ++ x ∷ r
+rest_after-stop p [] x r h = cond-false (p x) _ _ h
+rest_after-stop p (c ∷ u) x r h =
+    elim (p c) as (λ b. cond b (rest_after p (u ++ x ∷ r)) (c ∷ u ++ x ∷ r)
+    ≡ cond b (rest_after p u) (c ∷ u) ++ x ∷ r) [
+      | true ↦ rest_after-stop p u x r h
       | false ↦ refl
     ]
 
@@ -67,14 +73,14 @@ word-stop [] x r h = cond-false (is_id_start x) _ _ h.start
 word-stop (c ∷ u) x r h =
     ap (λ l. cond (is_id_start c) (c ∷ l) []) (front-stop is_id_continue u x r h.continue)
 
-pub behind_word-stop : (u : Text) (x : ℕ) (r : Text) → Stops x
-    → behind_word (u ++ x ∷ r) ≡ behind_word u ++ x ∷ r
-unfolding behind_word
-behind_word-stop [] x r h = cond-false (is_id_start x) _ _ h.start
-behind_word-stop (c ∷ u) x r h =
-    elim (is_id_start c) as (λ b. cond b (behind is_id_continue (u ++ x ∷ r)) (c ∷ u ++ x ∷ r)
-    ≡ cond b (behind is_id_continue u) (c ∷ u) ++ x ∷ r) [
-      | true ↦ behind-stop is_id_continue u x r h.continue
+pub after_word-stop : (u : Text) (x : ℕ) (r : Text) → Stops x
+    → after_word (u ++ x ∷ r) ≡ after_word u ++ x ∷ r
+unfolding after_word
+after_word-stop [] x r h = cond-false (is_id_start x) _ _ h.start
+after_word-stop (c ∷ u) x r h =
+    elim (is_id_start c) as (λ b. cond b (rest_after is_id_continue (u ++ x ∷ r)) (c ∷ u ++ x ∷ r)
+    ≡ cond b (rest_after is_id_continue u) (c ∷ u) ++ x ∷ r) [
+      | true ↦ rest_after-stop is_id_continue u x r h.continue
       | false ↦ refl
     ]
 
@@ -83,15 +89,15 @@ pub digits-stop : (u : Text) (x : ℕ) (r : Text) → is_ascii_digit x ≡ false
 unfolding digits
 digits-stop u x r h = front-stop is_ascii_digit u x r h
 
-pub behind_digits-stop : (u : Text) (x : ℕ) (r : Text) → is_ascii_digit x ≡ false
-    → behind_digits (u ++ x ∷ r) ≡ behind_digits u ++ x ∷ r
-unfolding behind_digits
-behind_digits-stop u x r h = behind-stop is_ascii_digit u x r h
+pub after_digits-stop : (u : Text) (x : ℕ) (r : Text) → is_ascii_digit x ≡ false
+    → after_digits (u ++ x ∷ r) ≡ after_digits u ++ x ∷ r
+unfolding after_digits
+after_digits-stop u x r h = rest_after-stop is_ascii_digit u x r h
 
-pub behind_white-stop : (u : Text) (x : ℕ) (r : Text) → Stops x
-    → behind_white (u ++ x ∷ r) ≡ behind_white u ++ x ∷ r
-unfolding behind_white
-behind_white-stop u x r h = behind-stop is_whitespace u x r h.white
+pub after_white-stop : (u : Text) (x : ℕ) (r : Text) → Stops x
+    → after_white (u ++ x ∷ r) ≡ after_white u ++ x ∷ r
+unfolding after_white
+after_white-stop u x r h = rest_after-stop is_whitespace u x r h.white
 
 begins_raw-stop : (u : Text) (x : ℕ) (r : Text) → Stops x
     → begins_raw (u ++ x ∷ r) ≡ begins_raw u
@@ -102,13 +108,13 @@ begins_raw-stop (c ∷ d ∷ e ∷ u) x r h = refl
 
 -- A position before such a character.
 raw_word-stop : (u : Text) (x : ℕ) (r : Text) → Stops x → begins_raw u ≡ true →
-    raw_word (behind_prefix (u ++ x ∷ r))
-    ≡ ((raw_word (behind_prefix u)).0, (raw_word (behind_prefix u)).1 ++ x ∷ r)
+    raw_word (after_prefix (u ++ x ∷ r))
+    ≡ ((raw_word (after_prefix u)).0, (raw_word (after_prefix u)).1 ++ x ∷ r)
 raw_word-stop [] x r h k = absurd (false≢true k)
 raw_word-stop (c ∷ []) x r h k = absurd (false≢true (and_parts (c == 114) false k).1)
 raw_word-stop (c ∷ d ∷ u) x r h k =
-    let e = word-stop u x r h in let f = behind_word-stop u x r h in
-    ap (λ w. (RawWord w, behind_word (u ++ x ∷ r))) e
+    let e = word-stop u x r h in let f = after_word-stop u x r h in
+    ap (λ w. (RawWord w, after_word (u ++ x ∷ r))) e
     ∙ ap (λ (s : Text). (RawWord (word u), s)) f
 
 pub position-stop : (u : Text) (x : ℕ) (r : Text) → Stops x
@@ -121,12 +127,12 @@ position-stop (c ∷ u) x r h =
     let t : Text = c ∷ u in
     let P = λ (y z : PositionText × Text). y ≡ (z.0, z.1 ++ x ∷ r) in
     cond_alike {A = PositionText × Text} (is_ascii_digit c) _ _ _ _ P
-    (λ e. ap (λ w. (Digits w, behind_digits (t ++ x ∷ r))) (digits-stop t x r h.digit)
-    ∙ ap (λ (s : Text). (Digits (digits t), s)) (behind_digits-stop t x r h.digit))
+    (λ e. ap (λ w. (Digits w, after_digits (t ++ x ∷ r))) (digits-stop t x r h.digit)
+    ∙ ap (λ (s : Text). (Digits (digits t), s)) (after_digits-stop t x r h.digit))
     (λ e. rw (begins_raw-stop t x r h) (cond_alike {A = PositionText
     × Text} (begins_raw t) _ _ _ _ P
     (λ f. raw_word-stop t x r h f)
     (λ f. cond_alike {A = PositionText × Text} (is_id_start c) _ _ _ _ P
-    (λ g. ap (λ w. (Word w, behind_word (t ++ x ∷ r))) (word-stop t x r h)
-    ∙ ap (λ (s : Text). (Word (word t), s)) (behind_word-stop t x r h))
+    (λ g. ap (λ w. (Word w, after_word (t ++ x ∷ r))) (word-stop t x r h)
+    ∙ ap (λ (s : Text). (Word (word t), s)) (after_word-stop t x r h))
     (λ g. refl))))

@@ -24,8 +24,8 @@ abbrev pub front : ℕ → List ℕ → List ℕ
 front n bs = encode_utf8_all (within n (chars bs))
 
 -- What is left of a text after these.
-abbrev pub behind : ℕ → List ℕ → List ℕ
-behind n bs = drop (length (front n bs)) bs
+abbrev pub rest_after : ℕ → List ℕ → List ℕ
+rest_after n bs = drop (length (front n bs)) bs
 
 -- The parts of a text at the byte offset `at`: what is before each edit, what the edit removes and
 -- what it adds, and what is left of the line in which the last one ends.
@@ -34,11 +34,11 @@ parts at [] bs = piece Plain (first_line bs) ∷ []
 parts at (e ∷ es) bs =
     let from = max e.from at in
     let to = max e.to from in
-    let rest = behind (from - at) bs in
+    let rest = rest_after (from - at) bs in
     piece Plain (front (from - at) bs)
     ∷ piece Removal (front (to - from) rest)
     ∷ piece Addition e.text
-    ∷ parts to es (behind (to - from) rest)
+    ∷ parts to es (rest_after (to - from) rest)
 
 -- Lines: whole ones, and the parts of another one so far.
 pub record Page : Type 0 where

@@ -43,14 +43,14 @@ abbrev pub edit_of : Mode → Message Place → Option Edit
 edit_of mode m = suggested (offered mode m.suggestion)
 
 -- The edit starts after the byte offset `at`, and does not end before it starts.
-abbrev pub is_behind : ℕ → Edit → Bool
-is_behind at e = nat_lt at e.span.0 && nat_le e.span.0 e.span.1
+abbrev pub is_after : ℕ → Edit → Bool
+is_after at e = nat_lt at e.span.0 && nat_le e.span.0 e.span.1
 
 -- Of these edits, one after the other, those that are made: each that starts after the end of the
 -- one made before it, and the first after the byte offset `at`.
 abbrev pub made : ℕ → List Edit → List Edit
 made at [] = []
-made at (e ∷ es) = if is_behind at e then e ∷ made e.span.1 es else made at es
+made at (e ∷ es) = if is_after at e then e ∷ made e.span.1 es else made at es
 
 -- The edits of errors in a mode. A parser puts each error that has an edit before the errors of
 -- earlier places, so the last error comes first here.

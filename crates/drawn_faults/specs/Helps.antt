@@ -12,7 +12,7 @@ use Rattle.drawn_faults.specs.Glyphs.{glyph_bytes, run, width}
 use Rattle.drawn_faults.specs.Labels.{Edit, Frame}
 use Rattle.drawn_faults.specs.Lines.{number_bar, numbered, parting}
 use Rattle.drawn_faults.specs.Painting.{Piece, painted, piece, pieces, plain_text}
-use Rattle.drawn_faults.specs.Places.{behind_lines}
+use Rattle.drawn_faults.specs.Places.{after_lines}
 use Rattle.drawn_faults.specs.Rows.{under}
 use Rattle.drawn_faults.specs.declared.paint.Palette.{Palette}
 use Rattle.drawn_faults.specs.declared.paint.Style.{Style}
@@ -130,8 +130,8 @@ pluses p n bs =
     ++ painted p Addition (run (columns_of 0 (chars (trim bs))) 43)
 
 -- How many columns after these signs the addition ends.
-abbrev pub behind_pluses : List ℕ → ℕ
-behind_pluses bs =
+abbrev pub after_pluses : List ℕ → ℕ
+after_pluses bs =
     if length (trim_start bs) == 0 then 0
     else columns_of 0 (chars (trim_start bs)) - columns_of 0 (chars (trim bs))
 
@@ -139,7 +139,7 @@ behind_pluses bs =
 abbrev pub plus_signs : Palette → ℕ → List Piece → List ℕ
 plus_signs p n [] = []
 plus_signs p n (x ∷ xs) =
-    if is_added x then pluses p n x.text ++ plus_signs p (behind_pluses x.text) xs
+    if is_added x then pluses p n x.text ++ plus_signs p (after_pluses x.text) xs
     else plus_signs p (n + columns_of 0 (chars x.text)) xs
 
 -- The line has nothing but an addition that ends it.
@@ -172,7 +172,7 @@ new_rows f n xs new =
 -- The parts of edits from the line n on.
 unfoldable pub edited_parts : Frame → ℕ → List Edit → List Piece
 edited_parts f n es =
-    let bs = behind_lines n f.picture.source in
+    let bs = after_lines n f.picture.source in
     parts (length f.picture.source - length bs) es bs
 
 -- The rows of edits from the line n on.

@@ -31,15 +31,15 @@ shown p cut t =
     else painted p Secondary (codes "...") ++ encode_utf8_all (drop (cut + 3) (glyphs t))
 
 -- What is after a bar: a line and what is in front of it, or nothing for an empty line.
-abbrev pub behind_bar : Palette → List ℕ → ℕ → Text → List ℕ
-behind_bar p front cut t =
+abbrev pub after_bar : Palette → List ℕ → ℕ → Text → List ℕ
+after_bar p front cut t =
     if (cut == 0) && (length (encode_utf8_all (glyphs t)) == 0) then []
     else front ++ shown p cut t
 
 -- A line of the source, and what is in front of it.
 unfoldable pub source_line : Frame → List ℕ → ℕ → List ℕ
 source_line f front n =
-    behind_bar f.gutter.palette front f.cut (chars (line n f.picture.source)) ++ codes "\n"
+    after_bar f.gutter.palette front f.cut (chars (line n f.picture.source)) ++ codes "\n"
 
 -- A line of the source with its number, after what is in front of it.
 abbrev pub source_row : Frame → List ℕ → ℕ → List ℕ

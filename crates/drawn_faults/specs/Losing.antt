@@ -2,7 +2,7 @@
 use Rattle.std.specs.Prelude.{◌≡◌, ℕ, ◌+◌, ◌-◌, nat_lt, if◌then◌else◌, List, [], ◌∷◌, map, ◌⊎◌}
 use Rattle.std.specs.Prelude.{◌++◌, length, codes, IsFalse, Some}
 use Prim.Native.Char.{code}
-use Rattle.rustc_parse_format.specs.Characters.{Text, begins_with, behind_white}
+use Rattle.rustc_parse_format.specs.Characters.{Text, begins_with, after_white}
 use Rattle.rustc_parse_format.specs.Types.{Format}
 use Rattle.rustc_parse_format.specs.Placeholder.{cut}
 use Rattle.rustc_parse_format.specs.Meaning.{argument}
@@ -71,7 +71,7 @@ late_flag_faults c u s f z r =
 -- part. Only white space is between the flag and the closing brace, and no second one follows.
 abbrev pub MovesFlag : ℕ → (Text → Text) → Type 0
 MovesFlag f left = (c : ℕ) (u s z r : Text) → (cut Format u).spec_at ≡ [] → left s ≡ []
-    → behind_white z ≡ codes "}" ++ r → IsFalse (begins_with (code "}") r) →
+    → after_white z ≡ codes "}" ++ r → IsFalse (begins_with (code "}") r) →
     LosesOnly (late_flag_faults c u s f z r) (λ x. x)
     (all_faults Format c (codes "{" ++ (u ++ (codes ":" ++ (s ++ (codes "?" ++ f ∷ z))))))
     (all_faults Format c (codes "{" ++ (u ++ (codes ":" ++ (s ++ (f ∷ (codes "?" ++ z)))))))

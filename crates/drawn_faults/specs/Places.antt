@@ -45,9 +45,9 @@ abbrev pub is_line_feed : ℕ → Bool
 is_line_feed b = b == 10
 
 -- What is left of a text after its first n lines.
-abbrev pub behind_lines : ℕ → List ℕ → List ℕ
-behind_lines zero bs = bs
-behind_lines (suc n) bs = behind_lines n (after_first is_line_feed bs)
+abbrev pub after_lines : ℕ → List ℕ → List ℕ
+after_lines zero bs = bs
+after_lines (suc n) bs = after_lines n (after_first is_line_feed bs)
 
 -- The first line of a text.
 abbrev pub first_line : List ℕ → List ℕ
@@ -55,7 +55,7 @@ first_line bs = before_first is_line_feed bs
 
 -- The line with the number n, counted from 0. It is empty after the last one.
 unfoldable pub line : ℕ → List ℕ → List ℕ
-line n bs = first_line (behind_lines n bs)
+line n bs = first_line (after_lines n bs)
 
 -- The first characters of a text, as many as end within n bytes.
 abbrev pub within : ℕ → Text → Text

@@ -4,7 +4,7 @@
 ghost use Rattle.std.specs.Prelude.{◌≡◌, ◌+◌, ◌++◌, ◌<◌, ◌^◌, [], IfOk, OnOk, chars, length, map};
 ghost use Rattle.std.specs.Prelude.{option_map, string_bytes};
 ghost use Rattle.drawn_faults.specs.Edited.{seen_line, seen_part};
-ghost use Rattle.drawn_faults.specs.Helps.{behind_pluses, cells_of, changed_row, changed_rows};
+ghost use Rattle.drawn_faults.specs.Helps.{after_pluses, cells_of, changed_row, changed_rows};
 ghost use Rattle.drawn_faults.specs.Helps.{columns_of, edited_parts, edits_rows, have_bytes};
 ghost use Rattle.drawn_faults.specs.Helps.{inserted_rows, is_whole, line_rows, lone_addition};
 ghost use Rattle.drawn_faults.specs.Helps.{lone_sign, new_row, new_rows, plus_signs, pluses};
@@ -21,7 +21,7 @@ use crate::glyphs::{put_painted_run, put_run, split_first, width};
 use crate::labels::{Edit, Frame};
 use crate::lines::put_parting;
 use crate::paint::{Gutter, Palette, Style};
-use crate::places::behind_lines;
+use crate::places::after_lines;
 use crate::rows::put_gutter;
 use std::alloc::{AllocError, Global};
 
@@ -202,7 +202,7 @@ fn put_pluses(
 ) -> Result<usize, AllocError>
     ensures added { OnOk result (string_bytes out.new
         ≡ string_bytes out.old ++ pluses palette gap text.now) }
-    ensures value { IfOk result (λ n. n ≡ behind_pluses text.now) }
+    ensures value { IfOk result (λ n. n ≡ after_pluses text.now) }
 {
     let back = text.trim_start();
     let columns = columns_of(text)?;
@@ -347,7 +347,7 @@ fn edited_parts<'a>(
         ≡ edited_parts (seen_frame frame.now) number (map seen_edit edits.now)) }
 {
     let source = frame.picture.source;
-    let text = behind_lines(source, number);
+    let text = after_lines(source, number);
     let parts = parts_of(alloc, source.len() - text.len(), text, edits)?;
     Ok(parts)
 }

@@ -4,7 +4,7 @@
 ghost use Rattle.std.specs.Prelude.{◌≡◌, ◌++◌, ◌-◌, ◌<◌, ◌≤◌, ◌==◌, ◌^◌, IfOk, OnOk, length, map};
 ghost use Rattle.std.specs.Prelude.{[], ◌∷◌, IfSome, MatchOption, string_bytes};
 ghost use Rattle.std.specs.List.{list_any, slice_split};
-ghost use Rattle.drawn_faults.specs.Edited.{are_blank, behind, count_to_text, do_remove, front};
+ghost use Rattle.drawn_faults.specs.Edited.{are_blank, rest_after, count_to_text, do_remove, front};
 ghost use Rattle.drawn_faults.specs.Edited.{have_no_text, is_added, is_ended, new_lines, new_page};
 ghost use Rattle.drawn_faults.specs.Edited.{old_lines, parts, seen_line, seen_page, seen_part};
 ghost use Rattle.drawn_faults.specs.Edited.{is_same_end, text_of, with_line, with_parts};
@@ -40,7 +40,7 @@ pub struct Line<'a> {
 /// them.
 pub fn split_within(text: &str, width: usize) -> (&str, &str)
     ensures front { result.0.now ≡ front width text.now }
-    ensures behind { result.1.now ≡ behind width text.now }
+    ensures rest_after { result.1.now ≡ rest_after width text.now }
 {
     let mut rest = text;
     let mut left = width;
@@ -71,8 +71,8 @@ pub fn parts_of<'a>(
     for edit in edits {
         let from = edit.from.max(at);
         let to = edit.to.max(from);
-        let (before, behind) = split_within(rest, from - at);
-        let (removed, behind) = split_within(behind, to - from);
+        let (before, rest_after) = split_within(rest, from - at);
+        let (removed, rest_after) = split_within(rest_after, to - from);
         list.push(Part {
             style: Style::Plain,
             text: before,
@@ -85,7 +85,7 @@ pub fn parts_of<'a>(
             style: Style::Addition,
             text: edit.text,
         })?;
-        rest = behind;
+        rest = rest_after;
         at = to;
     }
     let (line, _) = split_line(rest);
@@ -136,9 +136,9 @@ fn push_text<'a>(
         (seen_page lines.old.items row.old.items)) }
 {
     let mut rest = text;
-    while let Some((line, behind)) = split_feed(rest) {
+    while let Some((line, rest_after)) = split_feed(rest) {
         end_line(lines, row, Part { style, text: line })?;
-        rest = behind;
+        rest = rest_after;
     }
     row.push(Part { style, text: rest })?;
     Ok(())

@@ -129,7 +129,7 @@ fn front(bytes: &[u8], n: usize) -> &[u8]
 }
 
 /// Returns the bytes after the first n, or none if there are no more.
-fn behind(bytes: &[u8], n: usize) -> &[u8]
+fn rest_after(bytes: &[u8], n: usize) -> &[u8]
     ensures { result.now ≡ drop n bytes.now }
 {
     bytes.get(n..).unwrap_or(&[])
@@ -161,7 +161,7 @@ fn make(edited: &mut Edited<'_>, mode: ParseMode, suggestion: &Suggestion) -> Re
         let kept = front(edited.rest, edit.span.start.saturating_sub(edited.start));
         edited.bytes.extend_from_slice(kept)?;
         edited.bytes.extend_from_slice(edit.text.as_bytes())?;
-        edited.rest = behind(edited.rest, edit.span.end.saturating_sub(edited.start));
+        edited.rest = rest_after(edited.rest, edit.span.end.saturating_sub(edited.start));
         edited.start = edit.span.end;
         edited.end = edit.span.end;
     }

@@ -226,16 +226,16 @@ pub fn put_glyphs(out: &mut String, text: &str, skipped: usize) -> Result<(), Al
         encode_utf8_all (drop skipped (glyphs (chars text.now)))) }
     ensures harmless { IsHarmless (encode_utf8_all (drop skipped (glyphs (chars text.now)))) }
 {
-    let (front, behind) = split_printable(text, text.len());
-    if skipped == 0 && behind.is_empty() {
+    let (front, rest_after) = split_printable(text, text.len());
+    if skipped == 0 && rest_after.is_empty() {
         return Ok(out.push_str(front)?);
     }
     let (mut rest, mut skip) = put_printable(out, text, skipped)?;
     while let Some((c, tail)) = split_first(rest) {
         let count = glyph_count(c);
         put_run(out, glyph(c), count.saturating_sub(skip))?;
-        let (behind, fewer) = put_as_is(out, tail, skip.saturating_sub(count))?;
-        rest = behind;
+        let (rest_after, fewer) = put_as_is(out, tail, skip.saturating_sub(count))?;
+        rest = rest_after;
         skip = fewer;
     }
     Ok(())
@@ -337,16 +337,16 @@ pub fn put_front(out: &mut String, text: &str, count: usize) -> Result<(), Alloc
             break;
         };
         put_run(out, glyph(c), glyph_count(c))?;
-        let (front, behind) = split_printable(tail, left - 1);
+        let (front, rest_after) = split_printable(tail, left - 1);
         out.push_str(front)?;
-        rest = behind;
+        rest = rest_after;
         left -= 1 + front.len();
     }
     Ok(())
 }
 
 /// Returns what is left of a text after its first characters.
-pub fn behind_chars(text: &str, count: usize) -> &str
+pub fn after_chars(text: &str, count: usize) -> &str
     ensures { chars result.now ≡ drop count (chars text.now) }
 {
     let mut rest = text;
@@ -355,8 +355,8 @@ pub fn behind_chars(text: &str, count: usize) -> &str
         let Some((_, tail)) = split_first(rest) else {
             break;
         };
-        let (passed, behind) = split_printable(tail, left - 1);
-        rest = behind;
+        let (passed, rest_after) = split_printable(tail, left - 1);
+        rest = rest_after;
         left -= 1 + passed.len();
     }
     rest

@@ -17,7 +17,7 @@ use crate::fixes::is_offered;
 use crate::glyphs::indent;
 use crate::mark::Mark;
 use crate::paint::{Gutter, Palette, palette_of};
-use crate::places::{Picture, behind_lines};
+use crate::places::{Picture, after_lines};
 use rustc_parse_format::{ParseError, ParseMode, Suggestion};
 use std::ops::Range;
 
@@ -188,7 +188,7 @@ pub fn line_indent(picture: &Picture<'_>, number: usize) -> Option<usize>
     ensures value { result ≡ line_indent (seen_picture picture.now) number }
     ensures small { IfSome result (λ n. n < 2 ^ 62) }
 {
-    indent(behind_lines(picture.source, number))
+    indent(after_lines(picture.source, number))
 }
 
 /// Returns the least indent, where a blank line has none.

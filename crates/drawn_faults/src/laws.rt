@@ -5,7 +5,7 @@
 //! spans, and no other comes. The premises are those without which this is false.
 
 ghost use Rattle.std.specs.Prelude.{◌≡◌, ◌++◌, ℕ, IsTrue, IsFalse, [], ◌∷◌, codes, length};
-ghost use Rattle.rustc_parse_format.specs.Characters.{Text, begins_raw, behind_word, first_passes};
+ghost use Rattle.rustc_parse_format.specs.Characters.{Text, begins_raw, after_word, first_passes};
 ghost use Rattle.rustc_parse_format.specs.Characters.{begins_with, is_id_start};
 ghost use Rattle.rustc_parse_format.specs.Faults.{RawIdentifier};
 ghost use Rattle.rustc_parse_format.specs.Marks.{through, up_to};
@@ -22,7 +22,7 @@ ghost use Rattle.drawn_faults.specs.Losing.{moved};
 pub fn remove_raw_ident()
     ensures { (mode : Mode) (c : ℕ) (t : Text) → IsTrue (first_passes is_id_start t)
         → IsFalse (begins_raw t)
-        → LosesOnly (RawIdentifier (up_to (codes "r#" ++ t) (behind_word t))
+        → LosesOnly (RawIdentifier (up_to (codes "r#" ++ t) (after_word t))
         (through (codes "r#" ++ t) (codes "#" ++ t)) ∷ []) (moved (length t) 2 0)
         (all_faults mode c (codes "{r#" ++ t)) (all_faults mode c (codes "{" ++ t)) }
 {}

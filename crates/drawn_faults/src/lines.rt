@@ -4,7 +4,7 @@
 ghost use Rattle.std.specs.Prelude.{◌≡◌, ◌++◌, ◌<◌, ◌^◌, OnOk, chars, codes, decimal, string_bytes};
 ghost use Rattle.drawn_faults.specs.Rows.{seen_mark};
 ghost use Rattle.drawn_faults.specs.Labels.{seen_frame};
-ghost use Rattle.drawn_faults.specs.Lines.{apart, behind_bar, code_row, gap, labelled, number_bar};
+ghost use Rattle.drawn_faults.specs.Lines.{apart, after_bar, code_row, gap, labelled, number_bar};
 ghost use Rattle.drawn_faults.specs.Lines.{numbered, parting, shown, source_line, source_row};
 ghost use Rattle.drawn_faults.specs.Lines.{two_labels};
 
@@ -84,7 +84,7 @@ fn put_shown(out: &mut String, palette: Palette, text: &str, cut: usize) -> Resu
 }
 
 /// Adds what is after a bar: a line, and what is in front of it.
-fn put_behind_bar(
+fn put_after_bar(
     out: &mut String,
     palette: Palette,
     front: &str,
@@ -93,7 +93,7 @@ fn put_behind_bar(
 ) -> Result<(), AllocError>
     requires { cut < 2 ^ 62 }
     ensures { OnOk result (string_bytes out.new
-        ≡ string_bytes out.old ++ behind_bar palette front.now cut (chars text.now)) }
+        ≡ string_bytes out.old ++ after_bar palette front.now cut (chars text.now)) }
 {
     if cut > 0 || !draws_nothing(text) {
         out.push_str(front)?;
@@ -115,7 +115,7 @@ pub fn put_source_line(
         ++ source_line (seen_frame frame.now) front.now number) }
 {
     let line = line(frame.picture.source, number);
-    put_behind_bar(out, frame.gutter.palette, front, line, frame.cut)?;
+    put_after_bar(out, frame.gutter.palette, front, line, frame.cut)?;
     out.push_str("\n")?;
     Ok(())
 }

@@ -143,8 +143,8 @@ fn put_bar_rows(
     ensures { OnOk result (string_bytes out.new ≡ string_bytes out.old
         ++ bar_rows (seen_frame frame.now) first count) }
 {
-    for behind in 0..count {
-        put_bar_row(out, frame, first + behind + 1)?;
+    for rest_after in 0..count {
+        put_bar_row(out, frame, first + rest_after + 1)?;
     }
     Ok(())
 }
@@ -270,8 +270,8 @@ fn put_between(
     ensures { OnOk result (string_bytes out.new ≡ string_bytes out.old
         ++ between (seen_frame frame.now) first last) }
 {
-    let behind = last.saturating_sub(first).saturating_sub(1);
-    let count = without_bare(frame, first, behind.min(3));
+    let rest_after = last.saturating_sub(first).saturating_sub(1);
+    let count = without_bare(frame, first, rest_after.min(3));
     put_bar_rows(out, frame, first, count)?;
     if last > first + 5 && !is_bare_line(frame, last - 1) {
         put_bar_gap(out, frame, first + count, last - 1)?;

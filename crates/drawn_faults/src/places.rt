@@ -7,7 +7,7 @@ ghost use Rattle.rustc_parse_format.specs.Seen.{pair};
 ghost use Rattle.drawn_faults.specs.Glyphs.{is_printable};
 ghost use Rattle.drawn_faults.specs.Places.{offset};
 ghost use Rattle.std.specs.Prelude.{max};
-ghost use Rattle.drawn_faults.specs.Places.{behind_lines, extent, first_line, line, past};
+ghost use Rattle.drawn_faults.specs.Places.{after_lines, extent, first_line, line, past};
 ghost use Rattle.drawn_faults.specs.Places.{seen_extent, seen_picture, within};
 
 use crate::extent::{Extent, Spot};
@@ -68,7 +68,7 @@ fn past(spot: Spot, c: char) -> Spot
 /// Returns the place after printable characters.
 fn past_printable(spot: Spot, front: &str) -> Spot
     requires printable { list_all is_printable front.now ≡ true }
-    requires behind_indent { spot.is_indent ≡ false }
+    requires after_indent { spot.is_indent ≡ false }
     requires small_chars { spot.chars + length front.now < 2 ^ 62 }
     requires small_column { spot.column + length front.now < 2 ^ 62 }
     ensures value { result ≡ fold past spot front.now }
@@ -87,7 +87,7 @@ fn past_printable(spot: Spot, front: &str) -> Spot
 /// Passes the printable characters at the start of a text that end within `width` bytes. Returns
 /// the place after them, what is left of the text, and how many of the bytes are left.
 fn pass_printable(from: Spot, text: &str, width: usize) -> (Spot, &str, usize)
-    requires behind_indent { from.is_indent ≡ false }
+    requires after_indent { from.is_indent ≡ false }
     requires small_chars { from.chars + length text.now < 2 ^ 60 }
     requires small_column { from.column + 4 * length text.now < 2 ^ 61 }
     ensures value { fold past result.0 (within result.2 (chars result.1.now))
@@ -131,9 +131,9 @@ fn pass(from: Spot, text: &str, width: usize) -> (Spot, &str, usize)
         at = past(at, c);
         rest = tail;
         if !at.is_indent {
-            let (spot, behind, fewer) = pass_printable(at, rest, left);
+            let (spot, rest_after, fewer) = pass_printable(at, rest, left);
             at = spot;
-            rest = behind;
+            rest = rest_after;
             left = fewer;
         }
     }
@@ -143,7 +143,7 @@ fn pass(from: Spot, text: &str, width: usize) -> (Spot, &str, usize)
 /// Returns the first line of a text, and what is left of the text after that line.
 pub fn split_line(text: &str) -> (&str, &str)
     ensures line { result.0.now ≡ first_line text.now }
-    ensures rest { result.1.now ≡ behind_lines 1 text.now }
+    ensures rest { result.1.now ≡ after_lines 1 text.now }
     ensures short_line { length result.0.now ≤ length text.now }
     ensures short { length result.1.now ≤ length text.now }
 {
@@ -154,15 +154,15 @@ pub fn split_line(text: &str) -> (&str, &str)
 }
 
 /// Returns what is left of a text after its first lines.
-pub fn behind_lines(text: &str, count: usize) -> &str
-    ensures value { result.now ≡ behind_lines count text.now }
+pub fn after_lines(text: &str, count: usize) -> &str
+    ensures value { result.now ≡ after_lines count text.now }
     ensures short { length result.now ≤ length text.now }
 {
     let mut rest = text;
     let mut left = count;
     while left > 0 {
-        let (_, behind) = split_line(rest);
-        rest = behind;
+        let (_, rest_after) = split_line(rest);
+        rest = rest_after;
         left -= 1;
     }
     rest
@@ -174,7 +174,7 @@ pub fn line(text: &str, number: usize) -> &str
     ensures value { result.now ≡ line number text.now }
     ensures short { length result.now ≤ length text.now }
 {
-    let (first, _) = split_line(behind_lines(text, number));
+    let (first, _) = split_line(after_lines(text, number));
     first
 }
 

@@ -12,7 +12,7 @@ use Rattle.rustc_parse_format.specs.World.{Place}
 use Rattle.flat_reading.specs.declared.records.Extent.{Extent}
 use Rattle.flat_reading.specs.declared.records.MaybeExtent.{MaybeExtent}
 use Rattle.flat_reading.specs.declared.records.Fault.{Fault}
-use Rattle.flat_reading.proofs.Lists.{still_behind}
+use Rattle.flat_reading.proofs.Lists.{still_after}
 use Rattle.flat_reading.specs.Held.{Extends, Grows, Holds, HoldsError, HoldsErrors, HoldsMaybe}
 use Rattle.flat_reading.specs.Held.{HoldsSecond, HoldsSuggestion}
 
@@ -31,7 +31,7 @@ Grows-trans a b c i j k e g h =
       forward = omega arith;
       front = λ fit. Extends-trans (take i a) (take j b) (take k c) (g.front (omega arith))
           (h.front (omega arith));
-      behind = h.behind ∙ still_behind b a j k second g.behind;
+      rest_after = h.rest_after ∙ still_after b a j k second g.rest_after;
     }
 
 -- a text that was put where there is room
@@ -40,7 +40,7 @@ pub put_grows : (old ys : List ℕ) (from to : ℕ) → from ≤ to → to ≤ l
 put_grows old ys from to forward fit size = record {
   forward = forward;
   front = λ _. (ys, take-put_mid from (to - from) old ys to (omega arith) (omega arith));
-  behind = drop-put_mid from (to - from) old ys to (omega arith) (omega arith) size;
+  rest_after = drop-put_mid from (to - from) old ys to (omega arith) (omega arith) size;
 }
 
 put_length : (old ys : List ℕ) (from to : ℕ) → from ≤ to → to ≤ length old → length ys ≡ to - from

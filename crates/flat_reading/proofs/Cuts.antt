@@ -97,7 +97,7 @@ nil_test text u = by_test (length text == 0) refl
         sym (ap is_nil (ap chars (nil_from_length text (eqb-true (length text) 0 e)) ∙ chars-nil))
     by_test false e = not_nil (chars text) (some_chars text u (is_some_of (length text) e))
 
--- Where bytes stand behind a prefix, the prefix stands, and they stand behind it.
+-- Where bytes stand after a prefix, the prefix stands, and they stand after it.
 front_of : (xs zs : List ℕ) (from n : ℕ) → slice_range zs from (from + n) ≡ xs
     → take n (drop from zs) ≡ xs
 front_of xs zs from n e = ap (λ k. take k (drop from zs)) (omega arith) ∙ e
@@ -113,9 +113,9 @@ has_prefix bs xs ys from h =
           ∙ take_all (length xs) xs (omega arith),
     )
 
-pub has_behind : (bs xs ys : List ℕ) (from : ℕ) → HasBytes bs from (xs ++ ys)
+pub has_after : (bs xs ys : List ℕ) (from : ℕ) → HasBytes bs from (xs ++ ys)
     → HasBytes bs (from + length xs) ys
-has_behind bs xs ys from h =
+has_after bs xs ys from h =
     let long = length-append xs ys in
     let all = front_of (xs ++ ys) bs from (length (xs ++ ys)) h.1 in (
       omega (arith, h.0),

@@ -128,10 +128,10 @@ later : (bytes part : List ℕ) (front : Text) (from at : ℕ) (p : Place) (w : 
     → chars bytes ≡ front ++ chars part → byte_length front ≡ from
     → TextPlace part (from + at) p w → TextPlace bytes at p w
 later bytes part front from at p w whole wide h =
-    let behind = h.behind in
+    let rest_after = h.rest_after in
     record {
       some = h.some;
-      behind = omega arith;
+      rest_after = omega arith;
       text = record {
         before = front ++ h.text.before;
         after = h.text.after;

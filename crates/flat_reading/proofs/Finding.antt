@@ -88,7 +88,7 @@ length-add_finders n old fs =
       length-replicate (length fs - k) n,
     )
 
--- Numbers that are put behind two lists.
+-- Numbers that are put after two lists.
 reverse-replicate : (k n : ℕ) → reverse (replicate k n) ≡ replicate k n
 reverse-replicate zero n = refl
 reverse-replicate (suc k) n =

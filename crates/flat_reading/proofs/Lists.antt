@@ -11,9 +11,9 @@ pub keep_put : {R : Type 0} (xs ys : List R) (i : ℕ) (r : R) → drop i xs ≡
     → drop (i + 1) (set xs i r) ≡ drop (i + 1) ys
 keep_put xs ys i r e = drop-set-lt (i + 1) xs i r (omega arith) ∙ keep_more xs ys i e
 
-pub still_behind : {R : Type 0} (xs ys : List R) (j k : ℕ) → j ≤ k → drop j xs ≡ drop j ys
+pub still_after : {R : Type 0} (xs ys : List R) (j k : ℕ) → j ≤ k → drop j xs ≡ drop j ys
     → drop k xs ≡ drop k ys
-still_behind xs ys j k h e =
+still_after xs ys j k h e =
     let s : k ≡ j + (k - j) = omega arith in
     ap (λ n. drop n xs) s ∙ sym (drop-drop (k - j) j xs) ∙ ap (λ l. drop (k - j) l) e
     ∙ drop-drop (k - j) j ys ∙ ap (λ n. drop n ys) (sym s)

@@ -20,7 +20,7 @@ finders-go_as_errors : add_finders {A = ℕ} 3 (1 ∷ []) (UnmatchedBrace 0 ∷ 
     ∷ UnmatchedBrace 0 ∷ []) ≡ 3 ∷ 1 ∷ 3 ∷ 3 ∷ []
 finders-go_as_errors = refl
 
--- A lone closing brace gives no piece, the calls go on behind it, and the one at the end is the
+-- A lone closing brace gives no piece, the calls go on after it, and the one at the end is the
 -- last.
 calls-go_on : map (λ (e : Event). e.piece) (events false (start (codes "}a")))
     ≡ None ∷ Some (Lit (codes "a")) ∷ None ∷ []

@@ -25,7 +25,7 @@ use Rattle.rustc_parse_format.proofs.Spans.TextBytes.{HasLast, HasName, HasText,
 use Rattle.rustc_parse_format.proofs.Spans.TextBytes.{text-bytes}
 use Rattle.flat_reading.specs.Events.{position}
 use Rattle.flat_reading.specs.Stand.{ArgumentStands, CountStands, EndsWith, IsLast, IsPlain}
-use Rattle.flat_reading.specs.Stand.{PlaceholderStands, PositionStands, RunStands, StandsBehind}
+use Rattle.flat_reading.specs.Stand.{PlaceholderStands, PositionStands, RunStands, StandsAfter}
 use Rattle.flat_reading.specs.Stand.{TypeStands}
 
 -- What the evidence for a name, N, and for another text, P, shows of an argument.
@@ -49,7 +49,7 @@ type_stands bytes at P p Diagnostic ty (Some s) h = inr (p s _ h)
 type_stands bytes at P p DiagnosticNamed ty (Some s) h = inr (p s _ h)
 
 name_stands : (bytes : List ℕ) (at : ℕ) (s : Place) (w : Text) → HasName bytes at s w
-    → StandsBehind bytes (codes "r#") (s.0 - at) w
+    → StandsAfter bytes (codes "r#") (s.0 - at) w
 unfolding lib.Utf8.encode
 name_stands bytes at s w (inl h) = inl (λ some. h)
 name_stands bytes at s w (inr h) = inr h

@@ -7,7 +7,7 @@ use Rattle.std.specs.Prelude.{option_map}
 use Rattle.std.proofs.lemmas.List.{map-append, take_more_set, take_all}
 use Rattle.std.proofs.lemmas.List.Sums.{sum_by-cons}
 use Rattle.std.proofs.lemmas.Bool.{cases_lt}
-use Rattle.rustc_parse_format.specs.Characters.{Text, is_nil, behind_first}
+use Rattle.rustc_parse_format.specs.Characters.{Text, is_nil, after_first}
 use Rattle.rustc_parse_format.specs.Types.{Piece, Lit, NextArgument, Spec}
 use Rattle.rustc_parse_format.specs.World.{Place, piece_in}
 use Rattle.rustc_parse_format.specs.Call.{Call, call}
@@ -28,7 +28,7 @@ use Rattle.flat_reading.specs.Events.{step_meant}
 use Rattle.flat_reading.specs.Held.{Found}
 use Rattle.flat_reading.specs.Stand.{Adds, IsAdded}
 use Rattle.flat_reading.proofs.Finding.{length-add_finders, length-after}
-use Rattle.flat_reading.proofs.Lists.{keep_more, keep_put, still_behind}
+use Rattle.flat_reading.proofs.Lists.{keep_more, keep_put, still_after}
 use Rattle.flat_reading.proofs.Specs.{spec_at-front}
 
 cut_at_end : (t : Text) (es : List State) → length t ≤ 0 → cond (is_nil t) [] es ≡ []
@@ -107,7 +107,8 @@ specs_in-le (Some (NextArgument a)) = by_test (is_default a.format)
     by_test true = omega arith
     by_test false = omega arith
 
--- So far so many steps and specifications are told of the calls from the state s0 on, which came to
+-- So far so many steps and specifications are noted of the calls from the state s0 on, which came
+-- to
 -- s; the calls at the states `todo` are left.
 pub record IsUpTo (peeks : Bool) (input : List ℕ) (s0 : State) (todo : List State) (s : State)
     (count used : ℕ) (found : Found) (steps : List Step)
@@ -207,7 +208,7 @@ added_on m a b c e h k = record {
   room = k.room ∙ h.room;
   used = omega (arith, e);
   front = rw e refl;
-  kept = k.kept ∙ still_behind b.records.now a.records.now b.used c.used
+  kept = k.kept ∙ still_after b.records.now a.records.now b.used c.used
       (omega (arith, k.used)) h.kept;
 }
 
@@ -223,7 +224,7 @@ kept_put input e old new orig specs count used added h = by_room (cases_lt count
     by_room (inl room) = rw (added.put.0 room) (keep_put old orig count added.step h)
     by_room (inr full) = rw (added.put.1 full) (keep_more old orig count h)
 
--- A step tells of its call.
+-- A step describes its call.
 pub described : (peeks : Bool) (input : List ℕ) (specs : List SpecRecord) (r : Step) (s t : State)
     → t ≡ after s (next_call s) →
     piece_meant input (spec_at input specs r.spec) r
@@ -231,7 +232,7 @@ pub described : (peeks : Bool) (input : List ℕ) (specs : List SpecRecord) (r :
     ≡ closed_in s.world (next_call s).closes →
     r.read ≡ position t.input t.rest → r.next ≡ t.next → r.lines ≡ length t.line_spans
     → maybe_place r.peek ≡ looked_for peeks (place_of_first t t.rest) →
-    maybe_place r.peek_ahead ≡ looked_for peeks (place_of_first t (behind_first t.rest))
+    maybe_place r.peek_ahead ≡ looked_for peeks (place_of_first t (after_first t.rest))
     → step_meant input specs r ≡ event peeks s
 described peeks input specs r s t state piece place read next lines peek ahead =
     rw (piece, place, read, next, lines, peek, ahead, state) refl
@@ -261,16 +262,16 @@ pub no_piece : (input : List ℕ) (spec : Spec Place) (r : Step) → r.kind ≡ 
 unfolding piece_meant
 no_piece input spec r e = rw e refl
 
-pub told_end : (peeks : Bool) (input : List ℕ) (specs : List SpecRecord) (r : Step) (s t : State)
+pub report_end : (peeks : Bool) (input : List ℕ) (specs : List SpecRecord) (r : Step) (s t : State)
     → t ≡ after s (next_call s) → s.rest ≡ [] →
     piece_meant input (spec_at input specs r.spec) r ≡ None → maybe_place r.place ≡ None
     → r.read ≡ position t.input t.rest → r.next ≡ t.next →
     r.lines ≡ length t.line_spans → maybe_place r.peek ≡ None → maybe_place r.peek_ahead ≡ None
     → step_meant input specs r ≡ event peeks s
-told_end peeks input specs r s t state e piece place read next lines peek ahead =
+report_end peeks input specs r s t state e piece place read next lines peek ahead =
     let none : t.rest ≡ [] = ap (λ (u : State). u.rest) (state ∙ (at_end s e).1) ∙ e in
     let no_peek = ap (λ u. looked_for peeks (place_of_first t u)) none ∙ not_looked_for peeks in
-    let no_ahead = ap (λ u. looked_for peeks (place_of_first t (behind_first u))) none
+    let no_ahead = ap (λ u. looked_for peeks (place_of_first t (after_first u))) none
     ∙ not_looked_for peeks in
     described peeks input specs r s t state (piece
     ∙ sym (ap (option_map (piece_in s.world)) (at_end s e).0))

@@ -14,7 +14,7 @@ no_width [] e = refl
 no_width (c ∷ t) e =
     let one = len_utf8_bounds c in absurd (omega (arith, e, width-cons c t, one))
 
--- Before the last byte something is left, and behind it nothing.
+-- Before the last byte something is left, and after it nothing.
 pub some_left : (bytes : List ℕ) (input t : Text) (read : ℕ) → IsUtf8 bytes → chars bytes ≡ input
     → read ≡ position input t → read < length bytes → t ≢ []
 some_left bytes input t read u e r h nil =

@@ -4,7 +4,7 @@ use Rattle.std.specs.Prelude.{◌≡◌, Bool, ℕ, ◌≤◌, ◌-◌, ◌^◌,
 use Rattle.std.specs.Prelude.{if◌then◌else◌, List, length, map, min, take, drop, Option, Some}
 use Rattle.std.specs.Prelude.{None, chars, is_none, option_map, unwrap_or}
 use Rattle.std.specs.Str.{is_utf8}
-use Rattle.rustc_parse_format.specs.Characters.{Text, behind_first}
+use Rattle.rustc_parse_format.specs.Characters.{Text, after_first}
 use Rattle.rustc_parse_format.specs.Types.{Mode, Format, InlineAsm, Diagnostic, DiagnosticNamed}
 use Rattle.rustc_parse_format.specs.State.{State, first_state}
 use Rattle.rustc_parse_format.specs.Seen.{seen_mode}
@@ -84,7 +84,7 @@ pub record IsCounted (peeks : Bool) (s : State) (a : Answer) : Type 0 where
   pub source : is_set a.is_source_literal ≡ s.world.has_source
   pub peek : maybe_place a.peek ≡ looked_for peeks (place_of_first s s.rest)
   pub peek_ahead : maybe_place a.peek_ahead
-      ≡ looked_for peeks (place_of_first s (behind_first s.rest))
+      ≡ looked_for peeks (place_of_first s (after_first s.rest))
 
 -- The records describe all calls from the state s on, up to the end, and the errors and the lines
 -- at the end.

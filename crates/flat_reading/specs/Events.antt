@@ -4,7 +4,7 @@ use Rattle.std.specs.Prelude.{ℕ, zero, suc, ◌-◌, ◌++◌, Bool, true, fal
 use Rattle.std.specs.Prelude.{List, [], ◌∷◌, length, map, Option, Some, None}
 use Rattle.std.specs.Prelude.{option_map, is_none, sum_by}
 use Rattle.std.specs.List.{filter}
-use Rattle.rustc_parse_format.specs.Characters.{Text, byte_length, is_nil, behind_first}
+use Rattle.rustc_parse_format.specs.Characters.{Text, byte_length, is_nil, after_first}
 use Rattle.rustc_parse_format.specs.Types.{Alignment, Left, Right, Center, Unknown, Count, Is, Name}
 use Rattle.rustc_parse_format.specs.Types.{Param, Star, Implied, Spec, Piece, Lit, NextArgument}
 use Rattle.rustc_parse_format.specs.Faults.{Fault, is_front}
@@ -54,7 +54,7 @@ event_of peeks w k t = record {
   next = t.next;
   lines = length t.line_spans;
   peek = looked_for peeks (place_of_first t t.rest);
-  peek_ahead = looked_for peeks (place_of_first t (behind_first t.rest));
+  peek_ahead = looked_for peeks (place_of_first t (after_first t.rest));
 }
 
 -- The event of the next call.

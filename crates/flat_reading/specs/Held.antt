@@ -96,4 +96,4 @@ Extends xs ys = (more : List ℕ) × (ys ≡ xs ++ more)
 pub record Grows (old new : List ℕ) (from to : ℕ) : Type 0 where
   pub forward : from ≤ to
   pub front : to ≤ length old → Extends (take from old) (take to new)
-  pub behind : drop to new ≡ drop to old
+  pub rest_after : drop to new ≡ drop to old

@@ -36,8 +36,8 @@ abbrev pub StandsAt : List ℕ → ℕ → Text → Type 0
 StandsAt input from t = t ≢ [] → Stands input from t
 
 -- The text is in the input at the offset `from`, or these bytes and then the text are.
-abbrev pub StandsBehind : List ℕ → List ℕ → ℕ → Text → Type 0
-StandsBehind input prefix from t = StandsAt input from t
+abbrev pub StandsAfter : List ℕ → List ℕ → ℕ → Text → Type 0
+StandsAfter input prefix from t = StandsAt input from t
     ⊎ HasBytes input from (prefix ++ encode_utf8_all t)
 
 -- The text was read last: it ends at the offset `read`.
@@ -60,7 +60,7 @@ IsListed t = (t ≡ []) ⊎ ((t ≡ codes "x") ⊎ ((t ≡ codes "X") ⊎ (t ≡
 -- there. A type without a span is one that may have none.
 abbrev pub TypeStands : List ℕ → ℕ → Option Place → Text → Type 0
 TypeStands input offset None t = IsListed t
-TypeStands input offset (Some s) t = StandsBehind input (codes ":") (s.0 - offset) t
+TypeStands input offset (Some s) t = StandsAfter input (codes ":") (s.0 - offset) t
 
 -- The texts of a specification are in the input at the start of their spans, less the offset.
 pub record SpecStands (input : List ℕ) (offset : ℕ) (s : Spec Place) : Type 0 where
@@ -73,7 +73,7 @@ pub record SpecStands (input : List ℕ) (offset : ℕ) (s : Spec Place) : Type 
 abbrev pub PositionStands : List ℕ → ℕ → Position → Type 0
 PositionStands input from (Implicit n) = Unit {0}
 PositionStands input from (Index n) = Unit {0}
-PositionStands input from (Named w) = StandsBehind input (codes "r#") from w
+PositionStands input from (Named w) = StandsAfter input (codes "r#") from w
 
 -- The texts of an argument are in the input at the start of their spans, less the offset.
 pub record ArgumentStands (input : List ℕ) (offset : ℕ) (a : Argument Place) : Type 0 where
@@ -181,8 +181,8 @@ pub record IsAdded (input : List ℕ) (e : Event) (count used : ℕ) (old new : 
   pub described : used ≤ length specs → step_meant input specs step ≡ e
 
 -- The two steps say the same about the state after the call.
-abbrev pub SameBehind : Step → Step → Type 0
-SameBehind old new =
+abbrev pub SameAfter : Step → Step → Type 0
+SameAfter old new =
     (new.place ≡ old.place) × (new.read ≡ old.read) × (new.next ≡ old.next)
     × (new.lines ≡ old.lines) × (new.peek ≡ old.peek)
     × (new.peek_ahead ≡ old.peek_ahead)

@@ -14,7 +14,7 @@ ghost use Rattle.flat_reading.specs.Meant.{align_meant, count_meant, fill_meant,
 ghost use Rattle.flat_reading.specs.Meant.{maybe_place, piece_meant};
 ghost use Rattle.flat_reading.specs.Meant.{place as place_meant, position_meant, sign_meant};
 ghost use Rattle.flat_reading.specs.Meant.{spec_at, spec_meant, text_at};
-ghost use Rattle.flat_reading.specs.Stand.{Adds, ArgumentStands, CountAt, PositionAt, SameBehind};
+ghost use Rattle.flat_reading.specs.Stand.{Adds, ArgumentStands, CountAt, PositionAt, SameAfter};
 ghost use Rattle.flat_reading.specs.Stand.{SpecAt};
 
 use crate::records::{
@@ -328,7 +328,7 @@ pub fn put_argument(
     ensures number { step.new.spec ≤ specs.new.used }
     ensures adds { Adds (if is_default (seen_spec argument.now.format)
         then 0 else 1) specs.old specs.new }
-    ensures others { SameBehind step.old step.new }
+    ensures others { SameAfter step.old step.new }
 {
     let (position, number) = position(&argument.position);
     step.kind = PIECE_ARGUMENT;
@@ -346,7 +346,7 @@ pub fn put_bare_piece(kind: u32, text: Extent, step: &mut Step)
     ensures kind { step.new.kind ≡ kind }
     ensures text { step.new.text ≡ text }
     ensures spec { step.new.spec ≡ 0 }
-    ensures others { SameBehind step.old step.new }
+    ensures others { SameAfter step.old step.new }
 {
     step.kind = kind;
     step.position = POSITION_IMPLICIT;
@@ -367,7 +367,7 @@ fn put_bare_argument(argument: &Argument<'_>, text: Extent, step: &mut Step)
         → piece_meant input (spec_at input specs step.new.spec) step.new
         ≡ Some (NextArgument (seen_argument argument.now)) }
     ensures spec { step.new.spec ≡ 0 }
-    ensures others { SameBehind step.old step.new }
+    ensures others { SameAfter step.old step.new }
 {
     let (position, number) = position(&argument.position);
     step.kind = PIECE_ARGUMENT;
@@ -397,7 +397,7 @@ pub fn put_plain_argument(
     ensures number { step.new.spec ≤ specs.new.used }
     ensures adds { Adds (if is_default (seen_spec argument.now.format)
         then 0 else 1) specs.old specs.new }
-    ensures others { SameBehind step.old step.new }
+    ensures others { SameAfter step.old step.new }
 {
     if is_default(&argument.format) {
         put_bare_argument(argument, name_extent(input, offset, argument), step);

@@ -10,7 +10,7 @@ ghost use Rattle.flat_reading.specs.declared.records.Extent.{Extent as ExtentRec
 ghost use Rattle.flat_reading.specs.Meant.{run_at, text_at, type_meant};
 ghost use Rattle.flat_reading.specs.Stand.{ArgumentStands, CountAt, CountStands, HasBytes, IsLast};
 ghost use Rattle.flat_reading.specs.Stand.{IsListed, IsReadAt, PositionAt, PositionStands, SpecAt};
-ghost use Rattle.flat_reading.specs.Stand.{StandsAt, StandsBehind, TypeStands, has_texts};
+ghost use Rattle.flat_reading.specs.Stand.{StandsAt, StandsAfter, TypeStands, has_texts};
 
 use crate::flat::NOWHERE;
 use crate::records::{Extent, TYPE_DEBUG, TYPE_LOWER_HEX, TYPE_NONE, TYPE_TEXT, TYPE_UPPER_HEX};
@@ -76,8 +76,8 @@ fn has_bytes_at(input: &str, from: usize, bytes: &[u8]) -> bool
 /// Returns the byte range of a text that begins at `from`, or after `prefix` if the input has that
 /// at `from`.
 #[inline(never)]
-fn extent_behind(input: &str, prefix: &[u8], from: usize, text: &str) -> Extent
-    requires { StandsBehind input.now prefix.now from (chars text.now) }
+fn extent_after(input: &str, prefix: &[u8], from: usize, text: &str) -> Extent
+    requires { StandsAfter input.now prefix.now from (chars text.now) }
     ensures { text_at input.now result ≡ chars text.now }
 {
     if has_bytes_at(input, from, prefix)
@@ -126,7 +126,7 @@ fn type_extent(input: &str, offset: usize, format: &FormatSpec<'_>) -> (u32, Ext
     match &format.ty_span {
         Some(span) => (
             TYPE_TEXT,
-            extent_behind(input, b":", span.start.saturating_sub(offset), format.ty),
+            extent_after(input, b":", span.start.saturating_sub(offset), format.ty),
         ),
         None => (listed_type(format.ty), NOWHERE),
     }
@@ -143,7 +143,7 @@ pub fn name_extent(input: &str, offset: usize, argument: &Argument<'_>) -> Exten
     match &argument.position {
         Position::ArgumentNamed(name) => {
             let from = argument.position_span.start.saturating_sub(offset);
-            extent_behind(input, b"r#", from, name)
+            extent_after(input, b"r#", from, name)
         }
         _ => NOWHERE,
     }

@@ -3,7 +3,7 @@
 ghost use Rattle.std.specs.Prelude.{◌≡◌, ℕ, ◌<◌, ◌≤◌, ◌^◌, ◌++◌, if◌then◌else◌, [], Bool, List};
 ghost use Rattle.std.specs.Prelude.{None, Option, Some, IfNone, IfOk, IfSome, OnOk, chars, drop};
 ghost use Rattle.std.specs.Prelude.{length, map, option_map, take};
-ghost use Rattle.rustc_parse_format.specs.Characters.{behind_first};
+ghost use Rattle.rustc_parse_format.specs.Characters.{after_first};
 ghost use Rattle.rustc_parse_format.specs.Lines.{closed_in, place_list};
 ghost use Rattle.rustc_parse_format.specs.Marks.{Span};
 ghost use Rattle.rustc_parse_format.specs.Seen.{pair, seen_argument, seen_mode, seen_spec};
@@ -18,7 +18,7 @@ ghost use Rattle.flat_reading.specs.Events.{given, is_default, looked_for, place
 ghost use Rattle.flat_reading.specs.Events.{position, spec_count, specs_in, states, step_meant};
 ghost use Rattle.flat_reading.specs.Meant.{maybe_place, piece_meant, spec_at};
 ghost use Rattle.flat_reading.specs.Stand.{Adds, IsAdded, IsOnItsWay, IsPlain, IsReadAt, MakesCall};
-ghost use Rattle.flat_reading.specs.Stand.{PlaceholderStands, RunStands, SameBehind};
+ghost use Rattle.flat_reading.specs.Stand.{PlaceholderStands, RunStands, SameAfter};
 
 use crate::finders::Finders;
 use crate::flat::{
@@ -48,7 +48,7 @@ const BLANK: Step = Step {
 /// Returns the byte range in the source of the character after the next one, or none.
 #[inline(always)]
 fn place_ahead(parser: &Parser<'_>) -> MaybeExtent
-    ensures { maybe_place result ≡ place_of_first parser.now (behind_first parser.now.rest) }
+    ensures { maybe_place result ≡ place_of_first parser.now (after_first parser.now.rest) }
 {
     match parser.peek_ahead() {
         Some((place, _, _)) => some_extent(&place),
@@ -63,7 +63,7 @@ pub fn look_ahead(parser: &Parser<'_>, peek: &mut MaybeExtent, peek_ahead: &mut 
     requires { (maybe_place peek.old ≡ None) × (maybe_place peek_ahead.old ≡ None) }
     ensures place { maybe_place peek.new ≡ place_of_first parser.now parser.now.rest }
     ensures ahead { maybe_place peek_ahead.new
-        ≡ place_of_first parser.now (behind_first parser.now.rest) }
+        ≡ place_of_first parser.now (after_first parser.now.rest) }
 {
     if let Some((place, _, _)) = parser.peek() {
         *peek = some_extent(&place);
@@ -77,7 +77,7 @@ fn put_peeks(parser: &Parser<'_>, peeks: bool, peek: &mut MaybeExtent, peek_ahea
     ensures place { maybe_place peek.new
         ≡ looked_for peeks (place_of_first parser.now parser.now.rest) }
     ensures ahead { maybe_place peek_ahead.new
-        ≡ looked_for peeks (place_of_first parser.now (behind_first parser.now.rest)) }
+        ≡ looked_for peeks (place_of_first parser.now (after_first parser.now.rest)) }
 {
     *peek = NO_EXTENT;
     *peek_ahead = NO_EXTENT;
@@ -188,7 +188,7 @@ impl<'a> Walker<'a> {
         ensures number { OnOk result (step.new.spec ≤ specs.new.used) }
         ensures adds { OnOk result (Adds (if is_default (seen_spec self.now.argument.format)
             then 0 else 1) specs.old specs.new) }
-        ensures others { OnOk result (SameBehind step.old step.new) }
+        ensures others { OnOk result (SameAfter step.old step.new) }
     {
         if !has_texts(&self.argument) {
             put_plain_argument(&self.argument, self.input, self.offset, specs, step);
@@ -228,7 +228,7 @@ impl<'a> Walker<'a> {
         ensures adds { OnOk result
             (Adds (specs_in (option_map (seen_taken self.now.argument) given.now)) specs.old
             specs.new) }
-        ensures others { OnOk result (SameBehind step.old step.new) }
+        ensures others { OnOk result (SameAfter step.old step.new) }
     {
         match given {
             None => put_bare_piece(PIECE_NONE, NOWHERE, step),

@@ -14,10 +14,10 @@ use Rattle.format_calls.specs.declared.listing.Call.{Call}
 use Rattle.format_calls.specs.Rows.{Entry}
 use Rattle.format_calls.specs.Calls.{IsCall, Rises, rule_of_leaf}
 
--- A pair whose second token is behind the first.
-pub closes-behind : (xs : List Leaf) (i j : ℕ) → ArePartners xs i j → i < j → IsPair xs i j
-closes-behind xs i j (inl p) h = p
-closes-behind xs i j (inr p) h = absurd (omega (arith, p.ends, h))
+-- A pair whose second token is after the first.
+pub closes-rest_after : (xs : List Leaf) (i j : ℕ) → ArePartners xs i j → i < j → IsPair xs i j
+closes-rest_after xs i j (inl p) h = p
+closes-rest_after xs i j (inr p) h = absurd (omega (arith, p.ends, h))
 
 not-last : (m n : ℕ) → m < n + 1 → (m ≡ n → ⊥) → m < n
 not-last m n l f = by_order (cases_lt m n)
@@ -111,10 +111,10 @@ pub no-partner : {B : Type 0} (es : List Entry) (xs : List Leaf) (n : ℕ) (c : 
 no-partner es xs n c each k named = absurd (none-some c.close
     (each c.close (inl (subst (λ m. IsPair xs (m + 2) c.close) named k.is_pair))))
 
-pub partner-behind : {B : Type 0} (es : List Entry) (xs : List Leaf) (n j : ℕ) (c : Call)
+pub partner-rest_after : {B : Type 0} (es : List Entry) (xs : List Leaf) (n j : ℕ) (c : Call)
     → ((k : ℕ) → ArePartners xs (n + 2) k → Some j ≡ Some k) → j ≤ n + 2 → IsCall es xs c
     → c.name ≡ n → B
-partner-behind es xs n j c each l k named =
+partner-rest_after es xs n j c each l k named =
     let p : IsPair xs (n + 2) c.close = subst (λ m. IsPair xs (m + 2) c.close) named k.is_pair in
     let close : j ≡ c.close = same_Some j c.close (each c.close (inl p)) in
     absurd (omega (arith, close, l, p.ends))

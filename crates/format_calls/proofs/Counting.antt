@@ -13,11 +13,11 @@ use Rattle.format_calls.specs.Counted.{AreTrees, is_uncounted}
 pub record Passed (xs : List Leaf) (from at to : ℕ) (found : Bool) : Type 0 where
   pub trees : List ℕ
   pub follow : (more : List ℕ) → AreTrees xs at more to → AreTrees xs from (trees ++ more) to
-  pub told : (more : List ℕ) → list_any (is_uncounted xs) (trees ++ more)
+  pub report : (more : List ℕ) → list_any (is_uncounted xs) (trees ++ more)
       ≡ (found || list_any (is_uncounted xs) more)
 
 pub passed-none : (xs : List Leaf) (from to : ℕ) → Passed xs from from to false
-passed-none xs from to = record { trees = []; follow = λ more h. h; told = λ more. refl }
+passed-none xs from to = record { trees = []; follow = λ more h. h; report = λ more. refl }
 
 or-join : (a b c : Bool) → (a || (b || c)) ≡ ((a || b) || c)
 or-join true b c = refl
@@ -33,8 +33,8 @@ passed-more xs from i j to found p t = record {
   trees = p.trees ++ i ∷ [];
   follow = λ more h. subst (λ v. AreTrees xs from v to) (sym (append_assoc p.trees (i ∷ []) more))
       (p.follow (i ∷ more) (refl, j, t, h));
-  told = λ more. ap (λ v. list_any (is_uncounted xs) v) (append_assoc p.trees (i ∷ []) more)
-      ∙ (p.told (i ∷ more)
+  report = λ more. ap (λ v. list_any (is_uncounted xs) v) (append_assoc p.trees (i ∷ []) more)
+      ∙ (p.report (i ∷ more)
       ∙ or-join found (is_uncounted xs i) (list_any (is_uncounted xs) more));
 }
 
@@ -44,5 +44,5 @@ pub passed-all : (xs : List Leaf) (from at to : ℕ) (found : Bool) → at ≡ t
 passed-all xs from at to found e p = (
   p.trees ++ [],
   p.follow [] e,
-  ap not (sym (p.told [] ∙ or-nothing found)),
+  ap not (sym (p.report [] ∙ or-nothing found)),
 )

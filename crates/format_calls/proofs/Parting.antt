@@ -23,12 +23,12 @@ use Rattle.rust_trees.proofs.Stacks.{no-close-neither}
 use Rattle.format_calls.specs.declared.listing.Call.{Call}
 use Rattle.format_calls.specs.Rows.{Entry, rule_of}
 use Rattle.format_calls.specs.Calls.{IsCall, rule_of_leaf}
-use Rattle.format_calls.specs.Marks.{is_behind, is_byte, is_mark, is_mark_of, is_ident, word}
-use Rattle.format_calls.specs.Parts.{IsPart, Window, behind_next, front_of, front_of_tokens}
+use Rattle.format_calls.specs.Marks.{is_after, is_byte, is_mark, is_mark_of, is_ident, word}
+use Rattle.format_calls.specs.Parts.{IsPart, Window, after_next, front_of, front_of_tokens}
 use Rattle.format_calls.specs.Parts.{moved, moved_on, opens_call}
 use Rattle.format_calls.proofs.CallSteps.{call-within}
 
--- A token behind others, and in front of them.
+-- A token after others, and in front of them.
 pub get-shift : {A : Type 0} (f xs : List A) (k : ℕ)
     → slice_get (f ++ xs) (length f + k) ≡ slice_get xs k
 get-shift {A = A} [] xs k =
@@ -49,21 +49,21 @@ mark-shift m f xs k n e =
     ap (λ i. is_mark_of m (slice_get (f ++ xs) i)) e
     ∙ ap (λ o. is_mark_of m o) (get-shift f xs k)
 
--- No `$` stands behind these tokens.
+-- No `$` stands after these tokens.
 abbrev pub IsFixed : List Leaf → List Leaf → Type 0
-IsFixed f xs = is_behind (code "$") (f ++ xs) (length f) ≡ false
+IsFixed f xs = is_after (code "$") (f ++ xs) (length f) ≡ false
 
-behind-shift : (f xs : List Leaf) (k n : ℕ) → IsFixed f xs → n ≡ length f + k
-    → is_behind (code "$") (f ++ xs) n ≡ is_behind (code "$") xs k
-behind-shift f xs zero n h e =
+rest_after-shift : (f xs : List Leaf) (k n : ℕ) → IsFixed f xs → n ≡ length f + k
+    → is_after (code "$") (f ++ xs) n ≡ is_after (code "$") xs k
+rest_after-shift f xs zero n h e =
     let i : n ≡ length f = omega (arith, e) in
-    ap (λ i. is_behind (code "$") (f ++ xs) i) i ∙ h
-behind-shift f xs (suc k) n h e =
+    ap (λ i. is_after (code "$") (f ++ xs) i) i ∙ h
+rest_after-shift f xs (suc k) n h e =
     let i : n ≡ suc (length f + k) = omega (arith, e) in
-    ap (λ i. is_behind (code "$") (f ++ xs) i) i
+    ap (λ i. is_after (code "$") (f ++ xs) i) i
     ∙ mark-shift (code "$") f xs k (length f + k) refl
 
--- A call behind other tokens, and without them.
+-- A call after other tokens, and without them.
 pub call-shift : (es : List Entry) (f xs : List Leaf) (c : Call) → IsFixed f xs → IsCall es xs c
     → IsCall es (f ++ xs) (moved (length f) c)
 call-shift es f xs c h k =
@@ -74,7 +74,7 @@ call-shift es f xs c h k =
       is_macro = mark-shift (code "!") f xs (c.name + 1) _ n ∙ k.is_macro;
       is_pair = subst (λ i. IsPair (f ++ xs) i (length f + c.close)) m
           (pair-shift f xs (c.name + 2) c.close k.is_pair);
-      is_fixed = behind-shift f xs c.name _ h refl ∙ k.is_fixed;
+      is_fixed = rest_after-shift f xs c.name _ h refl ∙ k.is_fixed;
     }
 
 pub call-unshift : (es : List Entry) (f xs : List Leaf) (c : Call) → IsFixed f xs
@@ -87,7 +87,7 @@ call-unshift es f xs c h k =
       is_macro = sym (mark-shift (code "!") f xs (c.name + 1) _ n) ∙ k.is_macro;
       is_pair = pair-unshift f xs (c.name + 2) c.close
           (subst (λ i. IsPair (f ++ xs) i (length f + c.close)) m k.is_pair);
-      is_fixed = sym (behind-shift f xs c.name _ h refl) ∙ k.is_fixed;
+      is_fixed = sym (rest_after-shift f xs c.name _ h refl) ∙ k.is_fixed;
     }
 
 -- A closing delimiter is no word, and no mark that is no delimiter.
@@ -125,11 +125,11 @@ closing-no-mark m x d n h = by_mark (is_mark_of m (Some x)) refl
         then side_of_mark (slice_index x.text 0) else Neither) p.0
         ∙ (ap (λ c. side_of_mark c) (byte-is m x.text p.1) ∙ n))))
 
--- A call with tokens behind it.
-behind-front : (xs ys : List Leaf) (n : ℕ) → n ≤ length xs
-    → is_behind (code "$") (xs ++ ys) n ≡ is_behind (code "$") xs n
-behind-front xs ys zero h = refl
-behind-front xs ys (suc k) h =
+-- A call with tokens after it.
+rest_after-front : (xs ys : List Leaf) (n : ℕ) → n ≤ length xs
+    → is_after (code "$") (xs ++ ys) n ≡ is_after (code "$") xs n
+rest_after-front xs ys zero h = refl
+rest_after-front xs ys (suc k) h =
     ap (λ o. is_mark_of (code "$") o) (get-front xs ys k (omega (arith, h)))
 
 call-more : (es : List Entry) (xs ys : List Leaf) (c : Call) → IsCall es xs c
@@ -142,7 +142,7 @@ call-more es xs ys c k =
       is_macro = ap (λ o. is_mark_of (code "!") o)
           (get-front xs ys (c.name + 1) (omega (arith, l))) ∙ k.is_macro;
       is_pair = pair-more xs ys (c.name + 2) c.close k.is_pair;
-      is_fixed = behind-front xs ys c.name (omega (arith, l)) ∙ k.is_fixed;
+      is_fixed = rest_after-front xs ys c.name (omega (arith, l)) ∙ k.is_fixed;
     }
 
 -- A call that begins in a group ends in it.
@@ -167,7 +167,7 @@ call-less es xs ys c g h k = by_end (cases_lt (c.name + 2) (length xs))
           is_macro = sym (ap (λ o. is_mark_of (code "!") o)
               (get-front xs ys (c.name + 1) (omega (arith, l)))) ∙ k.is_macro;
           is_pair = pair-less xs ys (c.name + 2) c.close k.is_pair j;
-          is_fixed = sym (behind-front xs ys c.name (omega (arith, h))) ∙ k.is_fixed;
+          is_fixed = sym (rest_after-front xs ys c.name (omega (arith, h))) ∙ k.is_fixed;
         }
     by_end (inr l) =
         let n = ap (λ t. length t) g.joins ∙ length-append g.front (g.closing ∷ []) in
@@ -189,14 +189,14 @@ call-less es xs ys c g h k = by_end (cases_lt (c.name + 2) (length xs))
             ∙ (sym (ap (λ o. rule_of_leaf es o)
             (ap (λ i. slice_get (xs ++ ys) i) e ∙ last)) ∙ k.is_listed)))
 
--- No `$` stands behind a group.
+-- No `$` stands after a group.
 group-fixed : (gap part left : List Leaf) → IsGroup part → IsFixed (gap ++ part) left
 group-fixed gap part left g =
     let n = length-append gap part in
     let m = ap (λ t. length t) g.joins ∙ length-append g.front (g.closing ∷ []) in
     let e : length (gap ++ part) ≡ suc (length gap + length g.front) = omega (arith, n, m) in
     let z : length g.front ≡ length g.front + 0 = omega arith in
-    ap (λ i. is_behind (code "$") ((gap ++ part) ++ left) i) e
+    ap (λ i. is_after (code "$") ((gap ++ part) ++ left) i) e
     ∙ (ap (λ o. is_mark_of (code "$") o)
     (ap (λ t. slice_get t (length gap + length g.front)) (append_assoc gap part left)
     ∙ (get-shift gap (part ++ left) (length g.front)
@@ -206,7 +206,7 @@ group-fixed gap part left g =
     ∙ get-shift g.front (g.closing ∷ []) 0)))))
     ∙ closing-no-mark (code "$") g.closing g.delimiter refl g.closes)
 
--- Tokens are parted: nothing is left behind the part, or it is a group.
+-- Tokens are parted: nothing is left after the part, or it is a group.
 pub part-of : (es : List Entry) (gap part left : List Leaf)
     → ((c : Call) → IsCall es (gap ++ (part ++ left)) c → length gap ≤ c.name)
     → IsFixed gap (part ++ left) → (left ≡ []) ⊎ IsGroup part → IsPart es gap part left
@@ -216,7 +216,7 @@ part-of es gap part left before fixed end = record {
     λ k. call-shift es gap (part ++ left) c fixed (call-more es part left c k),
     λ k. inner c h (call-unshift es gap (part ++ left) c fixed k) end,
   );
-  behind = λ c. (λ k. outer c k end, λ k. rest c k end);
+  rest_after = λ c. (λ k. outer c k end, λ k. rest c k end);
 }
   where
     inner : (c : Call) → c.name < length part → IsCall es (part ++ left) c
@@ -250,7 +250,7 @@ part-of es gap part left before fixed end = record {
         (sym (append_assoc gap part left))
         (subst (λ d. IsCall es (gap ++ (part ++ left)) d) (sym (joined c)) k))
 
--- The tokens behind the gap: none, or the last one or the last two that were read.
+-- The tokens after the gap: none, or the last one or the last two that were read.
 abbrev pub window : Option Leaf → Option Leaf → List Leaf
 window None None = []
 window None (Some m) = m ∷ []
@@ -262,7 +262,7 @@ pub record IsGap (es : List Entry) (gap : List Leaf) (w : Window) : Type 0 where
   pub before : (left : List Leaf) (c : Call) → IsCall es (gap ++ (window w.name w.mark ++ left)) c
       → length gap ≤ c.name
   pub fixed : (left : List Leaf)
-      → is_behind (code "$") (gap ++ (window w.name w.mark ++ left)) (length gap) ≡ w.is_behind
+      → is_after (code "$") (gap ++ (window w.name w.mark ++ left)) (length gap) ≡ w.is_after
   pub starts : w.name ≡ None → gap ≡ []
   pub follows : w.mark ≡ None → w.name ≡ None
 
@@ -281,13 +281,13 @@ pair-opening xs i j p =
     ∙ (ap (λ n. slice_get (p.before ++ p.opening ∷ (p.inside ++ p.closing ∷ p.after)) n) e
     ∙ get-shift p.before (p.opening ∷ (p.inside ++ p.closing ∷ p.after)) 0)
 
--- Where the three tokens behind a gap begin no call, none has the first of them as its name.
+-- Where the three tokens after a gap begin no call, none has the first of them as its name.
 no-call : (es : List Entry) (gap left : List Leaf) (n m t : Leaf) (b : Bool) (c : Call)
-    → is_behind (code "$") (gap ++ (n ∷ m ∷ t ∷ left)) (length gap) ≡ b
+    → is_after (code "$") (gap ++ (n ∷ m ∷ t ∷ left)) (length gap) ≡ b
     → front_of_tokens es b (Some n) (Some m) t ≡ None
     → IsCall es (gap ++ (n ∷ m ∷ t ∷ left)) c → c.name ≡ length gap → ⊥
 no-call es gap left n m t true c f h k e =
-    false≢true (sym k.is_fixed ∙ (ap (λ i. is_behind (code "$") (gap ++ (n ∷ m ∷ t ∷ left)) i) e
+    false≢true (sym k.is_fixed ∙ (ap (λ i. is_after (code "$") (gap ++ (n ∷ m ∷ t ∷ left)) i) e
     ∙ f))
 no-call es gap left n m t false c f h k e =
     let xs = gap ++ (n ∷ m ∷ t ∷ left) in
@@ -324,12 +324,12 @@ pub gap-more : (es : List Entry) (gap : List Leaf) (w : Window) (t : Leaf)
     → IsGap es (gap_next gap w.name) (moved_on w t)
     × ((left : List Leaf) → gap ++ (window w.name w.mark ++ t ∷ left)
     ≡ gap_next gap w.name ++ (window w.mark (Some t) ++ left))
-gap-more es gap w t f h = by_window w.is_behind w.name w.mark f h
+gap-more es gap w t f h = by_window w.is_after w.name w.mark f h
   where
     by_window : (b : Bool) (n m : Option Leaf) → front_of_tokens es b n m t ≡ None
-        → IsGap es gap (record { is_behind = b; name = n; mark = m })
+        → IsGap es gap (record { is_after = b; name = n; mark = m })
         → IsGap es (gap_next gap n)
-        (record { is_behind = behind_next b n; name = m; mark = Some t })
+        (record { is_after = after_next b n; name = m; mark = Some t })
         × ((left : List Leaf) → gap ++ (window n m ++ t ∷ left)
         ≡ gap_next gap n ++ (window m (Some t) ++ left))
     by_window b None None f h = (
@@ -375,17 +375,17 @@ gap-more es gap w t f h = by_window w.is_behind w.name w.mark f h
             → length (gap ++ n ∷ []) ≤ c.name
         later left c k = by_name left c k (cases_eq c.name (length gap))
 
-        shown : (left : List Leaf) → is_behind (code "$") ((gap ++ n ∷ []) ++ (m ∷ t ∷ left))
+        shown : (left : List Leaf) → is_after (code "$") ((gap ++ n ∷ []) ++ (m ∷ t ∷ left))
             (length (gap ++ n ∷ [])) ≡ is_mark_of (code "$") (Some n)
         shown left =
             let a = length-append gap (n ∷ []) in
             let e : length (gap ++ n ∷ []) ≡ suc (length gap + 0) = omega (arith, a) in
-            ap (λ i. is_behind (code "$") ((gap ++ n ∷ []) ++ (m ∷ t ∷ left)) i) e
+            ap (λ i. is_after (code "$") ((gap ++ n ∷ []) ++ (m ∷ t ∷ left)) i) e
             ∙ ap (λ o. is_mark_of (code "$") o)
             (ap (λ xs. slice_get xs (length gap + 0)) (append_assoc gap (n ∷ []) (m ∷ t ∷ left))
             ∙ get-shift gap (n ∷ m ∷ t ∷ left) 0)
 
--- The tokens of the next window, behind those that were read, and those of a part.
+-- The tokens of the next window, after those that were read, and those of a part.
 pub window-more : (before gap : List Leaf) (n m : Option Leaf) (next : List Leaf) (t : Leaf)
     → gap ++ (window n m ++ t ∷ []) ≡ next ++ (window m (Some t) ++ [])
     → (before ++ (gap ++ window n m)) ++ t ∷ [] ≡ before ++ (next ++ window m (Some t))
@@ -404,13 +404,13 @@ part-more before gap n m part more t e =
     ∙ (ap (λ x. gap ++ (window n m ++ t ∷ x)) (sym (append-nil more))
     ∙ (e ∙ ap (λ x. gap ++ x) (append-nil part)))))
 
--- Behind the front of a part.
+-- After the front of a part.
 pub part-long : (n m t : Leaf) (part more : List Leaf) → part ≡ n ∷ m ∷ t ∷ more → 3 ≤ length part
 part-long n m t part more e = let l = ap (λ v. length v) e in omega (arith, l)
 
 -- The first window, with nothing in front of it.
 pub gap-none : (es : List Entry)
-    → IsGap es [] (record { is_behind = false; name = None; mark = None })
+    → IsGap es [] (record { is_after = false; name = None; mark = None })
 gap-none es = record {
   before = λ left c k. omega arith;
   fixed = λ left. refl;
@@ -424,16 +424,16 @@ left-once u xs ys a b =
     a.2 ∙ (ap (λ t. leaves (length u.whole - length u.rest) t) (reads-once _ _ _ a.1 b.1)
     ∙ sym b.2)
 
--- What is known where the three tokens behind a gap begin a call.
+-- What is known where the three tokens after a gap begin a call.
 pub gap-part : (es : List Entry) (gap part left f more : List Leaf) (w : Window) (t : Leaf)
     → front_of es w t ≡ Some f → IsGap es gap w → part ≡ f ++ more
     → (left ≡ []) ⊎ IsGroup part
     → (gap ++ (window w.name w.mark ++ t ∷ (more ++ left)) ≡ gap ++ (part ++ left))
     × IsPart es gap part left
-gap-part es gap part left f more w t s h e end = by_window w.is_behind w.name w.mark s h
+gap-part es gap part left f more w t s h e end = by_window w.is_after w.name w.mark s h
   where
     by_window : (b : Bool) (n m : Option Leaf) → front_of_tokens es b n m t ≡ Some f
-        → IsGap es gap (record { is_behind = b; name = n; mark = m })
+        → IsGap es gap (record { is_after = b; name = n; mark = m })
         → (gap ++ (window n m ++ t ∷ (more ++ left)) ≡ gap ++ (part ++ left))
         × IsPart es gap part left
     by_window true None None s h = absurd (none-some f s)
@@ -457,12 +457,12 @@ gap-part es gap part left f more w t s h e end = by_window w.is_behind w.name w.
               part-of es gap part left
                   (λ c k. h.before (t ∷ (more ++ left)) c
                   (subst (λ x. IsCall es (gap ++ x) c) (sym g) k))
-                  (ap (λ x. is_behind (code "$") (gap ++ x) (length gap)) (sym g)
+                  (ap (λ x. is_after (code "$") (gap ++ x) (length gap)) (sym g)
                   ∙ h.fixed (t ∷ (more ++ left)))
                   end,
             )
 
--- No call begins in a gap and the window behind it, where nothing is left.
+-- No call begins in a gap and the window after it, where nothing is left.
 pub gap-end : (es : List Entry) (gap : List Leaf) (w : Window) (c : Call) → IsGap es gap w
     → IsCall es (gap ++ (window w.name w.mark ++ [])) c → ⊥
 gap-end es gap w c h k =

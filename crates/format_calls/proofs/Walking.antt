@@ -14,7 +14,7 @@ use Rattle.format_calls.specs.declared.modes.Mode.TheVariants.{Start, Within, Op
 use Rattle.format_calls.specs.declared.modes.Mode.TheVariants.{Parameters}
 use Rattle.format_calls.specs.Marks.{is_mark, is_mark_of}
 use Rattle.format_calls.specs.Modes.{closes_list, depth_of, is_arrow, is_double, is_operator}
-use Rattle.format_calls.specs.Modes.{is_prefix, is_text, mode_after, mode_behind, opens_list}
+use Rattle.format_calls.specs.Modes.{is_prefix, is_text, mode_after, mode_after_leaf, opens_list}
 use Rattle.format_calls.specs.Arguments.{AreArguments, IsTree, Walks, is_end}
 use Rattle.format_calls.specs.declared.split.Argument.{Argument}
 
@@ -47,7 +47,7 @@ walks-more xs i k j m n (l ∷ js) w t e =
 
 -- A token opens no list in angles but by its `<`.
 no-depth : (xs : List Leaf) (i : ℕ) (o : Option Leaf) (s t : Bool)
-    → depth_of (mode_behind xs i o s t) ≡ 0
+    → depth_of (mode_after_leaf xs i o s t) ≡ 0
 no-depth xs i None s t = refl
 no-depth xs i (Some x) s t =
     cond_both {A = Mode} (is_double xs i) _ _ (λ n. depth_of n ≡ 0) (λ e. refl)

@@ -67,7 +67,7 @@ part_of named raw (Some x) o p = if is_direction x && is_parenthesis o
     then register_at p else (if is_value x then Operand else
     (if named then Unknown else setting_of raw x))
 
--- Where the value of an argument starts: behind its name and `=`, if it has one.
+-- Where the value of an argument starts: after its name and `=`, if it has one.
 abbrev pub value_start : Argument → ℕ
 value_start a = if a.is_named then a.start + 2 else a.start
 
@@ -76,6 +76,6 @@ abbrev pub part_at : List Leaf → Argument → ℕ → AsmPart
 part_at xs a i = part_of a.is_named (has_raw xs a.start (a.end - a.start)) (token_in xs a i)
     (token_in xs a (i + 1)) (token_in xs a (i + 2))
 
--- What an argument behind the templates is.
+-- What an argument after the templates is.
 abbrev pub asm_part : List Leaf → Argument → AsmPart
 asm_part xs a = part_at xs a (value_start a)

@@ -39,6 +39,6 @@ abbrev pub word : Leaf → List ℕ
 word x = if is_raw x.kind && nat_lt 2 (length x.text) then drop 2 x.text else x.text
 
 -- The token before the token i is this character of punctuation.
-abbrev pub is_behind : ℕ → List Leaf → ℕ → Bool
-is_behind m xs zero = false
-is_behind m xs (suc i) = is_mark m xs i
+abbrev pub is_after : ℕ → List Leaf → ℕ → Bool
+is_after m xs zero = false
+is_after m xs (suc i) = is_mark m xs i

@@ -15,7 +15,7 @@ use Rattle.rust_trees.specs.declared.sides.Side.TheVariants.{Neither}
 use Rattle.format_calls.specs.declared.modes.Mode.{Mode}
 use Rattle.format_calls.specs.declared.modes.Mode.TheVariants.{Start, Within, Operator, Angles}
 use Rattle.format_calls.specs.declared.modes.Mode.TheVariants.{Parameters}
-use Rattle.format_calls.specs.Marks.{is_behind, is_mark, is_mark_of, is_word}
+use Rattle.format_calls.specs.Marks.{is_after, is_mark, is_mark_of, is_word}
 
 -- The second token follows the first without white space and comments.
 abbrev pub is_joint : Leaf → Leaf → Bool
@@ -37,7 +37,7 @@ opens_list xs i = is_mark (code "<") xs i && not (is_followed (code "=") xs i)
 -- The `>` of `->`.
 abbrev pub is_arrow : List Leaf → ℕ → Bool
 is_arrow xs i = is_mark (code ">") xs i
-    && (is_behind (code "-") xs i && is_followed (code ">") xs (i - 1))
+    && (is_after (code "-") xs i && is_followed (code ">") xs (i - 1))
 
 -- `>` closes a list in angles, but not that of `->`.
 abbrev pub closes_list : List Leaf → ℕ → Bool
@@ -84,9 +84,9 @@ is_operator x = is_punct x.kind && (is_neither (side x) && not (is_mark_of (code
 
 -- The mode after the token x at i, at the start of an expression or of a type or not, and in a type
 -- or not.
-abbrev pub mode_behind : List Leaf → ℕ → Option Leaf → Bool → Bool → Mode
-mode_behind xs i None s t = Within false
-mode_behind xs i (Some x) s t =
+abbrev pub mode_after_leaf : List Leaf → ℕ → Option Leaf → Bool → Bool → Mode
+mode_after_leaf xs i None s t = Within false
+mode_after_leaf xs i (Some x) s t =
     if is_double xs i then Operator else
     (if is_text x (codes "as") || is_arrow xs i then Start true else
     (if is_mark_of (code ":") (Some x) then Start t else
@@ -105,9 +105,9 @@ depth_of Parameters = 0
 abbrev pub mode_after : List Leaf → ℕ → Mode → Mode
 mode_after xs i (Start t) =
     if opens_list xs i then Angles 1 else
-    (if is_mark (code "|") xs i then Parameters else mode_behind xs i (slice_get xs i) true t)
+    (if is_mark (code "|") xs i then Parameters else mode_after_leaf xs i (slice_get xs i) true t)
 mode_after xs i (Within t) =
-    if t && opens_list xs i then Angles 1 else mode_behind xs i (slice_get xs i) false t
+    if t && opens_list xs i then Angles 1 else mode_after_leaf xs i (slice_get xs i) false t
 mode_after xs i Operator = Start false
 mode_after xs i (Angles n) =
     if is_mark (code "<") xs i then Angles (n + 1) else

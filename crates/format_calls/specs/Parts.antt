@@ -19,14 +19,14 @@ opens_call es n m t = is_mark_of (code "!") (Some m)
 
 -- The last two tokens that were read of a file, and whether `$` stands before them.
 pub record Window : Type 0 where
-  pub is_behind : Bool
+  pub is_after : Bool
   pub name : Option Leaf
   pub mark : Option Leaf
 
 -- These two tokens as a contract sees them.
 abbrev pub seen_window : DeclaredWindow → Window
 seen_window w = record {
-  is_behind = w.is_behind;
+  is_after = w.is_after;
   name = option_map leaf w.name;
   mark = option_map leaf w.mark;
 }
@@ -43,17 +43,17 @@ front_of_tokens es false (Some n) (Some m) t =
 front_of_tokens es b n m t = None
 
 abbrev pub front_of : List Entry → Window → Leaf → Option (List Leaf)
-front_of es w t = front_of_tokens es w.is_behind w.name w.mark t
+front_of es w t = front_of_tokens es w.is_after w.name w.mark t
 
 -- Whether `$` stands before the tokens after the first of them.
-abbrev pub behind_next : Bool → Option Leaf → Bool
-behind_next b None = b
-behind_next b (Some n) = is_mark_of (code "$") (Some n)
+abbrev pub after_next : Bool → Option Leaf → Bool
+after_next b None = b
+after_next b (Some n) = is_mark_of (code "$") (Some n)
 
 -- The last two tokens with one more.
 abbrev pub moved_on : Window → Leaf → Window
 moved_on w t = record {
-  is_behind = behind_next w.is_behind w.name;
+  is_after = after_next w.is_after w.name;
   name = w.mark;
   mark = Some t;
 }
@@ -68,5 +68,5 @@ pub record IsPart (es : List Entry) (gap part left : List Leaf) : Type 0 where
   pub before : (c : Call) → IsCall es (gap ++ (part ++ left)) c → length gap ≤ c.name
   pub inside : (c : Call) → c.name < length part
       → IsCall es part c ↔ IsCall es (gap ++ (part ++ left)) (moved (length gap) c)
-  pub behind : (c : Call) → IsCall es left c
+  pub rest_after : (c : Call) → IsCall es left c
       ↔ IsCall es (gap ++ (part ++ left)) (moved (length gap + length part) c)

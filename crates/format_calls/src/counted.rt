@@ -7,7 +7,7 @@ ghost use Rattle.rust_trees.specs.Leaves.{leaf};
 ghost use Rattle.format_calls.specs.Counted.{AreTrees, is_uncounted, opens_at};
 
 use crate::marks::{is_mark, token_at};
-use crate::split::{behind_tree, is_named};
+use crate::split::{after_tree, is_named};
 use rust_trees::{Source, Token, is_opening};
 
 /// Returns whether a token opens a pair.
@@ -49,7 +49,7 @@ pub fn are_counted(source: &Source<'_>, opening: usize, from: usize, close: usiz
     let mut index = from;
     while index < close {
         found = found || is_uncounted(tokens, index);
-        index = behind_tree(source, index);
+        index = after_tree(source, index);
     }
     !found
 }

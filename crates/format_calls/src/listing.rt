@@ -7,7 +7,7 @@ ghost use Rattle.format_calls.specs.Calls.{IsCall, Rises, rule_of_leaf};
 ghost use Rattle.format_calls.specs.Rows.{entry};
 ghost use Rattle.format_calls.specs.declared.listing.Call.{Call};
 
-use crate::marks::{is_behind, is_mark, is_word, token_at, word};
+use crate::marks::{is_after, is_mark, is_word, token_at, word};
 use crate::table::{Row, Rule, Table, rule_of};
 use rust_trees::{Source, Token};
 use std::alloc::{AllocError, Global};
@@ -51,7 +51,7 @@ fn call_at(source: &Source<'_>, rows: &[Row<'_>], name: usize) -> Option<Call>
     if !is_mark(tokens, name + 1, b'!') {
         return None;
     }
-    if is_behind(tokens, name, b'$') {
+    if is_after(tokens, name, b'$') {
         return None;
     }
     let Some(rule) = rule_at(tokens, rows, name) else {

@@ -3,7 +3,7 @@
 ghost use Rattle.std.specs.Prelude.{◌≡◌, ◌<◌, IsTrue, Some, length, map, option_map};
 ghost use Rattle.std.specs.Prelude.{is_some, slice_get};
 ghost use Rattle.rust_trees.specs.Leaves.{leaf};
-ghost use Rattle.format_calls.specs.Marks.{is_behind, is_mark, is_mark_of, is_word, word};
+ghost use Rattle.format_calls.specs.Marks.{is_after, is_mark, is_mark_of, is_word, word};
 
 use rust_tokens::Kind;
 use rust_trees::Token;
@@ -45,8 +45,8 @@ pub fn is_mark(tokens: &[Token<'_>], index: usize, mark: u8) -> bool
 }
 
 /// Returns whether the token before the one of an index is this character of punctuation.
-pub fn is_behind(tokens: &[Token<'_>], index: usize, mark: u8) -> bool
-    ensures { result ≡ is_behind mark (map leaf tokens.now) index }
+pub fn is_after(tokens: &[Token<'_>], index: usize, mark: u8) -> bool
+    ensures { result ≡ is_after mark (map leaf tokens.now) index }
 {
     index > 0 && is_mark(tokens, index - 1, mark)
 }

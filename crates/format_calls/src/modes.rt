@@ -4,9 +4,9 @@ ghost use Rattle.std.specs.Prelude.{◌≡◌, ◌+◌, ◌<◌, ◌^◌, map, s
 ghost use Rattle.rust_trees.specs.Leaves.{leaf};
 ghost use Rattle.format_calls.specs.Modes.{closes_list, depth_of, is_arrow, is_double, is_followed};
 ghost use Rattle.format_calls.specs.Modes.{is_joint, is_keyword, is_operator, is_prefix, is_text};
-ghost use Rattle.format_calls.specs.Modes.{mode_after, mode_behind, opens_list};
+ghost use Rattle.format_calls.specs.Modes.{mode_after, mode_after_leaf, opens_list};
 
-use crate::marks::{is_behind, is_mark, is_mark_of, is_word, token_at};
+use crate::marks::{is_after, is_mark, is_mark_of, is_word, token_at};
 use rust_tokens::Kind;
 use rust_trees::{Side, Token};
 
@@ -58,7 +58,7 @@ fn is_arrow(tokens: &[Token<'_>], index: usize) -> bool
     ensures { result ≡ is_arrow (map leaf tokens.now) index }
 {
     is_mark(tokens, index, b'>')
-        && is_behind(tokens, index, b'-')
+        && is_after(tokens, index, b'-')
         && is_followed(tokens, index - 1, b'>')
 }
 
@@ -126,8 +126,8 @@ fn is_operator(token: &Token<'_>) -> bool
 
 /// Returns the mode after a token, at the start of an expression or of a type or not, and in a type
 /// or not.
-fn mode_behind(tokens: &[Token<'_>], index: usize, is_start: bool, is_type: bool) -> Mode
-    ensures { result ≡ mode_behind (map leaf tokens.now) index
+fn mode_after_leaf(tokens: &[Token<'_>], index: usize, is_start: bool, is_type: bool) -> Mode
+    ensures { result ≡ mode_after_leaf (map leaf tokens.now) index
         (slice_get (map leaf tokens.now) index) is_start is_type }
 {
     let Some(token) = token_at(tokens, index) else {
@@ -160,14 +160,14 @@ pub fn mode_after(tokens: &[Token<'_>], index: usize, mode: Mode) -> Mode
             } else if is_mark(tokens, index, b'|') {
                 Mode::Parameters
             } else {
-                mode_behind(tokens, index, true, is_type)
+                mode_after_leaf(tokens, index, true, is_type)
             }
         }
         Mode::Within(is_type) => {
             if is_type && opens_list(tokens, index) {
                 Mode::Angles(1)
             } else {
-                mode_behind(tokens, index, false, is_type)
+                mode_after_leaf(tokens, index, false, is_type)
             }
         }
         Mode::Operator => Mode::Start(false),

@@ -30,7 +30,7 @@ fn opens_call(rows: &[Row<'_>], name: &Token<'_>, mark: &Token<'_>, opening: &To
 #[derive(Clone, Copy)]
 pub struct Window<'a> {
     /// Whether `$` stands before the first one.
-    pub is_behind: bool,
+    pub is_after: bool,
     /// The first one.
     pub name: Option<Token<'a>>,
     /// The second one.
@@ -51,7 +51,7 @@ fn front_of<'a>(rows: &[Row<'_>], last: Window<'a>, opening: Token<'a>) -> Optio
     ensures { option_map seen_front result
         ≡ front_of (map entry rows.now) (seen_window last.entry) (leaf opening.entry) }
 {
-    if last.is_behind {
+    if last.is_after {
         return None;
     }
     let Some(name) = last.name else {
@@ -75,19 +75,19 @@ fn front_of<'a>(rows: &[Row<'_>], last: Window<'a>, opening: Token<'a>) -> Optio
 fn moved_on<'a>(last: Window<'a>, token: Token<'a>) -> Window<'a>
     ensures { seen_window result ≡ moved_on (seen_window last.entry) (leaf token.entry) }
 {
-    let is_behind = match last.name {
+    let is_after = match last.name {
         Some(name) => is_mark_of(&name, b'$'),
-        None => last.is_behind,
+        None => last.is_after,
     };
     Window {
-        is_behind,
+        is_after,
         name: last.mark,
         mark: Some(token),
     }
 }
 
-/// Adds the tokens of a part behind the first three. Returns `Err` if an allocation fails.
-fn add_behind_front(balance: &mut Balance, part: &Source<'_>) -> Result<(), AllocError>
+/// Adds the tokens of a part after the first three. Returns `Err` if an allocation fails.
+fn add_after_front(balance: &mut Balance, part: &Source<'_>) -> Result<(), AllocError>
     requires { 3 ≤ length part.now }
     ensures { OnOk result ((w : List Leaf) → IsBalanced w balance.old
         → IsBalanced (w ++ drop 3 part.now) balance.new) }
@@ -122,7 +122,7 @@ pub fn next_part<'a>(
         × ((w : List Leaf) → IsBalanced w balance.old → IsBalanced (w ++ left) balance.new)) }
 {
     let mut last = Window {
-        is_behind: false,
+        is_after: false,
         name: None,
         mark: None,
     };
@@ -131,7 +131,7 @@ pub fn next_part<'a>(
         if let Some(front) = front_of(&table.rows, last, token) {
             let tokens = [front.name, front.mark, front.opening];
             let part = Source::read_group(alloc, &tokens, rest)?;
-            add_behind_front(balance, &part)?;
+            add_after_front(balance, &part)?;
             return Ok(Some(part));
         }
         last = moved_on(last, token);

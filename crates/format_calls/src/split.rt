@@ -45,7 +45,7 @@ pub fn is_named(tokens: &[Token<'_>], index: usize) -> bool
 }
 
 /// Returns the token after the tree at a token between two delimiters that are a pair.
-pub fn behind_tree(source: &Source<'_>, index: usize) -> usize
+pub fn after_tree(source: &Source<'_>, index: usize) -> usize
     requires { (o c : ℕ) × IsPair source.now o c × (o < index) × (index < c) × (c < 2 ^ 64) }
     ensures { IsTree source.now index result }
 {
@@ -68,7 +68,7 @@ fn argument_end(source: &Source<'_>, opening: usize, from: usize, to: usize) -> 
     let mut end = from;
     while end < to && !is_end(tokens, end, mode) {
         mode = mode_after(tokens, end, mode);
-        end = behind_tree(source, end);
+        end = after_tree(source, end);
     }
     end
 }

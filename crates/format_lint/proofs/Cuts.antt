@@ -13,7 +13,7 @@ use Rattle.std.proofs.lemmas.Str.{encodes-chars, len_utf8_bounds}
 use Rattle.rustc_parse_format.specs.Characters.{Text, byte_length}
 use Rattle.rustc_parse_format.proofs.Sources.PlainPlaces.{width_chars}
 use Rattle.drawn_faults.specs.Places.{within}
-use Rattle.format_lint.specs.Colours.{behind}
+use Rattle.format_lint.specs.Colours.{rest_after}
 
 -- If no character of v ends within w bytes after u, the characters of u are those within w bytes.
 within-append : (w : ℕ) (u v : Text) → byte_length u ≤ w
@@ -30,8 +30,8 @@ within-append w (d ∷ u) v h k =
     (λ c t f. omega (arith, h, all, k c t f)) in
     rw (e, rest) refl
 
-behind-append : (w : ℕ) (u v : Text) → within w (u ++ v) ≡ u → behind w (u ++ v) ≡ v
-behind-append w u v e = ap (λ t. drop (length t) (u ++ v)) e ∙ drop-append_seam u v
+rest_after-append : (w : ℕ) (u v : Text) → within w (u ++ v) ≡ u → rest_after w (u ++ v) ≡ v
+rest_after-append w u v e = ap (λ t. drop (length t) (u ++ v)) e ∙ drop-append_seam u v
 
 -- The last place of a text within w bytes that is between two characters.
 pub record IsFloor (w : ℕ) (text : List ℕ) (n : ℕ) : Type 0 where
@@ -52,7 +52,7 @@ far w text n c t u f e =
 -- What is before that place and what is after it.
 pub record AreCut (w : ℕ) (text u v : List ℕ) : Type 0 where
   pub front : chars u ≡ within w (chars text)
-  pub back : chars v ≡ behind w (chars text)
+  pub back : chars v ≡ rest_after w (chars text)
 
 pub cut : (w : ℕ) (text : List ℕ) (n : ℕ) → IsUtf8 text → IsFloor w text n
     → AreCut w text (take n text) (drop n text)
@@ -68,5 +68,5 @@ cut w text n u f =
     (λ c t e. omega (arith, width, far w text n c t u f e)) in
     record {
       front = rw whole (sym front);
-      back = rw whole (sym (behind-append w x y front));
+      back = rw whole (sym (rest_after-append w x y front));
     }

@@ -11,7 +11,7 @@ use Rattle.rustc_parse_format.specs.World.{World, Place, faults_in}
 use Rattle.rustc_parse_format.proofs.Walking.Progress.{call-lt}
 use Rattle.format_lint.specs.Findings.{AreCounted, Finding, add_faults, findings_from}
 use Rattle.format_lint.specs.Findings.{findings_within, marked, marked_all, mistakes, most_drawn}
-use Rattle.format_lint.specs.Findings.{waits_behind, waits_behind_all}
+use Rattle.format_lint.specs.Findings.{waits_after, waits_after_all}
 use Rattle.format_lint.specs.SeenLint.{Keeps}
 use Rattle.format_lint.specs.declared.findings.Findings.{Findings}
 
@@ -49,7 +49,7 @@ pub record AreAdded (old new : Findings) (later : Bool) (left all : List (Fault 
   pub done : List Finding
   pub kept : (fs : List Finding) → Keeps old fs → Keeps new (fs ++ done)
   pub all_are : done ++ marked_all new.waits later left ≡ marked_all old.waits false all
-  pub waits_are : waits_behind_all new.waits left ≡ waits_behind_all old.waits all
+  pub waits_are : waits_after_all new.waits left ≡ waits_after_all old.waits all
 
 pub added-start : (f : Findings) (left all : List (Fault Place)) → left ≡ all
     → AreAdded f f false left all
@@ -57,13 +57,13 @@ added-start f left all e = record {
   done = [];
   kept = λ fs h. subst (Keeps f) (sym (append-nil fs)) h;
   all_are = ap (marked_all f.waits false) e;
-  waits_are = ap (waits_behind_all f.waits) e;
+  waits_are = ap (waits_after_all f.waits) e;
 }
 
 pub added-next : (old f g : Findings) (later : Bool) (x : Fault Place)
     (left more all : List (Fault Place)) → AreAdded old f later left all → left ≡ x ∷ more
     → ((fs : List Finding) → Keeps f fs → Keeps g (fs ++ marked f.waits later x ∷ []))
-    → g.waits ≡ waits_behind f.waits x → AreAdded old g true more all
+    → g.waits ≡ waits_after f.waits x → AreAdded old g true more all
 added-next old f g later x left more all h e k w =
     let own = marked f.waits later x in
     record {
@@ -73,8 +73,8 @@ added-next old f g later x left more all h e k w =
       all_are = append_assoc h.done (own ∷ []) (marked_all g.waits true more)
           ∙ ap (λ b. h.done ++ own ∷ marked_all b true more) w
           ∙ ap (λ l. h.done ++ marked_all f.waits later l) (sym e) ∙ h.all_are;
-      waits_are = ap (λ b. waits_behind_all b more) w
-          ∙ ap (waits_behind_all f.waits) (sym e) ∙ h.waits_are;
+      waits_are = ap (λ b. waits_after_all b more) w
+          ∙ ap (waits_after_all f.waits) (sym e) ∙ h.waits_are;
     }
 
 pub added-kept : (old new : Findings) (later : Bool) (left all : List (Fault Place))
@@ -87,8 +87,8 @@ added-kept old new later left all fs h e before =
     subst (λ l. Keeps new (fs ++ l)) whole (h.kept fs before)
 
 pub added-waits : (old new : Findings) (later : Bool) (left all : List (Fault Place))
-    → AreAdded old new later left all → left ≡ [] → new.waits ≡ waits_behind_all old.waits all
-added-waits old new later left all h e = ap (waits_behind_all new.waits) (sym e) ∙ h.waits_are
+    → AreAdded old new later left all → left ≡ [] → new.waits ≡ waits_after_all old.waits all
+added-waits old new later left all h e = ap (waits_after_all new.waits) (sym e) ∙ h.waits_are
 
 call-shorter : (mode : Mode) (c b : ℕ) (t : Text)
     → length (call mode c (b ∷ t)).rest ≤ length t
@@ -104,7 +104,7 @@ within-enough w (suc n) zero mode waits c (b ∷ t) h k = absurd (omega arith)
 within-enough w (suc n) (suc m) mode waits c (b ∷ t) h k =
     let a : Call = call mode c (b ∷ t) in
     let fs = add_faults [] (faults_in w a.faults) in
-    ap (λ l. marked_all waits false fs ++ l) (within-enough w n m mode (waits_behind_all waits fs)
+    ap (λ l. marked_all waits false fs ++ l) (within-enough w n m mode (waits_after_all waits fs)
     a.next a.rest (omega (arith, call-shorter mode c b t)) (omega (arith, call-shorter mode c b t)))
 
 -- The faults of all calls are those of the first and those of the calls after it.
@@ -112,7 +112,7 @@ findings-step : (waits : Bool) (s : State) → is_nil s.rest ≡ false
     → findings_from waits s
     ≡ marked_all waits false (add_faults [] (faults_in s.world (next_call s).faults))
     ++ findings_from
-    (waits_behind_all waits (add_faults [] (faults_in s.world (next_call s).faults)))
+    (waits_after_all waits (add_faults [] (faults_in s.world (next_call s).faults)))
     (after s (next_call s))
 unfolding findings_from
 findings-step waits s h = step s.world s.mode s.next s.rest h
@@ -121,14 +121,14 @@ findings-step waits s h = step s.world s.mode s.next s.rest h
         → findings_within w (length t) mode waits c t
         ≡ marked_all waits false (add_faults [] (faults_in w (call mode c t).faults))
         ++ findings_within w (length (call mode c t).rest) mode
-        (waits_behind_all waits (add_faults [] (faults_in w (call mode c t).faults)))
+        (waits_after_all waits (add_faults [] (faults_in w (call mode c t).faults)))
         (call mode c t).next (call mode c t).rest
     step w mode c [] h = absurd (cc)
     step w mode c (b ∷ t) h =
         let a : Call = call mode c (b ∷ t) in
         let fs = add_faults [] (faults_in w a.faults) in
         ap (λ l. marked_all waits false fs ++ l) (within-enough w (length t) (length a.rest) mode
-        (waits_behind_all waits fs) a.next a.rest (call-shorter mode c b t) (omega arith))
+        (waits_after_all waits fs) a.next a.rest (call-shorter mode c b t) (omega arith))
 
 findings-end : (waits : Bool) (s : State) → is_nil s.rest ≡ true → findings_from waits s ≡ []
 unfolding findings_from
@@ -167,7 +167,7 @@ pub found-next : (s new : State) (f g : Findings) (found : List (Fault Place))
     → found ≡ faults_in s.world (next_call s).faults
     → ((fs : List Finding) → Keeps f fs
     → Keeps g (fs ++ marked_all f.waits false (add_faults [] found)))
-    → g.waits ≡ waits_behind_all f.waits (add_faults [] found) → AreFound new g whole
+    → g.waits ≡ waits_after_all f.waits (add_faults [] found) → AreFound new g whole
 unfolding findings_from
 found-next s new f g found whole h e some is k w =
     let later = after s (next_call s) in
@@ -175,7 +175,7 @@ found-next s new f g found whole h e some is k w =
     let same : findings_from f.waits s ≡ own ++ findings_from g.waits new =
     findings-step f.waits s some
     ∙ ap (λ fs. marked_all f.waits false (add_faults [] fs)
-    ++ findings_from (waits_behind_all f.waits (add_faults [] fs)) later) (sym is)
+    ++ findings_from (waits_after_all f.waits (add_faults [] fs)) later) (sym is)
     ∙ ap (λ b. own ++ findings_from b later) (sym w)
     ∙ ap (λ l. own ++ l) (sym (ap (findings_from g.waits) e
     ∙ forgotten g.waits later s.errors)) in

@@ -33,7 +33,7 @@ use Rattle.format_tokens.specs.declared.kinds.Kind.TheVariants.{Align, Sign, Num
 use Rattle.format_tokens.specs.declared.kinds.Kind.TheVariants.{DollarSign, Dot, Asterisk}
 use Rattle.format_tokens.specs.declared.kinds.Kind.TheVariants.{«Type» as TypeKind, Modifier}
 use Rattle.format_tokens.specs.declared.kinds.Kind.TheVariants.{DiagnosticText, Unexpected, Quote}
-use Rattle.format_lint.specs.Colours.{behind, colour, in_colour, kind_name, shown_tokens}
+use Rattle.format_lint.specs.Colours.{rest_after, colour, in_colour, kind_name, shown_tokens}
 use Rattle.format_lint.specs.Findings.{Finding, first_error, most_drawn}
 use Rattle.format_lint.specs.Lint.{IsHarmlessFor, IsMended, IsShown, IsSourceIn, Shown, Source}
 use Rattle.format_lint.specs.Lint.{Task, drawing_of, drawn_finding, findings, lexed, more, picture}
@@ -129,7 +129,7 @@ of_lines t (x ∷ xs) =
     join (join (text (kind_name x.0) (name-written x.0)) (join (text (codes " ") refl)
     (join (join (decimal-harmless x.1.0) (join (text (codes "..") refl) (decimal-harmless x.1.1)))
     (join (text (codes " ") refl) (join (glyphs-harmless (chars (quoted (within n t))))
-    (text (codes "\n") refl)))))) (of_lines (behind n t) xs)
+    (text (codes "\n") refl)))))) (of_lines (rest_after n t) xs)
 
 -- tokens in colours
 has_digits : Option (List ℕ) → Bool
@@ -177,7 +177,7 @@ of_colours t [] = plain_with true (text [] refl)
 of_colours t (x ∷ xs) =
     let n = x.1.1 - x.1.0 in
     joined (in_colour-safe (colour x.0) _ (colour-digits x.0) (glyphs-harmless (within n t)))
-    (of_colours (behind n t) xs)
+    (of_colours (rest_after n t) xs)
 
 of_tokens : (b : Bool) (t : Text) (xs : List Placed) → IsHarmlessWith b (shown_tokens b t xs)
 of_tokens true t xs = of_colours t xs

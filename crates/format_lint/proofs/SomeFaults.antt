@@ -19,7 +19,7 @@ use Rattle.drawn_faults.specs.Fixing.{all_errors, all_faults, faults_within}
 use Rattle.drawn_faults.specs.Places.{Picture}
 use Rattle.format_lint.specs.Findings.{AreCounted, Finding, add_faults, findings_from}
 use Rattle.format_lint.specs.Findings.{findings_within, first_error}
-use Rattle.format_lint.specs.Findings.{first_error_within, marked_all, mistakes, waits_behind_all}
+use Rattle.format_lint.specs.Findings.{first_error_within, marked_all, mistakes, waits_after_all}
 use Rattle.format_lint.specs.Findings.{most_drawn}
 use Rattle.format_lint.specs.Lint.{drawings, drawn_finding, first_drawing, more, shown_error}
 
@@ -54,8 +54,8 @@ within-first d p w (suc n) mode waits c (b ∷ t) =
     let fs = add_faults [] (faults_in w a.faults) in
     ap (first_or d p (first_error_within w n mode a.next a.rest)) (listed [] (faults_in w a.faults))
     ∙ step-first d p (first_error_within w n mode a.next a.rest) waits fs
-    (findings_within w n mode (waits_behind_all waits fs) a.next a.rest)
-    (within-first d p w n mode (waits_behind_all waits fs) a.next a.rest)
+    (findings_within w n mode (waits_after_all waits fs) a.next a.rest)
+    (within-first d p w n mode (waits_after_all waits fs) a.next a.rest)
 
 -- The drawing of the error that the compiler shows is that of the first fault that is kept.
 pub first-shown : (d : Mode) (p : Picture) (m : ℕ) (s : State)
@@ -118,7 +118,7 @@ within-some w (suc n) mode c (b ∷ t) =
     by_faults : (a : Call) (l fs later : List (Fault Place)) → length l ≡ length fs
         → nat_lt 0 (mistakes (findings_within w n mode false a.next a.rest)) ≡ some later
         → nat_lt 0 (mistakes (marked_all false false l
-        ++ findings_within w n mode (waits_behind_all false l) a.next a.rest)) ≡ some (fs ++ later)
+        ++ findings_within w n mode (waits_after_all false l) a.next a.rest)) ≡ some (fs ++ later)
     by_faults a [] [] later e h = h
     by_faults a [] (g ∷ fs) later e h = absurd (omega arith)
     by_faults a (f ∷ l) [] later e h = absurd (omega arith)

@@ -86,12 +86,12 @@ stays true b = is_drawn_as_is b
 stays false b = is_ascii_or_as_is b
 
 -- The rest of a text after its first characters, as many as end within n bytes.
-abbrev pub behind : ℕ → Text → Text
-behind n t = drop (length (within n t)) t
+abbrev pub rest_after : ℕ → Text → Text
+rest_after n t = drop (length (within n t)) t
 
 -- The tokens of a text: each takes as many bytes from the rest of it as its range has.
 abbrev pub shown_tokens : Bool → Text → List Placed → List ℕ
 shown_tokens colours t [] = []
 shown_tokens colours t (x ∷ xs) =
     let n = x.1.1 - x.1.0 in
-    shown_token colours x (within n t) ++ shown_tokens colours (behind n t) xs
+    shown_token colours x (within n t) ++ shown_tokens colours (rest_after n t) xs

@@ -45,16 +45,16 @@ is_lone_brace f = false
 
 -- Whether a placeholder waits for its closing brace after a fault, if `waits` says so of what is
 -- before it. The next closing brace that closes nothing is the one that it waits for.
-abbrev pub waits_behind : Bool → Fault Place → Bool
-waits_behind waits (MissingBrace c s o) = true
-waits_behind waits (FillBrace c s o) = true
-waits_behind waits (UnmatchedBrace s) = false
-waits_behind waits f = waits
+abbrev pub waits_after : Bool → Fault Place → Bool
+waits_after waits (MissingBrace c s o) = true
+waits_after waits (FillBrace c s o) = true
+waits_after waits (UnmatchedBrace s) = false
+waits_after waits f = waits
 
 -- The same after these faults.
-abbrev pub waits_behind_all : Bool → List (Fault Place) → Bool
-waits_behind_all waits [] = waits
-waits_behind_all waits (f ∷ fs) = waits_behind_all (waits_behind waits f) fs
+abbrev pub waits_after_all : Bool → List (Fault Place) → Bool
+waits_after_all waits [] = waits
+waits_after_all waits (f ∷ fs) = waits_after_all (waits_after waits f) fs
 
 -- A fault as it is shown. It follows if the parser went on after another one of the same call, or
 -- if it is the closing brace that a placeholder waits for.
@@ -66,7 +66,7 @@ marked waits later f = record { fault = f; follows = later || (waits && is_lone_
 abbrev pub marked_all : Bool → Bool → List (Fault Place) → List Finding
 marked_all waits later [] = []
 marked_all waits later (f ∷ fs) =
-    marked waits later f ∷ marked_all (waits_behind waits f) true fs
+    marked waits later f ∷ marked_all (waits_after waits f) true fs
 
 -- The faults of the calls from t on, with at most n calls. A call that returns no piece before the
 -- end, as at a lone closing brace, is followed by others.
@@ -77,7 +77,7 @@ findings_within w (suc n) mode waits c (b ∷ t) =
     let k = call mode c (b ∷ t) in
     let fs = add_faults [] (faults_in w k.faults) in
     marked_all waits false fs
-    ++ findings_within w n mode (waits_behind_all waits fs) k.next k.rest
+    ++ findings_within w n mode (waits_after_all waits fs) k.next k.rest
 
 -- The faults of all calls of a parser, up to the end of its input and in the order of the calls.
 -- Those of a call are in the order of their errors in the list of a parser, so that the error of

@@ -37,13 +37,13 @@ pub fn run<R: Read, W: Write, E: Write>(
     task: Task<'_>,
 ) -> Result<usize, RunFault>
     // Both outputs and the result are those of the definition `IsOwed`.
-    ensures shown { IfOk result (λ told. IfSome (R.remaining reader.old) (λ input. (x : Shown)
-        × IsOwed (seen_task task.entry) input (Ok x) × (told ≡ x.mistakes)
+    ensures shown { IfOk result (λ report. IfSome (R.remaining reader.old) (λ input. (x : Shown)
+        × IsOwed (seen_task task.entry) input (Ok x) × (report ≡ x.mistakes)
         × Appends (W.contents writer.old) (W.contents writer.new) x.output
         × Appends (E.contents error_writer.old) (E.contents error_writer.new) x.error_output)) }
     // A terminal obeys nothing of them but the colours of the task; with fixes the literal, which
     // is to be read again, is written as it is.
-    ensures harmless { IfOk result (λ told. IfSome (R.remaining reader.old)
+    ensures harmless { IfOk result (λ report. IfSome (R.remaining reader.old)
         (λ input. (x : Shown) × IsHarmlessFor (seen_task task.entry) input x
         × Appends (W.contents writer.old) (W.contents writer.new) x.output
         × Appends (E.contents error_writer.old) (E.contents error_writer.new) x.error_output)) }

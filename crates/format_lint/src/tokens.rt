@@ -8,7 +8,7 @@ ghost use Rattle.drawn_faults.specs.Glyphs.{glyph_bytes, is_ascii_or_as_is, is_d
 ghost use Rattle.drawn_faults.specs.Places.{within};
 ghost use Rattle.format_tokens.specs.Seen.{seen_token};
 ghost use Rattle.piece_listing.specs.Listing.{quoted};
-ghost use Rattle.format_lint.specs.Colours.{behind, colour, in_colour, kind_name};
+ghost use Rattle.format_lint.specs.Colours.{rest_after, colour, in_colour, kind_name};
 ghost use Rattle.format_lint.specs.Colours.{shown_token, shown_tokens, stays};
 
 use drawn_faults::{is_ascii_or_as_is, is_drawn_as_is, put_glyphs};
@@ -153,7 +153,7 @@ fn put_token(
 /// them.
 fn split_within(text: &str, width: usize) -> (&str, &str)
     ensures front { chars result.0.now ≡ within width (chars text.now) }
-    ensures back { chars result.1.now ≡ behind width (chars text.now) }
+    ensures back { chars result.1.now ≡ rest_after width (chars text.now) }
     ensures whole { text.now ≡ result.0.now ++ result.1.now }
 {
     text.split_at(text.floor_char_boundary(width))
@@ -193,9 +193,9 @@ pub fn put_tokens(
     let mut rest = text;
     for token in tokens {
         let width = token.span.end.saturating_sub(token.span.start);
-        let (text, behind) = split_within(rest, width);
+        let (text, rest_after) = split_within(rest, width);
         put_token(out, colours, as_is, token, text)?;
-        rest = behind;
+        rest = rest_after;
     }
     Ok(())
 }

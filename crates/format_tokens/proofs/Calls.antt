@@ -8,8 +8,8 @@ use Rattle.std.specs.Int.{from_bool}
 use Rattle.std.proofs.lemmas.Bool.{cond_both, eqb-true, false≢true, or_cases}
 use Rattle.std.proofs.lemmas.List.Sums.{sum_by-append}
 use Rattle.std.proofs.Math.Seq.{take-append_seam}
-use Rattle.rustc_parse_format.specs.Characters.{Text, is_brace, is_no_brace, front, behind}
-use Rattle.rustc_parse_format.specs.Characters.{begins_with, behind_first, behind_white}
+use Rattle.rustc_parse_format.specs.Characters.{Text, is_brace, is_no_brace, front, rest_after}
+use Rattle.rustc_parse_format.specs.Characters.{begins_with, after_first, after_white}
 use Rattle.rustc_parse_format.specs.Characters.{byte_length}
 use Rattle.rustc_parse_format.specs.Characters.{first_passes}
 use Rattle.rustc_parse_format.specs.Types.{Mode, Argument, Piece, Lit, NextArgument, bare}
@@ -20,7 +20,7 @@ use Rattle.rustc_parse_format.specs.Placeholder.{cut}
 use Rattle.rustc_parse_format.specs.Call.{Call, call, placeholder, unmatched_call}
 use Rattle.rustc_parse_format.specs.World.{World, Place, piece_in}
 use Rattle.rustc_parse_format.proofs.Grammar.BarePieces.{bare-piece_in}
-use Rattle.rustc_parse_format.proofs.Grammar.Fronts.{front-behind}
+use Rattle.rustc_parse_format.proofs.Grammar.Fronts.{front-rest_after}
 use Rattle.rustc_parse_format.proofs.Grammar.Rests.{IsRest}
 use Rattle.rustc_parse_format.proofs.Readers.Recoveries.{recovery_rest}
 use Rattle.format_tokens.specs.declared.kinds.Kind.TheVariants.{Text as TextKind, Escape, Close}
@@ -42,7 +42,7 @@ take-rest t r h =
     h.whole ∙ ap (λ u. u ++ r) (sym (ap (λ k. take k t) n
     ∙ (ap (take (length h.front)) h.whole ∙ take-append_seam h.front r)))
 
-pub cut_first : (c : ℕ) (t : Text) → begins_with c t ≡ true → t ≡ c ∷ behind_first t
+pub cut_first : (c : ℕ) (t : Text) → begins_with c t ≡ true → t ≡ c ∷ after_first t
 cut_first c [] h = absurd (false≢true h)
 cut_first c (d ∷ t) h = ap (λ x. x ∷ t) (eqb-true d c h)
 
@@ -50,12 +50,12 @@ cut_first c (d ∷ t) h = ap (λ x. x ∷ t) (eqb-true d c h)
 tail-closed : (e f g : List ℕ) (x y z : List Sized) (b m left : ℕ) (r : Text) → chars e ≡ r
     → b ≡ from_bool (begins_with 125 (chars e)) → begins_with 125 r ≡ true
     → Takes Close b e x y f → m ≡ byte_length (chars f) - left → Takes Unexpected m f y z g
-    → left ≡ byte_length (behind_first r) → Took (token Close (codes "}")) (behind_first r) x z g
+    → left ≡ byte_length (after_first r) → Took (token Close (codes "}")) (after_first r) x z g
 tail-closed e f g x y z b m left r s i q close j takes k =
     let whole = cut_first 125 r q in
-    let first = close (codes "}") (behind_first r) (s ∙ whole)
+    let first = close (codes "}") (after_first r) (s ∙ whole)
     (i ∙ ap from_bool (ap (begins_with 125) s ∙ q)) in
-    then first (takes [] (behind_first r) first.leaves
+    then first (takes [] (after_first r) first.leaves
     (j ∙ (ap (λ u. byte_length u - left) first.leaves ∙ omega (arith, k))))
 
 tail-open : (e f g : List ℕ) (x y z : List Sized) (b m left : ℕ) (r s : Text) → chars e ≡ r
@@ -73,7 +73,7 @@ tail-open e f g x y z b m left r s h i q close j takes within k =
 pub ended : (mode : Mode) (n : ℕ) (o t : Text) (e f g : List ℕ) (w x y z : List Sized)
     (b m left : ℕ)
     → Took (opened_tokens (cut mode t).field (front is_whitespace (cut mode t).rest))
-    (behind_white (cut mode t).rest) w x e
+    (after_white (cut mode t).rest) w x e
     → b ≡ from_bool (begins_with 125 (chars e)) → Takes Close b e x y f
     → m ≡ byte_length (chars f) - left → Takes Unexpected m f y z g
     → left ≡ byte_length (placeholder mode n o t).rest
@@ -81,20 +81,20 @@ pub ended : (mode : Mode) (n : ℕ) (o t : Text) (e f g : List ℕ) (w x y z : L
     (placeholder mode n o t).rest w z g
 unfolding placeholder placeholder_tokens
 ended mode n o t e f g w x y z b m left h i close j takes k =
-    by_brace (begins_with 125 (behind_white (cut mode t).rest)) refl
+    by_brace (begins_with 125 (after_white (cut mode t).rest)) refl
   where
-    by_brace : (v : Bool) → begins_with 125 (behind_white (cut mode t).rest) ≡ v
+    by_brace : (v : Bool) → begins_with 125 (after_white (cut mode t).rest) ≡ v
         → Took (placeholder_tokens mode t (placeholder mode n o t).rest)
         (placeholder mode n o t).rest w z g
     by_brace true q = let few = rw q at k in
         rw q (then h (tail-closed e f g x y z b m left _ h.leaves i q close j takes few))
     by_brace false q = let few = rw q at k in
         rw q (then h (tail-open e f g x y z b m left _ _ h.leaves i q close j takes
-        (recovery_rest mode _ o _ (behind_white (cut mode t).rest)) few))
+        (recovery_rest mode _ o _ (after_white (cut mode t).rest)) few))
 
-pub white-behind : (t : Text) → t ≡ front is_whitespace t ++ behind_white t
-unfolding behind_white
-white-behind t = front-behind is_whitespace t
+pub white-rest_after : (t : Text) → t ≡ front is_whitespace t ++ after_white t
+unfolding after_white
+white-rest_after t = front-rest_after is_whitespace t
 
 brace-width : (b : ℕ) → is_brace b ≡ true → 2 ≡ byte_length (b ∷ b ∷ [])
 brace-width b h = elim (or_cases _ _ h) [
@@ -118,7 +118,7 @@ pub placeholder-piece : (mode : Mode) (n : ℕ) (o t : Text)
     → (placeholder mode n o t).piece ≡ Some (NextArgument (argument n (cut mode t)))
 unfolding placeholder
 placeholder-piece mode n o t =
-    cond_both {A = Call} (begins_with 125 (behind_white (cut mode t).rest)) _ _
+    cond_both {A = Call} (begins_with 125 (after_white (cut mode t).rest)) _ _
     (λ k. k.piece ≡ Some (NextArgument (argument n (cut mode t)))) (λ q. refl) (λ q. refl)
 
 -- and so a brace alone is no text.
@@ -143,10 +143,10 @@ literal-took mode n (c ∷ t) l s d g x y z b m left h given i escape j takes k 
         g
     by_double true e q =
         let few = rw (e, q) at k in
-        rw (e, q) (text-took (c ∷ c ∷ []) (front is_no_brace (behind_first t))
-        (behind is_no_brace (behind_first t)) s d g x y z b m left
+        rw (e, q) (text-took (c ∷ c ∷ []) (front is_no_brace (after_first t))
+        (rest_after is_no_brace (after_first t)) s d g x y z b m left
         (h ∙ ap (λ u. c ∷ u) (cut_first c t q
-        ∙ ap (λ u. c ∷ u) (front-behind is_no_brace (behind_first t))))
+        ∙ ap (λ u. c ∷ u) (front-rest_after is_no_brace (after_first t))))
         (i ∙ (ap (λ v. cond v 2 0) e ∙ brace-width c e)) escape j takes few)
     by_double false e q =
         absurd (brace-no_text mode n (c ∷ t) t l (c == 123) (rw (e, q) at given))
@@ -157,8 +157,8 @@ literal-took mode n (c ∷ t) l s d g x y z b m left h given i escape j takes k 
     by_brace true e = by_double (begins_with c t) e refl
     by_brace false e =
         let few = rw e at k in
-        rw e (text-took [] (c ∷ front is_no_brace t) (behind is_no_brace t) s d g x y z b m left
-        (h ∙ ap (λ u. c ∷ u) (front-behind is_no_brace t))
+        rw e (text-took [] (c ∷ front is_no_brace t) (rest_after is_no_brace t) s d g x y z b m left
+        (h ∙ ap (λ u. c ∷ u) (front-rest_after is_no_brace t))
         (i ∙ ap (λ v. cond v 2 0) e) escape j takes few)
 
 -- A call that returns an argument reads a placeholder.
@@ -229,7 +229,7 @@ none-took mode n (c ∷ t) s g x y m left h none j takes k = by_brace (is_brace 
     by_brace true e = by_double (begins_with c t) e refl
     by_brace false e = absurd (let p = rw e at none in cc p)
 
--- What a piece tells of the call that gave it.
+-- The facts of a call that the piece it gave shows.
 pub text-given : (w : World) (o : Option (Piece Span)) (l : Text)
     → Some (Lit l) ≡ option_map (piece_in w) o → o ≡ Some (Lit l)
 text-given w None l e = cc e

@@ -35,7 +35,7 @@ start-stop lo (p ∷ ps) e zero (starts, bytes, others) h = bytes
 start-stop lo (p ∷ ps) e (suc a) (starts, bytes, others) h =
     start-stop p.1 ps e a others (omega arith)
 
--- Behind the last one the text ends.
+-- After the last one the text ends.
 pub start-end : (ps : List Place) (e a : ℕ) → length ps ≤ a → start ps e a ≡ e
 start-end [] e a h = refl
 start-end (p ∷ ps) e zero h = absurd (omega arith)

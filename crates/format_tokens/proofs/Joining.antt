@@ -7,8 +7,8 @@ use Rattle.std.specs.Char.{is_whitespace}
 use Rattle.std.proofs.lemmas.Bool.{eqb-true, false≢true}
 use Rattle.std.proofs.lemmas.List.{length-take}
 use Rattle.rustc_parse_format.specs.Call.{call, placeholder}
-use Rattle.rustc_parse_format.specs.Characters.{Text, begins_raw, begins_with, behind_first}
-use Rattle.rustc_parse_format.specs.Characters.{behind_white, front, is_brace, is_no_brace}
+use Rattle.rustc_parse_format.specs.Characters.{Text, begins_raw, begins_with, after_first}
+use Rattle.rustc_parse_format.specs.Characters.{after_white, front, is_brace, is_no_brace}
 use Rattle.rustc_parse_format.specs.Placeholder.{cut}
 use Rattle.rustc_parse_format.specs.Source.{unappended}
 use Rattle.rustc_parse_format.specs.Spelling.{IsPart, absent, fixed, identifier, integer}
@@ -23,7 +23,7 @@ use Rattle.rustc_parse_format.specs.Syntax.{alternate_part, count_part, field_pa
 use Rattle.rustc_parse_format.specs.Syntax.{format_part, name_part, position_part, precision_part}
 use Rattle.rustc_parse_format.specs.Syntax.{sign_part, spec_part, type_part, width_part}
 use Rattle.rustc_parse_format.specs.Types.{Mode, Format, InlineAsm, Diagnostic, DiagnosticNamed}
-use Rattle.rustc_parse_format.proofs.Grammar.Fronts.{front-behind}
+use Rattle.rustc_parse_format.proofs.Grammar.Fronts.{front-rest_after}
 use Rattle.rustc_parse_format.proofs.Grammar.PartCuts.{cut-sound}
 use Rattle.rustc_parse_format.proofs.Grammar.PartLaws.{IsRow, only, opened, two-split}
 use Rattle.rustc_parse_format.proofs.Readers.Recoveries.{recovery_rest}
@@ -35,7 +35,7 @@ use Rattle.format_tokens.specs.Tokens.{Label, count_tokens, field_tokens, format
 use Rattle.format_tokens.specs.Tokens.{opened_tokens, position_tokens, precision_tokens}
 use Rattle.format_tokens.specs.Tokens.{spec_tokens, token, width_tokens}
 use Rattle.format_tokens.specs.Walk.{call_tokens, placeholder_tokens, tokens_of, tokens_within}
-use Rattle.format_tokens.proofs.Calls.{cut_first, take-rest, white-behind}
+use Rattle.format_tokens.proofs.Calls.{cut_first, take-rest, white-rest_after}
 
 pub joined-append : (x y : List Label) → joined (x ++ y) ≡ joined x ++ joined y
 joined-append [] y = refl
@@ -173,20 +173,20 @@ placeholder-splits : (mode : Mode) (n : ℕ) (o t : Text)
     → Splits (placeholder_tokens mode t (placeholder mode n o t).rest) (123 ∷ t)
     (placeholder mode n o t).rest
 unfolding placeholder placeholder_tokens
-placeholder-splits mode n o t = by_brace (begins_with 125 (behind_white (cut mode t).rest)) refl
+placeholder-splits mode n o t = by_brace (begins_with 125 (after_white (cut mode t).rest)) refl
   where
     opening : Splits (opened_tokens (cut mode t).field (front is_whitespace (cut mode t).rest))
-        (123 ∷ t) (behind_white (cut mode t).rest)
+        (123 ∷ t) (after_white (cut mode t).rest)
     opening = also (splits _ (codes "{") refl)
         (also (field-splits mode t (cut mode t).field (cut mode t).rest (cut-sound mode t))
-        (splits _ (front is_whitespace (cut mode t).rest) (white-behind (cut mode t).rest)))
+        (splits _ (front is_whitespace (cut mode t).rest) (white-rest_after (cut mode t).rest)))
 
-    by_brace : (v : Bool) → begins_with 125 (behind_white (cut mode t).rest) ≡ v
+    by_brace : (v : Bool) → begins_with 125 (after_white (cut mode t).rest) ≡ v
         → Splits (placeholder_tokens mode t (placeholder mode n o t).rest) (123 ∷ t)
         (placeholder mode n o t).rest
     by_brace true q = rw q (also opening (splits _ (codes "}") (cut_first 125 _ q)))
-    by_brace false q = rw q (also opening (splits _ _ (take-rest (behind_white (cut mode t).rest) _
-        (recovery_rest mode _ o _ (behind_white (cut mode t).rest)))))
+    by_brace false q = rw q (also opening (splits _ _ (take-rest (after_white (cut mode t).rest) _
+        (recovery_rest mode _ o _ (after_white (cut mode t).rest)))))
 
 -- The tokens of a call are what it reads,
 call-splits : (mode : Mode) (n : ℕ) (t : Text)
@@ -206,7 +206,8 @@ call-splits mode n (b ∷ t) = by_brace (is_brace b) refl
         → Splits (call_tokens mode (b ∷ t) (call mode n (b ∷ t)).rest) (b ∷ t)
         (call mode n (b ∷ t)).rest
     by_double true e q = rw (e, q) (also (splits _ (b ∷ b ∷ []) (ap (λ u. b ∷ u) (cut_first b t q)))
-        (splits _ (front is_no_brace (behind_first t)) (front-behind is_no_brace (behind_first t))))
+        (splits _ (front is_no_brace (after_first t)) (front-rest_after is_no_brace (after_first
+        t))))
     by_double false e q = by_sign (b == 123) e q refl
 
     by_brace : (v : Bool) → is_brace b ≡ v
@@ -214,7 +215,7 @@ call-splits mode n (b ∷ t) = by_brace (is_brace b) refl
         (call mode n (b ∷ t)).rest
     by_brace true e = by_double (begins_with b t) e refl
     by_brace false e = rw e (splits _ (b ∷ front is_no_brace t)
-        (ap (λ u. b ∷ u) (front-behind is_no_brace t)))
+        (ap (λ u. b ∷ u) (front-rest_after is_no_brace t)))
 
 -- and so those of all calls are the text.
 all-splits : (n : ℕ) (mode : Mode) (c : ℕ) (t : Text) → length t ≤ n

@@ -5,7 +5,7 @@ use Rattle.std.specs.Prelude.{◌&&◌}
 use Rattle.std.specs.Char.{is_ascii_digit}
 use Rattle.std.proofs.lemmas.Bool.{and_parts, and_from, eq-eqb, eqb-true, false≢true, not-true}
 use Rattle.std.proofs.lemmas.Bool.{false_from_ne_true}
-use Rattle.rustc_parse_format.specs.Characters.{Text, begins_raw, begins_with, behind_first}
+use Rattle.rustc_parse_format.specs.Characters.{Text, begins_raw, begins_with, after_first}
 use Rattle.rustc_parse_format.specs.Characters.{byte_length, first_passes, front, is_id_start}
 use Rattle.rustc_parse_format.specs.Spelling.{IsPart, absent, fixed, identifier, is_word}
 use Rattle.rustc_parse_format.specs.Syntax.{PositionText, Digits, Word, RawWord, NoPosition}
@@ -38,10 +38,10 @@ begins-passes p c (d ∷ t) h e = ap p (eqb-true d c e) ∙ h
 raw_from_names : (t w : Text) → is_word w ≡ true → names_raw t w ≡ true → begins_raw t ≡ true
 raw_from_names t [] i e = absurd (false≢true e)
 raw_from_names t (c ∷ w) i e =
-    let a = and_parts (begins_with 114 t && begins_with 35 (behind_first t)) _ e in
-    let b = and_parts (begins_with 114 t) (begins_with 35 (behind_first t)) a.0 in
+    let a = and_parts (begins_with 114 t && begins_with 35 (after_first t)) _ e in
+    let b = and_parts (begins_with 114 t) (begins_with 35 (after_first t)) a.0 in
     and_from _ _ b.0 (and_from _ _ b.1
-    (begins-passes is_id_start c (behind_first (behind_first t)) (and_parts _ _ i).0 a.1))
+    (begins-passes is_id_start c (after_first (after_first t)) (and_parts _ _ i).0 a.1))
 
 names_raw-raw : (w r : Text) → is_word w ≡ true → names_raw (codes "r#" ++ (w ++ r)) w ≡ true
 names_raw-raw [] r i = absurd (false≢true i)

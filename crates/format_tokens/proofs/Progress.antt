@@ -47,14 +47,14 @@ pub left_after : (mode : Mode) (input : Text) (x : List Sized) (rest : Text) (s 
 left_after mode input x rest s new m w p h e i j k =
     let same : call s.mode s.next s.rest ≡ call mode s.next rest =
     ap (λ a. call a s.next s.rest) h.mode_is ∙ ap (call mode s.next) (sym h.rest_is) in
-    let behind : byte_length new.rest ≡ byte_length (call mode s.next rest).rest =
+    let rest_after : byte_length new.rest ≡ byte_length (call mode s.next rest).rest =
     ap (λ (u : State). byte_length u.rest) e ∙ ap (λ a. byte_length a.rest) same in
     let whole : byte_length new.input ≡ byte_length input =
     ap (λ (u : State). byte_length u.input) e ∙ ap byte_length h.input_is in
     let less : byte_length (call mode s.next rest).rest ≤ byte_length rest =
     IsRest-width (call_rest mode s.next rest) in
     let small : byte_length rest ≤ byte_length input = rw h.rest_is h.within in
-    omega (arith, behind, whole, less, small)
+    omega (arith, rest_after, whole, less, small)
 
 pub so_far-start : (mode : Mode) (input : Text) (s : State) → s.mode ≡ mode → s.input ≡ input
     → s.rest ≡ input → s.next ≡ 0 → IsSoFar mode input [] input s
@@ -97,7 +97,7 @@ so_far-next mode input x y rest t s new h e some took =
     let k = call mode s.next rest in
     let same : call s.mode s.next s.rest ≡ k =
     ap (λ a. call a s.next s.rest) h.mode_is ∙ ap (call mode s.next) (sym h.rest_is) in
-    let rest_after : new.rest ≡ k.rest =
+    let rest_after_part : new.rest ≡ k.rest =
     ap (λ (u : State). u.rest) e ∙ ap (λ a. a.rest) same in
     let next_after : new.next ≡ k.next =
     ap (λ (u : State). u.next) e ∙ ap (λ a. a.next) same in
@@ -109,11 +109,11 @@ so_far-next mode input x y rest t s new h e some took =
     record {
       mode_is = ap (λ (u : State). u.mode) e ∙ h.mode_is;
       input_is = ap (λ (u : State). u.input) e ∙ h.input_is;
-      rest_is = took.leaves ∙ sym rest_after;
-      within = rw rest_after (omega arith);
+      rest_is = took.leaves ∙ sym rest_after_part;
+      within = rw rest_after_part (omega arith);
       turns = f.fewer;
-      enough = rw rest_after f.enough;
-      tokens = rw (rest_after, next_after)
+      enough = rw rest_after_part f.enough;
+      tokens = rw (rest_after_part, next_after)
           (joins x y (map sized (call_tokens mode rest k.rest))
           (map sized (tokens_within f.fewer mode k.next k.rest)) _ took.adds
           (ap (λ l. x ++ l) (sym (map-append sized (call_tokens mode rest k.rest)

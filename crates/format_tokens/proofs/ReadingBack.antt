@@ -32,7 +32,7 @@ middle : (d u r : Text) → drop (length d) (take (length d + length u) (d ++ (u
 middle d u r = ap (drop (length d)) (take-append-add d (u ++ r) (length u)
     ∙ ap (λ v. d ++ v) (take-append_seam u r)) ∙ drop-append_seam d u
 
--- A token of the characters u behind others, with n left from it on.
+-- A token of the characters u after others, with n left from it on.
 one-reads : (input : Text) (style : Option ℕ) (source : Text) (b : Bool) (d u r : Text) (n : ℕ)
     → IsSource input style source b → unappended b input ≡ d ++ (u ++ r)
     → n + length d ≡ length input
@@ -93,7 +93,7 @@ before-reads input style source b h =
     none_right _ _ (before-inside 0 _ (quote_offset style) us (omega arith) (zero-apart _)
     ∙ (back.before ∙ ap (λ k. take k (unappended b input)) zero))
 
--- and none behind the end of the text.
+-- and none after the end of the text.
 units-end : (q m : ℕ) (us : List LiteralUnit) → last_stop q (content_places q us) ≤ m
     → inside (last_stop q (content_places q us), m) q us ≡ []
 units-end q m us h =
@@ -107,11 +107,11 @@ units-end q m us h =
     ∙ (before-inside e m q us h apart
     ∙ (before-all q q us e m ordered h ∙ sym (append-nil (content_value us)))))
 
-behind-reads : (input : Text) (style : Option ℕ) (source : Text) (b : Bool)
+rest_after-reads : (input : Text) (style : Option ℕ) (source : Text) (b : Bool)
     → IsSource input style source b
     → inside ((world input style (Some source) b).end, byte_length source) (quote_offset style)
     (source_units input style source b) ≡ []
-behind-reads input style source b h =
+rest_after-reads input style source b h =
     let k = known input style source b h in
     rw (k.units_are, ap (λ (w : World). w.end) k.world_is)
     (units-end (quote_offset style) (byte_length source) k.units (omega (arith, k.inside)))
@@ -136,7 +136,7 @@ tokens-read_back mode input style source b h =
     ∙ (ap (λ ls. (Quote, inside (0, number_of w (Start (length input))) q us) ∷ ls)
     (map-append (λ (t : Placed). (t.0, inside t.1 q us)) ts (last ∷ []))
     ∙ ends-alike _ _ _ _ _ _ (before-reads input style source b h)
-    (behind-reads input style source b h) text)
+    (rest_after-reads input style source b h) text)
 
 -- Kinds alone do not depend on the world.
 kinds-read : (input : Text) (style : Option ℕ) (source : Text) (b : Bool) (ts : List Placed)

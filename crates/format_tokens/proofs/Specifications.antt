@@ -29,30 +29,31 @@ default_starts : (mode : Mode) (t r : Text) {A : Type 0} → begins_with 58 t �
 default_starts mode t r e h = absurd (false≢true (sym (not-true (begins_with 58 r) h.ends)
     ∙ (ap (begins_with 58) (sym h.whole) ∙ e)))
 
-pub format-behind : (t b left : List ℕ) (x y z : List Sized) (f : Spec (Unit {0}))
+pub format-rest_after : (t b left : List ℕ) (x y z : List Sized) (f : Spec (Unit {0}))
     → begins_with 58 (chars t) ≡ true → Takes Colon 1 t x y b
     → ((p : FormatText) (n : ℕ) (r : Text) → IsPart (chars b) (format_part p) r
     → f ≡ format_value n p → Took (format_tokens p) r y z left)
     → (k : SpecText) (n : ℕ) (r : Text) → IsPart (chars t) (spec_part Format k) r
     → f ≡ spec_value n k → Took (spec_tokens k) r x z left
-format-behind t b left x y z f e colon format Default n r h v =
+format-rest_after t b left x y z f e colon format Default n r h v =
     default_starts Format (chars t) r e h
-format-behind t b left x y z f e colon format (Formatting p) n r h v =
+format-rest_after t b left x y z f e colon format (Formatting p) n r h v =
     let s = two-split (chars t) (fixed (codes ":")) (format_part p) r h in
     let first = colon (codes ":") s.seam s.first.whole refl in
     then first (format p n r (IsPart-moved _ _ _ _ first.leaves s.second) v)
-format-behind t b left x y z f e colon format (Modifier w) n r h v = absurd (false≢true h.formed)
-format-behind t b left x y z f e colon format (DiagnosticText w) n r h v =
+format-rest_after t b left x y z f e colon format (Modifier w) n r h v = absurd (false≢true
+    h.formed)
+format-rest_after t b left x y z f e colon format (DiagnosticText w) n r h v =
     absurd (false≢true h.formed)
 
-pub modifier-behind : (t b left : List ℕ) (x y z : List Sized) (f : Spec (Unit {0})) (m : ℕ)
+pub modifier-rest_after : (t b left : List ℕ) (x y z : List Sized) (f : Spec (Unit {0})) (m : ℕ)
     → begins_with 58 (chars t) ≡ true → Takes Colon 1 t x y b → m ≡ byte_length f.ty
     → Takes ModifierKind m b y z left
     → (k : SpecText) (n : ℕ) (r : Text) → IsPart (chars t) (spec_part InlineAsm k) r
     → f ≡ spec_value n k → Took (spec_tokens k) r x z left
-modifier-behind t b left x y z f m e colon i takes Default n r h v =
+modifier-rest_after t b left x y z f m e colon i takes Default n r h v =
     default_starts InlineAsm (chars t) r e h
-modifier-behind t b left x y z f m e colon i takes (Modifier w) n r h v =
+modifier-rest_after t b left x y z f m e colon i takes (Modifier w) n r h v =
     let s = two-split (chars t) (fixed (codes ":")) (optional_identifier w) r h in
     let first = colon (codes ":") s.seam s.first.whole refl in
     then first (takes w r (first.leaves ∙ optional-whole w s.second)
@@ -61,9 +62,9 @@ modifier-behind t b left x y z f m e colon i takes (Modifier w) n r h v =
     optional-whole : {t r : Text} (w : Text) → IsPart t (optional_identifier w) r → t ≡ w ++ r
     optional-whole [] h = h.whole
     optional-whole (c ∷ w) h = h.whole
-modifier-behind t b left x y z f m e colon i takes (Formatting w) n r h v =
+modifier-rest_after t b left x y z f m e colon i takes (Formatting w) n r h v =
     absurd (false≢true h.formed)
-modifier-behind t b left x y z f m e colon i takes (DiagnosticText w) n r h v =
+modifier-rest_after t b left x y z f m e colon i takes (DiagnosticText w) n r h v =
     absurd (false≢true h.formed)
 
 -- The mode is one of the two for diagnostics.
@@ -82,30 +83,33 @@ diagnostic t b left x y z f m colon i takes u r h v =
     let first = colon (codes ":") s.seam s.first.whole refl in
     then first (takes u r (first.leaves ∙ s.second.whole) (i ∙ ap byte_length v))
 
-pub diagnostic-behind : (mode : Mode) (t b left : List ℕ) (x y z : List Sized)
+pub diagnostic-rest_after : (mode : Mode) (t b left : List ℕ) (x y z : List Sized)
     (f : Spec (Unit {0})) (m : ℕ) → begins_with 58 (chars t) ≡ true → Takes Colon 1 t x y b
     → m ≡ byte_length f.ty → Takes DiagnosticKind m b y z left
     → IsDiagnostic mode
     → (k : SpecText) (n : ℕ) (r : Text) → IsPart (chars t) (spec_part mode k) r
     → f ≡ spec_value n k → Took (spec_tokens k) r x z left
-diagnostic-behind mode t b left x y z f m e colon i takes d Default n r h v =
+diagnostic-rest_after mode t b left x y z f m e colon i takes d Default n r h v =
     default_starts mode (chars t) r e h
-diagnostic-behind Diagnostic t b left x y z f m e colon i takes d (DiagnosticText u) n r h v =
+diagnostic-rest_after Diagnostic t b left x y z f m e colon i takes d (DiagnosticText u) n r h v =
     diagnostic t b left x y z f m colon i takes u r h (ap (λ (g : Spec (Unit {0})). g.ty) v)
-diagnostic-behind DiagnosticNamed t b left x y z f m e colon i takes d (DiagnosticText u) n r h v =
+diagnostic-rest_after DiagnosticNamed t b left x y z f m e colon i takes d (DiagnosticText u) n r h
+    v =
     diagnostic t b left x y z f m colon i takes u r h (ap (λ (g : Spec (Unit {0})). g.ty) v)
-diagnostic-behind Format t b left x y z f m e colon i takes d (DiagnosticText u) n r h v = absurd d
-diagnostic-behind InlineAsm t b left x y z f m e colon i takes d (DiagnosticText u) n r h v =
+diagnostic-rest_after Format t b left x y z f m e colon i takes d (DiagnosticText u) n r h v =
     absurd d
-diagnostic-behind Format t b left x y z f m e colon i takes d (Formatting u) n r h v = absurd d
-diagnostic-behind InlineAsm t b left x y z f m e colon i takes d (Formatting u) n r h v = absurd d
-diagnostic-behind Diagnostic t b left x y z f m e colon i takes d (Formatting u) n r h v =
+diagnostic-rest_after InlineAsm t b left x y z f m e colon i takes d (DiagnosticText u) n r h v =
+    absurd d
+diagnostic-rest_after Format t b left x y z f m e colon i takes d (Formatting u) n r h v = absurd d
+diagnostic-rest_after InlineAsm t b left x y z f m e colon i takes d (Formatting u) n r h v =
+    absurd d
+diagnostic-rest_after Diagnostic t b left x y z f m e colon i takes d (Formatting u) n r h v =
     absurd (false≢true h.formed)
-diagnostic-behind DiagnosticNamed t b left x y z f m e colon i takes d (Formatting u) n r h v =
+diagnostic-rest_after DiagnosticNamed t b left x y z f m e colon i takes d (Formatting u) n r h v =
     absurd (false≢true h.formed)
-diagnostic-behind Format t b left x y z f m e colon i takes d (Modifier u) n r h v = absurd d
-diagnostic-behind InlineAsm t b left x y z f m e colon i takes d (Modifier u) n r h v = absurd d
-diagnostic-behind Diagnostic t b left x y z f m e colon i takes d (Modifier u) n r h v =
+diagnostic-rest_after Format t b left x y z f m e colon i takes d (Modifier u) n r h v = absurd d
+diagnostic-rest_after InlineAsm t b left x y z f m e colon i takes d (Modifier u) n r h v = absurd d
+diagnostic-rest_after Diagnostic t b left x y z f m e colon i takes d (Modifier u) n r h v =
     absurd (false≢true h.formed)
-diagnostic-behind DiagnosticNamed t b left x y z f m e colon i takes d (Modifier u) n r h v =
+diagnostic-rest_after DiagnosticNamed t b left x y z f m e colon i takes d (Modifier u) n r h v =
     absurd (false≢true h.formed)

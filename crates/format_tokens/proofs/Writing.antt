@@ -6,8 +6,8 @@ use Rattle.std.proofs.lemmas.Bool.{eq-eqb, eqb-true, false≢true, not-true}
 use Rattle.std.proofs.lemmas.Bool.{false_from_ne_true}
 use Rattle.unicode_ident.proofs.Computing.{unicode_ident}
 use Rattle.rustc_parse_format.specs.Call.{call, placeholder}
-use Rattle.rustc_parse_format.specs.Characters.{Text, begins_with, behind, behind_digits}
-use Rattle.rustc_parse_format.specs.Characters.{behind_white, behind_word, digits, first_passes}
+use Rattle.rustc_parse_format.specs.Characters.{Text, begins_with, rest_after, after_digits}
+use Rattle.rustc_parse_format.specs.Characters.{after_white, after_word, digits, first_passes}
 use Rattle.rustc_parse_format.specs.Characters.{front, is_brace, is_no_brace, word}
 use Rattle.rustc_parse_format.specs.Grammar.{Reads, piece_values}
 use Rattle.rustc_parse_format.specs.Placeholder.{cut, cut_of}
@@ -34,7 +34,7 @@ takes_as : {mode : Mode} {c : ℕ} {t u : Text} {ls ms : List Label} {r s : Text
 takes_as h e f g = rw (e, ← f, ← g) h
 
 run-takes : (mode : Mode) (c : ℕ) (t : Text) → first_passes is_no_brace t ≡ true
-    → Takes mode c t (piece_tokens (RunText (front is_no_brace t))) (behind is_no_brace t)
+    → Takes mode c t (piece_tokens (RunText (front is_no_brace t))) (rest_after is_no_brace t)
 unfolding call call_tokens
 run-takes mode c [] e = absurd (false≢true e)
 run-takes mode c (b ∷ t) e =
@@ -43,15 +43,15 @@ run-takes mode c (b ∷ t) e =
 
 doubled-takes : (mode : Mode) (c b : ℕ) (t : Text) → is_brace b ≡ true
     → Takes mode c (b ∷ b ∷ t) (piece_tokens (DoubledText b (front is_no_brace t)))
-    (behind is_no_brace t)
+    (rest_after is_no_brace t)
 unfolding call call_tokens
 doubled-takes mode c b t e =
     let same = eq-eqb b b refl in
     record { rest = rw (e, same) refl; tokens = rw (e, same) refl; some = λ n. cc n }
 
 -- A brace that closes a cut does not close one that begins with a brace.
-brace_stays : (mode : Mode) (u : Text) → behind_white (cut mode (123 ∷ u)).rest ≡ 123 ∷ u
-unfolding cut unicode_ident word behind_word digits behind_digits behind_white
+brace_stays : (mode : Mode) (u : Text) → after_white (cut mode (123 ∷ u)).rest ≡ 123 ∷ u
+unfolding cut unicode_ident word after_word digits after_digits after_white
 brace_stays mode u = refl
 
 first_or_zero : Text → ℕ
@@ -62,16 +62,16 @@ differ : (s u : Text) → 125 ∷ s ≡ 123 ∷ u → ⊥
 unfolding first_or_zero
 differ s u e = let h : ◌≡◌ {A = ℕ} 125 123 = ap first_or_zero e in omega arith
 
-opens_one : (mode : Mode) (t r : Text) → behind_white (cut mode t).rest ≡ 125 ∷ r
+opens_one : (mode : Mode) (t r : Text) → after_white (cut mode t).rest ≡ 125 ∷ r
     → begins_with 123 t ≡ false
 opens_one mode [] r e = refl
 opens_one mode (d ∷ t) r e = false_from_ne_true (d == 123) (λ h.
     again d t (eqb-true d 123 h) e)
   where
-    again : (d : ℕ) (t : Text) → d ≡ 123 → behind_white (cut mode (d ∷ t)).rest ≡ 125 ∷ r → ⊥
+    again : (d : ℕ) (t : Text) → d ≡ 123 → after_white (cut mode (d ∷ t)).rest ≡ 125 ∷ r → ⊥
     again d t h e = differ r t (sym e ∙ rw h (brace_stays mode t))
 
-closed-takes : (mode : Mode) (c : ℕ) (t r : Text) → behind_white (cut mode t).rest ≡ 125 ∷ r
+closed-takes : (mode : Mode) (c : ℕ) (t r : Text) → after_white (cut mode t).rest ≡ 125 ∷ r
     → Takes mode c (123 ∷ t)
     (piece_tokens (PlaceholderText (cut mode t).field (front is_whitespace (cut mode t).rest))) r
 unfolding call call_tokens placeholder placeholder_tokens
@@ -79,9 +79,9 @@ closed-takes mode c t r e =
     let one = opens_one mode t r e in
     record { rest = rw (one, e) refl; tokens = rw (one, e) refl; some = λ n. cc n }
 
-white-behind : (t w r : Text) → IsPart t (run is_whitespace w) r → behind_white t ≡ r
-unfolding behind_white
-white-behind t w r h = ap (λ x. x.1) ((run-finds is_whitespace).complete t w r h)
+white-rest_after : (t w r : Text) → IsPart t (run is_whitespace w) r → after_white t ≡ r
+unfolding after_white
+white-rest_after t w r h = ap (λ x. x.1) ((run-finds is_whitespace).complete t w r h)
 
 placeholder-takes : (mode : Mode) (c : ℕ) (t : Text) (a : FieldText) (space r : Text)
     → IsPart t (placeholder_part mode a space) r
@@ -94,8 +94,8 @@ placeholder-takes mode c t a space r h =
     let w = opened f.others in
     let z = only w.others in
     let e : cut mode o.seam ≡ cut_of mode a f.seam = cut-placed mode o.seam a f.seam f.first in
-    let closes : behind_white (cut mode o.seam).rest ≡ 125 ∷ r =
-    ap (λ x. behind_white x.rest) e ∙ (white-behind f.seam space w.seam w.first ∙ z.whole) in
+    let closes : after_white (cut mode o.seam).rest ≡ 125 ∷ r =
+    ap (λ x. after_white x.rest) e ∙ (white-rest_after f.seam space w.seam w.first ∙ z.whole) in
     let white : front is_whitespace f.seam ≡ space =
     ap (λ x. x.0) ((run-finds is_whitespace).complete f.seam space w.seam w.first) in
     takes_as (closed-takes mode c o.seam r closes) o.first.whole
@@ -106,7 +106,8 @@ piece-takes : (mode : Mode) (c : ℕ) (t : Text) (x : PieceText) (r : Text)
     → IsPart t (piece_part mode x) r → Takes mode c t (piece_tokens x) r
 piece-takes mode c t (RunText u) r h =
     let k = some_run-complete is_no_brace t u r h in
-    takes_as (run-takes mode c t k.begins) refl (ap (λ v. piece_tokens (RunText v)) k.read) k.behind
+    takes_as (run-takes mode c t k.begins) refl (ap (λ v. piece_tokens (RunText v)) k.read)
+    k.rest_after
 piece-takes mode c t (DoubledText b u) r h =
     let s = two-split t (doubled is_brace b) (run is_no_brace u) r h in
     let e = (run-finds is_no_brace).complete s.seam u r s.second in

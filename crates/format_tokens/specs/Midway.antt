@@ -3,7 +3,7 @@
 use Prim.Native.Char.{code}
 use Rattle.std.specs.Prelude.{◌≡◌, ℕ, ◌++◌, ◌&&◌, Bool, false, List, [], ◌∷◌, length, map, chars}
 use Rattle.std.specs.Char.{is_ascii_digit, is_whitespace}
-use Rattle.rustc_parse_format.specs.Characters.{Text, begins_with, behind_first}
+use Rattle.rustc_parse_format.specs.Characters.{Text, begins_with, after_first}
 use Rattle.format_tokens.specs.declared.kinds.Kind.{Kind}
 use Rattle.format_tokens.specs.declared.parts.Run.{Run}
 use Rattle.format_tokens.specs.declared.parts.Run.TheVariants.{Digits, White}
@@ -30,5 +30,5 @@ passes White = is_whitespace
 -- The text begins with `r#`, and then as the name does.
 abbrev pub names_raw : Text → Text → Bool
 names_raw t [] = false
-names_raw t (c ∷ w) = begins_with (code "r") t && begins_with (code "#") (behind_first t)
-    && begins_with c (behind_first (behind_first t))
+names_raw t (c ∷ w) = begins_with (code "r") t && begins_with (code "#") (after_first t)
+    && begins_with c (after_first (after_first t))

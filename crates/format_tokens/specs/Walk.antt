@@ -7,7 +7,7 @@ use Rattle.std.specs.Prelude.{◌≡◌, ℕ, suc, zero, ◌-◌, ◌++◌, ◌=
 use Rattle.std.specs.Prelude.{length, take}
 use Rattle.std.specs.Char.{is_whitespace}
 use Rattle.rustc_parse_format.specs.Characters.{Text, is_brace, is_no_brace, front, begins_with}
-use Rattle.rustc_parse_format.specs.Characters.{behind_first, behind_white}
+use Rattle.rustc_parse_format.specs.Characters.{after_first, after_white}
 use Rattle.rustc_parse_format.specs.Types.{Mode}
 use Rattle.rustc_parse_format.specs.Spelling.{IsPart}
 use Rattle.rustc_parse_format.specs.Syntax.{PieceText, RunText, DoubledText, PlaceholderText}
@@ -27,7 +27,7 @@ unfoldable pub placeholder_tokens : Mode → Text → Text → List Label
 placeholder_tokens mode t s =
     let a = cut mode t in
     let space = front is_whitespace a.rest in
-    let r = behind_white a.rest in
+    let r = after_white a.rest in
     if begins_with (code "}") r then piece_tokens (PlaceholderText a.field space)
     else opened_tokens a.field space ++ token Unexpected (up_to_rest r s)
 
@@ -36,7 +36,7 @@ unfoldable pub call_tokens : Mode → Text → Text → List Label
 call_tokens mode [] s = []
 call_tokens mode (b ∷ t) s =
     if is_brace b then
-    (if begins_with b t then piece_tokens (DoubledText b (front is_no_brace (behind_first t))) else
+    (if begins_with b t then piece_tokens (DoubledText b (front is_no_brace (after_first t))) else
     (if b == code "{" then placeholder_tokens mode t s else token Unexpected (b ∷ [])))
     else piece_tokens (RunText (front is_no_brace (b ∷ t)))
 

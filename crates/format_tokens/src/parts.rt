@@ -3,7 +3,7 @@
 //! allocation fails; the list may then have some of the tokens.
 
 ghost use Rattle.std.specs.Prelude.{◌≡◌, ◌++◌, ℕ, [], IfOk, chars, codes, length, option_map};
-ghost use Rattle.rustc_parse_format.specs.Characters.{Text, begins_with, behind_first, byte_length};
+ghost use Rattle.rustc_parse_format.specs.Characters.{Text, begins_with, after_first, byte_length};
 ghost use Rattle.rustc_parse_format.specs.Characters.{first, front};
 ghost use Rattle.rustc_parse_format.specs.Seen.{seen_alignment, seen_count, seen_debug_hex};
 ghost use Rattle.rustc_parse_format.specs.Seen.{seen_mode, seen_position, seen_sign, seen_spec};
@@ -70,8 +70,8 @@ fn first(text: &str) -> Option<char>
 }
 
 /// Returns the text after the first character, or an empty text if there is none.
-fn behind_first(text: &str) -> &str
-    ensures { chars result.now ≡ behind_first (chars text.now) }
+fn after_first(text: &str) -> &str
+    ensures { chars result.now ≡ after_first (chars text.now) }
 {
     let mut rest = text.chars();
     rest.next();
@@ -128,9 +128,9 @@ pub fn run_width(text: &str, run: Run) -> usize
 fn is_raw(text: &str, name: &str) -> bool
     ensures { result ≡ names_raw (chars text.now) (chars name.now) }
 {
-    let hash = behind_first(text);
+    let hash = after_first(text);
     match first(name) {
-        Some(c) => begins(text, 'r') && begins(hash, '#') && begins(behind_first(hash), c),
+        Some(c) => begins(text, 'r') && begins(hash, '#') && begins(after_first(hash), c),
         None => false,
     }
 }
@@ -212,8 +212,8 @@ fn width<'a>(
         → zero_pad ≡ is_padded k → bare_count (seen_count width.now) ≡ width_value k
         → Took (width_tokens k) r labels.old.items labels.new.items left.now) }
 {
-    let behind = take(labels, Kind::Zero, usize::from(zero_pad), text)?;
-    let left = count(labels, width, behind)?;
+    let rest_after = take(labels, Kind::Zero, usize::from(zero_pad), text)?;
+    let left = count(labels, width, rest_after)?;
     Ok(left)
 }
 
@@ -228,8 +228,8 @@ fn precision<'a>(
         → bare_count (seen_count precision.now) ≡ precision_value n k
         → Took (precision_tokens k) r labels.old.items labels.new.items left.now) }
 {
-    let behind = take(labels, Kind::Dot, usize::from(begins(text, '.')), text)?;
-    let left = count(labels, precision, behind)?;
+    let rest_after = take(labels, Kind::Dot, usize::from(begins(text, '.')), text)?;
+    let left = count(labels, precision, rest_after)?;
     Ok(left)
 }
 
@@ -320,18 +320,18 @@ pub fn specification<'a>(
     if !begins(text, ':') {
         return Ok(text);
     }
-    let behind = take(labels, Kind::Colon, 1, text)?;
+    let rest_after = take(labels, Kind::Colon, 1, text)?;
     match mode {
         ParseMode::Format => {
-            let left = format(labels, spec, behind)?;
+            let left = format(labels, spec, rest_after)?;
             Ok(left)
         }
         ParseMode::InlineAsm => {
-            let left = take(labels, Kind::Modifier, width_of(spec.ty), behind)?;
+            let left = take(labels, Kind::Modifier, width_of(spec.ty), rest_after)?;
             Ok(left)
         }
         ParseMode::Diagnostic | ParseMode::DiagnosticNamed => {
-            let left = take(labels, Kind::DiagnosticText, width_of(spec.ty), behind)?;
+            let left = take(labels, Kind::DiagnosticText, width_of(spec.ty), rest_after)?;
             Ok(left)
         }
     }

@@ -209,7 +209,7 @@ fn skip(parser: &mut Parser<'_>) -> Result<(), AllocError> {
     Ok(())
 }
 
-/// The name of a call and the number behind it, as of `items(3)`.
+/// The name of a call and the number after it, as of `items(3)`.
 fn numbered(call: &str) -> Option<(&str, usize)> {
     let (name, number) = call.strip_suffix(')')?.split_once('(')?;
     Some((name, number.parse().ok()?))

@@ -79,15 +79,15 @@ quote-none = refl
 
 pub ordinary-stops : (content : Text) → IsOrdinary (34 ∷ content) → StopsAt content quote
 ordinary-stops content (text, (c, us, e, h, v)) =
-    let same : content ≡ c ++ quote = behind-first content (c ++ quote) e in
+    let same : content ≡ c ++ quote = rest_after-first content (c ++ quote) e in
     record {
       units = us;
       reads = subst (λ x. ReadsTo x us quote) (sym same) (content-reads c us h);
       stops = no_unit quote quote-none;
     }
   where
-    behind-first : (s t : Text) → 34 ∷ s ≡ 34 ∷ t → s ≡ t
-    behind-first s t e = cc
+    rest_after-first : (s t : Text) → 34 ∷ s ≡ 34 ∷ t → s ≡ t
+    rest_after-first s t e = cc
 
 pub stops-ordinary : (content : Text) → StopsAt content quote → IsOrdinary (34 ∷ content)
 stops-ordinary content a =

@@ -14,7 +14,7 @@ same-fault f g k o = rw (k, o) refl
 
 same-string : (t : Text) (f g : LiteralFault) → IsStringFault t f → IsStringFault t g → f ≡ g
 same-string t f g a b =
-    let contents : a.content ≡ b.content = behind a.content b.content (sym a.opens ∙ b.opens) in
+    let contents : a.content ≡ b.content = rest_after a.content b.content (sym a.opens ∙ b.opens) in
     let stops : a.stop ≡ b.stop = one-stop b.content a.stop b.stop
     (subst (λ x. StopsAt x a.stop) contents a.stops) b.stops in
     let kinds : f.kind ≡ g.kind =
@@ -23,8 +23,8 @@ same-string t f g a b =
     ap (λ x. byte_length (fault_rest x)) stops in
     same-fault f g kinds (omega (arith, a.is_place, b.is_place, rests))
   where
-    behind : (s t : Text) → 34 ∷ s ≡ 34 ∷ t → s ≡ t
-    behind s t e = cc
+    rest_after : (s t : Text) → 34 ∷ s ≡ 34 ∷ t → s ≡ t
+    rest_after s t e = cc
 
 same-token : (t : Text) (f g : LiteralFault) → IsTokenFault t f → IsTokenFault t g → f ≡ g
 same-token t f g a b =

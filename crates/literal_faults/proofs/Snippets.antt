@@ -108,10 +108,10 @@ place file source text start o s b =
     (subst (λ y. IsCharBoundary y o) (sym rest) (in-front s.rest text o s.is_text b))
 
 same-unmarked : (file s t : List ℕ) → IsUnmarked file s → IsUnmarked file t → s ≡ t
-same-unmarked file s t (inl e) (inl f) = behind s t (sym e ∙ f)
+same-unmarked file s t (inl e) (inl f) = rest_after s t (sym e ∙ f)
   where
-    behind : (s t : List ℕ) → mark ++ s ≡ mark ++ t → s ≡ t
-    behind s t h = cc
+    rest_after : (s t : List ℕ) → mark ++ s ≡ mark ++ t → s ≡ t
+    rest_after s t h = cc
 same-unmarked file s t (inl e) (inr f) = absurd (f.1 s e)
 same-unmarked file s t (inr e) (inl f) = absurd (e.1 t f)
 same-unmarked file s t (inr e) (inr f) = sym e.0 ∙ f.0

@@ -5,7 +5,7 @@
 use Prim.Native.Char.{code}
 use Rattle.std.specs.Prelude.{ℕ, Bool, ◌||◌, ◌==◌, if◌then◌else◌, nat_lt, [], ◌∷◌, length}
 use Rattle.std.specs.Prelude.{Option, Some, None, Result, Ok, Err}
-use Rattle.rustc_parse_format.specs.Characters.{Text, begins_with, front, behind}
+use Rattle.rustc_parse_format.specs.Characters.{Text, begins_with, front, rest_after}
 use Rattle.rustc_parse_format.specs.LiteralUnits.{is_hex, is_underscore, hex_digits, unicode_value}
 use Rattle.literal_faults.specs.declared.fault.FaultKind.{FaultKind}
 use Rattle.literal_faults.specs.declared.fault.FaultKind.TheVariants.{UnterminatedString}
@@ -64,7 +64,7 @@ end_fault w (c ∷ t) = if c == code "}" then number_fault (number w) else
 unfoldable pub braces_fault : Text → FaultKind
 braces_fault t = if begins_with (code "_") t then LeadingUnderscoreUnicodeEscape else
     (if begins_with (code "}") t then EmptyUnicodeEscape
-    else end_fault (front is_part t) (behind is_part t))
+    else end_fault (front is_part t) (rest_after is_part t))
 
 -- The fault of a Unicode escape, by the text after its `\u`.
 abbrev pub unicode_fault : Text → FaultKind

@@ -2,7 +2,7 @@
 
 ghost use Rattle.std.specs.Prelude.{◌≡◌, Err, MatchResult, None, Ok, Some, chars, if◌then◌else◌};
 ghost use Rattle.std.specs.Char.{digit_value};
-ghost use Rattle.rustc_parse_format.specs.Characters.{behind, front};
+ghost use Rattle.rustc_parse_format.specs.Characters.{rest_after, front};
 ghost use Rattle.rustc_parse_format.specs.LiteralUnits.{is_hex};
 ghost use Rattle.literal_faults.specs.Escapes.{after_digit, braces_fault, escape_fault};
 ghost use Rattle.literal_faults.specs.Escapes.{first_fault};
@@ -95,8 +95,8 @@ fn number_fault(text: &str) -> FaultKind
 }
 
 /// Returns the rest of a text after the hexadecimal digits and `_` at its start.
-fn behind_digits(text: &str) -> &str
-    ensures { chars result.now ≡ behind is_part (chars text.now) }
+fn after_digits(text: &str) -> &str
+    ensures { chars result.now ≡ rest_after is_part (chars text.now) }
 {
     let mut rest = text;
     while let Some((c, more)) = split_first(rest) {
@@ -118,7 +118,7 @@ fn braces_fault(text: &str) -> FaultKind
         Some(('}', _)) => return FaultKind::EmptyUnicodeEscape,
         _ => {}
     }
-    match split_first(behind_digits(text)) {
+    match split_first(after_digits(text)) {
         None => FaultKind::UnterminatedString,
         Some(('}', _)) => number_fault(text),
         Some(('"', _)) => FaultKind::UnclosedUnicodeEscape,

@@ -6,7 +6,7 @@ ghost use Rattle.literal_faults.specs.Faults.{IsAnyLiteral, IsFault, IsOrdinary,
 ghost use Rattle.literal_faults.specs.Faults.{IsTokenFault, fault_rest, stop_fault, trailing};
 
 use crate::escapes::escape_fault;
-use crate::stops::behind_units;
+use crate::stops::after_units;
 use piece_listing::literal::raw_text;
 use rust_tokens::{Kind, split_first, split_first_token};
 
@@ -99,7 +99,7 @@ fn stop_fault(text: &str) -> Option<FaultKind>
 }
 
 /// Returns the rest of a text after a closing quote, or the text if it does not begin with one.
-fn behind_quote(text: &str) -> &str
+fn after_quote(text: &str) -> &str
     ensures { chars result.now ≡ fault_rest (chars text.now) }
 {
     match split_first(text) {
@@ -139,11 +139,11 @@ fn string_fault(text: &str, content: &str) -> Option<LiteralFault>
     ensures fault { IfSome result (λ f. IsStringFault (chars text.now) f) }
     ensures boundary { IfSome result (λ f. IsCharBoundary text.now f.offset) }
 {
-    let stop = behind_units(content);
+    let stop = after_units(content);
     let kind = stop_fault(stop)?;
     Some(LiteralFault {
         kind,
-        offset: text.len() - behind_quote(stop).len(),
+        offset: text.len() - after_quote(stop).len(),
     })
 }
 

@@ -18,7 +18,7 @@ pub struct Snippet<'a> {
 }
 
 /// Returns the rest of a file after the byte order mark at its start, if it has one.
-fn behind_mark(file: &str) -> &str
+fn after_mark(file: &str) -> &str
     ensures { IsUnmarked file.now result.now }
 {
     let Some((c, rest)) = split_first(file) else {
@@ -33,7 +33,7 @@ fn behind_mark(file: &str) -> &str
 pub fn snippet_of(file: &str) -> Snippet<'_>
     ensures { IsSnippet file.now result.source.now result.text.now result.start }
 {
-    let source = behind_mark(file);
+    let source = after_mark(file);
     let rest = source.trim_ascii_start();
     Snippet {
         source,

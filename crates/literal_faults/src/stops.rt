@@ -7,7 +7,7 @@ use rustc_parse_format::literal::split_first_unit;
 
 /// Returns the rest of a text after the characters and escapes of an ordinary string literal that
 /// it begins with.
-pub fn behind_units(content: &str) -> &str
+pub fn after_units(content: &str) -> &str
     ensures { StopsAt (chars content.now) (chars result.now) }
 {
     let mut rest = content;

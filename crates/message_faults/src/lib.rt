@@ -1,4 +1,4 @@
-//! What is wrong with a text of the attribute `diagnostic::on_unimplemented`, as rustc tells it.
+//! What is wrong with a text of the attribute `diagnostic::on_unimplemented`, as rustc reports it.
 #![tactic(auto)]
 
 mod checker;

@@ -8,7 +8,7 @@ use rust_trees::Place;
 /// The level of a message.
 #[derive(Clone, Copy, Debug, PartialEq)]
 pub enum Level {
-    /// The message tells why the program does not compile.
+    /// The message says why the program does not compile.
     Error,
     /// The program compiles.
     Warning,
@@ -48,9 +48,9 @@ pub struct Span<'a> {
 /// The level of a child of a message.
 #[derive(Clone, Copy, Debug, PartialEq)]
 pub enum ChildLevel {
-    /// The child is a note: it tells more about the message.
+    /// The child is a note: it says more about the message.
     Note,
-    /// The child is a help: it tells how to mend the fault.
+    /// The child is a help: it says how to mend the fault.
     Help,
 }
 

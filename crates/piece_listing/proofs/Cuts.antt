@@ -27,11 +27,11 @@ cut-none (b ∷ bs) h = by_test (is_comma b) h (cut-none bs)
     by_test true e rest = absurd (omega arith)
     by_test false e rest = let none = rest (omega arith) in rw none refl
 
--- what is in front of so many bytes, and what is behind one more and is cut further
+-- what is in front of so many bytes, and what is after one more and is cut further
 abbrev cut_at : List ℕ → ℕ → List ℕ × List (List ℕ)
 cut_at bs n = (take n bs, (cut (drop (n + 1) bs)).0 ∷ (cut (drop (n + 1) bs)).1)
 
--- another is cut at its first one, and what is behind that is cut further
+-- another is cut at its first one, and what is after that is cut further
 cut-first : (bs : List ℕ) → free bs < length bs → cut bs ≡ cut_at bs (free bs)
 unfolding cut
 cut-first [] h = absurd (omega arith)

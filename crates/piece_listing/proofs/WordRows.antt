@@ -90,10 +90,10 @@ no_words-list_missing : task_of (codes "format" ∷ codes "--args" ∷ []) ≡ N
 unfolding mode_named
 no_words-list_missing = refl
 
-no_words-list_missing_behind_literal : task_of (codes "format" ∷ codes "--literal" ∷ codes "--args"
+no_words-list_missing_after_literal : task_of (codes "format" ∷ codes "--literal" ∷ codes "--args"
     ∷ []) ≡ None
 unfolding mode_named
-no_words-list_missing_behind_literal = refl
+no_words-list_missing_after_literal = refl
 
 no_words-literal_last : task_of
     (codes "format" ∷ codes "--args" ∷ codes "1" ∷ codes "--literal" ∷ [])
@@ -105,7 +105,7 @@ no_words-no_list : task_of (codes "format" ∷ codes "--args" ∷ codes "2," ∷
 unfolding cut mode_named
 no_words-no_list = refl
 
--- a report stands behind the pieces, and is told of
+-- a report stands after the pieces, and has a line
 abbrev wants_two : Task
 wants_two = record {
   mode = Format;
@@ -129,7 +129,7 @@ listing-with_report : IsListed wants_two (bare_source (codes "{}{:w$}{q}")) (rep
 unfolding computing digits pieces errors report_lines flag_entries value_entries
 listing-with_report = (reported, report-decided _ _ _ _ (lit≤ tt) refl refl refl refl refl, refl)
 
--- it stands behind the faults
+-- it stands after the faults
 abbrev wants_one : Task
 wants_one = record {
   mode = Format;

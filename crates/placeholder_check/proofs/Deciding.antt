@@ -81,26 +81,26 @@ unused-decided us positional = below-Lists (λ n. ¬ Contains us (ByIndex n))
     (λ n. not (has_index us n)) (λ n. Decides-not _ (has_index-Decides n us)) positional
 
 -- whether the list has this use, if it is of a number that was not given
-abbrev pub is_told : ℕ → List ℕ → Use → Bool
-is_told positional xs (ByIndex n) = not (nat_le positional n) || list_any (eqb n) xs
-is_told positional xs (ByName w) = true
+abbrev pub is_listed : ℕ → List ℕ → Use → Bool
+is_listed positional xs (ByIndex n) = not (nat_le positional n) || list_any (eqb n) xs
+is_listed positional xs (ByName w) = true
 
 pub missing-decided : (us : List Use) (positional : ℕ) (xs : List ℕ) → length xs ≤ 1 →
     list_all (λ n. nat_le positional n && has_index us n) xs ≡ true
-    → list_all (is_told positional xs) us ≡ true →
+    → list_all (is_listed positional xs) us ≡ true →
     Lists (λ n. (positional ≤ n) × Contains us (ByIndex n)) xs
-missing-decided us positional xs short found told = record {
+missing-decided us positional xs short found report = record {
   rises = λ i j d a b. absurd (omega arith);
   has = λ n. (
     λ h. (Decides-and _ _ (leb-true positional n, le-leb positional n) (has_index-Decides n us)).0
         (All-contains (λ k. (nat_le positional k && has_index us k) ≡ true) xs n
         (AllPass-from_list_all (λ k. nat_le positional k && has_index us k) xs found) h),
-    λ h. let told_here : is_told positional xs (ByIndex n) ≡ true
-        = All-contains (λ u. is_told positional xs u ≡ true) us (ByIndex n)
-        (AllPass-from_list_all (is_told positional xs) us told) h.1 in
+    λ h. let listed_here : is_listed positional xs (ByIndex n) ≡ true
+        = All-contains (λ u. is_listed positional xs u ≡ true) us (ByIndex n)
+        (AllPass-from_list_all (is_listed positional xs) us report) h.1 in
         let d : Decides (list_any (eqb n) xs) (Contains xs n) =
         is_member-Decides unsigned_Decides xs n in
-        d.0 (rw (le-leb positional n h.0) at told_here),
+        d.0 (rw (le-leb positional n h.0) at listed_here),
   );
 }
 
@@ -108,7 +108,7 @@ missing-decided us positional xs short found told = record {
 pub report-decided : (us : List Use) (positional : ℕ) (names : List Text) (r : Report)
     → length r.missing_index ≤ 1 →
     list_all (λ n. nat_le positional n && has_index us n) r.missing_index ≡ true
-    → list_all (is_told positional r.missing_index) us ≡ true →
+    → list_all (is_listed positional r.missing_index) us ≡ true →
     map (λ k. slice_get (used_names us) k)
     (below (is_first (used_names us) names) (length (used_names us)))
     ≡ map (λ x. Some x) r.missing_name →
@@ -116,8 +116,8 @@ pub report-decided : (us : List Use) (positional : ℕ) (names : List Text) (r :
     map (λ k. slice_get names k) (below (is_first names (used_names us)) (length names))
     ≡ map (λ x. Some x) r.unused_name →
     IsReport us positional names r
-report-decided us positional names r short found told missing unused lacked = record {
-  missing_index = missing-decided us positional r.missing_index short found told;
+report-decided us positional names r short found report missing unused lacked = record {
+  missing_index = missing-decided us positional r.missing_index short found report;
   unused_index = rw (← unused) (unused-decided us positional);
   missing_name = firsts-decided (used_names us) names r.missing_name missing;
   unused_name = firsts-decided names (used_names us) r.unused_name lacked;

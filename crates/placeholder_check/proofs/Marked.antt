@@ -1,4 +1,4 @@
--- The members of a set of indices: those that are marked, and the others behind them.
+-- The members of a set of indices: those that are marked, and the others after them.
 use Rattle.std.proofs.Common.{◌≡◌, ◌↔◌, ℕ, ◌-◌, ◌<◌, ◌≤◌, Bool, true, false, ◌||◌, nat_le, List}
 use Rattle.std.proofs.Common.{◌++◌, length, length-append, get_or, filter, arith, refl, sym, ◌∙◌}
 use Rattle.std.proofs.Common.{◌⊎◌, inl, inr, ap, [], ◌∷◌, zero, suc}
@@ -59,7 +59,7 @@ unmarked [] n h = refl
 unmarked (x ∷ xs) zero h = absurd (omega arith)
 unmarked (x ∷ xs) (suc n) h = unmarked xs n (omega arith)
 
--- behind the marks, the members are the others
+-- after the marks, the members are the others
 not_marked : (s : Indices) (n : ℕ) → length s.marks.items ≤ n
     → is_noted s n ≡ contains nat_cmp s.others n
 not_marked s n h = ap (λ b. b || contains nat_cmp s.others n) (unmarked s.marks.items n h)

@@ -147,7 +147,7 @@ or-swap true true c = refl
 or-swap true false c = refl
 or-swap false b c = refl
 
--- one behind them
+-- one after them
 pub known-late : (t : Text) (ws : List (Bor (List ℕ))) (w : Bor (List ℕ)) (n : ℕ) (later : Bool)
     → n ≤ length ws
     → (list_any (bytes_eq t) (texts (take n (ws ++ w ∷ []))) || (bytes_eq t (chars w.now) || later))

@@ -15,12 +15,19 @@ use Rattle.std.proofs.lemmas.Option.{same_Some}
 use Rattle.std.proofs.lemmas.Str.{chars-nil, IsCharBoundary-after_ascii, IsCharBoundary-end}
 use Rattle.std.proofs.lemmas.Str.{IsCharBoundary-before_ascii}
 use Rattle.rust_tokens.specs.Texts.{IsRest, Text, or}
-use Rattle.rust_tokens.specs.Runs.{behind, is_in_line, stops}
-use Rattle.rust_tokens.specs.Strings.{behind_string, spelling}
-use Rattle.rust_tokens.specs.Comments.{CommentTail, Close, Character, Nested, behind_comment}
+use Rattle.rust_tokens.specs.Runs.{rest_after, is_in_line, stops}
+use Rattle.rust_tokens.specs.Strings.{after_string, spelling}
+use Rattle.rust_tokens.specs.Comments.{CommentTail, Close, Character, Nested, after_comment}
 use Rattle.rust_tokens.specs.Comments.{spelled}
-use Rattle.rust_tokens.specs.RawStrings.{behind_hashes, behind_raw}
-use Rattle.rust_tokens.proofs.Basics.{and_no, front, front-behind, no_pass, not_not, stops-behind}
+use Rattle.rust_tokens.specs.RawStrings.{after_hashes, after_raw}
+use Rattle.rust_tokens.proofs.Basics.{
+  and_no,
+  front,
+  front-rest_after,
+  no_pass,
+  not_not,
+  stops-rest_after,
+}
 use Rattle.rust_tokens.proofs.Comments.{comment-reads}
 use Rattle.rust_tokens.proofs.RawStrings.{raw-reads}
 use Rattle.rust_tokens.proofs.Strings.{string-reads}
@@ -93,7 +100,7 @@ map-or : (w x y z : Option Text) → option_map chars w ≡ x → option_map cha
 map-or None x y z e f = f ∙ ap (λ o. or o z) e
 map-or (Some r) x y z e f = ap (λ o. or o z) e
 
--- A text is cut behind an ASCII byte.
+-- A text is cut after an ASCII byte.
 cut : (s v r : List ℕ) (b : ℕ) → IsUtf8 s → b < 128 → s ≡ v ++ b ∷ r → IsRest s r
 cut s v r b u small e =
     let n : length s ≡ length v + suc (length r) = ap length e ∙ length-append v (b ∷ r) in
@@ -113,46 +120,46 @@ cut s v r b u small e =
 
 -- Strings.
 string-wide : (e : Bool) (b : ℕ) (t : Text) → 128 ≤ b
-    → behind_string e (b ∷ t) ≡ behind_string false t
-unfolding behind_string
+    → after_string e (b ∷ t) ≡ after_string false t
+unfolding after_string
 string-wide true b t big = refl
 string-wide false b t big =
     cond-false (b == 34) _ _ (grind (arith, nat_tests))
-    ∙ ap (λ k. behind_string k t) (grind (arith, nat_tests))
+    ∙ ap (λ k. after_string k t) (grind (arith, nat_tests))
 
 string-byte : (e : Bool) (c : ℕ) (t : Text) → chars (c ∷ encodes t) ≡ c ∷ t
     → scalars t ≡ true
-    → ((k : Bool) → option_map chars (behind_string k (encodes t)) ≡ behind_string k t)
-    → option_map chars (behind_string e (c ∷ encodes t)) ≡ behind_string e (c ∷ t)
-unfolding behind_string
+    → ((k : Bool) → option_map chars (after_string k (encodes t)) ≡ after_string k t)
+    → option_map chars (after_string e (c ∷ encodes t)) ≡ after_string e (c ∷ t)
+unfolding after_string
 string-byte true c t w v more = more false
 string-byte false c t w v more =
     map-cond (c == 34) _ _ _ _ (chars-encodes t v) (more (c == 92))
 
-string-empty : (e : Bool) → option_map chars (behind_string e []) ≡ behind_string e []
-unfolding behind_string
+string-empty : (e : Bool) → option_map chars (after_string e []) ≡ after_string e []
+unfolding after_string
 string-empty true = refl
 string-empty false = refl
 
 pub string-chars : (s : List ℕ) → IsUtf8 s
-    → option_map chars (behind_string false s) ≡ behind_string false (chars s)
-string-chars = same-chars (behind_string false) (λ t v.
-    same behind_string (λ _. false) string-empty string-byte string-wide (λ _. string-wide false)
+    → option_map chars (after_string false s) ≡ after_string false (chars s)
+string-chars = same-chars (after_string false) (λ t v.
+    same after_string (λ _. false) string-empty string-byte string-wide (λ _. string-wide false)
     t false v)
 
-pub string-cut : (s r : List ℕ) → IsUtf8 s → Some r ≡ behind_string false s → IsRest s r
+pub string-cut : (s r : List ℕ) → IsUtf8 s → Some r ≡ after_string false s → IsRest s r
 string-cut s r u h =
     let x = string-reads s r (sym h) in
     let units = flat_map spelling x.0 in
     cut s units r 34 u (omega arith) (x.2 ∙ append_assoc units (34 ∷ []) r)
 
-pub string-found : (s r : List ℕ) → IsUtf8 s → Some r ≡ behind_string false s
-    → Some (chars r) ≡ behind_string false (chars s)
+pub string-found : (s r : List ℕ) → IsUtf8 s → Some r ≡ after_string false s
+    → Some (chars r) ≡ after_string false (chars s)
 string-found s r u h = ap (option_map chars) h ∙ string-chars s u
 
 pub string-none : (e : Bool) (s t : List ℕ) → IsUtf8 s → length t ≡ 0
-    → behind_string e t ≡ behind_string false s → None ≡ behind_string false (chars s)
-unfolding behind_string
+    → after_string e t ≡ after_string false s → None ≡ after_string false (chars s)
+unfolding after_string
 string-none true s [] u n h = ap (option_map chars) h ∙ string-chars s u
 string-none false s [] u n h = ap (option_map chars) h ∙ string-chars s u
 string-none e s (c ∷ t) u n h = absurd (omega (arith, n))
@@ -161,16 +168,16 @@ pub ruleset string_ends = (string-cut, string-found)
 
 -- Comments, by how many others one is in and the byte before.
 abbrev comment : ℕ × ℕ → Text → Option Text
-comment k t = behind_comment k.0 k.1 t
+comment k t = after_comment k.0 k.1 t
 
 calm-comment : (above b : ℕ) (t : Text) → (b == 47) ≡ false → (b == 42) ≡ false
-    → behind_comment above b t ≡ behind_comment above 0 t
-unfolding behind_comment
+    → after_comment above b t ≡ after_comment above 0 t
+unfolding after_comment
 calm-comment above b [] e f = refl
 calm-comment above b (c ∷ t) e f = rw (e, f) refl
 
 comment-wide : (k : ℕ × ℕ) (b : ℕ) (t : Text) → 128 ≤ b → comment k (b ∷ t) ≡ comment (k.0, 0) t
-unfolding behind_comment
+unfolding after_comment
 comment-wide k b t big =
     let star : (b == 42) ≡ false = grind (arith, nat_tests) in
     let slash : (b == 47) ≡ false = grind (arith, nat_tests) in
@@ -182,19 +189,19 @@ comment-byte : (k : ℕ × ℕ) (c : ℕ) (t : Text) → chars (c ∷ encodes t)
     → scalars t ≡ true
     → ((j : ℕ × ℕ) → option_map chars (comment j (encodes t)) ≡ comment j t)
     → option_map chars (comment k (c ∷ encodes t)) ≡ comment k (c ∷ t)
-unfolding behind_comment
+unfolding after_comment
 comment-byte k c t w v more =
     map-both (k.1 == 47 && c == 42) _ _ _ _ (more (k.0 + 1, 0))
     (map-both (k.1 == 42 && c == 47) _ _ _ _
     (map-cond (k.0 == 0) _ _ _ _ (chars-encodes t v) (more (k.0 - 1, 0))) (more (k.0, c)))
 
 comment-empty : (k : ℕ × ℕ) → option_map chars (comment k []) ≡ comment k []
-unfolding behind_comment
+unfolding after_comment
 comment-empty k = refl
 
 pub comment-chars : (s : List ℕ) → IsUtf8 s
-    → option_map chars (behind_comment 0 0 s) ≡ behind_comment 0 0 (chars s)
-comment-chars = same-chars (behind_comment 0 0) (λ t v.
+    → option_map chars (after_comment 0 0 s) ≡ after_comment 0 0 (chars s)
+comment-chars = same-chars (after_comment 0 0) (λ t v.
     same comment (λ k. (k.0, 0)) comment-empty comment-byte comment-wide
     (λ k. comment-wide (k.0, 0)) t (0, 0) v)
 
@@ -208,69 +215,69 @@ spelled-last (Nested a b) =
           (ap (λ t. spelled a ++ t) x.1 ∙ sym (append_assoc (spelled a) x.0 (47 ∷ []))),
     )
 
-pub comment-cut : (s r : List ℕ) → IsUtf8 s → Some r ≡ behind_comment 0 0 s → IsRest s r
+pub comment-cut : (s r : List ℕ) → IsUtf8 s → Some r ≡ after_comment 0 0 s → IsRest s r
 comment-cut s r u h =
     let x = comment-reads s r (sym h) in
     let y = spelled-last x.0 in
     cut s y.0 r 47 u (omega arith)
     (x.2 ∙ (ap (λ t. t ++ r) y.1 ∙ append_assoc y.0 (47 ∷ []) r))
 
-pub comment-found : (s r : List ℕ) → IsUtf8 s → Some r ≡ behind_comment 0 0 s
-    → Some (chars r) ≡ behind_comment 0 0 (chars s)
+pub comment-found : (s r : List ℕ) → IsUtf8 s → Some r ≡ after_comment 0 0 s
+    → Some (chars r) ≡ after_comment 0 0 (chars s)
 comment-found s r u h = ap (option_map chars) h ∙ comment-chars s u
 
 pub comment-none : (k b : ℕ) (s t : List ℕ) → IsUtf8 s → length t ≡ 0
-    → behind_comment k b t ≡ behind_comment 0 0 s → None ≡ behind_comment 0 0 (chars s)
-unfolding behind_comment
+    → after_comment k b t ≡ after_comment 0 0 s → None ≡ after_comment 0 0 (chars s)
+unfolding after_comment
 comment-none k b s [] u n h = ap (option_map chars) h ∙ comment-chars s u
 comment-none k b s (c ∷ t) u n h = absurd (omega (arith, n))
 
 pub ruleset comment_ends = (comment-cut, comment-found)
 
 -- Raw strings.
-no_hash : (n b : ℕ) (t : Text) → 128 ≤ b → behind_hashes (suc n) (b ∷ t) ≡ None
-unfolding behind_hashes
+no_hash : (n b : ℕ) (t : Text) → 128 ≤ b → after_hashes (suc n) (b ∷ t) ≡ None
+unfolding after_hashes
 no_hash n b t big = cond-false (b == 35) _ _ (grind (arith, nat_tests))
 
 hashes-same : (n : ℕ) (t : Text) → scalars t ≡ true
-    → option_map chars (behind_hashes n (encodes t)) ≡ behind_hashes n t
-unfolding behind_hashes
+    → option_map chars (after_hashes n (encodes t)) ≡ after_hashes n t
+unfolding after_hashes
 hashes-same zero t s = ap (λ r. Some r) (chars-encodes t s)
 hashes-same (suc n) [] s = refl
 hashes-same (suc n) (c ∷ t) s =
     at (hashes-same n t (and_parts (scalar c) _ s).1) (cases_lt c 128)
   where
-    at : option_map chars (behind_hashes n (encodes t)) ≡ behind_hashes n t
+    at : option_map chars (after_hashes n (encodes t)) ≡ after_hashes n t
         → (c < 128) ⊎ (128 ≤ c)
-        → option_map chars (behind_hashes (suc n) (encode c ++ encodes t))
-        ≡ behind_hashes (suc n) (c ∷ t)
+        → option_map chars (after_hashes (suc n) (encode c ++ encodes t))
+        ≡ after_hashes (suc n) (c ∷ t)
     at more (inl small) =
-        ap (λ b. option_map chars (behind_hashes (suc n) (b ++ encodes t))) (encode_ascii c small)
+        ap (λ b. option_map chars (after_hashes (suc n) (b ++ encodes t))) (encode_ascii c small)
         ∙ map-both (c == 35) _ _ None None more refl
     at more (inr big) =
         ap (option_map chars)
-        (wide-step (behind_hashes (suc n)) (λ _. None) (no_hash n) (λ b t l. refl) c (encodes t)
+        (wide-step (after_hashes (suc n)) (λ _. None) (no_hash n) (λ b t l. refl) c (encodes t)
         big) ∙ sym (no_hash n c t big)
 
-raw-wide : (n b : ℕ) (t : Text) → 128 ≤ b → behind_raw n (b ∷ t) ≡ behind_raw n t
-unfolding behind_raw
+raw-wide : (n b : ℕ) (t : Text) → 128 ≤ b → after_raw n (b ∷ t) ≡ after_raw n t
+unfolding after_raw
 raw-wide n b t big = cond-false (b == 34) _ _ (grind (arith, nat_tests))
 
 raw-byte : (n c : ℕ) (t : Text) → chars (c ∷ encodes t) ≡ c ∷ t → scalars t ≡ true
-    → ((k : ℕ) → option_map chars (behind_raw k (encodes t)) ≡ behind_raw k t)
-    → option_map chars (behind_raw n (c ∷ encodes t)) ≡ behind_raw n (c ∷ t)
-unfolding behind_raw
+    → ((k : ℕ) → option_map chars (after_raw k (encodes t)) ≡ after_raw k t)
+    → option_map chars (after_raw n (c ∷ encodes t)) ≡ after_raw n (c ∷ t)
+unfolding after_raw
 raw-byte n c t w v more =
     map-both (c == 34) _ _ _ _ (map-or _ _ _ _ (hashes-same n t v) (more n)) (more n)
 
-raw-empty : (n : ℕ) → option_map chars (behind_raw n []) ≡ behind_raw n []
-unfolding behind_raw
+raw-empty : (n : ℕ) → option_map chars (after_raw n []) ≡ after_raw n []
+unfolding after_raw
 raw-empty n = refl
 
 pub raw-chars : (n : ℕ) (s : List ℕ) → IsUtf8 s
-    → option_map chars (behind_raw n s) ≡ behind_raw n (chars s)
-raw-chars n = same-chars (behind_raw n) (λ t v.
-    same behind_raw (λ k. k) raw-empty raw-byte raw-wide raw-wide t n v)
+    → option_map chars (after_raw n s) ≡ after_raw n (chars s)
+raw-chars n = same-chars (after_raw n) (λ t v.
+    same after_raw (λ k. k) raw-empty raw-byte raw-wide raw-wide t n v)
 
 raw-last : (n b : ℕ) (r : Text) → b < 128 → (v : Text) × (d : ℕ) × (d < 128)
     × (b ∷ (replicate n 35 ++ r) ≡ v ++ d ∷ r)
@@ -278,20 +285,20 @@ raw-last zero b r small = ([], b, small, refl)
 raw-last (suc n) b r small =
     let x = raw-last n 35 r (omega arith) in (b ∷ x.0, x.1, x.2, ap (λ t. b ∷ t) x.3)
 
-pub raw-cut : (n : ℕ) (s r : List ℕ) → IsUtf8 s → Some r ≡ behind_raw n s → IsRest s r
+pub raw-cut : (n : ℕ) (s r : List ℕ) → IsUtf8 s → Some r ≡ after_raw n s → IsRest s r
 raw-cut n s r u h =
     let x = raw-reads n s r (sym h) in
     let y = raw-last n 34 r (omega arith) in
     cut s (x.0 ++ y.0) r y.1 u y.2
     (x.2 ∙ (ap (λ t. x.0 ++ t) y.3 ∙ sym (append_assoc x.0 y.0 (y.1 ∷ r))))
 
-pub raw-found : (n : ℕ) (s r : List ℕ) → IsUtf8 s → Some r ≡ behind_raw n s
-    → Some (chars r) ≡ behind_raw n (chars s)
+pub raw-found : (n : ℕ) (s r : List ℕ) → IsUtf8 s → Some r ≡ after_raw n s
+    → Some (chars r) ≡ after_raw n (chars s)
 raw-found n s r u h = ap (option_map chars) h ∙ raw-chars n s u
 
 pub raw-none : (n : ℕ) (s t : List ℕ) → IsUtf8 s → length t ≡ 0
-    → behind_raw n t ≡ behind_raw n s → None ≡ behind_raw n (chars s)
-unfolding behind_raw
+    → after_raw n t ≡ after_raw n s → None ≡ after_raw n (chars s)
+unfolding after_raw
 raw-none n s [] u m h = ap (option_map chars) h ∙ raw-chars n s u
 raw-none n s (c ∷ t) u m h = absurd (omega (arith, m))
 
@@ -299,7 +306,7 @@ pub ruleset raw_ends = (raw-cut, raw-found)
 
 -- Lines.
 line-wide : (k : Unit {0}) (b : ℕ) (t : Text) → 128 ≤ b
-    → Some (behind is_in_line (b ∷ t)) ≡ Some (behind is_in_line t)
+    → Some (rest_after is_in_line (b ∷ t)) ≡ Some (rest_after is_in_line t)
 line-wide k b t big =
     let no : (b == 10) ≡ false = grind (arith, nat_tests) in
     ap (λ r. Some r) (cond-true (not (b == 10)) _ _ (no_pass (b == 10) no))
@@ -311,17 +318,18 @@ line-cond false w x y z e f = ap (λ t. Some t) f
 
 line-byte : (k : Unit {0}) (c : ℕ) (t : Text) → chars (c ∷ encodes t) ≡ c ∷ t
     → scalars t ≡ true
-    → ((j : Unit {0}) → option_map chars (Some (behind is_in_line (encodes t)))
-    ≡ Some (behind is_in_line t))
-    → option_map chars (Some (behind is_in_line (c ∷ encodes t)))
-    ≡ Some (behind is_in_line (c ∷ t))
+    → ((j : Unit {0}) → option_map chars (Some (rest_after is_in_line (encodes t)))
+    ≡ Some (rest_after is_in_line t))
+    → option_map chars (Some (rest_after is_in_line (c ∷ encodes t)))
+    ≡ Some (rest_after is_in_line (c ∷ t))
 line-byte k c t w v more = line-cond (is_in_line c) _ _ _ _ (more k) w
 
-pub line-chars : (s r : List ℕ) → IsUtf8 s → r ≡ behind is_in_line s
-    → chars r ≡ behind is_in_line (chars s)
+pub line-chars : (s r : List ℕ) → IsUtf8 s → r ≡ rest_after is_in_line s
+    → chars r ≡ rest_after is_in_line (chars s)
 line-chars s r u h =
-    ap chars h ∙ same_Some _ _ (same-chars (λ t. Some (behind is_in_line t)) (λ t v.
-    same (λ (k : Unit {0}) t. Some (behind is_in_line t)) (λ k. k) (λ k. ap (λ r. Some r) chars-nil)
+    ap chars h ∙ same_Some _ _ (same-chars (λ t. Some (rest_after is_in_line t)) (λ t v.
+    same (λ (k : Unit {0}) t. Some (rest_after is_in_line t)) (λ k. k) (λ k. ap (λ r. Some r)
+    chars-nil)
     line-byte line-wide line-wide t tt v) s u)
 
 line-cut-at : (s v r : List ℕ) → IsUtf8 s → s ≡ v ++ r → stops is_in_line r ≡ true → IsRest s r
@@ -346,13 +354,13 @@ line-cut-at s v (b ∷ r) u e stop =
       rest = ap (λ k. drop k s) (sym at) ∙ (ap (drop (length v)) e ∙ drop-append_seam v (b ∷ r));
     }
 
-pub line-cut : (s r : List ℕ) → IsUtf8 s → r ≡ behind is_in_line s → IsRest s r
+pub line-cut : (s r : List ℕ) → IsUtf8 s → r ≡ rest_after is_in_line s → IsRest s r
 line-cut s r u h =
     line-cut-at s (front is_in_line s) r u
-    (front-behind is_in_line s ∙ ap (λ t. front is_in_line s ++ t) (sym h))
-    (subst (λ t. stops is_in_line t ≡ true) (sym h) (stops-behind is_in_line s))
+    (front-rest_after is_in_line s ∙ ap (λ t. front is_in_line s ++ t) (sym h))
+    (subst (λ t. stops is_in_line t ≡ true) (sym h) (stops-rest_after is_in_line s))
 
-pub line-nil : (t : Text) → length t ≡ 0 → behind is_in_line t ≡ t
+pub line-nil : (t : Text) → length t ≡ 0 → rest_after is_in_line t ≡ t
 line-nil [] h = refl
 line-nil (c ∷ t) h = absurd (omega (arith, h))
 

@@ -6,7 +6,7 @@ use Rattle.std.specs.List.{list_all}
 use Rattle.std.proofs.lemmas.Bool.{eqb-true, false≢true, and_from, cond_both}
 use Rattle.std.proofs.lemmas.Option.{none-some, same_Some}
 use Rattle.rust_tokens.specs.Texts.{Text, strip}
-use Rattle.rust_tokens.specs.Runs.{stops, behind, count, is_hash}
+use Rattle.rust_tokens.specs.Runs.{stops, rest_after, count, is_hash}
 
 pub not_false : (b : Bool) → not b ≡ true → b ≡ false
 not_false false e = refl
@@ -41,12 +41,12 @@ abbrev pub front : (ℕ → Bool) → Text → Text
 front p [] = []
 front p (c ∷ t) = cond (p c) (c ∷ front p t) []
 
-pub front-behind : (p : ℕ → Bool) (t : Text) → t ≡ front p t ++ behind p t
-front-behind p [] = refl
-front-behind p (c ∷ t) = by_test (p c) (front-behind p t)
+pub front-rest_after : (p : ℕ → Bool) (t : Text) → t ≡ front p t ++ rest_after p t
+front-rest_after p [] = refl
+front-rest_after p (c ∷ t) = by_test (p c) (front-rest_after p t)
   where
-    by_test : (b : Bool) → t ≡ front p t ++ behind p t → c ∷ t
-        ≡ cond b (c ∷ front p t) [] ++ cond b (behind p t) (c ∷ t)
+    by_test : (b : Bool) → t ≡ front p t ++ rest_after p t → c ∷ t
+        ≡ cond b (c ∷ front p t) [] ++ cond b (rest_after p t) (c ∷ t)
     by_test true e = ap (λ s. c ∷ s) e
     by_test false e = refl
 
@@ -55,10 +55,10 @@ all-front p [] = refl
 all-front p (c ∷ t) = cond_both (p c) (c ∷ front p t) [] (λ s. list_all p s ≡ true)
     (λ y. and_from _ _ y (all-front p t)) (λ n. refl)
 
-pub stops-behind : (p : ℕ → Bool) (t : Text) → IsTrue (stops p (behind p t))
-stops-behind p [] = refl
-stops-behind p (c ∷ t) = cond_both (p c) (behind p t) (c ∷ t) (λ s. IsTrue (stops p s))
-    (λ y. stops-behind p t) (λ n. no_pass _ n)
+pub stops-rest_after : (p : ℕ → Bool) (t : Text) → IsTrue (stops p (rest_after p t))
+stops-rest_after p [] = refl
+stops-rest_after p (c ∷ t) = cond_both (p c) (rest_after p t) (c ∷ t) (λ s. IsTrue (stops p s))
+    (λ y. stops-rest_after p t) (λ n. no_pass _ n)
 
 pub hash-front : (t : Text) → front is_hash t ≡ replicate (count is_hash t) 35
 hash-front [] = refl

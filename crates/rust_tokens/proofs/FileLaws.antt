@@ -7,14 +7,14 @@ use Rattle.std.specs.List.{list_all}
 use Rattle.std.proofs.lemmas.Bool.{false≢true, and_from, eqb-true}
 use Rattle.std.proofs.lemmas.List.{append_cancel_right}
 use Rattle.rust_tokens.specs.Texts.{Text}
-use Rattle.rust_tokens.specs.Runs.{first_passes, behind, is_in_line}
+use Rattle.rust_tokens.specs.Runs.{first_passes, rest_after, is_in_line}
 use Rattle.rust_tokens.specs.Tokens.{is_literal, Lexeme, Begins, ReadsTo, Reads}
 use Rattle.rust_tokens.specs.Files.{is_gap, is_bracket, is_mark, OpensAttribute, mark, shebang}
 use Rattle.rust_tokens.specs.Files.{IsMarked, IsShebanged, ReadsFile}
-use Rattle.rust_tokens.specs.First.{Body, first_body, behind_suffix}
-use Rattle.rust_tokens.proofs.Basics.{not_false, no_pass, front, front-behind, all-front}
-use Rattle.rust_tokens.proofs.Basics.{stops-behind}
-use Rattle.rust_tokens.proofs.Classes.{behind-append}
+use Rattle.rust_tokens.specs.First.{Body, first_body, after_suffix}
+use Rattle.rust_tokens.proofs.Basics.{not_false, no_pass, front, front-rest_after, all-front}
+use Rattle.rust_tokens.proofs.Basics.{stops-rest_after}
+use Rattle.rust_tokens.proofs.Classes.{rest_after-append}
 use Rattle.rust_tokens.proofs.Files.{gaps-once}
 use Rattle.rust_tokens.proofs.NotEmpty.{less-left}
 use Rattle.rust_tokens.proofs.Readings.{not-at-end, reads-once, reads-some}
@@ -38,9 +38,9 @@ shebanged-once : (whole t u : Text) (xs ys : List Lexeme) → IsShebanged whole 
     → IsShebanged whole ys u → (xs ≡ ys) × (t ≡ u)
 shebanged-once whole t u xs ys (inl f) (inl g) =
     let lines : f.0 ++ t ≡ g.0 ++ u = ap (λ v. tail (tail v)) (sym f.2 ∙ g.2) in
-    let rests : t ≡ u = sym (behind-append is_in_line f.0 t f.3 (not_false _ f.4))
-    ∙ (ap (λ v. behind is_in_line v) lines
-    ∙ behind-append is_in_line g.0 u g.3 (not_false _ g.4)) in
+    let rests : t ≡ u = sym (rest_after-append is_in_line f.0 t f.3 (not_false _ f.4))
+    ∙ (ap (λ v. rest_after is_in_line v) lines
+    ∙ rest_after-append is_in_line g.0 u g.3 (not_false _ g.4)) in
     let same : f.0 ≡ g.0 = append_cancel_right f.0 g.0 u
     (ap (λ v. f.0 ++ v) (sym rests) ∙ lines) in
     (f.1 ∙ (ap (λ v. shebang v ∷ []) same ∙ sym g.1), rests)
@@ -68,22 +68,22 @@ gaps-within zero (c ∷ t) h =
     let no : ⊥ = omega (arith, h) in
     absurd no
 gaps-within (suc n) (c ∷ t) h =
-    by_gap (λ l. gaps-within n (behind_suffix (is_literal (first_body c t).0 && (first_body c t).1)
+    by_gap (λ l. gaps-within n (after_suffix (is_literal (first_body c t).0 && (first_body c t).1)
     (first_body c t).2) l) (is_gap y.kind) refl
   where
     o : Body
     o = first_body c t
 
     x : (b s : Text) × Begins (record { kind = o.0; is_ended = o.1; body = b; suffix = s }) (c ∷ t)
-        (behind_suffix (is_literal o.0 && o.1) o.2)
-        × (o.2 ≡ s ++ behind_suffix (is_literal o.0 && o.1) o.2)
+        (after_suffix (is_literal o.0 && o.1) o.2)
+        × (o.2 ≡ s ++ after_suffix (is_literal o.0 && o.1) o.2)
     x = begins-lexeme o.0 o.1 (c ∷ t) o.2 refl
 
     y : Lexeme
     y = record { kind = o.0; is_ended = o.1; body = x.0; suffix = x.1 }
 
     r : Text
-    r = behind_suffix (is_literal o.0 && o.1) o.2
+    r = after_suffix (is_literal o.0 && o.1) o.2
 
     less : length r < length (c ∷ t)
     less = less-left y (c ∷ t) r x.2
@@ -154,14 +154,14 @@ shebanged-some (c ∷ d ∷ t) = by_tests (c == 35) (d == 33) refl refl
         (ap (λ v. tail (tail v)) j) y))
         (λ n. (
           shebang (front is_in_line t) ∷ [],
-          behind is_in_line t,
+          rest_after is_in_line t,
           inl (
             front is_in_line t,
             refl,
-            w ∙ ap (λ v. 35 ∷ 33 ∷ v) (front-behind is_in_line t),
+            w ∙ ap (λ v. 35 ∷ 33 ∷ v) (front-rest_after is_in_line t),
             all-front is_in_line t,
-            stops-behind is_in_line t,
-            λ a. n (subst (λ v. OpensAttribute v) (sym (front-behind is_in_line t)) a),
+            stops-rest_after is_in_line t,
+            λ a. n (subst (λ v. OpensAttribute v) (sym (front-rest_after is_in_line t)) a),
           ),
         ))
       where

@@ -13,13 +13,13 @@ use Rattle.rust_tokens.specs.declared.kinds.Kind.{Kind}
 use Rattle.rust_tokens.specs.declared.kinds.Kind.TheVariants.{Punct, Shebang, ByteOrderMark}
 use Rattle.rust_tokens.specs.declared.kinds.Token.{Token}
 use Rattle.rust_tokens.specs.Texts.{Text, strip}
-use Rattle.rust_tokens.specs.Runs.{first_passes, stops, behind, is_id_start, is_in_line}
+use Rattle.rust_tokens.specs.Runs.{first_passes, stops, rest_after, is_id_start, is_in_line}
 use Rattle.rust_tokens.specs.Tokens.{Lexeme, Begins, ReadsTo}
 use Rattle.rust_tokens.specs.Files.{is_gap, is_bracket, OpensAttribute, mark, shebang}
 use Rattle.rust_tokens.specs.Files.{IsMarked, IsShebanged}
 use Rattle.rust_tokens.specs.First.{Body, first_of}
 use Rattle.rust_tokens.specs.Placed.{byte_length, end_of, end_of_all, token_at, placed, between}
-use Rattle.rust_tokens.proofs.Basics.{no_pass, front, front-behind, all-front, stops-behind}
+use Rattle.rust_tokens.proofs.Basics.{no_pass, front, front-rest_after, all-front, stops-rest_after}
 use Rattle.rust_tokens.proofs.Basics.{strip-reads}
 use Rattle.rust_tokens.proofs.Classes.{start_at}
 use Rattle.rust_tokens.proofs.Readings.{reads-more, placed-more, end-more, bytes-join}
@@ -242,14 +242,14 @@ no-attribute-at-end t rest p e a =
 -- What follows a shebang.
 pub shebanged : (whole hash line rest : List ℕ) → IsUtf8 whole → IsUtf8 rest
     → Some (chars hash) ≡ strip 35 (chars whole) → Some (chars line) ≡ strip 33 (chars hash)
-    → chars rest ≡ behind is_in_line (chars line) → (OpensAttribute (chars line) → ⊥)
+    → chars rest ≡ rest_after is_in_line (chars line) → (OpensAttribute (chars line) → ⊥)
     → (xs : List Lexeme) × IsShebanged (chars whole) xs (chars rest)
     × ((at : ℕ) → (placed at xs ≡ between Shebang at (at + (length whole - length rest)))
     × (end_of_all at xs + length rest ≡ at + length whole))
 shebanged whole hash line rest u v h g b n =
     let f : Text = front is_in_line (chars line) in
     let j : chars line ≡ f ++ chars rest =
-    front-behind is_in_line (chars line) ∙ ap (λ t. f ++ t) (sym b) in
+    front-rest_after is_in_line (chars line) ∙ ap (λ t. f ++ t) (sym b) in
     let w : chars whole ≡ codes "#!" ++ (f ++ chars rest) =
     strip-reads 35 (chars whole) (chars hash) (sym h)
     ∙ ap (λ t. 35 ∷ t) (strip-reads 33 (chars hash) (chars line) (sym g) ∙ ap (λ t. 33 ∷ t) j) in
@@ -261,7 +261,7 @@ shebanged whole hash line rest u v h g b n =
         refl,
         w,
         all-front is_in_line (chars line),
-        subst (λ t. IsTrue (stops is_in_line t)) (sym b) (stops-behind is_in_line (chars line)),
+        subst (λ t. IsTrue (stops is_in_line t)) (sym b) (stops-rest_after is_in_line (chars line)),
         λ a. n (subst (λ t. OpensAttribute t) (sym j) a),
       ),
       λ at.
@@ -277,11 +277,11 @@ shebanged whole hash line rest u v h g b n =
 
 pub shebang-within : (whole hash line rest : List ℕ) → IsUtf8 whole → IsUtf8 rest
     → Some (chars hash) ≡ strip 35 (chars whole) → Some (chars line) ≡ strip 33 (chars hash)
-    → chars rest ≡ behind is_in_line (chars line) → length rest ≤ length whole
+    → chars rest ≡ rest_after is_in_line (chars line) → length rest ≤ length whole
 shebang-within whole hash line rest u v h g b =
     let f : Text = front is_in_line (chars line) in
     let j : chars line ≡ f ++ chars rest =
-    front-behind is_in_line (chars line) ∙ ap (λ t. f ++ t) (sym b) in
+    front-rest_after is_in_line (chars line) ∙ ap (λ t. f ++ t) (sym b) in
     let w : chars whole ≡ codes "#!" ++ (f ++ chars rest) =
     strip-reads 35 (chars whole) (chars hash) (sym h)
     ∙ ap (λ t. 35 ∷ t) (strip-reads 33 (chars hash) (chars line) (sym g) ∙ ap (λ t. 33 ∷ t) j) in

@@ -12,7 +12,7 @@ use Rattle.std.specs.Char.{is_ascii_alphabetic}
 use Rattle.rust_tokens.specs.declared.kinds.Kind.TheVariants.{Whitespace, Ident, Punct}
 use Rattle.rust_tokens.specs.declared.openings.Opening.{Opening}
 use Rattle.rust_tokens.specs.Texts.{Text, split_first}
-use Rattle.rust_tokens.specs.Runs.{behind, is_digit, is_id_continue, is_id_start, is_punct}
+use Rattle.rust_tokens.specs.Runs.{rest_after, is_digit, is_id_continue, is_id_start, is_punct}
 use Rattle.rust_tokens.specs.Runs.{is_space}
 use Rattle.rust_tokens.specs.Bytes.{begins_word, is_ascii_in, is_plain_start}
 use Rattle.rust_tokens.specs.Bytes.{is_prefix_letter, is_sign}
@@ -77,7 +77,7 @@ first-sign s u l y = sign-first (get_or s 0 0) _ y
 
 -- white space,
 space-first : (c : ℕ) (t : Text) → is_space c ≡ true
-    → Some (Whitespace, true, behind is_space (c ∷ t)) ≡ first_of (c ∷ t)
+    → Some (Whitespace, true, rest_after is_space (c ∷ t)) ≡ first_of (c ∷ t)
 space-first c t y = rw y refl
 
 ascii-small : (p : ℕ → Bool) (c : ℕ) → is_ascii_in p c ≡ true → c < 128
@@ -85,7 +85,7 @@ ascii-small p c y = let h = and_parts (nat_lt c 128) (p c) y in grind (arith, na
 
 pub first-space : (s : List ℕ) → IsUtf8 s → 0 < length s
     → is_ascii_in is_space (get_or s 0 0) ≡ true
-    → Some (Whitespace, true, behind is_space (chars s)) ≡ first_of (chars s)
+    → Some (Whitespace, true, rest_after is_space (chars s)) ≡ first_of (chars s)
 first-space s u l y =
     let e = ascii-first s u l (ascii-small is_space _ y) in
     let c = get_or s 0 0 in
@@ -96,7 +96,7 @@ plain-small : (c : ℕ) → is_plain_start c ≡ true → c < 128
 plain-small c y = let h = and_parts (c == 95 || is_ascii_alphabetic c) _ y in grind arith
 
 word-first : (c : ℕ) (t : Text) → is_plain_start c ≡ true
-    → Some (Ident, true, behind is_id_continue (c ∷ t)) ≡ first_of (c ∷ t)
+    → Some (Ident, true, rest_after is_id_continue (c ∷ t)) ≡ first_of (c ∷ t)
 word-first c t y =
     let h = and_parts (c == 95 || is_ascii_alphabetic c) _ y in
     let start : is_id_start c ≡ true = start_at c (plain-small c y) ∙ h.0 in
@@ -113,7 +113,7 @@ word-first c t y =
     ) refl
 
 prefix-b : (d : ℕ) (t : Text) → is_id_continue d ≡ true → (d == 114) ≡ false
-    → Some (Ident, true, behind is_id_continue (98 ∷ d ∷ t)) ≡ first_of (98 ∷ d ∷ t)
+    → Some (Ident, true, rest_after is_id_continue (98 ∷ d ∷ t)) ≡ first_of (98 ∷ d ∷ t)
 prefix-b d t y n = rw (
   apart is_id_continue d 34 goes_on-quote y,
   apart is_id_continue d 39 goes_on-tick y,
@@ -123,7 +123,7 @@ prefix-b d t y n = rw (
 ) refl
 
 prefix-c : (d : ℕ) (t : Text) → is_id_continue d ≡ true → (d == 114) ≡ false
-    → Some (Ident, true, behind is_id_continue (99 ∷ d ∷ t)) ≡ first_of (99 ∷ d ∷ t)
+    → Some (Ident, true, rest_after is_id_continue (99 ∷ d ∷ t)) ≡ first_of (99 ∷ d ∷ t)
 prefix-c d t y n = rw (
   apart is_id_continue d 34 goes_on-quote y,
   n,
@@ -132,7 +132,7 @@ prefix-c d t y n = rw (
 ) refl
 
 prefix-r : (d : ℕ) (t : Text) → is_id_continue d ≡ true
-    → Some (Ident, true, behind is_id_continue (114 ∷ d ∷ t)) ≡ first_of (114 ∷ d ∷ t)
+    → Some (Ident, true, rest_after is_id_continue (114 ∷ d ∷ t)) ≡ first_of (114 ∷ d ∷ t)
 prefix-r d [] y = rw (
   apart is_id_continue d 35 goes_on-hash y,
   apart is_id_continue d 34 goes_on-quote y,
@@ -148,11 +148,11 @@ prefix-r d (e ∷ t) y = rw (
 
 prefix-first : (c d : ℕ) (t : Text) → is_prefix_letter c ≡ true → is_id_continue d ≡ true
     → (d == 114) ≡ false
-    → Some (Ident, true, behind is_id_continue (c ∷ d ∷ t)) ≡ first_of (c ∷ d ∷ t)
+    → Some (Ident, true, rest_after is_id_continue (c ∷ d ∷ t)) ≡ first_of (c ∷ d ∷ t)
 prefix-first c d t p y n = at (c == 98) (c == 99) refl refl p
   where
     at : (b k : Bool) → (c == 98) ≡ b → (c == 99) ≡ k → (b || (k || (c == 114))) ≡ true
-        → Some (Ident, true, behind is_id_continue (c ∷ d ∷ t)) ≡ first_of (c ∷ d ∷ t)
+        → Some (Ident, true, rest_after is_id_continue (c ∷ d ∷ t)) ≡ first_of (c ∷ d ∷ t)
     at true k e f p = rw (eqb-true c 98 e) (prefix-b d t y n)
     at false true e f p = rw (eqb-true c 99 f) (prefix-c d t y n)
     at false false e f p = rw (eqb-true c 114 p) (prefix-r d t y)
@@ -165,7 +165,7 @@ no_zero h = false≢true (sym (is_xid_continue-ascii 0 (omega arith)) ∙ h)
 
 first-prefix : (s : List ℕ) → IsUtf8 s → is_prefix_letter (get_or s 0 0) ≡ true
     → is_ascii_in is_id_continue (get_or s 1 0) ≡ true → (get_or s 1 0 == 114) ≡ false
-    → Some (Ident, true, behind is_id_continue (chars s)) ≡ first_of (chars s)
+    → Some (Ident, true, rest_after is_id_continue (chars s)) ≡ first_of (chars s)
 first-prefix [] u p y n = absurd (no_zero y)
 first-prefix (c ∷ []) u p y n = absurd (no_zero y)
 first-prefix (c ∷ d ∷ s) u p y n =
@@ -178,20 +178,20 @@ first-prefix (c ∷ d ∷ s) u p y n =
     (prefix-first c d (chars s) p (and_parts (nat_lt d 128) _ y).1 n)
 
 plain-word : (s : List ℕ) → IsUtf8 s → 0 < length s → is_plain_start (get_or s 0 0) ≡ true
-    → Some (Ident, true, behind is_id_continue (chars s)) ≡ first_of (chars s)
+    → Some (Ident, true, rest_after is_id_continue (chars s)) ≡ first_of (chars s)
 plain-word s u l y =
     let e = ascii-first s u l (plain-small _ y) in
     rw e (word-first (get_or s 0 0) (chars (drop 1 s)) y)
 
 pub first-word : (s : List ℕ) → IsUtf8 s → 0 < length s
     → begins_word (get_or s 0 0) (get_or s 1 0) ≡ true
-    → Some (Ident, true, behind is_id_continue (chars s)) ≡ first_of (chars s)
+    → Some (Ident, true, rest_after is_id_continue (chars s)) ≡ first_of (chars s)
 first-word s u l y = at (is_plain_start (get_or s 0 0)) refl y
   where
     at : (b : Bool) → is_plain_start (get_or s 0 0) ≡ b
         → (b || (is_prefix_letter (get_or s 0 0)
         && (is_ascii_in is_id_continue (get_or s 1 0) && not (get_or s 1 0 == 114)))) ≡ true
-        → Some (Ident, true, behind is_id_continue (chars s)) ≡ first_of (chars s)
+        → Some (Ident, true, rest_after is_id_continue (chars s)) ≡ first_of (chars s)
     at true e y = plain-word s u l e
     at false e y =
         let p = and_parts (is_prefix_letter (get_or s 0 0)) _ y in

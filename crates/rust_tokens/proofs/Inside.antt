@@ -1,4 +1,4 @@
--- An opening ends behind the word that it begins with.
+-- An opening ends after the word that it begins with.
 use Rattle.std.proofs.Common.{◌≡◌, ℕ, ◌+◌, ◌≤◌, Bool, true, false, ◌&&◌, ◌++◌, cond, [], ◌∷◌}
 use Rattle.std.proofs.Common.{Option, Some, None, refl, ap, sym, ◌∙◌, append_assoc, subst, length}
 use Rattle.std.proofs.Common.{length-append, arith}
@@ -6,10 +6,10 @@ use Rattle.std.specs.Prelude.{◌==◌, codes, flat_map, replicate, option_map}
 use Rattle.std.specs.List.{list_all}
 use Rattle.std.proofs.lemmas.Bool.{eqb-true, false≢true, and_parts, cond_both}
 use Rattle.rust_tokens.specs.Texts.{Text, strip, or}
-use Rattle.rust_tokens.specs.Runs.{behind, count, is_id_start, is_id_continue, is_hash}
-use Rattle.rust_tokens.specs.Strings.{spelling, behind_string}
-use Rattle.rust_tokens.specs.RawStrings.{behind_raw}
-use Rattle.rust_tokens.specs.Characters.{behind_char}
+use Rattle.rust_tokens.specs.Runs.{rest_after, count, is_id_start, is_id_continue, is_hash}
+use Rattle.rust_tokens.specs.Strings.{spelling, after_string}
+use Rattle.rust_tokens.specs.RawStrings.{after_raw}
+use Rattle.rust_tokens.specs.Characters.{after_char}
 use Rattle.rust_tokens.specs.Openings.{first_opening, raw_opening, word_opening, byte_opening}
 use Rattle.rust_tokens.specs.Openings.{c_opening}
 use Rattle.rust_tokens.specs.declared.kinds.Kind.{Kind}
@@ -25,11 +25,11 @@ use Rattle.rust_tokens.proofs.Classes.{goes_on-quote, goes_on-hash, goes_on-tick
 use Rattle.rust_tokens.proofs.RawStrings.{raw-reads}
 use Rattle.rust_tokens.proofs.Strings.{string-reads}
 
-pub behind-short : (p : ℕ → Bool) (s : Text) → length (behind p s) ≤ length s
-behind-short p [] = omega arith
-behind-short p (c ∷ s) =
-    let h = behind-short p s in
-    cond_both (p c) (behind p s) (c ∷ s) (λ u. length u ≤ length (c ∷ s))
+pub rest_after-short : (p : ℕ → Bool) (s : Text) → length (rest_after p s) ≤ length s
+rest_after-short p [] = omega arith
+rest_after-short p (c ∷ s) =
+    let h = rest_after-short p s in
+    cond_both (p c) (rest_after p s) (c ∷ s) (λ u. length u ≤ length (c ∷ s))
     (λ y. omega (arith, h)) (λ n. omega arith)
 
 pub rest-short : (a b c : Text) → a ≡ b ++ c → length c ≤ length a
@@ -50,17 +50,17 @@ abbrev tail : Text → Text
 tail [] = []
 tail (c ∷ t) = t
 
--- A character that continues no word is behind the word in front.
-pub behind-word : (w s p t : Text) (q : ℕ) → list_all is_id_continue w ≡ true
+-- A character that continues no word is after the word in front.
+pub rest_after-word : (w s p t : Text) (q : ℕ) → list_all is_id_continue w ≡ true
     → is_id_continue q ≡ false → w ++ s ≡ p ++ q ∷ t → length (q ∷ t) ≤ length s
-behind-word [] s p t q a n e = rest-short s p (q ∷ t) e
-behind-word (c ∷ w) s [] t q a n e =
+rest_after-word [] s p t q a n e = rest-short s p (q ∷ t) e
+rest_after-word (c ∷ w) s [] t q a n e =
     let y = (and_parts (is_id_continue c) _ a).0 in
     absurd (false≢true (sym n ∙ subst (λ d. is_id_continue d ≡ true) (ap (λ u. head u) e) y))
-behind-word (c ∷ w) s (d ∷ p) t q a n e =
-    behind-word w s p t q (and_parts (is_id_continue c) _ a).1 n (ap (λ u. tail u) e)
+rest_after-word (c ∷ w) s (d ∷ p) t q a n e =
+    rest_after-word w s p t q (and_parts (is_id_continue c) _ a).1 n (ap (λ u. tail u) e)
 
--- Somewhere in the text stands a character that continues no word, and the token ends behind it.
+-- Somewhere in the text stands a character that continues no word, and the token ends after it.
 abbrev pub Inside : Text → Option (Opening × Text) → Type 0
 Inside whole None = Unit
 Inside whole (Some x) = (p : Text) × (q : ℕ) × (v : Text) × (whole ≡ p ++ q ∷ v)
@@ -73,37 +73,37 @@ quote-inside p k t = (
   t,
   refl,
   goes_on-quote,
-  closed-short k (behind_string false t) t (λ m h.
+  closed-short k (after_string false t) t (λ m h.
       let y = string-reads t m h in
       rest-short t (flat_map spelling y.0 ++ codes "\"") m y.2),
 )
 
-raw-short : (k : Kind) (n : ℕ) (u : Text) → length (closed k (behind_raw n u)).2 ≤ length u
-raw-short k n u = closed-short k (behind_raw n u) u (λ m h.
+raw-short : (k : Kind) (n : ℕ) (u : Text) → length (closed k (after_raw n u)).2 ≤ length u
+raw-short k n u = closed-short k (after_raw n u) u (λ m h.
     let y = raw-reads n u m h in
     rest-short u (y.0 ++ 34 ∷ replicate n 35) m
     (y.2 ∙ sym (append_assoc y.0 (34 ∷ replicate n 35) m)))
 
 raw-inside : (p : Text) (k : Kind) (t : Text) → Inside (p ++ t) (raw_opening k t)
 raw-inside p k [] = tt
-raw-inside p k (d ∷ t) = by_quote (strip 34 (behind is_hash (d ∷ t))) refl
+raw-inside p k (d ∷ t) = by_quote (strip 34 (rest_after is_hash (d ∷ t))) refl
   where
     no_word : (b : Bool) (u : Text) → (d == 35) ≡ b
-        → strip 34 (cond b (behind is_hash t) (d ∷ t)) ≡ Some u
+        → strip 34 (cond b (rest_after is_hash t) (d ∷ t)) ≡ Some u
         → is_id_continue d ≡ false
     no_word true u e h = ap (λ c. is_id_continue c) (eqb-true d 35 e) ∙ goes_on-hash
     no_word false u e h =
         ap (λ c. is_id_continue c) (ap (λ v. head v) (strip-reads 34 (d ∷ t) u h)) ∙ goes_on-quote
 
-    by_quote : (o : Option Text) → strip 34 (behind is_hash (d ∷ t)) ≡ o
+    by_quote : (o : Option Text) → strip 34 (rest_after is_hash (d ∷ t)) ≡ o
         → Inside (p ++ d ∷ t) (option_map (λ u. (Raw k (count is_hash (d ∷ t)), u)) o)
     by_quote None e = tt
     by_quote (Some u) e =
         let n = raw-short k (count is_hash (d ∷ t)) u in
-        let m = rest-short (behind is_hash (d ∷ t)) (34 ∷ []) u (strip-reads 34 _ u e) in
-        let l : length (behind is_hash (d ∷ t)) ≡ length (34 ∷ u) =
+        let m = rest-short (rest_after is_hash (d ∷ t)) (34 ∷ []) u (strip-reads 34 _ u e) in
+        let l : length (rest_after is_hash (d ∷ t)) ≡ length (34 ∷ u) =
         ap (λ v. length v) (strip-reads 34 _ u e) in
-        let j = behind-short is_hash (d ∷ t) in
+        let j = rest_after-short is_hash (d ∷ t) in
         (p, d, t, refl, no_word (d == 35) u refl e, omega (arith, n, l, j))
 
 word-inside : (t : Text) → Inside (114 ∷ t) (word_opening t)
@@ -116,7 +116,7 @@ word-inside (c ∷ d ∷ t) = by_test (c == 35 && is_id_start d) refl
     by_test false e = tt
     by_test true e =
         let x = and_parts (c == 35) (is_id_start d) e in
-        let n = behind-short is_id_continue t in (
+        let n = rest_after-short is_id_continue t in (
           114 ∷ [],
           c,
           d ∷ t,
@@ -125,10 +125,10 @@ word-inside (c ∷ d ∷ t) = by_test (c == 35 && is_id_start d) refl
           omega (arith, n),
         )
 
-pub byte-short : (t : Text) → length (closed_or Byte t (behind_char t)).2 ≤ length t
-byte-short t = by_end (behind_char t) refl
+pub byte-short : (t : Text) → length (closed_or Byte t (after_char t)).2 ≤ length t
+byte-short t = by_end (after_char t) refl
   where
-    by_end : (o : Option Text) → behind_char t ≡ o → length (closed_or Byte t o).2 ≤ length t
+    by_end : (o : Option Text) → after_char t ≡ o → length (closed_or Byte t o).2 ≤ length t
     by_end None e = omega arith
     by_end (Some m) e =
         let x = char-reads t m e in
@@ -182,7 +182,7 @@ inside (c ∷ t) =
     (λ y. at (or (raw_opening RawStr t) (word_opening t)) [] t c 114 y (r-inside t))
     (λ n. tt))))
 
--- What begins with a word goes on behind it.
+-- What begins with a word goes on after it.
 pub opened-short : (c : ℕ) (w s : Text) → list_all is_id_continue (c ∷ w) ≡ true
     → ((first_opening (c ∷ (w ++ s)) ≡ None)
     → length (by_opening c (w ++ s) None).2 ≤ length s)
@@ -193,7 +193,7 @@ opened-short c w s a f =
     far : (o : Opening) (u : Text) → Inside (c ∷ (w ++ s)) (Some (o, u))
         → length (by_opening 0 [] (Some (o, u))).2 ≤ length s
     far o u x =
-        let n = behind-word (c ∷ w) s x.0 x.2 x.1 a x.4 x.3 in
+        let n = rest_after-word (c ∷ w) s x.0 x.2 x.1 a x.4 x.3 in
         let m = x.5 in
         omega (arith, n, m)
 

@@ -94,7 +94,7 @@ pub body-bytes : (x : Lexeme) (whole r : Text) → Begins x whole r → 0 < byte
 body-bytes x whole r b =
     some_bytes x.body (body-first x.kind x.is_ended x.body (x.suffix ++ r) b.stands)
 
--- Less is left behind a token.
+-- Less is left after a token.
 pub less-left : (x : Lexeme) (whole r : Text) → Begins x whole r → length r < length whole
 less-left x whole r b =
     let some = some_characters x.body (body-first x.kind x.is_ended x.body

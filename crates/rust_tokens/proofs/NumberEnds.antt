@@ -6,19 +6,19 @@ use Rattle.std.specs.Prelude.{◌==◌, codes, IsTrue}
 use Rattle.std.specs.List.{list_all}
 use Rattle.std.proofs.lemmas.Bool.{eqb-true, and_parts, and_from, cond-true, cond-false}
 use Rattle.rust_tokens.specs.Texts.{Text}
-use Rattle.rust_tokens.specs.Runs.{first_passes, stops, behind, is_space, is_id_start, is_digit}
+use Rattle.rust_tokens.specs.Runs.{first_passes, stops, rest_after, is_space, is_id_start, is_digit}
 use Rattle.rust_tokens.specs.Runs.{is_digit_part}
 use Rattle.rust_tokens.specs.Numbers.{is_exponent_mark, is_point_or_start, IsDigits}
 use Rattle.rust_tokens.specs.Numbers.{IsExponent}
-use Rattle.rust_tokens.specs.Numbers.{behind_exponent, behind_point}
+use Rattle.rust_tokens.specs.Numbers.{after_exponent, after_point}
 use Rattle.rust_tokens.specs.Numbers.{is_based}
 use Rattle.rust_tokens.specs.Numbers.{IsDecimal, IsPointed, IsFractional, IsScientific}
 use Rattle.rust_tokens.specs.Openings.{first_opening}
 use Rattle.rust_tokens.specs.declared.kinds.Kind.TheVariants.{DecimalInt, Float}
 use Rattle.rust_tokens.specs.First.{Body, first_of, first_body, by_opening, first_number}
 use Rattle.rust_tokens.specs.First.{first_zero}
-use Rattle.rust_tokens.specs.First.{first_decimal, fraction_or, behind_fraction, exponent_or}
-use Rattle.rust_tokens.proofs.Classes.{apart, behind-append, digit-starts}
+use Rattle.rust_tokens.specs.First.{first_decimal, fraction_or, after_fraction, exponent_or}
+use Rattle.rust_tokens.proofs.Classes.{apart, rest_after-append, digit-starts}
 use Rattle.rust_tokens.proofs.Classes.{digit-space, digit-part}
 use Rattle.rust_tokens.proofs.Exponents.{exponent-ends, exponent-none}
 use Rattle.rust_tokens.proofs.Basics.{not_false, no_pass, neither, and_no}
@@ -58,10 +58,10 @@ unbased d (c ∷ t) h = by_test (d == 48) h
 -- A number whose digits end where u begins.
 at-decimal : (d : ℕ) (w u : Text) → is_digit d ≡ true → list_all is_digit_part w ≡ true
     → first_passes is_digit_part u ≡ false → is_based (d ∷ (w ++ u)) ≡ false
-    → first_of (d ∷ (w ++ u)) ≡ Some (fraction_or u (behind_point u))
+    → first_of (d ∷ (w ++ u)) ≡ Some (fraction_or u (after_point u))
 at-decimal d w u y a s b =
     ap (λ x. Some x) (at-digit d (w ++ u) y ∙ (unbased d (w ++ u) b
-    ∙ ap (λ t. fraction_or t (behind_point t)) (behind-append is_digit_part w u a s)))
+    ∙ ap (λ t. fraction_or t (after_point t)) (rest_after-append is_digit_part w u a s)))
 
 -- No base's letter follows.
 not-based : (d : ℕ) (w u : Text) (c : ℕ) → list_all is_digit_part w ≡ true
@@ -83,9 +83,9 @@ decimal-found b a x =
     ∙ (ap (λ o. Some (fraction_or a o)) x.2 ∙ ap (λ o. Some (exponent_or DecimalInt a o))
     (exponent-none a x.3)))
 
--- Behind a point.
+-- After a point.
 pub at-point : (d : ℕ) (w u : Text) → is_digit d ≡ true → list_all is_digit_part w ≡ true
-    → IsTrue (stops is_point_or_start u) → first_of (d ∷ (w ++ 46 ∷ u)) ≡ Some (behind_fraction u)
+    → IsTrue (stops is_point_or_start u) → first_of (d ∷ (w ++ 46 ∷ u)) ≡ Some (after_fraction u)
 at-point d w u y a s =
     at-decimal d w (46 ∷ u) y a refl (not-based d w u 46 a refl)
     ∙ ap (λ o. Some (fraction_or (46 ∷ u) o)) (cond-true (stops is_point_or_start u) _ _ s)
@@ -98,13 +98,13 @@ pointed-found b a x =
     ∙ (at-point y.0 y.1 a y.2 y.3 x.3
     ∙ ap (λ z. Some z) (cond-false (first_passes is_digit a) _ _ (not_false _ x.4))))
 
--- The digits behind a point, where u follows them.
+-- The digits after a point, where u follows them.
 at-fraction : (fs u : Text) → IsDigits fs → first_passes is_digit_part u ≡ false
-    → behind_fraction (fs ++ u) ≡ exponent_or Float u (behind_exponent u)
+    → after_fraction (fs ++ u) ≡ exponent_or Float u (after_exponent u)
 at-fraction fs u x s =
-    ap (λ t. behind_fraction (t ++ u)) x.4 ∙ (cond-true (is_digit x.0) _ _ x.2
-    ∙ ap (λ t. exponent_or Float t (behind_exponent t))
-    (behind-append is_digit_part (x.0 ∷ x.1) u (and_from _ _ (digit-part x.0 x.2) x.3) s))
+    ap (λ t. after_fraction (t ++ u)) x.4 ∙ (cond-true (is_digit x.0) _ _ x.2
+    ∙ ap (λ t. exponent_or Float t (after_exponent t))
+    (rest_after-append is_digit_part (x.0 ∷ x.1) u (and_from _ _ (digit-part x.0 x.2) x.3) s))
 
 pub digits-stop : (fs u : Text) → IsDigits fs → IsTrue (stops is_point_or_start (fs ++ u))
 digits-stop fs u x =
@@ -113,7 +113,7 @@ digits-stop fs u x =
 -- Digits, a point and digits, where u follows.
 at-fractional : (d : ℕ) (w fs u : Text) → is_digit d ≡ true → list_all is_digit_part w ≡ true
     → IsDigits fs → first_passes is_digit_part u ≡ false
-    → first_of (d ∷ (w ++ 46 ∷ (fs ++ u))) ≡ Some (exponent_or Float u (behind_exponent u))
+    → first_of (d ∷ (w ++ 46 ∷ (fs ++ u))) ≡ Some (exponent_or Float u (after_exponent u))
 at-fractional d w fs u y a x s =
     at-point d w (fs ++ u) y a (digits-stop fs u x) ∙ ap (λ z. Some z) (at-fraction fs u x s)
 
@@ -136,12 +136,12 @@ mark-facts c y = by_test (c == 101) refl y
     by_test true e h = rw (eqb-true c 101 e) (refl, refl, refl)
     by_test false e h = rw (eqb-true c 69 h) (refl, refl, refl)
 
-no-point : (c : ℕ) (t : Text) → (c == 46) ≡ false → behind_point (c ∷ t) ≡ None
+no-point : (c : ℕ) (t : Text) → (c == 46) ≡ false → after_point (c ∷ t) ≡ None
 no-point c t e = rw e refl
 
-pub scientific-behind : (b c a : Text) → IsScientific b c
-    → first_of (b ++ a) ≡ Some (Float, true, behind is_digit_part a)
-scientific-behind b c a x =
+pub scientific-rest_after : (b c a : Text) → IsScientific b c
+    → first_of (b ++ a) ≡ Some (Float, true, rest_after is_digit_part a)
+scientific-rest_after b c a x =
     ap (λ t. first_of (t ++ a)) (x.6 ∙ ap (λ t. t ++ (x.1 ++ x.2)) y.4)
     ∙ (ap (λ t. first_of (y.0 ∷ t)) (append_assoc y.1 (x.1 ++ x.2) a
     ∙ ap (λ t. y.1 ++ t) (append_assoc x.1 x.2 a)) ∙ by_fraction x.4)
@@ -159,15 +159,20 @@ scientific-behind b c a x =
     stop : first_passes is_digit_part (x.2 ++ a) ≡ false
     stop = ap (λ t. first_passes is_digit_part (t ++ a)) z.10 ∙ m.0
 
-    found : behind_exponent (x.2 ++ a) ≡ Some (behind is_digit_part a)
+    found : after_exponent (x.2 ++ a) ≡ Some (rest_after is_digit_part a)
     found = exponent-ends x.2 a z
 
-    no_point : behind_point (x.2 ++ a) ≡ None
-    no_point = ap (λ t. behind_point (t ++ a)) z.10
+    no_point : after_point (x.2 ++ a) ≡ None
+    no_point = ap (λ t. after_point (t ++ a)) z.10
         ∙ no-point z.0 ((z.1 ++ (z.2 ++ z.3 ∷ z.4)) ++ a) m.1
 
     by_fraction : (x.1 ≡ []) ⊎ ((fs : Text) × IsDigits fs × (x.1 ≡ codes "." ++ fs))
-        → first_of (y.0 ∷ (y.1 ++ (x.1 ++ (x.2 ++ a)))) ≡ Some (Float, true, behind is_digit_part a)
+        → first_of (y.0 ∷ (y.1 ++ (x.1 ++ (x.2 ++ a)))) ≡ Some (
+          Float,
+          true,
+          rest_after
+              is_digit_part a,
+        )
     by_fraction (inl e) =
         ap (λ t. first_of (y.0 ∷ (y.1 ++ (t ++ (x.2 ++ a))))) e
         ∙ (at-decimal y.0 y.1 (x.2 ++ a) y.2 y.3 stop
@@ -182,5 +187,5 @@ scientific-behind b c a x =
 
 pub scientific-found : (b a : Text) → IsScientific b a → first_of (b ++ a) ≡ Some (Float, true, a)
 scientific-found b a x =
-    scientific-behind b a a x
-    ∙ ap (λ t. Some (Float, true, t)) (behind-append is_digit_part [] a refl (not_false _ x.7))
+    scientific-rest_after b a a x
+    ∙ ap (λ t. Some (Float, true, t)) (rest_after-append is_digit_part [] a refl (not_false _ x.7))

@@ -9,18 +9,18 @@ use Rattle.rust_tokens.specs.declared.kinds.Kind.TheVariants.{RawByteStr, RawCSt
 use Rattle.rust_tokens.specs.declared.openings.Opening.{Opening}
 use Rattle.rust_tokens.specs.declared.openings.Opening.TheVariants.{Quote, Raw, ByteQuote, RawWord}
 use Rattle.rust_tokens.specs.Texts.{Text, strip, or, HasNoFront}
-use Rattle.rust_tokens.specs.Runs.{behind, count, is_hash, is_id_start}
+use Rattle.rust_tokens.specs.Runs.{rest_after, count, is_hash, is_id_start}
 use Rattle.rust_tokens.specs.Openings.{IsOpening, first_opening, raw_opening}
 use Rattle.rust_tokens.specs.Openings.{word_opening, byte_opening, c_opening}
-use Rattle.rust_tokens.proofs.Basics.{front-behind, hash-front, strip-reads}
-use Rattle.rust_tokens.proofs.Classes.{apart, behind-hashes, count-hashes, starts-hash}
+use Rattle.rust_tokens.proofs.Basics.{front-rest_after, hash-front, strip-reads}
+use Rattle.rust_tokens.proofs.Classes.{apart, rest_after-hashes, count-hashes, starts-hash}
 use Rattle.rust_tokens.proofs.Classes.{starts-quote}
 
 pub raw-opens : (k : Kind) (n : ℕ) (t : Text)
     → raw_opening k (replicate n 35 ++ 34 ∷ t) ≡ Some (Raw k n, t)
 raw-opens k n t =
     ap (λ u. option_map (λ v. (Raw k (count is_hash (replicate n 35 ++ 34 ∷ t)), v)) (strip 34 u))
-    (behind-hashes n t) ∙ ap (λ m. Some (Raw k m, t)) (count-hashes n t)
+    (rest_after-hashes n t) ∙ ap (λ m. Some (Raw k m, t)) (count-hashes n t)
 
 pub word-opens : (c : ℕ) (t : Text) → is_id_start c ≡ true
     → first_opening (114 ∷ 35 ∷ c ∷ t) ≡ Some (RawWord, t)
@@ -59,15 +59,15 @@ Reads t (Some x) = (p r : Text) × (t ≡ p ++ r) × IsOpening p
 
 raw-reads : (p : Text) (k : Kind) → ((n : ℕ) (q : Text) → q ≡ p ++ (replicate n 35 ++ 34 ∷ [])
     → IsOpening q) → (t : Text) → Reads (p ++ t) (raw_opening k t)
-raw-reads p k as_opening t = by_quote (strip 34 (behind is_hash t)) refl
+raw-reads p k as_opening t = by_quote (strip 34 (rest_after is_hash t)) refl
   where
-    by_quote : (o : Option Text) → strip 34 (behind is_hash t) ≡ o
+    by_quote : (o : Option Text) → strip 34 (rest_after is_hash t) ≡ o
         → Reads (p ++ t) (option_map (λ u. (Raw k (count is_hash t), u)) o)
     by_quote None e = tt
     by_quote (Some u) e =
         let n : ℕ = count is_hash t in
         let shape : t ≡ replicate n 35 ++ 34 ∷ u =
-        front-behind is_hash t ∙ (ap (λ v. v ++ behind is_hash t) (hash-front t)
+        front-rest_after is_hash t ∙ (ap (λ v. v ++ rest_after is_hash t) (hash-front t)
         ∙ ap (λ v. replicate n 35 ++ v) (strip-reads 34 _ u e)) in (
           p ++ (replicate n 35 ++ 34 ∷ []),
           u,

@@ -6,43 +6,43 @@ use Rattle.std.proofs.lemmas.List.{append_cancel_right}
 use Rattle.std.proofs.lemmas.Option.{none-some, same_Some}
 use Rattle.rust_tokens.specs.declared.kinds.Kind.{Kind}
 use Rattle.rust_tokens.specs.Texts.{Text}
-use Rattle.rust_tokens.specs.Runs.{behind, is_id_start, is_id_continue}
+use Rattle.rust_tokens.specs.Runs.{rest_after, is_id_start, is_id_continue}
 use Rattle.rust_tokens.specs.Tokens.{Stands, is_literal, IsSuffix, Lexeme, Begins}
-use Rattle.rust_tokens.specs.First.{Body, first_of, behind_suffix}
-use Rattle.rust_tokens.proofs.Basics.{not_false, no_pass, front, front-behind, all-front}
-use Rattle.rust_tokens.proofs.Basics.{stops-behind}
-use Rattle.rust_tokens.proofs.Classes.{behind-append}
+use Rattle.rust_tokens.specs.First.{Body, first_of, after_suffix}
+use Rattle.rust_tokens.proofs.Basics.{not_false, no_pass, front, front-rest_after, all-front}
+use Rattle.rust_tokens.proofs.Basics.{stops-rest_after}
+use Rattle.rust_tokens.proofs.Classes.{rest_after-append}
 use Rattle.rust_tokens.proofs.Firsts.{token-found}
 use Rattle.rust_tokens.proofs.Found.{begins-body}
 use Rattle.rust_tokens.proofs.NumberReads.{Found}
 
-suffix-ends : (m : Bool) (s r : Text) → IsSuffix m s r → behind_suffix m (s ++ r) ≡ r
+suffix-ends : (m : Bool) (s r : Text) → IsSuffix m s r → after_suffix m (s ++ r) ≡ r
 suffix-ends false s r x = ap (λ t. t ++ r) x
-suffix-ends true s [] (inl x) = ap (λ t. behind_suffix true (t ++ [])) x.0
+suffix-ends true s [] (inl x) = ap (λ t. after_suffix true (t ++ [])) x.0
 suffix-ends true s (c ∷ r) (inl x) =
-    ap (λ t. behind_suffix true (t ++ c ∷ r)) x.0 ∙ cond-false (is_id_start c) _ _ (not_false _ x.1)
+    ap (λ t. after_suffix true (t ++ c ∷ r)) x.0 ∙ cond-false (is_id_start c) _ _ (not_false _ x.1)
 suffix-ends true s r (inr x) =
     let w = x.0 in
-    ap (λ t. behind_suffix true (t ++ r)) w.4 ∙ (cond-true (is_id_start w.0) _ _ w.2
-    ∙ behind-append is_id_continue w.1 r w.3 (not_false _ x.1))
+    ap (λ t. after_suffix true (t ++ r)) w.4 ∙ (cond-true (is_id_start w.0) _ _ w.2
+    ∙ rest_after-append is_id_continue w.1 r w.3 (not_false _ x.1))
 
-suffix-reads : (m : Bool) (t : Text) → (s : Text) × IsSuffix m s (behind_suffix m t)
-    × (t ≡ s ++ behind_suffix m t)
+suffix-reads : (m : Bool) (t : Text) → (s : Text) × IsSuffix m s (after_suffix m t)
+    × (t ≡ s ++ after_suffix m t)
 suffix-reads false t = ([], refl, refl)
 suffix-reads true [] = ([], inl (refl, refl), refl)
 suffix-reads true (c ∷ t) = by_test (is_id_start c) refl
   where
     by_test : (b : Bool) → is_id_start c ≡ b → (s : Text)
-        × IsSuffix true s (cond b (behind is_id_continue t) (c ∷ t))
-        × (c ∷ t ≡ s ++ cond b (behind is_id_continue t) (c ∷ t))
+        × IsSuffix true s (cond b (rest_after is_id_continue t) (c ∷ t))
+        × (c ∷ t ≡ s ++ cond b (rest_after is_id_continue t) (c ∷ t))
     by_test true e = (
       c ∷ front is_id_continue t,
       inr (
         (c, front is_id_continue t, e, all-front is_id_continue t, refl),
-        stops-behind
+        stops-rest_after
             is_id_continue t,
       ),
-      ap (λ u. c ∷ u) (front-behind is_id_continue t),
+      ap (λ u. c ∷ u) (front-rest_after is_id_continue t),
     )
     by_test false e = ([], inl (refl, no_pass _ e), refl)
 
@@ -84,8 +84,8 @@ begins-once x y whole r u f g =
 pub begins-lexeme : (k : Kind) (e : Bool) (whole after : Text) → Some (k, e, after) ≡ first_of whole
     → (b s : Text)
     × Begins (record { kind = k; is_ended = e; body = b; suffix = s }) whole
-    (behind_suffix (is_literal k && e) after)
-    × (after ≡ s ++ behind_suffix (is_literal k && e) after)
+    (after_suffix (is_literal k && e) after)
+    × (after ≡ s ++ after_suffix (is_literal k && e) after)
 begins-lexeme k e [] after h = absurd (none-some _ (sym h))
 begins-lexeme k e (c ∷ t) after h =
     let f : Found (c ∷ t) (k, e, after) =

@@ -11,7 +11,7 @@ use Rattle.std.specs.Prelude.{◌≡◌, ℕ, Bool, false, ◌&&◌, ◌||◌, �
 use Rattle.std.specs.Prelude.{if◌then◌else◌, [], ◌∷◌, Option, Some, None, codes}
 use Rattle.std.specs.List.{list_all}
 use Rattle.rust_tokens.specs.Texts.{Text, HasNoFront}
-use Rattle.rust_tokens.specs.Runs.{first_passes, stops, behind, IsRun, is_id_start, is_digit}
+use Rattle.rust_tokens.specs.Runs.{first_passes, stops, rest_after, IsRun, is_id_start, is_digit}
 use Rattle.rust_tokens.specs.Runs.{is_digit_part, is_underscore}
 
 -- `e` and `E` begin an exponent.
@@ -38,24 +38,24 @@ IsExponent t = (c : ℕ) × (s us : Text) × (d : ℕ) × (w : Text) × IsTrue (
     × (t ≡ c ∷ (s ++ (us ++ d ∷ w)))
 
 -- The rest after a sign, or all if there is none.
-abbrev pub behind_sign : Text → Text
-behind_sign [] = []
-behind_sign (c ∷ t) = if is_sign c then t else c ∷ t
+abbrev pub after_sign : Text → Text
+after_sign [] = []
+after_sign (c ∷ t) = if is_sign c then t else c ∷ t
 
 -- The rest after digits that have begun.
-abbrev pub behind_digits : Text → Option Text
-behind_digits t = if first_passes is_digit t then Some (behind is_digit_part t) else None
+abbrev pub after_digits : Text → Option Text
+after_digits t = if first_passes is_digit t then Some (rest_after is_digit_part t) else None
 
 -- The rest after an exponent. None if the text begins with none.
-abbrev pub behind_exponent : Text → Option Text
-behind_exponent [] = None
-behind_exponent (c ∷ t) = if is_exponent_mark c
-    then behind_digits (behind is_underscore (behind_sign t)) else None
+abbrev pub after_exponent : Text → Option Text
+after_exponent [] = None
+after_exponent (c ∷ t) = if is_exponent_mark c
+    then after_digits (rest_after is_underscore (after_sign t)) else None
 
 -- The rest after a point that belongs to the number before it. None if there is none.
-abbrev pub behind_point : Text → Option Text
-behind_point [] = None
-behind_point (c ∷ t) =
+abbrev pub after_point : Text → Option Text
+after_point [] = None
+after_point (c ∷ t) =
     if c == code "." && stops is_point_or_start t then Some t else None
 
 -- The text is `0` and the letter of a base.
@@ -67,7 +67,7 @@ is_based (c ∷ d ∷ t) =
 
 -- The digits b, with the text a after them, are a whole number.
 abbrev pub IsDecimal : Text → Text → Type 0
-IsDecimal b a = IsDigits b × IsTrue (stops is_digit_part a) × (behind_point a ≡ None)
+IsDecimal b a = IsDigits b × IsTrue (stops is_digit_part a) × (after_point a ≡ None)
     × HasNoFront IsExponent a × (is_based (b ++ a) ≡ false)
 
 -- A base's letter, digits of a class with `_`, and no more of them at the start of the text a after

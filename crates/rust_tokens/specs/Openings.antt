@@ -9,7 +9,7 @@ use Rattle.rust_tokens.specs.declared.kinds.Kind.TheVariants.{RawByteStr, RawCSt
 use Rattle.rust_tokens.specs.declared.openings.Opening.{Opening}
 use Rattle.rust_tokens.specs.declared.openings.Opening.TheVariants.{Quote, Raw, ByteQuote, RawWord}
 use Rattle.rust_tokens.specs.Texts.{Text, strip, or}
-use Rattle.rust_tokens.specs.Runs.{behind, count, is_hash, is_id_start}
+use Rattle.rust_tokens.specs.Runs.{rest_after, count, is_hash, is_id_start}
 
 -- The letters of a literal and its quote: `"`, `b"`, `c"`, `b'`.
 abbrev pub IsQuoteOpening : Text → Type 0
@@ -30,7 +30,7 @@ IsOpening p = IsQuoteOpening p ⊎ (IsRawOpening p
 -- Hashes and a quote: the opening of a raw string of this kind, and the rest after it.
 abbrev pub raw_opening : Kind → Text → Option (Opening × Text)
 raw_opening k t = option_map (λ u. (Raw k (count is_hash t), u)) (strip (code "\"")
-    (behind is_hash t))
+    (rest_after is_hash t))
 
 -- A hash and the first character of a word.
 abbrev pub word_opening : Text → Option (Opening × Text)

@@ -2,10 +2,10 @@
 //! and no byte of any other character is.
 
 ghost use Rattle.std.specs.Prelude.{◌≡◌, chars, false, option_map};
-ghost use Rattle.rust_tokens.specs.Comments.{behind_comment};
-ghost use Rattle.rust_tokens.specs.RawStrings.{behind_hashes, behind_raw};
-ghost use Rattle.rust_tokens.specs.Runs.{behind, is_in_line};
-ghost use Rattle.rust_tokens.specs.Strings.{behind_string};
+ghost use Rattle.rust_tokens.specs.Comments.{after_comment};
+ghost use Rattle.rust_tokens.specs.RawStrings.{after_hashes, after_raw};
+ghost use Rattle.rust_tokens.specs.Runs.{rest_after, is_in_line};
+ghost use Rattle.rust_tokens.specs.Strings.{after_string};
 ghost use Rattle.rust_tokens.specs.Texts.{IsRest};
 
 /// Returns the rest of a text, where these bytes are left of its bytes.
@@ -19,9 +19,9 @@ fn rest_of<'a>(text: &'a str, bytes: &[u8]) -> &'a str
 
 /// Returns the rest after the closing quote of a string with escapes, from after its opening quote
 /// on, or `None` if it has no end.
-#[tactic(auto, unfolding(crate::specs::Strings::behind_string), using(crate::proofs::AsciiMarks::string_ends))]
-pub fn behind_string(text: &str) -> Option<&str>
-    ensures { option_map (λ r. chars r.now) result ≡ behind_string false (chars text.now) }
+#[tactic(auto, unfolding(crate::specs::Strings::after_string), using(crate::proofs::AsciiMarks::string_ends))]
+pub fn after_string(text: &str) -> Option<&str>
+    ensures { option_map (λ r. chars r.now) result ≡ after_string false (chars text.now) }
 {
     let mut rest = text.as_bytes();
     let mut is_escaped = false;
@@ -40,9 +40,9 @@ pub fn behind_string(text: &str) -> Option<&str>
 
 /// Returns the rest after the end of a block comment, from after its `/*` on, or `None` if it has
 /// no end.
-#[tactic(auto, unfolding(crate::specs::Comments::behind_comment), using(crate::proofs::AsciiMarks::comment_ends))]
-pub fn behind_comment(text: &str) -> Option<&str>
-    ensures { option_map (λ r. chars r.now) result ≡ behind_comment 0 0 (chars text.now) }
+#[tactic(auto, unfolding(crate::specs::Comments::after_comment), using(crate::proofs::AsciiMarks::comment_ends))]
+pub fn after_comment(text: &str) -> Option<&str>
+    ensures { option_map (λ r. chars r.now) result ≡ after_comment 0 0 (chars text.now) }
 {
     let mut rest = text.as_bytes();
     let mut above: usize = 0;
@@ -67,8 +67,8 @@ pub fn behind_comment(text: &str) -> Option<&str>
 
 /// Returns the bytes after this many hashes, or `None` if there are not so many.
 #[tactic(auto, using(crate::proofs::Hashes::hash_steps))]
-fn behind_hashes(bytes: &[u8], hashes: usize) -> Option<&[u8]>
-    ensures { option_map (λ r. r.now) result ≡ behind_hashes hashes bytes.now }
+fn after_hashes(bytes: &[u8], hashes: usize) -> Option<&[u8]>
+    ensures { option_map (λ r. r.now) result ≡ after_hashes hashes bytes.now }
 {
     let mut rest = bytes;
     let mut left = hashes;
@@ -87,14 +87,14 @@ fn behind_hashes(bytes: &[u8], hashes: usize) -> Option<&[u8]>
 
 /// Returns the rest after the end of a raw string with this many hashes, from after its opening
 /// quote on, or `None` if it has no end.
-#[tactic(auto, unfolding(crate::specs::RawStrings::behind_raw), using(crate::proofs::AsciiMarks::raw_ends))]
-pub fn behind_raw(text: &str, hashes: usize) -> Option<&str>
-    ensures { option_map (λ r. chars r.now) result ≡ behind_raw hashes (chars text.now) }
+#[tactic(auto, unfolding(crate::specs::RawStrings::after_raw), using(crate::proofs::AsciiMarks::raw_ends))]
+pub fn after_raw(text: &str, hashes: usize) -> Option<&str>
+    ensures { option_map (λ r. chars r.now) result ≡ after_raw hashes (chars text.now) }
 {
     let mut rest = text.as_bytes();
     while let Some((byte, more)) = rest.split_first() {
         if *byte == b'"' {
-            if let Some(end) = behind_hashes(more, hashes) {
+            if let Some(end) = after_hashes(more, hashes) {
                 return Some(rest_of(text, end));
             }
         }
@@ -105,8 +105,8 @@ pub fn behind_raw(text: &str, hashes: usize) -> Option<&str>
 
 /// Returns the text from its first LF on.
 #[tactic(auto, using(crate::proofs::AsciiMarks::line_ends))]
-pub fn behind_line(text: &str) -> &str
-    ensures { chars result.now ≡ behind is_in_line (chars text.now) }
+pub fn after_line(text: &str) -> &str
+    ensures { chars result.now ≡ rest_after is_in_line (chars text.now) }
 {
     let mut rest = text.as_bytes();
     while let Some((byte, more)) = rest.split_first() {

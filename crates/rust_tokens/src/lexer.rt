@@ -11,8 +11,8 @@ ghost use Rattle.rust_tokens.specs.Texts.{Text};
 ghost use Rattle.rust_tokens.specs.Tokens.{Begins, Lexeme, Reads};
 ghost use Rattle.rust_tokens.specs.declared.kinds.Kind.TheVariants.{ByteOrderMark, Shebang};
 
-use crate::ends::behind_line;
-use crate::first::{behind_suffix, first_body, plain_token};
+use crate::ends::after_line;
+use crate::first::{after_suffix, first_body, plain_token};
 use crate::kinds::{Kind, Token};
 use crate::texts::strip;
 use std::alloc::{AllocError, Global};
@@ -44,7 +44,7 @@ fn any_step(text: &str) -> Option<Step<'_>>
     let Some(body) = first_body(text) else {
         return None;
     };
-    let rest = behind_suffix(body);
+    let rest = after_suffix(body);
     Some(Step {
         kind: body.kind,
         is_ended: body.is_ended,
@@ -133,7 +133,7 @@ fn opens_attribute(text: &str) -> bool
 }
 
 /// Returns the rest after a byte order mark, or the text if it begins with none.
-fn behind_mark(text: &str) -> &str
+fn after_mark(text: &str) -> &str
     ensures within { length result.now ≤ length text.now }
     ensures marked { (xs : List Lexeme) × IsMarked (chars text.now) xs (chars result.now)
         × (placed 0 xs ≡ between ByteOrderMark 0 (length text.now - length result.now))
@@ -146,34 +146,34 @@ fn behind_mark(text: &str) -> &str
 }
 
 /// Returns the rest after a shebang, or the text if it begins with none.
-fn behind_shebang(text: &str) -> &str
+fn after_shebang(text: &str) -> &str
     ensures within { length result.now ≤ length text.now }
     ensures shebanged { (xs : List Lexeme) × IsShebanged (chars text.now) xs (chars result.now)
         × ((at : ℕ) → (placed at xs
         ≡ between Shebang at (at + (length text.now - length result.now)))
         × (end_of_all at xs + length result.now ≡ at + length text.now)) }
 {
-    let Some(behind_hash) = strip(text, '#') else {
+    let Some(after_hash) = strip(text, '#') else {
         return text;
     };
-    let Some(line) = strip(behind_hash, '!') else {
+    let Some(line) = strip(after_hash, '!') else {
         return text;
     };
     if opens_attribute(line) {
         text
     } else {
-        behind_line(line)
+        after_line(line)
     }
 }
 
 /// Returns the rest of a file after its byte order mark and its shebang.
-pub fn behind_head(text: &str) -> &str
+pub fn after_head(text: &str) -> &str
     // The tokens hs are the mark and the shebang. With the tokens of the rest they are the file's.
     ensures { (hs : List Lexeme) × IsTrue (list_all (λ x. is_head x.kind) hs)
         × ((rs : List Lexeme) → Reads (chars result.now) rs → ReadsFile (chars text.now) (hs ++ rs))
         × (end_of_all 0 hs + length result.now ≡ length text.now) }
 {
-    behind_shebang(behind_mark(text))
+    after_shebang(after_mark(text))
 }
 
 /// Adds a token of this kind unless it is empty. Returns `Err` if an allocation fails.
@@ -202,9 +202,9 @@ pub fn tokens(alloc: Global, text: &str) -> Result<Vec<Token>, AllocError>
         × (v.items ≡ placed 0 xs)) }
     ensures covers { IfOk result (λ v. Covers 0 v.items (length text.now)) }
 {
-    let unmarked = behind_mark(text);
+    let unmarked = after_mark(text);
     let mark_end = text.len() - unmarked.len();
-    let mut rest = behind_shebang(unmarked);
+    let mut rest = after_shebang(unmarked);
     let mut found = Vec::new(alloc);
     add_unless_empty(&mut found, Kind::ByteOrderMark, 0, mark_end)?;
     add_unless_empty(&mut found, Kind::Shebang, mark_end, text.len() - rest.len())?;

@@ -1,12 +1,12 @@
 //! The ends of characters and lifetimes, and the kinds of comments.
 
 ghost use Rattle.std.specs.Prelude.{◌≡◌, chars, option_map};
-ghost use Rattle.rust_tokens.specs.Characters.{behind_char, behind_escape, behind_name};
-ghost use Rattle.rust_tokens.specs.Characters.{behind_raw_name, unless_apostrophe};
+ghost use Rattle.rust_tokens.specs.Characters.{after_char, after_escape, after_name};
+ghost use Rattle.rust_tokens.specs.Characters.{after_raw_name, unless_apostrophe};
 ghost use Rattle.rust_tokens.specs.Comments.{block_kind, line_kind};
 
 use crate::kinds::Kind;
-use crate::texts::{Class, begins, behind_run, is_char_content, is_id_start, split_first, strip};
+use crate::texts::{Class, after_run, begins, is_char_content, is_id_start, split_first, strip};
 
 /// Returns the kind of a line comment, by the text after its `//`.
 pub fn line_kind(text: &str) -> Kind
@@ -41,25 +41,25 @@ pub fn block_kind(text: &str) -> Kind
 }
 
 /// Returns the rest after an escape and an apostrophe, from after the backslash on, or `None`.
-fn behind_escape(text: &str) -> Option<&str>
-    ensures { option_map (λ r. chars r.now) result ≡ behind_escape (chars text.now) }
+fn after_escape(text: &str) -> Option<&str>
+    ensures { option_map (λ r. chars r.now) result ≡ after_escape (chars text.now) }
 {
     let Some((_, rest)) = split_first(text) else {
         return None;
     };
-    strip(behind_run(rest, Class::Escape), '\'')
+    strip(after_run(rest, Class::Escape), '\'')
 }
 
 /// Returns the rest after a character literal, from after its first apostrophe on, or `None` if
 /// there is none.
-pub fn behind_char(text: &str) -> Option<&str>
-    ensures { option_map (λ r. chars r.now) result ≡ behind_char (chars text.now) }
+pub fn after_char(text: &str) -> Option<&str>
+    ensures { option_map (λ r. chars r.now) result ≡ after_char (chars text.now) }
 {
     let Some((c, rest)) = split_first(text) else {
         return None;
     };
     if c == '\\' {
-        return behind_escape(rest);
+        return after_escape(rest);
     }
     if is_char_content(c) {
         return strip(rest, '\'');
@@ -79,21 +79,21 @@ fn unless_apostrophe(text: &str) -> Option<&str>
 }
 
 /// Returns the rest after a word that no apostrophe follows, or `None`.
-pub fn behind_name(text: &str) -> Option<&str>
-    ensures { option_map (λ r. chars r.now) result ≡ behind_name (chars text.now) }
+pub fn after_name(text: &str) -> Option<&str>
+    ensures { option_map (λ r. chars r.now) result ≡ after_name (chars text.now) }
 {
     let Some((c, rest)) = split_first(text) else {
         return None;
     };
     if is_id_start(c) {
-        return unless_apostrophe(behind_run(rest, Class::Continue));
+        return unless_apostrophe(after_run(rest, Class::Continue));
     }
     None
 }
 
 /// Returns the rest after `r#` and a word that no apostrophe follows, or `None`.
-pub fn behind_raw_name(text: &str) -> Option<&str>
-    ensures { option_map (λ r. chars r.now) result ≡ behind_raw_name (chars text.now) }
+pub fn after_raw_name(text: &str) -> Option<&str>
+    ensures { option_map (λ r. chars r.now) result ≡ after_raw_name (chars text.now) }
 {
     let Some((c, rest)) = split_first(text) else {
         return None;
@@ -102,7 +102,7 @@ pub fn behind_raw_name(text: &str) -> Option<&str>
         return None;
     };
     if c == 'r' && d == '#' {
-        return behind_name(more);
+        return after_name(more);
     }
     None
 }

@@ -1,19 +1,19 @@
 //! Numbers, from after their first digit on.
 
 ghost use Rattle.std.specs.Prelude.{◌≡◌, chars, option_map};
-ghost use Rattle.rust_tokens.specs.First.{behind_fraction, exponent_or, first_decimal};
+ghost use Rattle.rust_tokens.specs.First.{after_fraction, exponent_or, first_decimal};
 ghost use Rattle.rust_tokens.specs.First.{first_number, first_zero, fraction_or};
-ghost use Rattle.rust_tokens.specs.Numbers.{behind_digits, behind_exponent, behind_point};
-ghost use Rattle.rust_tokens.specs.Numbers.{behind_sign};
+ghost use Rattle.rust_tokens.specs.Numbers.{after_digits, after_exponent, after_point};
+ghost use Rattle.rust_tokens.specs.Numbers.{after_sign};
 ghost use Rattle.rust_tokens.specs.Seen.{seen};
 
 use crate::bodies::{Body, ended_token};
 use crate::kinds::Kind;
-use crate::texts::{Class, begins, behind_run, split_first};
+use crate::texts::{Class, after_run, begins, split_first};
 
 /// Returns the rest after a sign, or the text if it begins with none.
-fn behind_sign(text: &str) -> &str
-    ensures { chars result.now ≡ behind_sign (chars text.now) }
+fn after_sign(text: &str) -> &str
+    ensures { chars result.now ≡ after_sign (chars text.now) }
 {
     match split_first(text) {
         Some((c, rest)) => { if c == '+' || c == '-' { rest } else { text } }
@@ -22,32 +22,32 @@ fn behind_sign(text: &str) -> &str
 }
 
 /// Returns the rest after digits, or `None` if the text begins with none.
-fn behind_digits(text: &str) -> Option<&str>
-    ensures { option_map (λ r. chars r.now) result ≡ behind_digits (chars text.now) }
+fn after_digits(text: &str) -> Option<&str>
+    ensures { option_map (λ r. chars r.now) result ≡ after_digits (chars text.now) }
 {
     if begins(text, Class::Digit) {
-        Some(behind_run(text, Class::DigitPart))
+        Some(after_run(text, Class::DigitPart))
     } else {
         None
     }
 }
 
 /// Returns the rest after an exponent, or `None` if the text begins with none.
-fn behind_exponent(text: &str) -> Option<&str>
-    ensures { option_map (λ r. chars r.now) result ≡ behind_exponent (chars text.now) }
+fn after_exponent(text: &str) -> Option<&str>
+    ensures { option_map (λ r. chars r.now) result ≡ after_exponent (chars text.now) }
 {
     let Some((c, rest)) = split_first(text) else {
         return None;
     };
     if c == 'e' || c == 'E' {
-        return behind_digits(behind_run(behind_sign(rest), Class::Underscore));
+        return after_digits(after_run(after_sign(rest), Class::Underscore));
     }
     None
 }
 
 /// Returns the rest after a point that belongs to the number before it, or `None`.
-fn behind_point(text: &str) -> Option<&str>
-    ensures { option_map (λ r. chars r.now) result ≡ behind_point (chars text.now) }
+fn after_point(text: &str) -> Option<&str>
+    ensures { option_map (λ r. chars r.now) result ≡ after_point (chars text.now) }
 {
     let Some((c, rest)) = split_first(text) else {
         return None;
@@ -72,12 +72,12 @@ fn exponent_or<'a>(kind: Kind, rest: &'a str, exponent: Option<&'a str>) -> Body
 }
 
 /// Returns a number, from after its point on.
-fn behind_fraction(text: &str) -> Body<'_>
-    ensures { seen result ≡ behind_fraction (chars text.now) }
+fn after_fraction(text: &str) -> Body<'_>
+    ensures { seen result ≡ after_fraction (chars text.now) }
 {
     if begins(text, Class::Digit) {
-        let rest = behind_run(text, Class::DigitPart);
-        return exponent_or(Kind::Float, rest, behind_exponent(rest));
+        let rest = after_run(text, Class::DigitPart);
+        return exponent_or(Kind::Float, rest, after_exponent(rest));
     }
     ended_token(Kind::Float, text)
 }
@@ -86,10 +86,10 @@ fn behind_fraction(text: &str) -> Body<'_>
 fn first_decimal(text: &str) -> Body<'_>
     ensures { seen result ≡ first_decimal (chars text.now) }
 {
-    let rest = behind_run(text, Class::DigitPart);
-    match behind_point(rest) {
-        Some(fraction) => behind_fraction(fraction),
-        None => exponent_or(Kind::DecimalInt, rest, behind_exponent(rest)),
+    let rest = after_run(text, Class::DigitPart);
+    match after_point(rest) {
+        Some(fraction) => after_fraction(fraction),
+        None => exponent_or(Kind::DecimalInt, rest, after_exponent(rest)),
     }
 }
 
@@ -102,15 +102,15 @@ fn first_zero(text: &str) -> Body<'_>
     };
     match c {
         'b' => {
-            let rest = behind_run(rest, Class::DigitPart);
+            let rest = after_run(rest, Class::DigitPart);
             ended_token(Kind::BinaryInt, rest)
         }
         'o' => {
-            let rest = behind_run(rest, Class::DigitPart);
+            let rest = after_run(rest, Class::DigitPart);
             ended_token(Kind::OctalInt, rest)
         }
         'x' => {
-            let rest = behind_run(rest, Class::HexPart);
+            let rest = after_run(rest, Class::HexPart);
             ended_token(Kind::HexadecimalInt, rest)
         }
         _ => first_decimal(text),

@@ -6,7 +6,7 @@ ghost use Rattle.rust_tokens.specs.Openings.{byte_opening, c_opening, first_open
 ghost use Rattle.rust_tokens.specs.Openings.{word_opening};
 
 use crate::kinds::Kind;
-use crate::texts::{Class, behind_run, count_hashes, is_id_start, split_first, strip};
+use crate::texts::{Class, after_run, count_hashes, is_id_start, split_first, strip};
 
 /// The opening of a token.
 #[derive(Clone, Copy)]
@@ -26,7 +26,7 @@ pub enum Opening {
 fn raw_opening(kind: Kind, text: &str) -> Option<(Opening, &str)>
     ensures { option_map (λ x. (x.0, chars x.1.now)) result ≡ raw_opening kind (chars text.now) }
 {
-    match strip(behind_run(text, Class::Hash), '"') {
+    match strip(after_run(text, Class::Hash), '"') {
         Some(rest) => Some((Opening::Raw(kind, count_hashes(text)), rest)),
         None => None,
     }

@@ -4,7 +4,7 @@ ghost use Rattle.std.specs.Prelude.{◌≡◌, ◌<◌, IfSome, IsCharBoundary, 
 ghost use Rattle.std.specs.Prelude.{length, option_map, slice_index};
 ghost use Rattle.rust_tokens.specs.Bytes.{is_ascii_in};
 ghost use Rattle.rust_tokens.specs.Classes.{passes};
-ghost use Rattle.rust_tokens.specs.Runs.{behind, count, first_passes, is_digit_part, is_hash};
+ghost use Rattle.rust_tokens.specs.Runs.{rest_after, count, first_passes, is_digit_part, is_hash};
 ghost use Rattle.rust_tokens.specs.Runs.{is_hex_part, is_id_start, is_punct, is_space};
 ghost use Rattle.rust_tokens.specs.Characters.{is_char_content};
 ghost use Rattle.rust_tokens.specs.Texts.{split_first, strip};
@@ -160,8 +160,8 @@ pub fn begins(text: &str, class: Class) -> bool
 /// Returns the rest after the longest front of the text whose characters are in the class, which
 /// need not be ASCII.
 #[inline(always)]
-fn behind_wide_run(text: &str, class: Class) -> &str
-    ensures { chars result.now ≡ behind (passes class) (chars text.now) }
+fn after_wide_run(text: &str, class: Class) -> &str
+    ensures { chars result.now ≡ rest_after (passes class) (chars text.now) }
 {
     let mut rest = text;
     while let Some((c, more)) = split_first(rest) {
@@ -177,8 +177,8 @@ fn behind_wide_run(text: &str, class: Class) -> &str
 #[inline(always)]
 fn ascii_width(text: &str, class: Class) -> usize
     ensures at { IsCharBoundary text.now result }
-    ensures same { behind (passes class) (chars (drop result text.now))
-        ≡ behind (passes class) (chars text.now) }
+    ensures same { rest_after (passes class) (chars (drop result text.now))
+        ≡ rest_after (passes class) (chars text.now) }
     ensures next { result < length text.now
         → is_ascii_in (passes class) (slice_index text.now result) ≡ false }
 {
@@ -202,8 +202,8 @@ fn is_wide(bytes: &[u8], at: usize) -> bool
 /// Returns the rest after the longest front of the text whose characters are in the class, or
 /// `None` if a character that is not ASCII comes in it or after it.
 #[inline(always)]
-pub fn behind_ascii_run(text: &str, class: Class) -> Option<&str>
-    ensures { IfSome result (λ r. chars r.now ≡ behind (passes class) (chars text.now)) }
+pub fn after_ascii_run(text: &str, class: Class) -> Option<&str>
+    ensures { IfSome result (λ r. chars r.now ≡ rest_after (passes class) (chars text.now)) }
 {
     let width = ascii_width(text, class);
     if is_wide(text.as_bytes(), width) {
@@ -214,12 +214,12 @@ pub fn behind_ascii_run(text: &str, class: Class) -> Option<&str>
 
 /// Returns the rest after the longest front of the text whose characters are in the class.
 #[inline(always)]
-pub fn behind_run(text: &str, class: Class) -> &str
-    ensures { chars result.now ≡ behind (passes class) (chars text.now) }
+pub fn after_run(text: &str, class: Class) -> &str
+    ensures { chars result.now ≡ rest_after (passes class) (chars text.now) }
 {
-    match behind_ascii_run(text, class) {
+    match after_ascii_run(text, class) {
         Some(rest) => rest,
-        None => behind_wide_run(text, class),
+        None => after_wide_run(text, class),
     }
 }
 

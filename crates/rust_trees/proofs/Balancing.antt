@@ -38,7 +38,7 @@ pub none-is : (o : Option BreakAt) → false ≡ is_some o → o ≡ None
 none-is None e = refl
 none-is (Some b) e = absurd cc
 
--- Tokens that break do so with more behind them.
+-- Tokens that break do so with more after them.
 pub known-broken : (w : List Leaf) (x : Leaf) (os : List Opening) (o : Option BreakAt)
     → true ≡ is_some o → IsKnownTo w os o → IsKnownTo (w ++ x ∷ []) os o
 known-broken w x os None e h = absurd cc

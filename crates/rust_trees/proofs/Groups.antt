@@ -66,7 +66,7 @@ joins-more old cur new front xs x step h = (
   λ ls l. subst (AreLeft old) (sym (append_assoc h.0 (x ∷ []) ls)) (h.2 (x ∷ ls) (step ls l)),
 )
 
--- Tokens are a group where the last one closes and no delimiter is open behind it.
+-- Tokens are a group where the last one closes and no delimiter is open after it.
 pub group : (w : List Leaf) (x : Leaf) (d : Delimiter) (m : Matching) → side x ≡ Closes d
     → IsMatched (w ++ x ∷ []) m → m.openings.items ≡ [] → IsGroup (w ++ x ∷ [])
 group w x d m c h e =
@@ -81,7 +81,7 @@ group w x d m c h e =
       keeps = λ ys i j p l. keeps-pairs (w ++ x ∷ []) ys i j sealed p l;
     }
 
--- A pair behind other tokens, and without them.
+-- A pair after other tokens, and without them.
 pub pair-shift : (f xs : List Leaf) (i j : ℕ) → IsPair xs i j
     → IsPair (f ++ xs) (length f + i) (length f + j)
 pair-shift f xs i j p =
@@ -118,7 +118,7 @@ pair-unshift f xs i j p =
       is_forest = p.is_forest;
     }
 
--- A pair without tokens behind it.
+-- A pair without tokens after it.
 pub pair-less : (xs ys : List Leaf) (i j : ℕ) → IsPair (xs ++ ys) i j → j < length xs
     → IsPair xs i j
 pair-less xs ys i j p h =

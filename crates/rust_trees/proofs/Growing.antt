@@ -11,7 +11,7 @@ use Rattle.rust_trees.specs.Forests.{IsForest, IsPair, ArePartners, Pairs}
 use Rattle.rust_trees.proofs.Lists.{at-end, length-at}
 use Rattle.rust_trees.proofs.Scanning.{scan-append, scan-none, scan-forest, below}
 
--- Behind an opening delimiter within a forest the tokens break.
+-- After an opening delimiter within a forest the tokens break.
 pub dead-inside : (g v : List Leaf) (a : Leaf) (d : Delimiter)
     → scan (Some []) (g ++ a ∷ v) ≡ Some [] → side a ≡ Opens d → scan (Some []) v ≡ None
 dead-inside g v a d h o = by_front (scan (Some []) g) refl
@@ -107,7 +107,7 @@ pair-parts w x i j p = by_end (at-end (p.before ++ p.opening ∷ p.inside) p.aft
       is_forest = p.is_forest;
     })
 
--- Within the tokens both are, and behind the first one they break.
+-- Within the tokens both are, and after the first one they break.
 pub pair-within : (w : List Leaf) (i j : ℕ) → IsPair w i j → (i < length w) × (j < length w)
 pair-within w i j p =
     let n = ap (λ t. length t) p.joins

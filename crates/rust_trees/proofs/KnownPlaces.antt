@@ -10,18 +10,18 @@ use Rattle.rust_tokens.specs.Texts.{Text}
 use Rattle.rust_tokens.specs.Runs.{first_passes}
 use Rattle.rust_trees.specs.declared.places.Place.{Place}
 use Rattle.rust_trees.specs.declared.places.Known.{Known}
-use Rattle.rust_trees.specs.Places.{behind_char, is_lf, place_after, place_between, place_of, start}
+use Rattle.rust_trees.specs.Places.{after_char, is_lf, place_after, place_between, place_of, start}
 use Rattle.rust_trees.specs.Places.{without_mark, IsKnown}
 use Rattle.rust_trees.proofs.PlaceSteps.{grows}
 
--- The place behind two texts, one after the other.
+-- The place after two texts, one after the other.
 place-append : (p : Place) (a b back : Text)
     → place_after p (a ++ b) back ≡ place_after (place_after p a (b ++ back)) b back
 place-append p [] b back = refl
 place-append p (c ∷ a) b back =
-    ap (λ t. place_after (behind_char p c (first_passes is_lf t)) (a ++ b) back)
+    ap (λ t. place_after (after_char p c (first_passes is_lf t)) (a ++ b) back)
     (append_assoc a b back)
-    ∙ place-append (behind_char p c (first_passes is_lf (a ++ (b ++ back)))) a b back
+    ∙ place-append (after_char p c (first_passes is_lf (a ++ (b ++ back)))) a b back
 
 mark-append : (c : ℕ) (a b : Text)
     → without_mark ((c ∷ a) ++ b) ≡ without_mark (c ∷ a) ++ b
@@ -44,7 +44,7 @@ bounded : (p : Place) (a back : Text) → ((place_after p a back).line ≤ p.lin
     × ((place_after p a back).column ≤ p.column + length a)
 bounded p [] back = (omega arith, omega arith)
 bounded p (c ∷ a) back =
-    let q = behind_char p c (first_passes is_lf (a ++ back)) in
+    let q = after_char p c (first_passes is_lf (a ++ back)) in
     let g = grows p c (first_passes is_lf (a ++ back)) in
     let h = bounded q a back in
     (omega (arith, g.0, h.0), omega (arith, g.1, h.1))
@@ -69,7 +69,7 @@ some-char bs u h =
     some [] h = absurd (omega (arith, h))
     some (c ∷ t) h = omega arith
 
--- The two parts of a text in front of an offset, and what is behind the first one.
+-- The two parts of a text in front of an offset, and what is after the first one.
 parts : (bs : List ℕ) (k n : ℕ) → k ≤ n
     → (take n bs ≡ take k bs ++ take (n - k) (drop k bs))
     × (drop k bs ≡ take (n - k) (drop k bs) ++ drop n bs)
@@ -86,7 +86,7 @@ parts bs k n h =
     (front, back)
 
 -- The place of an offset, from a place that is known before it: these are the text between the two
--- and what is behind it.
+-- and what is after it.
 pub from-known : (bs : List ℕ) (k : Known) (n : ℕ) (middle back : List ℕ) → IsUtf8 bs
     → IsKnown bs k → k.offset ≤ n → middle ≡ take (n - k.offset) (drop k.offset bs)
     → back ≡ drop n bs → IsUtf8 middle
@@ -95,7 +95,7 @@ from-known bs k n middle back u known h m e v =
     let p = parts bs k.offset n h in
     let w = IsUtf8-take bs k.offset u known.boundary in
     let some = some-char (take k.offset bs) w
-    (rw (length-take-le k.offset bs known.boundary.0) known.is_behind) in
+    (rw (length-take-le k.offset bs known.boundary.0) known.is_after) in
     let front = p.0 ∙ ap (λ t. take k.offset bs ++ t) (sym m) in
     let rest = p.1 ∙ (ap (λ t. t ++ drop n bs) (sym m) ∙ ap (λ t. middle ++ t) (sym e)) in
     sym (ap (λ t. place_between (chars t) (chars (drop n bs))) front
@@ -116,7 +116,7 @@ to-known bs k u b h within e =
     let l = length-take-le k.offset bs within in
     let n = bounded start (without_mark (chars (take k.offset bs))) (chars (drop k.offset bs)) in
     record {
-      is_behind = h;
+      is_after = h;
       boundary = b;
       place = e;
       line = rw e (omega (arith, s, c, l, n.0));

@@ -23,41 +23,41 @@ use Rattle.rust_tokens.specs.Placed.{byte_length, end_of, end_of_all, token_at}
 use Rattle.rust_tokens.proofs.Readings.{byte-length}
 use Rattle.rust_trees.specs.Leaves.{AreLeft, Leaf, leaf_at, leaves, is_leaf, is_some_text}
 
--- A text is cut behind its first token.
-pub record Cut (rest behind : List ℕ) (x : Lexeme) : Type 0 where
-  pub joins : rest ≡ encode_utf8_all (x.body ++ x.suffix) ++ behind
+-- A text is cut after its first token.
+pub record Cut (rest rest_after : List ℕ) (x : Lexeme) : Type 0 where
+  pub joins : rest ≡ encode_utf8_all (x.body ++ x.suffix) ++ rest_after
   pub size : length (encode_utf8_all (x.body ++ x.suffix)) ≡ end_of 0 x
 
-cut : (rest behind : List ℕ) (x : Lexeme) → IsUtf8 rest → IsUtf8 behind
-    → Begins x (chars rest) (chars behind) → Cut rest behind x
-cut rest behind x u v b =
-    let e : chars rest ≡ (x.body ++ x.suffix) ++ chars behind =
-    b.joins ∙ sym (append_assoc x.body x.suffix (chars behind)) in
+cut : (rest rest_after : List ℕ) (x : Lexeme) → IsUtf8 rest → IsUtf8 rest_after
+    → Begins x (chars rest) (chars rest_after) → Cut rest rest_after x
+cut rest rest_after x u v b =
+    let e : chars rest ≡ (x.body ++ x.suffix) ++ chars rest_after =
+    b.joins ∙ sym (append_assoc x.body x.suffix (chars rest_after)) in
     let n = ap (λ t. length t) (encodes-append x.body x.suffix)
     ∙ length-append (encode_utf8_all x.body) (encode_utf8_all x.suffix) in
     let l = byte-length x.body in
     let m = byte-length x.suffix in record {
       joins = sym (encodes-chars rest u) ∙ (ap (λ t. encode_utf8_all t) e
-          ∙ (encodes-append (x.body ++ x.suffix) (chars behind)
-          ∙ ap (λ t. encode_utf8_all (x.body ++ x.suffix) ++ t) (encodes-chars behind v)));
+          ∙ (encodes-append (x.body ++ x.suffix) (chars rest_after)
+          ∙ ap (λ t. encode_utf8_all (x.body ++ x.suffix) ++ t) (encodes-chars rest_after v)));
       size = omega (arith, n, l, m);
     }
 
-pub cut-boundary : (rest behind : List ℕ) (x : Lexeme) → IsUtf8 rest → IsUtf8 behind
-    → Begins x (chars rest) (chars behind) → IsCharBoundary rest (end_of 0 x)
-cut-boundary rest behind x u v b =
-    let c = cut rest behind x u v b in
+pub cut-boundary : (rest rest_after : List ℕ) (x : Lexeme) → IsUtf8 rest → IsUtf8 rest_after
+    → Begins x (chars rest) (chars rest_after) → IsCharBoundary rest (end_of 0 x)
+cut-boundary rest rest_after x u v b =
+    let c = cut rest rest_after x u v b in
     subst (λ n. IsCharBoundary rest n) c.size
-    (IsCharBoundary-at_seam rest _ behind c.joins v)
+    (IsCharBoundary-at_seam rest _ rest_after c.joins v)
 
-cut-front : (rest behind : List ℕ) (x : Lexeme) → IsUtf8 rest → IsUtf8 behind
-    → Begins x (chars rest) (chars behind)
+cut-front : (rest rest_after : List ℕ) (x : Lexeme) → IsUtf8 rest → IsUtf8 rest_after
+    → Begins x (chars rest) (chars rest_after)
     → take (end_of 0 x) rest ≡ encode_utf8_all (x.body ++ x.suffix)
-cut-front rest behind x u v b =
-    let c = cut rest behind x u v b in
+cut-front rest rest_after x u v b =
+    let c = cut rest rest_after x u v b in
     ap (λ n. take n rest) (sym c.size)
     ∙ (ap (λ t. take (length (encode_utf8_all (x.body ++ x.suffix))) t) c.joins
-    ∙ take-append_seam (encode_utf8_all (x.body ++ x.suffix)) behind)
+    ∙ take-append_seam (encode_utf8_all (x.body ++ x.suffix)) rest_after)
 
 head-no-leaf : (k : Kind) (e : Bool) → is_head k ≡ true → is_leaf k e ≡ false
 head-no-leaf Shebang e h = refl
@@ -72,16 +72,16 @@ leaves-heads at (x ∷ xs) h =
     ap (λ b. if b then leaf_at at x ∷ leaves (end_of at x) xs else leaves (end_of at x) xs)
     (head-no-leaf x.kind x.is_ended p.0) ∙ leaves-heads (end_of at x) xs p.1
 
-leaves-behind : (at : ℕ) (xs ys : List Lexeme) → IsTrue (list_all (λ x. is_head x.kind) xs)
+leaves-rest_after : (at : ℕ) (xs ys : List Lexeme) → IsTrue (list_all (λ x. is_head x.kind) xs)
     → leaves at (xs ++ ys) ≡ leaves (end_of_all at xs) ys
-leaves-behind at [] ys h = refl
-leaves-behind at (x ∷ xs) ys h =
+leaves-rest_after at [] ys h = refl
+leaves-rest_after at (x ∷ xs) ys h =
     let p = and_parts _ _ h in
     ap (λ b. if b then leaf_at at x ∷ leaves (end_of at x) (xs ++ ys)
     else leaves (end_of at x) (xs ++ ys)) (head-no-leaf x.kind x.is_ended p.0)
-    ∙ leaves-behind (end_of at x) xs ys p.1
+    ∙ leaves-rest_after (end_of at x) xs ys p.1
 
--- What is left of a file behind its head are its tokens.
+-- What is left of a file after its head are its tokens.
 pub left-all : (whole rest : List ℕ) (hs : List Lexeme)
     → IsTrue (list_all (λ x. is_head x.kind) hs)
     → ((rs : List Lexeme) → Reads (chars rest) rs → ReadsFile (chars whole) (hs ++ rs))
@@ -90,45 +90,46 @@ pub left-all : (whole rest : List ℕ) (hs : List Lexeme)
     → (xs : List Lexeme) × ReadsFile (chars whole) xs × (ls ≡ leaves 0 xs)
 left-all whole rest hs h j e ls l =
     let at : length whole - length rest ≡ end_of_all 0 hs = omega (arith, e) in
-    (hs ++ l.0, j l.0 l.1, l.2 ∙ (ap (λ n. leaves n l.0) at ∙ sym (leaves-behind 0 hs l.0 h)))
+    (hs ++ l.0, j l.0 l.1, l.2 ∙ (ap (λ n. leaves n l.0) at ∙ sym (leaves-rest_after 0 hs l.0 h)))
 
 -- Where what is left begins after its first token.
-next-at : (whole rest behind : List ℕ) (x : Lexeme) → IsUtf8 rest → IsUtf8 behind
-    → Begins x (chars rest) (chars behind) → length rest ≤ length whole
-    → end_of (length whole - length rest) x ≡ length whole - length behind
-next-at whole rest behind x u v b h =
-    let c = cut rest behind x u v b in
+next-at : (whole rest rest_after : List ℕ) (x : Lexeme) → IsUtf8 rest → IsUtf8 rest_after
+    → Begins x (chars rest) (chars rest_after) → length rest ≤ length whole
+    → end_of (length whole - length rest) x ≡ length whole - length rest_after
+next-at whole rest rest_after x u v b h =
+    let c = cut rest rest_after x u v b in
     let l = ap (λ t. length t) c.joins
-    ∙ length-append (encode_utf8_all (x.body ++ x.suffix)) behind in
+    ∙ length-append (encode_utf8_all (x.body ++ x.suffix)) rest_after in
     let s = c.size in omega (arith, l, s, h)
 
 -- A token that is no leaf changes nothing of what is left.
-pub left-behind : (whole rest behind : List ℕ) (x : Lexeme) → IsUtf8 rest → IsUtf8 behind
-    → Begins x (chars rest) (chars behind) → length rest ≤ length whole
+pub left-rest_after : (whole rest rest_after : List ℕ) (x : Lexeme) → IsUtf8 rest
+    → IsUtf8 rest_after
+    → Begins x (chars rest) (chars rest_after) → length rest ≤ length whole
     → is_leaf x.kind x.is_ended ≡ false → (ls : List Leaf)
-    → AreLeft (record { whole = whole; rest = behind }) ls
+    → AreLeft (record { whole = whole; rest = rest_after }) ls
     → AreLeft (record { whole = whole; rest = rest }) ls
-left-behind whole rest behind x u v b h e ls l = (
+left-rest_after whole rest rest_after x u v b h e ls l = (
   x ∷ l.0,
-  (chars behind, b, l.1),
-  l.2 ∙ (ap (λ n. leaves n l.0) (sym (next-at whole rest behind x u v b h))
+  (chars rest_after, b, l.1),
+  l.2 ∙ (ap (λ n. leaves n l.0) (sym (next-at whole rest rest_after x u v b h))
       ∙ sym (ap (λ t. if t then leaf_at (length whole - length rest) x
       ∷ leaves (end_of (length whole - length rest) x) l.0
       else leaves (end_of (length whole - length rest) x) l.0) e)),
 )
 
 -- A token that is a leaf is the first of what is left.
-pub left-more : (whole rest behind : List ℕ) (x : Lexeme) → IsUtf8 rest → IsUtf8 behind
-    → Begins x (chars rest) (chars behind) → length rest ≤ length whole
+pub left-more : (whole rest rest_after : List ℕ) (x : Lexeme) → IsUtf8 rest → IsUtf8 rest_after
+    → Begins x (chars rest) (chars rest_after) → length rest ≤ length whole
     → is_leaf x.kind x.is_ended ≡ true → (ls : List Leaf)
-    → AreLeft (record { whole = whole; rest = behind }) ls
+    → AreLeft (record { whole = whole; rest = rest_after }) ls
     → AreLeft (record { whole = whole; rest = rest })
     (leaf_at (length whole - length rest) x ∷ ls)
-left-more whole rest behind x u v b h e ls l = (
+left-more whole rest rest_after x u v b h e ls l = (
   x ∷ l.0,
-  (chars behind, b, l.1),
+  (chars rest_after, b, l.1),
   ap (λ t. leaf_at (length whole - length rest) x ∷ t)
-      (l.2 ∙ ap (λ n. leaves n l.0) (sym (next-at whole rest behind x u v b h)))
+      (l.2 ∙ ap (λ n. leaves n l.0) (sym (next-at whole rest rest_after x u v b h)))
       ∙ sym (ap (λ t. if t then leaf_at (length whole - length rest) x
       ∷ leaves (end_of (length whole - length rest) x) l.0
       else leaves (end_of (length whole - length rest) x) l.0) e),
@@ -148,8 +149,8 @@ suffix-test n (c ∷ t) =
     search (arith, more)
 
 -- The token as it is kept.
-pub leaf-of : (t : Token) (x : Lexeme) (front rest behind : List ℕ) (at : ℕ) → IsUtf8 rest
-    → IsUtf8 behind → Begins x (chars rest) (chars behind) → t ≡ token_at 0 x
+pub leaf-of : (t : Token) (x : Lexeme) (front rest rest_after : List ℕ) (at : ℕ) → IsUtf8 rest
+    → IsUtf8 rest_after → Begins x (chars rest) (chars rest_after) → t ≡ token_at 0 x
     → front ≡ take t.span.end rest
     → ◌≡◌ {A = Leaf} (record {
       kind = t.kind;
@@ -158,9 +159,9 @@ pub leaf-of : (t : Token) (x : Lexeme) (front rest behind : List ℕ) (at : ℕ)
       text = front;
       start = at;
     }) (leaf_at at x)
-leaf-of t x front rest behind at u v b e f =
+leaf-of t x front rest rest_after at u v b e f =
     let text : front ≡ encode_utf8_all (x.body ++ x.suffix) =
-    f ∙ (ap (λ s. take s.span.end rest) e ∙ cut-front rest behind x u v b) in
+    f ∙ (ap (λ s. take s.span.end rest) e ∙ cut-front rest rest_after x u v b) in
     let suffix : nat_lt t.suffix_start t.span.end ≡ is_some_text x.suffix =
     ap (λ s. nat_lt s.suffix_start s.span.end) e
     ∙ suffix-test (0 + byte_length x.body) x.suffix in

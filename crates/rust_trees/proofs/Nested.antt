@@ -5,7 +5,7 @@ use Rattle.std.proofs.lemmas.Option.{none-some}
 use Rattle.rust_trees.specs.Leaves.{Leaf}
 use Rattle.rust_trees.specs.Scans.{scan}
 use Rattle.rust_trees.specs.Forests.{IsPair}
-use Rattle.rust_trees.proofs.Lists.{Order, Front, Same, Behind, order, length-at}
+use Rattle.rust_trees.proofs.Lists.{Order, Front, Same, After, order, length-at}
 use Rattle.rust_trees.proofs.Scanning.{scan-forest, stays-broken}
 use Rattle.rust_trees.proofs.Growing.{dead-inside}
 
@@ -25,7 +25,7 @@ nested xs o c i j p q h k =
         ∙ dead-inside r s q.opening q.pairs.0
         (ap (λ v. scan (Some []) v) (sym e) ∙ scan-forest p.inside p.is_forest) q.pairs.1)
         ∙ scan-forest q.inside q.is_forest))
-    by_closing r s e l (Behind t f g) =
+    by_closing r s e l (After t f g) =
         let n = ap (λ v. length v) f ∙ length-at q.inside t q.closing in
         let m = ap (λ v. length v) e ∙ length-at r s q.opening in
         omega (arith, n, m, l, p.ends, q.ends)
@@ -40,7 +40,7 @@ nested xs o c i j p q h k =
         let n = ap (λ v. length v) e ∙ length-at p.before r p.opening in
         let l = ap (λ v. length v) f in
         absurd (omega (arith, n, l, p.starts, p.ends, q.starts, k))
-    by_place r e (Behind t f g) =
+    by_place r e (After t f g) =
         let n = ap (λ v. length v) e ∙ length-at p.before r p.opening in
         by_closing r t f (omega (arith, n, p.starts, q.starts))
         (order t p.after p.closing q.inside q.after q.closing (sym g))
@@ -52,6 +52,6 @@ nested xs o c i j p q h k =
     by_opening (Same f g m) =
         let n = ap (λ v. length v) f in
         absurd (omega (arith, n, p.starts, q.starts, h))
-    by_opening (Behind r f g) =
+    by_opening (After r f g) =
         let n = ap (λ v. length v) f ∙ length-at q.before r q.opening in
         absurd (omega (arith, n, p.starts, q.starts, h))

@@ -11,7 +11,7 @@ use Rattle.rust_trees.specs.Leaves.{Leaf, side}
 use Rattle.rust_trees.specs.Scans.{scan}
 use Rattle.rust_trees.specs.Forests.{Forest, Empty, Token, Pair, spelling, IsWell, IsForest}
 use Rattle.rust_trees.specs.Breaks.{Breaks, IsFront, IsUnexpected, IsUnclosed}
-use Rattle.rust_trees.proofs.Lists.{Order, Front, Same, Behind, order, same-first, same-rest}
+use Rattle.rust_trees.proofs.Lists.{Order, Front, Same, After, order, same-first, same-rest}
 use Rattle.rust_trees.proofs.Lists.{no-cons}
 use Rattle.rust_trees.proofs.Scanning.{scan-forest}
 use Rattle.rust_trees.proofs.Growing.{dead-inside}
@@ -85,7 +85,7 @@ unexpected-no-front w k u f = u.breaks (front-front w (u.before ++ u.closing ∷
 forest-front : (w : List Leaf) → IsForest w → IsFront w
 forest-front w f = ([], subst (λ t. IsForest t) (sym (append-nil w)) f)
 
--- Behind the last delimiter that is open there is a forest, and so they are no forest.
+-- After the last delimiter that is open there is a forest, and so they are no forest.
 unclosed-no-forest : (w : List Leaf) (k : ℕ) → IsUnclosed w k → IsForest w → ⊥
 unclosed-no-forest w k u f = none-some [] (sym (dead-inside u.before u.after u.opening u.delimiter
     (ap (λ t. scan (Some []) t) (sym u.joins) ∙ scan-forest w f) u.opens)
@@ -99,7 +99,7 @@ one-unexpected w j k u v =
     by_order (Front r h m) = absurd (u.breaks (front-front v.before (u.before ++ u.closing ∷ []) r
         (h ∙ sym (append_assoc u.before (u.closing ∷ []) r)) v.is_front))
     by_order (Same f g h) = u.place ∙ (ap (λ t. length t) f ∙ sym v.place)
-    by_order (Behind r h m) = absurd (v.breaks (front-front u.before (v.before ++ v.closing ∷ []) r
+    by_order (After r h m) = absurd (v.breaks (front-front u.before (v.before ++ v.closing ∷ []) r
         (h ∙ sym (append_assoc v.before (v.closing ∷ []) r)) u.is_front))
 
 no-inner : {B : Type 0} (g v : List Leaf) (a : Leaf) (d : Delimiter) → IsForest (g ++ a ∷ v)
@@ -115,7 +115,7 @@ one-unclosed w j k u v =
     by_order (Front r h m) = no-inner r v.after v.opening v.delimiter
         (subst (λ t. IsForest t) m u.is_forest) v.opens v.is_forest
     by_order (Same f g h) = u.place ∙ (ap (λ t. length t) f ∙ sym v.place)
-    by_order (Behind r h m) = no-inner r u.after u.opening u.delimiter
+    by_order (After r h m) = no-inner r u.after u.opening u.delimiter
         (subst (λ t. IsForest t) m v.is_forest) u.opens u.is_forest
 
 pub one-break : (w : List Leaf) (a b : Option Break) → Breaks w a → Breaks w b → a ≡ b

@@ -7,7 +7,7 @@ use Rattle.std.proofs.lemmas.Bool.{cond_both}
 use Rattle.rust_tokens.specs.Texts.{Text, split_first}
 use Rattle.rust_tokens.specs.Runs.{first_passes}
 use Rattle.rust_trees.specs.declared.places.Place.{Place}
-use Rattle.rust_trees.specs.Places.{behind_char, is_lf, place_after}
+use Rattle.rust_trees.specs.Places.{after_char, is_lf, place_after}
 
 pub split-some : (t m : Text) (c : ℕ) → Some (c, m) ≡ split_first t → t ≡ c ∷ m
 split-some [] m c h = absurd (none-some (c, m) (sym h))
@@ -20,8 +20,8 @@ split-none [] h = refl
 split-none (d ∷ t) h = absurd (none-some (d, t) h)
 
 -- A line and a column grow by at most one, or a column starts again.
-pub grows : (p : Place) (c : ℕ) (b : Bool) → ((behind_char p c b).line ≤ p.line + 1)
-    × ((behind_char p c b).column ≤ p.column + 1)
+pub grows : (p : Place) (c : ℕ) (b : Bool) → ((after_char p c b).line ≤ p.line + 1)
+    × ((after_char p c b).column ≤ p.column + 1)
 grows p c b = cond_both {A = Place} (is_lf c) _ _
     (λ q. (q.line ≤ p.line + 1) × (q.column ≤ p.column + 1))
     (λ e. (omega arith, omega arith))
@@ -32,8 +32,8 @@ grows p c b = cond_both {A = Place} (is_lf c) _ _
 -- One step of the loop.
 pub reached-more : (p q : Place) (rest more back : Text) (c : ℕ) (b : Bool) (o : Place)
     → o ≡ place_after p rest back → rest ≡ c ∷ more → b ≡ first_passes is_lf (more ++ back)
-    → q ≡ behind_char p c b → o ≡ place_after q more back
+    → q ≡ after_char p c b → o ≡ place_after q more back
 reached-more p q rest more back c b o h e f g =
     h ∙ (ap (λ t. place_after p t back) e
-    ∙ (ap (λ t. place_after (behind_char p c t) more back) (sym f)
+    ∙ (ap (λ t. place_after (after_char p c t) more back) (sym f)
     ∙ ap (λ t. place_after t more back) (sym g)))

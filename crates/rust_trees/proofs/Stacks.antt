@@ -11,7 +11,7 @@ use Rattle.rust_trees.specs.Sides.{is_same}
 use Rattle.rust_trees.specs.Leaves.{Leaf, side}
 use Rattle.rust_trees.specs.Scans.{open_after, scan}
 use Rattle.rust_trees.specs.Matching.{Sealed, Alive}
-use Rattle.rust_trees.proofs.Lists.{Order, Front, Same, Behind, order, at-end}
+use Rattle.rust_trees.proofs.Lists.{Order, Front, Same, After, order, at-end}
 use Rattle.rust_trees.proofs.Scanning.{scan-append, stays-broken, below, closes-top}
 use Rattle.rust_trees.proofs.Growing.{dead-inside}
 
@@ -25,7 +25,7 @@ no-open-close d e h = absurd (cc)
 pub no-close-neither : {B : Type 0} (d : Delimiter) → Closes d ≡ Neither → B
 no-close-neither d h = absurd (cc)
 
--- What becomes of an opening delimiter with v behind it: it is dead, it is the last that may be
+-- What becomes of an opening delimiter with v after it: it is dead, it is the last that may be
 -- closed, or it stands below that one.
 pub data Fate (os : List Opening) (u v : List Leaf) (d : Delimiter) : Type 0 where
   Dead : scan (Some []) v ≡ None → Fate os u v d
@@ -37,7 +37,7 @@ pub data Fate (os : List Opening) (u v : List Leaf) (d : Delimiter) : Type 0 whe
 same-opens : (d e : Delimiter) → Opens d ≡ Opens e → d ≡ e
 same-opens d e h = cc
 
--- Below an opening delimiter with a forest behind it.
+-- Below an opening delimiter with a forest after it.
 over-top : (r q : List Leaf) (b : Leaf) (d : Delimiter) (s : Option (List Delimiter))
     → scan (Some []) r ≡ s → side b ≡ Opens d → scan (Some []) q ≡ Some []
     → (scan (Some []) (r ++ b ∷ q) ≡ None)
@@ -66,21 +66,21 @@ fate (o ∷ os) w u v a d l e s = by_order (order u v a l.0 l.1 l.2 (sym e ∙ l
     by_order (Same f g h) = Top o os refl (ap (λ t. scan (Some []) t) h ∙ l.6)
         (l.4 ∙ ap (λ t. length t) (sym f))
         (same-opens o.delimiter d (sym l.5 ∙ (ap (λ t. side t) (sym g) ∙ s)))
-    by_order (Behind r f g) =
+    by_order (After r f g) =
         Dead (dead-inside r v a d (ap (λ t. scan (Some []) t) (sym g) ∙ l.6) s)
 
--- One more token behind tokens that break.
+-- One more token after tokens that break.
 broken-more : (v r : List Leaf) (x : Leaf) → v ≡ r ++ x ∷ [] → scan (Some []) r ≡ None
     → scan (Some []) v ≡ None
 broken-more v r x e h = ap (λ t. scan (Some []) t) e ∙ stays-broken (Some []) r (x ∷ []) h
 
--- One more token behind tokens that do not.
+-- One more token after tokens that do not.
 pub last-token : (v r : List Leaf) (x : Leaf) (o : Option (List Delimiter)) → v ≡ r ++ x ∷ []
     → scan (Some []) r ≡ o → scan (Some []) v ≡ open_after (side x) o
 last-token v r x o e h = ap (λ t. scan (Some []) t) e
     ∙ (scan-append (Some []) r (x ∷ []) ∙ ap (λ t. open_after (side x) t) h)
 
--- Tokens are sealed if behind each opening delimiter but the last token they break.
+-- Tokens are sealed if after each opening delimiter but the last token they break.
 pub seal : (w : List Leaf) (x : Leaf) → ((d : Delimiter) → side x ≡ Opens d → ⊥)
     → ((u v r : List Leaf) (a : Leaf) (d : Delimiter) → w ≡ u ++ a ∷ r → side a ≡ Opens d
     → v ≡ r ++ x ∷ [] → scan (Some []) v ≡ None) → Sealed (w ++ x ∷ [])
@@ -128,7 +128,7 @@ alive-close [] o w x s l = seal w x (λ d e. no-open-close d o.delimiter (sym e 
     by_order u v r a d t f (Same g h k) =
         last-token v r x (Some []) f (ap (λ q. scan (Some []) q) k ∙ l.6)
         ∙ ap (λ q. open_after q (Some [])) s
-    by_order u v r a d t f (Behind p g h) = broken-more v r x f
+    by_order u v r a d t f (After p g h) = broken-more v r x f
         (dead-inside p r a d (ap (λ q. scan (Some []) q) (sym h) ∙ l.6) t)
 alive-close (n ∷ os) o w x s l =
     let m = l.7 in (

@@ -66,7 +66,7 @@ abbrev pub BreaksAt : List Leaf → Option BreakAt → Type 0
 BreaksAt xs None = IsForest xs × AreEnded xs
 BreaksAt xs (Some b) = BreaksIn xs b.kind b.start
 
--- These openings may still be closed, the last one first: behind each there is a forest, and then
+-- These openings may still be closed, the last one first: after each there is a forest, and then
 -- the next.
 abbrev pub AreOpen : List Opening → List Leaf → Type 0
 AreOpen [] w = Unit {0}

@@ -13,15 +13,15 @@ abbrev pub is_lf : ℕ → Bool
 is_lf c = c == 10
 
 -- The place after a character at this place. The test says whether an LF follows.
-abbrev pub behind_char : Place → ℕ → Bool → Place
-behind_char p c b = if is_lf c then record { line = p.line + 1; column = 1 }
+abbrev pub after_char : Place → ℕ → Bool → Place
+after_char p c b = if is_lf c then record { line = p.line + 1; column = 1 }
     else (if c == 13 && b then p else record { line = p.line; column = p.column + 1 })
 
 -- The place after the text front at this place, where the text back follows.
 abbrev pub place_after : Place → Text → Text → Place
 place_after p [] back = p
 place_after p (c ∷ front) back =
-    place_after (behind_char p c (first_passes is_lf (front ++ back))) front back
+    place_after (after_char p c (first_passes is_lf (front ++ back))) front back
 
 -- The start of a file.
 abbrev pub start : Place
@@ -42,7 +42,7 @@ place_of bs n = place_between (chars (take n bs)) (chars (drop n bs))
 
 -- An offset that is not the start of a text, with its place.
 pub record IsKnown (bs : List ℕ) (k : Known) : Type 0 where
-  pub is_behind : 1 ≤ k.offset
+  pub is_after : 1 ≤ k.offset
   pub boundary : IsCharBoundary bs k.offset
   pub place : k.place ≡ place_of bs k.offset
   pub line : k.place.line ≤ k.offset + 1

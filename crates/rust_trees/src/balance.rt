@@ -1,4 +1,4 @@
-//! Whether tokens are a forest, told as they are read one after the other.
+//! Whether tokens are a forest, decided as they are read one after the other.
 
 ghost use Rattle.std.specs.Prelude.{◌≡◌, ◌++◌, ◌∷◌, [], List, None, OnOk, map, true};
 ghost use Rattle.rust_trees.specs.Balances.{BreaksAt, GoesOn, IsBalanced};

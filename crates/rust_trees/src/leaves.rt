@@ -7,7 +7,7 @@ ghost use Rattle.rust_tokens.specs.Tokens.{Lexeme};
 ghost use Rattle.rust_trees.specs.Leaves.{AreLeft, Leaf, is_leaf, leaf, leaves, side};
 
 use crate::sides::{Side, side_of};
-use rust_tokens::{Kind, behind_head, split_first_token};
+use rust_tokens::{Kind, after_head, split_first_token};
 use std::alloc::{AllocError, Global};
 use std::marker::Model;
 
@@ -63,7 +63,7 @@ fn split_first_leaf<'a>(text: &'a str, rest: &'a str) -> Option<(Token<'a>, &'a 
     ensures none { IsNone result → AreLeft (record { whole = text.now; rest = rest.now }) [] }
 {
     let mut left = rest;
-    while let Some((token, behind)) = split_first_token(left) {
+    while let Some((token, rest_after)) = split_first_token(left) {
         if is_leaf(token.kind, token.is_ended) {
             let leaf = Token {
                 kind: token.kind,
@@ -72,9 +72,9 @@ fn split_first_leaf<'a>(text: &'a str, rest: &'a str) -> Option<(Token<'a>, &'a 
                 text: &left[..token.span.end],
                 start: text.len() - left.len(),
             };
-            return Some((leaf, behind));
+            return Some((leaf, rest_after));
         }
-        left = behind;
+        left = rest_after;
     }
     None
 }
@@ -107,7 +107,7 @@ impl<'a> Tokens<'a> {
     {
         Tokens {
             text,
-            rest: behind_head(text),
+            rest: after_head(text),
         }
     }
 

@@ -4,7 +4,7 @@ ghost use Rattle.std.specs.Prelude.{◌≡◌, ◌+◌, ◌<◌, ◌≤◌, ◌^
 ghost use Rattle.std.specs.List.{All};
 ghost use Rattle.std.specs.Str.{IsCharBoundary};
 ghost use Rattle.rust_tokens.specs.Runs.{first_passes};
-ghost use Rattle.rust_trees.specs.Places.{IsKnown, behind_char, is_lf, place_after, place_of};
+ghost use Rattle.rust_trees.specs.Places.{IsKnown, after_char, is_lf, place_after, place_of};
 ghost use Rattle.rust_trees.specs.Places.{without_mark};
 
 use rust_tokens::split_first;
@@ -35,10 +35,10 @@ fn is_lf_next(text: &str, back: &str) -> bool
 }
 
 /// Returns the place after a character at this place, where an LF may follow.
-fn behind_char(place: Place, c: char, is_before_lf: bool) -> Place
+fn after_char(place: Place, c: char, is_before_lf: bool) -> Place
     requires line { place.line + 1 < 2 ^ 64 }
     requires column { place.column + 1 < 2 ^ 64 }
-    ensures { result ≡ behind_char place c is_before_lf }
+    ensures { result ≡ after_char place c is_before_lf }
 {
     if c == '\n' {
         Place {
@@ -64,7 +64,7 @@ pub fn place_after(place: Place, front: &str, back: &str) -> Place
     let mut reached = place;
     let mut rest = front;
     while let Some((c, more)) = split_first(rest) {
-        reached = behind_char(reached, c, is_lf_next(more, back));
+        reached = after_char(reached, c, is_lf_next(more, back));
         rest = more;
     }
     reached

@@ -1,7 +1,7 @@
 -- The characters that a cursor has given back, to be read again. Reading forward changes nothing
 -- here, so only the contracts of functions that may give a word back mention them.
 use Rattle.std.specs.Prelude.{ℕ, ◌+◌, ◌-◌, ◌≤◌, ◌||◌, Bool, length}
-use Rattle.rustc_parse_format.specs.Characters.{Text, is_id_start, is_id_continue, behind}
+use Rattle.rustc_parse_format.specs.Characters.{Text, is_id_start, is_id_continue, rest_after}
 
 pub record Back : Type 0 where
   -- The number of characters that the cursor went back over.
@@ -15,8 +15,8 @@ abbrev pub is_word_part : ℕ → Bool
 is_word_part c = is_id_start c || is_id_continue c
 
 -- The number of characters that are left after the part of a word at the start of t.
-abbrev pub behind_part : Text → ℕ
-behind_part t = length (behind is_word_part t)
+abbrev pub after_part : Text → ℕ
+after_part t = length (rest_after is_word_part t)
 
 -- The cursor, with t left, is at least as far as any point where it went back.
 abbrev pub IsFurthest : Text → Back → Type 0
@@ -26,7 +26,7 @@ IsFurthest t b = length t ≤ b.left
 -- Between the current position and that point are only characters of a word.
 pub record IsPaid (input rest : Text) (b : Back) : Type 0 where
   pub again : b.again + b.left ≤ length input
-  pub word : behind_part rest ≤ b.left
+  pub word : after_part rest ≤ b.left
 
 -- Nothing was given back of this input.
 abbrev pub nothing_back : Text → Back

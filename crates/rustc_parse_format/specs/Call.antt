@@ -4,8 +4,8 @@
 use Prim.Native.Char.{code}
 use Rattle.std.specs.Prelude.{◌≡◌, ℕ, suc, zero, ◌++◌, ◌==◌, if◌then◌else◌, List, [], ◌∷◌, length}
 use Rattle.std.specs.Prelude.{Option, Some, None}
-use Rattle.rustc_parse_format.specs.Characters.{Text, is_brace, is_no_brace, front, behind}
-use Rattle.rustc_parse_format.specs.Characters.{behind_white, first, behind_first, begins_with}
+use Rattle.rustc_parse_format.specs.Characters.{Text, is_brace, is_no_brace, front, rest_after}
+use Rattle.rustc_parse_format.specs.Characters.{after_white, first, after_first, begins_with}
 use Rattle.rustc_parse_format.specs.Types.{Mode, Spec, Piece, Lit, NextArgument}
 use Rattle.rustc_parse_format.specs.Marks.{Span, up_to, through, over_first, run_texts}
 use Rattle.rustc_parse_format.specs.Placeholder.{cut, Cut}
@@ -42,9 +42,9 @@ abbrev pub text_call : ℕ → Text → Text → Call
 text_call c l t = record {
   piece = Some (Lit (l ++ front is_no_brace t));
   faults = [];
-  rest = behind is_no_brace t;
+  rest = rest_after is_no_brace t;
   next = c;
-  texts = run_texts (front is_no_brace t) (behind is_no_brace t);
+  texts = run_texts (front is_no_brace t) (rest_after is_no_brace t);
   tries = [];
   closes = None;
 }
@@ -54,7 +54,7 @@ abbrev pub closed_call : Mode → ℕ → Text → Cut → Text → Call
 closed_call mode c opening a r = record {
   piece = Some (NextArgument (argument c a));
   faults = cut_faults mode a;
-  rest = behind_first r;
+  rest = after_first r;
   next = number_after_field c a.field;
   texts = spec_texts a.field.spec a.rest;
   tries = spec_tries a.field.spec a.rest;
@@ -81,7 +81,7 @@ unclosed_call mode c opening a r =
 unfoldable pub placeholder : Mode → ℕ → Text → Text → Call
 placeholder mode c opening t =
     let a = cut mode t in
-    let r = behind_white a.rest in
+    let r = after_white a.rest in
     if begins_with (code "}") r then closed_call mode c opening a r
     else unclosed_call mode c opening a r
 
@@ -114,7 +114,7 @@ unfoldable pub call : Mode → ℕ → Text → Call
 call mode c [] = end_call c
 call mode c (b ∷ t) =
     if is_brace b
-    then (if begins_with b t then text_call c (b ∷ []) (behind_first t) else
+    then (if begins_with b t then text_call c (b ∷ []) (after_first t) else
     (if b == code "{" then placeholder mode c (b ∷ t) t else unmatched_call c (b ∷ t) t))
     else text_call c [] (b ∷ t)
 

@@ -42,9 +42,9 @@ front p [] = []
 front p (c ∷ t) = if p c then c ∷ front p t else []
 
 -- The rest of a text after the longest prefix whose characters all pass the test p.
-abbrev pub behind : (ℕ → Bool) → Text → Text
-behind p [] = []
-behind p (c ∷ t) = if p c then behind p t else c ∷ t
+abbrev pub rest_after : (ℕ → Bool) → Text → Text
+rest_after p [] = []
+rest_after p (c ∷ t) = if p c then rest_after p t else c ∷ t
 
 -- The word at the start of a text. It is empty where no word begins.
 unfoldable pub word : Text → Text
@@ -52,21 +52,21 @@ word [] = []
 word (c ∷ t) = if is_id_start c then c ∷ front is_id_continue t else []
 
 -- The rest of a text after the word at its start.
-unfoldable pub behind_word : Text → Text
-behind_word [] = []
-behind_word (c ∷ t) = if is_id_start c then behind is_id_continue t else c ∷ t
+unfoldable pub after_word : Text → Text
+after_word [] = []
+after_word (c ∷ t) = if is_id_start c then rest_after is_id_continue t else c ∷ t
 
 -- The digits at the start of a text.
 unfoldable pub digits : Text → Text
 digits t = front is_ascii_digit t
 
 -- The rest of a text after the digits at its start.
-unfoldable pub behind_digits : Text → Text
-behind_digits t = behind is_ascii_digit t
+unfoldable pub after_digits : Text → Text
+after_digits t = rest_after is_ascii_digit t
 
 -- The rest of a text after the white space at its start.
-unfoldable pub behind_white : Text → Text
-behind_white t = behind is_whitespace t
+unfoldable pub after_white : Text → Text
+after_white t = rest_after is_whitespace t
 
 -- The text is empty.
 abbrev pub is_nil : Text → Bool
@@ -79,9 +79,9 @@ first [] = None
 first (c ∷ t) = Some c
 
 -- The text without its first character.
-abbrev pub behind_first : Text → Text
-behind_first [] = []
-behind_first (c ∷ t) = t
+abbrev pub after_first : Text → Text
+after_first [] = []
+after_first (c ∷ t) = t
 
 -- The first character of t, followed by u.
 abbrev pub with_first : Text → Text → Text
@@ -100,21 +100,21 @@ first_passes p (c ∷ t) = p c
 
 -- The text begins with `r#`.
 abbrev pub begins_prefix : Text → Bool
-begins_prefix t = begins_with (code "r") t && begins_with (code "#") (behind_first t)
+begins_prefix t = begins_with (code "r") t && begins_with (code "#") (after_first t)
 
 -- The text begins with a raw identifier: `r#` and a character that may begin a word.
 abbrev pub begins_raw : Text → Bool
 begins_raw t = begins_with (code "r") t
-    && (begins_with (code "#") (behind_first t)
-    && first_passes is_id_start (behind_first (behind_first t)))
+    && (begins_with (code "#") (after_first t)
+    && first_passes is_id_start (after_first (after_first t)))
 
 -- The rest of a text after the `r#` of a raw identifier.
-abbrev pub behind_prefix : Text → Text
-behind_prefix t = behind_first (behind_first t)
+abbrev pub after_prefix : Text → Text
+after_prefix t = after_first (after_first t)
 
 -- The rest of a text after a closing brace. A text that does not begin with one is unchanged.
-abbrev pub behind_brace : Text → Text
-behind_brace t = if begins_with (code "}") t then behind_first t else t
+abbrev pub after_brace : Text → Text
+after_brace t = if begins_with (code "}") t then after_first t else t
 
 -- The number that these decimal digits write, modulo 65536.
 abbrev pub number : Text → ℕ

@@ -38,10 +38,10 @@ abbrev pub IsLines : ℕ → List PlacedCharacter → List Place → ℕ → Typ
 IsLines start xs [] next = IsTrue (list_all (λ x. not (is_newline x)) xs)
     × (next ≡ indented start xs)
 IsLines start xs (line ∷ lines) next =
-    (front behind : List PlacedCharacter) × (newline : PlacedCharacter)
-    × (xs ≡ front ++ newline ∷ behind)
+    (front rest_after : List PlacedCharacter) × (newline : PlacedCharacter)
+    × (xs ≡ front ++ newline ∷ rest_after)
     × IsTrue (list_all (λ x. not (is_newline x)) front) × IsTrue (is_newline newline)
-    × (line ≡ (indented start front, newline.1.0)) × IsLines newline.1.1 behind lines next
+    × (line ≡ (indented start front, newline.1.0)) × IsLines newline.1.1 rest_after lines next
 
 -- The start of the next line and the lines, computed from the characters that are read.
 abbrev pub read_lines : ℕ → List PlacedCharacter → ℕ × List Place

@@ -23,15 +23,15 @@ unfoldable pub content_characters : ℕ → Text → Option (List (Place × ℕ)
 content_characters at t = option_map (placed_characters at) (units t)
 
 -- The rest of a text after the prefix p. None if it does not begin with p.
-abbrev pub after_prefix : Text → Text → Option Text
-after_prefix [] t = Some t
-after_prefix (c ∷ p) [] = None
-after_prefix (c ∷ p) (d ∷ t) = if d == c then after_prefix p t else None
+abbrev pub strip_prefix : Text → Text → Option Text
+strip_prefix [] t = Some t
+strip_prefix (c ∷ p) [] = None
+strip_prefix (c ∷ p) (d ∷ t) = if d == c then strip_prefix p t else None
 
 -- The function took the prefix p from the text t if the flag is true, and then r is left. If it is
 -- false, t does not begin with p.
 abbrev pub IsTaken : Text → Text → Bool → Text → Type 0
-IsTaken p t b r = after_prefix p t ≡ (if b then Some r else None)
+IsTaken p t b r = strip_prefix p t ≡ (if b then Some r else None)
 
 -- The texts t and w begin with the same plain characters, and r and v are left after them.
 pub record SharePlain (t w r v : Text) : Type 0 where

@@ -8,7 +8,7 @@ use Rattle.std.specs.Prelude.{nat_le, [], ◌∷◌, length, Option, Some, None,
 use Rattle.std.specs.List.{list_all, filter}
 use Rattle.std.specs.Char.{digit_value}
 use Rattle.std.specs.Str.Parse.{digits_value}
-use Rattle.rustc_parse_format.specs.Characters.{Text, front, behind, first_passes}
+use Rattle.rustc_parse_format.specs.Characters.{Text, front, rest_after, first_passes}
 
 pub data LiteralUnit : Type 0 where
   -- A character that stands for itself.
@@ -127,7 +127,7 @@ at_brace w (c ∷ r) = with_rest r (UnicodeEscape w)
 -- The Unicode escape, where its `\u` has been read.
 unfoldable pub unicode_at : Text → Option (LiteralUnit × Text)
 unicode_at [] = None
-unicode_at (c ∷ t) = if c == code "{" then at_brace (front is_inside t) (behind is_inside t)
+unicode_at (c ∷ t) = if c == code "{" then at_brace (front is_inside t) (rest_after is_inside t)
     else None
 
 -- The byte escape, where its `\x` has been read.
@@ -140,7 +140,7 @@ byte_at (h ∷ l ∷ r) = with_rest r (ByteEscape h l)
 unfoldable pub escape_at : Text → Option (LiteralUnit × Text)
 escape_at [] = None
 escape_at (l ∷ t) =
-    if l == code "\n" then Some (Continuation (front is_skipped t), behind is_skipped t)
+    if l == code "\n" then Some (Continuation (front is_skipped t), rest_after is_skipped t)
     else (if l == code "x" then byte_at t
     else (if l == code "u" then unicode_at t else with_rest t (SimpleEscape l)))
 

@@ -2,7 +2,7 @@
 -- that are pairs of marks. Where a part is said to be at t with r after it, t is the rest of the
 -- input at the start of the part, and r is the rest at its end.
 use Rattle.std.specs.Prelude.{ℕ, ◌++◌, List, [], ◌∷◌, Option, Some, None, codes}
-use Rattle.rustc_parse_format.specs.Characters.{Text, behind_first, number}
+use Rattle.rustc_parse_format.specs.Characters.{Text, after_first, number}
 use Rattle.rustc_parse_format.specs.Types.{Count, Is, Name, Param, Star, Implied, Spec, Argument}
 use Rattle.rustc_parse_format.specs.Types.{default_spec}
 use Rattle.rustc_parse_format.specs.Marks.{Span, up_to, through, over_first, run_texts}
@@ -32,21 +32,21 @@ count_span t NoCount r = None
 
 -- The meaning of the width that is at t with r after it.
 abbrev pub width_of : Text → WidthText → Text → Count Span
-width_of t (PaddedWidth k) r = count_of (behind_first t) k r
+width_of t (PaddedWidth k) r = count_of (after_first t) k r
 width_of t ZeroIndexWidth r = Param 0
 width_of t (PlainWidth k) r = count_of t k r
 
 -- The span of the count in a width that is at t with r after it, without the flag `0`.
 abbrev pub width_span : Text → WidthText → Text → Option Span
-width_span t (PaddedWidth k) r = count_span (behind_first t) k r
-width_span t ZeroIndexWidth r = Some (through t (behind_first t))
+width_span t (PaddedWidth k) r = count_span (after_first t) k r
+width_span t ZeroIndexWidth r = Some (through t (after_first t))
 width_span t (PlainWidth k) r = count_span t k r
 
 -- The meaning of the precision that is at t with r after it. A star takes the next number, c.
 abbrev pub precision_of : ℕ → Text → PrecisionText → Text → Count Span
 precision_of c t NoPrecision r = Implied
 precision_of c t StarPrecision r = Star c
-precision_of c t (DotPrecision k) r = count_of (behind_first t) k r
+precision_of c t (DotPrecision k) r = count_of (after_first t) k r
 
 -- The span of a precision and its dot, from t to r. None if there is no precision.
 abbrev pub precision_span : Text → PrecisionText → Text → Option Span
@@ -103,10 +103,10 @@ format_of c t p r = record {
 -- The meaning of the specification, or of its absence, at t with r after it.
 abbrev pub spec_of : ℕ → Text → SpecText → Text → Spec Span
 spec_of c t Default r = default_spec
-spec_of c t (Formatting p) r = format_of c (behind_first t) p r
+spec_of c t (Formatting p) r = format_of c (after_first t) p r
 spec_of c t (Modifier w) r = record default_spec {
   ty = w;
-  ty_span = word_span (behind_first t) w r;
+  ty_span = word_span (after_first t) w r;
 }
 spec_of c t (DiagnosticText u) r = record default_spec { ty = u; ty_span = Some (up_to t r) }
 

@@ -5,12 +5,12 @@ use Rattle.std.specs.Prelude.{chars, Bool, not, ◌&&◌, if◌then◌else◌, �
 use Rattle.std.specs.Prelude.{◌++◌, true, List, [], ◌∷◌, length, Option, Some, None}
 use Rattle.std.specs.Char.{is_whitespace}
 use Rattle.rustc_parse_format.specs.declared.source.Source.{Source}
-use Rattle.rustc_parse_format.specs.Characters.{Text, front, behind, behind_first, begins_with}
+use Rattle.rustc_parse_format.specs.Characters.{Text, front, rest_after, after_first, begins_with}
 use Rattle.rustc_parse_format.specs.Characters.{is_no_brace}
 use Rattle.rustc_parse_format.specs.Back.{Back, IsPaid}
 use Rattle.rustc_parse_format.specs.Marks.{Span, run_texts, through}
 use Rattle.rustc_parse_format.specs.Faults.{Fault}
-use Rattle.rustc_parse_format.specs.World.{World, Place, StartBehind, faults_in, place_at}
+use Rattle.rustc_parse_format.specs.World.{World, Place, StartAfter, faults_in, place_at}
 use Rattle.rustc_parse_format.specs.Call.{Call, unclosed_fault}
 use Rattle.rustc_parse_format.specs.Recovery.{Recovery, recovery}
 use Rattle.rustc_parse_format.specs.Types.{Mode, Argument}
@@ -66,7 +66,7 @@ pub record Midway : Type 0 where
 
 -- A placeholder begins here: there is an opening brace, and no second one after it.
 abbrev pub opens_placeholder : Text → Bool
-opens_placeholder t = begins_with (code "{") t && not (begins_with (code "{") (behind_first t))
+opens_placeholder t = begins_with (code "{") t && not (begins_with (code "{") (after_first t))
 
 -- The state at this cursor, with this next number and this start of the current line, where the
 -- call has found nothing yet.
@@ -119,9 +119,9 @@ read_texts s cs =
 -- The state after reading the run of text at the start of the rest.
 abbrev pub read_run : Midway → Midway
 read_run s =
-    record (read_texts s (run_texts (front is_no_brace s.rest) (behind is_no_brace s.rest))) {
+    record (read_texts s (run_texts (front is_no_brace s.rest) (rest_after is_no_brace s.rest))) {
       rest =
-          behind is_no_brace s.rest;
+          rest_after is_no_brace s.rest;
     }
 
 -- The state after the lines have taken the next character, c, of a source literal.
@@ -132,13 +132,13 @@ noted_next c s =
 
 -- The state after the next character, c, has been read.
 abbrev pub passed_next : ℕ → Midway → Midway
-passed_next c s = record (noted_next c s) { rest = behind_first s.rest }
+passed_next c s = record (noted_next c s) { rest = after_first s.rest }
 
 -- The characters from c on are not white space at the start of the line: those after c start later
 -- than the line, and so does c if it is white space.
 abbrev pub IsPastIndent : ℕ → ℕ → World → Text → Type 0
 IsPastIndent c start w t = (is_whitespace c ≡ true → start < (place_at w (length t)).0)
-    × StartBehind start w (length (behind_first t))
+    × StartAfter start w (length (after_first t))
 
 -- There are no faults among these, and reading these characters as text ends no line.
 abbrev pub FindsNothing : Midway → List (Fault Span) → List (ℕ × ℕ) → Type 0
@@ -162,9 +162,9 @@ read_call s k =
     }
 
 -- The state after reading the character with this fault. Without a fault it is unchanged.
-abbrev pub behind_sign : Midway → Option (Fault Place) → Midway
-behind_sign s None = s
-behind_sign s (Some f) = record s { rest = behind_first s.rest; faults = s.faults ++ f ∷ [] }
+abbrev pub after_sign : Midway → Option (Fault Place) → Midway
+after_sign s None = s
+after_sign s (Some f) = record s { rest = after_first s.rest; faults = s.faults ++ f ∷ [] }
 
 -- The state after a recovery.
 abbrev pub recovered : Midway → Recovery → Midway
@@ -172,11 +172,11 @@ recovered s k = read_texts (read_tries (read_to s k.rest k.next k.faults) k.trie
 
 -- The state after the place of the closing brace: after the brace if it is there, or after the
 -- fault and the recovery. The placeholder begins at o and has the argument a.
-abbrev pub behind_closing : Mode → Text → Argument Span → Midway → Midway
-behind_closing mode o a s =
+abbrev pub after_closing : Mode → Text → Argument Span → Midway → Midway
+after_closing mode o a s =
     if begins_with (code "}") s.rest
     then record s {
-      rest = behind_first s.rest;
+      rest = after_first s.rest;
       closed_place = closed_then s.closed_place (closed_in s.world (Some (through o s.rest)));
     }
     else recovered (read_to s s.rest s.next (unclosed_fault o a.format s.rest ∷ []))

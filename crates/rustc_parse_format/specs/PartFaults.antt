@@ -3,8 +3,8 @@
 use Prim.Native.Char.{code}
 use Rattle.std.specs.Prelude.{is_some, ℕ, ◌++◌, ◌&&◌, not, ◌||◌, ◌==◌, Bool, if◌then◌else◌, List}
 use Rattle.std.specs.Prelude.{[], ◌∷◌, Option, Some, None, codes, bytes_eq}
-use Rattle.rustc_parse_format.specs.Characters.{Text, word, behind_word, digits, behind_digits}
-use Rattle.rustc_parse_format.specs.Characters.{first, behind_first, behind_prefix, is_over}
+use Rattle.rustc_parse_format.specs.Characters.{Text, word, after_word, digits, after_digits}
+use Rattle.rustc_parse_format.specs.Characters.{first, after_first, after_prefix, is_over}
 use Rattle.rustc_parse_format.specs.Marks.{Span, up_to, through, over_first}
 use Rattle.rustc_parse_format.specs.Placeholder.{Cut}
 use Rattle.rustc_parse_format.specs.Syntax.{PositionText, Digits, Word, RawWord, NoPosition}
@@ -21,19 +21,19 @@ use Rattle.rustc_parse_format.specs.Values.{given_position, is_name}
 
 -- The fault of a word `_` at the start of t.
 abbrev pub word_faults : Text → List (Fault Span)
-word_faults t = if bytes_eq (word t) (codes "_") then Underscore (up_to t (behind_word t)) ∷ []
+word_faults t = if bytes_eq (word t) (codes "_") then Underscore (up_to t (after_word t)) ∷ []
     else []
 
 -- The fault of an integer above 65535 at the start of t. Its span includes the character after the
 -- digits.
 abbrev pub number_faults : Text → List (Fault Span)
-number_faults t = if is_over (digits t) then TooLarge (digits t) (through t (behind_digits t)) ∷ []
+number_faults t = if is_over (digits t) then TooLarge (digits t) (through t (after_digits t)) ∷ []
     else []
 
 -- The faults of a raw identifier at the start of t. The fault of its word comes first.
 abbrev pub raw_faults : Text → List (Fault Span)
-raw_faults t = word_faults (behind_prefix t)
-    ++ RawIdentifier (up_to t (behind_word (behind_prefix t))) (through t (behind_first t)) ∷ []
+raw_faults t = word_faults (after_prefix t)
+    ++ RawIdentifier (up_to t (after_word (after_prefix t))) (through t (after_first t)) ∷ []
 
 -- The faults of a position at the start of t.
 abbrev pub position_faults : Text → PositionText → List (Fault Span)
@@ -53,7 +53,7 @@ argument_faults t = number_faults t ++ word_faults t
 
 -- The faults of a width at the start of t.
 abbrev pub width_faults : Text → WidthText → List (Fault Span)
-width_faults t (PaddedWidth k) = argument_faults (behind_first t)
+width_faults t (PaddedWidth k) = argument_faults (after_first t)
 width_faults t ZeroIndexWidth = []
 width_faults t (PlainWidth k) = argument_faults t
 
@@ -61,7 +61,7 @@ width_faults t (PlainWidth k) = argument_faults t
 abbrev pub precision_faults : Text → PrecisionText → List (Fault Span)
 precision_faults t NoPrecision = []
 precision_faults t StarPrecision = []
-precision_faults t (DotPrecision k) = argument_faults (behind_first t)
+precision_faults t (DotPrecision k) = argument_faults (after_first t)
 
 -- The character is a flag that belongs before the type `?`: `#`, `x` or `X`.
 abbrev pub is_debug_flag : ℕ → Bool
@@ -75,8 +75,8 @@ late_flag (Some c) s b = if is_debug_flag c then LateFlag c s b ∷ [] else []
 
 -- The fault of a flag after the `?` at the start of t.
 abbrev pub flag_faults : Text → List (Fault Span)
-flag_faults t = late_flag (first (behind_first t)) (over_first (behind_first t))
-    (through t (behind_first t))
+flag_faults t = late_flag (first (after_first t)) (over_first (after_first t))
+    (through t (after_first t))
 
 -- The faults of a type at the start of t.
 abbrev pub type_faults : Text → TypeText → List (Fault Span)
@@ -97,7 +97,7 @@ text_faults mode u s = if wants_names mode && is_some (first u) then TextAfterCo
 abbrev pub spec_faults : Mode → Text → SpecText → Text → List (Fault Span)
 spec_faults mode t Default r = []
 spec_faults mode t (Formatting p) r = format_faults p r
-spec_faults mode t (Modifier w) r = word_faults (behind_first t)
+spec_faults mode t (Modifier w) r = word_faults (after_first t)
 spec_faults mode t (DiagnosticText u) r = text_faults mode u (up_to t r)
 
 -- The faults of a field, in the order in which they are found.

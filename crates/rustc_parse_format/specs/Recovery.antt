@@ -4,8 +4,8 @@
 use Prim.Native.Char.{code}
 use Rattle.std.specs.Prelude.{ℕ, ◌++◌, ◌&&◌, ◌==◌, not, if◌then◌else◌, List, [], ◌∷◌, Option, Some}
 use Rattle.std.specs.Prelude.{None}
-use Rattle.rustc_parse_format.specs.Characters.{Text, is_align, word, behind_word, begins_with}
-use Rattle.rustc_parse_format.specs.Characters.{behind_first, behind_brace}
+use Rattle.rustc_parse_format.specs.Characters.{Text, is_align, word, after_word, begins_with}
+use Rattle.rustc_parse_format.specs.Characters.{after_first, after_brace}
 use Rattle.rustc_parse_format.specs.Types.{Mode, Position, Implicit, Index, Named, Argument}
 use Rattle.rustc_parse_format.specs.Marks.{Mark, Span, over_first}
 use Rattle.rustc_parse_format.specs.Placeholder.{cut}
@@ -45,16 +45,16 @@ sign_fault x y s o =
 -- A recovery that reads the first character of t if that has a fault, and otherwise reads nothing.
 abbrev pub sign : ℕ → Option (Fault Span) → Text → Recovery
 sign c None t = finds c [] t
-sign c (Some f) t = finds c (f ∷ []) (behind_first t)
+sign c (Some f) t = finds c (f ∷ []) (after_first t)
 
 -- A recovery at a `?`. It reads the `?`, and, where a colon follows, the colon and the word after
 -- it.
 unfoldable pub late_debug : ℕ → Text → Recovery
 late_debug c t =
-    let w = behind_first (behind_first t) in
-    if begins_with (code ":") (behind_first t)
-    then finds c (word_faults w ++ LateDebug (word w) (over_first t) ∷ []) (behind_word w)
-    else finds c [] (behind_first t)
+    let w = after_first (after_first t) in
+    if begins_with (code ":") (after_first t)
+    then finds c (word_faults w ++ LateDebug (word w) (over_first t) ∷ []) (after_word w)
+    else finds c [] (after_first t)
 
 -- The fault of a field after a dot, where a closing brace follows the field. An implicit position
 -- has none.
@@ -67,13 +67,13 @@ field_fault (Implicit n) s = []
 -- that follows at once. The argument before the dot starts at the mark `from`.
 unfoldable pub field : Mode → ℕ → Mark → Text → Recovery
 field mode c from t =
-    let a = cut mode (behind_first t) in
+    let a = cut mode (after_first t) in
     let f = argument c a in
     record {
       faults = cut_faults mode a
           ++ (if begins_with (code "}") a.rest
           then field_fault f.position (record { from = from; to = f.position_span.to }) else []);
-      rest = behind_brace a.rest;
+      rest = after_brace a.rest;
       next = number_after_field c a.field;
       texts = spec_texts a.field.spec a.rest;
       tries = spec_tries a.field.spec a.rest;

@@ -12,7 +12,7 @@ use Rattle.std.specs.declared.string.String.{String}
 use Rattle.std.specs.declared.alloc.Global.{Global}
 use Rattle.rustc_parse_format.specs.declared.source.Source.{Source}
 use Rattle.rustc_parse_format.specs.declared.source.anchor.Anchor.{Anchor}
-use Rattle.rustc_parse_format.specs.Characters.{Text, begins_with, behind_first, byte_length}
+use Rattle.rustc_parse_format.specs.Characters.{Text, begins_with, after_first, byte_length}
 use Rattle.rustc_parse_format.specs.LiteralUnits.{LiteralUnit, Continuation, spelling, value}
 use Rattle.rustc_parse_format.specs.LiteralUnits.{meaning, unit_at}
 use Rattle.rustc_parse_format.specs.Literal.{IsContent, content_value, newline, ordinary_frame}
@@ -41,7 +41,7 @@ seen_world s = world_with s.kept_snippet s
 
 -- The text begins with a continuation.
 abbrev pub begins_continuation : Text → Bool
-begins_continuation t = begins_with (code "\\") t && begins_with (code "\n") (behind_first t)
+begins_continuation t = begins_with (code "\\") t && begins_with (code "\n") (after_first t)
 
 -- The number of bytes of the unit before r, or 0 if it stands for no character.
 abbrev pub width_before : Text → Text → Text → ℕ

@@ -3,8 +3,15 @@
 use Prim.Native.Char.{code}
 use Rattle.std.specs.Prelude.{ℕ, Bool, true, false, if◌then◌else◌, ◌==◌, [], ◌∷◌, Option, Some}
 use Rattle.std.specs.Prelude.{None}
-use Rattle.rustc_parse_format.specs.Characters.{Text, is_align, is_no_brace, front, behind, word}
-use Rattle.rustc_parse_format.specs.Characters.{behind_word}
+use Rattle.rustc_parse_format.specs.Characters.{
+  Text,
+  is_align,
+  is_no_brace,
+  front,
+  rest_after,
+  word,
+}
+use Rattle.rustc_parse_format.specs.Characters.{after_word}
 use Rattle.rustc_parse_format.specs.Types.{Mode, Format, InlineAsm, Diagnostic, DiagnosticNamed}
 use Rattle.rustc_parse_format.specs.Types.{Alignment, Left, Right, Center, Unknown, Sign, Plus}
 use Rattle.rustc_parse_format.specs.Types.{Minus}
@@ -41,18 +48,18 @@ alternate [] = (false, [])
 alternate (c ∷ t) = if c == code "#" then (true, t) else (false, c ∷ t)
 
 -- The type after an `x` or `X`, where t is left.
-abbrev pub behind_hex : DebugHex → ℕ → Text → TypeText × Text
-behind_hex h x [] = (CharacterType x, [])
-behind_hex h x (c ∷ t) = if c == code "?" then (DebugHexType h, t) else (CharacterType x, c ∷ t)
+abbrev pub after_hex : DebugHex → ℕ → Text → TypeText × Text
+after_hex h x [] = (CharacterType x, [])
+after_hex h x (c ∷ t) = if c == code "?" then (DebugHexType h, t) else (CharacterType x, c ∷ t)
 
 -- The type at the start of a text.
 abbrev pub type : Text → TypeText × Text
 type [] = (WordType [], [])
 type (c ∷ t) =
-    if c == code "x" then behind_hex Lower c t
-    else (if c == code "X" then behind_hex Upper c t
+    if c == code "x" then after_hex Lower c t
+    else (if c == code "X" then after_hex Upper c t
     else (if c == code "?" then (CharacterType c, t)
-    else (WordType (word (c ∷ t)), behind_word (c ∷ t))))
+    else (WordType (word (c ∷ t)), after_word (c ∷ t))))
 
 -- The rest of t from the alignment of a format specification on, which begins at t. The fill is
 -- before it.
@@ -95,13 +102,13 @@ format_text t = (
 )
 
 -- The part after the colon, where t is left after the colon, and the rest after that part.
-abbrev pub behind_colon : Mode → Text → SpecText × Text
-behind_colon Format t = (Formatting (format_text t).0, (format_text t).1)
-behind_colon InlineAsm t = (Modifier (word t), behind_word t)
-behind_colon Diagnostic t = (DiagnosticText (front is_no_brace t), behind is_no_brace t)
-behind_colon DiagnosticNamed t = (DiagnosticText (front is_no_brace t), behind is_no_brace t)
+abbrev pub after_colon : Mode → Text → SpecText × Text
+after_colon Format t = (Formatting (format_text t).0, (format_text t).1)
+after_colon InlineAsm t = (Modifier (word t), after_word t)
+after_colon Diagnostic t = (DiagnosticText (front is_no_brace t), rest_after is_no_brace t)
+after_colon DiagnosticNamed t = (DiagnosticText (front is_no_brace t), rest_after is_no_brace t)
 
 -- The specification at the start of a text, and the rest after it.
 abbrev pub specification : Mode → Text → SpecText × Text
 specification mode [] = (Default, [])
-specification mode (c ∷ t) = if c == code ":" then behind_colon mode t else (Default, c ∷ t)
+specification mode (c ∷ t) = if c == code ":" then after_colon mode t else (Default, c ∷ t)

@@ -8,7 +8,7 @@ use Rattle.std.specs.Prelude.{◌≡◌, ℕ, Bool, true, false, not, ◌||◌, 
 use Rattle.std.specs.Prelude.{None, codes}
 use Rattle.std.specs.Char.{is_ascii_digit, is_whitespace}
 use Rattle.rustc_parse_format.specs.Characters.{Text, is_align, is_brace, is_id_start, is_no_brace}
-use Rattle.rustc_parse_format.specs.Characters.{behind_first, begins_raw, begins_with, first_passes}
+use Rattle.rustc_parse_format.specs.Characters.{after_first, begins_raw, begins_with, first_passes}
 use Rattle.rustc_parse_format.specs.Types.{Mode, Format, InlineAsm, Diagnostic, DiagnosticNamed}
 use Rattle.rustc_parse_format.specs.Types.{Alignment, Left, Right, Center, Unknown, Sign, Plus}
 use Rattle.rustc_parse_format.specs.Types.{Minus}
@@ -36,7 +36,7 @@ position_part NoPosition = absent (λ t. first_passes is_ascii_digit t || first_
 -- fill := character, and only where an alignment follows it.
 abbrev pub fill_part : Option ℕ → Part
 fill_part (Some c) = before (c ∷ []) (first_passes is_align)
-fill_part None = absent (λ t. first_passes is_align (behind_first t))
+fill_part None = absent (λ t. first_passes is_align (after_first t))
 
 -- align := '<' | '^' | '>'
 abbrev pub align_part : Alignment → Part

@@ -1,7 +1,7 @@
 -- The words that are tried for a count. If no `$` follows such a word, it is given back and read
 -- again as the type. Each is given by the rest of the input from it on.
 use Rattle.std.specs.Prelude.{◌++◌, if◌then◌else◌, List, [], ◌∷◌}
-use Rattle.rustc_parse_format.specs.Characters.{Text, behind_first, behind_word, first_passes}
+use Rattle.rustc_parse_format.specs.Characters.{Text, after_first, after_word, first_passes}
 use Rattle.rustc_parse_format.specs.Characters.{is_id_start}
 use Rattle.rustc_parse_format.specs.Back.{Back, given_back}
 use Rattle.rustc_parse_format.specs.Syntax.{CountText, NoCount, WidthText, PaddedWidth}
@@ -13,7 +13,7 @@ use Rattle.rustc_parse_format.specs.Meaning.{from_width, from_precision}
 -- The characters that have been given back after these words, one after the other.
 abbrev pub back_after : Back → List Text → Back
 back_after b [] = b
-back_after b (t ∷ ts) = back_after (given_back (behind_word t) t b) ts
+back_after b (t ∷ ts) = back_after (given_back (after_word t) t b) ts
 
 -- The word that is tried for a count at t, if there is no count.
 abbrev pub count_tries : Text → CountText → List Text
@@ -22,7 +22,7 @@ count_tries t k = []
 
 -- The words that are tried in a width at t.
 abbrev pub width_tries : Text → WidthText → List Text
-width_tries t (PaddedWidth k) = count_tries (behind_first t) k
+width_tries t (PaddedWidth k) = count_tries (after_first t) k
 width_tries t ZeroIndexWidth = []
 width_tries t (PlainWidth k) = count_tries t k
 
@@ -30,7 +30,7 @@ width_tries t (PlainWidth k) = count_tries t k
 abbrev pub precision_tries : Text → PrecisionText → List Text
 precision_tries t NoPrecision = []
 precision_tries t StarPrecision = []
-precision_tries t (DotPrecision k) = count_tries (behind_first t) k
+precision_tries t (DotPrecision k) = count_tries (after_first t) k
 
 -- The words that are tried in a format specification that is followed by r.
 unfoldable pub format_tries : FormatText → Text → List Text

@@ -132,8 +132,8 @@ number_of w (Start k) = (place_at w k).0
 number_of w (End k) = (place_at w k).1
 
 -- Each of the last n characters starts after this byte offset.
-abbrev pub StartBehind : ℕ → World → ℕ → Type 0
-StartBehind byte w n = (k : ℕ) → 0 < k → k ≤ n → byte < (place_at w k).0
+abbrev pub StartAfter : ℕ → World → ℕ → Type 0
+StartAfter byte w n = (k : ℕ) → 0 < k → k ≤ n → byte < (place_at w k).0
 
 -- The byte range of a span.
 abbrev pub place_of : World → Span → Place

@@ -12,13 +12,13 @@ impl<'input> Reader<'input> {
     ghost use Rattle.std.specs.Prelude.{if◌then◌else◌, IsOk, length, OnErr, OnOk, option_map, Some};
     ghost use Rattle.std.specs.Prelude.{false, true};
     ghost use Rattle.rustc_parse_format.specs.Call.{call};
-    ghost use Rattle.rustc_parse_format.specs.Characters.{Text, begins_with, behind_first, first};
+    ghost use Rattle.rustc_parse_format.specs.Characters.{Text, begins_with, after_first, first};
     ghost use Rattle.rustc_parse_format.specs.Faults.{brace_fill, no_brace};
     ghost use Rattle.rustc_parse_format.specs.Marks.{End, Span, over_first, up_to};
     ghost use Rattle.rustc_parse_format.specs.Reads.{Reaches};
     ghost use Rattle.rustc_parse_format.specs.Seen.{pair, seen, seen_argument, seen_mode};
     ghost use Rattle.rustc_parse_format.specs.Seen.{seen_position, seen_spec, seen_taken};
-    ghost use Rattle.rustc_parse_format.specs.Midway.{FindsNothing, behind_closing};
+    ghost use Rattle.rustc_parse_format.specs.Midway.{FindsNothing, after_closing};
     ghost use Rattle.rustc_parse_format.specs.Midway.{opens_placeholder, read_call};
     ghost use Rattle.rustc_parse_format.specs.Types.{Argument as ArgumentValue, Implicit, Lit};
     ghost use Rattle.rustc_parse_format.specs.Types.{Mode, NextArgument, default_spec};
@@ -54,7 +54,7 @@ impl<'input> Reader<'input> {
     /// source literal, records the byte range of the placeholder.
     fn consume_closing_brace(&mut self, start: usize)
         ensures state { self.new ≡ record self.old {
-          rest = behind_first self.old.rest;
+          rest = after_first self.old.rest;
           closed_place = if self.old.world.has_source
               then Some (start, number_of self.old.world (End (length self.old.rest)))
               else self.old.closed_place;
@@ -81,7 +81,7 @@ impl<'input> Reader<'input> {
         ensures state { OnOk result ((o : Text) (a : ArgumentValue Span)
             → pair opening ≡ place_of self.old.world (over_first o)
             → seen_argument argument.now ≡ map_argument (place_of self.old.world) a
-            → self.new ≡ behind_closing (seen_mode mode) o a self.old) }
+            → self.new ≡ after_closing (seen_mode mode) o a self.old) }
         ensures source { self.new.source ≡ self.old.source }
         ensures spare { begins_with 125 self.old.rest ≡ true → IsOk result }
     {

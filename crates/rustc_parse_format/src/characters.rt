@@ -7,8 +7,8 @@ ghost use Rattle.std.specs.Prelude.{codes, IfSome, IsFalse, IsNone, IsTrue, leng
 ghost use Rattle.std.specs.Prelude.{false, nat_lt, not, slice_index, true, ℕ, ◌↔◌};
 ghost use Rattle.rustc_parse_format.specs.Bytes.{IsFront, IsLeft, IsOfAscii, is_no_stop};
 ghost use Rattle.rustc_parse_format.specs.Bytes.{is_word_byte};
-ghost use Rattle.rustc_parse_format.specs.Characters.{Text, begins_with, behind, behind_digits};
-ghost use Rattle.rustc_parse_format.specs.Characters.{behind_first, behind_word, digits, first};
+ghost use Rattle.rustc_parse_format.specs.Characters.{Text, begins_with, rest_after, after_digits};
+ghost use Rattle.rustc_parse_format.specs.Characters.{after_first, after_word, digits, first};
 ghost use Rattle.rustc_parse_format.specs.Characters.{first_passes, front};
 ghost use Rattle.rustc_parse_format.specs.Characters.{is_id_start, is_over, number, word};
 ghost use Rattle.rustc_parse_format.specs.Classes.{passes};
@@ -132,8 +132,8 @@ pub fn begins_word(text: &str) -> bool
 
 /// Returns the text after the first character, or an empty text if there is none.
 #[inline(always)]
-pub fn behind_first(text: &str) -> &str
-    ensures rest { chars result.now ≡ behind_first (chars text.now) }
+pub fn after_first(text: &str) -> &str
+    ensures rest { chars result.now ≡ after_first (chars text.now) }
     ensures left { (input : List ℕ) → IsLeft input text.now → IsLeft input result.now }
 {
     let mut rest = text.chars();
@@ -192,9 +192,9 @@ pub fn run_width(bytes: &[u8], class: Class) -> usize
 /// Returns the text after the longest prefix of characters in the class. The class has all
 /// characters outside ASCII, so the bytes alone show where the prefix ends.
 #[inline(always)]
-pub fn behind_run(text: &str, class: Class) -> &str
+pub fn after_run(text: &str, class: Class) -> &str
     requires { IsOfAscii (passes class) }
-    ensures rest { chars result.now ≡ behind (passes class) (chars text.now) }
+    ensures rest { chars result.now ≡ rest_after (passes class) (chars text.now) }
     ensures left { (input : List ℕ) → IsLeft input text.now → IsLeft input result.now }
 {
     let width = run_width(text.as_bytes(), class);
@@ -207,7 +207,7 @@ pub fn behind_run(text: &str, class: Class) -> &str
 pub fn split_run(text: &str, class: Class) -> (&str, &str)
     requires { IsOfAscii (passes class) }
     ensures front { chars result.0.now ≡ front (passes class) (chars text.now) }
-    ensures rest { chars result.1.now ≡ behind (passes class) (chars text.now) }
+    ensures rest { chars result.1.now ≡ rest_after (passes class) (chars text.now) }
 {
     let width = run_width(text.as_bytes(), class);
     text.split_at(width)
@@ -215,13 +215,13 @@ pub fn split_run(text: &str, class: Class) -> (&str, &str)
 
 /// Returns the text after the longest prefix of characters in the class.
 #[inline(always)]
-pub fn behind_while(text: &str, class: Class) -> &str
-    ensures rest { chars result.now ≡ behind (passes class) (chars text.now) }
+pub fn after_while(text: &str, class: Class) -> &str
+    ensures rest { chars result.now ≡ rest_after (passes class) (chars text.now) }
     ensures left { (input : List ℕ) → IsLeft input text.now → IsLeft input result.now }
 {
     match class {
-        Class::Text => return behind_run(text, Class::Text),
-        Class::Line => return behind_run(text, Class::Line),
+        Class::Text => return after_run(text, Class::Text),
+        Class::Line => return after_run(text, Class::Line),
         _ => {}
     }
     let mut rest = text;
@@ -229,7 +229,7 @@ pub fn behind_while(text: &str, class: Class) -> &str
         if !class.passes(c) {
             break;
         }
-        rest = behind_first(rest);
+        rest = after_first(rest);
     }
     rest
 }
@@ -261,7 +261,7 @@ fn is_wide(bytes: &[u8], at: usize) -> bool
 pub fn split_word(text: &str) -> (&str, &str)
     requires { first_passes is_id_start (chars text.now) ≡ true }
     ensures word { chars result.0.now ≡ word (chars text.now) }
-    ensures rest { chars result.1.now ≡ behind_word (chars text.now) }
+    ensures rest { chars result.1.now ≡ after_word (chars text.now) }
     ensures left { (input : List ℕ) → IsLeft input text.now → IsLeft input result.1.now }
 {
     let bytes = text.as_bytes();
@@ -273,15 +273,15 @@ pub fn split_word(text: &str) -> (&str, &str)
 }
 
 /// Splits a text after the word that begins it, which need not be ASCII.
-#[tactic(auto, using(crate::proofs::Grammar::Fronts::behind_word_some))]
+#[tactic(auto, using(crate::proofs::Grammar::Fronts::after_word_some))]
 #[inline(never)]
 fn split_wide_word(text: &str) -> (&str, &str)
     requires { first_passes is_id_start (chars text.now) ≡ true }
     ensures word { chars result.0.now ≡ word (chars text.now) }
-    ensures rest { chars result.1.now ≡ behind_word (chars text.now) }
+    ensures rest { chars result.1.now ≡ after_word (chars text.now) }
     ensures left { (input : List ℕ) → IsLeft input text.now → IsLeft input result.1.now }
 {
-    let rest = behind_while(behind_first(text), Class::Continue);
+    let rest = after_while(after_first(text), Class::Continue);
     (before(text, rest), rest)
 }
 
@@ -297,12 +297,12 @@ pub struct LeadingNumber<'a> {
 }
 
 /// Returns the number that the ASCII digits at the start of the text write: 0 if there are none.
-#[tactic(auto, unfolding(crate::specs::Characters::digits, crate::specs::Characters::behind_digits))]
+#[tactic(auto, unfolding(crate::specs::Characters::digits, crate::specs::Characters::after_digits))]
 #[inline(always)]
 pub fn leading_number(text: &str) -> LeadingNumber<'_>
     ensures value { result.value ≡ number (digits (chars text.now)) }
     ensures over { result.is_over ≡ is_over (digits (chars text.now)) }
-    ensures rest { chars result.rest.now ≡ behind_digits (chars text.now) }
+    ensures rest { chars result.rest.now ≡ after_digits (chars text.now) }
     ensures left { (input : List ℕ) → IsLeft input text.now → IsLeft input result.rest.now }
 {
     let mut value = 0;
@@ -312,7 +312,7 @@ pub fn leading_number(text: &str) -> LeadingNumber<'_>
         let more = with_digit(value, digit);
         value = more.0;
         is_over |= more.1;
-        rest = behind_first(rest);
+        rest = after_first(rest);
     }
     LeadingNumber {
         value,
@@ -321,13 +321,13 @@ pub fn leading_number(text: &str) -> LeadingNumber<'_>
     }
 }
 
-/// Returns the part of `text` before its suffix `behind`.
+/// Returns the part of `text` before its suffix `rest_after`.
 #[inline(always)]
-pub fn before<'a>(text: &'a str, behind: &str) -> &'a str
-    requires { (u : Text) × (chars text.now ≡ u ++ chars behind.now) }
-    ensures { (u : Text) → chars text.now ≡ u ++ chars behind.now → chars result.now ≡ u }
+pub fn before<'a>(text: &'a str, rest_after: &str) -> &'a str
+    requires { (u : Text) × (chars text.now ≡ u ++ chars rest_after.now) }
+    ensures { (u : Text) → chars text.now ≡ u ++ chars rest_after.now → chars result.now ≡ u }
 {
-    &text[..text.len() - behind.len()]
+    &text[..text.len() - rest_after.len()]
 }
 
 /// Returns whether `c` can begin a word: `_` or `XID_Start`.
@@ -341,7 +341,7 @@ pub fn is_id_start(c: char) -> bool
 pub fn is_underscore(text: &str) -> bool
     ensures { result ≡ bytes_eq (chars text.now) (codes "_") }
 {
-    first(text) == Some('_') && first(behind_first(text)).is_none()
+    first(text) == Some('_') && first(after_first(text)).is_none()
 }
 
 /// Returns the value of `number` with one more decimal digit, modulo 65536, and whether that value

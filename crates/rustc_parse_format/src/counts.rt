@@ -10,9 +10,9 @@ use std::ops::Range;
 impl<'input> Reader<'input> {
     ghost use Rattle.std.specs.Prelude.{[], ◌+◌, ◌<◌, ◌^◌, ◌≡◌, chars, false, IfOk, None, OnOk};
     ghost use Rattle.std.specs.Prelude.{option_map, true};
-    ghost use Rattle.rustc_parse_format.specs.Characters.{behind_digits, behind_word, digits};
+    ghost use Rattle.rustc_parse_format.specs.Characters.{after_digits, after_word, digits};
     ghost use Rattle.rustc_parse_format.specs.Characters.{first_passes, is_id_start, number, word};
-    ghost use Rattle.rustc_parse_format.specs.Counts.{behind_name, count, precision, width};
+    ghost use Rattle.rustc_parse_format.specs.Counts.{after_name, count, precision, width};
     ghost use Rattle.rustc_parse_format.specs.Meaning.{count_of, count_span, precision_of};
     ghost use Rattle.rustc_parse_format.specs.Meaning.{precision_span, width_of, width_span};
     ghost use Rattle.rustc_parse_format.specs.PartFaults.{argument_faults, number_faults};
@@ -32,7 +32,7 @@ impl<'input> Reader<'input> {
     #[inline(always)]
     pub fn integer(&mut self) -> Result<u16, AllocError>
         ensures value { IfOk result (λ n. n ≡ number (digits self.old.rest)) }
-        ensures reads { ReadsTo self.old result self.new (behind_digits self.old.rest) self.old.next
+        ensures reads { ReadsTo self.old result self.new (after_digits self.old.rest) self.old.next
             (number_faults self.old.rest) [] }
     {
         let (number, over) = self.cursor.number();
@@ -48,7 +48,7 @@ impl<'input> Reader<'input> {
     pub fn word(&mut self) -> Result<&'input str, AllocError>
         requires { first_passes is_id_start self.old.rest ≡ true }
         ensures value { IfOk result (λ w. chars w.now ≡ word self.old.rest) }
-        ensures reads { ReadsTo self.old result self.new (behind_word self.old.rest) self.old.next
+        ensures reads { ReadsTo self.old result self.new (after_word self.old.rest) self.old.next
             (word_faults self.old.rest) [] }
     {
         let (word, underscore) = self.cursor.word();
@@ -67,10 +67,10 @@ impl<'input> Reader<'input> {
         requires blank { seen_count into.old ≡ Implied }
         requires furthest { IsFurthest self.old.rest self.old.back }
         requires word { first_passes is_id_start self.old.rest ≡ true }
-        ensures value { (let t = self.old.rest in let k = behind_name t (word t) (behind_word t) in
+        ensures value { (let t = self.old.rest in let k = after_name t (word t) (after_word t) in
             OnOk result (seen_count into.new
             ≡ map_count (place_of self.old.world) (count_of t k.0 k.1))) }
-        ensures reads { (let t = self.old.rest in let k = behind_name t (word t) (behind_word t) in
+        ensures reads { (let t = self.old.rest in let k = after_name t (word t) (after_word t) in
             ReadsTo self.old result self.new k.1 self.old.next (word_faults t)
             (count_tries t k.0)) }
     {

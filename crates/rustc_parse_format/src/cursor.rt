@@ -3,7 +3,7 @@
 mod steps;
 mod words;
 
-use crate::characters::{before, begins, begins_digit, begins_word, behind_first, first};
+use crate::characters::{after_first, before, begins, begins_digit, begins_word, first};
 use crate::source::{Anchor, Source, first_anchor};
 use std::marker::Model;
 use std::ops::Range;
@@ -47,7 +47,7 @@ impl<'input> Cursor<'input> {
     ghost use Rattle.std.specs.Prelude.{◌≡◌, ◌+◌, ◌-◌, ◌≤◌, ◌<◌, ◌^◌, ◌++◌, chars, if◌then◌else◌};
     ghost use Rattle.std.specs.Prelude.{IsTrue, length, option_map, Some};
     ghost use Rattle.rustc_parse_format.specs.Characters.{Text, byte_length, begins_prefix};
-    ghost use Rattle.rustc_parse_format.specs.Characters.{begins_with, first, behind_first};
+    ghost use Rattle.rustc_parse_format.specs.Characters.{begins_with, first, after_first};
     ghost use Rattle.rustc_parse_format.specs.Characters.{is_id_start, first_passes};
     ghost use Rattle.std.specs.Char.{is_ascii_digit};
     ghost use Rattle.rustc_parse_format.specs.Marks.{Start, End};
@@ -56,7 +56,7 @@ impl<'input> Cursor<'input> {
     ghost use Rattle.rustc_parse_format.specs.Midway.{opens_placeholder, unread_at};
     ghost use Rattle.rustc_parse_format.specs.SeenSource.{IsKept, IsAnchored};
     ghost use Rattle.rustc_parse_format.specs.State.{first_of};
-    ghost use Rattle.rustc_parse_format.specs.Back.{IsFurthest, behind_part, given_back};
+    ghost use Rattle.rustc_parse_format.specs.Back.{IsFurthest, after_part, given_back};
     ghost use Rattle.rustc_parse_format.specs.Back.{nothing_back};
     ghost use Rattle.rustc_parse_format.specs.Steps.{AreFew};
     ghost use Rattle.rustc_parse_format.specs.World.{number_of, place_at};
@@ -100,7 +100,7 @@ impl<'input> Cursor<'input> {
     /// nothing when the program runs.
     pub fn steps_are_few(&self)
         ensures few { AreFew self.now.input self.now.rest self.now.back }
-        ensures word { behind_part self.now.rest ≤ self.now.back.left }
+        ensures word { after_part self.now.rest ≤ self.now.back.left }
     {
         let _rest = self.rest;
     }
@@ -125,18 +125,18 @@ impl<'input> Cursor<'input> {
 
     /// Returns the character after the next one, or `None` if there is none.
     pub fn peek_ahead(&self) -> Option<char>
-        ensures { result ≡ first (behind_first self.now.rest) }
+        ensures { result ≡ first (after_first self.now.rest) }
     {
-        first(behind_first(self.rest))
+        first(after_first(self.rest))
     }
 
     /// Moves past the next character, if there is one. Only this function, `consume_place` and the
     /// functions of `words` move forward.
     pub fn skip_char(&mut self)
-        ensures rest { self.new ≡ record self.old { rest = behind_first self.old.rest } }
+        ensures rest { self.new ≡ record self.old { rest = after_first self.old.rest } }
     {
         self.tally.pass(count_next(self.rest));
-        self.rest = behind_first(self.rest);
+        self.rest = after_first(self.rest);
     }
 
     /// Moves past the next character, if there is one, and returns its byte range in the source. At
@@ -144,7 +144,7 @@ impl<'input> Cursor<'input> {
     #[inline(always)]
     pub fn consume_place(&mut self) -> Range<usize>
         ensures place { pair result ≡ place_at self.old.world (length self.old.rest) }
-        ensures rest { self.new ≡ record self.old { rest = behind_first self.old.rest } }
+        ensures rest { self.new ≡ record self.old { rest = after_first self.old.rest } }
     {
         self.tally.pass(count_next(self.rest));
         let (place, rest) = self.source.pass(self.rest, &mut self.anchor);
@@ -158,7 +158,7 @@ impl<'input> Cursor<'input> {
         requires anchored { IsAnchored self.old.source to.rest.now to.anchor }
         requires furthest { IsFurthest (chars to.rest.now) self.old.back }
         requires earlier { length self.old.rest ≤ length (chars to.rest.now) }
-        requires word { behind_part (chars to.rest.now) ≤ length self.old.rest }
+        requires word { after_part (chars to.rest.now) ≤ length self.old.rest }
         ensures { self.new ≡ unread_at self.old.source to.entry.rest.now (given_back self.old.rest
             (chars to.entry.rest.now) self.old.back) self.old.undo_count }
     {
@@ -252,10 +252,9 @@ impl<'input> Cursor<'input> {
     #[inline(always)]
     pub fn peek_place_ahead(&self) -> Option<(Range<usize>, usize, char)>
         ensures { option_map (λ x. (pair x.0, x.1, x.2)) result
-            ≡ first_of self.now.world self.now.input (behind_first self.now.rest) }
+            ≡ first_of self.now.world self.now.input (after_first self.now.rest) }
     {
-        self.source
-            .peek_place(behind_first(self.rest), &self.anchor)
+        self.source.peek_place(after_first(self.rest), &self.anchor)
     }
 
     /// Returns the byte offset of the next character in the input, or at the end the length of the
@@ -280,7 +279,7 @@ impl<'input> Cursor<'input> {
         requires { c < 128 }
         ensures value { result ≡ begins_with c self.old.rest }
         ensures rest { self.new ≡ record self.old {
-          rest = if begins_with c self.old.rest then behind_first self.old.rest else self.old.rest;
+          rest = if begins_with c self.old.rest then after_first self.old.rest else self.old.rest;
         } }
     {
         let is_there = self.is_next(c);
@@ -293,9 +292,9 @@ impl<'input> Cursor<'input> {
     /// Returns whether the character after the next one is `c`, which is ASCII.
     pub fn is_ahead(&self, c: char) -> bool
         requires { c < 128 }
-        ensures { result ≡ begins_with c (behind_first self.now.rest) }
+        ensures { result ≡ begins_with c (after_first self.now.rest) }
     {
-        begins(behind_first(self.rest), c)
+        begins(after_first(self.rest), c)
     }
 
     /// Returns whether a placeholder opens here: the next character is an opening brace, and the
@@ -330,8 +329,8 @@ impl<'input> Cursor<'input> {
 
     /// Returns whether the character after the next one can begin a word.
     pub fn is_word_ahead(&self) -> bool
-        ensures { result ≡ first_passes is_id_start (behind_first self.now.rest) }
+        ensures { result ≡ first_passes is_id_start (after_first self.now.rest) }
     {
-        begins_word(behind_first(self.rest))
+        begins_word(after_first(self.rest))
     }
 }

@@ -15,7 +15,7 @@ ghost use Rattle.rustc_parse_format.specs.LiteralReading.{seen_characters, spell
 ghost use Rattle.rustc_parse_format.specs.LiteralUnits.{LiteralUnit, at_most_one, is_plain};
 ghost use Rattle.rustc_parse_format.specs.LiteralUnits.{meaning};
 ghost use Rattle.rustc_parse_format.specs.LiteralUnits.{unit_at};
-ghost use Rattle.rustc_parse_format.specs.Characters.{Text, behind, front};
+ghost use Rattle.rustc_parse_format.specs.Characters.{Text, rest_after, front};
 ghost use Rattle.rustc_parse_format.specs.World.{later, literal_end, newline_places, world};
 
 mod rest;
@@ -102,7 +102,7 @@ pub fn read_content(
 fn put_plain(text: &mut String, rest: &mut Rest<'_>) -> Result<(), AllocError>
     ensures text { OnOk result (chars (string_bytes text.new)
         ≡ chars (string_bytes text.old) ++ front is_plain rest.old) }
-    ensures rest { rest.new ≡ behind is_plain rest.old }
+    ensures rest { rest.new ≡ rest_after is_plain rest.old }
     ensures empty { rest.old ≡ [] → IsOk result }
 {
     let plain = rest.take_run(Class::Plain);
@@ -195,7 +195,7 @@ pub fn between_quotes(snippet: &str) -> Option<&str>
         (λ t. chars snippet.now ≡ ordinary_frame (chars t.now)) }
 {
     match snippet.strip_prefix('"') {
-        Some(behind) => behind.strip_suffix('"'),
+        Some(rest_after) => rest_after.strip_suffix('"'),
         None => None,
     }
 }
@@ -206,11 +206,11 @@ pub fn between_quotes(snippet: &str) -> Option<&str>
 fn skip_byte_escapes(rest: &mut Rest<'_>, wanted: &mut Rest<'_>)
     ensures { SameEnds rest.old wanted.old rest.new wanted.new }
 {
-    while let Some((byte, behind)) = byte_escape(rest.text()) {
+    while let Some((byte, rest_after)) = byte_escape(rest.text()) {
         if !wanted.consume_ascii(byte) {
             return;
         }
-        *rest = Rest::new(behind);
+        *rest = Rest::new(rest_after);
     }
 }
 

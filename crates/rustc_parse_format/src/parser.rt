@@ -56,7 +56,7 @@ impl<'input> Parser<'input> {
     ghost use Rattle.std.specs.Prelude.{List, Option, IfOk, IsNone, IsOk, IsTrue, OnErr, OnOk};
     ghost use Rattle.std.specs.Prelude.{chars, length, map, option_map};
     ghost use Rattle.rustc_parse_format.specs.Agreement.{Agree};
-    ghost use Rattle.rustc_parse_format.specs.Characters.{Text, behind_first, byte_length, is_nil};
+    ghost use Rattle.rustc_parse_format.specs.Characters.{Text, after_first, byte_length, is_nil};
     ghost use Rattle.std.specs.List.{filter};
     ghost use Rattle.rustc_parse_format.specs.Faults.{Keeps, add_errors, bare_fault, bare_message};
     ghost use Rattle.rustc_parse_format.specs.Faults.{is_front};
@@ -289,7 +289,7 @@ impl<'input> Parser<'input> {
     #[inline(always)]
     pub fn peek_ahead(&self) -> Option<(Range<usize>, usize, char)>
         ensures { option_map (λ x. (pair x.0, x.1, x.2)) result
-            ≡ first_of self.now.world self.now.input (behind_first self.now.rest) }
+            ≡ first_of self.now.world self.now.input (after_first self.now.rest) }
     {
         self.reader.cursor.peek_place_ahead()
     }

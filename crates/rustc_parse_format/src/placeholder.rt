@@ -16,7 +16,7 @@ impl<'input> Reader<'input> {
     ghost use Rattle.std.specs.Prelude.{Some, suc};
     ghost use Rattle.std.specs.Prelude.{true, unwrap_or};
     ghost use Rattle.rustc_parse_format.specs.Meaning.{spec_texts, argument};
-    ghost use Rattle.rustc_parse_format.specs.Characters.{begins_prefix, behind_white};
+    ghost use Rattle.rustc_parse_format.specs.Characters.{begins_prefix, after_white};
     ghost use Rattle.rustc_parse_format.specs.Marks.{up_to};
     ghost use Rattle.rustc_parse_format.specs.PartFaults.{cut_faults, name_faults, position_faults};
     ghost use Rattle.rustc_parse_format.specs.Placeholder.{cut, position};
@@ -85,7 +85,7 @@ impl<'input> Reader<'input> {
     #[tactic(auto, using(crate::proofs::Readers::RawWords::no_positions))]
     fn has_no_position(&self) -> bool
         ensures position { IsTrue result → position self.now.rest ≡ (NoPosition, self.now.rest) }
-        ensures white { IsTrue result → behind_white self.now.rest ≡ self.now.rest }
+        ensures white { IsTrue result → after_white self.now.rest ≡ self.now.rest }
     {
         matches!(self.cursor.peek(), Some('}' | ':'))
     }
@@ -103,17 +103,17 @@ impl<'input> Reader<'input> {
         ensures value { OnOk result
             (seen_position into.new.position ≡ position_of 0 (position self.old.rest).0) }
         ensures span { (let p = position self.old.rest in OnOk result (pair into.new.position_span
-            ≡ place_of self.old.world (up_to self.old.rest (behind_white p.1)))) }
+            ≡ place_of self.old.world (up_to self.old.rest (after_white p.1)))) }
         ensures format { into.new.format ≡ into.old.format }
         ensures state { OnOk result (self.new ≡ (let p = position self.old.rest in
             let fs = position_faults self.old.rest p.0 in
-            record (read_to self.old (behind_white p.1) self.old.next fs) {
+            record (read_to self.old (after_white p.1) self.old.next fs) {
               faults = (self.old.faults ++ faults_in self.old.world fs) ++ name_faults
                   (seen_mode mode) (given_position p.0) (pair into.new.position_span);
             })) }
         ensures err { OnErr result (self.new.source ≡ self.old.source) }
         ensures spare { (let p = position self.old.rest in
-            let span = up_to self.old.rest (behind_white p.1) in
+            let span = up_to self.old.rest (after_white p.1) in
             position_faults self.old.rest p.0 ≡ []
             → name_faults (seen_mode mode) (given_position p.0) span ≡ [] → IsOk result) }
     {

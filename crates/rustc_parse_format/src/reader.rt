@@ -4,7 +4,7 @@
 ghost use Rattle.std.specs.Prelude.{◌≡◌, ◌≢◌, ◌++◌, ◌+◌, ◌<◌, ◌^◌, ◌∷◌, [], ◌↔◌};
 ghost use Rattle.std.specs.Prelude.{IfOk, IsOk, IsTrue, None, OnErr, OnOk, Some, chars, length};
 ghost use Rattle.std.specs.Prelude.{map, option_map, take};
-ghost use Rattle.rustc_parse_format.specs.Characters.{behind, behind_first, first, front};
+ghost use Rattle.rustc_parse_format.specs.Characters.{rest_after, after_first, first, front};
 ghost use Rattle.rustc_parse_format.specs.Characters.{is_in_line, is_no_brace, with_first};
 ghost use Rattle.rustc_parse_format.specs.Midway.{HasFoundNothing, IsCounted, IsInOneLine};
 ghost use Rattle.rustc_parse_format.specs.Midway.{IsPastIndent, back_at, midway, passed_next};
@@ -190,8 +190,8 @@ impl<'input> Reader<'input> {
     /// end in the prefix.
     pub fn string_past_brace(&mut self) -> Result<&'input str, AllocError>
         ensures value { IfOk result (λ t. chars t.now
-            ≡ with_first self.old.rest (front is_no_brace (behind_first self.old.rest))) }
-        ensures reads { let s = record self.old { rest = behind_first self.old.rest } in
+            ≡ with_first self.old.rest (front is_no_brace (after_first self.old.rest))) }
+        ensures reads { let s = record self.old { rest = after_first self.old.rest } in
             Reaches self.old result self.new (read_run s) (IsInOneLine s) }
     {
         let from = self.cursor.checkpoint();

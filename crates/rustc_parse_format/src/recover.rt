@@ -52,7 +52,7 @@ impl<'input> Reader<'input> {
     ghost use Rattle.std.specs.Prelude.{[], ◌+◌, ◌<◌, ◌^◌, ◌≡◌, ◌≢◌, length, OnErr, OnOk};
     ghost use Rattle.rustc_parse_format.specs.Characters.{Text};
     ghost use Rattle.rustc_parse_format.specs.Marks.{Mark, Span, over_first};
-    ghost use Rattle.rustc_parse_format.specs.Midway.{behind_sign, recovered};
+    ghost use Rattle.rustc_parse_format.specs.Midway.{after_sign, recovered};
     ghost use Rattle.rustc_parse_format.specs.Recovery.{field, late_debug, recovery, sign_fault};
     ghost use Rattle.rustc_parse_format.specs.Seen.{pair, seen_argument, seen_mode};
     ghost use Rattle.rustc_parse_format.specs.Types.{Argument as ArgumentValue, map_argument};
@@ -68,7 +68,7 @@ impl<'input> Reader<'input> {
     ) -> Result<(), AllocError>
         ensures state { (let span = place_of self.old.world (over_first self.old.rest) in
             OnOk result (self.new
-            ≡ behind_sign self.old (sign_fault sign next span (pair opening)))) }
+            ≡ after_sign self.old (sign_fault sign next span (pair opening)))) }
         ensures err { OnErr result (self.new.source ≡ self.old.source) }
     {
         let span = self.cursor.start()..self.cursor.stop();

@@ -1,7 +1,7 @@
 //! The source of an input, and the byte ranges that the characters of the input have in it.
 
 ghost use Rattle.std.specs.Prelude.{◌≡◌, ◌+◌, ◌<◌, ◌^◌, chars, length, if◌then◌else◌, None};
-ghost use Rattle.rustc_parse_format.specs.Characters.{behind_first};
+ghost use Rattle.rustc_parse_format.specs.Characters.{after_first};
 ghost use Rattle.rustc_parse_format.specs.LiteralReading.{IsFound, is_longer, plain_end};
 ghost use Rattle.rustc_parse_format.specs.Seen.{pair, seen_snippet};
 ghost use Rattle.rustc_parse_format.specs.SeenSource.{IsAnchorIn, IsKept, seen_world};
@@ -9,7 +9,7 @@ ghost use Rattle.rustc_parse_format.specs.World.{hashes, place_at, quote_offset,
 
 mod anchor;
 
-use crate::characters::{behind_first, first};
+use crate::characters::{after_first, first};
 use crate::literal::source_end;
 pub use anchor::Anchor;
 use anchor::continuations_width;
@@ -68,7 +68,7 @@ impl<'input> Source<'input> {
         }
         match &self.kept_snippet {
             Some(snippet) => anchor.stop_of(snippet.as_str(), rest),
-            None => self.offset + (self.input.len() - behind_first(rest).len()),
+            None => self.offset + (self.input.len() - after_first(rest).len()),
         }
     }
 
@@ -83,7 +83,7 @@ impl<'input> Source<'input> {
     ) -> (Range<usize>, &'input str)
         requires { IsAnchored self.now rest.now anchor.old }
         ensures place { pair result.0 ≡ place_at (seen_world self.now) (length (chars rest.now)) }
-        ensures rest { chars result.1.now ≡ behind_first (chars rest.now) }
+        ensures rest { chars result.1.now ≡ after_first (chars rest.now) }
         ensures anchored { IsAnchored self.now result.1.now anchor.new }
     {
         if rest.is_empty() {
@@ -92,11 +92,11 @@ impl<'input> Source<'input> {
         match &self.kept_snippet {
             Some(snippet) => anchor.pass(snippet.as_str(), rest),
             None => {
-                let behind = behind_first(rest);
+                let rest_after = after_first(rest);
                 let start = self.offset + (self.input.len() - rest.len());
                 (
-                    start..self.offset + (self.input.len() - behind.len()),
-                    behind,
+                    start..self.offset + (self.input.len() - rest_after.len()),
+                    rest_after,
                 )
             }
         }

@@ -13,8 +13,8 @@ impl<'input> Reader<'input> {
     ghost use Rattle.std.specs.Prelude.{IsOk, length, None, OnErr, OnOk, option_map, Some};
     ghost use Rattle.rustc_parse_format.specs.Meaning.{spec_texts, fill_span, format_of, spec_of};
     ghost use Rattle.rustc_parse_format.specs.Meaning.{type_span, word_span};
-    ghost use Rattle.rustc_parse_format.specs.Characters.{begins_with, behind, behind_first};
-    ghost use Rattle.rustc_parse_format.specs.Characters.{behind_word, front, is_no_brace, word};
+    ghost use Rattle.rustc_parse_format.specs.Characters.{begins_with, rest_after, after_first};
+    ghost use Rattle.rustc_parse_format.specs.Characters.{after_word, front, is_no_brace, word};
     ghost use Rattle.rustc_parse_format.specs.Marks.{up_to};
     ghost use Rattle.rustc_parse_format.specs.PartFaults.{flag_faults, format_faults, spec_faults};
     ghost use Rattle.rustc_parse_format.specs.PartFaults.{text_faults, type_faults, word_faults};
@@ -106,9 +106,9 @@ impl<'input> Reader<'input> {
             OnOk result (seen_spec format.new ≡ record (seen_spec format.old) {
               ty = word t;
               ty_span = option_map (place_of self.old.world)
-                  (word_span t (word t) (behind_word t));
+                  (word_span t (word t) (after_word t));
             })) }
-        ensures reads { ReadsTo self.old result self.new (behind_word self.old.rest) self.old.next
+        ensures reads { ReadsTo self.old result self.new (after_word self.old.rest) self.old.next
             (word_faults self.old.rest) [] }
     {
         if !self.cursor.is_word_next() {
@@ -124,7 +124,7 @@ impl<'input> Reader<'input> {
     /// Reads the type `?`. A flag after it is a fault, and is not read. Returns `Err` if an
     /// allocation fails.
     fn debug_type(&mut self) -> Result<(), AllocError>
-        ensures reads { ReadsTo self.old result self.new (behind_first self.old.rest) self.old.next
+        ensures reads { ReadsTo self.old result self.new (after_first self.old.rest) self.old.next
             (flag_faults self.old.rest) [] }
     {
         let Some(flag @ ('#' | 'x' | 'X')) = self.cursor.peek_ahead() else {
@@ -207,18 +207,18 @@ impl<'input> Reader<'input> {
         format: &mut FormatSpec<'input>,
     ) -> Result<(), AllocError>
         ensures value { OnOk result (seen_spec format.new ≡ record (seen_spec format.old) {
-          ty = front is_no_brace (behind_first self.old.rest);
+          ty = front is_no_brace (after_first self.old.rest);
           ty_span = Some (place_of self.old.world
-              (up_to self.old.rest (behind is_no_brace (behind_first self.old.rest))));
+              (up_to self.old.rest (rest_after is_no_brace (after_first self.old.rest))));
         }) }
-        ensures state { OnOk result (self.new ≡ (let t = behind_first self.old.rest in
+        ensures state { OnOk result (self.new ≡ (let t = after_first self.old.rest in
             record (read_run (record self.old { rest = t })) {
               faults = self.old.faults ++ text_faults (seen_mode mode) (front is_no_brace t)
-                  (place_of self.old.world (up_to self.old.rest (behind is_no_brace t)));
+                  (place_of self.old.world (up_to self.old.rest (rest_after is_no_brace t)));
             })) }
         ensures err { OnErr result (self.new.source ≡ self.old.source) }
-        ensures spare { (let t = behind_first self.old.rest in
-            let span = up_to self.old.rest (behind is_no_brace t) in
+        ensures spare { (let t = after_first self.old.rest in
+            let span = up_to self.old.rest (rest_after is_no_brace t) in
             text_faults (seen_mode mode) (front is_no_brace t) span ≡ []
             → IsInOneLine (record self.old { rest = t }) → IsOk result) }
     {

@@ -13,9 +13,9 @@ use Rattle.format_calls.specs.declared.modes.Mode.{Mode}
 use Rattle.format_calls.specs.declared.modes.Mode.TheVariants.{Start, Within, Operator, Angles}
 use Rattle.format_calls.specs.declared.modes.Mode.TheVariants.{Parameters}
 use Rattle.format_calls.specs.Arguments.{IsTree, Walks, is_end, is_plain_mode}
-use Rattle.format_calls.specs.Marks.{is_behind, is_mark, is_mark_of, is_word}
+use Rattle.format_calls.specs.Marks.{is_after, is_mark, is_mark_of, is_word}
 use Rattle.format_calls.specs.Modes.{are_joint, is_operator, is_prefix, is_text}
-use Rattle.format_calls.specs.Modes.{mode_after, mode_behind}
+use Rattle.format_calls.specs.Modes.{mode_after, mode_after_leaf}
 use Rattle.format_calls.proofs.Parting.{get-front, get-shift}
 
 -- The tokens xs stand among ys from the token g on.
@@ -77,14 +77,14 @@ mode_by a b p q r (Angles n) =
     (if nat_lt 1 n then Angles (n - 1) else Within false))
 mode_by a b p q r Parameters = if is_mark_of (code "|") a then Start false else Parameters
 
-after-is : (xs : List Leaf) (i : ℕ) (o : Option Leaf) (s t : Bool) → mode_behind xs i o s t
-    ≡ after_by (slice_get xs i) (slice_get xs (i + 1)) (is_behind (code "-") xs i)
+after-is : (xs : List Leaf) (i : ℕ) (o : Option Leaf) (s t : Bool) → mode_after_leaf xs i o s t
+    ≡ after_by (slice_get xs i) (slice_get xs (i + 1)) (is_after (code "-") xs i)
     (slice_get xs (i - 1)) (slice_get xs (i - 1 + 1)) o s t
 after-is xs i None s t = refl
 after-is xs i (Some x) s t = refl
 
 mode-is : (xs : List Leaf) (i : ℕ) (m : Mode) → mode_after xs i m
-    ≡ mode_by (slice_get xs i) (slice_get xs (i + 1)) (is_behind (code "-") xs i)
+    ≡ mode_by (slice_get xs i) (slice_get xs (i + 1)) (is_after (code "-") xs i)
     (slice_get xs (i - 1)) (slice_get xs (i - 1 + 1)) m
 mode-is xs i (Start t) =
     ap (λ v. if opens_by (slice_get xs i) (slice_get xs (i + 1)) then Angles 1 else
@@ -105,11 +105,11 @@ mode-of a b q r c d s t p u m e f g h k =
     ∙ ap (λ v. mode_by c d u s v m) k)))
 
 before-at : (m : ℕ) (xs ys : List Leaf) (g i n : ℕ) → Embeds xs ys g → n ≡ g + i → 0 < i
-    → i < length xs → is_behind m ys n ≡ is_behind m xs i
+    → i < length xs → is_after m ys n ≡ is_after m xs i
 before-at m xs ys g zero n e h z l = absurd (omega (arith, z))
 before-at m xs ys g (suc i) n e h z l =
     let k : n ≡ suc (g + i) = omega (arith, h) in
-    ap (λ v. is_behind m ys v) k ∙ mark-at m xs ys g i (g + i) e refl (omega (arith, l))
+    ap (λ v. is_after m ys v) k ∙ mark-at m xs ys g i (g + i) e refl (omega (arith, l))
 
 pub mode-at : (xs ys : List Leaf) (g i : ℕ) (m : Mode) → Embeds xs ys g → 0 < i
     → i + 1 < length xs → mode_after ys (g + i) m ≡ mode_after xs i m

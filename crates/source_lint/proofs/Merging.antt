@@ -70,7 +70,7 @@ is-one es gap part left cs ds c p a b (inl h) =
 is-one es gap part left cs ds c p a b (inr h) =
     let f = in-mapped (moved (length gap + length part)) ds c h in
     subst (λ d. IsCall es (gap ++ (part ++ left)) d) f.is_it
-    ((p.behind f.from).0 ((b.each f.from).0 f.is_in))
+    ((p.rest_after f.from).0 ((b.each f.from).0 f.is_in))
 
 -- Each call is one of a part, or of what is left after it.
 is-there : (es : List Entry) (gap part left : List Leaf) (cs ds : List Call) (c : Call)
@@ -102,7 +102,7 @@ is-there es gap part left cs ds c p a b k = by_place (cases_lt c.name (length ga
         let d = back (length gap + length part) c in
         let e : moved (length gap + length part) d ≡ c =
         moved-back (length gap + length part) c l (omega (arith, l, z)) in
-        let m = (p.behind d).1 (subst (λ v. IsCall es (gap ++ (part ++ left)) v) (sym e) k) in
+        let m = (p.rest_after d).1 (subst (λ v. IsCall es (gap ++ (part ++ left)) v) (sym e) k) in
         Contains-append_right first second c (subst (λ v. Contains second v) e
         (mapped-in (moved (length gap + length part)) ds d ((b.each d).1 m)))
 

@@ -14,7 +14,7 @@ use Rattle.call_faults.specs.Labels.{Call, labels}
 use Rattle.call_faults.specs.Notes.{help, notes}
 use Rattle.call_faults.specs.Spots.{Edit, Help}
 use Rattle.call_faults.specs.declared.spots.Spot.{Spot}
-use Rattle.call_faults.specs.Words.{Told, call_id, title}
+use Rattle.call_faults.specs.Words.{TitleParts, call_id, title}
 use Rattle.std.specs.declared.ops.Range.{Range}
 use Rattle.source_lint.specs.declared.report.CallReading.{CallReading}
 use Rattle.source_lint.specs.declared.report.CallReading.TheVariants.{Whole, StringAlone}
@@ -23,8 +23,8 @@ use Rattle.source_lint.specs.declared.report.Finding.{Finding}
 use Rattle.source_lint.specs.declared.report.Help.{Help as FileHelp}
 
 -- The parts of a call that titles tell, with the numbers that are too large.
-abbrev pub told_in : Call → List ℕ → Told Place
-told_in c ns = record {
+abbrev pub report_in : Call → List ℕ → TitleParts Place
+report_in c ns = record {
   given = c.given;
   count = length c.kept;
   pieces = c.pieces;
@@ -71,13 +71,13 @@ pub record Tells (b : Bool) (c : Call) (f : CallFault) (x : Finding) : Type 0 wh
   pub is_warning : x.is_warning ≡ is_warning f
   pub id : x.id.now ≡ call_id f
   pub title : (r : Report) → IsReport (uses c.pieces) (length c.kept) [] r
-      → string_bytes x.title ≡ title (told_in c r.missing_index) f
+      → string_bytes x.title ≡ title (report_in c r.missing_index) f
   pub are_primary : map (λ l. l.is_primary) x.labels.items ≡ map (λ l. l.is_primary) (labels c f)
   pub label_texts : map (λ l. string_bytes l.text) x.labels.items ≡ map (λ l. l.text) (labels c f)
   pub note_texts : map (λ n. string_bytes n.text) x.notes.items ≡ map (λ n. n.text) (notes c f)
   pub shown_counts : map (λ n. length n.ranges.items) x.notes.items
       ≡ map (λ n. length n.spots) (notes c f)
-  pub tells_help : TellsHelp (counted_help b (help c f)) x.help
+  pub has_help : TellsHelp (counted_help b (help c f)) x.help
 
 -- These findings say what these faults are, one for each.
 abbrev pub TellAll : Bool → Call → List CallFault → List Finding → Type 0

@@ -171,7 +171,7 @@ fn finding<'c>(
     call: &AsmCall<'c>,
     fault: &AsmFault<'c>,
 ) -> Result<Finding, AllocError>
-    ensures tells { IfOk result (λ x. TellsAsm (map seen_operand call.now.operands.items)
+    ensures outcome { IfOk result (λ x. TellsAsm (map seen_operand call.now.operands.items)
         (seen_fault fault.now) x) }
     ensures spans { IfOk result (λ x. HasSpans site.entry.text.now x) }
 {
@@ -209,7 +209,7 @@ fn put_finding<'c>(
     fault: &AsmFault<'c>,
     is_whole: bool,
 ) -> Result<(), AllocError>
-    ensures told { OnOk result ((xs : List FindingValue)
+    ensures outcome { OnOk result ((xs : List FindingValue)
         × (findings.new.items ≡ findings.old.items ++ xs)
         × TellAllAsm (map seen_operand call.now.operands.items)
         (counted_asm is_whole (seen_fault fault.now ∷ [])) xs) }
@@ -231,7 +231,7 @@ pub fn put_findings<'c>(
     call: &AsmCall<'c>,
     is_whole: bool,
 ) -> Result<(), AllocError>
-    ensures told { OnOk result ((xs : List FindingValue)
+    ensures outcome { OnOk result ((xs : List FindingValue)
         × (findings.new.items ≡ findings.old.items ++ xs)
         × TellAllAsm (map seen_operand call.now.operands.items)
         (counted_asm is_whole (map seen_fault call.now.faults.items)) xs) }

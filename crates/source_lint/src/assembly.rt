@@ -200,7 +200,7 @@ fn check_call<'c>(
 ) -> Result<(), AllocError>
     requires { AllByRecursion (λ t. hashes t.style + length t.text.now + 2 < 2 ^ 64)
         templates.now }
-    ensures told { OnOk result ((xs : List FindingValue)
+    ensures outcome { OnOk result ((xs : List FindingValue)
         × (findings.new.items ≡ findings.old.items ++ xs)
         × TellAllAsm (slots_after [] (map seen_operand operands.now)) (counted_asm is_whole
         (asm_faults (map seen_template templates.now) (map seen_operand operands.now))) xs) }

@@ -78,7 +78,7 @@ fn finding<'c>(
     fault: &CallFault<'c>,
     is_whole: bool,
 ) -> Result<Finding, AllocError>
-    ensures tells { IfOk result (λ x.
+    ensures outcome { IfOk result (λ x.
         Tells is_whole (seen_call checked.now) (seen_fault fault.now) x) }
     ensures spans { IfOk result (λ x. HasSpans site.entry.text.now x) }
 {
@@ -110,7 +110,7 @@ fn put_finding<'c>(
     fault: &CallFault<'c>,
     is_whole: bool,
 ) -> Result<(), AllocError>
-    ensures told { OnOk result ((xs : List FindingValue)
+    ensures outcome { OnOk result ((xs : List FindingValue)
         × (findings.new.items ≡ findings.old.items ++ xs)
         × TellAll is_whole (seen_call checked.now)
         (counted_faults is_whole (seen_fault fault.now ∷ [])) xs) }
@@ -132,7 +132,7 @@ pub fn put_findings<'c>(
     checked: &Checked<'c>,
     is_whole: bool,
 ) -> Result<(), AllocError>
-    ensures told { OnOk result ((xs : List FindingValue)
+    ensures outcome { OnOk result ((xs : List FindingValue)
         × (findings.new.items ≡ findings.old.items ++ xs)
         × AreFindings is_whole (seen_call checked.now) xs) }
     ensures spans { OnOk result (All (HasSpans site.entry.text.now) findings.old.items

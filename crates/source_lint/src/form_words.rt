@@ -159,7 +159,7 @@ fn form_labels(
     form: Form<'_>,
 ) -> Result<Vec<Label>, AllocError>
     requires { IsSpan text.now span.now }
-    ensures told { IfOk result (λ v. TellLabels (form_labels (seen_form form.entry)) v.items) }
+    ensures outcome { IfOk result (λ v. TellLabels (form_labels (seen_form form.entry)) v.items) }
     ensures spans { IfOk result (λ v. All (λ l. IsSpan text.now l.range) v.items) }
 {
     let mut labels = Vec::new(alloc);
@@ -202,7 +202,7 @@ fn form_help(
     span: &Range<usize>,
     form: Form<'_>,
 ) -> Result<Option<Help>, AllocError>
-    ensures told { IfOk result (λ o. TellsHelp (form_help (seen_form form.entry)) o) }
+    ensures outcome { IfOk result (λ o. TellsHelp (form_help (seen_form form.entry)) o) }
     ensures spans { IfOk result (λ o. IfSome o (λ h. All (λ e. IsSpan text.now e.range)
         h.edits.items)) }
 {
@@ -229,7 +229,7 @@ fn form_finding(
     form: Form<'_>,
 ) -> Result<Finding, AllocError>
     requires { IsSpan text.now span }
-    ensures told { IfOk result (λ x. TellsForm (seen_form form.entry) x) }
+    ensures outcome { IfOk result (λ x. TellsForm (seen_form form.entry) x) }
     ensures spans { IfOk result (λ x. HasSpans text.now x) }
 {
     let mut title = String::new(alloc);
@@ -257,7 +257,7 @@ pub fn put_form(
     arguments: &[Argument],
     form: Option<Form<'_>>,
 ) -> Result<(), AllocError>
-    ensures told { OnOk result ((xs : List FindingValue)
+    ensures outcome { OnOk result ((xs : List FindingValue)
         × (findings.new.items ≡ findings.old.items ++ xs)
         × TellsForms (option_map seen_form form.entry) xs) }
     ensures spans { OnOk result (All (HasSpans text.now) findings.old.items

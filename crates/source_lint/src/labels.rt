@@ -100,7 +100,7 @@ fn edit_text(site: Site<'_, '_>, edit: CallEdit) -> Result<String, AllocError>
 
 /// Returns edits of a call with their ranges. Returns `Err` if an allocation fails.
 fn edits(alloc: Global, site: Site<'_, '_>, edits: Vec<CallEdit>) -> Result<Vec<Edit>, AllocError>
-    ensures told { IfOk result (λ v. TellEdits (map seen_edit edits.items) v.items) }
+    ensures outcome { IfOk result (λ v. TellEdits (map seen_edit edits.items) v.items) }
     ensures spans { IfOk result (λ v. All (λ x. IsSpan site.entry.text.now x.range) v.items) }
 {
     let mut found = Vec::new(alloc);
@@ -118,7 +118,7 @@ pub fn help(
     site: Site<'_, '_>,
     help: Option<CallHelp>,
 ) -> Result<Option<Help>, AllocError>
-    ensures told { IfOk result (λ o. TellsHelp (option_map seen_help help) o) }
+    ensures outcome { IfOk result (λ o. TellsHelp (option_map seen_help help) o) }
     ensures spans { IfOk result (λ o. IfSome o (λ x. All (λ e. IsSpan site.entry.text.now e.range)
         x.edits.items)) }
 {

@@ -51,7 +51,7 @@ fn finding(
     name: &str,
     fault: &MessageFault<'_>,
 ) -> Result<Finding, AllocError>
-    ensures tells { IfOk result (λ x. TellsMessage (chars name.now) (seen_fault fault.now) x) }
+    ensures outcome { IfOk result (λ x. TellsMessage (chars name.now) (seen_fault fault.now) x) }
     ensures spans { IfOk result (λ x. HasSpans site.entry.text.now x) }
 {
     let mut title = String::new(alloc);
@@ -78,7 +78,7 @@ fn put_findings(
     name: &str,
     faults: &[MessageFault<'_>],
 ) -> Result<(), AllocError>
-    ensures told { OnOk result ((xs : List FindingValue)
+    ensures outcome { OnOk result ((xs : List FindingValue)
         × (findings.new.items ≡ findings.old.items ++ xs)
         × TellMessages (chars name.now) (map seen_fault faults.now) xs) }
     ensures spans { OnOk result (All (HasSpans site.entry.text.now) findings.old.items

@@ -84,7 +84,7 @@ fn check_string<'c>(
     is_counted: bool,
 ) -> Result<(), AllocError>
     requires { hashes string.style + length string.text.now + 2 < 2 ^ 64 }
-    ensures told { OnOk result (let s = start string.entry in (xs : List FindingValue)
+    ensures outcome { OnOk result (let s = start string.entry in (xs : List FindingValue)
         × (findings.new.items ≡ findings.old.items ++ xs)
         × AreFindings is_counted (call_of string.entry.captures s (map seen_given given.now)) xs) }
     ensures spans { OnOk result (All (HasSpans site.entry.text.now) findings.old.items

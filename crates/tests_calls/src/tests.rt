@@ -199,7 +199,7 @@ fn each_kind_has_its_id(rt: HostRuntime) -> Result<(), Fail> {
 }
 
 #[test]
-fn titles_out_of_memory_are_told_again(rt: HostRuntime) -> Result<(), Fail> {
+fn titles_out_of_memory_are_read_again(rt: HostRuntime) -> Result<(), Fail> {
     let alloc = rt.alloc();
     let string = plain("{:q}{a}{4}{x:y$}{");
     let expected = "duplicate argument named `x`\n\
@@ -216,7 +216,7 @@ fn titles_out_of_memory_are_told_again(rt: HostRuntime) -> Result<(), Fail> {
 }
 
 #[test]
-fn compared_out_of_memory_is_told_again(rt: HostRuntime) -> Result<(), Fail> {
+fn compared_out_of_memory_is_read_again(rt: HostRuntime) -> Result<(), Fail> {
     let alloc = rt.alloc();
     let string = plain("{:q}{b}{4}{x:y$}");
     let expected = "unknown format trait `q`\n\

@@ -66,7 +66,7 @@ const FOUND: Row = Row {
     ],
 };
 
-/// No flag has a fault of its own behind the type `?`.
+/// No flag has a fault of its own after the type `?`.
 const FLAG: Row = Row {
     line: 1,
     before: "fn f() { unsafe { core::arch::asm!(",

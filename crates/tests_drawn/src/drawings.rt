@@ -11,7 +11,7 @@ use std::alloc::{AllocError, Global};
 use std::process::Abort;
 use std::test::Fail;
 
-/// Texts, one behind the other, with a text behind each.
+/// Texts, one after the other, with a text after each.
 fn joined(alloc: Global, texts: &[&str], end: &str) -> Result<String, AllocError> {
     let mut all = String::new(alloc);
     for text in texts {
@@ -41,7 +41,7 @@ fn errors_in(
     )
 }
 
-/// The drawing of a fault of a row, and once more behind that text.
+/// The drawing of a fault of a row, and once more after that text.
 fn drawn(
     alloc: Global,
     mode: ParseMode,

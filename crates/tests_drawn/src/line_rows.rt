@@ -219,7 +219,7 @@ const LONG_SLASH: Row = Row {
     ],
 };
 
-/// Of a long label three lines behind the first one, and the one before the last one.
+/// Of a long label three lines after the first one, and the one before the last one.
 const LONG_DOTS: Row = Row {
     line: 1,
     before: "fn f() { format!(",

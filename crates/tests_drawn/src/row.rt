@@ -9,7 +9,7 @@ pub struct Row {
     pub before: &'static str,
     /// The literal.
     pub literal: &'static str,
-    /// What is behind it.
+    /// What is after it.
     pub after: &'static str,
     /// The hashes of a raw literal.
     pub style: Option<usize>,

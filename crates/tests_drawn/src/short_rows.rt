@@ -23,7 +23,7 @@ const UNMATCHED: Row = Row {
     ],
 };
 
-/// A label behind the text, and a second one: their texts hang.
+/// A label after the text, and a second one: their texts hang.
 const AT_THE_END: Row = Row {
     line: 1,
     before: "fn f() { format!(",

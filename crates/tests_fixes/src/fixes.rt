@@ -177,7 +177,7 @@ const LITERALS: &[Row<'static>] = &[
     ("{r#a}", Some(0), "\"{r#a}\"", false, "", ""),
     ("{r#a}", None, "\"{r#b}\"", false, "", ""),
     ("{r#a}", None, "concat!(\"{r#\", \"a}\")", false, "", ""),
-    // the no-break space behind the continued line belongs to the text
+    // the no-break space after the continued line belongs to the text
     ("{?}한", None, "\"\\\n\u{a0}{?}한\"", false, "", ""),
 ];
 

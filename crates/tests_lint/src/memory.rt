@@ -57,7 +57,7 @@ fn check(rt: &(impl Abort + Print), alloc: Global, row: &Row) -> Result<(), Fail
         reader = row.input;
         answer = run(alloc, &mut reader, &mut writer, &mut errors, row.task());
     }
-    assert_eq!(rt; answer, Ok(row.told));
+    assert_eq!(rt; answer, Ok(row.report));
     assert!(rt; writer.is_same && writer.rest.is_empty());
     assert!(rt; errors.is_same && errors.rest.is_empty());
     Ok(())

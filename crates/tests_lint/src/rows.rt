@@ -19,7 +19,7 @@ pub struct Row {
     pub input: &'static [u8],
     pub output: &'static str,
     pub error_output: &'static str,
-    pub told: usize,
+    pub report: usize,
 }
 
 impl Row {
@@ -50,7 +50,7 @@ fn check(rt: &impl Abort, alloc: Global, row: &Row) -> Result<(), Fail> {
     let mut written = Vec::new(alloc);
     let mut drawn = Vec::new(alloc);
     let answer = run(alloc, &mut reader, &mut written, &mut drawn, row.task());
-    assert_eq!(rt; answer, Ok(row.told));
+    assert_eq!(rt; answer, Ok(row.report));
     assert_eq!(rt; written.as_slice(), row.output.as_bytes());
     assert_eq!(rt; drawn.as_slice(), row.error_output.as_bytes());
     Ok(())
@@ -85,7 +85,7 @@ const LISTED: Row = Row {
         text 23..24 \"b\"\n\
         quote 24..25 \"\\\"\"\n",
     error_output: "",
-    told: 0,
+    report: 0,
 };
 
 /// The same in colours.
@@ -100,7 +100,7 @@ const COLOURED: Row = Row {
         \u{1b}[36m1\u{1b}[0m\u{1b}[35m$\u{1b}[0m\u{1b}[35m.\u{1b}[0m\u{1b}[36m*\u{1b}[0m\
         \u{1b}[32mx?\u{1b}[0m \u{1b}[35m}\u{1b}[0m\u{1b}[34m{{\u{1b}[0mb\"\n",
     error_output: "",
-    told: 0,
+    report: 0,
 };
 
 /// The kinds of other modes.
@@ -113,7 +113,7 @@ const MODIFIER: Row = Row {
     output: "open 0..1 \"{\"\ninteger 1..2 \"0\"\ncolon 2..3 \":\"\nmodifier 3..4 \"e\"\n\
         close 4..5 \"}\"\n",
     error_output: "",
-    told: 0,
+    report: 0,
 };
 
 const DIAGNOSTIC: Row = Row {
@@ -124,7 +124,7 @@ const DIAGNOSTIC: Row = Row {
     input: b"{T:a }",
     output: "\u{1b}[35m{\u{1b}[0m\u{1b}[36mT\u{1b}[0m\u{1b}[35m:\u{1b}[0ma \u{1b}[35m}\u{1b}[0m\n",
     error_output: "",
-    told: 0,
+    report: 0,
 };
 
 /// What a terminal obeys is drawn as in a line of the source: a control character, one that changes
@@ -137,7 +137,7 @@ const OBEYED: Row = Row {
     input: b"a\xc2\x9b\xe2\x80\xae\tb",
     output: "text 0..8 \"a\u{fffd}\u{fffd}\\tb\"\n",
     error_output: "",
-    told: 0,
+    report: 0,
 };
 
 const OBEYED_COLOURED: Row = Row {
@@ -173,7 +173,7 @@ pub const RAW_PREFIX: Row = Row {
         \x20 |      raw identifier used here in format string\n  |      help: remove the `r#`\n\
         \x20 |\n  = note: identifiers in format strings can be keywords and don't need to be \
         prefixed with `r#`\n\n",
-    told: 1,
+    report: 1,
 };
 
 pub const UNEXPECTED: Row = Row {
@@ -190,7 +190,7 @@ pub const UNEXPECTED: Row = Row {
         \u{1b}[1m\u{1b}[91munmatched `}` in format string\u{1b}[0m\n\
         \x20 \u{1b}[1m\u{1b}[94m|\u{1b}[0m\n  \u{1b}[1m\u{1b}[94m= \u{1b}[0m\u{1b}[1mnote\
         \u{1b}[0m: if you intended to print `}`, you can escape it using `}}`\n\n",
-    told: 1,
+    report: 1,
 };
 
 /// A literal with its suggestion.
@@ -202,7 +202,7 @@ pub const FIXED: Row = Row {
     input: b"\"\\x7br#a}\"",
     output: "\"\\x7ba}\"\n",
     error_output: "",
-    told: 0,
+    report: 0,
 };
 
 /// The first call that finds a fault counts, as rustc 1.95 shows it, also where the error of a later
@@ -217,7 +217,7 @@ const FIRST: Row = Row {
         1 | \"} {r#a}\"\n  |  ^ unmatched `}` in format string\n  |\n\
         \x20 = note: if you intended to print `}`, you can escape it using `}}`\n\n",
     error_output: "",
-    told: 2,
+    report: 2,
 };
 
 /// What rustc 1.95 shows of two faults of a call.
@@ -231,7 +231,7 @@ const ONE_OF_TWO: Row = Row {
         string; example: `{:>?}`\n --> a:1:4\n  |\n\
         1 | \"{a<>\"\n  |    ^ expected `<` to occur after `:` in format string\n\n",
     error_output: "",
-    told: 1,
+    report: 1,
 };
 
 /// The same with the fault that the parser finds after that, and their ids.
@@ -251,7 +251,7 @@ pub const BOTH: Row = Row {
         \x20 |  because of this opening brace\n  |\n\
         \x20 = note: if you intended to print `{`, you can escape it using `{{`\n\n",
     error_output: "",
-    told: 1,
+    report: 1,
 };
 
 /// The first lone brace is the one that the placeholder waits for, the second a mistake of its own.
@@ -275,7 +275,7 @@ const WAITING: Row = Row {
         1 | \"{a!}{} }\"\n  |         ^ unmatched `}` in format string\n  |\n\
         \x20 = note: if you intended to print `}`, you can escape it using `}}`\n\n",
     error_output: "",
-    told: 2,
+    report: 2,
 };
 
 /// The suggestion of the raw identifier is applied; then the other fault is shown, as rustc 1.95
@@ -291,7 +291,7 @@ const ALL_FIXED: Row = Row {
         1 | \"{a} {b.c}\"\n  |       ^^^ not supported in format string\n  |\n\
         \x20 = note: consider moving this expression to a local variable and then using the \
         local here instead\n\n",
-    told: 1,
+    report: 1,
 };
 
 /// The first of two faults, as rustc 1.95 shows it. A template of assembly has no suggestions.
@@ -307,7 +307,7 @@ const ASSEMBLY: Row = Row {
         \x20 |       ^^^ raw identifier used here in asm template string\n  |\n\
         \x20 = note: identifiers in format strings can be keywords and don't need to be \
         prefixed with `r#`\n\n",
-    told: 2,
+    report: 2,
 };
 
 #[test]
@@ -389,7 +389,7 @@ fn refuses_other_inputs(rt: HostRuntime) -> Result<(), Fail> {
     check_refused(&rt, rt.alloc(), long.as_slice(), RunFault::TooLong)
 }
 
-/// Each answer, with what is told and the status.
+/// Each answer, with its number of faults and the status.
 const ANSWERS: &[(Result<usize, RunFault>, &str, u8)] = &[
     (Ok(0), "", 0),
     (Ok(1), "", 1),
@@ -412,7 +412,7 @@ const ANSWERS: &[(Result<usize, RunFault>, &str, u8)] = &[
 ];
 
 #[test]
-fn tells_each_answer(rt: HostRuntime) {
+fn gives_each_answer(rt: HostRuntime) {
     for (answer, text, status) in ANSWERS {
         assert_eq!(rt; verdict(answer), (*text, *status));
     }

@@ -62,7 +62,7 @@ fn may_be_left(answer: &Result<bool, RunFault>, input: &[u8], left: usize) -> bo
 }
 
 /// This is answered and written.
-fn check_told(
+fn check_report(
     rt: &impl Abort,
     answer: Result<bool, RunFault>,
     wanted: Result<bool, RunFault>,
@@ -85,7 +85,7 @@ fn check_answer(
     let mut reader = input;
     let mut written = Vec::new(alloc);
     let answer = answer(alloc, words, &mut reader, &mut written)?;
-    check_told(rt, answer, wanted, written.as_slice(), lines);
+    check_report(rt, answer, wanted, written.as_slice(), lines);
     assert!(rt; may_be_left(&answer, input, reader.len()));
     Ok(())
 }
@@ -100,8 +100,8 @@ fn check_listings(
     words: &[&str],
     rows: &[Listing<'_>],
 ) -> Result<(), Fail> {
-    for (input, lines, told) in rows {
-        check_answer(rt, alloc, words, input, Ok(*told), lines)?;
+    for (input, lines, report) in rows {
+        check_answer(rt, alloc, words, input, Ok(*report), lines)?;
     }
     Ok(())
 }
@@ -209,7 +209,7 @@ fn check_reader<R: Read>(
 ) -> Result<(), Fail> {
     let mut sheet = Sheet::new();
     let answer = answer(alloc, &["format"], reader, &mut sheet)?;
-    check_told(rt, answer, wanted, sheet.text(), lines);
+    check_report(rt, answer, wanted, sheet.text(), lines);
     Ok(())
 }
 
@@ -289,7 +289,7 @@ fn a_write_that_takes_no_byte_has_failed(rt: HostRuntime) -> Result<(), Fail> {
 const USAGE: &str =
     "usage: formatread format|asm|diagnostic|diagnostic-named [--literal] [--args N,NAME,..]";
 
-/// Each answer, with what is told and the status.
+/// Each answer, with its number of faults and the status.
 const ANSWERS: &[(Result<bool, RunFault>, &str, u8)] = &[
     (Ok(false), "", 0),
     (Ok(true), "", 1),
@@ -311,7 +311,7 @@ const ANSWERS: &[(Result<bool, RunFault>, &str, u8)] = &[
 ];
 
 #[test]
-fn tells_each_answer(rt: HostRuntime) {
+fn gives_each_answer(rt: HostRuntime) {
     for (answer, text, status) in ANSWERS {
         assert_eq!(rt; verdict(answer), (*text, *status));
     }

@@ -19,7 +19,7 @@ fn check_ended(rt: &impl Abort, pieces: &mut Pieces<'_, '_>) {
     }
 }
 
-/// Adds so many items at most, up to the end or a refusal, behind which none comes. Returns whether
+/// Adds so many items at most, up to the end or a refusal, after which none comes. Returns whether
 /// one was refused.
 fn put_items(
     rt: &(impl Abort + Print),

@@ -137,14 +137,14 @@ pub fn put_read(out: &mut Sheet, taken: &Taken<'_>, argument: &Argument<'_>) -> 
     out.write_str("\n")
 }
 
-/// Adds a line of text behind a label.
+/// Adds a line of text after a label.
 fn put_text(out: &mut Sheet, label: &str, text: &str) -> fmt::Result {
     out.write_str(label)?;
     out.write_str(text)?;
     out.write_str("\n")
 }
 
-/// Adds a line with a range behind a label.
+/// Adds a line with a range after a label.
 fn put_place(out: &mut Sheet, label: &str, range: &Range<usize>) -> fmt::Result {
     put_range(out, label, range)?;
     out.write_str("\n")

@@ -5,7 +5,7 @@ use std::fmt;
 /// How many bytes there is room for.
 const ROOM: usize = 2048;
 
-/// Text that was written. What there is no room for is not written, and its writer is told.
+/// Text that was written. What there is no room for is not written, and its writer knows.
 #[derive(Drop)]
 pub struct Sheet {
     bytes: [u8; ROOM],

@@ -1,4 +1,4 @@
-//! Trees, places and calls of small files. Places are those that rustc 1.95 tells; the other
+//! Trees, places and calls of small files. Places are those that rustc 1.95 reports; the other
 //! expected values are worked out by hand from the Rust Reference.
 
 use crate::strings::format_strings;
@@ -171,7 +171,7 @@ fn macro_calls(rt: HostRuntime) -> Result<(), Fail> {
     )
 }
 
-/// The number of a result: of an argument, or of a reason behind 10.
+/// The number of a result: of an argument, or of a reason after 10.
 fn number(string: Result<usize, Reason>) -> usize {
     match string {
         Ok(index) => index % 10,

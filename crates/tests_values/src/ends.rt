@@ -9,7 +9,7 @@ use std::test::Fail;
 
 /// Of the empty input nothing is taken off for a newline that was appended: its text ends at byte
 /// 0.
-fn nothing_behind_a_newline(alloc: Global) -> Result<Parser<'static>, AllocError>
+fn nothing_after_a_newline(alloc: Global) -> Result<Parser<'static>, AllocError>
     ensures { IfOk result (λ p. p.world.end ≡ 0) }
 {
     Parser::new(alloc, "", None, None, true, ParseMode::Format)
@@ -26,6 +26,6 @@ fn check_end(rt: &impl Abort, parser: &mut Parser<'_>) -> Result<(), Fail> {
 
 #[test]
 fn the_empty_input_ends_at_once(rt: HostRuntime) -> Result<(), Fail> {
-    let mut parser = nothing_behind_a_newline(rt.alloc())?;
+    let mut parser = nothing_after_a_newline(rt.alloc())?;
     check_end(&rt, &mut parser)
 }

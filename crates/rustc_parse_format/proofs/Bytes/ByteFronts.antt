@@ -17,9 +17,9 @@ use Rattle.std.proofs.lemmas.Str.{IsUtf8-from_is_utf8, is_utf8-from_IsUtf8}
 use Rattle.std.proofs.lemmas.Str.{IsCharBoundary-end, IsCharBoundary-before_ascii}
 use Rattle.std.proofs.lemmas.Str.{IsCharBoundary-from_take}
 use Rattle.std.proofs.Math.Utf8.{encodes}
-use Rattle.rustc_parse_format.specs.Characters.{Text, begins_with, behind, first_passes, front}
+use Rattle.rustc_parse_format.specs.Characters.{Text, begins_with, rest_after, first_passes, front}
 use Rattle.rustc_parse_format.specs.Bytes.{IsFront, IsLeft, IsOfAscii, IsSharedFront}
-use Rattle.rustc_parse_format.proofs.Grammar.Fronts.{behind-append, front-append}
+use Rattle.rustc_parse_format.proofs.Grammar.Fronts.{rest_after-append, front-append}
 
 encodes-pass : (p : ℕ → Bool) → IsOfAscii p → (t : Text) → list_all p (encodes t) ≡ true
     → list_all p t ≡ true
@@ -68,15 +68,16 @@ front-boundary p a s n f = at (cases_lt n (length s))
         let whole : length s ≡ n = omega arith in
         subst (IsCharBoundary s) whole (IsCharBoundary-end s)
 
-pub chars-behind : (p : ℕ → Bool) → IsOfAscii p → (s : List ℕ) (n : ℕ) → IsUtf8 s → IsFront p s n
-    → chars (drop n s) ≡ behind p (chars s)
-chars-behind p a s n u f =
+pub chars-rest_after : (p : ℕ → Bool) → IsOfAscii p → (s : List ℕ) (n : ℕ) → IsUtf8 s
+    → IsFront p s n
+    → chars (drop n s) ≡ rest_after p (chars s)
+chars-rest_after p a s n u f =
     let b = front-boundary p a s n f in
     let v = IsUtf8-take s n u b in
     let whole : chars s ≡ chars (take n s) ++ chars (drop n s) =
     ap chars (sym (take-append-drop n s)) ∙ chars-append (take n s) (drop n s) v in
-    sym (ap (behind p) whole
-    ∙ behind-append p (chars (take n s)) (chars (drop n s)) (chars-pass p a (take n s) v f.pass)
+    sym (ap (rest_after p) whole
+    ∙ rest_after-append p (chars (take n s)) (chars (drop n s)) (chars-pass p a (take n s) v f.pass)
     (chars-next p a (drop n s) (IsUtf8-drop s n u b) f.next))
 
 pub chars-front : (p : ℕ → Bool) → IsOfAscii p → (s : List ℕ) (n : ℕ) → IsUtf8 s → IsFront p s n
@@ -90,9 +91,9 @@ chars-front p a s n u f =
     ∙ front-append p (chars (take n s)) (chars (drop n s)) (chars-pass p a (take n s) v f.pass)
     (chars-next p a (drop n s) (IsUtf8-drop s n u b) f.next))
 
-pub left-behind : (input s : List ℕ) (n : ℕ) → IsCharBoundary s n → IsLeft input s
+pub left-rest_after : (input s : List ℕ) (n : ℕ) → IsCharBoundary s n → IsLeft input s
     → IsLeft input (drop n s)
-left-behind input s n b l =
+left-rest_after input s n b l =
     let size = length-drop n s in
     let within = l.within in
     let inside = b.0 in
@@ -137,11 +138,12 @@ shared-boundary p s t m n u v b l f =
     IsCharBoundary-from_take t m v part.within_others (subst IsUtf8 part.same (IsUtf8-take s m u b))
 
 -- and both are this front and what is after it.
-pub shared-behind : (p : ℕ → Bool) → IsOfAscii p → (s t : List ℕ) (m n : ℕ) → IsUtf8 s → IsUtf8 t
+pub shared-rest_after : (p : ℕ → Bool) → IsOfAscii p → (s t : List ℕ) (m n : ℕ) → IsUtf8 s
+    → IsUtf8 t
     → IsCharBoundary s m → m ≤ n → IsSharedFront p s t n →
     (w : Text) × (chars s ≡ w ++ chars (drop m s)) × (chars t ≡ w ++ chars (drop m t))
     × (list_all p w ≡ true)
-shared-behind p a s t m n u v b l f =
+shared-rest_after p a s t m n u v b l f =
     let part = shared-part p s t m n l f in
     let front = IsUtf8-take s m u b in (
       chars (take m s),

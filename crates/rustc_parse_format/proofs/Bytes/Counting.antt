@@ -7,7 +7,7 @@ use Rattle.std.specs.Str.Parse.{digits_value, digits_value_after}
 use Rattle.std.proofs.lemmas.Option.{none-some}
 use Rattle.std.proofs.Math.Nat.{mod-add-div', add-mul-mod_self_right}
 use Rattle.std.proofs.lemmas.Bool.{ltb-true, ltb-false, lt-ltb}
-use Rattle.rustc_parse_format.specs.Characters.{Text, behind_first, first, front}
+use Rattle.rustc_parse_format.specs.Characters.{Text, after_first, first, front}
 
 -- The digits read so far write the number whole, and those left follow them.
 pub record Counted (value : ℕ) (over : Bool) (left all : Text) : Type 0 where
@@ -48,7 +48,7 @@ counted-digit value d over left all k = record {
 }
 
 pub counted-first : (value : ℕ) (over : Bool) (t r all : Text) (x : ℕ) → first t ≡ Some x
-    → is_ascii_digit x ≡ true → r ≡ behind_first t →
+    → is_ascii_digit x ≡ true → r ≡ after_first t →
     Counted value over (front is_ascii_digit t) all →
     Counted ((value * 10 + digit_value x) % 65536) (over
     || nat_lt 65535 (value * 10 + digit_value x)) (front is_ascii_digit r) all

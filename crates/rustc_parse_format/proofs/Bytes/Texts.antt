@@ -13,17 +13,17 @@ use Rattle.std.proofs.lemmas.Str.{IsCharBoundary-at_seam}
 use Rattle.std.proofs.lemmas.List.{nil_from_length}
 use Rattle.std.proofs.Math.Utf8.{scalars, scalar, encodes}
 use Rattle.std.proofs.Math.Seq.{take-append_seam}
-use Rattle.rustc_parse_format.specs.Characters.{Text, behind_first}
+use Rattle.rustc_parse_format.specs.Characters.{Text, after_first}
 use Rattle.rustc_parse_format.specs.Bytes.{IsLeft}
 
 -- what `next` of `chars` leaves
 abbrev Steps : List ℕ → List ℕ → Option ℕ → Type 0 → Type 0
 Steps s r o X = MatchOption o ((length s ≡ 0) × X) (λ c. s ≡ encode_utf8 c ++ r)
 
-pub chars_behind_first : (s r : List ℕ) (o : Option ℕ) (X : Type 0) → IsUtf8 s → (X → r ≡ s)
-    → Steps s r o X → chars r ≡ behind_first (chars s)
-chars_behind_first s r None X u f h = let e = nil_from_length s h.0 in rw (f h.1, e, chars-nil) refl
-chars_behind_first s r (Some c) X u f h = sym (ap behind_first (chars_past_char s r c u h))
+pub chars_after_first : (s r : List ℕ) (o : Option ℕ) (X : Type 0) → IsUtf8 s → (X → r ≡ s)
+    → Steps s r o X → chars r ≡ after_first (chars s)
+chars_after_first s r None X u f h = let e = nil_from_length s h.0 in rw (f h.1, e, chars-nil) refl
+chars_after_first s r (Some c) X u f h = sym (ap after_first (chars_past_char s r c u h))
 
 left_past : (input s r : List ℕ) (c : ℕ) → IsLeft input s → s ≡ encode_utf8 c ++ r → IsLeft input r
 left_past input s r c l e =
@@ -40,10 +40,10 @@ left_past input s r c l e =
           ∙ drop_past_char input r (length input - length s) c (l.tail ∙ e);
     }
 
-pub left_behind_first : (input s r : List ℕ) (o : Option ℕ) (X : Type 0) → (X → r ≡ s)
+pub left_after_first : (input s r : List ℕ) (o : Option ℕ) (X : Type 0) → (X → r ≡ s)
     → Steps s r o X → IsLeft input s → IsLeft input r
-left_behind_first input s r None X f h l = rw (f h.1) l
-left_behind_first input s r (Some c) X f h l = left_past input s r c l h
+left_after_first input s r None X f h l = rw (f h.1) l
+left_after_first input s r (Some c) X f h l = left_past input s r c l h
 
 scalars-left : (xs ys : Text) → scalars (xs ++ ys) ≡ true → scalars xs ≡ true
 scalars-left [] ys h = refl
@@ -54,39 +54,51 @@ scalars-left (x ∷ xs) ys h = both (scalar x) (scalars (xs ++ ys)) (scalars xs)
     both true b c f h = f h
     both false b c f h = h
 
--- the bytes of a text whose characters are u and then those of behind
-pub record FormatText (text behind : List ℕ) (u : Text) : Type 0 where
-  pub bytes : text ≡ encodes u ++ behind
+-- the bytes of a text whose characters are u and then those of after
+pub record FormatText (text rest_after : List ℕ) (u : Text) : Type 0 where
+  pub bytes : text ≡ encodes u ++ rest_after
   pub front : chars (encodes u) ≡ u
 
-pub parts : (text behind : List ℕ) (u : Text) → IsUtf8 text → IsUtf8 behind
-    → chars text ≡ u ++ chars behind → FormatText text behind u
-parts text behind u v w e = record {
+pub parts : (text rest_after : List ℕ) (u : Text) → IsUtf8 text → IsUtf8 rest_after
+    → chars text ≡ u ++ chars rest_after → FormatText text rest_after u
+parts text rest_after u v w e = record {
   bytes = sym (encodes-chars text v)
       ∙ (ap encodes e
-      ∙ (encodes-append u (chars behind) ∙ ap (λ t. encodes u ++ t) (encodes-chars behind w)));
+      ∙ (encodes-append u (chars rest_after) ∙ ap (λ t. encodes u
+      ++ t) (encodes-chars rest_after w)));
   front = chars-encodes u
-      (scalars-left u (chars behind) (ap scalars (sym e) ∙ scalars-chars text v));
+      (scalars-left u (chars rest_after) (ap scalars (sym e) ∙ scalars-chars text v));
 }
 
-pub behind-le : (text behind : List ℕ) (u : Text) → FormatText text behind u
-    → length behind ≤ length text
-behind-le text behind u p = omega (arith, ap length p.bytes, length-append (encodes u) behind)
+pub rest_after-le : (text rest_after : List ℕ) (u : Text) → FormatText text rest_after u
+    → length rest_after ≤ length text
+rest_after-le text rest_after u p = omega (
+  arith,
+  ap length p.bytes,
+  length-append (encodes u)
+      rest_after,
+)
 
-front_length : (text behind : List ℕ) (u : Text) → FormatText text behind u
-    → length text - length behind ≡ length (encodes u)
-front_length text behind u p = omega (arith, ap length p.bytes, length-append (encodes u) behind)
+front_length : (text rest_after : List ℕ) (u : Text) → FormatText text rest_after u
+    → length text - length rest_after ≡ length (encodes u)
+front_length text rest_after u p = omega (
+  arith,
+  ap length p.bytes,
+  length-append (encodes u)
+      rest_after,
+)
 
-pub cut_boundary : (text behind : List ℕ) (u : Text) → IsUtf8 behind → FormatText text behind u
-    → IsCharBoundary text (length text - length behind)
-cut_boundary text behind u w p = rw (front_length text behind u p)
-    (IsCharBoundary-at_seam text (encodes u) behind p.bytes w)
+pub cut_boundary : (text rest_after : List ℕ) (u : Text) → IsUtf8 rest_after
+    → FormatText text rest_after u
+    → IsCharBoundary text (length text - length rest_after)
+cut_boundary text rest_after u w p = rw (front_length text rest_after u p)
+    (IsCharBoundary-at_seam text (encodes u) rest_after p.bytes w)
 
-pub chars_front : (text behind : List ℕ) (u : Text) → FormatText text behind u
-    → chars (slice_range text 0 (length text - length behind)) ≡ u
-chars_front text behind u p =
-    let n : (length text - length behind) - 0 ≡ length (encodes u) =
-    omega (arith, front_length text behind u p) in
+pub chars_front : (text rest_after : List ℕ) (u : Text) → FormatText text rest_after u
+    → chars (slice_range text 0 (length text - length rest_after)) ≡ u
+chars_front text rest_after u p =
+    let n : (length text - length rest_after) - 0 ≡ length (encodes u) =
+    omega (arith, front_length text rest_after u p) in
     let e : take (length (encodes u)) text ≡ encodes u =
-    ap (λ t. take (length (encodes u)) t) p.bytes ∙ take-append_seam (encodes u) behind in
+    ap (λ t. take (length (encodes u)) t) p.bytes ∙ take-append_seam (encodes u) rest_after in
     ap (λ k. chars (take k text)) n ∙ (ap chars e ∙ p.front)

@@ -8,9 +8,9 @@ use Rattle.std.proofs.lemmas.Bool.Decides.{nat_tests}
 use Rattle.std.proofs.lemmas.Grind.{flat_map-append}
 use Rattle.std.proofs.lemmas.Str.{encodes-chars}
 use Rattle.std.proofs.Math.Utf8.{encodes}
-use Rattle.rustc_parse_format.specs.Characters.{Text, behind, front}
+use Rattle.rustc_parse_format.specs.Characters.{Text, rest_after, front}
 use Rattle.rustc_parse_format.specs.Written.{is_unchanged, plainly_written, short_escape, written}
-use Rattle.rustc_parse_format.proofs.Grammar.Fronts.{front-behind, list_all-front}
+use Rattle.rustc_parse_format.proofs.Grammar.Fronts.{front-rest_after, list_all-front}
 
 no_escape : (c : ℕ) → is_unchanged c ≡ true → short_escape c ≡ None
 no_escape c h = grind (arith, nat_tests)
@@ -35,13 +35,13 @@ all-unchanged (c ∷ t) h =
 -- The longest prefix of such characters is written as its bytes.
 pub unchanged-front : (out bytes : List ℕ) (t : Text) → IsUtf8 bytes
     → chars bytes ≡ front is_unchanged t
-    → (out ++ bytes) ++ flat_map written (behind is_unchanged t) ≡ out ++ flat_map written t
+    → (out ++ bytes) ++ flat_map written (rest_after is_unchanged t) ≡ out ++ flat_map written t
 unchanged-front out bytes t u e =
     let same : bytes ≡ flat_map written (front is_unchanged t) =
     sym (encodes-chars bytes u) ∙ (ap encodes e
     ∙ sym (all-unchanged (front is_unchanged t) (list_all-front is_unchanged t))) in
     append_assoc out bytes _
     ∙ ap (λ x. out ++ x)
-    (ap (λ x. x ++ flat_map written (behind is_unchanged t)) same
-    ∙ (sym (flat_map-append written (front is_unchanged t) (behind is_unchanged t))
-    ∙ ap (flat_map written) (sym (front-behind is_unchanged t))))
+    (ap (λ x. x ++ flat_map written (rest_after is_unchanged t)) same
+    ∙ (sym (flat_map-append written (front is_unchanged t) (rest_after is_unchanged t))
+    ∙ ap (flat_map written) (sym (front-rest_after is_unchanged t))))

@@ -17,11 +17,15 @@ use Rattle.std.proofs.lemmas.Str.{IsCharBoundary-end, IsCharBoundary-before_asci
 use Rattle.unicode_ident.proofs.IdentLemmas.{is_xid_continue-ascii, is_xid_start-ascii}
 use Rattle.unicode_ident.proofs.IdentLemmas.{is_xid_start-is_xid_continue}
 use Rattle.rustc_parse_format.specs.Bytes.{IsFront, is_word_byte}
-use Rattle.rustc_parse_format.specs.Characters.{Text, behind, behind_first, behind_word}
+use Rattle.rustc_parse_format.specs.Characters.{Text, rest_after, after_first, after_word}
 use Rattle.rustc_parse_format.specs.Characters.{first, first_passes, front, is_id_continue}
 use Rattle.rustc_parse_format.specs.Characters.{is_id_start, word}
-use Rattle.rustc_parse_format.proofs.Grammar.Fronts.{behind-append, behind_word_some, front-append}
-use Rattle.rustc_parse_format.proofs.Grammar.Fronts.{list_all-weaker, word-behind}
+use Rattle.rustc_parse_format.proofs.Grammar.Fronts.{
+  rest_after-append,
+  after_word_some,
+  front-append,
+}
+use Rattle.rustc_parse_format.proofs.Grammar.Fronts.{list_all-weaker, word-rest_after}
 
 -- Bit 5 makes an ASCII letter a lower-case one.
 pub letter_bit : (b : ℕ) → b < 256 → is_ascii_lowercase (bit_or b 32) ≡ is_ascii_alphabetic b
@@ -108,20 +112,20 @@ word-front [] e = absurd (false≢true e)
 word-front (c ∷ t) e = cond-true (is_id_start c) _ _ e
     ∙ sym (cond-true (is_id_continue c) _ _ (start-continue c e))
 
-behind_word-behind : (t : Text) → first_passes is_id_start t ≡ true
-    → behind_word t ≡ behind is_id_continue t
-unfolding behind_word
-behind_word-behind [] e = absurd (false≢true e)
-behind_word-behind (c ∷ t) e = cond-true (is_id_start c) _ _ e
+after_word-rest_after : (t : Text) → first_passes is_id_start t ≡ true
+    → after_word t ≡ rest_after is_id_continue t
+unfolding after_word
+after_word-rest_after [] e = absurd (false≢true e)
+after_word-rest_after (c ∷ t) e = cond-true (is_id_start c) _ _ e
     ∙ sym (cond-true (is_id_continue c) _ _ (start-continue c e))
 
 pub word-rest : (t : Text) → first_passes is_id_start t ≡ true
-    → t ≡ word t ++ behind is_id_continue (behind_first t)
-word-rest t start = word-behind t ∙ ap (λ r. word t ++ r) (behind_word_some t start)
+    → t ≡ word t ++ rest_after is_id_continue (after_first t)
+word-rest t start = word-rest_after t ∙ ap (λ r. word t ++ r) (after_word_some t start)
 
 pub word-split : (s : List ℕ) (n : ℕ) → IsUtf8 s → first_passes is_id_start (chars s) ≡ true
     → IsFront is_word_byte s n → (n < length s → get_or s n 0 < 128) →
-    (chars (take n s) ≡ word (chars s)) × (chars (drop n s) ≡ behind_word (chars s))
+    (chars (take n s) ≡ word (chars s)) × (chars (drop n s) ≡ after_word (chars s))
 word-split s n u start f next =
     let b = word-boundary s n f next in
     let w = take n s in
@@ -140,6 +144,6 @@ word-split s n u start f next =
     (sym (get_or-drop n s 0 0 ∙ ap (λ k. get_or s k 0) here)) small) in (
       ascii ∙ sym (word-front (chars s) start ∙ (ap (front is_id_continue) whole
           ∙ front-append is_id_continue w (chars r) pass after)),
-      sym (behind_word-behind (chars s) start ∙ (ap (behind is_id_continue) whole
-          ∙ behind-append is_id_continue w (chars r) pass after)),
+      sym (after_word-rest_after (chars s) start ∙ (ap (rest_after is_id_continue) whole
+          ∙ rest_after-append is_id_continue w (chars r) pass after)),
     )

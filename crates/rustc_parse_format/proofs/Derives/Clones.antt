@@ -8,10 +8,10 @@ use Rattle.rustc_parse_format.specs.contracts.types.ArgumentClone.TheImpl as arg
 use Rattle.rustc_parse_format.specs.contracts.types.FormatSpecClone.TheImpl as spec_clone
 
 -- The result is Ok, and equal to its source, if an allocation failure is ruled out.
-pub clone_told : {A E N : Type 0} (C : A → Type 0) (a : A) → ((x : A) → C x → x ≡ a)
+pub clone_report : {A E N : Type 0} (C : A → Type 0) (a : A) → ((x : A) → C x → x ≡ a)
     → (r : Result A E) → MatchResult r C (λ _. ¬ N) → N → IsOkAnd r (λ x. x ≡ a)
-clone_told C a f (Ok x) h n = f x h
-clone_told C a f (Err e) h n = absurd (h n)
+clone_report C a f (Ok x) h n = f x h
+clone_report C a f (Err e) h n = absurd (h n)
 
 -- A specification.
 clone_fill : (a b : FormatSpec) → spec_clone.ghosts.is_clone a b → b.fill ≡ a.fill

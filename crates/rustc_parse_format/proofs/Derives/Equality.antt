@@ -45,8 +45,8 @@ both_same x y e f = (
 )
 
 -- what a call answered that computes the test
-pub told : {P : Type 0} {b r : Bool} → r ≡ b → IsTrue b ↔ P → IsTrue r ↔ P
-told h e = (λ k. e.0 (sym h ∙ k), λ p. h ∙ e.1 p)
+pub report : {P : Type 0} {b r : Bool} → r ≡ b → IsTrue b ↔ P → IsTrue r ↔ P
+report h e = (λ k. e.0 (sym h ∙ k), λ p. h ∙ e.1 p)
 
 -- Flags, numbers, texts, ranges and options.
 pub flag_same : (x y : Bool) → IsTrue (bool_eq.ghosts.eq x y) ↔ x ≡ y

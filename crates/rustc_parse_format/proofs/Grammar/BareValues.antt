@@ -12,7 +12,7 @@ use Rattle.rustc_parse_format.specs.Placeholder.{Cut}
 use Rattle.rustc_parse_format.specs.Meaning.{count_of, width_of, precision_of, from_type}
 use Rattle.rustc_parse_format.specs.Meaning.{from_precision, from_width, format_of, spec_of}
 use Rattle.rustc_parse_format.specs.Meaning.{argument}
-use Rattle.rustc_parse_format.specs.Characters.{behind_first}
+use Rattle.rustc_parse_format.specs.Characters.{after_first}
 
 count-bare : (t : Text) (k : CountText) (r : Text) → bare_count (count_of t k r) ≡ count_value k
 count-bare t (NumberCount ds) r = refl
@@ -21,7 +21,7 @@ count-bare t (NameCount w) r = refl
 count-bare t NoCount r = refl
 
 width-bare : (t : Text) (w : WidthText) (r : Text) → bare_count (width_of t w r) ≡ width_value w
-width-bare t (PaddedWidth k) r = count-bare (behind_first t) k r
+width-bare t (PaddedWidth k) r = count-bare (after_first t) k r
 width-bare t ZeroIndexWidth r = refl
 width-bare t (PlainWidth k) r = count-bare t k r
 
@@ -29,7 +29,7 @@ precision-bare : (c : ℕ) (t : Text) (p : PrecisionText) (r : Text)
     → bare_count (precision_of c t p r) ≡ precision_value c p
 precision-bare c t NoPrecision r = refl
 precision-bare c t StarPrecision r = refl
-precision-bare c t (DotPrecision k) r = count-bare (behind_first t) k r
+precision-bare c t (DotPrecision k) r = count-bare (after_first t) k r
 
 spec-bare : (c : ℕ) (t r : Text) (k : SpecText) → bare_spec (spec_of c t k r) ≡ spec_value c k
 unfolding format_of

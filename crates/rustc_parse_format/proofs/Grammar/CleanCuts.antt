@@ -3,16 +3,16 @@ use Rattle.std.proofs.Common.{◌≡◌, ◌++◌, ◌==◌, ℕ, Bool, true, fa
 use Rattle.std.proofs.Common.{[], ◌∷◌, refl, sym, ◌∙◌, codes}
 use Rattle.std.proofs.lemmas.Bool.{cond_both, eqb-true, false≢true, ne_eqb, or_from}
 use Rattle.std.specs.Char.{is_ascii_digit, is_whitespace}
-use Rattle.rustc_parse_format.specs.Characters.{Text, is_id_start, is_no_brace, front, behind}
-use Rattle.rustc_parse_format.specs.Characters.{word, first_passes, behind_first, behind_prefix}
-use Rattle.rustc_parse_format.specs.Characters.{behind_white, begins_raw}
+use Rattle.rustc_parse_format.specs.Characters.{Text, is_id_start, is_no_brace, front, rest_after}
+use Rattle.rustc_parse_format.specs.Characters.{word, first_passes, after_first, after_prefix}
+use Rattle.rustc_parse_format.specs.Characters.{after_white, begins_raw}
 use Rattle.rustc_parse_format.specs.Types.{Mode, Format, InlineAsm, Diagnostic, DiagnosticNamed}
 use Rattle.rustc_parse_format.specs.Types.{wants_names, DebugHex, Lower, Upper}
 use Rattle.rustc_parse_format.specs.Counts.{width, precision}
 use Rattle.rustc_parse_format.specs.Syntax.{TypeText, SpecText}
-use Rattle.rustc_parse_format.specs.Specification.{type, behind_hex, width_at, precision_at}
+use Rattle.rustc_parse_format.specs.Specification.{type, after_hex, width_at, precision_at}
 use Rattle.rustc_parse_format.specs.Specification.{type_at, format_text, specification}
-use Rattle.rustc_parse_format.specs.Specification.{behind_colon}
+use Rattle.rustc_parse_format.specs.Specification.{after_colon}
 use Rattle.rustc_parse_format.specs.Placeholder.{position, cut}
 use Rattle.rustc_parse_format.specs.Grammar.{IsClean, IsCleanPosition, IsCleanType, IsCleanFormat}
 use Rattle.rustc_parse_format.specs.Grammar.{IsCleanSpec}
@@ -33,8 +33,8 @@ use Rattle.rustc_parse_format.proofs.Grammar.FaultlessCounts.{tried_named, width
 use Rattle.rustc_parse_format.proofs.Grammar.FaultlessCounts.{precision_faultless}
 
 -- a raw identifier has its fault
-raw_told : (t : Text) → raw_faults t ≡ [] → ⊥
-raw_told t e = let last = none_right (word_faults (behind_prefix t)) _ e in cc last
+raw_report : (t : Text) → raw_faults t ≡ [] → ⊥
+raw_report t e = let last = none_right (word_faults (after_prefix t)) _ e in cc last
 
 position_clean : (t : Text) → position_faults t (position t).0 ≡ [] → IsCleanPosition (position t).0
 position_clean [] e = tt
@@ -44,7 +44,7 @@ position_clean (c ∷ t) e =
     (λ d h. small (c ∷ t) h)
     (λ d. choose {B = Text} (λ p. position_faults (c ∷ t) p ≡ [] → IsCleanPosition p)
     (begins_raw (c ∷ t)) _ _
-    (λ r h. raw_told (c ∷ t) h)
+    (λ r h. raw_report (c ∷ t) h)
     (λ r. choose {B = Text} (λ p. position_faults (c ∷ t) p ≡ [] → IsCleanPosition p)
     (is_id_start c) _ _
     (λ i h. named (c ∷ t) h)
@@ -67,7 +67,7 @@ position_faultless (c ∷ t) h =
     (λ i h. refl)))
     h
 
-hex_clean : (h : DebugHex) (c : ℕ) (t : Text) → IsCleanType (behind_hex h c t).0
+hex_clean : (h : DebugHex) (c : ℕ) (t : Text) → IsCleanType (after_hex h c t).0
 hex_clean h c [] = tt
 hex_clean h c (d ∷ t) = choose {B = Text} IsCleanType (d == 63) _ _ (λ z. tt) (λ z. tt)
 
@@ -87,7 +87,7 @@ type_clean (c ∷ t) e =
 abbrev pub IsUnflagged : Text → Type 0
 IsUnflagged t = first_passes is_debug_flag t ≡ false
 
-unflagged : (t : Text) → IsUnflagged (behind_first t) → flag_faults t ≡ []
+unflagged : (t : Text) → IsUnflagged (after_first t) → flag_faults t ≡ []
 unflagged [] u = refl
 unflagged (c ∷ []) u = refl
 unflagged (c ∷ d ∷ t) u = rw u refl
@@ -97,7 +97,7 @@ abbrev TypeFaultless : Text → TypeText × Text → Type 0
 TypeFaultless t y = IsCleanType y.0 → IsUnflagged y.1 → type_faults t y.0 ≡ []
 
 hex_faultless : (h : DebugHex) (c : ℕ) (t u : Text) → c == 63 ≡ false
-    → TypeFaultless u (behind_hex h c t)
+    → TypeFaultless u (after_hex h c t)
 hex_faultless h c [] u e = λ k f. rw e refl
 hex_faultless h c (d ∷ t) u e = cond_both {A = TypeText × Text} (d == 63) _ _ (TypeFaultless u)
     (λ z k f. refl) (λ z k f. rw e refl)
@@ -161,8 +161,8 @@ format_faultless t h f =
 text_clean : {A : Type 0} (mode : Mode) (u : Text) (s : A) → text_faults mode u s ≡ []
     → IsTrue (wants_names mode) → u ≡ []
 text_clean mode [] s e h = refl
-text_clean mode (c ∷ u) s e h = let told : TextAfterColon s ∷ [] ≡ [] = sym (rw h refl) ∙ e in
-    cc told
+text_clean mode (c ∷ u) s e h = let report : TextAfterColon s ∷ [] ≡ [] = sym (rw h refl) ∙ e in
+    cc report
 
 text_faultless : {A : Type 0} (mode : Mode) (u : Text) (s : A)
     → (IsTrue (wants_names mode) → u ≡ []) → text_faults mode u s ≡ []
@@ -191,14 +191,14 @@ unwanted true false x h = absurd (false≢true (h refl))
 unwanted false n x h = refl
 
 colon_clean : (mode : Mode) (c : ℕ) (t : Text)
-    → spec_faults mode (c ∷ t) (behind_colon mode t).0 (behind_colon mode t).1 ≡ [] →
-    IsCleanSpec mode (behind_colon mode t).0
+    → spec_faults mode (c ∷ t) (after_colon mode t).0 (after_colon mode t).1 ≡ [] →
+    IsCleanSpec mode (after_colon mode t).0
 colon_clean Format c t e = format_clean t e
 colon_clean InlineAsm c t e = named t e
 colon_clean Diagnostic c t e = text_clean Diagnostic (front is_no_brace t)
-    (up_to (c ∷ t) (behind is_no_brace t)) e
+    (up_to (c ∷ t) (rest_after is_no_brace t)) e
 colon_clean DiagnosticNamed c t e =
-    text_clean DiagnosticNamed (front is_no_brace t) (up_to (c ∷ t) (behind is_no_brace t)) e
+    text_clean DiagnosticNamed (front is_no_brace t) (up_to (c ∷ t) (rest_after is_no_brace t)) e
 
 -- what a specification that is read at t says of its rest
 abbrev SpecClean : Mode → Text → SpecText × Text → Type 0
@@ -214,14 +214,14 @@ abbrev SpecFaultless : Mode → Text → SpecText × Text → Type 0
 SpecFaultless mode t s = IsCleanSpec mode s.0 → IsUnflagged s.1 → spec_faults mode t s.0 s.1 ≡ []
 
 colon_faultless : (mode : Mode) (c : ℕ) (t : Text)
-    → SpecFaultless mode (c ∷ t) (behind_colon mode t)
+    → SpecFaultless mode (c ∷ t) (after_colon mode t)
 colon_faultless Format c t = format_faultless t
 colon_faultless InlineAsm c t = λ h f. unnamed t h
 colon_faultless Diagnostic c t = λ h f. text_faultless Diagnostic (front is_no_brace t)
-    (up_to (c ∷ t) (behind is_no_brace t)) h
+    (up_to (c ∷ t) (rest_after is_no_brace t)) h
 colon_faultless DiagnosticNamed c t =
     λ h f. text_faultless DiagnosticNamed (front is_no_brace t)
-    (up_to (c ∷ t) (behind is_no_brace t)) h
+    (up_to (c ∷ t) (rest_after is_no_brace t)) h
 
 specification_faultless : (mode : Mode) (t : Text) → SpecFaultless mode t (specification mode t)
 specification_faultless mode [] = λ h f. refl
@@ -236,9 +236,9 @@ unfolding cut cut_faults
 cut_clean mode t e = record {
   position = position_clean t (none_left _ _ (none_left _ _ e));
   name = wanted _ _ _ (none_right (position_faults t (position t).0) _ (none_left _ _ e));
-  spec = specification_clean mode (behind_white (position t).1)
+  spec = specification_clean mode (after_white (position t).1)
       (none_right (position_faults t (position t).0
-      ++ name_faults mode (given_position (position t).0) (up_to t (behind_white (position t).1))) _
+      ++ name_faults mode (given_position (position t).0) (up_to t (after_white (position t).1))) _
       e);
 }
 
@@ -251,11 +251,11 @@ white-unflagged c w =
     or_from _ _ (or_from _ _ (another is_whitespace c 35 w refl)
     (another is_whitespace c 120 w refl)) (another is_whitespace c 88 w refl)
 
-closed-unflagged : (t r : Text) → behind_white t ≡ 125 ∷ r → IsUnflagged t
-unfolding behind_white
+closed-unflagged : (t r : Text) → after_white t ≡ 125 ∷ r → IsUnflagged t
+unfolding after_white
 closed-unflagged [] r e = refl
 closed-unflagged (c ∷ t) r e =
-    cond_both (is_whitespace c) (behind is_whitespace t) (c ∷ t)
+    cond_both (is_whitespace c) (rest_after is_whitespace t) (c ∷ t)
     (λ u. u ≡ 125 ∷ r → is_debug_flag c ≡ false)
     (λ w h. white-unflagged c w)
     (λ w h. let same : c ≡ 125 = cc h in rw same refl)
@@ -263,9 +263,9 @@ closed-unflagged (c ∷ t) r e =
 
 -- A clean cut has no fault if a brace closes it.
 pub cut_faultless : (mode : Mode) (t r : Text) → IsClean mode (cut mode t).field
-    → behind_white (cut mode t).rest ≡ 125 ∷ r → cut_faults mode (cut mode t) ≡ []
+    → after_white (cut mode t).rest ≡ 125 ∷ r → cut_faults mode (cut mode t) ≡ []
 unfolding cut cut_faults
 cut_faultless mode t r h e =
     none_both _ _ (none_both _ _ (position_faultless t h.position) (unwanted _ _ _ h.name))
-    (specification_faultless mode (behind_white (position t).1) h.spec
+    (specification_faultless mode (after_white (position t).1) h.spec
     (closed-unflagged (cut mode t).rest r e))

@@ -23,15 +23,15 @@ pub none_both : {A : Type 0} (xs ys : List A) → xs ≡ [] → ys ≡ [] → xs
 none_both [] ys e f = f
 none_both (x ∷ xs) ys e f = cc
 
-untold : {A : Type 0} (b : Bool) (x : A) → (if b then x ∷ [] else []) ≡ [] → b ≡ false
-untold true x e = cc
-untold false x e = refl
+no_report : {A : Type 0} (b : Bool) (x : A) → (if b then x ∷ [] else []) ≡ [] → b ≡ false
+no_report true x e = cc
+no_report false x e = refl
 
 pub named : (t : Text) → word_faults t ≡ [] → IsNamed (word t)
-named t e h = false≢true (sym (untold _ _ e) ∙ (bytes_eq-Decides (word t) (codes "_")).1 h)
+named t e h = false≢true (sym (no_report _ _ e) ∙ (bytes_eq-Decides (word t) (codes "_")).1 h)
 
 pub small : (t : Text) → number_faults t ≡ [] → IsSmall (digits t)
-small t e = ltb-false 65535 (digits_value 10 (digits t)) (untold _ _ e)
+small t e = ltb-false 65535 (digits_value 10 (digits t)) (no_report _ _ e)
 
 pub unnamed : (t : Text) → IsNamed (word t) → word_faults t ≡ []
 unnamed t h = cond_both (bytes_eq (word t) (codes "_")) _ _ (λ fs. fs ≡ [])

@@ -9,7 +9,7 @@ use Rattle.std.proofs.lemmas.Bool.{and_parts, and_from, not_from_false, not-true
 use Rattle.unicode_ident.proofs.Computing.{unicode_ident}
 use Rattle.std.specs.Char.{is_ascii_digit, is_whitespace}
 use Rattle.rustc_parse_format.specs.Characters.{Text, is_align, is_no_brace, is_id_start}
-use Rattle.rustc_parse_format.specs.Characters.{is_id_continue, behind, behind_word, behind_first}
+use Rattle.rustc_parse_format.specs.Characters.{is_id_continue, rest_after, after_word, after_first}
 use Rattle.rustc_parse_format.specs.Characters.{begins_with}
 use Rattle.rustc_parse_format.specs.Characters.{begins_raw, first_passes}
 use Rattle.rustc_parse_format.specs.Types.{Mode, Format, InlineAsm, Diagnostic, DiagnosticNamed}
@@ -65,38 +65,38 @@ begins_with-blind c (d ∷ u) r s = refl
 abbrev IsLeft : (Text → Text) → Text → Type 0
 IsLeft f u = (left : Text) × ((r : Text) → f (u ++ 125 ∷ r) ≡ left ++ 125 ∷ r)
 
-behind-left : (p : ℕ → Bool) → p 125 ≡ false → (u : Text) → IsLeft (behind p) u
-behind-left p h [] = ([], λ r. rw h refl)
-behind-left p h (c ∷ u) =
+rest_after-left : (p : ℕ → Bool) → p 125 ≡ false → (u : Text) → IsLeft (rest_after p) u
+rest_after-left p h [] = ([], λ r. rw h refl)
+rest_after-left p h (c ∷ u) =
     elim (p c) as (λ b. (left : Text)
-    × ((r : Text) → cond b (behind p (u ++ 125 ∷ r)) (c ∷ u ++ 125 ∷ r) ≡ left ++ 125 ∷ r)) [
-      | true ↦ behind-left p h u
+    × ((r : Text) → cond b (rest_after p (u ++ 125 ∷ r)) (c ∷ u ++ 125 ∷ r) ≡ left ++ 125 ∷ r)) [
+      | true ↦ rest_after-left p h u
       | false ↦ (c ∷ u, λ r. refl)
     ]
 
-word-left : (u : Text) → IsLeft behind_word u
-unfolding behind_word unicode_ident
+word-left : (u : Text) → IsLeft after_word u
+unfolding after_word unicode_ident
 word-left [] = ([], λ r. refl)
 word-left (c ∷ u) =
     elim (is_id_start c) as (λ b. (left : Text)
-    × ((r : Text) → cond b (behind is_id_continue (u ++ 125 ∷ r)) (c ∷ u ++ 125 ∷ r)
+    × ((r : Text) → cond b (rest_after is_id_continue (u ++ 125 ∷ r)) (c ∷ u ++ 125 ∷ r)
     ≡ left ++ 125 ∷ r)) [
-      | true ↦ behind-left is_id_continue refl u
+      | true ↦ rest_after-left is_id_continue refl u
       | false ↦ (c ∷ u, λ r. refl)
     ]
 
 count-blind : IsBlind begins_count
 count-blind u r s =
     let w = word-left u in
-    let name : begins_with (code "$") (behind_word (u ++ 125 ∷ r))
-    ≡ begins_with (code "$") (behind_word (u ++ 125 ∷ s)) =
+    let name : begins_with (code "$") (after_word (u ++ 125 ∷ r))
+    ≡ begins_with (code "$") (after_word (u ++ 125 ∷ s)) =
     ap (begins_with (code "$")) (w.1 r)
     ∙ (begins_with-blind (code "$") w.0 r s ∙ ap (begins_with (code "$")) (sym (w.1 s))) in
     ap (λ b. b || (first_passes is_id_start (u ++ 125 ∷ r)
-    && begins_with (code "$") (behind_word (u ++ 125 ∷ r))))
+    && begins_with (code "$") (after_word (u ++ 125 ∷ r))))
     (first_passes-blind is_ascii_digit u r s)
     ∙ (ap (λ b. first_passes is_ascii_digit (u ++ 125 ∷ s)
-    || (b && begins_with (code "$") (behind_word (u ++ 125 ∷ r))))
+    || (b && begins_with (code "$") (after_word (u ++ 125 ∷ r))))
     (first_passes-blind is_id_start u r s)
     ∙ ap (λ b. first_passes is_ascii_digit (u ++ 125 ∷ s)
     || (first_passes is_id_start (u ++ 125 ∷ s) && b)) name)
@@ -150,7 +150,7 @@ fill-local : (f : Option ℕ) → PartIsLocal (fill_part f)
 fill-local (Some c) = blind (first_passes is_align) (first_passes-blind is_align)
 fill-local None = second
   where
-    second : IsLocal (λ t. not (first_passes is_align (behind_first t)))
+    second : IsLocal (λ t. not (first_passes is_align (after_first t)))
     second [] [] z e = refl
     second [] (d ∷ q) z e = e
     second (c ∷ u) q z e = class_ends is_align u q z e
@@ -253,12 +253,12 @@ placeholder-local : (mode : Mode) (a : FieldText) (w t q z : Text)
     → IsPart t (placeholder_part mode a w) (q ++ z) →
     IsPart ((placeholder_part mode a w).spelling ++ q) (placeholder_part mode a w) q
 placeholder-local mode a w t q z h =
-    let behind_field : (field_part mode a).may_precede (w ++ 125 ∷ [] ++ (q ++ z))
+    let after_field : (field_part mode a).may_precede (w ++ 125 ∷ [] ++ (q ++ z))
     ≡ true = (and_parts _ _ (and_parts true _ h.ends).1).0 in
     let far =
     field-local mode a w q z
     (ap (field_part mode a).may_precede (sym (append_assoc w (125 ∷ []) (q ++ z)))
-    ∙ behind_field) in
+    ∙ after_field) in
     record {
       whole = refl;
       formed = h.formed;

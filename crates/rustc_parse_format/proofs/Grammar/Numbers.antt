@@ -1,23 +1,23 @@
 -- A cut reads at least one character for each number that it takes.
 use Rattle.std.proofs.Common.{ℕ, ◌+◌, ◌≤◌, ◌==◌, [], ◌∷◌, length, arith}
 use Rattle.std.proofs.lemmas.Bool.{cond_both}
-use Rattle.rustc_parse_format.specs.Characters.{Text, behind_white}
+use Rattle.rustc_parse_format.specs.Characters.{Text, after_white}
 use Rattle.rustc_parse_format.specs.Types.{Mode, Format, InlineAsm, Diagnostic, DiagnosticNamed}
 use Rattle.rustc_parse_format.specs.Syntax.{PrecisionText, SpecText, PositionText, Digits, Word}
 use Rattle.rustc_parse_format.specs.Syntax.{RawWord, NoPosition}
-use Rattle.rustc_parse_format.specs.Counts.{precision, behind_dot}
+use Rattle.rustc_parse_format.specs.Counts.{precision, after_dot}
 use Rattle.rustc_parse_format.specs.Specification.{align_at, precision_at, type_at, format_text}
-use Rattle.rustc_parse_format.specs.Specification.{specification, behind_colon}
+use Rattle.rustc_parse_format.specs.Specification.{specification, after_colon}
 use Rattle.rustc_parse_format.specs.Placeholder.{position, cut}
 use Rattle.rustc_parse_format.specs.Values.{number_after_precision, number_after_spec}
 use Rattle.rustc_parse_format.specs.Values.{number_after_position, number_after_field}
-use Rattle.rustc_parse_format.proofs.Grammar.Rests.{IsRest-le, position_rest, behind_white_rest}
+use Rattle.rustc_parse_format.proofs.Grammar.Rests.{IsRest-le, position_rest, after_white_rest}
 use Rattle.rustc_parse_format.proofs.Grammar.Rests.{count_rest, align_at_rest, precision_from_align}
 use Rattle.rustc_parse_format.proofs.Grammar.Rests.{type_rest}
 use Rattle.rustc_parse_format.proofs.Grammar.Rests.{specification_rest}
 
-dot_number : (c : ℕ) (t : Text) → number_after_precision c (behind_dot t).0
-    + length (behind_dot t).1 ≤ c + 1 + length t
+dot_number : (c : ℕ) (t : Text) → number_after_precision c (after_dot t).0
+    + length (after_dot t).1 ≤ c + 1 + length t
 dot_number c [] = omega arith
 dot_number c (d ∷ t) =
     cond_both {A = PrecisionText × Text} (d == 42) _ _ (λ p. number_after_precision c p.0
@@ -46,8 +46,8 @@ format_number c t =
       IsRest-le (align_at_rest t),
     )
 
-colon_number : (mode : Mode) (c : ℕ) (t : Text) → number_after_spec c (behind_colon mode t).0
-    + length (behind_colon mode t).1 ≤ c + 1 + length t
+colon_number : (mode : Mode) (c : ℕ) (t : Text) → number_after_spec c (after_colon mode t).0
+    + length (after_colon mode t).1 ≤ c + 1 + length t
 colon_number Format c t = omega (arith, format_number c t)
 colon_number InlineAsm c t = omega (arith, IsRest-le (specification_rest InlineAsm (58 ∷ t)))
 colon_number Diagnostic c t = omega (arith, IsRest-le (specification_rest Diagnostic (58 ∷ t)))
@@ -73,7 +73,7 @@ pub number_after_field-le : (mode : Mode) (c : ℕ) (t : Text)
     → number_after_field c (cut mode t).field + length (cut mode t).rest ≤ c + 1 + length t
 unfolding cut number_after_field
 number_after_field-le mode c t =
-    let u = behind_white (position t).1 in
+    let u = after_white (position t).1 in
     let s = specification mode u in
     omega (
       arith,
@@ -81,5 +81,5 @@ number_after_field-le mode c t =
       specification_number mode c u,
       IsRest-le (position_rest t),
       IsRest-le
-          (behind_white_rest (position t).1),
+          (after_white_rest (position t).1),
     )

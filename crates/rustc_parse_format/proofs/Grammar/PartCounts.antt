@@ -7,9 +7,9 @@ use Rattle.std.proofs.lemmas.Bool.{cond_both, cond-true, cond-false, and_left, a
 use Rattle.std.proofs.lemmas.Bool.{or_from, or_parts, not-true, false≢true, eqb-true}
 use Rattle.std.proofs.lemmas.Bool.{false_from_ne_true}
 use Rattle.unicode_ident.proofs.Computing.{unicode_ident}
-use Rattle.rustc_parse_format.specs.Characters.{Text, is_id_start, word, behind_word, digits}
-use Rattle.rustc_parse_format.specs.Characters.{behind_digits, begins_with, begins_raw}
-use Rattle.rustc_parse_format.specs.Characters.{behind_prefix}
+use Rattle.rustc_parse_format.specs.Characters.{Text, is_id_start, word, after_word, digits}
+use Rattle.rustc_parse_format.specs.Characters.{after_digits, begins_with, begins_raw}
+use Rattle.rustc_parse_format.specs.Characters.{after_prefix}
 use Rattle.rustc_parse_format.specs.Characters.{first_passes}
 use Rattle.rustc_parse_format.specs.Spelling.{IsPart, fixed, unless, absent, integer, identifier}
 use Rattle.rustc_parse_format.specs.Syntax.{CountText, NumberCount, IndexCount, NameCount, NoCount}
@@ -19,9 +19,9 @@ use Rattle.rustc_parse_format.specs.Syntax.{NoPrecision, StarPrecision, DotPreci
 use Rattle.rustc_parse_format.specs.Syntax.{precision_part}
 use Rattle.rustc_parse_format.specs.Syntax.{PositionText, Digits, Word, RawWord, NoPosition}
 use Rattle.rustc_parse_format.specs.Syntax.{position_part}
-use Rattle.rustc_parse_format.specs.Counts.{behind_number, behind_name, count, width_with}
-use Rattle.rustc_parse_format.specs.Counts.{behind_zero}
-use Rattle.rustc_parse_format.specs.Counts.{width, behind_dot, precision}
+use Rattle.rustc_parse_format.specs.Counts.{after_number, after_name, count, width_with}
+use Rattle.rustc_parse_format.specs.Counts.{after_zero}
+use Rattle.rustc_parse_format.specs.Counts.{width, after_dot, precision}
 use Rattle.rustc_parse_format.specs.Placeholder.{raw_word, position}
 use Rattle.rustc_parse_format.proofs.Grammar.PartLaws.{Finds, IsPart-moved, unless-there}
 use Rattle.rustc_parse_format.proofs.Grammar.PartLaws.{absent-same, absent-here, fixed-there}
@@ -34,7 +34,7 @@ use Rattle.rustc_parse_format.proofs.Grammar.PartFronts.{start-no_digit}
 
 -- positions
 raw-sound : (t : Text) → begins_raw t ≡ true
-    → IsPart t (position_part (raw_word (behind_prefix t)).0) (raw_word (behind_prefix t)).1
+    → IsPart t (position_part (raw_word (after_prefix t)).0) (raw_word (after_prefix t)).1
 raw-sound [] e = absurd (false≢true e)
 raw-sound (c ∷ []) e = absurd (false≢true (and_parts (c == code "r") false e).1)
 raw-sound (c ∷ d ∷ []) e =
@@ -44,7 +44,7 @@ raw-sound (c ∷ d ∷ i ∷ t) e =
     let letter = eqb-true c (code "r") (and_parts (c == code "r") _ e).0 in
     let hash = eqb-true d (code "#") later.0 in
     row-two (c ∷ d ∷ i ∷ t) (i ∷ t) (fixed (codes "r#")) (identifier (word (i ∷ t)))
-    (behind_word (i ∷ t))
+    (after_word (i ∷ t))
     (IsPart-moved _ (codes "r#" ++ i ∷ t) _ (i ∷ t) (ap (λ x. x ∷ d ∷ i ∷ t) letter
     ∙ ap (λ x. code "r" ∷ x ∷ i ∷ t) hash) (fixed-there (codes "r#") (i ∷ t)))
     (identifier-sound i t later.1)
@@ -61,18 +61,18 @@ position-sound (c ∷ t) =
     (λ r. cond_both {A = PositionText × Text} (is_id_start c) _ _
     (λ x. IsPart (c ∷ t) (position_part x.0) x.1)
     (λ i. row-two (c ∷ t) (c ∷ t) (absent begins_raw) (identifier (word (c ∷ t)))
-    (behind_word (c ∷ t)) (absent-here (c ∷ t) begins_raw r)
+    (after_word (c ∷ t)) (absent-here (c ∷ t) begins_raw r)
     (identifier-sound c t i))
     (λ i. absent-here (c ∷ t) (λ u. first_passes is_ascii_digit u || first_passes is_id_start u)
     (or_from _ _ d i))))
 
 position-digits : (t : Text) → first_passes is_ascii_digit t ≡ true
-    → position t ≡ (Digits (digits t), behind_digits t)
+    → position t ≡ (Digits (digits t), after_digits t)
 position-digits [] e = absurd (false≢true e)
 position-digits (c ∷ t) e = cond-true (is_ascii_digit c) _ _ e
 
 position-word : (t : Text) → begins_raw t ≡ false → first_passes is_id_start t ≡ true
-    → position t ≡ (Word (word t), behind_word t)
+    → position t ≡ (Word (word t), after_word t)
 position-word [] n e = absurd (false≢true e)
 position-word (c ∷ t) n e =
     cond-false (is_ascii_digit c) _ _ (start-no_digit c e)
@@ -109,19 +109,19 @@ position-complete : (t : Text) (p : PositionText) (r : Text) → IsPart t (posit
 position-complete t (Digits ds) r h =
     let k = integer-complete t ds r h in
     position-digits t k.digit
-    ∙ (ap (λ u. (Digits u, behind_digits t)) k.read ∙ ap (λ u. (Digits ds, u)) k.behind)
+    ∙ (ap (λ u. (Digits u, after_digits t)) k.read ∙ ap (λ u. (Digits ds, u)) k.rest_after)
 position-complete t (Word w) r h =
     let s = two-split t (absent begins_raw) (identifier w) r h in
     let k = identifier-complete s.seam w r s.second in
     ap position (absent-same t begins_raw s.seam s.first)
     ∙ (position-word s.seam (not-true _ s.first.ends) k.first_passes
-    ∙ (ap (λ u. (Word u, behind_word s.seam)) k.read ∙ ap (λ u. (Word w, u)) k.behind))
+    ∙ (ap (λ u. (Word u, after_word s.seam)) k.read ∙ ap (λ u. (Word w, u)) k.rest_after))
 position-complete t (RawWord w) r h =
     let s = two-split t (fixed (codes "r#")) (identifier w) r h in
     let k = identifier-complete s.seam w r s.second in
     ap position s.first.whole
     ∙ (position-raw s.seam k.first_passes
-    ∙ (ap (λ u. (RawWord u, behind_word s.seam)) k.read ∙ ap (λ u. (RawWord w, u)) k.behind))
+    ∙ (ap (λ u. (RawWord u, after_word s.seam)) k.read ∙ ap (λ u. (RawWord w, u)) k.rest_after))
 position-complete t NoPosition r h = ap position (absent-same t _ r h)
     ∙ position-none r (not-true _ h.ends)
 
@@ -130,7 +130,7 @@ position-finds = record { sound = position-sound; complete = position-complete }
 
 -- counts
 number-sound : (t ds s : Text) → IsPart t (integer ds) s
-    → IsPart t (count_part (behind_number ds s).0) (behind_number ds s).1
+    → IsPart t (count_part (after_number ds s).0) (after_number ds s).1
 number-sound t ds [] h = row-two t [] (integer ds) (absent (begins_with (code "$"))) [] h
     (absent-here [] (begins_with (code "$")) refl)
 number-sound t ds (d ∷ s) h =
@@ -141,7 +141,7 @@ number-sound t ds (d ∷ s) h =
 
 name-sound : (t w s : Text) → IsPart t (identifier w) s
     → (begins_with (code "$") s ≡ false → begins_count t ≡ false) →
-    IsPart t (count_part (behind_name t w s).0) (behind_name t w s).1
+    IsPart t (count_part (after_name t w s).0) (after_name t w s).1
 name-sound t w [] h f = no_count-here t (f refl)
 name-sound t w (d ∷ s) h f =
     cond_both {A = CountText × Text} (d == code "$") _ _ (λ x. IsPart t (count_part x.0) x.1)
@@ -161,22 +161,22 @@ count-sound (c ∷ t) =
     (λ i. no_count-here (c ∷ t) (or_from _ _ d (and_left _ _ i))))
 
 count-digits : (t : Text) → first_passes is_ascii_digit t ≡ true
-    → count t ≡ behind_number (digits t) (behind_digits t)
+    → count t ≡ after_number (digits t) (after_digits t)
 count-digits [] e = absurd (false≢true e)
 count-digits (c ∷ t) e = cond-true (is_ascii_digit c) _ _ e
 
 count-word : (t : Text) → first_passes is_id_start t ≡ true
-    → count t ≡ behind_name t (word t) (behind_word t)
+    → count t ≡ after_name t (word t) (after_word t)
 count-word [] e = absurd (false≢true e)
 count-word (c ∷ t) e = cond-false (is_ascii_digit c) _ _ (start-no_digit c e)
     ∙ cond-true (is_id_start c) _ _ e
 
 number-alone : (ds s : Text) → begins_with (code "$") s ≡ false
-    → behind_number ds s ≡ (NumberCount ds, s)
+    → after_number ds s ≡ (NumberCount ds, s)
 number-alone ds [] e = refl
 number-alone ds (c ∷ s) e = cond-false (c == code "$") _ _ e
 
-no_name : (t w s : Text) → begins_with (code "$") s ≡ false → behind_name t w s ≡ (NoCount, t)
+no_name : (t w s : Text) → begins_with (code "$") s ≡ false → after_name t w s ≡ (NoCount, t)
 no_name t w [] e = refl
 no_name t w (c ∷ s) e = cond-false (c == code "$") _ _ e
 
@@ -185,12 +185,12 @@ count-none [] e = refl
 count-none (c ∷ t) e =
     cond-false (is_ascii_digit c) _ _ (or_parts _ _ e).0
     ∙ cond_both {A = CountText × Text} (is_id_start c) _ _ (λ x. x ≡ (NoCount, c ∷ t))
-    (λ i. no_name (c ∷ t) (word (c ∷ t)) (behind_word (c ∷ t))
-    (behind_true _ _ i (or_parts _ _ e).1)) (λ i. refl)
+    (λ i. no_name (c ∷ t) (word (c ∷ t)) (after_word (c ∷ t))
+    (after_true _ _ i (or_parts _ _ e).1)) (λ i. refl)
   where
-    behind_true : (x y : Bool) → x ≡ true → (x && y) ≡ false → y ≡ false
-    behind_true true y i f = f
-    behind_true false y i f = absurd (false≢true i)
+    after_true : (x y : Bool) → x ≡ true → (x && y) ≡ false → y ≡ false
+    after_true true y i f = f
+    after_true false y i f = absurd (false≢true i)
 
 count-complete : (t : Text) (k : CountText) (r : Text) → IsPart t (count_part k) r
     → count t ≡ (k, r)
@@ -198,21 +198,21 @@ count-complete t (NumberCount ds) r h =
     let s = two-split t (integer ds) (absent (begins_with (code "$"))) r h in
     let i = integer-complete t ds s.seam s.first in
     count-digits t i.digit
-    ∙ (ap (λ u. behind_number u (behind_digits t)) i.read
-    ∙ (ap (behind_number ds) (i.behind ∙ absent-same s.seam (begins_with (code "$")) r s.second)
+    ∙ (ap (λ u. after_number u (after_digits t)) i.read
+    ∙ (ap (after_number ds) (i.rest_after ∙ absent-same s.seam (begins_with (code "$")) r s.second)
     ∙ number-alone ds r (not-true _ s.second.ends)))
 count-complete t (IndexCount ds) r h =
     let s = two-split t (integer ds) (fixed (codes "$")) r h in
     let i = integer-complete t ds s.seam s.first in
     count-digits t i.digit
-    ∙ (ap (λ u. behind_number u (behind_digits t)) i.read
-    ∙ ap (behind_number ds) (i.behind ∙ s.second.whole))
+    ∙ (ap (λ u. after_number u (after_digits t)) i.read
+    ∙ ap (after_number ds) (i.rest_after ∙ s.second.whole))
 count-complete t (NameCount w) r h =
     let s = two-split t (name_part w) (fixed (codes "$")) r h in
     let i = identifier-complete t w s.seam (named-identifier t w s.seam s.first) in
     count-word t i.first_passes
-    ∙ (ap (λ u. behind_name t u (behind_word t)) i.read
-    ∙ ap (behind_name t w) (i.behind ∙ s.second.whole))
+    ∙ (ap (λ u. after_name t u (after_word t)) i.read
+    ∙ ap (after_name t w) (i.rest_after ∙ s.second.whole))
 count-complete t NoCount r h = ap count h.whole ∙ count-none r (no_count-read t r h)
 
 -- widths
@@ -228,7 +228,7 @@ padded t e =
     (count_part (count t).0) (count t).1
     (unless-there (begins_with (code "$")) (codes "0") t e) (count-sound t)
 
-zero-sound : (t : Text) → IsPart (codes "0" ++ t) (width_part (behind_zero t).0) (behind_zero t).1
+zero-sound : (t : Text) → IsPart (codes "0" ++ t) (width_part (after_zero t).0) (after_zero t).1
 zero-sound [] = padded [] refl
 zero-sound (c ∷ t) =
     cond_both {A = WidthText × Text} (c == code "$") _ (width_with PaddedWidth (c ∷ t))
@@ -245,7 +245,7 @@ width-sound (c ∷ t) =
     (λ e. IsPart-moved _ _ _ _ (ap (λ x. x ∷ t) (eqb-true c (code "0") e)) (zero-sound t))
     (λ e. plain (c ∷ t) e)
 
-zero-flag : (t : Text) → begins_with (code "$") t ≡ false → behind_zero t ≡ width_with PaddedWidth t
+zero-flag : (t : Text) → begins_with (code "$") t ≡ false → after_zero t ≡ width_with PaddedWidth t
 zero-flag [] e = refl
 zero-flag (c ∷ t) e = cond-false (c == code "$") _ _ e
 
@@ -279,7 +279,7 @@ dotted t e = row-two (codes "." ++ t) t (unless (codes ".") (begins_with (code "
     (count_part (count t).0) (count t).1
     (unless-there (begins_with (code "*")) (codes ".") t e) (count-sound t)
 
-dot-sound : (t : Text) → IsPart (codes "." ++ t) (precision_part (behind_dot t).0) (behind_dot t).1
+dot-sound : (t : Text) → IsPart (codes "." ++ t) (precision_part (after_dot t).0) (after_dot t).1
 dot-sound [] = dotted [] refl
 dot-sound (c ∷ t) =
     cond_both {A = PrecisionText × Text} (c == code "*") _ _
@@ -296,7 +296,7 @@ precision-sound (c ∷ t) =
     (λ e. IsPart-moved _ _ _ _ (ap (λ x. x ∷ t) (eqb-true c (code ".") e)) (dot-sound t))
     (λ e. absent-here (c ∷ t) (begins_with (code ".")) e)
 
-dot-count : (t : Text) → begins_with (code "*") t ≡ false → behind_dot t
+dot-count : (t : Text) → begins_with (code "*") t ≡ false → after_dot t
     ≡ (DotPrecision (count t).0, (count t).1)
 dot-count [] e = refl
 dot-count (c ∷ t) e = cond-false (c == code "*") _ _ e

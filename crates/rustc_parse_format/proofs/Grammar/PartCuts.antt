@@ -1,7 +1,7 @@
 -- The computed cut of a text is its only cut.
 use Rattle.std.proofs.Common.{◌≡◌, ◌++◌, [], ◌∷◌, sym, ◌∙◌, ap}
 use Rattle.std.specs.Char.{is_whitespace}
-use Rattle.rustc_parse_format.specs.Characters.{Text, front, behind, behind_white}
+use Rattle.rustc_parse_format.specs.Characters.{Text, front, rest_after, after_white}
 use Rattle.rustc_parse_format.specs.Types.{Mode}
 use Rattle.rustc_parse_format.specs.Spelling.{run}
 use Rattle.rustc_parse_format.specs.Syntax.{SpecText, spec_part, PositionText, position_part}
@@ -15,10 +15,10 @@ use Rattle.rustc_parse_format.proofs.Grammar.PartSpecs.{spec-finds}
 
 -- Each text has a cut,
 pub cut-sound : (mode : Mode) (t : Text) → IsCut mode t (cut mode t).field (cut mode t).rest
-unfolding cut behind_white
+unfolding cut after_white
 cut-sound mode t =
     (then (position-finds.sound t) (then ((run-finds is_whitespace).sound (position t).1)
-    (last ((spec-finds mode).sound (behind is_whitespace (position t).1))))).part
+    (last ((spec-finds mode).sound (rest_after is_whitespace (position t).1))))).part
 
 with_parts : PositionText → Text → SpecText → Text → Text → Text → Cut
 with_parts p w s t u r = record {
@@ -36,7 +36,7 @@ same_with p q v w s z t u x y r o e1 e2 e3 e4 e5 e6 = cc
 -- and each cut that it has is this one.
 pub cut-placed : (mode : Mode) (t : Text) (a : FieldText) (r : Text) → IsCut mode t a r
     → cut mode t ≡ cut_of mode a r
-unfolding cut behind_white with_parts
+unfolding cut after_white with_parts
 cut-placed mode t a r h =
     let whole : IsRow t (position_part a.position ∷ run is_whitespace a.space
     ∷ spec_part mode a.spec ∷ []) r = record { part = h } in
@@ -47,12 +47,13 @@ cut-placed mode t a r h =
     let we = (run-finds is_whitespace).complete p.seam a.space w.seam w.first in
     let se = (spec-finds mode).complete w.seam a.spec r s in
     let at_space : (position t).1 ≡ p.seam = ap (λ x. x.1) pe in
-    let at_spec : behind is_whitespace (position t).1 ≡ w.seam = ap (behind is_whitespace) at_space
+    let at_spec : rest_after is_whitespace (position t).1
+    ≡ w.seam = ap (rest_after is_whitespace) at_space
     ∙ ap (λ x. x.1) we in
-    let spec = specification mode (behind is_whitespace (position t).1) in
+    let spec = specification mode (rest_after is_whitespace (position t).1) in
     same_with (position t).0 a.position (front is_whitespace (position t).1) a.space spec.0 a.spec t
     ((field_part mode a).spelling ++ r)
-    (behind is_whitespace (position t).1) ((spec_part mode a.spec).spelling ++ r) spec.1 r
+    (rest_after is_whitespace (position t).1) ((spec_part mode a.spec).spelling ++ r) spec.1 r
     (ap (λ x. x.0) pe)
     (ap (front is_whitespace) at_space ∙ ap (λ x. x.0) we)
     (ap (λ u. (specification mode u).0) at_spec ∙ ap (λ x. x.0) se)

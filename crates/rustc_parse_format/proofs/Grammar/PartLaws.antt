@@ -94,7 +94,7 @@ pub two-split : (t : Text) (p q : Part) (r : Text) → IsPart t (row (p ∷ q �
 two-split t p q r h = let s = row-split t p (q ∷ []) r h in
     record { seam = s.seam; first = s.first; second = row-only s.seam q r s.others }
 
--- the same, with the parts of a row told by its type
+-- the same, with the parts of a row known by its type
 pub record IsRow (t : Text) (ps : List Part) (r : Text) : Type 0 where
   pub part : IsPart t (row ps) r
 

@@ -8,7 +8,7 @@ use Rattle.std.proofs.lemmas.Bool.{and_parts, and_from, or_cases, or_left, or_ri
 use Rattle.std.proofs.lemmas.Bool.{not-true, false≢true, eqb-true}
 use Rattle.unicode_ident.proofs.Computing.{unicode_ident}
 use Rattle.rustc_parse_format.specs.Characters.{Text, is_id_start, is_id_continue, word}
-use Rattle.rustc_parse_format.specs.Characters.{behind_word, begins_with, first_passes}
+use Rattle.rustc_parse_format.specs.Characters.{after_word, begins_with, first_passes}
 use Rattle.rustc_parse_format.specs.Spelling.{IsPart, identifier, some_front, begins_with_part}
 use Rattle.rustc_parse_format.specs.Syntax.{name_part, NoCount, count_part}
 use Rattle.rustc_parse_format.proofs.Grammar.PartLaws.{absent-here}
@@ -59,7 +59,7 @@ named-identifier t w r h = record {
 -- what counts read: digits, or the word at the front and a `$`
 abbrev pub begins_count : Text → Bool
 begins_count t = first_passes is_ascii_digit t
-    || (first_passes is_id_start t && begins_with (code "$") (behind_word t))
+    || (first_passes is_id_start t && begins_with (code "$") (after_word t))
 
 same_test : (a b : Bool) → (a ≡ true → b ≡ true) → (b ≡ true → a ≡ true) → a ≡ b
 same_test true b f g = sym (f refl)
@@ -67,28 +67,28 @@ same_test false true f g = g refl
 same_test false false f g = refl
 
 name_read : (t : Text) → begins_with_part name_part t ≡ true
-    → (first_passes is_id_start t && begins_with (code "$") (behind_word t)) ≡ true
+    → (first_passes is_id_start t && begins_with (code "$") (after_word t)) ≡ true
 name_read t e =
     let s = front_there t (λ u r. (name_part u).is_formed && (name_part u).may_precede r) e in
     let both = and_parts _ _ s.passes in
     let k = identifier-complete t s.front s.rest
     (named-identifier t s.front s.rest
     (record { whole = s.whole; formed = both.0; ends = both.1 })) in
-    and_from _ _ k.first_passes (ap (begins_with (code "$")) k.behind ∙ both.1)
+    and_from _ _ k.first_passes (ap (begins_with (code "$")) k.rest_after ∙ both.1)
 
-read_name : (t : Text) → (first_passes is_id_start t && begins_with (code "$") (behind_word t))
+read_name : (t : Text) → (first_passes is_id_start t && begins_with (code "$") (after_word t))
     ≡ true → begins_with_part name_part t ≡ true
 read_name [] e = absurd (false≢true e)
 read_name (c ∷ t) e =
     let both = and_parts _ _ e in
     let w = identifier-sound c t both.0 in
     ap (begins_with_part name_part) w.whole
-    ∙ there_front (word (c ∷ t)) (behind_word (c ∷ t)) (λ u r. (name_part u).is_formed
+    ∙ there_front (word (c ∷ t)) (after_word (c ∷ t)) (λ u r. (name_part u).is_formed
     && (name_part u).may_precede r)
     (and_from _ _ w.formed both.1)
 
 begins_with_part-name : (t : Text) → begins_with_part name_part t
-    ≡ (first_passes is_id_start t && begins_with (code "$") (behind_word t))
+    ≡ (first_passes is_id_start t && begins_with (code "$") (after_word t))
 begins_with_part-name t = same_test _ _ (name_read t) (read_name t)
 
 pub begins_with_part-count : (t : Text)

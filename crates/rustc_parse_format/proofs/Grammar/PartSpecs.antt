@@ -5,8 +5,8 @@ use Rattle.std.proofs.Common.{codes, ◌⊎◌, inl, inr, Option, Some, None}
 use Rattle.std.specs.Prelude.{◌==◌, ◌||◌, not}
 use Rattle.std.proofs.lemmas.Bool.{cond_both, cond-true, cond-false, or_from, or_parts, or_cases}
 use Rattle.std.proofs.lemmas.Bool.{or_left, or_right, not-true, false≢true, eqb-true}
-use Rattle.rustc_parse_format.specs.Characters.{Text, is_align, is_no_brace, word, behind_word}
-use Rattle.rustc_parse_format.specs.Characters.{behind_first, begins_with, first_passes}
+use Rattle.rustc_parse_format.specs.Characters.{Text, is_align, is_no_brace, word, after_word}
+use Rattle.rustc_parse_format.specs.Characters.{after_first, begins_with, first_passes}
 use Rattle.rustc_parse_format.specs.Spelling.{IsPart, fixed, absent, run, optional_identifier}
 use Rattle.rustc_parse_format.specs.Types.{Mode, Format, InlineAsm, Diagnostic, DiagnosticNamed}
 use Rattle.rustc_parse_format.specs.Types.{Alignment, Left}
@@ -22,10 +22,10 @@ use Rattle.rustc_parse_format.specs.Syntax.{format_part, SpecText}
 use Rattle.rustc_parse_format.specs.Syntax.{Default, Formatting, Modifier, DiagnosticText}
 use Rattle.rustc_parse_format.specs.Syntax.{spec_part}
 use Rattle.rustc_parse_format.specs.Counts.{width, precision}
-use Rattle.rustc_parse_format.specs.Specification.{fill, align, sign, alternate, behind_hex, type}
+use Rattle.rustc_parse_format.specs.Specification.{fill, align, sign, alternate, after_hex, type}
 use Rattle.rustc_parse_format.specs.Specification.{align_at, sign_at, alternate_at, width_at}
 use Rattle.rustc_parse_format.specs.Specification.{precision_at}
-use Rattle.rustc_parse_format.specs.Specification.{type_at, format_text, behind_colon}
+use Rattle.rustc_parse_format.specs.Specification.{type_at, format_text, after_colon}
 use Rattle.rustc_parse_format.specs.Specification.{specification}
 use Rattle.rustc_parse_format.proofs.Grammar.PartLaws.{Finds, IsPart-moved, absent-same}
 use Rattle.rustc_parse_format.proofs.Grammar.PartLaws.{absent-here, fixed-there, letter-there}
@@ -36,18 +36,18 @@ use Rattle.rustc_parse_format.proofs.Grammar.PartCounts.{width-finds, precision-
 
 -- fills
 fill-sound : (t : Text) → IsPart t (fill_part (fill t).0) (fill t).1
-fill-sound [] = absent-here [] (λ r. first_passes is_align (behind_first r)) refl
-fill-sound (c ∷ []) = absent-here (c ∷ []) (λ r. first_passes is_align (behind_first r)) refl
+fill-sound [] = absent-here [] (λ r. first_passes is_align (after_first r)) refl
+fill-sound (c ∷ []) = absent-here (c ∷ []) (λ r. first_passes is_align (after_first r)) refl
 fill-sound (c ∷ d ∷ t) =
     cond_both {A = Option ℕ × Text} (is_align d) _ _ (λ x. IsPart (c ∷ d ∷ t) (fill_part x.0) x.1)
     (λ e. record { whole = refl; formed = refl; ends = e })
-    (λ e. absent-here (c ∷ d ∷ t) (λ r. first_passes is_align (behind_first r)) e)
+    (λ e. absent-here (c ∷ d ∷ t) (λ r. first_passes is_align (after_first r)) e)
 
 fill-some : (c : ℕ) (r : Text) → first_passes is_align r ≡ true → fill (c ∷ r) ≡ (Some c, r)
 fill-some c [] e = absurd (false≢true e)
 fill-some c (d ∷ r) e = cond-true (is_align d) _ _ e
 
-fill-none : (t : Text) → first_passes is_align (behind_first t) ≡ false → fill t ≡ (None, t)
+fill-none : (t : Text) → first_passes is_align (after_first t) ≡ false → fill t ≡ (None, t)
 fill-none [] e = refl
 fill-none (c ∷ []) e = refl
 fill-none (c ∷ d ∷ t) e = cond-false (is_align d) _ _ e
@@ -148,7 +148,7 @@ letter_alone h t e = record {
 }
 
 hex-sound : (h : DebugHex) (t : Text)
-    → IsPart (letter h ∷ t) (type_part (behind_hex h (letter h) t).0) (behind_hex h (letter h) t).1
+    → IsPart (letter h ∷ t) (type_part (after_hex h (letter h) t).0) (after_hex h (letter h) t).1
 hex-sound h [] = letter_alone h [] refl
 hex-sound h (d ∷ t) =
     cond_both {A = TypeText × Text} (d == code "?") _ _
@@ -162,22 +162,22 @@ unfolding letter
 type-sound [] = record { whole = refl; formed = refl; ends = refl }
 type-sound (c ∷ t) =
     cond_both {A = TypeText × Text} (c == code "x") _ _ (λ x. IsPart (c ∷ t) (type_part x.0) x.1)
-    (λ e. subst (λ d. IsPart (d ∷ t) (type_part (behind_hex Lower d t).0) (behind_hex Lower d t).1)
+    (λ e. subst (λ d. IsPart (d ∷ t) (type_part (after_hex Lower d t).0) (after_hex Lower d t).1)
     (sym (eqb-true c (code "x") e)) (hex-sound Lower t))
     (λ e. cond_both {A = TypeText × Text} (c == code "X") _ _
     (λ x. IsPart (c ∷ t) (type_part x.0) x.1)
-    (λ f. subst (λ d. IsPart (d ∷ t) (type_part (behind_hex Upper d t).0) (behind_hex Upper d t).1)
+    (λ f. subst (λ d. IsPart (d ∷ t) (type_part (after_hex Upper d t).0) (after_hex Upper d t).1)
     (sym (eqb-true c (code "X") f)) (hex-sound Upper t))
     (λ f. cond_both {A = TypeText × Text} (c == code "?") _ _
     (λ x. IsPart (c ∷ t) (type_part x.0) x.1)
     (λ g. record { whole = refl; formed = or_right _ _ g; ends = or_left _ _ g })
     (λ g. row-two (c ∷ t) (c ∷ t) (absent (first_passes is_type_character))
-    (optional_identifier (word (c ∷ t))) (behind_word (c ∷ t))
+    (optional_identifier (word (c ∷ t))) (after_word (c ∷ t))
     (absent-here (c ∷ t) (first_passes is_type_character) (or_from _ _ (or_from _ _ e f) g))
     (optional_identifier-finds.sound (c ∷ t)))))
 
 hex-alone : (h : DebugHex) (c : ℕ) (r : Text) → begins_with (code "?") r ≡ false
-    → behind_hex h c r ≡ (CharacterType c, r)
+    → after_hex h c r ≡ (CharacterType c, r)
 hex-alone h c [] e = refl
 hex-alone h c (d ∷ r) e = cond-false (d == code "?") _ _ e
 
@@ -200,8 +200,8 @@ sign-read c r e = by_sign (or_cases _ _ e)
     by_sign (inr f) = subst (IsRead r) (sym (eqb-true c (code "?") f)) (λ n. refl)
 
 type-word : (t : Text) → first_passes is_type_character t ≡ false
-    → type t ≡ (WordType (word t), behind_word t)
-unfolding word behind_word
+    → type t ≡ (WordType (word t), after_word t)
+unfolding word after_word
 type-word [] e = refl
 type-word (c ∷ t) e =
     let front = or_parts _ _ (or_parts _ _ e).0 in
@@ -288,7 +288,7 @@ format-complete t p r h =
 
 -- specifications
 colon-sound : (mode : Mode) (t : Text)
-    → IsPart (codes ":" ++ t) (spec_part mode (behind_colon mode t).0) (behind_colon mode t).1
+    → IsPart (codes ":" ++ t) (spec_part mode (after_colon mode t).0) (after_colon mode t).1
 colon-sound Format t = (then (fixed-there (codes ":") t) (last (format-sound t))).part
 colon-sound InlineAsm t =
     (then (fixed-there (codes ":") t) (last (optional_identifier-finds.sound t))).part

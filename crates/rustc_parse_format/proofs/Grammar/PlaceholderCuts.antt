@@ -1,7 +1,7 @@
 -- A placeholder is written exactly if a brace closes the computed cut.
 use Rattle.std.proofs.Common.{◌≡◌, ◌++◌, [], ◌∷◌, sym, ◌∙◌, ap, subst, codes}
 use Rattle.std.specs.Char.{is_whitespace}
-use Rattle.rustc_parse_format.specs.Characters.{Text, front, behind_white}
+use Rattle.rustc_parse_format.specs.Characters.{Text, front, after_white}
 use Rattle.rustc_parse_format.specs.Spelling.{IsPart, fixed, run}
 use Rattle.rustc_parse_format.specs.Types.{Mode}
 use Rattle.rustc_parse_format.specs.Syntax.{FieldText, field_part, placeholder_part}
@@ -15,12 +15,12 @@ use Rattle.rustc_parse_format.proofs.Grammar.PartCuts.{cut-sound, cut-placed}
 pub record ClosesCut (mode : Mode) (t : Text) (a : FieldText) (r : Text) : Type 0 where
   pub inside : Text
   pub opens : t ≡ 123 ∷ inside
-  pub closes : behind_white (cut mode inside).rest ≡ 125 ∷ r
+  pub closes : after_white (cut mode inside).rest ≡ 125 ∷ r
   pub field : a ≡ (cut mode inside).field
 
-white-behind : (t w r : Text) → IsPart t (run is_whitespace w) r → behind_white t ≡ r
-unfolding behind_white
-white-behind t w r h = ap (λ x. x.1) ((run-finds is_whitespace).complete t w r h)
+white-rest_after : (t w r : Text) → IsPart t (run is_whitespace w) r → after_white t ≡ r
+unfolding after_white
+white-rest_after t w r h = ap (λ x. x.1) ((run-finds is_whitespace).complete t w r h)
 
 pub by_cut : (mode : Mode) (t : Text) (a : FieldText) (space r : Text)
     → IsPart t (placeholder_part mode a space) r → ClosesCut mode t a r
@@ -35,16 +35,16 @@ by_cut mode t a space r h =
     record {
       inside = o.seam;
       opens = o.first.whole;
-      closes = ap (λ x. behind_white x.rest) e
-          ∙ (white-behind f.seam space w.seam w.first ∙ z.whole);
+      closes = ap (λ x. after_white x.rest) e
+          ∙ (white-rest_after f.seam space w.seam w.first ∙ z.whole);
       field = ap (λ x. x.field) (sym e);
     }
 
-pub from_cut : (mode : Mode) (inside r : Text) → behind_white (cut mode inside).rest ≡ 125 ∷ r →
+pub from_cut : (mode : Mode) (inside r : Text) → after_white (cut mode inside).rest ≡ 125 ∷ r →
     IsPart (123 ∷ inside)
     (placeholder_part mode (cut mode inside).field (front is_whitespace (cut mode inside).rest))
     r
-unfolding behind_white
+unfolding after_white
 from_cut mode inside r closes =
     let x = cut mode inside in
     let w = front is_whitespace x.rest in

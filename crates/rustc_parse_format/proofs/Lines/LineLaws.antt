@@ -23,7 +23,7 @@ Reading = ℕ × List Place
 abbrev pub then_read : Reading → Reading → Reading
 then_read r q = (q.0, r.1 ++ q.1)
 
--- where the line starts behind a character that is no newline
+-- where the line starts after a character that is no newline
 abbrev pub moved : ℕ → PlacedCharacter → ℕ
 moved start x = if is_indent start x then x.1.1 else start
 
@@ -100,7 +100,7 @@ read_lines-newline start x xs e =
     ap (λ b. cond b ((read_lines x.1.1 xs).0, (start, x.1.0) ∷ (read_lines x.1.1 xs).1)
     (read_lines (moved start x) xs)) e
 
--- and no other character does. White space at the start of the line moves that start behind itself,
+-- and no other character does. White space at the start of the line moves that start after itself,
 pub read_lines-step : (start : ℕ) (x : PlacedCharacter) (xs : List PlacedCharacter)
     → is_newline x ≡ false →
     read_lines start (x ∷ xs) ≡ read_lines (moved start x) xs
@@ -170,16 +170,17 @@ cut-further : (start : ℕ) (x : PlacedCharacter) (xs : List PlacedCharacter) (l
     → is_newline x ≡ false →
     IsLines (moved start x) xs ls next → IsLines start (x ∷ xs) ls next
 cut-further start x xs [] next e h = (and_from (not (is_newline x)) _ (ap not e) h.0, h.1)
-cut-further start x xs (line ∷ lines) next e (front, behind, newline, split, none, is, l, rest) = (
-  x ∷ front,
-  behind,
-  newline,
-  ap (λ (ys : List PlacedCharacter). x ∷ ys) split,
-  and_from (not (is_newline x)) _ (ap not e) none,
-  is,
-  l,
-  rest,
-)
+cut-further start x xs (line ∷ lines) next e (front, rest_after, newline, split, none, is, l, rest)
+    = (
+      x ∷ front,
+      rest_after,
+      newline,
+      ap (λ (ys : List PlacedCharacter). x ∷ ys) split,
+      and_from (not (is_newline x)) _ (ap not e) none,
+      is,
+      l,
+      rest,
+    )
 
 pub read_lines-cut : (start : ℕ) (xs : List PlacedCharacter)
     → IsLines start xs (read_lines start xs).1 (read_lines start xs).0
@@ -204,19 +205,19 @@ pub cut-only : (start : ℕ) (xs : List PlacedCharacter) (ls : List Place) (next
     → IsLines start xs ls next
     → (next, ls) ≡ read_lines start xs
 cut-only start xs [] next h = ap (λ (n : ℕ). (n, [])) h.1 ∙ sym (read_lines-one_line start xs h.0)
-cut-only start xs (line ∷ lines) next (front, behind, newline, split, none, is, l, rest) =
+cut-only start xs (line ∷ lines) next (front, rest_after, newline, split, none, is, l, rest) =
     let first : read_lines start front ≡ (indented start front, []) =
     read_lines-one_line start front none in
-    let ended : read_lines (indented start front) (newline ∷ behind)
+    let ended : read_lines (indented start front) (newline ∷ rest_after)
     ≡ (
-      (read_lines newline.1.1 behind).0,
+      (read_lines newline.1.1 rest_after).0,
       (indented start front, newline.1.0)
-          ∷ (read_lines newline.1.1 behind).1,
+          ∷ (read_lines newline.1.1 rest_after).1,
     ) =
-    read_lines-newline (indented start front) newline behind is in
-    let later : (next, lines) ≡ read_lines newline.1.1 behind =
-    cut-only newline.1.1 behind lines next rest in
-    sym (ap (read_lines start) split ∙ (read_lines-append start front (newline ∷ behind)
-    ∙ (ap (λ (r : Reading). then_read r (read_lines r.0 (newline ∷ behind))) first ∙ (ended
+    read_lines-newline (indented start front) newline rest_after is in
+    let later : (next, lines) ≡ read_lines newline.1.1 rest_after =
+    cut-only newline.1.1 rest_after lines next rest in
+    sym (ap (read_lines start) split ∙ (read_lines-append start front (newline ∷ rest_after)
+    ∙ (ap (λ (r : Reading). then_read r (read_lines r.0 (newline ∷ rest_after))) first ∙ (ended
     ∙ (ap (λ (r : Reading). (r.0, (indented start front, newline.1.0) ∷ r.1)) (sym later)
     ∙ ap (λ (p : Place). (next, p ∷ lines)) (sym l))))))

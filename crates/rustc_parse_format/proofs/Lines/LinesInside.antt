@@ -7,7 +7,7 @@ use Rattle.std.specs.Prelude.{if◌then◌else◌, option_map}
 use Rattle.std.specs.List.{AllByRecursion}
 use Rattle.std.proofs.lemmas.Bool.{cond_both, and_parts, false≢true}
 use Rattle.rustc_parse_format.specs.Characters.{Text, is_brace, is_no_brace, begins_with}
-use Rattle.rustc_parse_format.specs.Characters.{behind_first, behind_brace, behind_white, behind}
+use Rattle.rustc_parse_format.specs.Characters.{after_first, after_brace, after_white, rest_after}
 use Rattle.rustc_parse_format.specs.Characters.{front}
 use Rattle.rustc_parse_format.specs.Characters.{is_nil, byte_length}
 use Rattle.rustc_parse_format.specs.Types.{Mode, Format, InlineAsm, Diagnostic, DiagnosticNamed}
@@ -41,14 +41,14 @@ use Rattle.rustc_parse_format.specs.State.{State, ComesFrom, after, after_all, c
 use Rattle.rustc_parse_format.specs.State.{last_lines, next_call}
 use Rattle.rustc_parse_format.specs.ReadBack.{IsInside, IsLineInside, HasBegun, LiesInside}
 use Rattle.rustc_parse_format.specs.ReadBack.{optional, spans_of_fault, spans_of_error}
-use Rattle.rustc_parse_format.proofs.Grammar.Fronts.{front-behind}
+use Rattle.rustc_parse_format.proofs.Grammar.Fronts.{front-rest_after}
 use Rattle.rustc_parse_format.proofs.Sources.PlainPlaces.{place_end}
 use Rattle.rustc_parse_format.proofs.Spans.PlaceOrder.{length-content_places}
 use Rattle.rustc_parse_format.proofs.Grammar.PartLaws.{two-split}
 use Rattle.rustc_parse_format.proofs.Grammar.Rests.{IsRest, IsRest-le, IsRest-self}
-use Rattle.rustc_parse_format.proofs.Grammar.Rests.{behind_first_rest, behind_word_rest}
-use Rattle.rustc_parse_format.proofs.Grammar.Rests.{behind_white_rest}
-use Rattle.rustc_parse_format.proofs.Readers.Recoveries.{behind_brace_rest}
+use Rattle.rustc_parse_format.proofs.Grammar.Rests.{after_first_rest, after_word_rest}
+use Rattle.rustc_parse_format.proofs.Grammar.Rests.{after_white_rest}
+use Rattle.rustc_parse_format.proofs.Readers.Recoveries.{after_brace_rest}
 use Rattle.rustc_parse_format.proofs.Walking.Progress.{walk-IsWalk}
 use Rattle.rustc_parse_format.proofs.Lines.LineLaws.{Reading}
 use Rattle.rustc_parse_format.proofs.Spans.Units.{content-ordered, start-after, stop-start}
@@ -56,7 +56,7 @@ use Rattle.rustc_parse_format.proofs.Spans.Worlds.{known, unit_world}
 use Rattle.rustc_parse_format.proofs.Spans.Forward.{all-append, cut-spec, cut-spec_at}
 use Rattle.rustc_parse_format.proofs.Spans.ReadBack.{ends, mark-order, start-number, stop-number}
 use Rattle.rustc_parse_format.proofs.Walking.ParserLaws.{call_inside, call_rest, from_source}
-use Rattle.rustc_parse_format.proofs.Walking.ParserLaws.{rest_after}
+use Rattle.rustc_parse_format.proofs.Walking.ParserLaws.{rest_after_call}
 
 -- The places of a text of n characters, which starts at a byte, stand one after the other inside a
 -- snippet.
@@ -134,12 +134,13 @@ marked-between [] r = omega arith
 marked-between (c ∷ u) r = (length (u ++ r), refl, omega arith, marked-between u r)
 
 run-between : (t : Text)
-    → AreBetween (length t) (run_texts (front is_no_brace t) (behind is_no_brace t))
-    (length (behind is_no_brace t))
+    → AreBetween (length t) (run_texts (front is_no_brace t) (rest_after is_no_brace t))
+    (length (rest_after is_no_brace t))
 run-between t =
-    subst (λ u. AreBetween (length u) (run_texts (front is_no_brace t) (behind is_no_brace t))
-    (length (behind is_no_brace t)))
-    (sym (front-behind is_no_brace t)) (marked-between (front is_no_brace t) (behind is_no_brace t))
+    subst (λ u. AreBetween (length u) (run_texts (front is_no_brace t) (rest_after is_no_brace t))
+    (length (rest_after is_no_brace t)))
+    (sym (front-rest_after is_no_brace t)) (marked-between (front is_no_brace t) (rest_after
+    is_no_brace t))
 
 text-between : (t u r : Text) → IsPart t (spec_part Diagnostic (DiagnosticText u)) r
     → AreBetween (length t) (run_texts u r) (length r)
@@ -174,29 +175,29 @@ IsWithin t k = AreBetween (length t) k.texts (length k.rest)
 field-between : (mode : Mode) (c : ℕ) (m : Mark) (t : Text) → IsWithin t (field mode c m t)
 unfolding field
 field-between mode c m t =
-    let u : Text = behind_first t in
+    let u : Text = after_first t in
     let a = cut mode u in
-    let less : length u ≤ length t = IsRest-le (behind_first_rest t) in
-    between-wider (length a.spec_at) (length a.rest) (length t) (length (behind_brace a.rest))
+    let less : length u ≤ length t = IsRest-le (after_first_rest t) in
+    between-wider (length a.spec_at) (length a.rest) (length t) (length (after_brace a.rest))
     (spec_texts a.field.spec a.rest)
-    (omega (arith, less, cut-spec_at mode u)) (IsRest-le (behind_brace_rest a.rest))
+    (omega (arith, less, cut-spec_at mode u)) (IsRest-le (after_brace_rest a.rest))
     (spec-between mode a.spec_at a.field.spec a.rest (cut-spec mode u))
 
 late_debug-between : (c : ℕ) (t : Text) → IsWithin t (late_debug c t)
 unfolding late_debug
 late_debug-between c t =
-    cond_both {A = Recovery} (begins_with 58 (behind_first t)) _ _ (IsWithin t)
+    cond_both {A = Recovery} (begins_with 58 (after_first t)) _ _ (IsWithin t)
     (λ e. omega (
       arith,
-      IsRest-le (behind_first_rest t),
-      IsRest-le (behind_first_rest (behind_first t)),
-      IsRest-le (behind_word_rest (behind_first (behind_first t))),
+      IsRest-le (after_first_rest t),
+      IsRest-le (after_first_rest (after_first t)),
+      IsRest-le (after_word_rest (after_first (after_first t))),
     ))
-    (λ e. IsRest-le (behind_first_rest t))
+    (λ e. IsRest-le (after_first_rest t))
 
 sign-between : (c : ℕ) (f : Option (Fault Span)) (t : Text) → IsWithin t (sign c f t)
 sign-between c None t = omega arith
-sign-between c (Some f) t = IsRest-le (behind_first_rest t)
+sign-between c (Some f) t = IsRest-le (after_first_rest t)
 
 recovery-between : (mode : Mode) (c : ℕ) (o : Text) (a : Argument Span) (t : Text)
     → IsWithin t (recovery mode c o a t)
@@ -218,17 +219,17 @@ placeholder-between : (mode : Mode) (c b : ℕ) (t : Text)
 unfolding placeholder
 placeholder-between mode c b t =
     let a = cut mode t in
-    let r : Text = behind_white a.rest in
+    let r : Text = after_white a.rest in
     let read = spec-between mode a.spec_at a.field.spec a.rest (cut-spec mode t) in
     let first : length a.spec_at ≤ length (b ∷ t) = omega (arith, cut-spec_at mode t) in
-    let white : length r ≤ length a.rest = IsRest-le (behind_white_rest a.rest) in
+    let white : length r ≤ length a.rest = IsRest-le (after_white_rest a.rest) in
     let n = number_after_field c a.field in
     let k = recovery mode n (b ∷ t) (argument c a) r in
     cond_both {A = Call} (begins_with 125 r) (closed_call mode c (b ∷ t) a r)
     (unclosed_call mode c (b ∷ t) a r) (IsBetween (b ∷ t))
     (λ yes. between-wider (length a.spec_at) (length a.rest) (length (b ∷ t))
-    (length (behind_first r)) (spec_texts a.field.spec a.rest) first
-    (omega (arith, white, IsRest-le (behind_first_rest r))) read)
+    (length (after_first r)) (spec_texts a.field.spec a.rest) first
+    (omega (arith, white, IsRest-le (after_first_rest r))) read)
     (λ no. between-append (length (b ∷ t)) (length r) (length k.rest)
     (spec_texts a.field.spec a.rest) k.texts
     (between-wider (length a.spec_at) (length a.rest) (length (b ∷ t)) (length r)
@@ -241,9 +242,9 @@ call-between mode c [] = omega arith
 call-between mode c (b ∷ t) =
     cond_both {A = Call} (is_brace b) _ _ (IsBetween (b ∷ t))
     (λ e. cond_both {A = Call} (begins_with b t) _ _ (IsBetween (b ∷ t))
-    (λ d. between-wider (length (behind_first t)) _ (length (b ∷ t)) _ _
-    (omega (arith, IsRest-le (behind_first_rest t))) (omega arith)
-    (run-between (behind_first t)))
+    (λ d. between-wider (length (after_first t)) _ (length (b ∷ t)) _ _
+    (omega (arith, IsRest-le (after_first_rest t))) (omega arith)
+    (run-between (after_first t)))
     (λ d. cond_both {A = Call} (b == 123) _ _ (IsBetween (b ∷ t))
     (λ o. placeholder-between mode c b t) (λ o. omega arith)))
     (λ e. run-between (b ∷ t))
@@ -419,7 +420,7 @@ walk_lies_inside s (k ∷ ks) style snippet appended r f w h =
     subst (λ x. LiesInside snippet appended (after s x)) (sym w.0)
     (call_lies_inside s style snippet appended r f h) in
     by_piece k.piece w.1 one
-    (λ v. walk_lies_inside (after s k) ks style snippet appended (rest_after s k r w.0)
+    (λ v. walk_lies_inside (after s k) ks style snippet appended (rest_after_call s k r w.0)
     (record { is_source = f.is_source; world_is = f.world_is }) v one)
   where
     by_piece : (o : Option (Piece Span)) → GoesOn o ks (IsWalk s.mode k.next k.rest ks)

@@ -8,7 +8,7 @@ use Rattle.std.specs.List.{list_all}
 use Rattle.std.proofs.lemmas.Bool.{and_parts, cond_both, eq-eqb}
 use Rattle.std.proofs.lemmas.Option.{same_Some, none-some}
 use Rattle.std.proofs.lemmas.Slice.Eq.{bytes_eq-Decides}
-use Rattle.rustc_parse_format.specs.Characters.{Text, behind_first, begins_with, byte_length}
+use Rattle.rustc_parse_format.specs.Characters.{Text, after_first, begins_with, byte_length}
 use Rattle.rustc_parse_format.specs.LiteralUnits.{LiteralUnit, Plain, spelling, value, meaning}
 use Rattle.rustc_parse_format.specs.LiteralUnits.{unit_at, at_most_one, is_plain}
 use Rattle.rustc_parse_format.specs.Literal.{units, more, content_value}
@@ -53,7 +53,7 @@ if_same false x = refl
 
 end-character : (at f e : ℕ) (t r w : Text) (c : ℕ) → meaning (unit_at t) ≡ Some (c ∷ [], r)
     → at + byte_length t ≡ f + byte_length r →
-    spelled_end at e t w ≡ (if begins_with c w then spelled_end f f r (behind_first w) else None)
+    spelled_end at e t w ≡ (if begins_with c w then spelled_end f f r (after_first w) else None)
 unfolding spelled_end
 end-character at f e t r w c h l =
     let m = meaning-some (unit_at t) (c ∷ []) r h in
@@ -62,27 +62,27 @@ end-character at f e t r w c h l =
   where
     by_rest : (u : LiteralUnit) → value u ≡ c ∷ [] → at + byte_length (spelling u) ≡ f
         → (o : Option (List LiteralUnit)) (w : Text) →
-        end_of at e (more u o) w ≡ (if begins_with c w then end_of f f o (behind_first w) else None)
+        end_of at e (more u o) w ≡ (if begins_with c w then end_of f f o (after_first w) else None)
     by_rest u v k None w = if_same (begins_with c w) None
     by_rest u v k (Some us) [] = rw v refl
     by_rest u v k (Some us) (d ∷ w) =
         rw (v, k) (and_if (d == c) (bytes_eq w (content_value us)) _ _)
 
--- the same where the value is told as at most one character, by what the text begins with
+-- the same where the value is known as at most one character, by what the text begins with
 pub end-differs : (at f e : ℕ) (t r w : Text) (v : Option ℕ) (c : ℕ)
     → meaning (unit_at t) ≡ Some (at_most_one v, r) → v ≡ Some c →
     at + byte_length t ≡ f + byte_length r → begins_with c w ≡ false → spelled_end at e t w ≡ None
 end-differs at f e t r w v c h k l b =
     end-character at f e t r w c (h ∙ ap (λ x. Some (at_most_one x, r)) k) l
-    ∙ ap (λ x. if x then spelled_end f f r (behind_first w) else None) b
+    ∙ ap (λ x. if x then spelled_end f f r (after_first w) else None) b
 
 pub end-agrees : (at f e : ℕ) (t r w : Text) (v : Option ℕ) (c : ℕ)
     → meaning (unit_at t) ≡ Some (at_most_one v, r) → v ≡ Some c →
     at + byte_length t ≡ f + byte_length r → begins_with c w ≡ true
-    → spelled_end at e t w ≡ spelled_end f f r (behind_first w)
+    → spelled_end at e t w ≡ spelled_end f f r (after_first w)
 end-agrees at f e t r w v c h k l b =
     end-character at f e t r w c (h ∙ ap (λ x. Some (at_most_one x, r)) k) l
-    ∙ ap (λ x. if x then spelled_end f f r (behind_first w) else None) b
+    ∙ ap (λ x. if x then spelled_end f f r (after_first w) else None) b
 
 -- plain characters, in front of a content and of a text
 end-plain : (at f : ℕ) (u t w : Text) → IsTrue (list_all is_plain u) → at + byte_length u ≡ f
@@ -120,12 +120,12 @@ ends-plain t w r v p = record {
 
 -- a unit that stands for the character with which the text goes on
 pub ends-unit : (t r w : Text) (c : ℕ) → meaning (unit_at t) ≡ Some (c ∷ [], r)
-    → begins_with c w ≡ true → SameEnds t w r (behind_first w)
+    → begins_with c w ≡ true → SameEnds t w r (after_first w)
 ends-unit t r w c h b = record {
   narrower = meaning-narrower t (c ∷ []) r h;
   shorter = let less = meaning-shorter t (c ∷ []) r h in omega arith;
   ends = λ at f l. end-character at f at t r w c h l
-      ∙ ap (λ x. if x then spelled_end f f r (behind_first w) else None) b;
+      ∙ ap (λ x. if x then spelled_end f f r (after_first w) else None) b;
 }
 
 pub end-over : (at e : ℕ) (t w : Text) (b : Bool) → t ≡ [] → (IsTrue b ↔ (w ≡ []))

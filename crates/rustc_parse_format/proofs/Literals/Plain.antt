@@ -12,7 +12,7 @@ use Rattle.rustc_parse_format.specs.LiteralReading.{SharePlain}
 use Rattle.rustc_parse_format.specs.Characters.{Text}
 use Rattle.rustc_parse_format.specs.LiteralUnits.{is_hex, is_octal, is_plain, meaning, byte_at}
 use Rattle.rustc_parse_format.specs.LiteralUnits.{escape_at, unit_at}
-use Rattle.rustc_parse_format.proofs.Bytes.ByteFronts.{shared-behind}
+use Rattle.rustc_parse_format.proofs.Bytes.ByteFronts.{shared-rest_after}
 
 -- a character of ASCII is its byte
 pub ascii-first : (b : ℕ) (r : List ℕ) → IsUtf8 (b ∷ r) → b < 128
@@ -31,11 +31,11 @@ ascii-front (c ∷ r) b u long e l = rw (sym e) (ascii-first c r u (omega (arith
 plain-ascii : IsOfAscii is_plain
 plain-ascii c h = grind (arith, nat_tests)
 
-pub plain-behind : (s t : List ℕ) (m n : ℕ) → IsUtf8 s → IsUtf8 t → IsCharBoundary s m → m ≤ n
+pub plain-rest_after : (s t : List ℕ) (m n : ℕ) → IsUtf8 s → IsUtf8 t → IsCharBoundary s m → m ≤ n
     → IsSharedFront is_plain s t n →
     SharePlain (chars s) (chars t) (chars (drop m s)) (chars (drop m t))
-plain-behind s t m n u v b l f =
-    let h = shared-behind is_plain plain-ascii s t m n u v b l f in
+plain-rest_after s t m n u v b l f =
+    let h = shared-rest_after is_plain plain-ascii s t m n u v b l f in
     record { front = h.0; text = h.1; other = h.2; plain = h.3 }
 
 -- a backslash, an `x` and two more bytes of ASCII

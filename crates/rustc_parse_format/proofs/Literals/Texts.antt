@@ -12,11 +12,11 @@ use Rattle.std.proofs.Math.Utf8.{encodes}
 use Rattle.std.proofs.lemmas.Bool.{and_parts}
 use Rattle.std.proofs.lemmas.Bool.Decides.{nat_tests}
 use Rattle.std.proofs.lemmas.Option.{same_Some, none-some}
-use Rattle.rustc_parse_format.specs.Characters.{Text, behind, front}
+use Rattle.rustc_parse_format.specs.Characters.{Text, rest_after, front}
 use Rattle.rustc_parse_format.specs.LiteralUnits.{LiteralUnit, Plain, is_plain, meaning, unit_at}
 use Rattle.rustc_parse_format.specs.LiteralUnits.{value}
 use Rattle.rustc_parse_format.specs.Literal.{IsNoContent, IsOnlyContent, content_value, more, units}
-use Rattle.rustc_parse_format.proofs.Grammar.Fronts.{front-behind, list_all-front}
+use Rattle.rustc_parse_format.proofs.Grammar.Fronts.{front-rest_after, list_all-front}
 use Rattle.rustc_parse_format.proofs.Literals.UnitLaws.{unit_at-complete}
 use Rattle.rustc_parse_format.proofs.Literals.Contents.{units-nil, units-some, units-none}
 use Rattle.rustc_parse_format.proofs.Literals.Contents.{units-only, units-no_content}
@@ -82,11 +82,11 @@ so_far-unit xs v ys t r whole so_far e g =
     so_far-step xs v ys t r whole so_far (text-unit t v r e) g
 
 pub so_far-plain : (xs ys t whole : Text) → IsTextSoFar xs t whole → ys ≡ xs ++ front is_plain t
-    → IsTextSoFar ys (behind is_plain t) whole
+    → IsTextSoFar ys (rest_after is_plain t) whole
 so_far-plain xs ys t whole so_far g =
-    so_far-step xs (front is_plain t) ys t (behind is_plain t) whole so_far
-    (ap text_of (front-behind is_plain t)
-    ∙ text-plain (front is_plain t) (behind is_plain t) (list_all-front is_plain t)) g
+    so_far-step xs (front is_plain t) ys t (rest_after is_plain t) whole so_far
+    (ap text_of (front-rest_after is_plain t)
+    ∙ text-plain (front is_plain t) (rest_after is_plain t) (list_all-front is_plain t)) g
 
 pub so_far-none : (whole : Text) → IsTextSoFar [] whole whole
 so_far-none whole = alone (text_of whole)

@@ -9,7 +9,7 @@ use Rattle.std.specs.Str.Parse.{digits_value_after}
 use Rattle.std.proofs.Math.Nat.{pow-suc, pow-le-pow_right}
 use Rattle.std.proofs.lemmas.Bool.{cond_both, cond-false, eqb-true, le-leb, lt-leb, lt-ltb}
 use Rattle.std.proofs.lemmas.Bool.{ltb-true, ltb-false, cases_Bool, and_left, and_right, or_right}
-use Rattle.rustc_parse_format.specs.Characters.{Text, front, behind, behind_first, begins_with}
+use Rattle.rustc_parse_format.specs.Characters.{Text, front, rest_after, after_first, begins_with}
 use Rattle.rustc_parse_format.specs.Characters.{first_passes}
 use Rattle.rustc_parse_format.specs.LiteralUnits.{LiteralUnit, UnicodeEscape, meaning, unicode_at}
 use Rattle.rustc_parse_format.specs.LiteralUnits.{at_brace, is_unicode, is_inside, is_hex}
@@ -20,12 +20,12 @@ abbrev is_digit_or_underscore : ℕ → Bool
 is_digit_or_underscore c = is_hex c || is_underscore c
 
 -- what is after n digits that write v: the character, and the rest after the brace
-abbrev pub behind_digits : ℕ → ℕ → Text → Option (Text × Text)
-behind_digits n v [] = None
-behind_digits n v (c ∷ t) =
+abbrev pub after_digits : ℕ → ℕ → Text → Option (Text × Text)
+after_digits n v [] = None
+after_digits n v (c ∷ t) =
     cond (c == 125) (cond (nat_lt 0 n) (cond (is_scalar v) (Some (v ∷ [], t)) None) None)
-    (cond (c == 95) (cond (nat_lt 0 n) (behind_digits n v t) None)
-    (cond (is_hex c) (cond (nat_lt n 6) (behind_digits (n + 1) (v * 16 + digit_value c) t) None)
+    (cond (c == 95) (cond (nat_lt 0 n) (after_digits n v t) None)
+    (cond (is_hex c) (cond (nat_lt n 6) (after_digits (n + 1) (v * 16 + digit_value c) t) None)
     None))
 
 -- the same where the characters up to the brace are known
@@ -58,18 +58,18 @@ at_brace_step n v c t small = by_tests (nat_lt 0 n) (is_scalar v) (nat_le (n + 0
     by_tests false scalar fits e = refl
     by_tests true scalar fits e = rw e refl
 
-at_underscore_step : (n v : ℕ) (t w b : Text) → behind_digits n v t ≡ closed n v w b →
-    cond (nat_lt 0 n) (behind_digits n v t) None ≡ closed n v (95 ∷ w) b
+at_underscore_step : (n v : ℕ) (t w b : Text) → after_digits n v t ≡ closed n v w b →
+    cond (nat_lt 0 n) (after_digits n v t) None ≡ closed n v (95 ∷ w) b
 at_underscore_step n v t w b e = by_test (nat_lt 0 n) e
   where
     remaining : Bool
     remaining = list_all is_digit_or_underscore w &&
         (nat_le (n + length (hex_digits w)) 6 && is_scalar (digits_value_after 16 v (hex_digits w)))
 
-    by_test : (some : Bool) → behind_digits n v t
+    by_test : (some : Bool) → after_digits n v t
         ≡ close ((some || first_passes is_hex w) && remaining)
         (digits_value_after 16 v (hex_digits w)) b →
-        cond some (behind_digits n v t) None
+        cond some (after_digits n v t) None
         ≡ close ((some || false) && remaining) (digits_value_after 16 v (hex_digits w)) b
     by_test true f = f
     by_test false f = close_never false (digits_value_after 16 v (hex_digits w)) b refl
@@ -82,15 +82,15 @@ closed_digit n v w b =
     (digits_value_after 16 v (hex_digits w)) b
 
 at_digit_step : (n v : ℕ) (t w b : Text) → n ≤ 6
-    → (n + 1 ≤ 6 → behind_digits (n + 1) v t ≡ closed (n + 1) v w b) →
-    cond (nat_lt n 6) (behind_digits (n + 1) v t) None ≡ closed_digit n v w b
+    → (n + 1 ≤ 6 → after_digits (n + 1) v t ≡ closed (n + 1) v w b) →
+    cond (nat_lt n 6) (after_digits (n + 1) v t) None ≡ closed_digit n v w b
 at_digit_step n v t w b small ih =
-    cond_both (nat_lt n 6) (behind_digits (n + 1) v t) None (λ o. o ≡ closed_digit n v w b)
+    cond_both (nat_lt n 6) (after_digits (n + 1) v t) None (λ o. o ≡ closed_digit n v w b)
     (λ yes. let lower : n < 6 = ltb-true n 6 yes in
     let same : n + suc (length (hex_digits w)) ≡ n + 1 + length (hex_digits w) = omega arith in
     let some : nat_lt 0 (n + 1) ≡ true = lt-ltb 0 (n + 1) (omega arith) in
-    let g : behind_digits (n + 1) v t ≡ closed (n + 1) v w b = ih (omega arith) in
-    let h : behind_digits (n + 1) v t ≡ close
+    let g : after_digits (n + 1) v t ≡ closed (n + 1) v w b = ih (omega arith) in
+    let h : after_digits (n + 1) v t ≡ close
     (list_all is_digit_or_underscore w && (nat_le (n + 1 + length (hex_digits w)) 6 && is_scalar
     (digits_value_after 16 v (hex_digits w)))) (digits_value_after 16 v (hex_digits w)) b =
     rw some at g in
@@ -104,15 +104,15 @@ at_digit_step n v t w b small ih =
     (digits_value_after 16 v (hex_digits w)) b
     (and_right _ _ (and_right _ _ (and_left _ _ over))))
 
-step : (n v c : ℕ) (t w b : Text) → n ≤ 6 → behind_digits n v t ≡ closed n v w b →
-    (n + 1 ≤ 6 → behind_digits (n + 1) (v * 16 + digit_value c) t
+step : (n v c : ℕ) (t w b : Text) → n ≤ 6 → after_digits n v t ≡ closed n v w b →
+    (n + 1 ≤ 6 → after_digits (n + 1) (v * 16 + digit_value c) t
     ≡ closed (n + 1) (v * 16 + digit_value c) w b) →
-    behind_digits n v (c ∷ t)
+    after_digits n v (c ∷ t)
     ≡ closed n v (cond (is_inside c) (c ∷ w) []) (cond (is_inside c) b (c ∷ t))
 step n v c t w b small same next = by_brace (cases_Bool (c == 125))
   where
     by_digit : (c == 125) ≡ false → (c == 95) ≡ false → (is_hex c ≡ true) ⊎ (is_hex c ≡ false) →
-        behind_digits n v (c ∷ t)
+        after_digits n v (c ∷ t)
         ≡ closed n v (cond (is_inside c) (c ∷ w) []) (cond (is_inside c) b (c ∷ t))
     by_digit e f (inl h) = rw (e, f, h) (at_digit_step n (v * 16 + digit_value c) t w b small next)
     by_digit e f (inr h) =
@@ -121,31 +121,31 @@ step n v c t w b small same next = by_brace (cases_Bool (c == 125))
         (and_right _ _ refl))
 
     by_underscore : (c == 125) ≡ false → ((c == 95) ≡ true) ⊎ ((c == 95) ≡ false) →
-        behind_digits n v (c ∷ t)
+        after_digits n v (c ∷ t)
         ≡ closed n v (cond (is_inside c) (c ∷ w) []) (cond (is_inside c) b (c ∷ t))
     by_underscore e (inl f) = rw (eqb-true c 95 f) (at_underscore_step n v t w b same)
     by_underscore e (inr f) = by_digit e f (cases_Bool (is_hex c))
 
     by_brace : ((c == 125) ≡ true) ⊎ ((c == 125) ≡ false) →
-        behind_digits n v (c ∷ t)
+        after_digits n v (c ∷ t)
         ≡ closed n v (cond (is_inside c) (c ∷ w) []) (cond (is_inside c) b (c ∷ t))
     by_brace (inl e) = rw e (at_brace_step n v c t small)
     by_brace (inr e) = by_underscore e (cases_Bool (c == 95))
 
-pub behind_digits-front : (n v : ℕ) (t : Text) → n ≤ 6 → behind_digits n v t
-    ≡ closed n v (front is_inside t) (behind is_inside t)
-behind_digits-front n v [] small = refl
-behind_digits-front n v (c ∷ t) small =
-    step n v c t (front is_inside t) (behind is_inside t) small (behind_digits-front n v t small)
-    (λ k. behind_digits-front (n + 1) (v * 16 + digit_value c) t k)
+pub after_digits-front : (n v : ℕ) (t : Text) → n ≤ 6 → after_digits n v t
+    ≡ closed n v (front is_inside t) (rest_after is_inside t)
+after_digits-front n v [] small = refl
+after_digits-front n v (c ∷ t) small =
+    step n v c t (front is_inside t) (rest_after is_inside t) small (after_digits-front n v t small)
+    (λ k. after_digits-front (n + 1) (v * 16 + digit_value c) t k)
 
 -- What is after `\u`.
 pub unicode_at-brace : (t : Text) → begins_with 123 t ≡ true
-    → meaning (unicode_at t) ≡ behind_digits 0 0 (behind_first t)
+    → meaning (unicode_at t) ≡ after_digits 0 0 (after_first t)
 unfolding unicode_at
 unicode_at-brace [] e = refl
-unicode_at-brace (c ∷ t) e = rw e (by_rest (front is_inside t) (behind is_inside t)
-    ∙ sym (behind_digits-front 0 0 t (omega arith)))
+unicode_at-brace (c ∷ t) e = rw e (by_rest (front is_inside t) (rest_after is_inside t)
+    ∙ sym (after_digits-front 0 0 t (omega arith)))
   where
     by_test : (b : Bool) (x : LiteralUnit × Text) → meaning (cond b (Some x) None)
         ≡ cond b (Some (value x.0, x.1)) None

@@ -6,7 +6,7 @@ use Rattle.std.specs.List.{list_all}
 use Rattle.std.proofs.lemmas.Bool.{cond_both, cond-true, cond-false, and_parts, eqb-true, ne_eqb}
 use Rattle.std.proofs.lemmas.Bool.{not-false, not-true, not_from_false, or_parts, both_ways}
 use Rattle.std.proofs.lemmas.Bool.{false≢true}
-use Rattle.rustc_parse_format.specs.Characters.{Text, front, behind, first_passes}
+use Rattle.rustc_parse_format.specs.Characters.{Text, front, rest_after, first_passes}
 use Rattle.rustc_parse_format.specs.LiteralUnits.{LiteralUnit, Plain, SimpleEscape, ByteEscape}
 use Rattle.rustc_parse_format.specs.LiteralUnits.{UnicodeEscape, Continuation, spelling, is_unit}
 use Rattle.rustc_parse_format.specs.LiteralUnits.{may_precede}
@@ -14,9 +14,9 @@ use Rattle.rustc_parse_format.specs.LiteralUnits.{with_rest, at_brace, unicode_a
 use Rattle.rustc_parse_format.specs.LiteralUnits.{escape_at, unit_at, is_skipped, is_inside, is_hex}
 use Rattle.rustc_parse_format.specs.LiteralUnits.{is_underscore}
 use Rattle.rustc_parse_format.specs.LiteralUnits.{is_plain, is_unicode, escaped}
-use Rattle.rustc_parse_format.proofs.Grammar.Fronts.{front-behind, list_all-front}
-use Rattle.rustc_parse_format.proofs.Grammar.Fronts.{first_passes-behind, front-append}
-use Rattle.rustc_parse_format.proofs.Grammar.Fronts.{behind-append, list_all-weaker}
+use Rattle.rustc_parse_format.proofs.Grammar.Fronts.{front-rest_after, list_all-front}
+use Rattle.rustc_parse_format.proofs.Grammar.Fronts.{first_passes-rest_after, front-append}
+use Rattle.rustc_parse_format.proofs.Grammar.Fronts.{rest_after-append, list_all-weaker}
 
 -- It is a unit that may stand there, and the text is it and the rest.
 pub record IsAtFront (t : Text) (u : LiteralUnit) (r : Text) : Type 0 where
@@ -53,11 +53,11 @@ unicode_at-fits : (t : Text) → Fits (92 ∷ 117 ∷ t) (unicode_at t)
 unfolding unicode_at
 unicode_at-fits [] = tt
 unicode_at-fits (c ∷ t) =
-    cond_both (c == 123) (at_brace (front is_inside t) (behind is_inside t)) None
+    cond_both (c == 123) (at_brace (front is_inside t) (rest_after is_inside t)) None
     (Fits (92 ∷ 117 ∷ c ∷ t))
     (λ yes. rw (eqb-true c 123 yes)
-    (at_brace-fits t (front is_inside t) (behind is_inside t) (front-behind is_inside t)
-    (first_passes-behind is_inside t)))
+    (at_brace-fits t (front is_inside t) (rest_after is_inside t) (front-rest_after is_inside t)
+    (first_passes-rest_after is_inside t)))
     (λ no. tt)
 
 escape_at-fits : (t : Text) → Fits (92 ∷ t) (escape_at t)
@@ -67,9 +67,9 @@ escape_at-fits (l ∷ t) =
     cond_both {A = Option (LiteralUnit × Text)} (l == 10) _ _ (Fits (92 ∷ l ∷ t))
     (λ yes. record {
       well_formed = list_all-front is_skipped t;
-      takes_all = not_from_false _ (first_passes-behind is_skipped t);
+      takes_all = not_from_false _ (first_passes-rest_after is_skipped t);
       split = ap (λ d. 92 ∷ d ∷ t) (eqb-true l 10 yes)
-          ∙ ap (λ s. 92 ∷ 10 ∷ s) (front-behind is_skipped t);
+          ∙ ap (λ s. 92 ∷ 10 ∷ s) (front-rest_after is_skipped t);
     })
     (λ _. cond_both {A = Option (LiteralUnit × Text)} (l == 120) _ _ (Fits (92 ∷ l ∷ t))
     (λ yes. rw (eqb-true l 120 yes) (byte_at-fits t))
@@ -120,7 +120,7 @@ unicode_at-complete w r h =
     let inside : list_all is_inside w ≡ true = list_all-weaker _ is_inside w inside_from_hex all in
     rw (
       front-append is_inside w (125 ∷ r) inside refl,
-      behind-append is_inside w (125 ∷ r) inside refl,
+      rest_after-append is_inside w (125 ∷ r) inside refl,
     )
     (cond-true (is_unicode w) _ _ h)
 
@@ -138,5 +138,5 @@ unit_at-complete (UnicodeEscape v) r w m =
 unit_at-complete (Continuation v) r w m =
     rw (
       front-append is_skipped v r w (not-true _ m),
-      behind-append is_skipped v r w (not-true _ m),
+      rest_after-append is_skipped v r w (not-true _ m),
     ) refl

@@ -63,7 +63,7 @@ add_errors-append old [] gs = refl
 add_errors-append old (f ∷ fs) gs =
     add_errors-append (cond (is_front f) (message f ∷ old) (old ++ message f ∷ [])) fs gs
 
--- and what was there stands behind those of the front.
+-- and what was there stands after those of the front.
 pub add_errors-kept : {A : Type 0} (old : List (Message A)) (fs : List (Fault A))
     → (length (filter is_front fs) + length old ≤ length (add_errors old fs))
     × (take (length old) (drop (length (filter is_front fs)) (add_errors old fs)) ≡ old)
@@ -135,7 +135,7 @@ add_errors-keeps old fs =
     let back = map message (filter (λ f. not (is_front f)) fs) in
     (front, back, add_errors-ends old fs ∙ append_assoc front old back)
 
--- A fault behind the first two, by its index among those,
+-- A fault after the first two, by its index among those,
 later_fault : (fs : List DeclaredFault) (i : ℕ) (x : Option (Bor DeclaredFault)) → IsItemAt fs i x
     → MatchOption x (drop i (map seen_fault fs) ≡ [])
     (λ f. drop i (map seen_fault fs) ≡ seen_fault f.now ∷ drop (i + 1) (map seen_fault fs))
@@ -147,9 +147,9 @@ later_fault fs i (Some f) h =
     (ap (map seen_fault) (drop_more fs i f.now (ltb-true i (length fs) (sym h.0)))
     ∙ ap (λ g. seen_fault g ∷ map seen_fault (drop (i + 1) fs)) (sym h.1))
 
-behind_two : (f g : DeclaredFault) (fs : List DeclaredFault) (i n : ℕ) → n ≡ i + 2
+after_two : (f g : DeclaredFault) (fs : List DeclaredFault) (i n : ℕ) → n ≡ i + 2
     → drop n (seen_faults (Some f) (Some g) fs) ≡ drop i (map seen_fault fs)
-behind_two f g fs i n e = let two : n ≡ suc (suc i) = omega (arith, e) in rw two refl
+after_two f g fs i n e = let two : n ≡ suc (suc i) = omega (arith, e) in rw two refl
 
 -- and by its index among all.
 pub fault_at : (f g : Option DeclaredFault) (fs : List DeclaredFault) (i n : ℕ)
@@ -164,7 +164,7 @@ fault_at (Some f) None fs i n None p e h =
 fault_at (Some f) None fs i n (Some g) p e h =
     absurd (omega (arith, ltb-true i (length fs) (sym h.0), ap length (p.1 refl)))
 fault_at (Some f) (Some g) fs i n None p e h =
-    behind_two f g fs i n e ∙ later_fault fs i None h
+    after_two f g fs i n e ∙ later_fault fs i None h
 fault_at (Some f) (Some g) fs i n (Some x) p e h =
-    rw (behind_two f g fs i n e, behind_two f g fs (i + 1) (n + 1) (omega (arith, e)))
+    rw (after_two f g fs i n e, after_two f g fs (i + 1) (n + 1) (omega (arith, e)))
     (later_fault fs i (Some x) h)

@@ -5,7 +5,7 @@ use Rattle.std.proofs.lemmas.List.{append-nil, map-append}
 use Rattle.rustc_parse_format.specs.Characters.{Text}
 use Rattle.rustc_parse_format.specs.Faults.{Fault, Unnamed, map_fault}
 use Rattle.rustc_parse_format.specs.Marks.{Span, up_to}
-use Rattle.rustc_parse_format.specs.Characters.{behind_white, behind_word}
+use Rattle.rustc_parse_format.specs.Characters.{after_white, after_word}
 use Rattle.rustc_parse_format.specs.Syntax.{PositionText}
 use Rattle.rustc_parse_format.specs.Types.{Mode, wants_names}
 use Rattle.rustc_parse_format.specs.Specification.{specification}
@@ -45,7 +45,7 @@ read_three s r q o n m k fs gs hs = ap (λ (x : Midway). read_to x o k hs) (read
 pub tried-append : (b : Back) (ts us : List Text) → back_after (back_after b ts) us
     ≡ back_after b (ts ++ us)
 tried-append b [] us = refl
-tried-append b (t ∷ ts) us = tried-append (given_back (behind_word t) t b) ts us
+tried-append b (t ∷ ts) us = tried-append (given_back (after_word t) t b) ts us
 
 -- three parts, of which the first two try words
 pub read_three_tries : (s : Midway) (r q o : Text) (n m k : ℕ) (fs gs hs : List (Fault Span))
@@ -58,18 +58,18 @@ read_three_tries s r q o n m k fs gs hs ts us =
     ∙ ap (λ (x : Midway). read_tries x (ts ++ us)) (read_three s r q o n m k fs gs hs)
 
 -- after a position and white space, and the fault of one that is no name
-abbrev pub behind_position : Mode → Midway → Midway
-behind_position mode s =
+abbrev pub after_position : Mode → Midway → Midway
+after_position mode s =
     let p = position s.rest in
-    let t = behind_white p.1 in
+    let t = after_white p.1 in
     record (read_to s t s.next (position_faults s.rest p.0)) {
       faults = (s.faults ++ faults_in s.world (position_faults s.rest p.0))
           ++ name_faults mode (given_position p.0) (place_of s.world (up_to s.rest t));
     }
 
 -- after a specification, with the next number after the position
-abbrev pub behind_specification : Mode → PositionText → Midway → Midway
-behind_specification mode position s =
+abbrev pub after_specification : Mode → PositionText → Midway → Midway
+after_specification mode position s =
     let p = specification mode s.rest in
     let n = number_after_spec s.next p.0 in
     record (read_texts (read_tries (read_to s p.1 n (spec_faults mode s.rest p.0 p.1))
@@ -98,7 +98,7 @@ faults_on w old fs b s gs =
 
 -- an argument: its position, white space and its specification
 pub argument_read : (s : Midway) (mode : Mode) →
-    behind_specification mode (position s.rest).0 (behind_position mode s)
+    after_specification mode (position s.rest).0 (after_position mode s)
     ≡ (let a = cut mode s.rest in
     read_texts
     (read_tries (read_to s a.rest (number_after_field s.next a.field) (cut_faults mode a))
@@ -106,7 +106,7 @@ pub argument_read : (s : Midway) (mode : Mode) →
     (spec_texts a.field.spec a.rest))
 unfolding cut cut_faults number_after_field
 argument_read s mode =
-    let t = behind_white (position s.rest).1 in
+    let t = after_white (position s.rest).1 in
     let p = specification mode t in
     ap
     (λ (fs : List (Fault Place)).

@@ -6,7 +6,7 @@ use Rattle.std.specs.Prelude.{if◌then◌else◌, option_map}
 use Rattle.std.proofs.lemmas.List.{append-nil}
 use Rattle.std.proofs.lemmas.Bool.{and_parts, cond_both, cond-true, cond-false, eqb-true}
 use Rattle.std.proofs.lemmas.Bool.{false≢true, not-true}
-use Rattle.rustc_parse_format.specs.Characters.{Text, is_brace, behind_white, behind_first}
+use Rattle.rustc_parse_format.specs.Characters.{Text, is_brace, after_white, after_first}
 use Rattle.rustc_parse_format.specs.Characters.{begins_with, first}
 use Rattle.rustc_parse_format.specs.Marks.{Span, Start, End, up_to, through, over_first}
 use Rattle.rustc_parse_format.specs.Types.{Mode, Spec, Argument, NextArgument, map_spec}
@@ -20,13 +20,13 @@ use Rattle.rustc_parse_format.specs.Recovery.{recovery}
 use Rattle.rustc_parse_format.specs.Call.{Call, GivesNoArgument, GivesAtMostText, call, placeholder}
 use Rattle.rustc_parse_format.specs.Call.{unclosed_call, unclosed_fault}
 use Rattle.rustc_parse_format.specs.Back.{Back}
-use Rattle.rustc_parse_format.specs.Midway.{FindsNothing, Midway, behind_closing, closed_then}
+use Rattle.rustc_parse_format.specs.Midway.{FindsNothing, Midway, after_closing, closed_then}
 use Rattle.rustc_parse_format.specs.Midway.{opens_placeholder, read_call, read_texts, read_to}
 use Rattle.rustc_parse_format.specs.Midway.{read_tries, recovered}
 use Rattle.rustc_parse_format.specs.Lines.{closed_in}
 use Rattle.rustc_parse_format.specs.Tries.{spec_tries}
 use Rattle.rustc_parse_format.proofs.Grammar.Numbers.{number_after_field-le}
-use Rattle.rustc_parse_format.proofs.Grammar.Rests.{IsRest-le, behind_white_rest}
+use Rattle.rustc_parse_format.proofs.Grammar.Rests.{IsRest-le, after_white_rest}
 use Rattle.rustc_parse_format.proofs.Readers.Recoveries.{Recovers}
 use Rattle.rustc_parse_format.proofs.Readers.Parts.{read_three, tried-append}
 use Rattle.rustc_parse_format.proofs.Grammar.CleanWords.{none_right}
@@ -37,7 +37,7 @@ use Rattle.rustc_parse_format.specs.World.{World, Place, number_of, place_at, pl
 
 -- what stands where the closing brace should
 abbrev pub ending : Mode → Text → Text
-ending mode t = behind_white (cut mode t).rest
+ending mode t = after_white (cut mode t).rest
 
 pub placeholder-piece : (mode : Mode) (c : ℕ) (o t : Text)
     → (placeholder mode c o t).piece ≡ Some (NextArgument (argument c (cut mode t)))
@@ -109,8 +109,8 @@ closed_where true old s w p e f = rw (e, f) refl
 closed_where false old s w p e f = rw e refl
 
 -- after the argument of a placeholder and white space
-abbrev pub behind_argument : Midway → Mode → Text → Midway
-behind_argument s mode t =
+abbrev pub after_argument : Midway → Mode → Text → Midway
+after_argument s mode t =
     read_texts
     (read_tries (read_to s (ending mode t) (number_after_field s.next (cut mode t).field)
     (cut_faults mode (cut mode t)))
@@ -121,7 +121,7 @@ behind_argument s mode t =
 pub brace-closes : (s new : Midway) (mode : Mode) (opening : Place)
     → begins_with 125 s.rest ≡ true →
     new ≡ record s {
-      rest = behind_first s.rest;
+      rest = after_first s.rest;
       closed_place = if s.world.has_source then Some (
         opening.0,
         number_of s.world (End
@@ -129,13 +129,13 @@ pub brace-closes : (s new : Midway) (mode : Mode) (opening : Place)
       )
           else s.closed_place;
     } → (o : Text) (a : Argument Span) → opening ≡ place_of s.world (over_first o)
-    → new ≡ behind_closing mode o a s
+    → new ≡ after_closing mode o a s
 brace-closes s new mode opening b e o a f =
     let at : opening.0 ≡ number_of s.world (Start (length o)) = ap (λ (p : Place). p.0) f in
     let here : (opening.0, number_of s.world (End (length s.rest)))
     ≡ place_of s.world (through o s.rest) =
     ap (λ (n : ℕ). (n, number_of s.world (End (length s.rest)))) at in
-    e ∙ (ap (λ (p : Option Place). record s { rest = behind_first s.rest; closed_place = p })
+    e ∙ (ap (λ (p : Option Place). record s { rest = after_first s.rest; closed_place = p })
     (closed_where s.world.has_source s.closed_place (through o s.rest) s.world _ refl here)
     ∙ sym (cond-true (begins_with 125 s.rest) _ _ b))
 
@@ -147,7 +147,7 @@ pub missing-closes : (s x new : Midway) (mode : Mode) (opening : Place) (seen : 
           (first s.rest) (place_of s.world (up_to s.rest s.rest)) opening ∷ [];
     } → Recovers x mode opening seen new →
     (o : Text) (a : Argument Span) → opening ≡ place_of s.world (over_first o)
-    → seen ≡ map_argument (place_of s.world) a → new ≡ behind_closing mode o a s
+    → seen ≡ map_argument (place_of s.world) a → new ≡ after_closing mode o a s
 missing-closes s x new mode opening seen b e h o a f g =
     let k = rw e at h in
     let fault = unclosed_fault_in s.world o a.format s.rest seen.format
@@ -167,7 +167,7 @@ read_either s false x y k j e f = f
 unclosed_read : (s : Midway) (mode : Mode) (o t : Text) →
     (let f = unclosed_fault o (argument s.next (cut mode t)).format (ending mode t) in
     let c = number_after_field s.next (cut mode t).field in
-    recovered (read_to (behind_argument s mode t) (ending mode t) c (f ∷ []))
+    recovered (read_to (after_argument s mode t) (ending mode t) c (f ∷ []))
     (recovery mode c o (argument s.next (cut mode t)) (ending mode t)))
     ≡ read_call s (unclosed_call mode s.next o (cut mode t) (ending mode t))
 unclosed_read s mode o t =
@@ -195,7 +195,7 @@ unclosed_read s mode o t =
 -- A placeholder is read part by part: its argument, white space, and the closing brace, or its
 -- fault and the recovery.
 pub placeholder_read : (s : Midway) (mode : Mode) (o t : Text) →
-    behind_closing mode o (argument s.next (cut mode t)) (behind_argument s mode t)
+    after_closing mode o (argument s.next (cut mode t)) (after_argument s mode t)
     ≡ read_call s (placeholder mode s.next o t)
 unfolding placeholder
 placeholder_read s mode o t = read_either s (begins_with 125 (ending mode t)) _ _ _ _ refl
@@ -213,15 +213,15 @@ pub placeholder_closed : (s x new : Midway) (mode : Mode) (o t : Text) (opening 
     ≡ map_argument (place_of s.world) (argument s.next (cut mode t)) →
     ((q : Text) (a : Argument Span) → opening ≡ place_of x.world (over_first q)
     → seen ≡ map_argument (place_of x.world) a →
-    new ≡ behind_closing mode q a (record x { rest = behind_white x.rest })) →
+    new ≡ after_closing mode q a (record x { rest = after_white x.rest })) →
     new ≡ read_call s (placeholder mode s.next o t)
 placeholder_closed s x new mode o t opening seen e f g h = let k = rw e at h in
     k o (argument s.next (cut mode t)) f g ∙ placeholder_read s mode o t
 
 -- after the argument there is a number for each character that is left
 pub numbers_left : (mode : Mode) (c n : ℕ) (o r : Text) → o ≢ []
-    → n ≡ number_after_field c (cut mode (behind_first o)).field →
-    r ≡ ending mode (behind_first o) → n + length r ≤ c + length o
+    → n ≡ number_after_field c (cut mode (after_first o)).field →
+    r ≡ ending mode (after_first o) → n + length r ≤ c + length o
 numbers_left mode c n [] r h e f = absurd (h refl)
 numbers_left mode c n (b ∷ t) r h e f =
     omega (
@@ -229,7 +229,7 @@ numbers_left mode c n (b ∷ t) r h e f =
       e,
       ap length f,
       number_after_field-le mode c t,
-      IsRest-le (behind_white_rest (cut mode t).rest),
+      IsRest-le (after_white_rest (cut mode t).rest),
     )
 
 placeholder_boxed : (mode : Mode) (c : ℕ) (o t : Text)
@@ -243,7 +243,7 @@ call_at_open mode c b t e h = rw (e, h) refl
 
 -- where a placeholder opens, the call is that of the placeholder
 pub call_opens : (mode : Mode) (c : ℕ) (t : Text) → opens_placeholder t ≡ true
-    → call mode c t ≡ placeholder mode c t (behind_first t)
+    → call mode c t ≡ placeholder mode c t (after_first t)
 call_opens mode c [] e = absurd (false≢true e)
 call_opens mode c (b ∷ t) e =
     let h : ((b == 123) ≡ true) × (not (begins_with 123 t) ≡ true) =
@@ -252,16 +252,16 @@ call_opens mode c (b ∷ t) e =
 
 -- and gives its argument
 pub opened-piece : (mode : Mode) (c : ℕ) (t : Text) → opens_placeholder t ≡ true →
-    (call mode c t).piece ≡ Some (NextArgument (argument c (cut mode (behind_first t))))
+    (call mode c t).piece ≡ Some (NextArgument (argument c (cut mode (after_first t))))
 opened-piece mode c t e = ap (λ (k : Call). k.piece) (call_opens mode c t e)
-    ∙ placeholder-piece mode c t (behind_first t)
+    ∙ placeholder-piece mode c t (after_first t)
 
 pub ruleset placeholder_given = (opened-piece)
 
 -- and it allocates
 pub opens-takes : (mode : Mode) (c : ℕ) (t : Text) → opens_placeholder t ≡ true
     → GivesAtMostText (call mode c t) → ⊥
-opens-takes mode c t e k = placeholder_boxed mode c t (behind_first t)
+opens-takes mode c t e k = placeholder_boxed mode c t (after_first t)
     (rw (call_opens mode c t e) at k.0)
 
 pub needs_text : (s : State) → NeedsNoMemory s (next_call s) → opens_placeholder s.rest ≡ false

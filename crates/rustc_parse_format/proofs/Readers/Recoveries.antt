@@ -6,8 +6,8 @@ use Rattle.std.proofs.Common.{arith, Option, Some, None, if◌then◌else◌}
 use Rattle.std.specs.Prelude.{option_map}
 use Rattle.std.proofs.lemmas.Bool.{cond_both}
 use Rattle.std.proofs.lemmas.List.{append-nil}
-use Rattle.rustc_parse_format.specs.Characters.{Text, is_align, begins_with, behind_first}
-use Rattle.rustc_parse_format.specs.Characters.{behind_brace, first}
+use Rattle.rustc_parse_format.specs.Characters.{Text, is_align, begins_with, after_first}
+use Rattle.rustc_parse_format.specs.Characters.{after_brace, first}
 use Rattle.rustc_parse_format.specs.Types.{Mode, Argument, map_argument}
 use Rattle.rustc_parse_format.specs.Marks.{Mark, Span, over_first}
 use Rattle.rustc_parse_format.specs.Placeholder.{cut}
@@ -16,10 +16,10 @@ use Rattle.rustc_parse_format.specs.Identifiers.{is_identifier}
 use Rattle.rustc_parse_format.specs.Recovery.{Recovery, finds, sign_fault, sign, late_debug, field}
 use Rattle.rustc_parse_format.specs.Recovery.{recovery}
 use Rattle.rustc_parse_format.specs.World.{Place, number_of, place_of}
-use Rattle.rustc_parse_format.specs.Midway.{Midway, behind_sign, read_texts, read_to, recovered}
+use Rattle.rustc_parse_format.specs.Midway.{Midway, after_sign, read_texts, read_to, recovered}
 use Rattle.rustc_parse_format.proofs.Grammar.Identifiers.{identifier-map}
 use Rattle.rustc_parse_format.proofs.Grammar.Rests.{IsRest, IsRest-self, IsRest-trans, IsRest-le}
-use Rattle.rustc_parse_format.proofs.Grammar.Rests.{behind_first_rest, behind_word_rest, cut_rest}
+use Rattle.rustc_parse_format.proofs.Grammar.Rests.{after_first_rest, after_word_rest, cut_rest}
 use Rattle.rustc_parse_format.proofs.Grammar.Numbers.{number_after_field-le}
 use Rattle.rustc_parse_format.proofs.Lines.StateLines.{lines_in-nil}
 
@@ -49,10 +49,10 @@ sign_fault-map g x y s o =
     (map-if m (x == 63 && y == 125) _ _ _ _ refl refl))))
 
 sign-read : (s : Midway) (o : Option (Fault Span))
-    → behind_sign s (option_map (map_fault (place_of s.world)) o)
+    → after_sign s (option_map (map_fault (place_of s.world)) o)
     ≡ recovered s (sign s.next o s.rest)
 sign-read s None = sym (recovered-nothing s)
-sign-read s (Some f) = sym (read_no_texts (read_to s (behind_first s.rest) s.next (f ∷ [])))
+sign-read s (Some f) = sym (read_no_texts (read_to s (after_first s.rest) s.next (f ∷ [])))
 
 -- the test of a field, of an argument and of the same put through a world
 pub field_decided : (g : Span → Place) (x : ℕ) (b : Bool) (s : Argument Place) (a : Argument Span)
@@ -65,17 +65,17 @@ field_decided g x b s a e f =
 -- a sign that is read with its fault, where the placeholder opens at o
 pub sign-taken : (s : Midway) (x y : ℕ) (o : Text) (opening : Place)
     → opening ≡ place_of s.world (over_first o) →
-    behind_sign s (sign_fault x y (place_of s.world (over_first s.rest)) opening)
+    after_sign s (sign_fault x y (place_of s.world (over_first s.rest)) opening)
     ≡ recovered s (sign s.next (sign_fault x y (over_first s.rest) (over_first o)) s.rest)
 sign-taken s x y o opening e =
-    ap (λ p. behind_sign s (sign_fault x y (place_of s.world (over_first s.rest)) p)) e
-    ∙ (ap (behind_sign s)
+    ap (λ p. after_sign s (sign_fault x y (place_of s.world (over_first s.rest)) p)) e
+    ∙ (ap (after_sign s)
     (sym (sign_fault-map (place_of s.world) x y (over_first s.rest) (over_first o)))
     ∙ sign-read s (sign_fault x y (over_first s.rest) (over_first o)))
 
 -- With fewer than two characters left nothing is read.
 pub recovery-short : (s : Midway) (mode : Mode) (o t : Text) (a : Argument Span) → t ≡ s.rest
-    → first (behind_first t) ≡ None →
+    → first (after_first t) ≡ None →
     s ≡ recovered s (recovery mode s.next o a s.rest)
 unfolding recovery
 recovery-short s mode o [] a e f = rw (← e) (sym (recovered-nothing (record s { rest = [] })))
@@ -85,7 +85,7 @@ recovery-short s mode o (x ∷ y ∷ t) a e f = absurd cc
 
 -- What two characters decide: a field,
 pub recovery-field : (mode : Mode) (c : ℕ) (o t : Text) (a : Argument Span) (x y : ℕ)
-    → first t ≡ Some x → first (behind_first t) ≡ Some y →
+    → first t ≡ Some x → first (after_first t) ≡ Some y →
     (x == 46 && is_identifier a) ≡ true → recovery mode c o a t
     ≡ field mode c a.position_span.from t
 unfolding recovery
@@ -95,7 +95,7 @@ recovery-field mode c o (u ∷ v ∷ t) a x y e f h = let at : u ≡ x = cc in r
 
 -- a `?` that no brace follows,
 pub recovery-late_debug : (mode : Mode) (c : ℕ) (o t : Text) (a : Argument Span) (x y : ℕ)
-    → first t ≡ Some x → first (behind_first t) ≡ Some y →
+    → first t ≡ Some x → first (after_first t) ≡ Some y →
     (x == 46 && is_identifier a) ≡ false → (x == 63 && not (y == 125)) ≡ true
     → recovery mode c o a t ≡ late_debug c t
 unfolding recovery
@@ -106,7 +106,7 @@ recovery-late_debug mode c o (u ∷ v ∷ t) a x y e f h k = let at : u ≡ x = 
 
 -- or else a sign.
 pub recovery-sign : (mode : Mode) (c : ℕ) (o t : Text) (a : Argument Span) (x y : ℕ)
-    → first t ≡ Some x → first (behind_first t) ≡ Some y →
+    → first t ≡ Some x → first (after_first t) ≡ Some y →
     (x == 46 && is_identifier a) ≡ false → (x == 63 && not (y == 125)) ≡ false →
     recovery mode c o a t ≡ sign c (sign_fault x y (over_first t) (over_first o)) t
 unfolding recovery
@@ -115,7 +115,7 @@ recovery-sign mode c o (u ∷ []) a x y e f h k = absurd cc
 recovery-sign mode c o (u ∷ v ∷ t) a x y e f h k = let at : u ≡ x = cc in let same : v ≡ y = cc in
     rw (at, same, h, k) refl
 
-pub nothing_left : (t : Text) → first t ≡ None → first (behind_first t) ≡ None
+pub nothing_left : (t : Text) → first t ≡ None → first (after_first t) ≡ None
 nothing_left [] e = refl
 nothing_left (c ∷ t) e = absurd cc
 
@@ -127,12 +127,12 @@ Recovers s mode opening seen new = (o : Text) (a : Argument Span)
     seen ≡ map_argument (place_of s.world) a → new ≡ recovered s (recovery mode s.next o a s.rest)
 
 pub short-recovers : (s : Midway) (mode : Mode) (opening : Place) (seen : Argument Place)
-    → first (behind_first s.rest) ≡ None → Recovers s mode opening seen s
+    → first (after_first s.rest) ≡ None → Recovers s mode opening seen s
 short-recovers s mode opening seen e o a f g = recovery-short s mode o s.rest a refl e
 
 pub field-recovers : (s new : Midway) (mode : Mode) (opening : Place) (seen : Argument Place)
     (x y : ℕ) → first s.rest ≡ Some x →
-    first (behind_first s.rest) ≡ Some y → true ≡ (x == 46 && is_identifier seen) →
+    first (after_first s.rest) ≡ Some y → true ≡ (x == 46 && is_identifier seen) →
     ((m : Mark) → seen.position_span.0 ≡ number_of s.world m → new
     ≡ recovered s (field mode s.next m s.rest)) → Recovers s mode opening seen new
 field-recovers s new mode opening seen x y e f b k o a g h =
@@ -143,7 +143,7 @@ field-recovers s new mode opening seen x y e f b k o a g h =
 
 pub late_debug-recovers : (s new : Midway) (mode : Mode) (opening : Place) (seen : Argument Place)
     (x y : ℕ) → first s.rest ≡ Some x →
-    first (behind_first s.rest) ≡ Some y → false ≡ (x == 46 && is_identifier seen)
+    first (after_first s.rest) ≡ Some y → false ≡ (x == 46 && is_identifier seen)
     → true ≡ (x == 63 && not (y == 125)) →
     new ≡ recovered s (late_debug s.next s.rest) → Recovers s mode opening seen new
 late_debug-recovers s new mode opening seen x y e f b d k o a g h =
@@ -153,9 +153,9 @@ late_debug-recovers s new mode opening seen x y e f b d k o a g h =
 
 pub sign-recovers : (s new : Midway) (mode : Mode) (opening : Place) (seen : Argument Place)
     (x y : ℕ) → first s.rest ≡ Some x →
-    first (behind_first s.rest) ≡ Some y → false ≡ (x == 46 && is_identifier seen)
+    first (after_first s.rest) ≡ Some y → false ≡ (x == 46 && is_identifier seen)
     → false ≡ (x == 63 && not (y == 125)) →
-    new ≡ behind_sign s (sign_fault x y (place_of s.world (over_first s.rest)) opening)
+    new ≡ after_sign s (sign_fault x y (place_of s.world (over_first s.rest)) opening)
     → Recovers s mode opening seen new
 sign-recovers s new mode opening seen x y e f b d k o a g h =
     k ∙ (sign-taken s x y o opening g
@@ -164,29 +164,29 @@ sign-recovers s new mode opening seen x y e f b d k o a g h =
     (field_decided (place_of s.world) x false seen a b h) (sym d))))
 
 -- What it leaves is a rest.
-pub behind_brace_rest : (t : Text) → IsRest t (behind_brace t)
-behind_brace_rest t = cond_both {A = Text} (begins_with 125 t) _ _ (IsRest t)
-    (λ e. behind_first_rest t) (λ e. IsRest-self t)
+pub after_brace_rest : (t : Text) → IsRest t (after_brace t)
+after_brace_rest t = cond_both {A = Text} (begins_with 125 t) _ _ (IsRest t)
+    (λ e. after_first_rest t) (λ e. IsRest-self t)
 
 field_rest : (mode : Mode) (c : ℕ) (m : Mark) (t : Text) → IsRest t (field mode c m t).rest
 unfolding field
 field_rest mode c m t =
-    IsRest-trans (behind_first_rest t)
-    (IsRest-trans (cut_rest mode (behind_first t))
-    (behind_brace_rest (cut mode (behind_first t)).rest))
+    IsRest-trans (after_first_rest t)
+    (IsRest-trans (cut_rest mode (after_first t))
+    (after_brace_rest (cut mode (after_first t)).rest))
 
 late_debug_rest : (c : ℕ) (t : Text) → IsRest t (late_debug c t).rest
 unfolding late_debug
 late_debug_rest c t =
-    cond_both {A = Recovery} (begins_with 58 (behind_first t)) _ _ (λ k. IsRest t k.rest)
-    (λ e. IsRest-trans (behind_first_rest t)
-    (IsRest-trans (behind_first_rest (behind_first t))
-    (behind_word_rest (behind_first (behind_first t)))))
-    (λ e. behind_first_rest t)
+    cond_both {A = Recovery} (begins_with 58 (after_first t)) _ _ (λ k. IsRest t k.rest)
+    (λ e. IsRest-trans (after_first_rest t)
+    (IsRest-trans (after_first_rest (after_first t))
+    (after_word_rest (after_first (after_first t)))))
+    (λ e. after_first_rest t)
 
 sign_rest : (c : ℕ) (f : Option (Fault Span)) (t : Text) → IsRest t (sign c f t).rest
 sign_rest c None t = IsRest-self t
-sign_rest c (Some f) t = behind_first_rest t
+sign_rest c (Some f) t = after_first_rest t
 
 pub recovery_rest : (mode : Mode) (c : ℕ) (o : Text) (a : Argument Span) (t : Text)
     → IsRest t (recovery mode c o a t).rest
@@ -210,25 +210,25 @@ unfolding field
 field_counts mode c x m t = omega (
   arith,
   number_after_field-le mode c t,
-  IsRest-le (behind_brace_rest (cut mode t).rest),
+  IsRest-le (after_brace_rest (cut mode t).rest),
 )
 
 late_debug_counts : (c : ℕ) (t : Text) → Counts c t (late_debug c t)
 unfolding late_debug
 late_debug_counts c t =
-    let first = IsRest-le (behind_first_rest t) in
-    cond_both {A = Recovery} (begins_with 58 (behind_first t)) _ _ (Counts c t)
+    let first = IsRest-le (after_first_rest t) in
+    cond_both {A = Recovery} (begins_with 58 (after_first t)) _ _ (Counts c t)
     (λ e. omega (
       arith,
       first,
-      IsRest-le (behind_first_rest (behind_first t)),
-      IsRest-le (behind_word_rest (behind_first (behind_first t))),
+      IsRest-le (after_first_rest (after_first t)),
+      IsRest-le (after_word_rest (after_first (after_first t))),
     ))
     (λ e. omega (arith, first))
 
 sign_counts : (c : ℕ) (f : Option (Fault Span)) (t : Text) → Counts c t (sign c f t)
 sign_counts c None t = omega arith
-sign_counts c (Some f) t = omega (arith, IsRest-le (behind_first_rest t))
+sign_counts c (Some f) t = omega (arith, IsRest-le (after_first_rest t))
 
 pub recovery_next-le : (mode : Mode) (c : ℕ) (o : Text) (a : Argument Span) (t : Text) →
     (recovery mode c o a t).next + length (recovery mode c o a t).rest ≤ c + length t

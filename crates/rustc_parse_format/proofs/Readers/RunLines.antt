@@ -5,13 +5,13 @@ use Rattle.std.proofs.Common.{unwrap_or, sym, ap, subst, ◌∙◌, arith, lengt
 use Rattle.std.proofs.lemmas.List.{append-nil}
 use Rattle.std.proofs.lemmas.Option.{none-some}
 use Rattle.std.proofs.lemmas.Bool.{ne_eqb}
-use Rattle.rustc_parse_format.specs.Characters.{Text, front, behind, is_no_brace, first}
+use Rattle.rustc_parse_format.specs.Characters.{Text, front, rest_after, is_no_brace, first}
 use Rattle.rustc_parse_format.specs.World.{Place, place_at}
 use Rattle.rustc_parse_format.specs.Marks.{run_texts}
 use Rattle.rustc_parse_format.specs.Lines.{PlacedCharacter, read_lines}
 use Rattle.rustc_parse_format.specs.Midway.{Midway, read_texts, read_run, noted_next, passed_next}
 use Rattle.rustc_parse_format.specs.Midway.{IsInOneLine}
-use Rattle.rustc_parse_format.proofs.Grammar.Fronts.{front-behind}
+use Rattle.rustc_parse_format.proofs.Grammar.Fronts.{front-rest_after}
 use Rattle.rustc_parse_format.proofs.Lines.LineLaws.{Reading, lines_in-source, read_texts-append}
 use Rattle.rustc_parse_format.proofs.Lines.LineLaws.{note-newline, read_lines-step}
 
@@ -19,18 +19,18 @@ use Rattle.rustc_parse_format.proofs.Lines.LineLaws.{note-newline, read_lines-st
 abbrev pub read_up_to : Midway → List (ℕ × ℕ) → Text → Midway
 read_up_to s cs r = record (read_texts s cs) { rest = r }
 
--- A character that is no brace is noted, and then the run goes on behind it.
+-- A character that is no brace is noted, and then the run goes on after it.
 step_here : (s : Midway) (c : ℕ) (t : Text) → s.world.has_source ≡ true → is_no_brace c ≡ true →
     read_run (record s { rest = c ∷ t }) ≡ read_run (passed_next c (record s { rest = c ∷ t }))
 step_here s c t source passes =
     let here : Midway = record s { rest = c ∷ t } in
     let u : Text = front is_no_brace t in
-    let r : Text = behind is_no_brace t in
+    let r : Text = rest_after is_no_brace t in
     let first : ℕ × ℕ = (c, length (c ∷ t)) in
     ap (λ b. read_up_to here (run_texts (cond b (c ∷ u) []) (cond b r (c ∷ t))) (cond b r (c ∷ t)))
     passes
     ∙ (ap (λ (v : Text). read_up_to here ((c, length (c ∷ v)) ∷ run_texts u r) r)
-    (sym (front-behind is_no_brace t))
+    (sym (front-rest_after is_no_brace t))
     ∙ (ap (λ (m : Midway). record m { rest = r }) (read_texts-append here (first ∷ [])
     (run_texts u r))
     ∙ ap (λ (q : Reading). read_up_to (record here { line_start = q.0; lines = s.lines ++ q.1 })
@@ -51,7 +51,7 @@ pub run-step : (s : Midway) (c : ℕ) → s.world.has_source ≡ true → first 
     read_run (passed_next c s) ≡ read_run s
 run-step s c source e passes = sym (step_at s c s.rest source e passes)
 
--- A run in one line begins with no newline, and goes on in that line behind any other character.
+-- A run in one line begins with no newline, and goes on in that line after any other character.
 noted_line : (s : Midway) (c : ℕ) → c ≢ code "\n" → (noted_next c s).lines ≡ s.lines
 noted_line s c other =
     let x : PlacedCharacter = (c, place_at s.world (length s.rest)) in

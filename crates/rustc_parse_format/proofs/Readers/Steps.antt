@@ -6,27 +6,27 @@ use Rattle.std.specs.Prelude.{◌||◌}
 use Rattle.std.specs.Char.{is_ascii_digit}
 use Rattle.unicode_ident.proofs.Computing.{unicode_ident}
 use Rattle.std.proofs.lemmas.Bool.{eqb-true}
-use Rattle.rustc_parse_format.specs.Characters.{Text, is_id_start, is_id_continue, behind}
-use Rattle.rustc_parse_format.specs.Characters.{behind_digits, behind_first, behind_word}
+use Rattle.rustc_parse_format.specs.Characters.{Text, is_id_start, is_id_continue, rest_after}
+use Rattle.rustc_parse_format.specs.Characters.{after_digits, after_first, after_word}
 use Rattle.rustc_parse_format.specs.Characters.{begins_with}
-use Rattle.rustc_parse_format.specs.Back.{is_word_part, behind_part}
+use Rattle.rustc_parse_format.specs.Back.{is_word_part, after_part}
 use Rattle.rustc_parse_format.specs.Midway.{IsCounted, Passed}
 
-pub behind-le : (p : ℕ → Bool) (t : Text) → length (behind p t) ≤ length t
-behind-le p [] = omega arith
-behind-le p (c ∷ t) =
-    elim (p c) as (λ b. length (cond b (behind p t) (c ∷ t)) ≤ length (c ∷ t)) [
-      | true ↦ omega (arith, behind-le p t)
+pub rest_after-le : (p : ℕ → Bool) (t : Text) → length (rest_after p t) ≤ length t
+rest_after-le p [] = omega arith
+rest_after-le p (c ∷ t) =
+    elim (p c) as (λ b. length (cond b (rest_after p t) (c ∷ t)) ≤ length (c ∷ t)) [
+      | true ↦ omega (arith, rest_after-le p t)
       | false ↦ omega arith
     ]
 
-pub part_le : (t : Text) → behind_part t ≤ length t
-part_le t = behind-le is_word_part t
+pub part_le : (t : Text) → after_part t ≤ length t
+part_le t = rest_after-le is_word_part t
 
-part_behind_first : (c : ℕ) (t : Text) → behind_part t ≤ behind_part (c ∷ t)
-part_behind_first c t =
-    elim (is_word_part c) as (λ b. behind_part t
-    ≤ length (cond b (behind is_word_part t) (c ∷ t))) [
+part_after_first : (c : ℕ) (t : Text) → after_part t ≤ after_part (c ∷ t)
+part_after_first c t =
+    elim (is_word_part c) as (λ b. after_part t
+    ≤ length (cond b (rest_after is_word_part t) (c ∷ t))) [
       | true ↦ omega arith
       | false ↦ omega (arith, part_le t)
     ]
@@ -36,72 +36,72 @@ or_true true = refl
 or_true false = refl
 
 -- what goes on with a word is a part of it
-part_behind : (t : Text) → behind_part t ≤ length (behind is_id_continue t)
-part_behind [] = omega arith
-part_behind (c ∷ t) =
-    elim (is_id_continue c) as (λ b. is_id_continue c ≡ b → behind_part (c ∷ t)
-    ≤ length (cond b (behind is_id_continue t) (c ∷ t))) [
-      | true ↦ λ e. rw (e, or_true (is_id_start c)) (part_behind t)
+part_after : (t : Text) → after_part t ≤ length (rest_after is_id_continue t)
+part_after [] = omega arith
+part_after (c ∷ t) =
+    elim (is_id_continue c) as (λ b. is_id_continue c ≡ b → after_part (c ∷ t)
+    ≤ length (cond b (rest_after is_id_continue t) (c ∷ t))) [
+      | true ↦ λ e. rw (e, or_true (is_id_start c)) (part_after t)
       | false ↦ λ e. part_le (c ∷ t)
     ] refl
 
-pub part_behind_word : (t : Text) → behind_part t ≤ length (behind_word t)
-unfolding behind_word
-part_behind_word [] = omega arith
-part_behind_word (c ∷ t) =
-    elim (is_id_start c) as (λ b. is_id_start c ≡ b → behind_part (c ∷ t)
-    ≤ length (cond b (behind is_id_continue t) (c ∷ t))) [
-      | true ↦ λ e. rw e (part_behind t)
+pub part_after_word : (t : Text) → after_part t ≤ length (after_word t)
+unfolding after_word
+part_after_word [] = omega arith
+part_after_word (c ∷ t) =
+    elim (is_id_start c) as (λ b. is_id_start c ≡ b → after_part (c ∷ t)
+    ≤ length (cond b (rest_after is_id_continue t) (c ∷ t))) [
+      | true ↦ λ e. rw e (part_after t)
       | false ↦ λ e. part_le (c ∷ t)
     ] refl
 
 -- At a character that is no part of a word, the cursor never stood further on.
 not_part : (c : ℕ) (t : Text) → is_word_part c ≡ false → begins_with c t ≡ true
-    → length t ≤ behind_part t
+    → length t ≤ after_part t
 not_part c [] n h = omega arith
 not_part c (d ∷ t) n h =
     let same : d ≡ c = eqb-true d c h in
     let no : is_word_part d ≡ false = ap is_word_part same ∙ n in
     rw no (omega arith)
 
-pub at_dot : (t : Text) → begins_with 46 t ≡ true → length t ≤ behind_part t
+pub at_dot : (t : Text) → begins_with 46 t ≡ true → length t ≤ after_part t
 unfolding unicode_ident
 at_dot t h = not_part 46 t refl h
 
-pub at_colon : (t : Text) → begins_with 58 t ≡ true → length t ≤ behind_part t
+pub at_colon : (t : Text) → begins_with 58 t ≡ true → length t ≤ after_part t
 unfolding unicode_ident
 at_colon t h = not_part 58 t refl h
 
-pub behind_first-part : (t : Text) → behind_part (behind_first t) ≤ behind_part t
-behind_first-part [] = omega arith
-behind_first-part (c ∷ t) = part_behind_first c t
+pub after_first-part : (t : Text) → after_part (after_first t) ≤ after_part t
+after_first-part [] = omega arith
+after_first-part (c ∷ t) = part_after_first c t
 
 -- a front less
-pub behind-part : (p : ℕ → Bool) (t : Text) → behind_part (behind p t) ≤ behind_part t
-behind-part p [] = omega arith
-behind-part p (c ∷ t) =
-    elim (p c) as (λ b. behind_part (cond b (behind p t) (c ∷ t)) ≤ behind_part (c ∷ t)) [
-      | true ↦ omega (arith, behind-part p t, part_behind_first c t)
+pub rest_after-part : (p : ℕ → Bool) (t : Text) → after_part (rest_after p t) ≤ after_part t
+rest_after-part p [] = omega arith
+rest_after-part p (c ∷ t) =
+    elim (p c) as (λ b. after_part (cond b (rest_after p t) (c ∷ t)) ≤ after_part (c ∷ t)) [
+      | true ↦ omega (arith, rest_after-part p t, part_after_first c t)
       | false ↦ omega arith
     ]
 
-pub behind_word-part : (t : Text) → behind_part (behind_word t) ≤ behind_part t
-unfolding behind_word
-behind_word-part [] = omega arith
-behind_word-part (c ∷ t) =
-    elim (is_id_start c) as (λ b. behind_part (cond b (behind is_id_continue t) (c ∷ t))
-    ≤ behind_part (c ∷ t)) [
-      | true ↦ omega (arith, behind-part is_id_continue t, part_behind_first c t)
+pub after_word-part : (t : Text) → after_part (after_word t) ≤ after_part t
+unfolding after_word
+after_word-part [] = omega arith
+after_word-part (c ∷ t) =
+    elim (is_id_start c) as (λ b. after_part (cond b (rest_after is_id_continue t) (c ∷ t))
+    ≤ after_part (c ∷ t)) [
+      | true ↦ omega (arith, rest_after-part is_id_continue t, part_after_first c t)
       | false ↦ omega arith
     ]
 
-pub behind_digits-part : (t : Text) → behind_part (behind_digits t) ≤ behind_part t
-unfolding behind_digits
-behind_digits-part t = behind-part is_ascii_digit t
+pub after_digits-part : (t : Text) → after_part (after_digits t) ≤ after_part t
+unfolding after_digits
+after_digits-part t = rest_after-part is_ascii_digit t
 
 -- forward over k characters
 pub counted_on : (n t u : Text) (k : ℕ) (p : Passed) → k + length u ≡ length t
-    → behind_part u ≤ behind_part t
+    → after_part u ≤ after_part t
     → IsCounted n t p → IsCounted n u (record { made = p.made + k; left = p.left })
 counted_on n t u k p e le h = record {
   made = omega (arith, h.made, e);
@@ -110,7 +110,7 @@ counted_on n t u k p e le h = record {
 
 -- and back, over a word
 pub counted_back : (n u t : Text) (p : Passed) → length t ≤ p.left → length u ≤ length t
-    → behind_part t ≤ length u
+    → after_part t ≤ length u
     → IsCounted n u p → IsCounted n t (record { made = p.made; left = length u })
 counted_back n u t p far earlier word h = record {
   made = omega (arith, h.made, earlier);

@@ -2,8 +2,8 @@
 -- after a quote.
 use Rattle.std.proofs.Common.{◌≡◌, ℕ, List, [], ◌∷◌, refl, Some, None, codes, true, false}
 use Rattle.unicode_ident.proofs.Computing.{unicode_ident}
-use Rattle.rustc_parse_format.specs.Characters.{Text, word, behind_word, digits, behind_digits}
-use Rattle.rustc_parse_format.specs.Characters.{behind_white}
+use Rattle.rustc_parse_format.specs.Characters.{Text, word, after_word, digits, after_digits}
+use Rattle.rustc_parse_format.specs.Characters.{after_white}
 use Rattle.rustc_parse_format.specs.Types.{Format, Position, Implicit, Index, Named, Piece, Lit}
 use Rattle.rustc_parse_format.specs.Types.{NextArgument, default_spec}
 use Rattle.rustc_parse_format.specs.Specification.{format_text}
@@ -22,26 +22,26 @@ use Rattle.rustc_parse_format.specs.State.{State, fresh, calls, after_all}
 
 -- each definition that the rows compute
 unfoldable pub computing : Unit {0}
-unfolding unicode_ident word behind_word digits behind_digits behind_white cut argument
+unfolding unicode_ident word after_word digits after_digits after_white cut argument
     number_after_field argument_faults cut_faults call placeholder walk
     recovery late_debug field is_default
     written message format_text format_of format_faults format_tries world place_at lib.Utf8.encode
 computing = tt
 
 -- an input with no snippet
-abbrev pub behind_quote : Text → World
-behind_quote t = world t None None false
+abbrev pub after_quote : Text → World
+after_quote t = world t None None false
 
 -- what a walk over the input gives, and what it finds
 abbrev pub pieces : Text → List (Piece Place)
-pieces t = pieces_in (behind_quote t) (pieces_of (walk Format 0 t))
+pieces t = pieces_in (after_quote t) (pieces_of (walk Format 0 t))
 
 abbrev pub faults : Text → List (Fault Place)
-faults t = faults_in (behind_quote t) (faults_of (walk Format 0 t))
+faults t = faults_in (after_quote t) (faults_of (walk Format 0 t))
 
 -- a parser before its first call, and after all
 abbrev pub start : Text → State
-start t = fresh Format (behind_quote t) t 1
+start t = fresh Format (after_quote t) t 1
 
 abbrev pub ended : Text → State
 ended t = after_all (start t) (calls (start t))
@@ -95,7 +95,7 @@ only_implicit_positions-take_a_number : pieces (codes "{}{7}{a}{}")
 unfolding computing
 only_implicit_positions-take_a_number = refl
 
-wide_characters-have_their_bytes : (behind_quote (97 ∷ 8364 ∷ 128512 ∷ [])).places
+wide_characters-have_their_bytes : (after_quote (97 ∷ 8364 ∷ 128512 ∷ [])).places
     ≡ (1, 2) ∷ (2, 5) ∷ (5, 9) ∷ []
 unfolding computing
 wide_characters-have_their_bytes = refl

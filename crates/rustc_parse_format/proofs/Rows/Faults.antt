@@ -10,7 +10,7 @@ use Rattle.rustc_parse_format.specs.Faults.{RemoveRawIdent}
 use Rattle.rustc_parse_format.specs.Faults.{ReorderFormatParameter}
 use Rattle.rustc_parse_format.specs.World.{Place, piece_in}
 use Rattle.rustc_parse_format.specs.State.{next_call, after}
-use Rattle.rustc_parse_format.proofs.Rows.Definitions.{computing, behind_quote, pieces, faults}
+use Rattle.rustc_parse_format.proofs.Rows.Definitions.{computing, after_quote, pieces, faults}
 use Rattle.rustc_parse_format.proofs.Rows.Definitions.{start, ended, bare_at}
 
 too_large-takes_in_the_brace : faults (codes "{65535}{65536}")
@@ -42,7 +42,7 @@ unmatched_brace-second_call : let s = start (codes "}a") in
 unfolding computing
 unmatched_brace-second_call = refl
 
-unmatched_brace-is_told :
+unmatched_brace-is_listed :
     (ended (codes "}a")).errors ≡ record {
       description = codes "unmatched `}` found";
       note = Some (codes "if you intended to print `}`, you can escape it using `}}`");
@@ -52,7 +52,7 @@ unmatched_brace-is_told :
       suggestion = Nothing;
     } ∷ []
 unfolding computing
-unmatched_brace-is_told = refl
+unmatched_brace-is_listed = refl
 
 unmatched_brace-ends_the_walk : pieces (codes "a}b") ≡ Lit (codes "a") ∷ []
 unfolding computing
@@ -66,7 +66,7 @@ unclosed_at_the_end-is_a_piece : pieces (codes "{") ≡ bare_at (Implicit 0) 1 1
 unfolding computing
 unclosed_at_the_end-is_a_piece = refl
 
-unclosed_at_the_end-is_told :
+unclosed_at_the_end-is_listed :
     (ended (codes "{")).errors ≡ record {
       description = codes "expected `}` but string was terminated";
       note = Some (codes "if you intended to print `{`, you can escape it using `{{`");
@@ -76,7 +76,7 @@ unclosed_at_the_end-is_told :
       suggestion = Nothing;
     } ∷ []
 unfolding computing
-unclosed_at_the_end-is_told = refl
+unclosed_at_the_end-is_listed = refl
 
 missing_brace-takes_nothing : pieces (codes "{x=5}") ≡ bare_at (Named (codes "x")) 2 3
     ∷ Lit (codes "=5") ∷ []
@@ -132,7 +132,7 @@ underscore-is_a_position : pieces (codes "{_}") ≡ bare_at (Named (codes "_")) 
 unfolding computing
 underscore-is_a_position = refl
 
-underscore-is_told :
+underscore-is_listed :
     (ended (codes "{_}")).errors ≡ record {
       description = codes "invalid argument name `_`";
       note = Some (codes "argument name cannot be a single underscore");
@@ -142,7 +142,7 @@ underscore-is_told :
       suggestion = Nothing;
     } ∷ []
 unfolding computing
-underscore-is_told = refl
+underscore-is_listed = refl
 
 -- the name of a raw identifier is its word, and the identifier is a fault
 raw_identifier-is_named_by_its_word : pieces (codes "{r#foo}")
@@ -150,7 +150,7 @@ raw_identifier-is_named_by_its_word : pieces (codes "{r#foo}")
 unfolding computing
 raw_identifier-is_named_by_its_word = refl
 
-raw_identifier-is_told :
+raw_identifier-is_listed :
     (ended (codes "{r#foo}")).errors ≡ record {
       description = codes "raw identifiers are not supported";
       note = Some
@@ -161,12 +161,12 @@ raw_identifier-is_told :
       suggestion = RemoveRawIdent (2, 4);
     } ∷ []
 unfolding computing
-raw_identifier-is_told = refl
+raw_identifier-is_listed = refl
 
-raw_underscore-is_told_twice : faults (codes "{r#_}") ≡ Underscore (4, 5)
+raw_underscore-is_reported_twice : faults (codes "{r#_}") ≡ Underscore (4, 5)
     ∷ RawIdentifier (2, 5) (2, 4) ∷ []
 unfolding computing
-raw_underscore-is_told_twice = refl
+raw_underscore-is_reported_twice = refl
 
 -- its error goes to the front
 raw_identifiers-come_first : map (λ m. m.span) (ended (codes "{_}{r#a}{r#_}")).errors
@@ -202,7 +202,7 @@ letter_alone-is_no_fault = refl
 -- a raw identifier that does not stand at the position is none
 raw_identifier-stands_at_the_position :
     let t = codes "{foo.r#bar}" in
-    option_map (piece_in (behind_quote t)) (next_call (start t)).piece
+    option_map (piece_in (after_quote t)) (next_call (start t)).piece
     ≡ Some (bare_at (Named (codes "foo")) 2 5)
 unfolding computing
 raw_identifier-stands_at_the_position = refl
@@ -227,7 +227,7 @@ late_flag-is_found : faults (codes "{foo:?#}") ≡ LateFlag 35 (7, 8) (6, 8)
 unfolding computing
 late_flag-is_found = refl
 
-late_flag-is_told :
+late_flag-is_listed :
     message {A = Place} (LateFlag 35 (7, 8) (6, 8)) ≡ record {
       description = codes "expected `}`, found `#`";
       note = None;
@@ -237,7 +237,7 @@ late_flag-is_told :
       suggestion = ReorderFormatParameter (6, 8) (codes "#?");
     }
 unfolding computing
-late_flag-is_told = refl
+late_flag-is_listed = refl
 
 -- its error goes to the front
 late_flag-comes_first : map (λ m. m.span) (ended (codes "{foo:?#}")).errors

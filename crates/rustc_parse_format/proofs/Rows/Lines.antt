@@ -24,7 +24,7 @@ abbrev ended : Text → Option ℕ → Text → Bool → State
 ended input style snippet appended =
     after_all (start input style snippet appended) (calls (start input style snippet appended))
 
--- A character that is written as an escape behind a continuation is no white space at the start of
+-- A character that is written as an escape after a continuation is no white space at the start of
 -- the line.
 abbrev escaped_space : World
 escaped_space = world (codes " a") None (Some (codes "\"\\\n\\u{20}a\"")) false
@@ -43,7 +43,7 @@ escaped_space-is_one_line : (ended (codes " a") None (codes "\"\\\n\\u{20}a\"") 
 unfolding computing_lines
 escaped_space-is_one_line = refl
 
--- An appended newline ends a line, and the last line then starts behind the end of the text.
+-- An appended newline ends a line, and the last line then starts after the end of the text.
 raw_with_newline-has_two_lines : (ended (codes "a\n") (Some 0) (codes "r\"a\"") true).line_spans
     ≡ (2, 3) ∷ (4, 3) ∷ []
 unfolding computing_lines

@@ -119,8 +119,8 @@ carriage_return-begins_no_continuation = no_units _ refl
 continuation-leaves_no_white_space : ¬
     (IsContent (codes "\\\n b") (Continuation [] ∷ Plain (code " ") ∷ Plain (code "b") ∷ []))
 continuation-leaves_no_white_space (r, well_formed, takes_all, split, rest) =
-    let behind : r ≡ codes " b" = cc in
-    false≢true (subst (λ s. IsTrue (may_precede (Continuation []) s)) behind takes_all)
+    let rest_after : r ≡ codes " b" = cc in
+    false≢true (subst (λ s. IsTrue (may_precede (Continuation []) s)) rest_after takes_all)
 
 continuation-takes_no_letter : ¬ (IsContent (codes "\\\n b") (Continuation (codes " b") ∷ []))
 continuation-takes_no_letter h = false≢true h.1

@@ -9,14 +9,14 @@ use Rattle.rustc_parse_format.specs.Faults.{TextAfterColon, RawIdentifier, Tuple
 use Rattle.rustc_parse_format.specs.Faults.{add_errors, Nothing}
 use Rattle.rustc_parse_format.specs.Call.{walk, pieces_of, faults_of}
 use Rattle.rustc_parse_format.specs.World.{Place, pieces_in, faults_in}
-use Rattle.rustc_parse_format.proofs.Rows.Definitions.{computing, behind_quote, bare_at}
+use Rattle.rustc_parse_format.proofs.Rows.Definitions.{computing, after_quote, bare_at}
 
 -- what a walk in this mode gives, and what it finds
 abbrev pieces : Text → List (Piece Place)
-pieces t = pieces_in (behind_quote t) (pieces_of (walk DiagnosticNamed 0 t))
+pieces t = pieces_in (after_quote t) (pieces_of (walk DiagnosticNamed 0 t))
 
 abbrev faults : Text → List (Fault Place)
-faults t = faults_in (behind_quote t) (faults_of (walk DiagnosticNamed 0 t))
+faults t = faults_in (after_quote t) (faults_of (walk DiagnosticNamed 0 t))
 
 name-is_clean : faults (codes "{foo}") ≡ []
 unfolding computing
@@ -76,10 +76,10 @@ text-is_no_word : faults (codes "{a:_}") ≡ TextAfterColon (3, 5) ∷ []
 unfolding computing
 text-is_no_word = refl
 
-large_number-is_told_first : faults (codes "{70000}") ≡ TooLarge (codes "70000") (2, 8)
+large_number-is_reported_first : faults (codes "{70000}") ≡ TooLarge (codes "70000") (2, 8)
     ∷ Unnamed (2, 7) ∷ []
 unfolding computing
-large_number-is_told_first = refl
+large_number-is_reported_first = refl
 
 field_of_a_number-is_no_name : faults (codes "{foo.0}") ≡ MissingBrace (Some 46) (5, 5) (1, 2)
     ∷ Unnamed (6, 7) ∷ TupleIndex (2, 7) ∷ []
@@ -87,10 +87,10 @@ unfolding computing
 field_of_a_number-is_no_name = refl
 
 -- of these the one of the field comes to the front
-field_of_a_number-is_told_in_front :
+field_of_a_number-is_reported_in_front :
     map (λ e. e.span) (add_errors [] (faults (codes "{foo.0}"))) ≡ (2, 7) ∷ (5, 5) ∷ (6, 7) ∷ []
 unfolding computing
-field_of_a_number-is_told_in_front = refl
+field_of_a_number-is_reported_in_front = refl
 
 empty_field-is_no_name : faults (codes "{foo.}") ≡ MissingBrace (Some 46) (5, 5) (1, 2)
     ∷ Unnamed (6, 6) ∷ []

@@ -15,10 +15,10 @@ field_of_a_name-is_taken : pieces (codes "{foo.bar}") ≡ bare_at (Named (codes 
 unfolding computing
 field_of_a_name-is_taken = refl
 
-field_of_a_name-is_told : faults (codes "{foo.bar}") ≡ MissingBrace (Some 46) (5, 5) (1, 2)
+field_of_a_name-is_listed : faults (codes "{foo.bar}") ≡ MissingBrace (Some 46) (5, 5) (1, 2)
     ∷ FieldAccess (2, 9) ∷ []
 unfolding computing
-field_of_a_name-is_told = refl
+field_of_a_name-is_listed = refl
 
 field_of_a_name-has_two_errors :
     (ended (codes "{foo.bar}")).errors ≡ record {
@@ -40,10 +40,10 @@ field_of_a_name-has_two_errors :
 unfolding computing
 field_of_a_name-has_two_errors = refl
 
-field_of_a_number-is_told : faults (codes "{foo.0}") ≡ MissingBrace (Some 46) (5, 5) (1, 2)
+field_of_a_number-is_listed : faults (codes "{foo.0}") ≡ MissingBrace (Some 46) (5, 5) (1, 2)
     ∷ TupleIndex (2, 7) ∷ []
 unfolding computing
-field_of_a_number-is_told = refl
+field_of_a_number-is_listed = refl
 
 field_of_a_number-has_its_error : (message {A = Place} (TupleIndex (2, 7))).description
     ≡ codes "tuple index access isn't supported"
@@ -56,21 +56,21 @@ field_of_a_field-is_text : pieces (codes "{foo.bar.baz}") ≡ bare_at (Named (co
 unfolding computing
 field_of_a_field-is_text = refl
 
-field_of_a_field-is_told : faults (codes "{foo.bar.baz}") ≡ MissingBrace (Some 46) (5, 5) (1, 2)
+field_of_a_field-is_listed : faults (codes "{foo.bar.baz}") ≡ MissingBrace (Some 46) (5, 5) (1, 2)
     ∷ UnmatchedBrace (13, 14) ∷ []
 unfolding computing
-field_of_a_field-is_told = refl
+field_of_a_field-is_listed = refl
 
-raw_field-is_told :
+raw_field-is_listed :
     faults (codes "{foo.r#bar}") ≡ MissingBrace (Some 46) (5, 5) (1, 2)
     ∷ RawIdentifier (6, 11) (6, 8) ∷ FieldAccess (2, 11) ∷ []
 unfolding computing
-raw_field-is_told = refl
+raw_field-is_listed = refl
 
-raw_field-is_told_in_this_order : map (λ m. m.span) (ended (codes "{foo.r#bar}")).errors
+raw_field-is_reported_in_this_order : map (λ m. m.span) (ended (codes "{foo.r#bar}")).errors
     ≡ (2, 11) ∷ (6, 11) ∷ (5, 5) ∷ []
 unfolding computing
-raw_field-is_told_in_this_order = refl
+raw_field-is_reported_in_this_order = refl
 
 -- A field takes its own numbers.
 empty_field-takes_a_number : pieces (codes "{foo.}{}") ≡ bare_at (Named (codes "foo")) 2 5
@@ -78,30 +78,30 @@ empty_field-takes_a_number : pieces (codes "{foo.}{}") ≡ bare_at (Named (codes
 unfolding computing
 empty_field-takes_a_number = refl
 
-empty_field-is_told_once : faults (codes "{foo.}{}") ≡ MissingBrace (Some 46) (5, 5) (1, 2) ∷ []
+empty_field-is_reported_once : faults (codes "{foo.}{}") ≡ MissingBrace (Some 46) (5, 5) (1, 2) ∷ []
 unfolding computing
-empty_field-is_told_once = refl
+empty_field-is_reported_once = refl
 
 star_of_a_field-takes_a_number : (ended (codes "{a.:.*}")).next ≡ 2
 unfolding computing
 star_of_a_field-takes_a_number = refl
 
 -- its faults come with it
-faulty_field-is_told : faults (codes "{a._}") ≡ MissingBrace (Some 46) (3, 3) (1, 2)
+faulty_field-is_listed : faults (codes "{a._}") ≡ MissingBrace (Some 46) (3, 3) (1, 2)
     ∷ Underscore (4, 5) ∷ FieldAccess (2, 5) ∷ []
 unfolding computing
-faulty_field-is_told = refl
+faulty_field-is_listed = refl
 
-large_field-is_told : faults (codes "{a.65536}") ≡ MissingBrace (Some 46) (3, 3) (1, 2)
+large_field-is_listed : faults (codes "{a.65536}") ≡ MissingBrace (Some 46) (3, 3) (1, 2)
     ∷ TooLarge (codes "65536") (4, 10) ∷ TupleIndex (2, 9) ∷ []
 unfolding computing
-large_field-is_told = refl
+large_field-is_listed = refl
 
--- white space is taken behind its position, and none behind its specification
-field_with_white_space-is_told : faults (codes "{a.b }") ≡ MissingBrace (Some 46) (3, 3) (1, 2)
+-- white space is taken after its position, and none after its specification
+field_with_white_space-is_listed : faults (codes "{a.b }") ≡ MissingBrace (Some 46) (3, 3) (1, 2)
     ∷ FieldAccess (2, 6) ∷ []
 unfolding computing
-field_with_white_space-is_told = refl
+field_with_white_space-is_listed = refl
 
 field_with_white_space_at_the_end-is_not_closed : faults (codes "{a.b:c }")
     ≡ MissingBrace (Some 46) (3, 3) (1, 2) ∷ UnmatchedBrace (8, 9) ∷ []
@@ -132,10 +132,10 @@ debug_without_a_colon-is_a_piece : pieces (codes "{foo?}") ≡ bare_at (Named (c
 unfolding computing
 debug_without_a_colon-is_a_piece = refl
 
-debug_without_a_colon-is_told : faults (codes "{foo?}") ≡ MissingBrace (Some 63) (5, 5) (1, 2)
+debug_without_a_colon-is_listed : faults (codes "{foo?}") ≡ MissingBrace (Some 63) (5, 5) (1, 2)
     ∷ MissingColon (5, 6) ∷ UnmatchedBrace (6, 7) ∷ []
 unfolding computing
-debug_without_a_colon-is_told = refl
+debug_without_a_colon-is_listed = refl
 
 debug_without_a_colon-has_its_error :
     message {A = Place} (MissingColon (5, 6)) ≡ record {
@@ -150,16 +150,16 @@ unfolding computing
 debug_without_a_colon-has_its_error = refl
 
 -- its error comes in front of that of the brace
-debug_without_a_colon-is_told_first : map (λ m. m.span) (ended (codes "{foo?}")).errors
+debug_without_a_colon-is_reported_first : map (λ m. m.span) (ended (codes "{foo?}")).errors
     ≡ (5, 6) ∷ (5, 5) ∷ (6, 7) ∷ []
 unfolding computing
-debug_without_a_colon-is_told_first = refl
+debug_without_a_colon-is_reported_first = refl
 
 -- A `?` with a colon after it takes a word.
-late_debug-is_told : faults (codes "{a?:b}") ≡ MissingBrace (Some 63) (3, 3) (1, 2)
+late_debug-is_listed : faults (codes "{a?:b}") ≡ MissingBrace (Some 63) (3, 3) (1, 2)
     ∷ LateDebug (codes "b") (3, 4) ∷ UnmatchedBrace (6, 7) ∷ []
 unfolding computing
-late_debug-is_told = refl
+late_debug-is_listed = refl
 
 late_debug-names_its_word :
     message {A = Place} (LateDebug (codes "b") (3, 4)) ≡ record {
@@ -173,22 +173,22 @@ late_debug-names_its_word :
 unfolding computing
 late_debug-names_its_word = refl
 
-late_debug_of_an_underscore-is_told :
+late_debug_of_an_underscore-is_listed :
     faults (codes "{a?:_}") ≡ MissingBrace (Some 63) (3, 3) (1, 2) ∷ Underscore (5, 6)
     ∷ LateDebug (codes "_") (3, 4) ∷ UnmatchedBrace (6, 7) ∷ []
 unfolding computing
-late_debug_of_an_underscore-is_told = refl
+late_debug_of_an_underscore-is_listed = refl
 
-late_debug_of_an_underscore-is_told_in_this_order : map (λ m. m.span)
+late_debug_of_an_underscore-is_reported_in_this_order : map (λ m. m.span)
     (ended (codes "{a?:_}")).errors ≡ (3, 4) ∷ (3, 3) ∷ (5, 6) ∷ (6, 7) ∷ []
 unfolding computing
-late_debug_of_an_underscore-is_told_in_this_order = refl
+late_debug_of_an_underscore-is_reported_in_this_order = refl
 
 -- the word may be empty
-late_debug_of_nothing-is_told : faults (codes "{a?:}") ≡ MissingBrace (Some 63) (3, 3) (1, 2)
+late_debug_of_nothing-is_listed : faults (codes "{a?:}") ≡ MissingBrace (Some 63) (3, 3) (1, 2)
     ∷ LateDebug [] (3, 4) ∷ UnmatchedBrace (5, 6) ∷ []
 unfolding computing
-late_debug_of_nothing-is_told = refl
+late_debug_of_nothing-is_listed = refl
 
 -- and without a colon the `?` is taken with no fault of its own
 question_mark-is_taken : pieces (codes "{a?b}") ≡ bare_at (Named (codes "a")) 2 3 ∷ Lit (codes "b")
@@ -196,10 +196,10 @@ question_mark-is_taken : pieces (codes "{a?b}") ≡ bare_at (Named (codes "a")) 
 unfolding computing
 question_mark-is_taken = refl
 
-question_mark-is_told : faults (codes "{a?b}") ≡ MissingBrace (Some 63) (3, 3) (1, 2)
+question_mark-is_listed : faults (codes "{a?b}") ≡ MissingBrace (Some 63) (3, 3) (1, 2)
     ∷ UnmatchedBrace (5, 6) ∷ []
 unfolding computing
-question_mark-is_told = refl
+question_mark-is_listed = refl
 
 -- Other signs are taken alone.
 late_align-is_taken : pieces (codes "{a<5}") ≡ bare_at (Named (codes "a")) 2 3 ∷ Lit (codes "5")
@@ -207,10 +207,10 @@ late_align-is_taken : pieces (codes "{a<5}") ≡ bare_at (Named (codes "a")) 2 3
 unfolding computing
 late_align-is_taken = refl
 
-late_align-is_told : faults (codes "{a<5}") ≡ MissingBrace (Some 60) (3, 3) (1, 2)
+late_align-is_listed : faults (codes "{a<5}") ≡ MissingBrace (Some 60) (3, 3) (1, 2)
     ∷ LateAlign 60 (3, 4) ∷ UnmatchedBrace (5, 6) ∷ []
 unfolding computing
-late_align-is_told = refl
+late_align-is_listed = refl
 
 late_align-names_its_sign :
     message {A = Place} (LateAlign 94 (3, 4)) ≡ record {
@@ -225,10 +225,10 @@ late_align-names_its_sign :
 unfolding computing
 late_align-names_its_sign = refl
 
-grouping-is_told : faults (codes "{a,}") ≡ MissingBrace (Some 44) (3, 3) (1, 2)
+grouping-is_listed : faults (codes "{a,}") ≡ MissingBrace (Some 44) (3, 3) (1, 2)
     ∷ Grouping (3, 4) (1, 2) ∷ UnmatchedBrace (4, 5) ∷ []
 unfolding computing
-grouping-is_told = refl
+grouping-is_listed = refl
 
 grouping-has_its_error :
     message {A = Place} (Grouping (3, 4) (1, 2)) ≡ record {
@@ -242,10 +242,10 @@ grouping-has_its_error :
 unfolding computing
 grouping-has_its_error = refl
 
-debug_print-is_told : faults (codes "{x=}") ≡ MissingBrace (Some 61) (3, 3) (1, 2)
+debug_print-is_listed : faults (codes "{x=}") ≡ MissingBrace (Some 61) (3, 3) (1, 2)
     ∷ DebugPrint (3, 4) (1, 2) ∷ UnmatchedBrace (4, 5) ∷ []
 unfolding computing
-debug_print-is_told = refl
+debug_print-is_listed = refl
 
 debug_print-has_its_error :
     message {A = Place} (DebugPrint (3, 4) (1, 2)) ≡ record {
@@ -260,10 +260,10 @@ debug_print-has_its_error :
 unfolding computing
 debug_print-has_its_error = refl
 
-late_sign-is_told : faults (codes "{+}") ≡ MissingBrace (Some 43) (2, 2) (1, 2) ∷ LateSign (2, 3)
+late_sign-is_listed : faults (codes "{+}") ≡ MissingBrace (Some 43) (2, 2) (1, 2) ∷ LateSign (2, 3)
     ∷ UnmatchedBrace (3, 4) ∷ []
 unfolding computing
-late_sign-is_told = refl
+late_sign-is_listed = refl
 
 late_sign-comes_first : map (λ m. m.span) (ended (codes "{+}")).errors
     ≡ (2, 3) ∷ (2, 2) ∷ (3, 4) ∷ []

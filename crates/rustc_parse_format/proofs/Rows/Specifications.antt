@@ -9,7 +9,7 @@ use Rattle.rustc_parse_format.specs.Faults.{UnmatchedBrace, MissingBrace, FillBr
 use Rattle.rustc_parse_format.specs.Faults.{TooLarge}
 use Rattle.rustc_parse_format.specs.Call.{walk, pieces_of}
 use Rattle.rustc_parse_format.specs.World.{Place, world, pieces_in}
-use Rattle.rustc_parse_format.proofs.Rows.Definitions.{computing, behind_quote, pieces, faults}
+use Rattle.rustc_parse_format.proofs.Rows.Definitions.{computing, after_quote, pieces, faults}
 use Rattle.rustc_parse_format.proofs.Rows.Definitions.{bare_at}
 
 -- a placeholder
@@ -18,7 +18,7 @@ at p from to s = NextArgument (record { position = p; position_span = (from, to)
 
 -- what a walk in another mode gives
 abbrev pieces_by : Mode → Text → List (Piece Place)
-pieces_by mode t = pieces_in (behind_quote t) (pieces_of (walk mode 0 t))
+pieces_by mode t = pieces_in (after_quote t) (pieces_of (walk mode 0 t))
 
 closing_brace-is_a_fill : pieces (codes "{:}>5}") ≡ at (Implicit 0) 2 2
     (record default_spec {
@@ -55,13 +55,14 @@ zero_before_dollar-is_a_width :
 unfolding computing
 zero_before_dollar-is_a_width = refl
 
-underscore_type-is_told_twice : faults (codes "{:_}") ≡ Underscore (3, 4) ∷ Underscore (3, 4) ∷ []
+underscore_type-is_reported_twice : faults (codes "{:_}")
+    ≡ Underscore (3, 4) ∷ Underscore (3, 4) ∷ []
 unfolding computing
-underscore_type-is_told_twice = refl
+underscore_type-is_reported_twice = refl
 
-underscore_width-is_told_once : faults (codes "{:_$}") ≡ Underscore (3, 4) ∷ []
+underscore_width-is_reported_once : faults (codes "{:_$}") ≡ Underscore (3, 4) ∷ []
 unfolding computing
-underscore_width-is_told_once = refl
+underscore_width-is_reported_once = refl
 
 underscore_width-is_a_name : pieces (codes "{:_$}") ≡ at (Implicit 0) 2 2
     (record default_spec { width = Name (codes "_") (3, 4); width_span = Some (3, 5) }) ∷ []
@@ -136,10 +137,10 @@ large_parameter-is_taken_modulo : pieces (codes "{:70000$}")
 unfolding computing
 large_parameter-is_taken_modulo = refl
 
-large_parameter-is_told_with_its_dollar : faults (codes "{:70000$}")
+large_parameter-is_reported_with_its_dollar : faults (codes "{:70000$}")
     ≡ TooLarge (codes "70000") (3, 9) ∷ []
 unfolding computing
-large_parameter-is_told_with_its_dollar = refl
+large_parameter-is_reported_with_its_dollar = refl
 
 diagnostic_text-begins_at_its_colon : pieces_by Diagnostic (codes "{foo:bar}")
     ≡ at (Named (codes "foo")) 2 5 (record default_spec { ty = codes "bar"; ty_span = Some (5, 9) })

@@ -2,12 +2,12 @@
 -- computed.
 use Rattle.std.proofs.Common.{◌≡◌, ◌+◌, ◌-◌, ℕ, List, [], ◌∷◌, length, length-append, arith, ap}
 use Rattle.std.proofs.Common.{refl, codes, ◌∙◌}
-use Rattle.rustc_parse_format.specs.Characters.{Text, word, behind_word}
+use Rattle.rustc_parse_format.specs.Characters.{Text, word, after_word}
 use Rattle.rustc_parse_format.specs.Back.{Back, given_back, nothing_back}
 use Rattle.rustc_parse_format.specs.Steps.{position, reach, steps}
 use Rattle.rustc_parse_format.specs.State.{State, after, after_all, calls, next_call}
 use Rattle.rustc_parse_format.specs.Tries.{back_after}
-use Rattle.rustc_parse_format.proofs.Grammar.Fronts.{word-behind}
+use Rattle.rustc_parse_format.proofs.Grammar.Fronts.{word-rest_after}
 use Rattle.rustc_parse_format.proofs.Rows.Definitions.{computing, start}
 
 -- how many characters the words at these rests have
@@ -19,10 +19,10 @@ tried_length (t ∷ ts) = length (word t) + tried_length ts
 pub tried-again : (b : Back) (ts : List Text) → (back_after b ts).again ≡ b.again + tried_length ts
 tried-again b [] = omega arith
 tried-again b (t ∷ ts) =
-    let once : (b.again + (length t - length (behind_word t))) + tried_length ts
+    let once : (b.again + (length t - length (after_word t))) + tried_length ts
     ≡ b.again + (length (word t) + tried_length ts) =
-    omega (arith, ap length (word-behind t), length-append (word t) (behind_word t)) in
-    tried-again (given_back (behind_word t) t b) ts ∙ once
+    omega (arith, ap length (word-rest_after t), length-append (word t) (after_word t)) in
+    tried-again (given_back (after_word t) t b) ts ∙ once
 
 -- So a call takes a step for each character that it passes, and one for each of a word that it
 -- gives back.

@@ -7,7 +7,7 @@ use Rattle.std.proofs.Common.{append_assoc, Some}
 use Rattle.std.specs.Prelude.{IsTrue, is_some}
 use Rattle.std.proofs.lemmas.Bool.{cond_both, and_parts, both_ways, false≢true, true≢false}
 use Rattle.std.proofs.lemmas.Bool.{eqb-true, or_parts, not-true}
-use Rattle.rustc_parse_format.specs.Characters.{Text, behind, behind_first, begins_with}
+use Rattle.rustc_parse_format.specs.Characters.{Text, rest_after, after_first, begins_with}
 use Rattle.rustc_parse_format.specs.Characters.{byte_length}
 use Rattle.rustc_parse_format.specs.LiteralUnits.{LiteralUnit, Plain, SimpleEscape, ByteEscape}
 use Rattle.rustc_parse_format.specs.LiteralUnits.{UnicodeEscape, Continuation}
@@ -20,7 +20,7 @@ use Rattle.rustc_parse_format.specs.SeenSource.{gap_to, spelled_units}
 use Rattle.rustc_parse_format.proofs.Literals.Widths.{width-cons, width-append}
 use Rattle.rustc_parse_format.proofs.Literals.Plain.{ascii-first}
 use Rattle.rustc_parse_format.proofs.Literals.UnitLaws.{unit_at-complete}
-use Rattle.rustc_parse_format.proofs.Grammar.Fronts.{behind-append}
+use Rattle.rustc_parse_format.proofs.Grammar.Fronts.{rest_after-append}
 
 -- The quote is no white space, so a unit may stand in front of it.
 quote-may : (u : LiteralUnit) (r : Text) → IsTrue (may_precede u r)
@@ -48,33 +48,34 @@ pub width-read : (t r : Text) (c : ℕ) → meaning (unit_at t) ≡ Some (c ∷ 
 unfolding character_width
 width-read t r c e = ap (unit_width t) e
 
--- What is behind a front takes no more than the whole.
-pub behind-narrower : (p : ℕ → Bool) (t : Text) → byte_length (behind p t) ≤ byte_length t
-behind-narrower p [] = omega arith
-behind-narrower p (c ∷ t) = cond_both (p c) (behind p t) (c ∷ t)
+-- What is after a front takes no more than the whole.
+pub rest_after-narrower : (p : ℕ → Bool) (t : Text) → byte_length (rest_after p t) ≤ byte_length t
+rest_after-narrower p [] = omega arith
+rest_after-narrower p (c ∷ t) = cond_both (p c) (rest_after p t) (c ∷ t)
     (λ s. byte_length s ≤ byte_length (c ∷ t))
-    (λ yes. omega (arith, width-cons c t, behind-narrower p t)) (λ no. omega arith)
+    (λ yes. omega (arith, width-cons c t, rest_after-narrower p t)) (λ no. omega arith)
 
-pub behind-shorter : (p : ℕ → Bool) (t : Text) → length (behind p t) ≤ length t
-behind-shorter p [] = omega arith
-behind-shorter p (c ∷ t) = cond_both (p c) (behind p t) (c ∷ t) (λ s. length s ≤ length (c ∷ t))
-    (λ yes. omega (arith, behind-shorter p t)) (λ no. omega arith)
+pub rest_after-shorter : (p : ℕ → Bool) (t : Text) → length (rest_after p t) ≤ length t
+rest_after-shorter p [] = omega arith
+rest_after-shorter p (c ∷ t) = cond_both (p c) (rest_after p t) (c ∷ t) (λ s. length s ≤ length (c
+    ∷ t))
+    (λ yes. omega (arith, rest_after-shorter p t)) (λ no. omega arith)
 
 -- what is left of a text after a backslash, an LF and white space
-abbrev pub behind_continuation : Text → Text
-behind_continuation t = behind is_skipped (behind_first (behind_first t))
+abbrev pub after_continuation : Text → Text
+after_continuation t = rest_after is_skipped (after_first (after_first t))
 
-pub continuation-narrower : (t : Text) → byte_length (behind_continuation t) ≤ byte_length t
+pub continuation-narrower : (t : Text) → byte_length (after_continuation t) ≤ byte_length t
 continuation-narrower [] = omega arith
 continuation-narrower (c ∷ []) = omega (arith, width-cons c [])
 continuation-narrower (c ∷ d ∷ t) =
-    omega (arith, width-cons c (d ∷ t), width-cons d t, behind-narrower is_skipped t)
+    omega (arith, width-cons c (d ∷ t), width-cons d t, rest_after-narrower is_skipped t)
 
 pub continuation-shorter : (t : Text) → begins_continuation t ≡ true
-    → length (behind_continuation t) < length t
+    → length (after_continuation t) < length t
 continuation-shorter [] h = absurd (false≢true h)
 continuation-shorter (c ∷ []) h = omega arith
-continuation-shorter (c ∷ d ∷ t) h = omega (arith, behind-shorter is_skipped t)
+continuation-shorter (c ∷ d ∷ t) h = omega (arith, rest_after-shorter is_skipped t)
 
 -- What is left of a content with these units, where some of its continuations are taken.
 pub record IsRestOf (t : Text) (us : List LiteralUnit) : Type 0 where
@@ -102,7 +103,7 @@ plain-no_continuation c r w h =
 -- One continuation more is taken.
 continuation-taken : (t q : Text) (vs : List LiteralUnit) → IsContent q vs → t ≡ closed_by_quote q
     → begins_continuation t ≡ true →
-    IsRestOf (behind_continuation t) vs
+    IsRestOf (after_continuation t) vs
 continuation-taken t q [] h e b =
     let k : begins_continuation (34 ∷ [])
     ≡ true = subst (λ s. begins_continuation s ≡ true) (e ∙ ap closed_by_quote h) b in
@@ -125,15 +126,15 @@ continuation-taken t q (Continuation v ∷ vs) (r, w, m, f, h) e b =
     record {
       content = r;
       units = vs;
-      left = ap behind_continuation (closed-split t q (Continuation v) r e f)
-          ∙ behind-append is_skipped v (closed_by_quote r) w
+      left = ap after_continuation (closed-split t q (Continuation v) r e f)
+          ∙ rest_after-append is_skipped v (closed_by_quote r) w
           (not-true _ (quote-may (Continuation v) r m));
       is_content = h;
       same = refl;
     }
 
 pub left-taken : (t : Text) (us : List LiteralUnit) → IsRestOf t us → begins_continuation t ≡ true
-    → IsRestOf (behind_continuation t) us
+    → IsRestOf (after_continuation t) us
 left-taken t us l b =
     let k = continuation-taken t l.content l.units l.is_content l.left b in
     record {
@@ -259,11 +260,11 @@ newline-width t r e = omega (
 -- which is known by its bytes
 pub newline-escape : (s : List ℕ) → IsUtf8 s → 2 ≤ length s → get_or s 0 0 ≡ 92
     → get_or s 1 0 ≡ 110 →
-    chars s ≡ 92 ∷ 110 ∷ behind_first (behind_first (chars s))
+    chars s ≡ 92 ∷ 110 ∷ after_first (after_first (chars s))
 newline-escape [] u long e f = absurd (omega arith)
 newline-escape (x ∷ []) u long e f = absurd (omega arith)
 newline-escape (x ∷ y ∷ r) u long e f =
     let first = ascii-first x (y ∷ r) u (omega (arith, e)) in
     let whole : chars (x ∷ y ∷ r) ≡ 92 ∷ 110 ∷ chars r =
     rw (first.0, (ascii-first y r first.1 (omega (arith, f))).0, e, f) refl in
-    whole ∙ ap (λ (t : Text). 92 ∷ 110 ∷ t) (sym (ap (λ t. behind_first (behind_first t)) whole))
+    whole ∙ ap (λ (t : Text). 92 ∷ 110 ∷ t) (sym (ap (λ t. after_first (after_first t)) whole))

@@ -33,10 +33,10 @@ frame-units s q us f h = units_between-frame s q us f (units-complete q us h)
 same_content : (s p q : Text) → s ≡ ordinary_frame p → s ≡ ordinary_frame q → p ≡ q
 same_content s p q f g =
     let both : 34 ∷ (p ++ 34 ∷ []) ≡ 34 ∷ (q ++ 34 ∷ []) = sym f ∙ g in
-    let behind : p ++ 34 ∷ [] ≡ q ++ 34 ∷ [] = cc in
-    append_cancel_right p q (34 ∷ []) behind
+    let rest_after : p ++ 34 ∷ [] ≡ q ++ 34 ∷ [] = cc in
+    append_cancel_right p q (34 ∷ []) rest_after
 
--- what is told of a literal: it is none, or one whose text ends there
+-- what is known of a literal: it is none, or one whose text ends there
 abbrev pub Ends : Option ℕ → Text → Text → Option ℕ → Type 0
 Ends style s t o = MatchOption o (IsLiteral style s t → ⊥)
     (λ e. IsLiteral style s t × (e ≡ literal_end style s))

@@ -25,7 +25,7 @@ HasPlacesOf bs appended w =
     (w.places ≡ (ordinary_world (units_between (chars bs)) appended).places)
     × (w.end ≡ ordinary_end (units_between (chars bs)))
 
--- behind the opening quote of a snippet that is kept
+-- after the opening quote of a snippet that is kept
 pub opened : (bs input : List ℕ) (appended : Bool) (end : ℕ) (w : World) → HasPlacesOf bs appended w
     → IsUtf8 bs →
     (o : IsOrdinary input (chars bs) appended end) → IsReached bs w input 1 o.units

@@ -19,28 +19,28 @@ use Rattle.rustc_parse_format.specs.SeenSource.{closed_by_quote, gap}
 use Rattle.rustc_parse_format.proofs.Literals.UnitLaws.{unit_at-complete}
 use Rattle.rustc_parse_format.proofs.Sources.Contents.{gap-none, plain-no_continuation, width-read}
 use Rattle.rustc_parse_format.proofs.Sources.Steps.{after_character, cut_from}
-use Rattle.rustc_parse_format.specs.Characters.{Text, behind_first, byte_length}
+use Rattle.rustc_parse_format.specs.Characters.{Text, after_first, byte_length}
 use Rattle.rustc_parse_format.proofs.Literals.Widths.{width-append, width-cons}
-use Rattle.rustc_parse_format.proofs.Sources.PlainPlaces.{begun, behind_width, width_chars}
+use Rattle.rustc_parse_format.proofs.Sources.PlainPlaces.{begun, after_width, width_chars}
 
-pub shorter : (text behind rest : List ℕ) → IsUtf8 text → IsUtf8 behind
-    → chars behind ≡ behind_first (chars text) → length rest < length text →
-    length behind < length text
-shorter text behind rest u v e h =
+pub shorter : (text rest_after rest : List ℕ) → IsUtf8 text → IsUtf8 rest_after
+    → chars rest_after ≡ after_first (chars text) → length rest < length text →
+    length rest_after < length text
+shorter text rest_after rest u v e h =
     let f = begun text u (λ none. omega arith) in
     omega (
       arith,
-      behind_width text behind f.head f.tail u v f.chars_are e,
+      after_width text rest_after f.head f.tail u v f.chars_are e,
       (len_utf8_bounds f.head).0,
     )
 
-pub front_left : (text behind rest : List ℕ) → IsUtf8 text → IsUtf8 rest
-    → chars behind ≡ behind_first (chars text) → length rest < length text →
+pub front_left : (text rest_after rest : List ℕ) → IsUtf8 text → IsUtf8 rest
+    → chars rest_after ≡ after_first (chars text) → length rest < length text →
     (front : Text) → chars text ≡ front ++ chars rest → (left : Text)
-    × (chars behind ≡ left ++ chars rest)
-front_left text behind rest u v e h [] f =
+    × (chars rest_after ≡ left ++ chars rest)
+front_left text rest_after rest u v e h [] f =
     absurd (omega (arith, width_chars text u, width_chars rest v, ap byte_length f))
-front_left text behind rest u v e h (c ∷ front) f = (front, e ∙ ap behind_first f)
+front_left text rest_after rest u v e h (c ∷ front) f = (front, e ∙ ap after_first f)
 
 pub front_gone : (text rest : List ℕ) → IsUtf8 text → IsUtf8 rest → length text ≤ length rest
     → (front : Text) → chars text ≡ front ++ chars rest →

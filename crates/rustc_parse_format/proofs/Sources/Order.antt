@@ -82,7 +82,7 @@ pub anchored-places : (s : Source) (rest : List ℕ) (a : Anchor) → IsAnchored
     → HasPlaces (seen_world s) (length (chars rest))
 anchored-places s rest a h = kept_here s.kept_snippet s rest a h.is_left h.is_after h.is_anchor
 
--- What the first of the last n characters does not start in front of, all after it start behind,
+-- What the first of the last n characters does not start in front of, all after it start after,
 pub start_from : (w : World) (n byte : ℕ) → HasPlaces w n → byte ≤ (place_at w n).0 → (k : ℕ)
     → 0 < k → k < n → byte < (place_at w k).0
 start_from w n byte h first k some later =
@@ -92,7 +92,7 @@ start_from w n byte h first k some later =
     place-bytes h.from w n h.in_order (omega arith) h.enough in
     omega arith
 
--- so behind a first one that is past the indent, nothing is at the very start of the line.
+-- so after a first one that is past the indent, nothing is at the very start of the line.
 pub past_indent : (w : World) (t : Text) (c byte : ℕ) → HasPlaces w (length t) → first t ≡ Some c
     → byte ≤ (place_at w (length t)).0 →
     (is_whitespace c ≡ true → byte < (place_at w (length t)).0) → IsPastIndent c byte w t

@@ -12,8 +12,8 @@ use Rattle.std.specs.declared.string.String.{String}
 use Rattle.std.specs.declared.alloc.Global.{Global}
 use Rattle.rustc_parse_format.specs.declared.source.anchor.Anchor.{Anchor}
 use Rattle.rustc_parse_format.specs.declared.source.Source.{Source}
-use Rattle.rustc_parse_format.specs.Characters.{Text, behind_first}
-use Rattle.rustc_parse_format.proofs.Bytes.ByteFronts.{left-behind}
+use Rattle.rustc_parse_format.specs.Characters.{Text, after_first}
+use Rattle.rustc_parse_format.proofs.Bytes.ByteFronts.{left-rest_after}
 use Rattle.rustc_parse_format.proofs.Bytes.Texts.{FormatText, parts}
 use Rattle.rustc_parse_format.proofs.Sources.Ends.{frame-units}
 use Rattle.rustc_parse_format.specs.World.{Place, ordinary_end, World, place_at}
@@ -50,12 +50,14 @@ pub plain_start : (s : Source) (rest : List ℕ) (a : Anchor) → IsAnchored s r
 plain_start s rest a h e some =
     rw e (sym (start_left s.is_literal s.offset s.end s.input.now rest h.is_left some))
 
-pub plain_stop : (s : Source) (rest behind : List ℕ) (a : Anchor) → IsAnchored s rest a
-    → s.kept_snippet ≡ None → IsUtf8 behind → (length rest ≡ 0 → ⊥) →
-    chars behind ≡ behind_first (chars rest) → s.offset + (length s.input.now - length behind)
+pub plain_stop : (s : Source) (rest rest_after : List ℕ) (a : Anchor) → IsAnchored s rest a
+    → s.kept_snippet ≡ None → IsUtf8 rest_after → (length rest ≡ 0 → ⊥) →
+    chars rest_after ≡ after_first (chars rest) → s.offset + (length s.input.now - length
+    rest_after)
     ≡ (place_at (seen_world s) (length (chars rest))).1
-plain_stop s rest behind a h e u some b =
-    rw e (sym (stop_left s.is_literal s.offset s.end s.input.now rest behind h.is_left u some b))
+plain_stop s rest rest_after a h e u some b =
+    rw e (sym (stop_left s.is_literal s.offset s.end s.input.now rest rest_after h.is_left u some
+    b))
 
 -- a place by its two ends
 pub place_by : (p : Place) (from to : ℕ) → from ≡ p.0 → to ≡ p.1 → (from, to) ≡ p
@@ -104,7 +106,7 @@ left-suffix input text rest u p v l =
     let at : drop (length (encodes u)) text ≡ rest =
     ap (drop (length (encodes u))) p.bytes ∙ drop-append_seam (encodes u) rest in
     subst (IsLeft input) at
-    (left-behind input text _ (IsCharBoundary-at_seam text (encodes u) rest p.bytes v) l)
+    (left-rest_after input text _ (IsCharBoundary-at_seam text (encodes u) rest p.bytes v) l)
 
 -- and the anchor is no later than it.
 pub anchored-suffix : (s : Source) (text rest : List ℕ) (a : Anchor) (u : Text) → IsUtf8 rest

@@ -9,7 +9,7 @@ use Rattle.std.proofs.lemmas.Str.{IsCharBoundary-from_drop, chars-append}
 use Rattle.std.proofs.lemmas.List.{take-append-drop}
 use Rattle.std.proofs.lemmas.List.Sums.{sum_by-cons}
 use Rattle.std.proofs.Math.Utf8.{encodes}
-use Rattle.rustc_parse_format.specs.Characters.{Text, behind_first, byte_length}
+use Rattle.rustc_parse_format.specs.Characters.{Text, after_first, byte_length}
 use Rattle.rustc_parse_format.specs.World.{World, Place, place_at, plain_places, plain_world}
 use Rattle.rustc_parse_format.specs.Bytes.{IsLeft}
 
@@ -95,15 +95,15 @@ place_left b q e input rest l c t h =
     rw (whole, h, ← k.bytes) (place_inside b q e k.pre t c)
 
 -- what is after the first character of a text starts where that character ends
-pub behind_width : (rest behind : List ℕ) (c : ℕ) (t : Text) → IsUtf8 rest → IsUtf8 behind
-    → chars rest ≡ c ∷ t → chars behind ≡ behind_first (chars rest) →
-    length rest ≡ len_utf8 c + length behind
-behind_width rest behind c t u v h e =
-    let b : chars behind ≡ t = e ∙ ap behind_first h in
+pub after_width : (rest rest_after : List ℕ) (c : ℕ) (t : Text) → IsUtf8 rest → IsUtf8 rest_after
+    → chars rest ≡ c ∷ t → chars rest_after ≡ after_first (chars rest) →
+    length rest ≡ len_utf8 c + length rest_after
+after_width rest rest_after c t u v h e =
+    let b : chars rest_after ≡ t = e ∙ ap after_first h in
     sym (width_chars rest u)
     ∙ (ap byte_length h
     ∙ (sum_by-cons len_utf8 c t
-    ∙ ap (λ k. len_utf8 c + k) (ap byte_length (sym b) ∙ width_chars behind v)))
+    ∙ ap (λ k. len_utf8 c + k) (ap byte_length (sym b) ∙ width_chars rest_after v)))
 
 -- a text with bytes has a first character
 pub record Begun (s : List ℕ) : Type 0 where
@@ -133,14 +133,14 @@ start_left b q e input rest l h =
     ap (λ (p : Place). p.0)
     (place_begun b q e input rest l (begun rest (IsUtf8-from_is_utf8 rest l.valid_rest) h))
 
-pub stop_left : (b : Bool) (q e : ℕ) (input rest behind : List ℕ) → IsLeft input rest
-    → IsUtf8 behind → (length rest ≡ 0 → ⊥) → chars behind
-    ≡ behind_first (chars rest) →
+pub stop_left : (b : Bool) (q e : ℕ) (input rest rest_after : List ℕ) → IsLeft input rest
+    → IsUtf8 rest_after → (length rest ≡ 0 → ⊥) → chars rest_after
+    ≡ after_first (chars rest) →
     (place_at (plain_world b q (chars input) e) (length (chars rest))).1
-    ≡ q + (length input - length behind)
-stop_left b q e input rest behind l v h k =
+    ≡ q + (length input - length rest_after)
+stop_left b q e input rest rest_after l v h k =
     let u = IsUtf8-from_is_utf8 rest l.valid_rest in
     let f = begun rest u h in
-    let n = behind_width rest behind f.head f.tail u v f.chars_are k in
+    let n = after_width rest rest_after f.head f.tail u v f.chars_are k in
     let within = l.within in
     ap (λ (p : Place). p.1) (place_begun b q e input rest l f) ∙ omega arith

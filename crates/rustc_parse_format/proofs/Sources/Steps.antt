@@ -12,7 +12,7 @@ use Rattle.std.proofs.lemmas.Str.{IsUtf8-from_is_utf8, is_utf8-from_IsUtf8}
 use Rattle.std.proofs.lemmas.Str.{IsCharBoundary-from_drop}
 use Rattle.std.proofs.lemmas.List.{drop-drop, get_or-append-add}
 use Rattle.std.proofs.lemmas.List.Sums.{sum_by-cons}
-use Rattle.rustc_parse_format.specs.Characters.{Text, behind_first, byte_length}
+use Rattle.rustc_parse_format.specs.Characters.{Text, after_first, byte_length}
 use Rattle.rustc_parse_format.specs.LiteralUnits.{LiteralUnit, spelling}
 use Rattle.rustc_parse_format.specs.Literal.{IsContent, content_value, newline}
 use Rattle.rustc_parse_format.specs.SeenSource.{IsHere, after_continuations, character_width}
@@ -42,7 +42,7 @@ cut_at bs (c ∷ p) r u e =
     let split : bs ≡ encode_utf8 c ++ rest = sym (encodes-chars bs u) ∙ ap encode_utf8_all e in
     let v = IsUtf8-past_char bs rest c u split in
     let left : chars rest ≡ p
-    ++ r = ap behind_first (sym (chars_past_char bs rest c u split) ∙ e) in
+    ++ r = ap after_first (sym (chars_past_char bs rest c u split) ∙ e) in
     let k = cut_at rest p r v left in
     let wide = sum_by-cons len_utf8 c p in
     let size = length-append (encode_utf8 c) rest in
@@ -156,12 +156,12 @@ settle s w rest at us k = settle_to s w rest at us (after_continuations us) k (i
     (after-content k.content us k.is_content)
 
 -- With no character left of the units the byte stays, and an appended newline has passed.
-newline-passed : (appended : Bool) → behind_first (newline appended) ≡ []
+newline-passed : (appended : Bool) → after_first (newline appended) ≡ []
 newline-passed true = refl
 newline-passed false = refl
 
 end_passed : (s : List ℕ) (w : World) (rest : Text) (at : ℕ) (h : IsHere s w rest at)
-    → content_value h.units ≡ [] → IsHere s w (behind_first rest) at
+    → content_value h.units ≡ [] → IsHere s w (after_first rest) at
 end_passed s w rest at h e =
     let none = no_places at h.units e in
     record {
@@ -172,7 +172,7 @@ end_passed s w rest at h e =
       left = h.left;
       is_content = h.is_content;
       appended = false;
-      rest_is = ap behind_first (h.rest_is ∙ ap (λ t. t ++ newline h.appended) e)
+      rest_is = ap after_first (h.rest_is ∙ ap (λ t. t ++ newline h.appended) e)
           ∙ (newline-passed h.appended ∙ sym (append-nil (content_value h.units) ∙ e));
       passed = h.passed ++ newline_places w.end h.appended;
       places = h.places ∙ (ap (λ ps. h.passed ++ (ps ++ newline_places w.end h.appended)) none
@@ -186,7 +186,7 @@ end_passed s w rest at h e =
 reach_next : (s : List ℕ) (w : World) (rest : Text) (at : ℕ) (h : IsHere s w rest at)
     (k : Starts h.units) (r : Text) →
     h.content ≡ spelling k.unit ++ r → IsContent r k.others
-    → IsReached s w (behind_first rest) (at + byte_length (spelling k.unit)) k.others
+    → IsReached s w (after_first rest) (at + byte_length (spelling k.unit)) k.others
 reach_next s w rest at h k r split is =
     let own = byte_length (spelling k.unit) in
     let first = first_place at h.units k in
@@ -201,7 +201,7 @@ reach_next s w rest at h k r split is =
       is_content = is;
       appended = h.appended;
       rest_is =
-          ap behind_first (h.rest_is ∙ ap (λ t. t ++ newline h.appended) (first_value h.units k));
+          ap after_first (h.rest_is ∙ ap (λ t. t ++ newline h.appended) (first_value h.units k));
       passed = h.passed ++ (at, at + own) ∷ [];
       places = h.places ∙ (ap (λ ps. h.passed ++ (ps ++ newline_places w.end h.appended)) first
           ∙ sym (append_assoc h.passed ((at, at + own) ∷ []) (content_places (at + own) k.others
@@ -221,34 +221,34 @@ narrow s w rest at h e = no_width (chars (drop at s)) h.content h.units h.is_con
 
 pub after_end : (s : List ℕ) (w : World) (rest : Text) (at n : ℕ) → IsHere s w rest at
     → n ≡ character_width (chars (drop at s)) → n ≡ 0 →
-    IsHere s w (behind_first rest) at
+    IsHere s w (after_first rest) at
 after_end s w rest at n h size e = of_ahead (by_ahead h.units h.ahead)
   where
-    of_ahead : (content_value h.units ≡ []) ⊎ Starts h.units → IsHere s w (behind_first rest) at
+    of_ahead : (content_value h.units ≡ []) ⊎ Starts h.units → IsHere s w (after_first rest) at
     of_ahead (inl none) = end_passed s w rest at h none
     of_ahead (inr k) = let bytes = unit_bytes k.unit in
         absurd (omega (arith, size, wide s w rest at h k))
 
--- and else what comes next is behind it and the continuations there.
+-- and else what comes next is after it and the continuations there.
 pub after_character : (s : List ℕ) (w : World) (rest : Text) (at n g : ℕ) → IsHere s w rest at
     → n ≡ character_width (chars (drop at s)) → n ≢ 0 →
     ((q : Text) (us : List LiteralUnit) → IsContent q us → chars (drop (at + n) s)
     ≡ closed_by_quote q → g ≡ gap us) →
-    IsHere s w (behind_first rest) ((at + n) + g)
+    IsHere s w (after_first rest) ((at + n) + g)
 after_character s w rest at n g h size some f = of_ahead (by_ahead h.units h.ahead)
   where
     of_start : (k : Starts h.units) → IsContent h.content (k.unit ∷ k.others)
-        → IsHere s w (behind_first rest) ((at + n) + g)
+        → IsHere s w (after_first rest) ((at + n) + g)
     of_start k (r, good, may, split, is) =
         let own : n ≡ byte_length (spelling k.unit) = size ∙ wide s w rest at h k in
-        let reached : IsReached s w (behind_first rest) (at + n) k.others =
+        let reached : IsReached s w (after_first rest) (at + n) k.others =
         rw own (reach_next s w rest at h k r split is) in
         let gap_is : g ≡ gap k.others =
         f reached.content k.others reached.is_content reached.left in
-        rw gap_is (settle s w (behind_first rest) (at + n) k.others reached)
+        rw gap_is (settle s w (after_first rest) (at + n) k.others reached)
 
     of_ahead : (content_value h.units ≡ []) ⊎ Starts h.units
-        → IsHere s w (behind_first rest) ((at + n) + g)
+        → IsHere s w (after_first rest) ((at + n) + g)
     of_ahead (inl none) = absurd (some (size ∙ narrow s w rest at h none))
     of_ahead (inr k) = of_start k (subst (IsContent h.content) k.are h.is_content)
 

@@ -20,7 +20,7 @@ use Rattle.std.proofs.lemmas.Str.{encode_ascii, encodes-append, encodes-chars, l
 use Rattle.std.proofs.lemmas.Str.{length-encode}
 use Rattle.rustc_parse_format.specs.declared.source.anchor.Anchor.{Anchor}
 use Rattle.rustc_parse_format.specs.Bytes.{IsLeft}
-use Rattle.rustc_parse_format.specs.Characters.{Text, behind_first, byte_length}
+use Rattle.rustc_parse_format.specs.Characters.{Text, after_first, byte_length}
 use Rattle.rustc_parse_format.specs.Literal.{IsContent, content_value, newline}
 use Rattle.rustc_parse_format.specs.LiteralUnits.{LiteralUnit, Plain, SimpleEscape, ByteEscape}
 use Rattle.rustc_parse_format.specs.LiteralUnits.{UnicodeEscape, Continuation}
@@ -29,7 +29,7 @@ use Rattle.rustc_parse_format.specs.SeenSource.{IsAnchor, IsHere, IsUnescaped, b
 use Rattle.rustc_parse_format.specs.SeenSource.{character_width, closed_by_quote, is_unescaped}
 use Rattle.rustc_parse_format.specs.World.{World, place_at}
 use Rattle.rustc_parse_format.proofs.Literals.Widths.{width-append, width-cons}
-use Rattle.rustc_parse_format.proofs.Sources.PlainPlaces.{begun, behind_width, left, width_chars}
+use Rattle.rustc_parse_format.proofs.Sources.PlainPlaces.{begun, after_width, left, width_chars}
 use Rattle.rustc_parse_format.proofs.Sources.Contents.{gap-none}
 use Rattle.rustc_parse_format.proofs.Sources.Moves.{Gaps, false_if, front_gone, here_plain}
 use Rattle.rustc_parse_format.proofs.Sources.Moves.{plain_width}
@@ -91,7 +91,7 @@ unescaped_content (c ∷ u) r q z (Plain d ∷ us) a (v, w, m, f, h) e n b =
     ∙ list_all-append is_unescaped front (take (byte_length u) (encodes v ++ z))) ∙ b) in
     let fewer : byte_length u ≤ byte_length v =
     omega (arith, n, ap byte_length f, width-cons d v, width-cons c u, ap len_utf8 head) in
-    let k = unescaped_content u r v z us a h (ap behind_first e) fewer parts.1 in (
+    let k = unescaped_content u r v z us a h (ap after_first e) fewer parts.1 in (
       k.0,
       f ∙ (ap (λ x. d ∷ x) k.1 ∙ ap (λ x. x ∷ (u ++ k.0)) (sym head)),
       and_from (is_plain c) (list_all is_plain u) (ap is_plain head ∙ w) k.2,
@@ -125,8 +125,8 @@ record Passed (s text rest : List ℕ) (at m : ℕ) : Type 0 where
   pub front : Text
   pub whole : chars text ≡ front ++ chars rest
   pub size : byte_length front ≡ m
-  pub behind : Text
-  pub stands : chars (drop at s) ≡ front ++ behind
+  pub rest_after : Text
+  pub stands : chars (drop at s) ≡ front ++ rest_after
   pub plain : IsTrue (list_all is_plain front)
   pub within : at + m ≤ length s
   pub valid : IsUtf8 (drop (at + m) s)
@@ -167,7 +167,7 @@ passed s w a rest (h, b) l fewer =
       front = k.pre;
       whole = k.whole;
       size = k.bytes;
-      behind = f.0 ++ 34 ∷ [];
+      rest_after = f.0 ++ 34 ∷ [];
       stands = stands;
       plain = f.2;
       within = cut.0;
@@ -196,7 +196,7 @@ unescaped_still s w a rest h l none =
     let stays : a.offset ≡ a.offset + Moved a rest = omega (arith, none) in
     subst (IsHere s w (chars rest)) stays (subst (λ t. IsHere s w t a.offset) same h.0)
 
--- and else behind what was passed and the continuations there,
+-- and else after what was passed and the continuations there,
 pub unescaped_ahead : (s : List ℕ) (w : World) (a : Anchor) (rest : List ℕ) (g : ℕ) → IsAnchor s w a
     → IsLeft a.rest.now rest →
     Moved a rest ≤ a.unescaped → Moved a rest ≢ 0 → Gaps s (a.offset + Moved a rest) g
@@ -205,7 +205,7 @@ unescaped_ahead s w a rest g h l fewer some gaps =
     let p = passed s w a rest h l fewer in
     let moved : p.front ≢ [] = λ none. some (sym p.size ∙ ap byte_length none) in
     subst (λ m. IsHere s w (chars rest) ((a.offset + m) + g)) p.size
-    (here_plain s w p.front (chars rest) p.behind a.offset g
+    (here_plain s w p.front (chars rest) p.rest_after a.offset g
     (subst (λ t. IsHere s w t a.offset) p.whole h.0) moved p.stands p.plain
     (subst (λ m. Gaps s (a.offset + m) g) (sym p.size) gaps))
 
@@ -283,36 +283,38 @@ unescaped_here s w a rest h l (inr (some, more)) = unescaped_inside s w a rest h
 
 -- A character that was passed within them ends as many bytes further on as there are in what was
 -- passed.
-pub unescaped_stop : (s : List ℕ) (w : World) (a : Anchor) (rest behind : List ℕ) → IsAnchor s w a
-    → IsLeft a.rest.now rest → IsLeft a.rest.now behind →
-    chars behind ≡ behind_first (chars rest) → (length rest ≡ 0 → ⊥)
-    → Moved a behind ≤ a.unescaped →
-    a.offset + Moved a behind ≡ (place_at w (length (chars rest))).1
-unescaped_stop s w a rest behind h l k e some more =
+pub unescaped_stop : (s : List ℕ) (w : World) (a : Anchor) (rest rest_after : List ℕ)
+    → IsAnchor s w a
+    → IsLeft a.rest.now rest → IsLeft a.rest.now rest_after →
+    chars rest_after ≡ after_first (chars rest) → (length rest ≡ 0 → ⊥)
+    → Moved a rest_after ≤ a.unescaped →
+    a.offset + Moved a rest_after ≡ (place_at w (length (chars rest))).1
+unescaped_stop s w a rest rest_after h l k e some more =
     let u = IsUtf8-from_is_utf8 rest l.valid_rest in
     let b = begun rest u some in
     let c = b.head in
-    let size = behind_width rest behind c b.tail u
-    (IsUtf8-from_is_utf8 behind k.valid_rest) b.chars_are e in
+    let size = after_width rest rest_after c b.tail u
+    (IsUtf8-from_is_utf8 rest_after k.valid_rest) b.chars_are e in
     let wide = width-cons c [] in
     let bytes = (len_utf8_bounds c).0 in
     let front = left a.rest.now rest l in
-    let p = passed s w a behind h k more in
+    let p = passed s w a rest_after h k more in
     let within = l.within in
-    let within_behind = k.within in
-    let rest_is : chars rest ≡ c ∷ chars behind = b.chars_are
-    ∙ ap (λ t. c ∷ t) (sym (e ∙ ap behind_first b.chars_are)) in
+    let within_after = k.within in
+    let rest_is : chars rest ≡ c ∷ chars rest_after = b.chars_are
+    ∙ ap (λ t. c ∷ t) (sym (e ∙ ap after_first b.chars_are)) in
     let front_is : p.front ≡ front.pre ++ c ∷ [] =
-    append_cancel_right p.front (front.pre ++ c ∷ []) (chars behind)
+    append_cancel_right p.front (front.pre ++ c ∷ []) (chars rest_after)
     (sym p.whole
     ∙ (front.whole
     ∙ (ap (λ t. front.pre ++ t) rest_is
-    ∙ sym (append_assoc front.pre (c ∷ []) (chars behind))))) in
-    let stands : chars (drop a.offset s) ≡ front.pre ++ c ∷ p.behind =
-    p.stands ∙ (ap (λ x. x ++ p.behind) front_is ∙ append_assoc front.pre (c ∷ []) p.behind) in
+    ∙ sym (append_assoc front.pre (c ∷ []) (chars rest_after))))) in
+    let stands : chars (drop a.offset s) ≡ front.pre ++ c ∷ p.rest_after =
+    p.stands ∙ (ap (λ x. x ++ p.rest_after) front_is ∙ append_assoc front.pre (c ∷ [])
+    p.rest_after) in
     let here = unescaped_inside s w a rest h l (omega arith) in
     let text = IsUtf8-from_is_utf8 (drop a.offset s) h.0.valid in
-    let cut = cut_from s a.offset (Moved a rest) front.pre (c ∷ p.behind) h.0.within text stands
+    let cut = cut_from s a.offset (Moved a rest) front.pre (c ∷ p.rest_after) h.0.within text stands
     (sym front.bytes) in
     let parts : (list_all is_plain front.pre ≡ true) × (list_all is_plain (c ∷ []) ≡ true) =
     and_parts _ _
@@ -321,10 +323,10 @@ unescaped_stop s w a rest behind h l k e some more =
     let plain = and_parts (is_plain c) true parts.1 in
     let stop = through_character s w (chars rest) (a.offset + Moved a rest)
     (byte_length (c ∷ [])) here
-    (sym (ap character_width cut.2 ∙ plain_width c p.behind plain.0)) (λ none. omega arith) in
+    (sym (ap character_width cut.2 ∙ plain_width c p.rest_after plain.0)) (λ none. omega arith) in
     omega (arith, stop)
 
--- What is left of a text behind a front is one of the fronts of what is left behind more.
+-- What is left of a text after a front is one of the fronts of what is left after more.
 pub left_over : (text rest : List ℕ) (n : ℕ) → IsCharBoundary text n → IsLeft text rest
     → n ≤ length text - length rest → IsLeft (drop n text) rest
 left_over text rest n b l fewer =

@@ -5,8 +5,8 @@ use Prim.Native.Char.{code}
 use Rattle.std.specs.Prelude.{List, not, ◌&&◌, ◌==◌}
 use Rattle.std.specs.List.{AllByRecursion}
 use Rattle.std.proofs.lemmas.Bool.{cond_both}
-use Rattle.rustc_parse_format.specs.Characters.{Text, is_align, is_brace, behind_first}
-use Rattle.rustc_parse_format.specs.Characters.{behind_white, begins_with, first}
+use Rattle.rustc_parse_format.specs.Characters.{Text, is_align, is_brace, after_first}
+use Rattle.rustc_parse_format.specs.Characters.{after_white, begins_with, first}
 use Rattle.rustc_parse_format.specs.Types.{Mode, Position, Implicit, Index, Named, Spec, Argument}
 use Rattle.rustc_parse_format.specs.Placeholder.{cut}
 use Rattle.rustc_parse_format.specs.Marks.{Mark, Span, up_to, over_first}
@@ -25,7 +25,7 @@ use Rattle.rustc_parse_format.specs.ReadBack.{AllSpans, IsStart, left_at, IsForw
 use Rattle.rustc_parse_format.specs.ReadBack.{ReadsBack, optional, piece_spans, spans_of_spec}
 use Rattle.rustc_parse_format.specs.ReadBack.{spans_of_fault}
 use Rattle.rustc_parse_format.proofs.Grammar.Rests.{IsRest, IsRest-le, IsRest-trans, cut_rest}
-use Rattle.rustc_parse_format.proofs.Grammar.Rests.{behind_first_rest, behind_white_rest}
+use Rattle.rustc_parse_format.proofs.Grammar.Rests.{after_first_rest, after_white_rest}
 use Rattle.rustc_parse_format.proofs.Spans.Forward.{AreForward, AreFaultsForward, argument-start}
 use Rattle.rustc_parse_format.proofs.Spans.Forward.{cut-spec_at, word_faults-forward, all-append}
 use Rattle.rustc_parse_format.proofs.Spans.Forward.{all-weaker, up_to-forward, through-forward}
@@ -61,7 +61,7 @@ unclosed-forward n opening f r h k l =
     (up_to-forward n r r (omega arith) k)
     (through-forward n opening opening (omega arith) l)
 
--- A mark of n characters that starts a span and is not behind the first of t.
+-- A mark of n characters that starts a span and is not after the first of t.
 record IsInFront (n : ℕ) (m : Mark) (t : Text) : Type 0 where
   start : IsStart m
   left : length t ≤ left_at m
@@ -78,10 +78,10 @@ field-forward : (n c : ℕ) (mode : Mode) (m : Mark) (t : Text) → IsInFront n 
     → AreFaultsForward n (field mode c m t).faults
 unfolding field argument
 field-forward n c mode m t h =
-    let u : Text = behind_first t in
+    let u : Text = after_first t in
     let a = cut mode u in
     let f = argument c a in
-    let less : length u ≤ length t = IsRest-le (behind_first_rest t) in
+    let less : length u ≤ length t = IsRest-le (after_first_rest t) in
     let span : IsForward n (record { from = m; to = f.position_span.to }) =
     record {
       from_start = h.start;
@@ -97,14 +97,14 @@ late_debug-forward : (n c : ℕ) (t : Text) → length t ≤ n
     → AreFaultsForward n (late_debug c t).faults
 unfolding late_debug
 late_debug-forward n c t h =
-    let w : Text = behind_first (behind_first t) in
+    let w : Text = after_first (after_first t) in
     let less : length w ≤ length t =
     omega (
       arith,
-      IsRest-le (behind_first_rest t),
-      IsRest-le (behind_first_rest (behind_first t)),
+      IsRest-le (after_first_rest t),
+      IsRest-le (after_first_rest (after_first t)),
     ) in
-    cond_both {A = Recovery} (begins_with 58 (behind_first t)) _ _
+    cond_both {A = Recovery} (begins_with 58 (after_first t)) _ _
     (λ k. AreFaultsForward n k.faults)
     (λ e. all-append _ (word_faults w) _ (word_faults-forward n w (omega (arith, less, h)))
     ((through-forward n t t (omega arith) h, tt), tt))
@@ -146,9 +146,9 @@ placeholder-forward mode c b t =
     let n : ℕ = length (b ∷ t) in
     let inside : length t ≤ n = omega arith in
     let a = cut mode t in
-    let r : Text = behind_white a.rest in
+    let r : Text = after_white a.rest in
     let rest : length r ≤ length t =
-    IsRest-le (IsRest-trans (cut_rest mode t) (behind_white_rest a.rest)) in
+    IsRest-le (IsRest-trans (cut_rest mode t) (after_white_rest a.rest)) in
     let spans = argument-forward n c mode t inside in
     let start : IsInFront n (argument c a).position_span.from r =
     rw (argument-start c mode t) (record { start = tt; left = rest; within = inside }) in
@@ -182,7 +182,7 @@ call-forward mode c (b ∷ t) =
     let n : ℕ = length (b ∷ t) in
     cond_both {A = Call} (is_brace b) _ _ (AllSpans (IsForward n))
     (λ e. cond_both {A = Call} (begins_with b t) _ _ (AllSpans (IsForward n))
-    (λ d. text-forward n c (b ∷ []) (behind_first t))
+    (λ d. text-forward n c (b ∷ []) (after_first t))
     (λ d. cond_both {A = Call} (b == 123) _ _ (AllSpans (IsForward n))
     (λ o. placeholder-forward mode c b t)
     (λ o. record {

@@ -6,8 +6,8 @@ use Rattle.std.proofs.Common.{length-append, codes, cond}
 use Rattle.std.specs.Prelude.{bytes_eq, is_some}
 use Rattle.std.specs.List.{AllByRecursion}
 use Rattle.std.proofs.lemmas.Bool.{false≢true}
-use Rattle.rustc_parse_format.specs.Characters.{Text, word, behind_word, digits, behind_digits}
-use Rattle.rustc_parse_format.specs.Characters.{first, behind_first, behind_prefix, behind_white}
+use Rattle.rustc_parse_format.specs.Characters.{Text, word, after_word, digits, after_digits}
+use Rattle.rustc_parse_format.specs.Characters.{first, after_first, after_prefix, after_white}
 use Rattle.rustc_parse_format.specs.Characters.{is_over}
 use Rattle.rustc_parse_format.specs.Spelling.{IsPart, fixed, optional_identifier}
 use Rattle.rustc_parse_format.specs.Types.{Mode, Format, InlineAsm, Diagnostic, DiagnosticNamed}
@@ -44,8 +44,8 @@ use Rattle.rustc_parse_format.specs.ReadBack.{spans_of, spans_of_fault}
 use Rattle.rustc_parse_format.proofs.Grammar.PartLaws.{IsRow, opened, only, two-split}
 use Rattle.rustc_parse_format.proofs.Grammar.PartSpecs.{spec-finds}
 use Rattle.rustc_parse_format.proofs.Grammar.Rests.{IsRest-le, IsRest-trans, raw_rest}
-use Rattle.rustc_parse_format.proofs.Grammar.Rests.{position_rest, behind_white_rest}
-use Rattle.rustc_parse_format.proofs.Grammar.Rests.{behind_word_rest, behind_digits_rest}
+use Rattle.rustc_parse_format.proofs.Grammar.Rests.{position_rest, after_white_rest}
+use Rattle.rustc_parse_format.proofs.Grammar.Rests.{after_word_rest, after_digits_rest}
 
 -- all of these spans are forward
 abbrev pub AreForward : ℕ → List Span → Type 0
@@ -73,9 +73,9 @@ pub through-forward : (n : ℕ) (t r : Text) → length r ≤ length t → lengt
     → IsForward n (through t r)
 through-forward n t r h k = record { from_start = tt; in_order = h; within = k }
 
-behind_first-length : (t : Text) → length (behind_first t) ≡ length t - 1
-behind_first-length [] = refl
-behind_first-length (c ∷ t) = omega arith
+after_first-length : (t : Text) → length (after_first t) ≡ length t - 1
+after_first-length [] = refl
+after_first-length (c ∷ t) = omega arith
 
 -- What is spelled as u and r after it are together no longer than t.
 abbrev Fits : Text → Text → Text → Type 0
@@ -99,11 +99,11 @@ count_span-forward n t (NameCount w) r h l = (up_to-forward n t r (omega (arith,
 count_span-forward n t NoCount r h l = tt
 
 padded-fits : (t : Text) (k : CountText) (r : Text) → Fits t (width_part (PaddedWidth k)).spelling r
-    → Fits (behind_first t) (count_part k).spelling r
+    → Fits (after_first t) (count_part k).spelling r
 padded-fits t k r h = omega (
   arith,
   h,
-  behind_first-length t,
+  after_first-length t,
   length-append (count_part k).spelling [],
 )
 
@@ -115,8 +115,8 @@ width_of-forward : (n : ℕ) (t : Text) (w : WidthText) (r : Text) → Fits t (w
     → length t ≤ n →
     AreForward n (spans_of_count (width_of t w r))
 width_of-forward n t (PaddedWidth k) r h l =
-    count_of-forward n (behind_first t) k r (padded-fits t k r h)
-    (omega (arith, l, behind_first-length t))
+    count_of-forward n (after_first t) k r (padded-fits t k r h)
+    (omega (arith, l, after_first-length t))
 width_of-forward n t ZeroIndexWidth r h l = tt
 width_of-forward n t (PlainWidth k) r h l = count_of-forward n t k r (plain-fits t k r h) l
 
@@ -124,10 +124,10 @@ width_span-forward : (n : ℕ) (t : Text) (w : WidthText) (r : Text)
     → Fits t (width_part w).spelling r → length t ≤ n →
     AreForward n (optional (width_span t w r))
 width_span-forward n t (PaddedWidth k) r h l =
-    count_span-forward n (behind_first t) k r (padded-fits t k r h)
-    (omega (arith, l, behind_first-length t))
+    count_span-forward n (after_first t) k r (padded-fits t k r h)
+    (omega (arith, l, after_first-length t))
 width_span-forward n t ZeroIndexWidth r h l =
-    (through-forward n t (behind_first t) (omega (arith, behind_first-length t)) l, tt)
+    (through-forward n t (after_first t) (omega (arith, after_first-length t)) l, tt)
 width_span-forward n t (PlainWidth k) r h l = count_span-forward n t k r (plain-fits t k r h) l
 
 precision_of-forward : (n c : ℕ) (t : Text) (p : PrecisionText) (r : Text)
@@ -136,9 +136,9 @@ precision_of-forward : (n c : ℕ) (t : Text) (p : PrecisionText) (r : Text)
 precision_of-forward n c t NoPrecision r h l = tt
 precision_of-forward n c t StarPrecision r h l = tt
 precision_of-forward n c t (DotPrecision k) r h l =
-    let fits : Fits (behind_first t) (count_part k).spelling r =
-    omega (arith, h, behind_first-length t, length-append (count_part k).spelling []) in
-    count_of-forward n (behind_first t) k r fits (omega (arith, l, behind_first-length t))
+    let fits : Fits (after_first t) (count_part k).spelling r =
+    omega (arith, h, after_first-length t, length-append (count_part k).spelling []) in
+    count_of-forward n (after_first t) k r fits (omega (arith, l, after_first-length t))
 
 precision_span-forward : (n : ℕ) (t : Text) (p : PrecisionText) (r : Text)
     → Fits t (precision_part p).spelling r → length t ≤ n →
@@ -237,19 +237,19 @@ spec_of-forward : (n c : ℕ) (mode : Mode) (t : Text) (s : SpecText) (r : Text)
 spec_of-forward n c mode t Default r h l = tt
 spec_of-forward n c Format t (Formatting p) r h l =
     let s = two-split t (fixed (codes ":")) (format_part p) r h in
-    let seam : behind_first t ≡ s.seam = ap behind_first s.first.whole in
-    let here : IsPart (behind_first t) (format_part p) r = rw seam s.second in
-    format_of-forward n c (behind_first t) p r here (omega (arith, l, behind_first-length t))
+    let seam : after_first t ≡ s.seam = ap after_first s.first.whole in
+    let here : IsPart (after_first t) (format_part p) r = rw seam s.second in
+    format_of-forward n c (after_first t) p r here (omega (arith, l, after_first-length t))
 spec_of-forward n c InlineAsm t (Modifier w) r h l =
     let s = two-split t (fixed (codes ":")) (optional_identifier w) r h in
-    let seam : behind_first t ≡ s.seam = ap behind_first s.first.whole in
-    let rest : length r ≤ length (behind_first t) =
+    let seam : after_first t ≡ s.seam = ap after_first s.first.whole in
+    let rest : length r ≤ length (after_first t) =
     omega (
       arith,
       ap length seam,
       part-length s.seam (optional_identifier w).spelling r s.second.whole,
     ) in
-    word_span-forward n (behind_first t) w r rest (omega (arith, l, behind_first-length t))
+    word_span-forward n (after_first t) w r rest (omega (arith, l, after_first-length t))
 spec_of-forward n c Diagnostic t (DiagnosticText u) r h l = (
   up_to-forward n t r
       (part-length t (spec_part Diagnostic (DiagnosticText u)).spelling r h.whole) l,
@@ -273,11 +273,11 @@ spec_of-forward n c DiagnosticNamed t (Modifier w) r h l = absurd (false≢true 
 pub cut-spec : (mode : Mode) (t : Text)
     → IsPart (cut mode t).spec_at (spec_part mode (cut mode t).field.spec) (cut mode t).rest
 unfolding cut
-cut-spec mode t = (spec-finds mode).sound (behind_white (position t).1)
+cut-spec mode t = (spec-finds mode).sound (after_white (position t).1)
 
 pub cut-spec_at : (mode : Mode) (t : Text) → length (cut mode t).spec_at ≤ length t
 unfolding cut
-cut-spec_at mode t = IsRest-le (IsRest-trans (position_rest t) (behind_white_rest (position t).1))
+cut-spec_at mode t = IsRest-le (IsRest-trans (position_rest t) (after_white_rest (position t).1))
 
 cut-position_at : (mode : Mode) (t : Text) → (cut mode t).position_at ≡ t
 unfolding cut
@@ -309,13 +309,13 @@ fault_either n false f h = tt
 
 pub word_faults-forward : (n : ℕ) (t : Text) → length t ≤ n → AreFaultsForward n (word_faults t)
 word_faults-forward n t l =
-    fault_either n (bytes_eq (word t) (codes "_")) (Underscore (up_to t (behind_word t)))
-    (up_to-forward n t (behind_word t) (IsRest-le (behind_word_rest t)) l, tt)
+    fault_either n (bytes_eq (word t) (codes "_")) (Underscore (up_to t (after_word t)))
+    (up_to-forward n t (after_word t) (IsRest-le (after_word_rest t)) l, tt)
 
 number_faults-forward : (n : ℕ) (t : Text) → length t ≤ n → AreFaultsForward n (number_faults t)
 number_faults-forward n t l =
-    fault_either n (is_over (digits t)) (TooLarge (digits t) (through t (behind_digits t)))
-    (through-forward n t (behind_digits t) (IsRest-le (behind_digits_rest t)) l, tt)
+    fault_either n (is_over (digits t)) (TooLarge (digits t) (through t (after_digits t)))
+    (through-forward n t (after_digits t) (IsRest-le (after_digits_rest t)) l, tt)
 
 argument_faults-forward : (n : ℕ) (t : Text) → length t ≤ n → AreFaultsForward n (argument_faults t)
 unfolding argument_faults
@@ -324,13 +324,13 @@ argument_faults-forward n t l = all-append _ _ _ (number_faults-forward n t l)
 
 raw_faults-forward : (n : ℕ) (t : Text) → length t ≤ n → AreFaultsForward n (raw_faults t)
 raw_faults-forward n t l =
-    let first = behind_first-length t in
-    let second = behind_first-length (behind_first t) in
+    let first = after_first-length t in
+    let second = after_first-length (after_first t) in
     all-append _ _ _
-    (word_faults-forward n (behind_prefix t) (omega (arith, l, first, second))) (
+    (word_faults-forward n (after_prefix t) (omega (arith, l, first, second))) (
       (
-        up_to-forward n t (behind_word (behind_prefix t)) (IsRest-le (raw_rest t)) l,
-        (through-forward n t (behind_first t) (omega (arith, first)) l, tt),
+        up_to-forward n t (after_word (after_prefix t)) (IsRest-le (raw_rest t)) l,
+        (through-forward n t (after_first t) (omega (arith, first)) l, tt),
       ),
       tt,
     )
@@ -345,7 +345,7 @@ position_faults-forward n t NoPosition l = tt
 width_faults-forward : (n : ℕ) (t : Text) (w : WidthText) → length t ≤ n
     → AreFaultsForward n (width_faults t w)
 width_faults-forward n t (PaddedWidth k) l =
-    argument_faults-forward n (behind_first t) (omega (arith, l, behind_first-length t))
+    argument_faults-forward n (after_first t) (omega (arith, l, after_first-length t))
 width_faults-forward n t ZeroIndexWidth l = tt
 width_faults-forward n t (PlainWidth k) l = argument_faults-forward n t l
 
@@ -354,7 +354,7 @@ precision_faults-forward : (n : ℕ) (t : Text) (p : PrecisionText) → length t
 precision_faults-forward n t NoPrecision l = tt
 precision_faults-forward n t StarPrecision l = tt
 precision_faults-forward n t (DotPrecision k) l =
-    argument_faults-forward n (behind_first t) (omega (arith, l, behind_first-length t))
+    argument_faults-forward n (after_first t) (omega (arith, l, after_first-length t))
 
 late_flag-forward : (n : ℕ) (t u : Text) → length u ≤ length t → length t ≤ n
     → AreFaultsForward n (late_flag (first u) (over_first u) (through t u))
@@ -367,8 +367,8 @@ late_flag-forward n t (c ∷ u) h l =
 
 flags-forward : (n : ℕ) (b : Bool) (t : Text) → length t ≤ n
     → AreFaultsForward n (cond b (flag_faults t) [])
-flags-forward n true t l = late_flag-forward n t (behind_first t)
-    (omega (arith, behind_first-length t)) l
+flags-forward n true t l = late_flag-forward n t (after_first t)
+    (omega (arith, after_first-length t)) l
 flags-forward n false t l = tt
 
 type_faults-forward : (n : ℕ) (t : Text) (y : TypeText) → length t ≤ n
@@ -406,7 +406,7 @@ spec_faults-forward n Format t (Formatting p) r h l =
     format_faults-forward n s.seam p r s.second
     (omega (arith, l, part-length t (codes ":") s.seam s.first.whole))
 spec_faults-forward n InlineAsm t (Modifier w) r h l =
-    word_faults-forward n (behind_first t) (omega (arith, l, behind_first-length t))
+    word_faults-forward n (after_first t) (omega (arith, l, after_first-length t))
 spec_faults-forward n Diagnostic t (DiagnosticText u) r h l =
     text_faults-forward n Diagnostic u (up_to t r)
     (up_to-forward n t r

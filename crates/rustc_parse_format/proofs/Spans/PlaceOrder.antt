@@ -140,16 +140,16 @@ noted-no_newline w (c ∷ u) r a =
     and_parts (not (c == code "\n")) _ a in
     and_from (not (c == code "\n")) _ h.0 (noted-no_newline w u r h.1)
 
--- Where each character of a run starts behind the start of the line, none is white space there.
-pub behind-no_indent : (w : World) (start : ℕ) (u r : Text) →
+-- Where each character of a run starts after the start of the line, none is white space there.
+pub rest_after-no_indent : (w : World) (start : ℕ) (u r : Text) →
     ((k : ℕ) → 0 < k → k ≤ length (u ++ r) → start < (place_at w k).0)
     → has_no_indent start (texts_in w (run_texts u r)) ≡ true
-behind-no_indent w start [] r h = refl
-behind-no_indent w start (c ∷ u) r h =
+rest_after-no_indent w start [] r h = refl
+rest_after-no_indent w start (c ∷ u) r h =
     let first : start < (place_at w (length (c ∷ (u ++ r)))).0 =
     h (length (c ∷ (u ++ r))) (omega arith) (omega arith) in
     and_from _ _ (ap not (indent-no w start c (length (c ∷ (u ++ r))) (λ white. omega arith)))
-    (behind-no_indent w start u r (λ k p q. h k p (omega arith)))
+    (rest_after-no_indent w start u r (λ k p q. h k p (omega arith)))
 
 -- There are as many places as characters.
 pub length-content_places : (q : ℕ) (us : List LiteralUnit)

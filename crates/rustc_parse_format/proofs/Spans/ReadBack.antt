@@ -40,7 +40,7 @@ newline-start [] e a false = refl
 newline-start (p ∷ ps) e zero b = refl
 newline-start (p ∷ ps) e (suc a) b = newline-start ps e a b
 
--- Where the character ends behind a others: that of the text, or the newline.
+-- Where the character ends after a others: that of the text, or the newline.
 abbrev pub IsStop : List Place → ℕ → ℕ → ℕ → Type 0
 IsStop ps e a s = (s ≡ stop ps e a) ⊎ ((length ps ≤ a) × (s ≡ suc e))
 
@@ -138,7 +138,7 @@ mark-order q us b n i (End k) h l =
       )
     ]
 
--- No mark stands more than a byte behind the end of the text.
+-- No mark stands more than a byte after the end of the text.
 pub mark-inside : (q : ℕ) (us : List LiteralUnit) (b : Bool) (n : ℕ) (m : Mark)
     → n ≡ length (content_value us ++ newline b) →
     number_of (unit_world q us b) m ≤ suc (ends q us)

@@ -92,10 +92,10 @@ text-bytes bytes from w v x =
           (utf8_past w (m ++ z) z from_here refl));
     }
 
--- behind its first character
-pub text-behind : (bytes : List ℕ) (from c : ℕ) (w : Text) → TextAt bytes from (c ∷ w)
+-- after its first character
+pub text-rest_after : (bytes : List ℕ) (from c : ℕ) (w : Text) → TextAt bytes from (c ∷ w)
     → TextAt bytes (from + len_utf8 c) w
-text-behind bytes from c w x = record {
+text-rest_after bytes from c w x = record {
   before = x.before ++ c ∷ [];
   after = x.after;
   whole = x.whole ∙ sym (append_assoc x.before (c ∷ []) (w ++ x.after));
@@ -105,7 +105,7 @@ text-behind bytes from c w x = record {
 -- A text at a span, whose place is some bytes later than in the input.
 pub record TextPlace (bytes : List ℕ) (at : ℕ) (p : Place) (w : Text) : Type 0 where
   pub some : w ≢ []
-  pub behind : at ≤ p.0
+  pub rest_after : at ≤ p.0
   pub text : TextAt bytes (p.0 - at) w
 
 -- A name that stands there, where no `r#` and then the name does;
@@ -146,7 +146,7 @@ text_place bytes b at e input rest s w c r x =
     let n = plain_number b at e input r.front rest s.from w r.whole x in
     record {
       some = x.some;
-      behind = omega (arith, n);
+      rest_after = omega (arith, n);
       text = record {
         before = r.front ++ x.before;
         after = x.after;
@@ -193,11 +193,11 @@ name_place bytes b at e input rest s w v c r (inl x) =
 name_place bytes b at e input rest s w v c r (inr x) =
     let p = text_place bytes b at e input rest s (codes "r#" ++ w) c r x.stands in
     let n = (place_of (plain_world b at input e) s).0 - at in
-    let behind_r : TextAt bytes (n + 1) (codes "#" ++ w) =
-    text-behind bytes n 114 (codes "#" ++ w) p.text in
-    let behind_both : TextAt bytes ((n + 1) + 1) w = text-behind bytes (n + 1) 35 w behind_r in
+    let after_r : TextAt bytes (n + 1) (codes "#" ++ w) =
+    text-rest_after bytes n 114 (codes "#" ++ w) p.text in
+    let after_both : TextAt bytes ((n + 1) + 1) w = text-rest_after bytes (n + 1) 35 w after_r in
     let two : (n + 1) + 1 ≡ n + 2 = omega arith in
-    inr (record { some = x.some; raw = p; text = subst (λ k. TextAt bytes k w) two behind_both })
+    inr (record { some = x.some; raw = p; text = subst (λ k. TextAt bytes k w) two after_both })
 
 last_text : (bytes : List ℕ) (input rest r w : Text) → chars bytes ≡ input → IsRest input rest
     → EndsAt rest r w → LastText bytes input r w

@@ -5,7 +5,7 @@ use Rattle.std.proofs.Common.{subst, ◌∙◌, ap, append_assoc, codes, inl, in
 use Rattle.std.proofs.Common.{Some, None}
 use Rattle.std.specs.Prelude.{◌==◌, ◌||◌}
 use Rattle.std.proofs.lemmas.Bool.{cond_both, false≢true, not-true, or_cases, eqb-true}
-use Rattle.rustc_parse_format.specs.Characters.{Text, begins_raw, begins_with, behind_first}
+use Rattle.rustc_parse_format.specs.Characters.{Text, begins_raw, begins_with, after_first}
 use Rattle.rustc_parse_format.specs.Characters.{first_passes, is_brace, is_no_brace}
 use Rattle.rustc_parse_format.specs.Marks.{Mark, Start, Span}
 use Rattle.rustc_parse_format.specs.Types.{Mode, Format, InlineAsm, Diagnostic, DiagnosticNamed}
@@ -34,7 +34,7 @@ use Rattle.rustc_parse_format.specs.Meaning.{from_type, from_width, precision_of
 use Rattle.rustc_parse_format.specs.Meaning.{type_span, width_of}
 use Rattle.rustc_parse_format.specs.Meaning.{word_span}
 use Rattle.rustc_parse_format.specs.Call.{Call, call, placeholder, text_call}
-use Rattle.rustc_parse_format.proofs.Grammar.Fronts.{front-behind}
+use Rattle.rustc_parse_format.proofs.Grammar.Fronts.{front-rest_after}
 use Rattle.rustc_parse_format.proofs.Grammar.PartCuts.{cut-sound, cut-placed}
 use Rattle.rustc_parse_format.proofs.Grammar.PartLaws.{IsRow, absent-same, only, opened, two-split}
 use Rattle.rustc_parse_format.proofs.Readers.Placeholders.{placeholder-piece}
@@ -201,18 +201,18 @@ count_stands t (NameCount w) r h =
 count_stands t NoCount r h = tt
 
 -- with a character in front of it
-count_behind : (t : Text) (p : Text → Bool) (c : ℕ) (k : CountText) (r s : Text)
+count_after : (t : Text) (p : Text → Bool) (c : ℕ) (k : CountText) (r s : Text)
     → IsPart t (unless (c ∷ []) p) s → IsPart s (count_part k) r
-    → CountStands t (count_of (behind_first t) k r)
-count_behind t p c k r s h i =
-    subst (λ u. CountStands t (count_of u k r)) (sym (ap behind_first h.whole))
+    → CountStands t (count_of (after_first t) k r)
+count_after t p c k r s h i =
+    subst (λ u. CountStands t (count_of u k r)) (sym (ap after_first h.whole))
     (earlier_count t s (count_of s k r) (rest_of h) (count_stands s k r i))
 
 width_stands : (t : Text) (x : WidthText) (r : Text) → IsPart t (width_part x) r
     → CountStands t (width_of t x r)
 width_stands t (PaddedWidth k) r h =
     let s = two-split t (unless (codes "0") (begins_with (code "$"))) (count_part k) r h in
-    count_behind t (begins_with (code "$")) (code "0") k r s.seam s.first s.second
+    count_after t (begins_with (code "$")) (code "0") k r s.seam s.first s.second
 width_stands t ZeroIndexWidth r h = tt
 width_stands t (PlainWidth k) r h =
     let s = two-split t (absent (begins_with (code "0"))) (count_part k) r h in
@@ -225,7 +225,7 @@ precision_stands n t NoPrecision r h = tt
 precision_stands n t StarPrecision r h = tt
 precision_stands n t (DotPrecision k) r h =
     let s = two-split t (unless (codes ".") (begins_with (code "*"))) (count_part k) r h in
-    count_behind t (begins_with (code "*")) (code ".") k r s.seam s.first s.second
+    count_after t (begins_with (code "*")) (code ".") k r s.seam s.first s.second
 
 -- Types.
 abbrev TypeStands : Mode → Text → Text → Option Span → Type 0
@@ -326,7 +326,7 @@ modifier_stands n t w r h =
       width = tt;
       precision = tt;
       ty = subst (λ u. TypeStands InlineAsm t w (word_span u w r))
-          (sym (ap behind_first s.first.whole)) ty;
+          (sym (ap after_first s.first.whole)) ty;
     }
 
 text_stands : (t u r : Text) → IsPart t (spec_part Diagnostic (DiagnosticText u)) r
@@ -340,8 +340,8 @@ spec_stands : (mode : Mode) (n : ℕ) (t : Text) (s : SpecText) (r : Text)
 spec_stands mode n t Default r h = record { width = tt; precision = tt; ty = inl refl }
 spec_stands Format n t (Formatting p) r h =
     let s = two-split t (fixed (codes ":")) (format_part p) r h in
-    earlier_spec Format t s.seam (format_of n (behind_first t) p r) (rest_of s.first)
-    (format_stands n (behind_first t) s.seam p r s.second)
+    earlier_spec Format t s.seam (format_of n (after_first t) p r) (rest_of s.first)
+    (format_stands n (after_first t) s.seam p r s.second)
 spec_stands InlineAsm n t (Modifier w) r h = modifier_stands n t w r h
 spec_stands Diagnostic n t (DiagnosticText u) r h =
     record { width = tt; precision = tt; ty = text_stands t u r h }
@@ -396,17 +396,17 @@ earlier_argument mode t u a h x = record {
 }
 
 -- Calls.
-begun_by : (b : ℕ) (t : Text) → begins_with b t ≡ true → t ≡ b ∷ behind_first t
+begun_by : (b : ℕ) (t : Text) → begins_with b t ≡ true → t ≡ b ∷ after_first t
 begun_by b [] e = absurd (false≢true e)
 begun_by b (c ∷ t) e = ap (λ x. x ∷ t) (eqb-true c b e)
 
 doubled_stands : (mode : Mode) (n b : ℕ) (t : Text) → begins_with b t ≡ true
-    → PieceStands mode (b ∷ t) (text_call n (b ∷ []) (behind_first t)).rest
-    (text_call n (b ∷ []) (behind_first t)).piece
+    → PieceStands mode (b ∷ t) (text_call n (b ∷ []) (after_first t)).rest
+    (text_call n (b ∷ []) (after_first t)).piece
 doubled_stands mode n b t e = (
   b ∷ [],
   ap (λ u. b ∷ u) (begun_by b t e
-      ∙ ap (λ u. b ∷ u) (front-behind is_no_brace (behind_first t))),
+      ∙ ap (λ u. b ∷ u) (front-rest_after is_no_brace (after_first t))),
 )
 
 placeholder_stands : (mode : Mode) (n b : ℕ) (t : Text)
@@ -429,4 +429,4 @@ call_stands mode n (b ∷ t) =
     (λ d. doubled_stands mode n b t d)
     (λ d. cond_both {A = Call} (b == code "{") _ _ (λ k. PieceStands mode (b ∷ t) k.rest k.piece)
     (λ o. placeholder_stands mode n b t) (λ o. tt)))
-    (λ e. ([], front-behind is_no_brace (b ∷ t)))
+    (λ e. ([], front-rest_after is_no_brace (b ∷ t)))

@@ -25,7 +25,7 @@ abbrev pub IsOrdered : ℕ → List Place → ℕ → Type 0
 IsOrdered lo [] e = lo ≤ e
 IsOrdered lo (p ∷ ps) e = (lo ≤ p.0) × (p.0 ≤ p.1) × IsOrdered p.1 ps e
 
--- where the character behind a of them starts, and where it ends; behind all of them that is e
+-- where the character after a of them starts, and where it ends; after all of them that is e
 abbrev pub start : List Place → ℕ → ℕ → ℕ
 start ps e a = (get_or ps a (e, e)).0
 
@@ -53,7 +53,7 @@ stop-end lo [] e a o = omega arith
 stop-end lo (p ∷ ps) e zero o = ordered-end p.1 ps e o.2
 stop-end lo (p ∷ ps) e (suc a) o = stop-end p.1 ps e a o.2
 
--- a character starts before one behind it does
+-- a character starts before one after it does
 pub start-start : (lo : ℕ) (ps : List Place) (e a b : ℕ) → a ≤ b → IsOrdered lo ps e
     → start ps e a ≤ start ps e b
 start-start lo [] e a b h o = omega arith
@@ -105,7 +105,7 @@ before-none s at (u ∷ us) h =
     let late : s < past at u = omega (arith, past-lt at u) in
     rw (lt-leb (past at u) s late) (before-none s (past at u) us (omega arith))
 
--- Behind the end stand all characters.
+-- After the end stand all characters.
 pub before-all : (lo at : ℕ) (us : List LiteralUnit) (e s : ℕ)
     → IsOrdered lo (content_places at us) e → e ≤ s → before s at us ≡ content_value us
 before-all lo at [] e s o h = refl
@@ -122,7 +122,7 @@ before-all lo at (u ∷ us) e s o h =
           ∙ (ap (λ t. c ∷ t) (before-all (past at u) (past at u) us e s k.2 h) ∙ rw z refl))
     ]
 
--- Either end of a place, and how many characters are in front of that end of the one behind a
+-- Either end of a place, and how many characters are in front of that end of the one after a
 -- others.
 abbrev pub edge : Bool → Place → ℕ
 edge false p = p.0

@@ -76,7 +76,7 @@ plain_newline q (c ∷ t) b =
     ap (λ ps. (q, q + len_utf8 c) ∷ ps) (plain_newline (q + len_utf8 c) t b
     ∙ ap (λ k. plain_places (q + len_utf8 c) t ++ newline_places k b) e)
 
--- How many bytes there are in front of the text of a raw literal, and behind it.
+-- How many bytes there are in front of the text of a raw literal, and after it.
 width-hashes : (n : ℕ) → byte_length (replicate n 35) ≡ n
 width-hashes zero = refl
 width-hashes (suc n) = width-cons 35 (replicate n 35) ∙ omega (arith, width-hashes n)
@@ -120,7 +120,7 @@ last-content lo at t (u ∷ us) (r, w, m, e, h) l =
       | inr (c, z) ↦ rw (z, n) (last-content (past at u) (past at u) r us h (omega arith))
     ]
 
--- and behind it stands at least a closing quote.
+-- and after it stands at least a closing quote.
 width-ordinary : (t : Text) → byte_length (ordinary_frame t) ≡ suc (suc (byte_length t))
 width-ordinary t = width-cons 34 (t ++ 34 ∷ []) ∙ omega (arith, width-append t (34 ∷ []))
 

@@ -5,9 +5,16 @@ use Rattle.std.proofs.lemmas.Bool.{cond_both, eqb-true, eq-eqb, not_from_false, 
 use Rattle.std.proofs.lemmas.Bool.{false≢true}
 use Rattle.std.specs.Char.{is_whitespace}
 use Rattle.unicode_ident.proofs.Computing.{unicode_ident}
-use Rattle.rustc_parse_format.specs.Characters.{Text, is_brace, is_no_brace, front, behind, word}
-use Rattle.rustc_parse_format.specs.Characters.{behind_word, digits, behind_digits, behind_white}
-use Rattle.rustc_parse_format.specs.Characters.{behind_first, begins_with, first_passes}
+use Rattle.rustc_parse_format.specs.Characters.{
+  Text,
+  is_brace,
+  is_no_brace,
+  front,
+  rest_after,
+  word,
+}
+use Rattle.rustc_parse_format.specs.Characters.{after_word, digits, after_digits, after_white}
+use Rattle.rustc_parse_format.specs.Characters.{after_first, begins_with, first_passes}
 use Rattle.rustc_parse_format.specs.Marks.{Span}
 use Rattle.rustc_parse_format.specs.Types.{Mode, Piece, Lit, NextArgument, bare}
 use Rattle.rustc_parse_format.specs.Spelling.{IsPart, run, doubled}
@@ -53,7 +60,7 @@ text_steps mode c b t e = record {
 }
 
 doubled_steps : (mode : Mode) (c b : ℕ) (t : Text) → is_brace b ≡ true → begins_with b t ≡ true
-    → Steps mode c (b ∷ t) (text_call c (b ∷ []) (behind_first t))
+    → Steps mode c (b ∷ t) (text_call c (b ∷ []) (after_first t))
 doubled_steps mode c b [] e h = cc h
 doubled_steps mode c b (d ∷ t) e h =
     let two : IsPart (b ∷ d ∷ t) (doubled is_brace b) t =
@@ -70,7 +77,7 @@ doubled_steps mode c b (d ∷ t) e h =
       };
     }
 
-closes_with : (r : Text) → begins_with 125 r ≡ true → r ≡ 125 ∷ behind_first r
+closes_with : (r : Text) → begins_with 125 r ≡ true → r ≡ 125 ∷ after_first r
 closes_with [] h = cc h
 closes_with (d ∷ r) h = ap (λ x. x ∷ r) (eqb-true d 125 h)
 
@@ -78,7 +85,7 @@ placeholder_steps : (mode : Mode) (c b : ℕ) (t : Text) → b ≡ 123
     → Good mode c (b ∷ t) (placeholder mode c (b ∷ t) t)
 unfolding placeholder
 placeholder_steps mode c b t e =
-    cond_both {A = Call} (begins_with 125 (behind_white (cut mode t).rest)) _ _
+    cond_both {A = Call} (begins_with 125 (after_white (cut mode t).rest)) _ _
     (Good mode c (b ∷ t))
     (λ h f. record {
       piece = NextArgument (argument c (cut mode t));
@@ -92,11 +99,12 @@ placeholder_steps mode c b t e =
         numbered = refl;
       };
     })
-    (λ h f. absurd (told (cut_faults mode (cut mode t)) _ _ f))
+    (λ h f. absurd (report (cut_faults mode (cut mode t)) _ _ f))
   where
-    told : (xs : List (Fault Span)) (x : Fault Span) (ys : List (Fault Span)) → xs ++ (x ∷ ys) ≡ []
+    report : (xs : List (Fault Span)) (x : Fault Span) (ys : List (Fault Span))
+        → xs ++ (x ∷ ys) ≡ []
         → ⊥
-    told xs x ys f = let k = none_right xs (x ∷ ys) f in cc k
+    report xs x ys f = let k = none_right xs (x ∷ ys) f in cc k
 
 -- A call with no fault gives a piece that begins the text,
 pub call_begins : (mode : Mode) (c : ℕ) (t : Text) → t ≢ [] → (call mode c t).faults ≡ []
@@ -140,7 +148,7 @@ given_as g e f h = record {
 }
 
 call_run : (mode : Mode) (c : ℕ) (t : Text) → first_passes is_no_brace t ≡ true
-    → Gives (Lit (front is_no_brace t)) (behind is_no_brace t) c (call mode c t)
+    → Gives (Lit (front is_no_brace t)) (rest_after is_no_brace t) c (call mode c t)
 unfolding call
 call_run mode c [] e = absurd (false≢true e)
 call_run mode c (b ∷ t) e =
@@ -155,7 +163,7 @@ call_run mode c (b ∷ t) e =
     })
 
 call_doubled : (mode : Mode) (c b : ℕ) (t : Text) → is_brace b ≡ true
-    → Gives (Lit (b ∷ front is_no_brace t)) (behind is_no_brace t) c (call mode c (b ∷ b ∷ t))
+    → Gives (Lit (b ∷ front is_no_brace t)) (rest_after is_no_brace t) c (call mode c (b ∷ b ∷ t))
 unfolding call
 call_doubled mode c b t e =
     rw (e, eq-eqb b b refl)
@@ -169,8 +177,8 @@ call_doubled mode c b t e =
     })
 
 -- after `{{` there is no placeholder
-brace_stays : (mode : Mode) (u : Text) → behind_white (cut mode (123 ∷ u)).rest ≡ 123 ∷ u
-unfolding cut unicode_ident word behind_word digits behind_digits behind_white
+brace_stays : (mode : Mode) (u : Text) → after_white (cut mode (123 ∷ u)).rest ≡ 123 ∷ u
+unfolding cut unicode_ident word after_word digits after_digits after_white
 brace_stays mode u = refl
 
 head : Text → ℕ
@@ -182,7 +190,7 @@ unfolding head
 differ s u e = let h : ◌≡◌ {A = ℕ} 125 123 = ap head e in omega arith
 
 -- what a brace closes does not begin with an opening brace
-opens_one : (mode : Mode) (t r : Text) → behind_white (cut mode t).rest ≡ 125 ∷ r
+opens_one : (mode : Mode) (t r : Text) → after_white (cut mode t).rest ≡ 125 ∷ r
     → begins_with 123 t ≡ false
 opens_one mode [] r e = refl
 opens_one mode (d ∷ t) r e = cond_free (d == 123) (λ h. again d t (eqb-true d 123 h) e)
@@ -191,10 +199,10 @@ opens_one mode (d ∷ t) r e = cond_free (d == 123) (λ h. again d t (eqb-true d
     cond_free true f = absurd (f refl)
     cond_free false f = refl
 
-    again : (d : ℕ) (t : Text) → d ≡ 123 → behind_white (cut mode (d ∷ t)).rest ≡ 125 ∷ r → ⊥
+    again : (d : ℕ) (t : Text) → d ≡ 123 → after_white (cut mode (d ∷ t)).rest ≡ 125 ∷ r → ⊥
     again d t h e = differ r t (sym e ∙ rw h (brace_stays mode t))
 
-call_closed : (mode : Mode) (c : ℕ) (t r : Text) → behind_white (cut mode t).rest ≡ 125 ∷ r
+call_closed : (mode : Mode) (c : ℕ) (t r : Text) → after_white (cut mode t).rest ≡ 125 ∷ r
     → IsClean mode (cut mode t).field →
     Gives (NextArgument (argument_value c (cut mode t).field)) r
     (number_after_field c (cut mode t).field) (call mode c (123 ∷ t))
@@ -220,7 +228,7 @@ part_call : (mode : Mode) (c : ℕ) (t : Text) (x : PieceText) (r : Text)
     Gives (piece_value c x) r (number_after c x) (call mode c t)
 part_call mode c t (RunText u) r w h =
     let k = some_run-complete is_no_brace t u r w in
-    given_as (call_run mode c t k.begins) (ap Lit k.read) k.behind refl
+    given_as (call_run mode c t k.begins) (ap Lit k.read) k.rest_after refl
 part_call mode c t (DoubledText b u) r w h =
     let s = two-split t (doubled is_brace b) (run is_no_brace u) r w in
     let e = (run-finds is_no_brace).complete s.seam u r s.second in

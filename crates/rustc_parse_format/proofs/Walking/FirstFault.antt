@@ -141,7 +141,7 @@ by_length : (mode : Mode) (c : ℕ) (t : Text) (ps : List (Piece (Unit {0}))) �
 by_length mode c t ps s =
     let front : take (length s.read) t ≡ s.read = ap (take (length s.read)) s.whole
     ∙ take-append_seam s.read s.rest in
-    let behind : drop (length s.read) t ≡ s.rest = ap (drop (length s.read)) s.whole
+    let rest_after : drop (length s.read) t ≡ s.rest = ap (drop (length s.read)) s.whole
     ∙ drop-append_seam s.read s.rest in
     record {
       pieces = s.pieces;
@@ -153,7 +153,7 @@ by_length mode c t ps s =
         some_length s.rest s.some,
       );
       reads = rw front s.reads;
-      stops = λ n p r next. rw behind (s.stops n p r next);
+      stops = λ n p r next. rw rest_after (s.stops n p r next);
     }
 
 -- A walk with a fault stops inside its text.

@@ -9,8 +9,8 @@ use Rattle.std.proofs.lemmas.List.{append-nil, map-append}
 use Rattle.std.proofs.lemmas.Bool.{cond_both}
 use Rattle.std.proofs.lemmas.Option.{none-some}
 use Rattle.std.specs.Prelude.{◌==◌}
-use Rattle.rustc_parse_format.specs.Characters.{is_brace, is_no_brace, begins_with, behind_first}
-use Rattle.rustc_parse_format.specs.Characters.{behind_white}
+use Rattle.rustc_parse_format.specs.Characters.{is_brace, is_no_brace, begins_with, after_first}
+use Rattle.rustc_parse_format.specs.Characters.{after_white}
 use Rattle.rustc_parse_format.specs.Characters.{Text}
 use Rattle.rustc_parse_format.specs.Marks.{Span}
 use Rattle.rustc_parse_format.specs.Types.{Mode, Piece, bare}
@@ -37,8 +37,8 @@ use Rattle.rustc_parse_format.specs.World.{World, Place, literal_world, literal_
 use Rattle.rustc_parse_format.specs.World.{place_at, faults_in, piece_in, pieces_in, place_of}
 use Rattle.rustc_parse_format.specs.World.{world}
 use Rattle.rustc_parse_format.proofs.Grammar.Rests.{IsRest, IsRest-cons, IsRest-self, IsRest-trans}
-use Rattle.rustc_parse_format.proofs.Grammar.Rests.{behind_rest, behind_first_rest}
-use Rattle.rustc_parse_format.proofs.Grammar.Rests.{behind_white_rest, cut_rest}
+use Rattle.rustc_parse_format.proofs.Grammar.Rests.{after_rest, after_first_rest}
+use Rattle.rustc_parse_format.proofs.Grammar.Rests.{after_white_rest, cut_rest}
 use Rattle.rustc_parse_format.specs.Placeholder.{cut}
 use Rattle.rustc_parse_format.specs.Source.{is_source}
 use Rattle.rustc_parse_format.proofs.Grammar.BarePieces.{bare-piece_in, bare-pieces_in}
@@ -53,12 +53,12 @@ placeholder_rest : (mode : Mode) (c b : ℕ) (t : Text)
 unfolding placeholder
 placeholder_rest mode c b t =
     let a = cut mode t in
-    let r : Text = behind_white a.rest in
+    let r : Text = after_white a.rest in
     let white : IsRest (b ∷ t) r =
-    IsRest-cons b (IsRest-trans (cut_rest mode t) (behind_white_rest a.rest)) in
+    IsRest-cons b (IsRest-trans (cut_rest mode t) (after_white_rest a.rest)) in
     cond_both {A = Call} (begins_with 125 r) (closed_call mode c (b ∷ t) a r)
     (unclosed_call mode c (b ∷ t) a r) (λ k. IsRest (b ∷ t) k.rest)
-    (λ e. IsRest-trans white (behind_first_rest r))
+    (λ e. IsRest-trans white (after_first_rest r))
     (λ e. IsRest-trans white
     (recovery_rest mode (number_after_field c a.field) (b ∷ t) (argument c a) r))
 
@@ -70,10 +70,10 @@ call_rest mode c (b ∷ t) =
     cond_both {A = Call} (is_brace b) _ _ (λ k. IsRest (b ∷ t) k.rest)
     (λ e. cond_both {A = Call} (begins_with b t) _ _ (λ k. IsRest (b ∷ t) k.rest)
     (λ d. IsRest-cons b
-    (IsRest-trans (behind_first_rest t) (behind_rest is_no_brace (behind_first t))))
+    (IsRest-trans (after_first_rest t) (after_rest is_no_brace (after_first t))))
     (λ d. cond_both {A = Call} (b == 123) _ _ (λ k. IsRest (b ∷ t) k.rest)
     (λ o. placeholder_rest mode c b t) (λ o. IsRest-cons b (IsRest-self t))))
-    (λ e. behind_rest is_no_brace (b ∷ t))
+    (λ e. after_rest is_no_brace (b ∷ t))
 
 -- A call in a source literal.
 pub call_reads_back : (s : State) (style : Option ℕ) (snippet : Text) (appended : Bool)
@@ -118,26 +118,26 @@ bare_faults-in : (w : World) (fs : List (Fault Span)) → map bare_fault (faults
 bare_faults-in w [] = refl
 bare_faults-in w (f ∷ fs) = rw (bare_fault-map (place_of w) f, bare_faults-in w fs) refl
 
-bare-told : {A : Type 0} (f : Fault A) → (bare_message (message f) ≡ message (bare_fault f))
+bare-report : {A : Type 0} (f : Fault A) → (bare_message (message f) ≡ message (bare_fault f))
     × (is_front (bare_fault f) ≡ is_front f)
 unfolding message
-bare-told (UnmatchedBrace s) = (refl, refl)
-bare-told (MissingBrace c s o) = (refl, refl)
-bare-told (FillBrace c s o) = (refl, refl)
-bare-told (Underscore s) = (refl, refl)
-bare-told (TooLarge ds s) = (refl, refl)
-bare-told (Unnamed s) = (refl, refl)
-bare-told (TextAfterColon s) = (refl, refl)
-bare-told (RawIdentifier s p) = (refl, refl)
-bare-told (LateFlag c s b) = (refl, refl)
-bare-told (MissingColon s) = (refl, refl)
-bare-told (LateDebug w s) = (refl, refl)
-bare-told (LateAlign c s) = (refl, refl)
-bare-told (Grouping s o) = (refl, refl)
-bare-told (DebugPrint s o) = (refl, refl)
-bare-told (LateSign s) = (refl, refl)
-bare-told (FieldAccess s) = (refl, refl)
-bare-told (TupleIndex s) = (refl, refl)
+bare-report (UnmatchedBrace s) = (refl, refl)
+bare-report (MissingBrace c s o) = (refl, refl)
+bare-report (FillBrace c s o) = (refl, refl)
+bare-report (Underscore s) = (refl, refl)
+bare-report (TooLarge ds s) = (refl, refl)
+bare-report (Unnamed s) = (refl, refl)
+bare-report (TextAfterColon s) = (refl, refl)
+bare-report (RawIdentifier s p) = (refl, refl)
+bare-report (LateFlag c s b) = (refl, refl)
+bare-report (MissingColon s) = (refl, refl)
+bare-report (LateDebug w s) = (refl, refl)
+bare-report (LateAlign c s) = (refl, refl)
+bare-report (Grouping s o) = (refl, refl)
+bare-report (DebugPrint s o) = (refl, refl)
+bare-report (LateSign s) = (refl, refl)
+bare-report (FieldAccess s) = (refl, refl)
+bare-report (TupleIndex s) = (refl, refl)
 
 bare-added : {A : Type 0} (b : Bool) (es : List (Message A)) (m : Message A)
     → map bare_message (cond b (m ∷ es) (es ++ m ∷ []))
@@ -152,7 +152,7 @@ bare_errors es [] = refl
 bare_errors es (f ∷ fs) =
     bare_errors (cond (is_front f) (message f ∷ es) (es ++ message f ∷ [])) fs
     ∙ ap (λ ms. add_errors ms (map bare_fault fs))
-    (rw ((bare-told f).1, ← (bare-told f).0) (bare-added (is_front f) es (message f)))
+    (rw ((bare-report f).1, ← (bare-report f).0) (bare-added (is_front f) es (message f)))
 
 pub after_errors : (s : State) (k : Call) → map bare_message (after s k).errors
     ≡ add_errors (map bare_message s.errors) (map bare_fault k.faults)
@@ -161,8 +161,8 @@ after_errors s k = bare_errors s.errors (faults_in s.world k.faults)
 
 -- How many go to the front does not either.
 front-map : (g : Span → Place) (f : Fault Span) → is_front (map_fault g f) ≡ is_front f
-front-map g f = sym (bare-told (map_fault g f)).1 ∙ ap is_front (bare_fault-map g f)
-    ∙ (bare-told f).1
+front-map g f = sym (bare-report (map_fault g f)).1 ∙ ap is_front (bare_fault-map g f)
+    ∙ (bare-report f).1
 
 one_in_front : {A B : Type 0} (b : Bool) (x : A) (y : B) (xs : List A) (ys : List B)
     → length xs ≡ length ys →
@@ -366,9 +366,9 @@ later P s k ks g f = by_piece k.piece g
     by_piece None e = rw e tt
     by_piece (Some p) w = f w
 
-pub rest_after : (s : State) (k : Call) → IsRest s.input s.rest → k ≡ next_call s
+pub rest_after_call : (s : State) (k : Call) → IsRest s.input s.rest → k ≡ next_call s
     → IsRest s.input k.rest
-rest_after s k r e = rw e (IsRest-trans r (call_rest s.mode s.next s.rest))
+rest_after_call s k r e = rw e (IsRest-trans r (call_rest s.mode s.next s.rest))
 
 pub walk_reads_back : (s : State) (ks : List Call) (style : Option ℕ) (snippet : Text)
     (appended : Bool) → IsRest s.input s.rest →
@@ -381,7 +381,7 @@ walk_reads_back s (k ∷ ks) style snippet appended r f w = (
       (call_reads_back s style snippet appended r f),
   later (λ x. AllSpans (λ m. ReadsBack s.input style snippet appended m (place_of s.world m)) x) s k
       ks w.1
-      (λ v. walk_reads_back (after s k) ks style snippet appended (rest_after s k r w.0)
+      (λ v. walk_reads_back (after s k) ks style snippet appended (rest_after_call s k r w.0)
       (record { is_source = f.is_source; world_is = f.world_is }) v),
 )
 
@@ -394,7 +394,7 @@ walk_inside s (k ∷ ks) style snippet appended r f w = (
   subst (AllSpans (λ m. IsInside snippet (place_of s.world m))) (sym w.0)
       (call_inside s style snippet appended r f),
   later (λ x. AllSpans (λ m. IsInside snippet (place_of s.world m)) x) s k ks w.1
-      (λ v. walk_inside (after s k) ks style snippet appended (rest_after s k r w.0)
+      (λ v. walk_inside (after s k) ks style snippet appended (rest_after_call s k r w.0)
       (record { is_source = f.is_source; world_is = f.world_is }) v),
 )
 

@@ -3,8 +3,8 @@
 use Rattle.std.proofs.Common.{◌≡◌, ◌≢◌, ℕ, suc, zero, ◌+◌, ◌≤◌, ◌<◌, ◌==◌, false, List, [], ◌∷◌}
 use Rattle.std.proofs.Common.{length, refl, sym, ◌∙◌, arith, Option, Some, None}
 use Rattle.std.proofs.lemmas.Bool.{cond_both}
-use Rattle.rustc_parse_format.specs.Characters.{Text, is_brace, is_no_brace, behind_white}
-use Rattle.rustc_parse_format.specs.Characters.{behind_first, begins_with}
+use Rattle.rustc_parse_format.specs.Characters.{Text, is_brace, is_no_brace, after_white}
+use Rattle.rustc_parse_format.specs.Characters.{after_first, begins_with}
 use Rattle.rustc_parse_format.specs.Marks.{Span}
 use Rattle.rustc_parse_format.specs.Types.{Mode, Piece}
 use Rattle.rustc_parse_format.specs.Placeholder.{cut}
@@ -12,8 +12,8 @@ use Rattle.rustc_parse_format.specs.Values.{number_after_field}
 use Rattle.rustc_parse_format.specs.Meaning.{argument}
 use Rattle.rustc_parse_format.specs.Call.{Call, call, placeholder, text_call, walk, walk_for}
 use Rattle.rustc_parse_format.specs.Call.{IsWalk, GoesOn}
-use Rattle.rustc_parse_format.proofs.Grammar.Rests.{IsRest-le, behind_rest, behind_first_rest}
-use Rattle.rustc_parse_format.proofs.Grammar.Rests.{behind_white_rest, cut_rest}
+use Rattle.rustc_parse_format.proofs.Grammar.Rests.{IsRest-le, after_rest, after_first_rest}
+use Rattle.rustc_parse_format.proofs.Grammar.Rests.{after_white_rest, cut_rest}
 use Rattle.rustc_parse_format.proofs.Grammar.Numbers.{number_after_field-le}
 use Rattle.rustc_parse_format.proofs.Readers.Recoveries.{recovery_rest, recovery_next-le}
 
@@ -24,16 +24,16 @@ placeholder_advances : (mode : Mode) (c b : ℕ) (t : Text)
     → Advances c (b ∷ t) (placeholder mode c (b ∷ t) t)
 unfolding placeholder
 placeholder_advances mode c b t =
-    let r = behind_white (cut mode t).rest in
+    let r = after_white (cut mode t).rest in
     let n = number_after_field c (cut mode t).field in
     let g = argument c (cut mode t) in
     let fewer : length r ≤ length (cut mode t).rest =
-    IsRest-le (behind_white_rest (cut mode t).rest) in
+    IsRest-le (after_white_rest (cut mode t).rest) in
     cond_both {A = Call} (begins_with 125 r) _ _ (Advances c (b ∷ t))
     (λ e. (
-      omega (arith, IsRest-le (behind_first_rest r), fewer, IsRest-le (cut_rest mode t)),
+      omega (arith, IsRest-le (after_first_rest r), fewer, IsRest-le (cut_rest mode t)),
       omega
-          (arith, IsRest-le (behind_first_rest r), fewer, number_after_field-le mode c t),
+          (arith, IsRest-le (after_first_rest r), fewer, number_after_field-le mode c t),
     ))
     (λ e. (
       omega (
@@ -45,25 +45,25 @@ placeholder_advances mode c b t =
       omega (arith, fewer, number_after_field-le mode c t, recovery_next-le mode n (b ∷ t) g r),
     ))
 
-literal_advances : (c b : ℕ) (l t : Text) → Advances c (b ∷ t) (text_call c l (behind_first t))
+literal_advances : (c b : ℕ) (l t : Text) → Advances c (b ∷ t) (text_call c l (after_first t))
 literal_advances c b l t = (
   omega (
     arith,
-    IsRest-le (behind_first_rest t),
-    IsRest-le (behind_rest is_no_brace (behind_first t)),
+    IsRest-le (after_first_rest t),
+    IsRest-le (after_rest is_no_brace (after_first t)),
   ),
   omega (
     arith,
-    IsRest-le (behind_first_rest t),
-    IsRest-le (behind_rest is_no_brace (behind_first t)),
+    IsRest-le (after_first_rest t),
+    IsRest-le (after_rest is_no_brace (after_first t)),
   ),
 )
 
 run_advances : (c b : ℕ) (t : Text) → is_brace b ≡ false
     → Advances c (b ∷ t) (text_call c [] (b ∷ t))
 run_advances c b t e = rw e (
-  omega (arith, IsRest-le (behind_rest is_no_brace t)),
-  omega (arith, IsRest-le (behind_rest is_no_brace t)),
+  omega (arith, IsRest-le (after_rest is_no_brace t)),
+  omega (arith, IsRest-le (after_rest is_no_brace t)),
 )
 
 call_advances : (mode : Mode) (c b : ℕ) (t : Text) → Advances c (b ∷ t) (call mode c (b ∷ t))

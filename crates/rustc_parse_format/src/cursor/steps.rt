@@ -2,7 +2,7 @@
 //! program runs.
 
 ghost use Rattle.std.specs.Prelude.{◌≡◌, ℕ, ◌+◌, ◌++◌, chars, length};
-ghost use Rattle.rustc_parse_format.specs.Characters.{Text, behind_first};
+ghost use Rattle.rustc_parse_format.specs.Characters.{Text, after_first};
 ghost use Rattle.std.specs.Borrow.{ftrue};
 
 use crate::characters::{before, first};
@@ -119,7 +119,7 @@ pub(super) fn count_before(text: &str, rest: &str) -> u64
 /// Returns the number of characters that a move past the next one passes: 1, or 0 if there is none.
 #[inline(always)]
 pub(super) fn count_next(text: &str) -> u64
-    ensures { result + length (behind_first (chars text.now)) ≡ length (chars text.now) }
+    ensures { result + length (after_first (chars text.now)) ≡ length (chars text.now) }
 {
     if first(text).is_some() { 1 } else { 0 }
 }

@@ -4,7 +4,7 @@ ghost use Rattle.std.specs.Prelude.{◌≡◌, ◌↔◌, ◌∷◌, ◌<◌, �
 ghost use Rattle.std.specs.Prelude.{IsTrue};
 ghost use Rattle.rustc_parse_format.specs.Bytes.{IsOfAscii, IsSharedFront};
 ghost use Rattle.rustc_parse_format.specs.Classes.{passes};
-ghost use Rattle.rustc_parse_format.specs.Characters.{Text, begins_with, behind, behind_first};
+ghost use Rattle.rustc_parse_format.specs.Characters.{Text, begins_with, rest_after, after_first};
 ghost use Rattle.rustc_parse_format.specs.Characters.{first, byte_length, front};
 ghost use Rattle.rustc_parse_format.specs.Literal.{IsContent};
 ghost use Rattle.rustc_parse_format.specs.LiteralReading.{SharePlain};
@@ -13,7 +13,7 @@ ghost use Rattle.rustc_parse_format.specs.SeenSource.{after_continuations, begin
 ghost use Rattle.rustc_parse_format.specs.SeenSource.{closed_by_quote, spelled_units};
 
 use crate::blocks::plain_front;
-use crate::characters::{Class, behind_first, first, split_run};
+use crate::characters::{Class, after_first, first, split_run};
 use std::marker::Model;
 
 /// The rest of a text.
@@ -73,10 +73,10 @@ impl<'a> Rest<'a> {
     #[inline(always)]
     pub fn next(&mut self) -> Option<char>
         ensures value { result ≡ first self.old }
-        ensures rest { self.new ≡ behind_first self.old }
+        ensures rest { self.new ≡ after_first self.old }
     {
         let first = self.peek();
-        self.text = behind_first(self.text);
+        self.text = after_first(self.text);
         first
     }
 
@@ -84,7 +84,7 @@ impl<'a> Rest<'a> {
     #[inline(always)]
     pub fn next_eq(&mut self, c: char) -> bool
         ensures value { result ≡ begins_with c self.old }
-        ensures rest { self.new ≡ behind_first self.old }
+        ensures rest { self.new ≡ after_first self.old }
     {
         self.next() == Some(c)
     }
@@ -105,7 +105,7 @@ impl<'a> Rest<'a> {
         ensures yes { IsTrue result → self.old ≡ byte ∷ self.new }
         ensures no { IsFalse result → self.new ≡ self.old }
     {
-        match behind_ascii(self.text, byte) {
+        match after_ascii(self.text, byte) {
             Some(rest) => {
                 self.text = rest;
                 true
@@ -120,7 +120,7 @@ impl<'a> Rest<'a> {
     pub fn take_run(&mut self, class: Class) -> &'a str
         requires { IsOfAscii (passes class) }
         ensures run { chars result.now ≡ front (passes class) self.old }
-        ensures rest { self.new ≡ behind (passes class) self.old }
+        ensures rest { self.new ≡ rest_after (passes class) self.old }
     {
         let (run, rest) = split_run(self.text, class);
         self.text = rest;
@@ -132,7 +132,7 @@ impl<'a> Rest<'a> {
     pub fn skip_plain(&mut self, other: &mut Rest<'_>)
         ensures { SharePlain self.old other.old self.new other.new }
     {
-        let (rest, left) = behind_plain(self.text, other.text);
+        let (rest, left) = after_plain(self.text, other.text);
         self.text = rest;
         other.text = left;
     }
@@ -142,7 +142,7 @@ impl<'a> Rest<'a> {
     pub fn begins_continuation(&self) -> bool
         ensures { result ≡ begins_continuation self.now }
     {
-        self.begins_with('\\') && first(behind_first(self.text)) == Some('\n')
+        self.begins_with('\\') && first(after_first(self.text)) == Some('\n')
     }
 
     /// Skips all string continuations at the start of the rest of a content with its closing quote.
@@ -153,7 +153,7 @@ impl<'a> Rest<'a> {
         ensures narrower { byte_length self.new ≤ byte_length self.old }
     {
         while self.begins_continuation() {
-            self.text = behind_first(behind_first(self.text));
+            self.text = after_first(after_first(self.text));
             self.skip_ws();
         }
     }
@@ -161,10 +161,10 @@ impl<'a> Rest<'a> {
     /// Skips the white space that belongs to a string continuation: all HT, LF, CR and space.
     #[inline(always)]
     pub fn skip_ws(&mut self)
-        ensures { self.new ≡ behind is_skipped self.old }
+        ensures { self.new ≡ rest_after is_skipped self.old }
     {
         while let Some('\t' | '\n' | '\r' | ' ') = self.peek() {
-            self.text = behind_first(self.text);
+            self.text = after_first(self.text);
         }
     }
 }
@@ -179,7 +179,7 @@ fn byte_count(text: &str) -> usize
 
 /// Returns the text after this ASCII character, or `None` if the text does not begin with it.
 #[inline(always)]
-fn behind_ascii(text: &str, byte: u8) -> Option<&str>
+fn after_ascii(text: &str, byte: u8) -> Option<&str>
     requires { byte < 128 }
     ensures { IfSome result (λ r. chars text.now ≡ byte ∷ chars r.now) }
 {
@@ -223,7 +223,7 @@ fn begin_alike(bytes: &[u8], others: &[u8]) -> bool {
 /// Returns the rests of both texts after the plain characters with which they begin alike. If they
 /// first differ inside a character, both rests begin with that character.
 #[inline(always)]
-fn behind_plain<'a, 'b>(text: &'a str, other: &'b str) -> (&'a str, &'b str)
+fn after_plain<'a, 'b>(text: &'a str, other: &'b str) -> (&'a str, &'b str)
     ensures { SharePlain (chars text.now) (chars other.now) (chars result.0.now)
         (chars result.1.now) }
 {

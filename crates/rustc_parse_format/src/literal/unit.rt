@@ -3,7 +3,7 @@
 ghost use Rattle.std.specs.Prelude.{◌≡◌, ◌∷◌, ◌<◌, [], IfSome, IsTrue, None, Some, chars};
 ghost use Rattle.std.specs.Prelude.{if◌then◌else◌, option_map};
 ghost use Rattle.std.specs.Char.{digit_value};
-ghost use Rattle.rustc_parse_format.specs.Characters.{Text, behind_first};
+ghost use Rattle.rustc_parse_format.specs.Characters.{Text, after_first};
 ghost use Rattle.rustc_parse_format.specs.LiteralUnits.{at_most_one, byte_at, escape_at, escaped};
 ghost use Rattle.rustc_parse_format.specs.LiteralUnits.{is_hex, is_octal, meaning, unicode_at};
 ghost use Rattle.rustc_parse_format.specs.LiteralUnits.{unit_at};
@@ -39,7 +39,7 @@ fn read_byte(rest: &mut Rest<'_>) -> Option<char>
 #[inline(always)]
 pub fn is_newline_escape(text: &str) -> bool
     ensures { IsTrue result → chars text.now ≡ 92 ∷ 110
-        ∷ behind_first (behind_first (chars text.now)) }
+        ∷ after_first (after_first (chars text.now)) }
 {
     let bytes = text.as_bytes();
     if bytes.len() < 2 {
@@ -159,8 +159,8 @@ fn read_escape(rest: &mut Rest<'_>) -> Option<Option<char>>
 pub fn read_unit(rest: &mut Rest<'_>) -> Option<Option<char>>
     ensures { meaning (unit_at rest.old) ≡ option_map (λ v. (at_most_one v, rest.new)) result }
 {
-    if let Some((byte, behind)) = byte_escape(rest.text()) {
-        *rest = Rest::new(behind);
+    if let Some((byte, rest_after)) = byte_escape(rest.text()) {
+        *rest = Rest::new(rest_after);
         return Some(Some(byte as char));
     }
     if is_newline_escape(rest.text()) {

@@ -17,7 +17,7 @@
 ghost use Rattle.std.specs.Prelude.{◌≡◌, ◌≤◌, ◌<◌, ◌-◌, ◌∷◌, List, ℕ, chars, drop, length, true};
 ghost use Rattle.std.specs.Str.{is_utf8};
 ghost use Rattle.rustc_parse_format.specs.Bytes.{IsLeft};
-ghost use Rattle.rustc_parse_format.specs.Characters.{Text, behind_first};
+ghost use Rattle.rustc_parse_format.specs.Characters.{Text, after_first};
 ghost use Rattle.rustc_parse_format.specs.Literal.{IsContent};
 ghost use Rattle.rustc_parse_format.specs.LiteralUnits.{LiteralUnit};
 ghost use Rattle.rustc_parse_format.specs.Seen.{pair};
@@ -25,7 +25,7 @@ ghost use Rattle.rustc_parse_format.specs.SeenSource.{IsAnchor, IsHere, IsUnesca
 ghost use Rattle.rustc_parse_format.specs.SeenSource.{character_width, closed_by_quote, gap};
 ghost use Rattle.rustc_parse_format.specs.World.{World, place_at};
 
-use crate::characters::{Class, behind_first, first, run_width};
+use crate::characters::{Class, after_first, first, run_width};
 use crate::literal::{Rest, is_newline_escape, read_unit};
 use std::ops::Range;
 
@@ -103,7 +103,7 @@ fn character_at(snippet: &str, at: usize) -> CharacterEnd
     ensures stop { (w : World) (c : ℕ) (rest : Text) → IsHere snippet.now w (c ∷ rest) at
         → result.stop ≡ (place_at w (length (c ∷ rest))).1 }
     ensures after { (w : World) (rest : Text) → IsHere snippet.now w rest at
-        → IsHere snippet.now w (behind_first rest) result.next }
+        → IsHere snippet.now w (after_first rest) result.next }
 {
     let text = &snippet[at..];
     let width = character_width(text);
@@ -134,7 +134,7 @@ fn unescaped_width(snippet: &str, at: usize) -> usize
 /// Returns the suffix of `text` after this number of bytes, or after fewer if they end inside a
 /// character. If that is shorter than `rest`, another suffix of `text`, returns `rest`.
 #[inline(always)]
-fn behind_bytes<'a>(text: &'a str, bytes: usize, rest: &'a str) -> &'a str
+fn after_bytes<'a>(text: &'a str, bytes: usize, rest: &'a str) -> &'a str
     requires { IsLeft text.now rest.now }
     ensures after { IsLeft text.now result.now }
     ensures over { IsLeft result.now rest.now }
@@ -165,20 +165,20 @@ impl<'input> Anchor<'input> {
     /// Skips the bytes that stand for themselves, at most up to `rest`, and the continuations after
     /// them. Returns the rest of the input there, and its byte offset in the snippet.
     #[inline(always)]
-    fn behind_unescaped(&self, snippet: &str, rest: &'input str) -> (&'input str, usize)
+    fn after_unescaped(&self, snippet: &str, rest: &'input str) -> (&'input str, usize)
         requires { Leads snippet.now self.now rest.now }
         ensures after { IsLeft result.0.now rest.now }
         ensures shorter { length result.0.now ≤ length self.now.rest.now }
         ensures here { (w : World) → IsAnchor snippet.now w self.now
             → IsHere snippet.now w (chars result.0.now) result.1 }
     {
-        let behind = behind_bytes(self.rest, self.unescaped, rest);
-        let moved = self.rest.len() - behind.len();
+        let rest_after = after_bytes(self.rest, self.unescaped, rest);
+        let moved = self.rest.len() - rest_after.len();
         let offset = self.offset + moved;
         if moved == 0 || moved < self.unescaped {
-            return (behind, offset);
+            return (rest_after, offset);
         }
-        (behind, offset + continuations_width(&snippet[offset..]))
+        (rest_after, offset + continuations_width(&snippet[offset..]))
     }
 
     /// Returns the byte offset of `rest` in the snippet, by reading the snippet: in turn, bytes
@@ -189,10 +189,10 @@ impl<'input> Anchor<'input> {
         ensures { (w : World) → IsAnchor snippet.now w self.now
             → IsHere snippet.now w (chars rest.now) result }
     {
-        let mut at = self.behind_unescaped(snippet, rest);
+        let mut at = self.after_unescaped(snippet, rest);
         while at.0.len() > rest.len() {
             let next = character_at(snippet, at.1).next;
-            at = Anchor::new(snippet, behind_first(at.0), next).behind_unescaped(snippet, rest);
+            at = Anchor::new(snippet, after_first(at.0), next).after_unescaped(snippet, rest);
         }
         at.1
     }
@@ -239,26 +239,26 @@ impl<'input> Anchor<'input> {
     }
 
     /// Returns the byte range in the snippet of the first character of `rest`, and the anchor after
-    /// it, where `behind` starts.
+    /// it, where `rest_after` starts.
     #[inline(never)]
     fn pass_by_look(
         &self,
         snippet: &str,
         rest: &'input str,
-        behind: &'input str,
+        rest_after: &'input str,
     ) -> (Range<usize>, Anchor<'input>)
         requires leads { Leads snippet.now self.now rest.now }
         requires some { length rest.now ≡ 0 → ⊥ }
-        requires behind { chars behind.now ≡ behind_first (chars rest.now) }
+        requires rest_after { chars rest_after.now ≡ after_first (chars rest.now) }
         ensures place { (w : World) → IsAnchor snippet.now w self.now
             → pair result.0 ≡ place_at w (length (chars rest.now)) }
-        ensures after { result.1.rest.now ≡ behind.now }
+        ensures after { result.1.rest.now ≡ rest_after.now }
         ensures here { (w : World) → IsAnchor snippet.now w self.now
             → IsAnchor snippet.now w result.1 }
     {
         let start = self.offset_of(snippet, rest);
         let CharacterEnd { stop, next } = character_at(snippet, start);
-        (start..stop, Anchor::new(snippet, behind, next))
+        (start..stop, Anchor::new(snippet, rest_after, next))
     }
 
     /// Returns the byte range in the snippet of the first character of `rest`, and the text after
@@ -269,20 +269,20 @@ impl<'input> Anchor<'input> {
         requires some { length rest.now ≡ 0 → ⊥ }
         ensures place { (w : World) → IsAnchor snippet.now w self.old
             → pair result.0 ≡ place_at w (length (chars rest.now)) }
-        ensures rest { chars result.1.now ≡ behind_first (chars rest.now) }
+        ensures rest { chars result.1.now ≡ after_first (chars rest.now) }
         ensures left { (input : List ℕ) → IsLeft input rest.now → IsLeft input result.1.now }
         ensures after { IsLeft self.new.rest.now result.1.now }
         ensures here { (w : World) → IsAnchor snippet.now w self.old
             → IsAnchor snippet.now w self.new }
     {
-        let behind = behind_first(rest);
-        let moved = self.rest.len() - behind.len();
+        let rest_after = after_first(rest);
+        let moved = self.rest.len() - rest_after.len();
         if moved <= self.unescaped {
             let start = self.offset + (self.rest.len() - rest.len());
-            return (start..self.offset + moved, behind);
+            return (start..self.offset + moved, rest_after);
         }
-        let (place, anchor) = self.pass_by_look(snippet, rest, behind);
+        let (place, anchor) = self.pass_by_look(snippet, rest, rest_after);
         *self = anchor;
-        (place, behind)
+        (place, rest_after)
     }
 }

@@ -10,13 +10,13 @@ struct Row {
     words: &'static [&'static str],
     input: &'static [u8],
     lines: &'static [u8],
-    told: bool,
+    report: bool,
 }
 
 /// Each of these rows is so.
 fn check_rows(rt: &impl Abort, alloc: Global, rows: &[Row]) -> Result<(), Fail> {
     for row in rows {
-        check_answer(rt, alloc, row.words, row.input, Ok(row.told), row.lines)?;
+        check_answer(rt, alloc, row.words, row.input, Ok(row.report), row.lines)?;
     }
     Ok(())
 }
@@ -26,54 +26,54 @@ const BEHIND_PIECES: &[Row] = &[
         words: &["format", "--args", "2,w,z"],
         input: b"{}{:w$}{q}",
         lines: b"arg implicit 0 2..2\narg implicit 1 4..4 width=name:w@5..6@5..7\narg name q 9..10\nmissing name \"q\"\nunused name \"z\"\n",
-        told: true,
+        report: true,
     },
     Row {
         words: &["format", "--args", "2"],
         input: b"{2}{}{}{2}",
         lines: b"arg index 2 2..3\narg implicit 0 5..5\narg implicit 1 7..7\narg index 2 9..10\nmissing index 2\n",
-        told: true,
+        report: true,
     },
     Row {
         words: &["diagnostic-named", "--args", "2"],
         input: b"{a:b}{}",
         lines: b"arg name a 2..3 ty=\"b\"@3..5\narg implicit 0 7..7\nfault 3..5 format specifiers are not allowed\nfault 7..7 expected a named argument\nmissing name \"a\"\nunused index 1\n",
-        told: true,
+        report: true,
     },
     Row {
         words: &["asm", "--args", "2,a,b,a"],
         input: b"",
         lines: b"unused index 0\nunused index 1\nunused name \"a\"\nunused name \"b\"\n",
-        told: true,
+        report: true,
     },
     Row {
         words: &["format", "--args", "00004,a b"],
         input: b"{a}",
         lines: b"arg name a 2..3\nmissing name \"a\"\nunused index 0\nunused index 1\nunused index 2\nunused index 3\nunused name \"a b\"\n",
-        told: true,
+        report: true,
     },
     Row {
         words: &["diagnostic", "--args", "0,e"],
         input: b"{e:}",
         lines: b"arg name e 2..3 ty=\"\"@3..4\n",
-        told: false,
+        report: false,
     },
     Row {
         words: &["format", "--args", "1,rr"],
         input: b"{rr}{}",
         lines: b"arg name rr 2..4\narg implicit 0 6..6\n",
-        told: false,
+        report: false,
     },
     Row {
         words: &["format", "--args", "0"],
         input: b"",
         lines: b"",
-        told: false,
+        report: false,
     },
 ];
 
 #[test]
-fn lists_the_report_behind_the_pieces(rt: HostRuntime) -> Result<(), Fail> {
+fn lists_the_report_after_the_pieces(rt: HostRuntime) -> Result<(), Fail> {
     check_rows(&rt, rt.alloc(), BEHIND_PIECES)
 }
 
@@ -82,18 +82,18 @@ const BEHIND_FAULTS: &[Row] = &[
         words: &["format", "--args", "1"],
         input: b"{foo.}{}",
         lines: b"arg name foo 2..5\narg implicit 1 8..8\nfault 5..5 expected `}`, found `.`\nmissing index 1\nmissing name \"foo\"\nunused index 0\n",
-        told: true,
+        report: true,
     },
     Row {
         words: &["format", "--args", "1"],
         input: b"{00.*}",
         lines: b"arg index 0 2..4\nlit \".*\"\nfault 4..4 expected `}`, found `.`\nfault 6..7 unmatched `}` found\n",
-        told: true,
+        report: true,
     },
 ];
 
 #[test]
-fn lists_the_report_behind_the_faults(rt: HostRuntime) -> Result<(), Fail> {
+fn lists_the_report_after_the_faults(rt: HostRuntime) -> Result<(), Fail> {
     check_rows(&rt, rt.alloc(), BEHIND_FAULTS)
 }
 
@@ -102,14 +102,14 @@ const ON_A_LITERAL: &[Row] = &[
         words: &["format", "--literal", "--args", "03"],
         input: b"\"\"",
         lines: b"unused index 0\nunused index 1\nunused index 2\n",
-        told: true,
+        report: true,
     },
     Row {
         words: &["format", "--literal", "--args", "3,\u{5b57}\u{540d},a,self"],
         input: b"\"\\x7B9\"",
         lines: b"arg index 9 5..6\nfault 6..6 expected `}` but string was terminated\nmissing index 9\n\
                 unused index 0\nunused index 1\nunused index 2\nunused name \"\xE5\xAD\x97\xE5\x90\x8D\"\nunused name \"a\"\nunused name \"self\"\n",
-        told: true,
+        report: true,
     },
 ];
 

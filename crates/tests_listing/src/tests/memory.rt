@@ -20,7 +20,7 @@ struct Row {
     words: &'static [&'static str],
     input: &'static [u8],
     lines: &'static [&'static str],
-    told: bool,
+    report: bool,
 }
 
 const ROWS: &[Row] = &[
@@ -28,7 +28,7 @@ const ROWS: &[Row] = &[
         words: &["format"],
         input: b"hi {name}{}",
         lines: &["lit \"hi \"", "arg name name 5..9", "arg implicit 0 11..11"],
-        told: false,
+        report: false,
     },
     Row {
         words: &["format"],
@@ -39,7 +39,7 @@ const ROWS: &[Row] = &[
             "fault 2..5 raw identifiers are not supported",
             "fault 6..6 expected `}` but string was terminated",
         ],
-        told: true,
+        report: true,
     },
     Row {
         words: &["format"],
@@ -50,7 +50,7 @@ const ROWS: &[Row] = &[
             "lit \"{\"",
             "arg implicit 0 10..10",
         ],
-        told: false,
+        report: false,
     },
     Row {
         words: &["format"],
@@ -60,7 +60,7 @@ const ROWS: &[Row] = &[
             "arg implicit 2 4..4 precision=star:1@5..7",
             "arg implicit 3 9..9",
         ],
-        told: false,
+        report: false,
     },
     Row {
         words: &["format"],
@@ -72,7 +72,7 @@ const ROWS: &[Row] = &[
             "fault 7..7 expected `}`, found `#`",
             "fault 8..9 unmatched `}` found",
         ],
-        told: true,
+        report: true,
     },
     Row {
         words: &["format"],
@@ -83,7 +83,7 @@ const ROWS: &[Row] = &[
             "fault 6..11 raw identifiers are not supported",
             "fault 5..5 expected `}`, found `.`",
         ],
-        told: true,
+        report: true,
     },
     Row {
         words: &["diagnostic-named"],
@@ -94,7 +94,7 @@ const ROWS: &[Row] = &[
             "fault 5..5 expected `}`, found `.`",
             "fault 6..7 expected a named argument",
         ],
-        told: true,
+        report: true,
     },
     Row {
         words: &["format", "--args", "1,y"],
@@ -105,19 +105,19 @@ const ROWS: &[Row] = &[
             "missing index 1",
             "missing name \"x\"",
         ],
-        told: true,
+        report: true,
     },
     Row {
         words: &["format", "--literal"],
         input: b"\"{foo\\\n  }\"",
         lines: &["arg name foo 2..9"],
-        told: false,
+        report: false,
     },
     Row {
         words: &["diagnostic", "--literal"],
         input: b"\"{a:x\\ny}\"",
         lines: &["arg name a 2..3 ty=\"x\\ny\"@3..8"],
-        told: false,
+        report: false,
     },
 ];
 
@@ -145,7 +145,7 @@ fn is_listed(text: &[u8], lines: &[&str]) -> bool {
             .strip_prefix(*line)
             .and_then(|rest| rest.strip_prefix('\n'))
         {
-            Some(behind) => rest = behind,
+            Some(rest_after) => rest = rest_after,
             None => return false,
         }
     }
@@ -164,7 +164,7 @@ fn check_row(rt: &(impl Abort + Print), alloc: Global, row: Row) -> Result<(), F
         reader = row.input;
         answer = run(alloc, &mut reader, &mut sheet, words.as_slice());
     }
-    assert_eq!(rt; answer, Ok(row.told));
+    assert_eq!(rt; answer, Ok(row.report));
     assert!(rt; is_listed(sheet.text(), row.lines));
     assert!(rt; reader.is_empty());
     Ok(())

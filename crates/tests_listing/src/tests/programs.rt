@@ -7,26 +7,26 @@ use std::process::Abort;
 use std::test::Fail;
 
 /// What is written on standard output, what is said on standard error, and the status.
-type Told<'a> = (&'a [u8], &'a str, u8);
+type Answer<'a> = (&'a [u8], &'a str, u8);
 
 /// This was written, and the verdict on the answer itself says so.
 fn check_verdict(
     rt: &impl Abort,
     answer: &Result<bool, RunFault>,
     written: &[u8],
-    wanted: Told<'_>,
+    wanted: Answer<'_>,
 ) {
     let (text, status) = verdict(answer);
     assert_eq!(rt; (written, text, status), wanted);
 }
 
-/// A run with these words on this input tells so.
+/// A run with these words on this input gives the answer.
 fn check_run(
     rt: &impl Abort,
     alloc: Global,
     words: &[&str],
     input: &[u8],
-    wanted: Told<'_>,
+    wanted: Answer<'_>,
 ) -> Result<(), Fail> {
     let mut reader = input;
     let mut written = Vec::new(alloc);
@@ -35,8 +35,8 @@ fn check_run(
     Ok(())
 }
 
-/// Words and an input, and what is told.
-const RUNS: &[(&[&str], &[u8], Told<'static>)] = &[
+/// Words and an input, and the answer.
+const RUNS: &[(&[&str], &[u8], Answer<'static>)] = &[
     (
         &["format"],
         b"{:*>8.w$x?}",
@@ -71,10 +71,10 @@ const RUNS: &[(&[&str], &[u8], Told<'static>)] = &[
     ),
 ];
 
-const NO_LITERAL: Told<'static> = (b"", "formatread: input is not a string literal", 2);
+const NO_LITERAL: Answer<'static> = (b"", "formatread: input is not a string literal", 2);
 
 #[test]
-fn tells_each_run(rt: HostRuntime) -> Result<(), Fail> {
+fn gives_each_run(rt: HostRuntime) -> Result<(), Fail> {
     for (words, input, wanted) in RUNS {
         check_run(&rt, rt.alloc(), words, input, *wanted)?;
     }

@@ -4,7 +4,7 @@ use std::alloc::{AllocError, Global};
 use std::process::Abort;
 use std::test::Fail;
 
-/// A mark, the two offsets, and both behind the letter `x`.
+/// A mark, the two offsets, and both after the letter `x`.
 const SPANS: &[(char, usize, usize, &str)] = &[
     ('@', 0, 0, "x@0..0"),
     (' ', 9, 10, "x 9..10"),
@@ -17,7 +17,7 @@ const SPANS: &[(char, usize, usize, &str)] = &[
     ),
 ];
 
-/// The letter `x` with a mark and two offsets behind it.
+/// The letter `x` with a mark and two offsets after it.
 fn marked(
     rt: &impl Abort,
     alloc: Global,

@@ -21,7 +21,7 @@ pub enum AsmSpot {
         template: usize,
         /// The offset of the first byte.
         start: usize,
-        /// The offset behind the last byte.
+        /// The offset after the last byte.
         end: usize,
     },
 }
@@ -29,7 +29,7 @@ pub enum AsmSpot {
 /// What is wrong with a call. An operand and a template are named by their index among all that are
 /// given.
 pub enum AsmFault<'a> {
-    /// An operand without a name and without a register of its own stands behind one that has one
+    /// An operand without a name and without a register of its own stands after one that has one
     /// of them.
     PositionalAfter {
         /// The operand.

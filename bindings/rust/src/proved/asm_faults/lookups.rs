@@ -195,7 +195,7 @@ fn places_after<'p>(places: &'p [Range<usize>], piece: &Piece<'_>) -> &'p [Range
 //     ≡ map seen_lookup walk.old.lookups.items
 //     ++ piece_lookups template walk.old.next (map pair places.now) (map seen pieces.now)) }
 // ensures next { OnOk result (walk.new.next
-//     ≡ next_behind walk.old.next (map seen pieces.now)) }
+//     ≡ next_after_pieces walk.old.next (map seen pieces.now)) }
 // ensures few { OnOk result (walk.new.next ≤ length walk.new.lookups.items) }
 #[inline]
 pub(crate) fn push_pieces<'a>(

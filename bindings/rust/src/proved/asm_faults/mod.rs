@@ -1,5 +1,5 @@
 //! What is wrong with the templates of inline assembly and the operands of their call, as rustc
-//! tells it.
+//! reports it.
 
 // Extracted from crates/asm_faults/src/lib.rt by tools/extract: not to be edited.
 // That source is proved, and each contract here is its. That this text means the same is tested:

@@ -65,10 +65,10 @@ fn insert<'a>(
 }
 
 /// Adds an operand without a name and without a register of its own, and its fault if it stands
-/// behind one that has one of them. Returns `Err` if an allocation fails.
+/// after one that has one of them. Returns `Err` if an allocation fails.
 // ensures held { OnOk result ((ss : List OperandValue) → Holds ss operands.old
 //     → Holds (ss ++ Unnamed ∷ []) operands.new) }
-// ensures told { OnOk result ((ss : List OperandValue) → Holds ss operands.old
+// ensures outcome { OnOk result ((ss : List OperandValue) → Holds ss operands.old
 //     → map seen_fault faults.new.items ≡ map seen_fault faults.old.items
 //     ++ faults_of ss index Unnamed) }
 #[inline]
@@ -89,7 +89,7 @@ fn add_unnamed<'a>(
 // ensures held { OnOk result ((ss : List OperandValue) → Holds ss operands.old
 //     → index ≡ length ss
 //     → Holds (ss ++ slot ss (Named (chars name.now)) ∷ []) operands.new) }
-// ensures told { OnOk result ((ss : List OperandValue) → Holds ss operands.old
+// ensures outcome { OnOk result ((ss : List OperandValue) → Holds ss operands.old
 //     → map seen_fault faults.new.items ≡ map seen_fault faults.old.items
 //     ++ faults_of ss index (Named (chars name.now))) }
 #[inline]
@@ -120,7 +120,7 @@ fn add_named<'a>(
 /// allocation fails.
 // ensures held { OnOk result ((ss : List OperandValue) → Holds ss operands.old
 //     → Holds (ss ++ Register has_name ∷ []) operands.new) }
-// ensures told { OnOk result ((ss : List OperandValue) → Holds ss operands.old
+// ensures outcome { OnOk result ((ss : List OperandValue) → Holds ss operands.old
 //     → map seen_fault faults.new.items ≡ map seen_fault faults.old.items
 //     ++ faults_of ss index (Register has_name)) }
 #[inline]
@@ -142,7 +142,7 @@ fn add_register<'a>(
 // ensures held { OnOk result ((ss : List OperandValue) → Holds ss operands.old
 //     → index ≡ length ss
 //     → Holds (ss ++ slot ss (seen_operand operand.entry) ∷ []) operands.new) }
-// ensures told { OnOk result ((ss : List OperandValue) → Holds ss operands.old
+// ensures outcome { OnOk result ((ss : List OperandValue) → Holds ss operands.old
 //     → map seen_fault faults.new.items ≡ map seen_fault faults.old.items
 //     ++ faults_of ss index (seen_operand operand.entry)) }
 #[inline]
@@ -173,7 +173,7 @@ pub(crate) fn operand_at<'a>(operands: &[Operand<'a>], index: usize) -> Option<O
 /// Returns operands as placeholders refer to them, and adds the faults of their list. Returns `Err`
 /// if an allocation fails.
 // ensures held { IfOk result (λ a. Holds (slots_after [] (map seen_operand given.now)) a) }
-// ensures told { OnOk result (map seen_fault faults.new.items ≡ map seen_fault faults.old.items
+// ensures outcome { OnOk result (map seen_fault faults.new.items ≡ map seen_fault faults.old.items
 //     ++ faults_from [] 0 (map seen_operand given.now)) }
 #[inline]
 pub(crate) fn operands_of<'a>(

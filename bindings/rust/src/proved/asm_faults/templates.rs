@@ -60,7 +60,7 @@ fn fault_of<'a>(alloc: Global, template: Template<'a>) -> Result<Option<Fault<'a
 //     ≡ map seen_lookup walk.old.lookups.items
 //     ++ template_lookups index walk.old.next (seen_template template.entry)) }
 // ensures next { OnOk result (walk.new.next
-//     ≡ next_behind_template walk.old.next (seen_template template.entry)) }
+//     ≡ next_after_template walk.old.next (seen_template template.entry)) }
 // ensures few { OnOk result (walk.new.next ≤ length walk.new.lookups.items) }
 #[inline]
 fn push_template<'a>(

@@ -36,7 +36,7 @@ pub struct Checked<'a> {
     /// The arguments that are given.
     pub given: &'a [Given<'a>],
     /// The indices of the arguments that count: of those whose name is not that of an earlier one.
-    /// Empty if an argument without a name behind one with a name ended the check.
+    /// Empty if an argument without a name after one with a name ended the check.
     pub kept: Vec<usize>,
     /// The pieces of the format string.
     pub pieces: Vec<Piece<'a>>,
@@ -44,7 +44,7 @@ pub struct Checked<'a> {
     pub counts: Vec<usize>,
     /// The parser after them, which has the places of the placeholders.
     pub parser: Parser<'a>,
-    /// What is wrong, in the order in which rustc tells it.
+    /// What is wrong, in the order in which rustc reports it.
     pub faults: Vec<CallFault<'a>>,
 }
 
@@ -120,7 +120,7 @@ fn faults_of<'a>(
 
 /// Checks a call of a macro that takes a format string: reads the string, compares its placeholders
 /// with the arguments that are given, in the order of the source, and returns its pieces and what
-/// is wrong, as rustc tells it. A placeholder's spans are those of the parser.
+/// is wrong, as rustc reports it. A placeholder's spans are those of the parser.
 ///
 /// The number of hashes, the length of the text in bytes, and 2 must together fit into a `usize`.
 /// Returns `Err` if an allocation fails.

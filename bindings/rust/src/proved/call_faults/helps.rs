@@ -124,10 +124,10 @@ fn redundant_help(
     Ok(Some(CallHelp { text, edits }))
 }
 
-/// Returns what is behind a name in a part of a placeholder.
-// ensures { result.now ≡ behind_name part }
+/// Returns what is after a name in a part of a placeholder.
+// ensures { result.now ≡ after_name part }
 #[inline]
-fn behind_name(part: Part) -> &'static str {
+fn after_name(part: Part) -> &'static str {
     match part {
         Part::Position => "",
         Part::Precision | Part::Width => "$",
@@ -140,7 +140,7 @@ fn behind_name(part: Part) -> &'static str {
 #[inline]
 fn name_in(alloc: Global, part: Part, name: &str) -> Result<String, AllocError> {
     let mut text = String::made_from(alloc, name)?;
-    text.try_push_str(behind_name(part))?;
+    text.try_push_str(after_name(part))?;
     Ok(text)
 }
 

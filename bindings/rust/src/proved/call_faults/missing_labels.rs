@@ -8,7 +8,7 @@
 use crate::proved::call_faults::checker::Checked;
 use crate::proved::call_faults::faults::Missing;
 use crate::proved::call_faults::spots::{
-    behind, first_spot, push_plain, push_secondary, reference_spot, spot_of, CallLabel, Spot,
+    first_spot, push_plain, push_secondary, reference_spot, rest_after, spot_of, CallLabel, Spot,
 };
 use crate::proved::call_faults::titles::put_number;
 use crate::proved::rustc_parse_format::{Count, Piece, Position};
@@ -83,7 +83,7 @@ fn push_nexts(
     let mut left = places;
     for piece in pieces {
         push_next(labels, piece, left)?;
-        left = behind(piece, left);
+        left = rest_after(piece, left);
     }
     Ok(())
 }

@@ -1,4 +1,4 @@
-//! What is wrong with a format string and the arguments of its call, as rustc tells it.
+//! What is wrong with a format string and the arguments of its call, as rustc reports it.
 
 // Extracted from crates/call_faults/src/lib.rt by tools/extract: not to be edited.
 // That source is proved, and each contract here is its. That this text means the same is tested:

@@ -20,7 +20,7 @@ pub enum Spot {
     Name(usize),
     /// The value of an argument: its expression.
     Value(usize),
-    /// The value of an argument, and what is behind it up to the value of the next one.
+    /// The value of an argument, and what is after it up to the value of the next one.
     ValueUpToNext(usize),
     /// The empty range after the value of an argument.
     ValueEnd(usize),
@@ -36,7 +36,7 @@ pub enum Spot {
     Bytes {
         /// The offset of the first byte.
         start: usize,
-        /// The offset behind the last byte.
+        /// The offset after the last byte.
         end: usize,
     },
 }
@@ -150,7 +150,7 @@ pub(crate) fn spot_of(span: &Option<Range<usize>>) -> Spot {
     }
 }
 
-/// Returns the placeholder with an index among pieces, or `None` if that is text or behind the end.
+/// Returns the placeholder with an index among pieces, or `None` if that is text or after the end.
 // ensures { option_map (λ a. seen_argument a.now) result
 //     ≡ placeholder_at (map seen pieces.now) index }
 #[inline]
@@ -226,10 +226,10 @@ pub(crate) fn type_spot(pieces: &[Piece<'_>], index: usize) -> Spot {
     }
 }
 
-/// Returns the places of the placeholders behind a piece, from those from that piece on.
-// ensures { map pair result.now ≡ behind (seen piece.now) (map pair places.now) }
+/// Returns the places of the placeholders after a piece, from those from that piece on.
+// ensures { map pair result.now ≡ rest_after (seen piece.now) (map pair places.now) }
 #[inline]
-pub(crate) fn behind<'p>(piece: &Piece<'_>, places: &'p [Range<usize>]) -> &'p [Range<usize>] {
+pub(crate) fn rest_after<'p>(piece: &Piece<'_>, places: &'p [Range<usize>]) -> &'p [Range<usize>] {
     match piece {
         Piece::Lit(_) => places,
         Piece::NextArgument(_) => match places {
@@ -289,9 +289,9 @@ fn place_spot(counts: &[usize], places: &[Range<usize>], index: usize) -> Spot {
 }
 
 /// Returns a range without its first byte, which is the dot of a precision.
-// ensures { result ≡ behind_dot (option_map pair span.now) }
+// ensures { result ≡ after_dot (option_map pair span.now) }
 #[inline]
-fn behind_dot(span: &Option<Range<usize>>) -> Spot {
+fn after_dot(span: &Option<Range<usize>>) -> Spot {
     match span {
         None => Spot::Literal,
         Some(span) => Spot::Bytes {
@@ -315,7 +315,7 @@ pub(crate) fn use_spot(
         None => Spot::Literal,
         Some(argument) => match reference.part {
             Part::Position => place_spot(counts, places, reference.piece),
-            Part::Precision => behind_dot(&argument.format.precision_span),
+            Part::Precision => after_dot(&argument.format.precision_span),
             Part::Width => spot_of(&argument.format.width_span),
         },
     }
@@ -330,7 +330,7 @@ pub(crate) fn index_spot(pieces: &[Piece<'_>], reference: Reference) -> Spot {
         None => Spot::Literal,
         Some(argument) => match reference.part {
             Part::Position => bytes_at(&argument.position_span),
-            Part::Precision => behind_dot(&argument.format.precision_span),
+            Part::Precision => after_dot(&argument.format.precision_span),
             Part::Width => spot_of(&argument.format.width_span),
         },
     }

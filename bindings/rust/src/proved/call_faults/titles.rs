@@ -72,7 +72,7 @@ pub(crate) fn put_noun(out: &mut String, noun: &str, count: usize) -> Result<(),
     Ok(())
 }
 
-/// Adds what stands between a number and those behind it.
+/// Adds what stands between a number and those after it.
 // ensures { OnOk result (string_bytes out.new ≡ string_bytes out.old ++ separator others.now) }
 #[inline]
 fn put_separator(out: &mut String, others: &[usize]) -> Result<(), AllocError> {
@@ -277,7 +277,7 @@ impl<'a> Checked<'a> {
     /// an allocation fails; a part may then be at the end of `out`.
     // ensures { OnOk result ((r : Report) → IsReport (uses (map seen self.now.pieces.items))
     //     (length self.now.kept.items) [] r → string_bytes out.new ≡ string_bytes out.old
-    //     ++ title (told self.now r.missing_index) (seen_fault fault.now)) }
+    //     ++ title (title_parts self.now r.missing_index) (seen_fault fault.now)) }
     #[inline]
     pub fn put_title(&self, out: &mut String, fault: &CallFault<'a>) -> Result<(), AllocError> {
         match fault {

@@ -16,7 +16,7 @@ use crate::proved::drawn_faults::glyphs::{put_painted_run, put_run, split_first,
 use crate::proved::drawn_faults::labels::{Edit, Frame};
 use crate::proved::drawn_faults::lines::put_parting;
 use crate::proved::drawn_faults::paint::{Gutter, Palette, Style};
-use crate::proved::drawn_faults::places::behind_lines;
+use crate::proved::drawn_faults::places::after_lines;
 use crate::proved::drawn_faults::rows::put_gutter;
 use crate::shim::alloc::{AllocError, Global};
 use crate::shim::prelude::*;
@@ -198,7 +198,7 @@ fn columns_of(text: &str) -> Result<usize, AllocError> {
 /// signs the addition ends.
 // ensures added { OnOk result (string_bytes out.new
 //     ≡ string_bytes out.old ++ pluses palette gap text.now) }
-// ensures value { IfOk result (λ n. n ≡ behind_pluses text.now) }
+// ensures value { IfOk result (λ n. n ≡ after_pluses text.now) }
 #[inline]
 fn put_pluses(
     out: &mut String,
@@ -352,7 +352,7 @@ fn edited_parts<'a>(
     edits: &[Edit<'a>],
 ) -> Result<Vec<Part<'a>>, AllocError> {
     let source = frame.picture.source;
-    let text = behind_lines(source, number);
+    let text = after_lines(source, number);
     let parts = parts_of(alloc, source.len() - text.len(), text, edits)?;
     Ok(parts)
 }

@@ -31,7 +31,7 @@ pub struct Line<'a> {
 /// Returns the first characters of a text, as many as end within `width` bytes, and what is after
 /// them.
 // ensures front { result.0.now ≡ front width text.now }
-// ensures behind { result.1.now ≡ behind width text.now }
+// ensures rest_after { result.1.now ≡ rest_after width text.now }
 #[inline]
 pub fn split_within(text: &str, width: usize) -> (&str, &str) {
     let mut rest = text;
@@ -63,8 +63,8 @@ pub fn parts_of<'a>(
     for edit in edits {
         let from = edit.from.max(at);
         let to = edit.to.max(from);
-        let (before, behind) = split_within(rest, from - at);
-        let (removed, behind) = split_within(behind, to - from);
+        let (before, rest_after) = split_within(rest, from - at);
+        let (removed, rest_after) = split_within(rest_after, to - from);
         list.try_push(Part {
             style: Style::Plain,
             text: before,
@@ -77,7 +77,7 @@ pub fn parts_of<'a>(
             style: Style::Addition,
             text: edit.text,
         })?;
-        rest = behind;
+        rest = rest_after;
         at = to;
     }
     let (line, _) = split_line(rest);
@@ -127,9 +127,9 @@ fn push_text<'a>(
     text: &'a str,
 ) -> Result<(), AllocError> {
     let mut rest = text;
-    while let Some((line, behind)) = split_feed(rest) {
+    while let Some((line, rest_after)) = split_feed(rest) {
         end_line(lines, row, Part { style, text: line })?;
-        rest = behind;
+        rest = rest_after;
     }
     row.try_push(Part { style, text: rest })?;
     Ok(())

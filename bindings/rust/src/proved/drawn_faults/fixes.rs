@@ -120,7 +120,7 @@ fn front(bytes: &[u8], n: usize) -> &[u8] {
 /// Returns the bytes after the first n, or none if there are no more.
 // ensures { result.now ≡ drop n bytes.now }
 #[inline]
-fn behind(bytes: &[u8], n: usize) -> &[u8] {
+fn rest_after(bytes: &[u8], n: usize) -> &[u8] {
     bytes.get(n..).unwrap_or(&[])
 }
 
@@ -153,7 +153,7 @@ fn make(
         let kept = front(edited.rest, edit.span.start.saturating_sub(edited.start));
         edited.bytes.try_extend_from_slice(kept)?;
         edited.bytes.try_extend_from_slice(edit.text.as_bytes())?;
-        edited.rest = behind(edited.rest, edit.span.end.saturating_sub(edited.start));
+        edited.rest = rest_after(edited.rest, edit.span.end.saturating_sub(edited.start));
         edited.start = edit.span.end;
         edited.end = edit.span.end;
     }

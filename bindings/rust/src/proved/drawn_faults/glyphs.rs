@@ -199,16 +199,16 @@ fn put_as_is<'a>(
 // ensures harmless { IsHarmless (encode_utf8_all (drop skipped (glyphs (chars text.now)))) }
 #[inline]
 pub fn put_glyphs(out: &mut String, text: &str, skipped: usize) -> Result<(), AllocError> {
-    let (front, behind) = split_printable(text, text.len());
-    if skipped == 0 && behind.is_empty() {
+    let (front, rest_after) = split_printable(text, text.len());
+    if skipped == 0 && rest_after.is_empty() {
         return Ok(out.try_push_str(front)?);
     }
     let (mut rest, mut skip) = put_printable(out, text, skipped)?;
     while let Some((c, tail)) = split_first(rest) {
         let count = glyph_count(c);
         put_run(out, glyph(c), count.saturating_sub(skip))?;
-        let (behind, fewer) = put_as_is(out, tail, skip.saturating_sub(count))?;
-        rest = behind;
+        let (rest_after, fewer) = put_as_is(out, tail, skip.saturating_sub(count))?;
+        rest = rest_after;
         skip = fewer;
     }
     Ok(())

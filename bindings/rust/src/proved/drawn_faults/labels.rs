@@ -9,7 +9,7 @@ use crate::proved::drawn_faults::fixes::is_offered;
 use crate::proved::drawn_faults::glyphs::indent;
 use crate::proved::drawn_faults::mark::Mark;
 use crate::proved::drawn_faults::paint::{palette_of, Gutter, Palette};
-use crate::proved::drawn_faults::places::{behind_lines, Picture};
+use crate::proved::drawn_faults::places::{after_lines, Picture};
 use crate::proved::rustc_parse_format::{ParseError, ParseMode, Suggestion};
 use core::ops::Range;
 
@@ -178,7 +178,7 @@ fn other_line(label: &Label<'_>, second: &Option<Label<'_>>) -> usize {
 // ensures small { IfSome result (λ n. n < 2 ^ 62) }
 #[inline]
 pub fn line_indent(picture: &Picture<'_>, number: usize) -> Option<usize> {
-    indent(behind_lines(picture.source, number))
+    indent(after_lines(picture.source, number))
 }
 
 /// Returns the least indent, where a blank line has none.

@@ -83,9 +83,9 @@ fn put_shown(out: &mut String, palette: Palette, text: &str, cut: usize) -> Resu
 /// Adds what is after a bar: a line, and what is in front of it.
 // requires { cut < 2 ^ 62 }
 // ensures { OnOk result (string_bytes out.new
-//     ≡ string_bytes out.old ++ behind_bar palette front.now cut (chars text.now)) }
+//     ≡ string_bytes out.old ++ after_bar palette front.now cut (chars text.now)) }
 #[inline]
-fn put_behind_bar(
+fn put_after_bar(
     out: &mut String,
     palette: Palette,
     front: &str,
@@ -111,7 +111,7 @@ pub fn put_source_line(
     number: usize,
 ) -> Result<(), AllocError> {
     let line = line(frame.picture.source, number);
-    put_behind_bar(out, frame.gutter.palette, front, line, frame.cut)?;
+    put_after_bar(out, frame.gutter.palette, front, line, frame.cut)?;
     out.try_push_str("\n")?;
     Ok(())
 }

@@ -136,8 +136,8 @@ fn put_bar_rows(
     first: usize,
     count: usize,
 ) -> Result<(), AllocError> {
-    for behind in 0..count {
-        put_bar_row(out, frame, first + behind + 1)?;
+    for rest_after in 0..count {
+        put_bar_row(out, frame, first + rest_after + 1)?;
     }
     Ok(())
 }
@@ -263,8 +263,8 @@ fn put_between(
     first: usize,
     last: usize,
 ) -> Result<(), AllocError> {
-    let behind = last.saturating_sub(first).saturating_sub(1);
-    let count = without_bare(frame, first, behind.min(3));
+    let rest_after = last.saturating_sub(first).saturating_sub(1);
+    let count = without_bare(frame, first, rest_after.min(3));
     put_bar_rows(out, frame, first, count)?;
     if last > first + 5 && !is_bare_line(frame, last - 1) {
         put_bar_gap(out, frame, first + count, last - 1)?;

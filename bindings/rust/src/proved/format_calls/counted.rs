@@ -5,7 +5,7 @@
 // by results from outside, and beside what is proved (.ci/bindings) and the original (tools/agree).
 
 use crate::proved::format_calls::marks::{is_mark, token_at};
-use crate::proved::format_calls::split::{behind_tree, is_named};
+use crate::proved::format_calls::split::{after_tree, is_named};
 use crate::proved::rust_trees::{is_opening, Source, Token};
 
 /// Returns whether a token opens a pair.
@@ -47,7 +47,7 @@ pub fn are_counted(source: &Source<'_>, opening: usize, from: usize, close: usiz
     let mut index = from;
     while index < close {
         found = found || is_uncounted(tokens, index);
-        index = behind_tree(source, index);
+        index = after_tree(source, index);
     }
     !found
 }

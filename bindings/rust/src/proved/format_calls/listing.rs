@@ -4,7 +4,7 @@
 // That source is proved, and each contract here is its. That this text means the same is tested:
 // by results from outside, and beside what is proved (.ci/bindings) and the original (tools/agree).
 
-use crate::proved::format_calls::marks::{is_behind, is_mark, is_word, token_at, word};
+use crate::proved::format_calls::marks::{is_after, is_mark, is_word, token_at, word};
 use crate::proved::format_calls::table::{rule_of, Row, Rule, Table};
 use crate::proved::rust_trees::{Source, Token};
 use crate::shim::alloc::{AllocError, Global};
@@ -49,7 +49,7 @@ fn call_at(source: &Source<'_>, rows: &[Row<'_>], name: usize) -> Option<Call> {
     if !is_mark(tokens, name + 1, b'!') {
         return None;
     }
-    if is_behind(tokens, name, b'$') {
+    if is_after(tokens, name, b'$') {
         return None;
     }
     let Some(rule) = rule_at(tokens, rows, name) else {

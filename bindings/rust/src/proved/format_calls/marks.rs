@@ -44,9 +44,9 @@ pub fn is_mark(tokens: &[Token<'_>], index: usize, mark: u8) -> bool {
 }
 
 /// Returns whether the token before the one of an index is this character of punctuation.
-// ensures { result ≡ is_behind mark (map leaf tokens.now) index }
+// ensures { result ≡ is_after mark (map leaf tokens.now) index }
 #[inline]
-pub fn is_behind(tokens: &[Token<'_>], index: usize, mark: u8) -> bool {
+pub fn is_after(tokens: &[Token<'_>], index: usize, mark: u8) -> bool {
     index > 0 && is_mark(tokens, index - 1, mark)
 }
 

@@ -4,7 +4,7 @@
 // That source is proved, and each contract here is its. That this text means the same is tested:
 // by results from outside, and beside what is proved (.ci/bindings) and the original (tools/agree).
 
-use crate::proved::format_calls::marks::{is_behind, is_mark, is_mark_of, is_word, token_at};
+use crate::proved::format_calls::marks::{is_after, is_mark, is_mark_of, is_word, token_at};
 use crate::proved::rust_tokens::Kind;
 use crate::proved::rust_trees::{Side, Token};
 
@@ -56,7 +56,7 @@ fn opens_list(tokens: &[Token<'_>], index: usize) -> bool {
 #[inline]
 fn is_arrow(tokens: &[Token<'_>], index: usize) -> bool {
     is_mark(tokens, index, b'>')
-        && is_behind(tokens, index, b'-')
+        && is_after(tokens, index, b'-')
         && is_followed(tokens, index - 1, b'>')
 }
 
@@ -124,10 +124,10 @@ fn is_operator(token: &Token<'_>) -> bool {
 
 /// Returns the mode after a token, at the start of an expression or of a type or not, and in a type
 /// or not.
-// ensures { result ≡ mode_behind (map leaf tokens.now) index
+// ensures { result ≡ mode_after_leaf (map leaf tokens.now) index
 //     (slice_get (map leaf tokens.now) index) is_start is_type }
 #[inline]
-fn mode_behind(tokens: &[Token<'_>], index: usize, is_start: bool, is_type: bool) -> Mode {
+fn mode_after_leaf(tokens: &[Token<'_>], index: usize, is_start: bool, is_type: bool) -> Mode {
     let Some(token) = token_at(tokens, index) else {
         return Mode::Within(false);
     };
@@ -158,14 +158,14 @@ pub fn mode_after(tokens: &[Token<'_>], index: usize, mode: Mode) -> Mode {
             } else if is_mark(tokens, index, b'|') {
                 Mode::Parameters
             } else {
-                mode_behind(tokens, index, true, is_type)
+                mode_after_leaf(tokens, index, true, is_type)
             }
         }
         Mode::Within(is_type) => {
             if is_type && opens_list(tokens, index) {
                 Mode::Angles(1)
             } else {
-                mode_behind(tokens, index, false, is_type)
+                mode_after_leaf(tokens, index, false, is_type)
             }
         }
         Mode::Operator => Mode::Start(false),

@@ -47,7 +47,7 @@ pub fn is_named(tokens: &[Token<'_>], index: usize) -> bool {
 // requires { (o c : ℕ) × IsPair source.now o c × (o < index) × (index < c) × (c < 2 ^ 64) }
 // ensures { IsTree source.now index result }
 #[inline]
-pub fn behind_tree(source: &Source<'_>, index: usize) -> usize {
+pub fn after_tree(source: &Source<'_>, index: usize) -> usize {
     match source.partner(index) {
         Some(close) => {
             if close > index {
@@ -73,7 +73,7 @@ fn argument_end(source: &Source<'_>, opening: usize, from: usize, to: usize) -> 
     let mut end = from;
     while end < to && !is_end(tokens, end, mode) {
         mode = mode_after(tokens, end, mode);
-        end = behind_tree(source, end);
+        end = after_tree(source, end);
     }
     end
 }

@@ -118,7 +118,7 @@ fn put_first(
 //     (map seen_finding faults.now.first.items) ++ more faults.now.others
 //     else first_drawing (seen_mode mode) (seen_picture picture.now)
 //     (map seen_finding faults.now.first.items))) }
-// ensures told { IfOk result (λ told. told ≡ faults.now.mistakes) }
+// ensures report { IfOk result (λ report. report ≡ faults.now.mistakes) }
 #[inline]
 fn put_drawings(
     alloc: Global,
@@ -142,7 +142,7 @@ fn put_drawings(
 // requires { Keeps faults.now (findings (seen_mode task.mode) (seen_source source)) }
 // ensures drawn { OnOk result (string_bytes out.new ≡ string_bytes out.old
 //     ++ drawing_of all (seen_task task.entry) (seen_source source.entry)) }
-// ensures told { IfOk result (λ told. told
+// ensures report { IfOk result (λ report. report
 //     ≡ mistakes (findings (seen_mode task.entry.mode) (seen_source source.entry))) }
 #[inline]
 fn put_faults(

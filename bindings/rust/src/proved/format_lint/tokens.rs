@@ -143,7 +143,7 @@ fn put_token(
 /// Returns the first characters of a text, as many as end within `width` bytes, and the rest after
 /// them.
 // ensures front { chars result.0.now ≡ within width (chars text.now) }
-// ensures back { chars result.1.now ≡ behind width (chars text.now) }
+// ensures back { chars result.1.now ≡ rest_after width (chars text.now) }
 // ensures whole { text.now ≡ result.0.now ++ result.1.now }
 #[inline]
 fn split_within(text: &str, width: usize) -> (&str, &str) {
@@ -184,9 +184,9 @@ pub fn put_tokens(
     let mut rest = text;
     for token in tokens {
         let width = token.span.end.saturating_sub(token.span.start);
-        let (text, behind) = split_within(rest, width);
+        let (text, rest_after) = split_within(rest, width);
         put_token(out, colours, as_is, token, text)?;
-        rest = behind;
+        rest = rest_after;
     }
     Ok(())
 }

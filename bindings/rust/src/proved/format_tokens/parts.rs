@@ -58,9 +58,9 @@ fn first(text: &str) -> Option<char> {
 }
 
 /// Returns the text after the first character, or an empty text if there is none.
-// ensures { chars result.now ≡ behind_first (chars text.now) }
+// ensures { chars result.now ≡ after_first (chars text.now) }
 #[inline]
-fn behind_first(text: &str) -> &str {
+fn after_first(text: &str) -> &str {
     let mut rest = text.chars();
     rest.next();
     rest.as_str()
@@ -116,9 +116,9 @@ pub fn run_width(text: &str, run: Run) -> usize {
 // ensures { result ≡ names_raw (chars text.now) (chars name.now) }
 #[inline]
 fn is_raw(text: &str, name: &str) -> bool {
-    let hash = behind_first(text);
+    let hash = after_first(text);
     match first(name) {
-        Some(c) => begins(text, 'r') && begins(hash, '#') && begins(behind_first(hash), c),
+        Some(c) => begins(text, 'r') && begins(hash, '#') && begins(after_first(hash), c),
         None => false,
     }
 }
@@ -200,8 +200,8 @@ fn width<'a>(
     width: &Count<'_>,
     text: &'a str,
 ) -> Result<&'a str, AllocError> {
-    let behind = take(labels, Kind::Zero, usize::from(zero_pad), text)?;
-    let left = count(labels, width, behind)?;
+    let rest_after = take(labels, Kind::Zero, usize::from(zero_pad), text)?;
+    let left = count(labels, width, rest_after)?;
     Ok(left)
 }
 
@@ -216,8 +216,8 @@ fn precision<'a>(
     precision: &Count<'_>,
     text: &'a str,
 ) -> Result<&'a str, AllocError> {
-    let behind = take(labels, Kind::Dot, usize::from(begins(text, '.')), text)?;
-    let left = count(labels, precision, behind)?;
+    let rest_after = take(labels, Kind::Dot, usize::from(begins(text, '.')), text)?;
+    let left = count(labels, precision, rest_after)?;
     Ok(left)
 }
 
@@ -308,18 +308,18 @@ pub fn specification<'a>(
     if !begins(text, ':') {
         return Ok(text);
     }
-    let behind = take(labels, Kind::Colon, 1, text)?;
+    let rest_after = take(labels, Kind::Colon, 1, text)?;
     match mode {
         ParseMode::Format => {
-            let left = format(labels, spec, behind)?;
+            let left = format(labels, spec, rest_after)?;
             Ok(left)
         }
         ParseMode::InlineAsm => {
-            let left = take(labels, Kind::Modifier, width_of(spec.ty), behind)?;
+            let left = take(labels, Kind::Modifier, width_of(spec.ty), rest_after)?;
             Ok(left)
         }
         ParseMode::Diagnostic | ParseMode::DiagnosticNamed => {
-            let left = take(labels, Kind::DiagnosticText, width_of(spec.ty), behind)?;
+            let left = take(labels, Kind::DiagnosticText, width_of(spec.ty), rest_after)?;
             Ok(left)
         }
     }

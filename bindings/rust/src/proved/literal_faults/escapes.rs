@@ -91,9 +91,9 @@ fn number_fault(text: &str) -> FaultKind {
 }
 
 /// Returns the rest of a text after the hexadecimal digits and `_` at its start.
-// ensures { chars result.now ≡ behind is_part (chars text.now) }
+// ensures { chars result.now ≡ rest_after is_part (chars text.now) }
 #[inline]
-fn behind_digits(text: &str) -> &str {
+fn after_digits(text: &str) -> &str {
     let mut rest = text;
     while let Some((c, more)) = split_first(rest) {
         if hex_digit(c).is_none() && c != '_' {
@@ -113,7 +113,7 @@ fn braces_fault(text: &str) -> FaultKind {
         Some(('}', _)) => return FaultKind::EmptyUnicodeEscape,
         _ => {}
     }
-    match split_first(behind_digits(text)) {
+    match split_first(after_digits(text)) {
         None => FaultKind::UnterminatedString,
         Some(('}', _)) => number_fault(text),
         Some(('"', _)) => FaultKind::UnclosedUnicodeEscape,

@@ -5,7 +5,7 @@
 // by results from outside, and beside what is proved (.ci/bindings) and the original (tools/agree).
 
 use crate::proved::literal_faults::escapes::escape_fault;
-use crate::proved::literal_faults::stops::behind_units;
+use crate::proved::literal_faults::stops::after_units;
 use crate::proved::piece_listing::literal::raw_text;
 use crate::proved::rust_tokens::{split_first, split_first_token, Kind};
 
@@ -100,7 +100,7 @@ fn stop_fault(text: &str) -> Option<FaultKind> {
 /// Returns the rest of a text after a closing quote, or the text if it does not begin with one.
 // ensures { chars result.now ≡ fault_rest (chars text.now) }
 #[inline]
-fn behind_quote(text: &str) -> &str {
+fn after_quote(text: &str) -> &str {
     match split_first(text) {
         Some(('"', rest)) => rest,
         _ => text,
@@ -138,11 +138,11 @@ fn token_fault(text: &str) -> Option<LiteralFault> {
 // ensures boundary { IfSome result (λ f. IsCharBoundary text.now f.offset) }
 #[inline]
 fn string_fault(text: &str, content: &str) -> Option<LiteralFault> {
-    let stop = behind_units(content);
+    let stop = after_units(content);
     let kind = stop_fault(stop)?;
     Some(LiteralFault {
         kind,
-        offset: text.len() - behind_quote(stop).len(),
+        offset: text.len() - after_quote(stop).len(),
     })
 }
 

@@ -22,7 +22,7 @@ pub struct Snippet<'a> {
 /// Returns the rest of a file after the byte order mark at its start, if it has one.
 // ensures { IsUnmarked file.now result.now }
 #[inline]
-fn behind_mark(file: &str) -> &str {
+fn after_mark(file: &str) -> &str {
     let Some((c, rest)) = split_first(file) else {
         return file;
     };
@@ -39,7 +39,7 @@ fn behind_mark(file: &str) -> &str {
 // ensures { IsSnippet file.now result.source.now result.text.now result.start }
 #[inline]
 pub fn snippet_of(file: &str) -> Snippet<'_> {
-    let source = behind_mark(file);
+    let source = after_mark(file);
     let rest = source.behind_ascii_space();
     Snippet {
         source,

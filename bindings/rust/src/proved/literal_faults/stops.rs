@@ -10,7 +10,7 @@ use crate::proved::rustc_parse_format::literal::split_first_unit;
 /// it begins with.
 // ensures { StopsAt (chars content.now) (chars result.now) }
 #[inline]
-pub fn behind_units(content: &str) -> &str {
+pub fn after_units(content: &str) -> &str {
     let mut rest = content;
     while let Some((_, more)) = split_first_unit(rest) {
         rest = more;

@@ -15,9 +15,9 @@ fn rest_of<'a>(text: &'a str, bytes: &[u8]) -> &'a str {
 
 /// Returns the rest after the closing quote of a string with escapes, from after its opening quote
 /// on, or `None` if it has no end.
-// ensures { option_map (λ r. chars r.now) result ≡ behind_string false (chars text.now) }
+// ensures { option_map (λ r. chars r.now) result ≡ after_string false (chars text.now) }
 #[inline]
-pub fn behind_string(text: &str) -> Option<&str> {
+pub fn after_string(text: &str) -> Option<&str> {
     let mut rest = text.as_bytes();
     let mut is_escaped = false;
     while let Some((byte, more)) = rest.split_first() {
@@ -35,9 +35,9 @@ pub fn behind_string(text: &str) -> Option<&str> {
 
 /// Returns the rest after the end of a block comment, from after its `/*` on, or `None` if it has
 /// no end.
-// ensures { option_map (λ r. chars r.now) result ≡ behind_comment 0 0 (chars text.now) }
+// ensures { option_map (λ r. chars r.now) result ≡ after_comment 0 0 (chars text.now) }
 #[inline]
-pub fn behind_comment(text: &str) -> Option<&str> {
+pub fn after_comment(text: &str) -> Option<&str> {
     let mut rest = text.as_bytes();
     let mut above: usize = 0;
     let mut before = 0;
@@ -60,9 +60,9 @@ pub fn behind_comment(text: &str) -> Option<&str> {
 }
 
 /// Returns the bytes after this many hashes, or `None` if there are not so many.
-// ensures { option_map (λ r. r.now) result ≡ behind_hashes hashes bytes.now }
+// ensures { option_map (λ r. r.now) result ≡ after_hashes hashes bytes.now }
 #[inline]
-fn behind_hashes(bytes: &[u8], hashes: usize) -> Option<&[u8]> {
+fn after_hashes(bytes: &[u8], hashes: usize) -> Option<&[u8]> {
     let mut rest = bytes;
     let mut left = hashes;
     while left > 0 {
@@ -80,13 +80,13 @@ fn behind_hashes(bytes: &[u8], hashes: usize) -> Option<&[u8]> {
 
 /// Returns the rest after the end of a raw string with this many hashes, from after its opening
 /// quote on, or `None` if it has no end.
-// ensures { option_map (λ r. chars r.now) result ≡ behind_raw hashes (chars text.now) }
+// ensures { option_map (λ r. chars r.now) result ≡ after_raw hashes (chars text.now) }
 #[inline]
-pub fn behind_raw(text: &str, hashes: usize) -> Option<&str> {
+pub fn after_raw(text: &str, hashes: usize) -> Option<&str> {
     let mut rest = text.as_bytes();
     while let Some((byte, more)) = rest.split_first() {
         if *byte == b'"' {
-            if let Some(end) = behind_hashes(more, hashes) {
+            if let Some(end) = after_hashes(more, hashes) {
                 return Some(rest_of(text, end));
             }
         }
@@ -96,9 +96,9 @@ pub fn behind_raw(text: &str, hashes: usize) -> Option<&str> {
 }
 
 /// Returns the text from its first LF on.
-// ensures { chars result.now ≡ behind is_in_line (chars text.now) }
+// ensures { chars result.now ≡ rest_after is_in_line (chars text.now) }
 #[inline]
-pub fn behind_line(text: &str) -> &str {
+pub fn after_line(text: &str) -> &str {
     let mut rest = text.as_bytes();
     while let Some((byte, more)) = rest.split_first() {
         if *byte == b'\n' {

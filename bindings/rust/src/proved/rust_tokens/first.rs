@@ -8,15 +8,15 @@ use crate::proved::rust_tokens::bodies::{ended_token, unended_token, Body};
 use crate::proved::rust_tokens::bytes::{
     is_plain_start, is_prefix_letter, is_sign, is_space_byte, is_word_byte,
 };
-use crate::proved::rust_tokens::ends::{behind_comment, behind_line, behind_raw, behind_string};
+use crate::proved::rust_tokens::ends::{after_comment, after_line, after_raw, after_string};
 use crate::proved::rust_tokens::kinds::Kind;
 use crate::proved::rust_tokens::literals::{
-    behind_char, behind_name, behind_raw_name, block_kind, line_kind,
+    after_char, after_name, after_raw_name, block_kind, line_kind,
 };
 use crate::proved::rust_tokens::numbers::first_number;
 use crate::proved::rust_tokens::openings::{first_opening, Opening};
 use crate::proved::rust_tokens::texts::{
-    behind_ascii_run, behind_run, is_id_start, is_punct, is_space, split_first, Class,
+    after_ascii_run, after_run, is_id_start, is_punct, is_space, split_first, Class,
 };
 
 /// Returns the token with this end, or the one that is not ended, which takes all.
@@ -38,10 +38,10 @@ fn first_slashed(text: &str) -> Body<'_> {
     };
     if c == '/' {
         let kind = line_kind(rest);
-        return ended_token(kind, behind_line(rest));
+        return ended_token(kind, after_line(rest));
     }
     if c == '*' {
-        return closed_token(block_kind(rest), behind_comment(rest));
+        return closed_token(block_kind(rest), after_comment(rest));
     }
     ended_token(Kind::Punct, text)
 }
@@ -50,13 +50,13 @@ fn first_slashed(text: &str) -> Body<'_> {
 // ensures { seen result ≡ first_quoted (chars text.now) }
 #[inline]
 fn first_quoted(text: &str) -> Body<'_> {
-    if let Some(rest) = behind_char(text) {
+    if let Some(rest) = after_char(text) {
         return ended_token(Kind::Char, rest);
     }
-    if let Some(rest) = behind_raw_name(text) {
+    if let Some(rest) = after_raw_name(text) {
         return ended_token(Kind::RawLifetime, rest);
     }
-    if let Some(rest) = behind_name(text) {
+    if let Some(rest) = after_name(text) {
         return ended_token(Kind::Lifetime, rest);
     }
     unended_token(Kind::Char, text)
@@ -67,7 +67,7 @@ fn first_quoted(text: &str) -> Body<'_> {
 #[inline]
 fn first_plain(c: char, text: &str) -> Body<'_> {
     if is_id_start(c) {
-        let rest = behind_run(text, Class::Continue);
+        let rest = after_run(text, Class::Continue);
         return ended_token(Kind::Ident, rest);
     }
     if c.is_ascii_digit() {
@@ -92,14 +92,14 @@ fn first_plain(c: char, text: &str) -> Body<'_> {
 #[inline]
 fn opened_token(opening: Opening, text: &str) -> Body<'_> {
     match opening {
-        Opening::Quote(kind) => closed_token(kind, behind_string(text)),
-        Opening::Raw(kind, hashes) => closed_token(kind, behind_raw(text, hashes)),
-        Opening::ByteQuote => match behind_char(text) {
+        Opening::Quote(kind) => closed_token(kind, after_string(text)),
+        Opening::Raw(kind, hashes) => closed_token(kind, after_raw(text, hashes)),
+        Opening::ByteQuote => match after_char(text) {
             Some(rest) => ended_token(Kind::Byte, rest),
             None => unended_token(Kind::Byte, text),
         },
         Opening::RawWord => {
-            let rest = behind_run(text, Class::Continue);
+            let rest = after_run(text, Class::Continue);
             ended_token(Kind::RawIdent, rest)
         }
     }
@@ -113,7 +113,7 @@ pub fn first_body(text: &str) -> Option<Body<'_>> {
         return None;
     };
     if is_space(c) {
-        let rest = behind_run(rest, Class::Space);
+        let rest = after_run(rest, Class::Space);
         return Some(ended_token(Kind::Whitespace, rest));
     }
     match first_opening(text) {
@@ -146,10 +146,10 @@ fn is_literal(kind: Kind) -> bool {
 
 /// Returns the rest after a token with its suffix.
 // ensures { chars result.now
-//     ≡ behind_suffix (is_literal body.entry.kind && body.entry.is_ended)
+//     ≡ after_suffix (is_literal body.entry.kind && body.entry.is_ended)
 //     (chars body.entry.rest.now) }
 #[inline]
-pub fn behind_suffix(body: Body<'_>) -> &str {
+pub fn after_suffix(body: Body<'_>) -> &str {
     if !(body.is_ended && is_literal(body.kind)) {
         return body.rest;
     }
@@ -157,7 +157,7 @@ pub fn behind_suffix(body: Body<'_>) -> &str {
         return body.rest;
     };
     if is_id_start(c) {
-        behind_run(rest, Class::Continue)
+        after_run(rest, Class::Continue)
     } else {
         body.rest
     }
@@ -203,11 +203,11 @@ pub fn plain_token(text: &str) -> Option<(Kind, &str)> {
         return Some((Kind::Punct, &text[1..]));
     }
     if is_space_byte(bytes[0]) {
-        let rest = behind_ascii_run(text, Class::Space)?;
+        let rest = after_ascii_run(text, Class::Space)?;
         return Some((Kind::Whitespace, rest));
     }
     if begins_word(bytes) {
-        let rest = behind_ascii_run(text, Class::Continue)?;
+        let rest = after_ascii_run(text, Class::Continue)?;
         return Some((Kind::Ident, rest));
     }
     None

@@ -4,8 +4,8 @@
 // That source is proved, and each contract here is its. That this text means the same is tested:
 // by results from outside, and beside what is proved (.ci/bindings) and the original (tools/agree).
 
-use crate::proved::rust_tokens::ends::behind_line;
-use crate::proved::rust_tokens::first::{behind_suffix, first_body, plain_token};
+use crate::proved::rust_tokens::ends::after_line;
+use crate::proved::rust_tokens::first::{after_suffix, first_body, plain_token};
 use crate::proved::rust_tokens::kinds::{Kind, Token};
 use crate::proved::rust_tokens::texts::strip;
 use crate::shim::alloc::{AllocError, Global};
@@ -37,7 +37,7 @@ fn any_step(text: &str) -> Option<Step<'_>> {
     let Some(body) = first_body(text) else {
         return None;
     };
-    let rest = behind_suffix(body);
+    let rest = after_suffix(body);
     Some(Step {
         kind: body.kind,
         is_ended: body.is_ended,
@@ -130,7 +130,7 @@ fn opens_attribute(text: &str) -> bool {
 //     × (placed 0 xs ≡ between ByteOrderMark 0 (length text.now - length result.now))
 //     × (end_of_all 0 xs + length result.now ≡ length text.now) }
 #[inline]
-fn behind_mark(text: &str) -> &str {
+fn after_mark(text: &str) -> &str {
     match strip(text, '\u{feff}') {
         Some(rest) => rest,
         None => text,
@@ -144,17 +144,17 @@ fn behind_mark(text: &str) -> &str {
 //     ≡ between Shebang at (at + (length text.now - length result.now)))
 //     × (end_of_all at xs + length result.now ≡ at + length text.now)) }
 #[inline]
-fn behind_shebang(text: &str) -> &str {
-    let Some(behind_hash) = strip(text, '#') else {
+fn after_shebang(text: &str) -> &str {
+    let Some(after_hash) = strip(text, '#') else {
         return text;
     };
-    let Some(line) = strip(behind_hash, '!') else {
+    let Some(line) = strip(after_hash, '!') else {
         return text;
     };
     if opens_attribute(line) {
         text
     } else {
-        behind_line(line)
+        after_line(line)
     }
 }
 
@@ -164,8 +164,8 @@ fn behind_shebang(text: &str) -> &str {
 //     × ((rs : List Lexeme) → Reads (chars result.now) rs → ReadsFile (chars text.now) (hs ++ rs))
 //     × (end_of_all 0 hs + length result.now ≡ length text.now) }
 #[inline]
-pub fn behind_head(text: &str) -> &str {
-    behind_shebang(behind_mark(text))
+pub fn after_head(text: &str) -> &str {
+    after_shebang(after_mark(text))
 }
 
 /// Adds a token of this kind unless it is empty. Returns `Err` if an allocation fails.
@@ -194,9 +194,9 @@ fn add_unless_empty(
 // ensures covers { IfOk result (λ v. Covers 0 v.items (length text.now)) }
 #[inline]
 pub fn tokens(alloc: Global, text: &str) -> Result<Vec<Token>, AllocError> {
-    let unmarked = behind_mark(text);
+    let unmarked = after_mark(text);
     let mark_end = text.len() - unmarked.len();
-    let mut rest = behind_shebang(unmarked);
+    let mut rest = after_shebang(unmarked);
     let mut found = Vec::made_in(alloc);
     add_unless_empty(&mut found, Kind::ByteOrderMark, 0, mark_end)?;
     add_unless_empty(&mut found, Kind::Shebang, mark_end, text.len() - rest.len())?;

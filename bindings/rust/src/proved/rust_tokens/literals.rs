@@ -6,7 +6,7 @@
 
 use crate::proved::rust_tokens::kinds::Kind;
 use crate::proved::rust_tokens::texts::{
-    begins, behind_run, is_char_content, is_id_start, split_first, strip, Class,
+    after_run, begins, is_char_content, is_id_start, split_first, strip, Class,
 };
 
 /// Returns the kind of a line comment, by the text after its `//`.
@@ -42,25 +42,25 @@ pub fn block_kind(text: &str) -> Kind {
 }
 
 /// Returns the rest after an escape and an apostrophe, from after the backslash on, or `None`.
-// ensures { option_map (λ r. chars r.now) result ≡ behind_escape (chars text.now) }
+// ensures { option_map (λ r. chars r.now) result ≡ after_escape (chars text.now) }
 #[inline]
-fn behind_escape(text: &str) -> Option<&str> {
+fn after_escape(text: &str) -> Option<&str> {
     let Some((_, rest)) = split_first(text) else {
         return None;
     };
-    strip(behind_run(rest, Class::Escape), '\'')
+    strip(after_run(rest, Class::Escape), '\'')
 }
 
 /// Returns the rest after a character literal, from after its first apostrophe on, or `None` if
 /// there is none.
-// ensures { option_map (λ r. chars r.now) result ≡ behind_char (chars text.now) }
+// ensures { option_map (λ r. chars r.now) result ≡ after_char (chars text.now) }
 #[inline]
-pub fn behind_char(text: &str) -> Option<&str> {
+pub fn after_char(text: &str) -> Option<&str> {
     let Some((c, rest)) = split_first(text) else {
         return None;
     };
     if c == '\\' {
-        return behind_escape(rest);
+        return after_escape(rest);
     }
     if is_char_content(c) {
         return strip(rest, '\'');
@@ -80,22 +80,22 @@ fn unless_apostrophe(text: &str) -> Option<&str> {
 }
 
 /// Returns the rest after a word that no apostrophe follows, or `None`.
-// ensures { option_map (λ r. chars r.now) result ≡ behind_name (chars text.now) }
+// ensures { option_map (λ r. chars r.now) result ≡ after_name (chars text.now) }
 #[inline]
-pub fn behind_name(text: &str) -> Option<&str> {
+pub fn after_name(text: &str) -> Option<&str> {
     let Some((c, rest)) = split_first(text) else {
         return None;
     };
     if is_id_start(c) {
-        return unless_apostrophe(behind_run(rest, Class::Continue));
+        return unless_apostrophe(after_run(rest, Class::Continue));
     }
     None
 }
 
 /// Returns the rest after `r#` and a word that no apostrophe follows, or `None`.
-// ensures { option_map (λ r. chars r.now) result ≡ behind_raw_name (chars text.now) }
+// ensures { option_map (λ r. chars r.now) result ≡ after_raw_name (chars text.now) }
 #[inline]
-pub fn behind_raw_name(text: &str) -> Option<&str> {
+pub fn after_raw_name(text: &str) -> Option<&str> {
     let Some((c, rest)) = split_first(text) else {
         return None;
     };
@@ -103,7 +103,7 @@ pub fn behind_raw_name(text: &str) -> Option<&str> {
         return None;
     };
     if c == 'r' && d == '#' {
-        return behind_name(more);
+        return after_name(more);
     }
     None
 }

@@ -6,12 +6,12 @@
 
 use crate::proved::rust_tokens::bodies::{ended_token, Body};
 use crate::proved::rust_tokens::kinds::Kind;
-use crate::proved::rust_tokens::texts::{begins, behind_run, split_first, Class};
+use crate::proved::rust_tokens::texts::{after_run, begins, split_first, Class};
 
 /// Returns the rest after a sign, or the text if it begins with none.
-// ensures { chars result.now ≡ behind_sign (chars text.now) }
+// ensures { chars result.now ≡ after_sign (chars text.now) }
 #[inline]
-fn behind_sign(text: &str) -> &str {
+fn after_sign(text: &str) -> &str {
     match split_first(text) {
         Some((c, rest)) => {
             if c == '+' || c == '-' {
@@ -25,33 +25,33 @@ fn behind_sign(text: &str) -> &str {
 }
 
 /// Returns the rest after digits, or `None` if the text begins with none.
-// ensures { option_map (λ r. chars r.now) result ≡ behind_digits (chars text.now) }
+// ensures { option_map (λ r. chars r.now) result ≡ after_digits (chars text.now) }
 #[inline]
-fn behind_digits(text: &str) -> Option<&str> {
+fn after_digits(text: &str) -> Option<&str> {
     if begins(text, Class::Digit) {
-        Some(behind_run(text, Class::DigitPart))
+        Some(after_run(text, Class::DigitPart))
     } else {
         None
     }
 }
 
 /// Returns the rest after an exponent, or `None` if the text begins with none.
-// ensures { option_map (λ r. chars r.now) result ≡ behind_exponent (chars text.now) }
+// ensures { option_map (λ r. chars r.now) result ≡ after_exponent (chars text.now) }
 #[inline]
-fn behind_exponent(text: &str) -> Option<&str> {
+fn after_exponent(text: &str) -> Option<&str> {
     let Some((c, rest)) = split_first(text) else {
         return None;
     };
     if c == 'e' || c == 'E' {
-        return behind_digits(behind_run(behind_sign(rest), Class::Underscore));
+        return after_digits(after_run(after_sign(rest), Class::Underscore));
     }
     None
 }
 
 /// Returns the rest after a point that belongs to the number before it, or `None`.
-// ensures { option_map (λ r. chars r.now) result ≡ behind_point (chars text.now) }
+// ensures { option_map (λ r. chars r.now) result ≡ after_point (chars text.now) }
 #[inline]
-fn behind_point(text: &str) -> Option<&str> {
+fn after_point(text: &str) -> Option<&str> {
     let Some((c, rest)) = split_first(text) else {
         return None;
     };
@@ -75,12 +75,12 @@ fn exponent_or<'a>(kind: Kind, rest: &'a str, exponent: Option<&'a str>) -> Body
 }
 
 /// Returns a number, from after its point on.
-// ensures { seen result ≡ behind_fraction (chars text.now) }
+// ensures { seen result ≡ after_fraction (chars text.now) }
 #[inline]
-fn behind_fraction(text: &str) -> Body<'_> {
+fn after_fraction(text: &str) -> Body<'_> {
     if begins(text, Class::Digit) {
-        let rest = behind_run(text, Class::DigitPart);
-        return exponent_or(Kind::Float, rest, behind_exponent(rest));
+        let rest = after_run(text, Class::DigitPart);
+        return exponent_or(Kind::Float, rest, after_exponent(rest));
     }
     ended_token(Kind::Float, text)
 }
@@ -89,10 +89,10 @@ fn behind_fraction(text: &str) -> Body<'_> {
 // ensures { seen result ≡ first_decimal (chars text.now) }
 #[inline]
 fn first_decimal(text: &str) -> Body<'_> {
-    let rest = behind_run(text, Class::DigitPart);
-    match behind_point(rest) {
-        Some(fraction) => behind_fraction(fraction),
-        None => exponent_or(Kind::DecimalInt, rest, behind_exponent(rest)),
+    let rest = after_run(text, Class::DigitPart);
+    match after_point(rest) {
+        Some(fraction) => after_fraction(fraction),
+        None => exponent_or(Kind::DecimalInt, rest, after_exponent(rest)),
     }
 }
 
@@ -105,15 +105,15 @@ fn first_zero(text: &str) -> Body<'_> {
     };
     match c {
         'b' => {
-            let rest = behind_run(rest, Class::DigitPart);
+            let rest = after_run(rest, Class::DigitPart);
             ended_token(Kind::BinaryInt, rest)
         }
         'o' => {
-            let rest = behind_run(rest, Class::DigitPart);
+            let rest = after_run(rest, Class::DigitPart);
             ended_token(Kind::OctalInt, rest)
         }
         'x' => {
-            let rest = behind_run(rest, Class::HexPart);
+            let rest = after_run(rest, Class::HexPart);
             ended_token(Kind::HexadecimalInt, rest)
         }
         _ => first_decimal(text),

@@ -7,7 +7,7 @@
 
 use crate::proved::rust_tokens::kinds::Kind;
 use crate::proved::rust_tokens::texts::{
-    behind_run, count_hashes, is_id_start, split_first, strip, Class,
+    after_run, count_hashes, is_id_start, split_first, strip, Class,
 };
 
 /// The opening of a token.
@@ -28,7 +28,7 @@ pub enum Opening {
 // ensures { option_map (λ x. (x.0, chars x.1.now)) result ≡ raw_opening kind (chars text.now) }
 #[inline]
 fn raw_opening(kind: Kind, text: &str) -> Option<(Opening, &str)> {
-    match strip(behind_run(text, Class::Hash), '"') {
+    match strip(after_run(text, Class::Hash), '"') {
         Some(rest) => Some((Opening::Raw(kind, count_hashes(text)), rest)),
         None => None,
     }

@@ -154,9 +154,9 @@ pub fn begins(text: &str, class: Class) -> bool {
 
 /// Returns the rest after the longest front of the text whose characters are in the class, which
 /// need not be ASCII.
-// ensures { chars result.now ≡ behind (passes class) (chars text.now) }
+// ensures { chars result.now ≡ rest_after (passes class) (chars text.now) }
 #[inline(always)]
-fn behind_wide_run(text: &str, class: Class) -> &str {
+fn after_wide_run(text: &str, class: Class) -> &str {
     let mut rest = text;
     while let Some((c, more)) = split_first(rest) {
         if !class.passes(c) {
@@ -169,8 +169,8 @@ fn behind_wide_run(text: &str, class: Class) -> &str {
 
 /// Returns the number of ASCII characters in the class with which the text begins.
 // ensures at { IsCharBoundary text.now result }
-// ensures same { behind (passes class) (chars (drop result text.now))
-//     ≡ behind (passes class) (chars text.now) }
+// ensures same { rest_after (passes class) (chars (drop result text.now))
+//     ≡ rest_after (passes class) (chars text.now) }
 // ensures next { result < length text.now
 //     → is_ascii_in (passes class) (slice_index text.now result) ≡ false }
 #[inline(always)]
@@ -193,9 +193,9 @@ fn is_wide(bytes: &[u8], at: usize) -> bool {
 
 /// Returns the rest after the longest front of the text whose characters are in the class, or
 /// `None` if a character that is not ASCII comes in it or after it.
-// ensures { IfSome result (λ r. chars r.now ≡ behind (passes class) (chars text.now)) }
+// ensures { IfSome result (λ r. chars r.now ≡ rest_after (passes class) (chars text.now)) }
 #[inline(always)]
-pub fn behind_ascii_run(text: &str, class: Class) -> Option<&str> {
+pub fn after_ascii_run(text: &str, class: Class) -> Option<&str> {
     let width = ascii_width(text, class);
     if is_wide(text.as_bytes(), width) {
         return None;
@@ -204,12 +204,12 @@ pub fn behind_ascii_run(text: &str, class: Class) -> Option<&str> {
 }
 
 /// Returns the rest after the longest front of the text whose characters are in the class.
-// ensures { chars result.now ≡ behind (passes class) (chars text.now) }
+// ensures { chars result.now ≡ rest_after (passes class) (chars text.now) }
 #[inline(always)]
-pub fn behind_run(text: &str, class: Class) -> &str {
-    match behind_ascii_run(text, class) {
+pub fn after_run(text: &str, class: Class) -> &str {
+    match after_ascii_run(text, class) {
         Some(rest) => rest,
-        None => behind_wide_run(text, class),
+        None => after_wide_run(text, class),
     }
 }
 

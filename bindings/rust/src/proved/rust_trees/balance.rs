@@ -1,4 +1,4 @@
-//! Whether tokens are a forest, told as they are read one after the other.
+//! Whether tokens are a forest, decided as they are read one after the other.
 
 // Extracted from crates/rust_trees/src/balance.rt by tools/extract: not to be edited.
 // That source is proved, and each contract here is its. That this text means the same is tested:

@@ -4,7 +4,7 @@
 // That source is proved, and each contract here is its. That this text means the same is tested:
 // by results from outside, and beside what is proved (.ci/bindings) and the original (tools/agree).
 
-use crate::proved::rust_tokens::{behind_head, split_first_token, Kind};
+use crate::proved::rust_tokens::{after_head, split_first_token, Kind};
 use crate::proved::rust_trees::sides::{side_of, Side};
 use crate::shim::alloc::{AllocError, Global};
 use crate::shim::prelude::*;
@@ -60,7 +60,7 @@ fn is_leaf(kind: Kind, is_ended: bool) -> bool {
 #[inline(always)]
 fn split_first_leaf<'a>(text: &'a str, rest: &'a str) -> Option<(Token<'a>, &'a str)> {
     let mut left = rest;
-    while let Some((token, behind)) = split_first_token(left) {
+    while let Some((token, rest_after)) = split_first_token(left) {
         if is_leaf(token.kind, token.is_ended) {
             let leaf = Token {
                 kind: token.kind,
@@ -69,9 +69,9 @@ fn split_first_leaf<'a>(text: &'a str, rest: &'a str) -> Option<(Token<'a>, &'a 
                 text: &left[..token.span.end],
                 start: text.len() - left.len(),
             };
-            return Some((leaf, behind));
+            return Some((leaf, rest_after));
         }
-        left = behind;
+        left = rest_after;
     }
     None
 }
@@ -92,7 +92,7 @@ impl<'a> Tokens<'a> {
     pub fn new(text: &'a str) -> Self {
         Tokens {
             text,
-            rest: behind_head(text),
+            rest: after_head(text),
         }
     }
 

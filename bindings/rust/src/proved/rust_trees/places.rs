@@ -34,9 +34,9 @@ fn is_lf_next(text: &str, back: &str) -> bool {
 /// Returns the place after a character at this place, where an LF may follow.
 // requires line { place.line + 1 < 2 ^ 64 }
 // requires column { place.column + 1 < 2 ^ 64 }
-// ensures { result ≡ behind_char place c is_before_lf }
+// ensures { result ≡ after_char place c is_before_lf }
 #[inline]
-fn behind_char(place: Place, c: char, is_before_lf: bool) -> Place {
+fn after_char(place: Place, c: char, is_before_lf: bool) -> Place {
     if c == '\n' {
         Place {
             line: place.line + 1,
@@ -61,7 +61,7 @@ pub fn place_after(place: Place, front: &str, back: &str) -> Place {
     let mut reached = place;
     let mut rest = front;
     while let Some((c, more)) = split_first(rest) {
-        reached = behind_char(reached, c, is_lf_next(more, back));
+        reached = after_char(reached, c, is_lf_next(more, back));
         rest = more;
     }
     reached

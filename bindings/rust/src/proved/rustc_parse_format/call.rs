@@ -40,7 +40,7 @@ impl<'input> Reader<'input> {
     /// Moves past the closing brace of the placeholder that starts at the byte offset `start`. In a
     /// source literal, records the byte range of the placeholder.
     // ensures state { self.new ≡ record self.old {
-    //   rest = behind_first self.old.rest;
+    //   rest = after_first self.old.rest;
     //   closed_place = if self.old.world.has_source
     //       then Some (start, number_of self.old.world (End (length self.old.rest)))
     //       else self.old.closed_place;
@@ -61,7 +61,7 @@ impl<'input> Reader<'input> {
     // ensures state { OnOk result ((o : Text) (a : ArgumentValue Span)
     //     → pair opening ≡ place_of self.old.world (over_first o)
     //     → seen_argument argument.now ≡ map_argument (place_of self.old.world) a
-    //     → self.new ≡ behind_closing (seen_mode mode) o a self.old) }
+    //     → self.new ≡ after_closing (seen_mode mode) o a self.old) }
     // ensures source { self.new.source ≡ self.old.source }
     // ensures spare { begins_with 125 self.old.rest ≡ true → IsOk result }
     #[inline]

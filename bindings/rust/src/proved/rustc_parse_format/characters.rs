@@ -111,10 +111,10 @@ pub fn begins_word(text: &str) -> bool {
 }
 
 /// Returns the text after the first character, or an empty text if there is none.
-// ensures rest { chars result.now ≡ behind_first (chars text.now) }
+// ensures rest { chars result.now ≡ after_first (chars text.now) }
 // ensures left { (input : List ℕ) → IsLeft input text.now → IsLeft input result.now }
 #[inline(always)]
-pub fn behind_first(text: &str) -> &str {
+pub fn after_first(text: &str) -> &str {
     let mut rest = text.chars();
     rest.next();
     rest.as_str()
@@ -167,10 +167,10 @@ pub fn run_width(bytes: &[u8], class: Class) -> usize {
 /// Returns the text after the longest prefix of characters in the class. The class has all
 /// characters outside ASCII, so the bytes alone show where the prefix ends.
 // requires { IsOfAscii (passes class) }
-// ensures rest { chars result.now ≡ behind (passes class) (chars text.now) }
+// ensures rest { chars result.now ≡ rest_after (passes class) (chars text.now) }
 // ensures left { (input : List ℕ) → IsLeft input text.now → IsLeft input result.now }
 #[inline(always)]
-pub fn behind_run(text: &str, class: Class) -> &str {
+pub fn after_run(text: &str, class: Class) -> &str {
     let width = run_width(text.as_bytes(), class);
     &text[width..]
 }
@@ -179,7 +179,7 @@ pub fn behind_run(text: &str, class: Class) -> &str {
 /// outside ASCII, so the bytes alone show where the prefix ends.
 // requires { IsOfAscii (passes class) }
 // ensures front { chars result.0.now ≡ front (passes class) (chars text.now) }
-// ensures rest { chars result.1.now ≡ behind (passes class) (chars text.now) }
+// ensures rest { chars result.1.now ≡ rest_after (passes class) (chars text.now) }
 #[inline(always)]
 pub fn split_run(text: &str, class: Class) -> (&str, &str) {
     let width = run_width(text.as_bytes(), class);
@@ -187,13 +187,13 @@ pub fn split_run(text: &str, class: Class) -> (&str, &str) {
 }
 
 /// Returns the text after the longest prefix of characters in the class.
-// ensures rest { chars result.now ≡ behind (passes class) (chars text.now) }
+// ensures rest { chars result.now ≡ rest_after (passes class) (chars text.now) }
 // ensures left { (input : List ℕ) → IsLeft input text.now → IsLeft input result.now }
 #[inline(always)]
-pub fn behind_while(text: &str, class: Class) -> &str {
+pub fn after_while(text: &str, class: Class) -> &str {
     match class {
-        Class::Text => return behind_run(text, Class::Text),
-        Class::Line => return behind_run(text, Class::Line),
+        Class::Text => return after_run(text, Class::Text),
+        Class::Line => return after_run(text, Class::Line),
         _ => {}
     }
     let mut rest = text;
@@ -201,7 +201,7 @@ pub fn behind_while(text: &str, class: Class) -> &str {
         if !class.passes(c) {
             break;
         }
-        rest = behind_first(rest);
+        rest = after_first(rest);
     }
     rest
 }
@@ -229,7 +229,7 @@ fn is_wide(bytes: &[u8], at: usize) -> bool {
 /// Splits a text after the word that begins it. Most often the word is ASCII.
 // requires { first_passes is_id_start (chars text.now) ≡ true }
 // ensures word { chars result.0.now ≡ word (chars text.now) }
-// ensures rest { chars result.1.now ≡ behind_word (chars text.now) }
+// ensures rest { chars result.1.now ≡ after_word (chars text.now) }
 // ensures left { (input : List ℕ) → IsLeft input text.now → IsLeft input result.1.now }
 #[inline(always)]
 pub fn split_word(text: &str) -> (&str, &str) {
@@ -244,11 +244,11 @@ pub fn split_word(text: &str) -> (&str, &str) {
 /// Splits a text after the word that begins it, which need not be ASCII.
 // requires { first_passes is_id_start (chars text.now) ≡ true }
 // ensures word { chars result.0.now ≡ word (chars text.now) }
-// ensures rest { chars result.1.now ≡ behind_word (chars text.now) }
+// ensures rest { chars result.1.now ≡ after_word (chars text.now) }
 // ensures left { (input : List ℕ) → IsLeft input text.now → IsLeft input result.1.now }
 #[inline(never)]
 fn split_wide_word(text: &str) -> (&str, &str) {
-    let rest = behind_while(behind_first(text), Class::Continue);
+    let rest = after_while(after_first(text), Class::Continue);
     (before(text, rest), rest)
 }
 
@@ -266,7 +266,7 @@ pub struct LeadingNumber<'a> {
 /// Returns the number that the ASCII digits at the start of the text write: 0 if there are none.
 // ensures value { result.value ≡ number (digits (chars text.now)) }
 // ensures over { result.is_over ≡ is_over (digits (chars text.now)) }
-// ensures rest { chars result.rest.now ≡ behind_digits (chars text.now) }
+// ensures rest { chars result.rest.now ≡ after_digits (chars text.now) }
 // ensures left { (input : List ℕ) → IsLeft input text.now → IsLeft input result.rest.now }
 #[inline(always)]
 pub fn leading_number(text: &str) -> LeadingNumber<'_> {
@@ -277,7 +277,7 @@ pub fn leading_number(text: &str) -> LeadingNumber<'_> {
         let more = with_digit(value, digit);
         value = more.0;
         is_over |= more.1;
-        rest = behind_first(rest);
+        rest = after_first(rest);
     }
     LeadingNumber {
         value,
@@ -286,12 +286,12 @@ pub fn leading_number(text: &str) -> LeadingNumber<'_> {
     }
 }
 
-/// Returns the part of `text` before its suffix `behind`.
-// requires { (u : Text) × (chars text.now ≡ u ++ chars behind.now) }
-// ensures { (u : Text) → chars text.now ≡ u ++ chars behind.now → chars result.now ≡ u }
+/// Returns the part of `text` before its suffix `rest_after`.
+// requires { (u : Text) × (chars text.now ≡ u ++ chars rest_after.now) }
+// ensures { (u : Text) → chars text.now ≡ u ++ chars rest_after.now → chars result.now ≡ u }
 #[inline(always)]
-pub fn before<'a>(text: &'a str, behind: &str) -> &'a str {
-    &text[..text.len() - behind.len()]
+pub fn before<'a>(text: &'a str, rest_after: &str) -> &'a str {
+    &text[..text.len() - rest_after.len()]
 }
 
 /// Returns whether `c` can begin a word: `_` or `XID_Start`.
@@ -305,7 +305,7 @@ pub fn is_id_start(c: char) -> bool {
 // ensures { result ≡ bytes_eq (chars text.now) (codes "_") }
 #[inline]
 pub fn is_underscore(text: &str) -> bool {
-    first(text) == Some('_') && first(behind_first(text)).is_none()
+    first(text) == Some('_') && first(after_first(text)).is_none()
 }
 
 /// Returns the value of `number` with one more decimal digit, modulo 65536, and whether that value

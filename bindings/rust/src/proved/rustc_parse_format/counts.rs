@@ -15,7 +15,7 @@ impl<'input> Reader<'input> {
     /// above 65535 is a fault, whose span includes the character after the digits. Returns `Err` if
     /// an allocation fails.
     // ensures value { IfOk result (λ n. n ≡ number (digits self.old.rest)) }
-    // ensures reads { ReadsTo self.old result self.new (behind_digits self.old.rest) self.old.next
+    // ensures reads { ReadsTo self.old result self.new (after_digits self.old.rest) self.old.next
     //     (number_faults self.old.rest) [] }
     #[inline(always)]
     pub fn integer(&mut self) -> Result<u16, AllocError> {
@@ -30,7 +30,7 @@ impl<'input> Reader<'input> {
     /// allocation fails.
     // requires { first_passes is_id_start self.old.rest ≡ true }
     // ensures value { IfOk result (λ w. chars w.now ≡ word self.old.rest) }
-    // ensures reads { ReadsTo self.old result self.new (behind_word self.old.rest) self.old.next
+    // ensures reads { ReadsTo self.old result self.new (after_word self.old.rest) self.old.next
     //     (word_faults self.old.rest) [] }
     #[inline(always)]
     pub fn word(&mut self) -> Result<&'input str, AllocError> {
@@ -47,10 +47,10 @@ impl<'input> Reader<'input> {
     // requires blank { seen_count into.old ≡ Implied }
     // requires furthest { IsFurthest self.old.rest self.old.back }
     // requires word { first_passes is_id_start self.old.rest ≡ true }
-    // ensures value { (let t = self.old.rest in let k = behind_name t (word t) (behind_word t) in
+    // ensures value { (let t = self.old.rest in let k = after_name t (word t) (after_word t) in
     //     OnOk result (seen_count into.new
     //     ≡ map_count (place_of self.old.world) (count_of t k.0 k.1))) }
-    // ensures reads { (let t = self.old.rest in let k = behind_name t (word t) (behind_word t) in
+    // ensures reads { (let t = self.old.rest in let k = after_name t (word t) (after_word t) in
     //     ReadsTo self.old result self.new k.1 self.old.next (word_faults t)
     //     (count_tries t k.0)) }
     #[inline(always)]

@@ -7,7 +7,7 @@
 pub(crate) mod words;
 
 use crate::proved::rustc_parse_format::characters::{
-    before, begins, begins_digit, begins_word, behind_first, first,
+    after_first, before, begins, begins_digit, begins_word, first,
 };
 use crate::proved::rustc_parse_format::source::{first_anchor, Anchor, Source};
 use core::ops::Range;
@@ -59,7 +59,7 @@ impl<'input> Cursor<'input> {
     /// Proves that the cursor has made few steps, at most two for each character of the input. Does
     /// nothing when the program runs.
     // ensures few { AreFew self.now.input self.now.rest self.now.back }
-    // ensures word { behind_part self.now.rest ≤ self.now.back.left }
+    // ensures word { after_part self.now.rest ≤ self.now.back.left }
     #[inline]
     pub fn steps_are_few(&self) {
         let _rest = self.rest;
@@ -82,24 +82,24 @@ impl<'input> Cursor<'input> {
     }
 
     /// Returns the character after the next one, or `None` if there is none.
-    // ensures { result ≡ first (behind_first self.now.rest) }
+    // ensures { result ≡ first (after_first self.now.rest) }
     #[inline]
     pub fn peek_ahead(&self) -> Option<char> {
-        first(behind_first(self.rest))
+        first(after_first(self.rest))
     }
 
     /// Moves past the next character, if there is one. Only this function, `consume_place` and the
     /// functions of `words` move forward.
-    // ensures rest { self.new ≡ record self.old { rest = behind_first self.old.rest } }
+    // ensures rest { self.new ≡ record self.old { rest = after_first self.old.rest } }
     #[inline]
     pub fn skip_char(&mut self) {
-        self.rest = behind_first(self.rest);
+        self.rest = after_first(self.rest);
     }
 
     /// Moves past the next character, if there is one, and returns its byte range in the source. At
     /// the end of the input, returns the empty range where the text ends.
     // ensures place { pair result ≡ place_at self.old.world (length self.old.rest) }
-    // ensures rest { self.new ≡ record self.old { rest = behind_first self.old.rest } }
+    // ensures rest { self.new ≡ record self.old { rest = after_first self.old.rest } }
     #[inline(always)]
     pub fn consume_place(&mut self) -> Range<usize> {
         let (place, rest) = self.source.pass(self.rest, &mut self.anchor);
@@ -112,7 +112,7 @@ impl<'input> Cursor<'input> {
     // requires anchored { IsAnchored self.old.source to.rest.now to.anchor }
     // requires furthest { IsFurthest (chars to.rest.now) self.old.back }
     // requires earlier { length self.old.rest ≤ length (chars to.rest.now) }
-    // requires word { behind_part (chars to.rest.now) ≤ length self.old.rest }
+    // requires word { after_part (chars to.rest.now) ≤ length self.old.rest }
     // ensures { self.new ≡ unread_at self.old.source to.entry.rest.now (given_back self.old.rest
     //     (chars to.entry.rest.now) self.old.back) self.old.undo_count }
     #[inline]
@@ -176,11 +176,10 @@ impl<'input> Cursor<'input> {
     /// Returns, for the character after the next one, its byte range in the source, its byte offset
     /// in the input, and the character itself, or `None` if there is none.
     // ensures { option_map (λ x. (pair x.0, x.1, x.2)) result
-    //     ≡ first_of self.now.world self.now.input (behind_first self.now.rest) }
+    //     ≡ first_of self.now.world self.now.input (after_first self.now.rest) }
     #[inline(always)]
     pub fn peek_place_ahead(&self) -> Option<(Range<usize>, usize, char)> {
-        self.source
-            .peek_place(behind_first(self.rest), &self.anchor)
+        self.source.peek_place(after_first(self.rest), &self.anchor)
     }
 
     /// Returns the byte offset of the next character in the input, or at the end the length of the
@@ -203,7 +202,7 @@ impl<'input> Cursor<'input> {
     // requires { c < 128 }
     // ensures value { result ≡ begins_with c self.old.rest }
     // ensures rest { self.new ≡ record self.old {
-    //   rest = if begins_with c self.old.rest then behind_first self.old.rest else self.old.rest;
+    //   rest = if begins_with c self.old.rest then after_first self.old.rest else self.old.rest;
     // } }
     #[inline]
     pub fn consume(&mut self, c: char) -> bool {
@@ -216,10 +215,10 @@ impl<'input> Cursor<'input> {
 
     /// Returns whether the character after the next one is `c`, which is ASCII.
     // requires { c < 128 }
-    // ensures { result ≡ begins_with c (behind_first self.now.rest) }
+    // ensures { result ≡ begins_with c (after_first self.now.rest) }
     #[inline]
     pub fn is_ahead(&self, c: char) -> bool {
-        begins(behind_first(self.rest), c)
+        begins(after_first(self.rest), c)
     }
 
     /// Returns whether a placeholder opens here: the next character is an opening brace, and the
@@ -252,9 +251,9 @@ impl<'input> Cursor<'input> {
     }
 
     /// Returns whether the character after the next one can begin a word.
-    // ensures { result ≡ first_passes is_id_start (behind_first self.now.rest) }
+    // ensures { result ≡ first_passes is_id_start (after_first self.now.rest) }
     #[inline]
     pub fn is_word_ahead(&self) -> bool {
-        begins_word(behind_first(self.rest))
+        begins_word(after_first(self.rest))
     }
 }

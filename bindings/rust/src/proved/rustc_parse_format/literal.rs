@@ -89,7 +89,7 @@ pub fn read_content(
 /// Appends the plain characters that come next to a text. Returns `Err` if an allocation fails.
 // ensures text { OnOk result (chars (string_bytes text.new)
 //     ≡ chars (string_bytes text.old) ++ front is_plain rest.old) }
-// ensures rest { rest.new ≡ behind is_plain rest.old }
+// ensures rest { rest.new ≡ rest_after is_plain rest.old }
 // ensures empty { rest.old ≡ [] → IsOk result }
 #[inline(always)]
 fn put_plain(text: &mut String, rest: &mut Rest<'_>) -> Result<(), AllocError> {
@@ -182,7 +182,7 @@ fn without_newline(input: &str, appended: bool) -> Option<&str> {
 #[inline]
 pub fn between_quotes(snippet: &str) -> Option<&str> {
     match snippet.strip_prefix('"') {
-        Some(behind) => behind.strip_suffix('"'),
+        Some(rest_after) => rest_after.strip_suffix('"'),
         None => None,
     }
 }
@@ -192,11 +192,11 @@ pub fn between_quotes(snippet: &str) -> Option<&str> {
 // ensures { SameEnds rest.old wanted.old rest.new wanted.new }
 #[inline(always)]
 fn skip_byte_escapes(rest: &mut Rest<'_>, wanted: &mut Rest<'_>) {
-    while let Some((byte, behind)) = byte_escape(rest.text()) {
+    while let Some((byte, rest_after)) = byte_escape(rest.text()) {
         if !wanted.consume_ascii(byte) {
             return;
         }
-        *rest = Rest::new(behind);
+        *rest = Rest::new(rest_after);
     }
 }
 

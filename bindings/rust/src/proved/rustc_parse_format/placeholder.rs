@@ -58,7 +58,7 @@ impl<'input> Reader<'input> {
 
     /// Returns whether the next character is a `}` or a `:`, so that there is no position.
     // ensures position { IsTrue result → position self.now.rest ≡ (NoPosition, self.now.rest) }
-    // ensures white { IsTrue result → behind_white self.now.rest ≡ self.now.rest }
+    // ensures white { IsTrue result → after_white self.now.rest ≡ self.now.rest }
     #[inline]
     fn has_no_position(&self) -> bool {
         matches!(self.cursor.peek(), Some('}' | ':'))
@@ -71,17 +71,17 @@ impl<'input> Reader<'input> {
     // ensures value { OnOk result
     //     (seen_position into.new.position ≡ position_of 0 (position self.old.rest).0) }
     // ensures span { (let p = position self.old.rest in OnOk result (pair into.new.position_span
-    //     ≡ place_of self.old.world (up_to self.old.rest (behind_white p.1)))) }
+    //     ≡ place_of self.old.world (up_to self.old.rest (after_white p.1)))) }
     // ensures format { into.new.format ≡ into.old.format }
     // ensures state { OnOk result (self.new ≡ (let p = position self.old.rest in
     //     let fs = position_faults self.old.rest p.0 in
-    //     record (read_to self.old (behind_white p.1) self.old.next fs) {
+    //     record (read_to self.old (after_white p.1) self.old.next fs) {
     //       faults = (self.old.faults ++ faults_in self.old.world fs) ++ name_faults
     //           (seen_mode mode) (given_position p.0) (pair into.new.position_span);
     //     })) }
     // ensures err { OnErr result (self.new.source ≡ self.old.source) }
     // ensures spare { (let p = position self.old.rest in
-    //     let span = up_to self.old.rest (behind_white p.1) in
+    //     let span = up_to self.old.rest (after_white p.1) in
     //     position_faults self.old.rest p.0 ≡ []
     //     → name_faults (seen_mode mode) (given_position p.0) span ≡ [] → IsOk result) }
     #[inline(always)]

@@ -98,8 +98,8 @@ impl<'input> Reader<'input> {
     /// as text for the lines. Returns `Err` if an allocation fails; allocates only for lines that
     /// end in the prefix.
     // ensures value { IfOk result (λ t. chars t.now
-    //     ≡ with_first self.old.rest (front is_no_brace (behind_first self.old.rest))) }
-    // ensures reads { let s = record self.old { rest = behind_first self.old.rest } in
+    //     ≡ with_first self.old.rest (front is_no_brace (after_first self.old.rest))) }
+    // ensures reads { let s = record self.old { rest = after_first self.old.rest } in
     //     Reaches self.old result self.new (read_run s) (IsInOneLine s) }
     #[inline]
     pub fn string_past_brace(&mut self) -> Result<&'input str, AllocError> {

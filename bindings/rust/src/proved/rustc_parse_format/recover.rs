@@ -51,7 +51,7 @@ impl<'input> Reader<'input> {
     /// has none of its own. Returns `Err` if an allocation fails.
     // ensures state { (let span = place_of self.old.world (over_first self.old.rest) in
     //     OnOk result (self.new
-    //     ≡ behind_sign self.old (sign_fault sign next span (pair opening)))) }
+    //     ≡ after_sign self.old (sign_fault sign next span (pair opening)))) }
     // ensures err { OnErr result (self.new.source ≡ self.old.source) }
     #[inline]
     fn suggest_sign(

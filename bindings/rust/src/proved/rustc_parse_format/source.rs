@@ -7,7 +7,7 @@
 use crate::shim::prelude::*;
 pub(crate) mod anchor;
 
-use crate::proved::rustc_parse_format::characters::{behind_first, first};
+use crate::proved::rustc_parse_format::characters::{after_first, first};
 use crate::proved::rustc_parse_format::literal::source_end;
 use anchor::continuations_width;
 pub use anchor::Anchor;
@@ -56,7 +56,7 @@ impl<'input> Source<'input> {
         }
         match &self.kept_snippet {
             Some(snippet) => anchor.stop_of(snippet.as_str(), rest),
-            None => self.offset + (self.input.len() - behind_first(rest).len()),
+            None => self.offset + (self.input.len() - after_first(rest).len()),
         }
     }
 
@@ -65,7 +65,7 @@ impl<'input> Source<'input> {
     /// to the text that is left.
     // requires { IsAnchored self.now rest.now anchor.old }
     // ensures place { pair result.0 ≡ place_at (seen_world self.now) (length (chars rest.now)) }
-    // ensures rest { chars result.1.now ≡ behind_first (chars rest.now) }
+    // ensures rest { chars result.1.now ≡ after_first (chars rest.now) }
     // ensures anchored { IsAnchored self.now result.1.now anchor.new }
     #[inline(always)]
     pub fn pass(
@@ -79,11 +79,11 @@ impl<'input> Source<'input> {
         match &self.kept_snippet {
             Some(snippet) => anchor.pass(snippet.as_str(), rest),
             None => {
-                let behind = behind_first(rest);
+                let rest_after = after_first(rest);
                 let start = self.offset + (self.input.len() - rest.len());
                 (
-                    start..self.offset + (self.input.len() - behind.len()),
-                    behind,
+                    start..self.offset + (self.input.len() - rest_after.len()),
+                    rest_after,
                 )
             }
         }

@@ -82,9 +82,9 @@ impl<'input> Reader<'input> {
     //     OnOk result (seen_spec format.new ≡ record (seen_spec format.old) {
     //       ty = word t;
     //       ty_span = option_map (place_of self.old.world)
-    //           (word_span t (word t) (behind_word t));
+    //           (word_span t (word t) (after_word t));
     //     })) }
-    // ensures reads { ReadsTo self.old result self.new (behind_word self.old.rest) self.old.next
+    // ensures reads { ReadsTo self.old result self.new (after_word self.old.rest) self.old.next
     //     (word_faults self.old.rest) [] }
     #[inline(always)]
     fn word_type(&mut self, format: &mut FormatSpec<'input>) -> Result<(), AllocError> {
@@ -100,7 +100,7 @@ impl<'input> Reader<'input> {
 
     /// Reads the type `?`. A flag after it is a fault, and is not read. Returns `Err` if an
     /// allocation fails.
-    // ensures reads { ReadsTo self.old result self.new (behind_first self.old.rest) self.old.next
+    // ensures reads { ReadsTo self.old result self.new (after_first self.old.rest) self.old.next
     //     (flag_faults self.old.rest) [] }
     #[inline]
     fn debug_type(&mut self) -> Result<(), AllocError> {
@@ -175,18 +175,18 @@ impl<'input> Reader<'input> {
     /// span of the text includes the colon. Text is a fault in a mode that allows only names.
     /// Returns `Err` if an allocation fails.
     // ensures value { OnOk result (seen_spec format.new ≡ record (seen_spec format.old) {
-    //   ty = front is_no_brace (behind_first self.old.rest);
+    //   ty = front is_no_brace (after_first self.old.rest);
     //   ty_span = Some (place_of self.old.world
-    //       (up_to self.old.rest (behind is_no_brace (behind_first self.old.rest))));
+    //       (up_to self.old.rest (rest_after is_no_brace (after_first self.old.rest))));
     // }) }
-    // ensures state { OnOk result (self.new ≡ (let t = behind_first self.old.rest in
+    // ensures state { OnOk result (self.new ≡ (let t = after_first self.old.rest in
     //     record (read_run (record self.old { rest = t })) {
     //       faults = self.old.faults ++ text_faults (seen_mode mode) (front is_no_brace t)
-    //           (place_of self.old.world (up_to self.old.rest (behind is_no_brace t)));
+    //           (place_of self.old.world (up_to self.old.rest (rest_after is_no_brace t)));
     //     })) }
     // ensures err { OnErr result (self.new.source ≡ self.old.source) }
-    // ensures spare { (let t = behind_first self.old.rest in
-    //     let span = up_to self.old.rest (behind is_no_brace t) in
+    // ensures spare { (let t = after_first self.old.rest in
+    //     let span = up_to self.old.rest (rest_after is_no_brace t) in
     //     text_faults (seen_mode mode) (front is_no_brace t) span ≡ []
     //     → IsInOneLine (record self.old { rest = t }) → IsOk result) }
     #[inline]

@@ -164,7 +164,7 @@ fn primary_span(site: AsmSite<'_, '_>, labels: &[Label]) -> Range<usize> {
 }
 
 /// Returns the finding of a fault of a call. Returns `Err` if an allocation fails.
-// ensures tells { IfOk result (λ x. TellsAsm (map seen_operand call.now.operands.items)
+// ensures outcome { IfOk result (λ x. TellsAsm (map seen_operand call.now.operands.items)
 //     (seen_fault fault.now) x) }
 // ensures spans { IfOk result (λ x. HasSpans site.entry.text.now x) }
 #[inline]
@@ -200,7 +200,7 @@ fn is_template_fault(fault: &AsmFault<'_>) -> bool {
 
 /// Adds the finding of a fault of a call, unless only that of a template counts. Returns `Err` if
 /// an allocation fails.
-// ensures told { OnOk result ((xs : List FindingValue)
+// ensures outcome { OnOk result ((xs : List FindingValue)
 //     × (findings.new.items ≡ findings.old.items ++ xs)
 //     × TellAllAsm (map seen_operand call.now.operands.items)
 //     (counted_asm is_whole (seen_fault fault.now ∷ [])) xs) }
@@ -223,7 +223,7 @@ fn put_finding<'c>(
 
 /// Adds the findings of the faults of a call, or only that of a template. Returns `Err` if an
 /// allocation fails.
-// ensures told { OnOk result ((xs : List FindingValue)
+// ensures outcome { OnOk result ((xs : List FindingValue)
 //     × (findings.new.items ≡ findings.old.items ++ xs)
 //     × TellAllAsm (map seen_operand call.now.operands.items)
 //     (counted_asm is_whole (map seen_fault call.now.faults.items)) xs) }

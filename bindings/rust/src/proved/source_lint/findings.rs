@@ -67,7 +67,7 @@ fn counted_help(help: Option<CallHelp>, is_whole: bool) -> Option<CallHelp> {
 
 /// Returns the finding of a fault of a call, whose number of arguments is known or not. Returns
 /// `Err` if an allocation fails.
-// ensures tells { IfOk result (λ x.
+// ensures outcome { IfOk result (λ x.
 //     Tells is_whole (seen_call checked.now) (seen_fault fault.now) x) }
 // ensures spans { IfOk result (λ x. HasSpans site.entry.text.now x) }
 #[inline]
@@ -98,7 +98,7 @@ fn finding<'c>(
 
 /// Adds the finding of a fault of a call, unless only that of its string counts. Returns `Err` if
 /// an allocation fails.
-// ensures told { OnOk result ((xs : List FindingValue)
+// ensures outcome { OnOk result ((xs : List FindingValue)
 //     × (findings.new.items ≡ findings.old.items ++ xs)
 //     × TellAll is_whole (seen_call checked.now)
 //     (counted_faults is_whole (seen_fault fault.now ∷ [])) xs) }
@@ -121,7 +121,7 @@ fn put_finding<'c>(
 
 /// Adds the findings of the faults of a call, or only that of its string. Returns `Err` if an
 /// allocation fails.
-// ensures told { OnOk result ((xs : List FindingValue)
+// ensures outcome { OnOk result ((xs : List FindingValue)
 //     × (findings.new.items ≡ findings.old.items ++ xs)
 //     × AreFindings is_whole (seen_call checked.now) xs) }
 // ensures spans { OnOk result (All (HasSpans site.entry.text.now) findings.old.items

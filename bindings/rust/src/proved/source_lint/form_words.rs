@@ -150,7 +150,7 @@ fn push_label(
 
 /// Returns the labels of what is wrong with these bytes. Returns `Err` if an allocation fails.
 // requires { IsSpan text.now span.now }
-// ensures told { IfOk result (λ v. TellLabels (form_labels (seen_form form.entry)) v.items) }
+// ensures outcome { IfOk result (λ v. TellLabels (form_labels (seen_form form.entry)) v.items) }
 // ensures spans { IfOk result (λ v. All (λ l. IsSpan text.now l.range) v.items) }
 #[inline]
 fn form_labels(
@@ -193,7 +193,7 @@ fn literal_for(alloc: Global, others: usize) -> Result<String, AllocError> {
 
 /// Returns the help, or `None` if there is none that is no label. Returns `Err` if an allocation
 /// fails.
-// ensures told { IfOk result (λ o. TellsHelp (form_help (seen_form form.entry)) o) }
+// ensures outcome { IfOk result (λ o. TellsHelp (form_help (seen_form form.entry)) o) }
 // ensures spans { IfOk result (λ o. IfSome o (λ h. All (λ e. IsSpan text.now e.range)
 //     h.edits.items)) }
 #[inline]
@@ -220,7 +220,7 @@ fn form_help(
 /// Returns the finding of what is wrong with the arguments of a call. Returns `Err` if an
 /// allocation fails.
 // requires { IsSpan text.now span }
-// ensures told { IfOk result (λ x. TellsForm (seen_form form.entry) x) }
+// ensures outcome { IfOk result (λ x. TellsForm (seen_form form.entry) x) }
 // ensures spans { IfOk result (λ x. HasSpans text.now x) }
 #[inline]
 fn form_finding(
@@ -246,7 +246,7 @@ fn form_finding(
 
 /// Adds the finding of what is wrong with the arguments of a call, if anything is. Returns `Err` if
 /// an allocation fails.
-// ensures told { OnOk result ((xs : List FindingValue)
+// ensures outcome { OnOk result ((xs : List FindingValue)
 //     × (findings.new.items ≡ findings.old.items ++ xs)
 //     × TellsForms (option_map seen_form form.entry) xs) }
 // ensures spans { OnOk result (All (HasSpans text.now) findings.old.items

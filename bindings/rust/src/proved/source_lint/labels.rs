@@ -102,7 +102,7 @@ fn edit_text(site: Site<'_, '_>, edit: CallEdit) -> Result<String, AllocError> {
 }
 
 /// Returns edits of a call with their ranges. Returns `Err` if an allocation fails.
-// ensures told { IfOk result (λ v. TellEdits (map seen_edit edits.items) v.items) }
+// ensures outcome { IfOk result (λ v. TellEdits (map seen_edit edits.items) v.items) }
 // ensures spans { IfOk result (λ v. All (λ x. IsSpan site.entry.text.now x.range) v.items) }
 #[inline]
 fn edits(alloc: Global, site: Site<'_, '_>, edits: Vec<CallEdit>) -> Result<Vec<Edit>, AllocError> {
@@ -116,7 +116,7 @@ fn edits(alloc: Global, site: Site<'_, '_>, edits: Vec<CallEdit>) -> Result<Vec<
 }
 
 /// Returns a help of a call with the ranges of its edits. Returns `Err` if an allocation fails.
-// ensures told { IfOk result (λ o. TellsHelp (option_map seen_help help) o) }
+// ensures outcome { IfOk result (λ o. TellsHelp (option_map seen_help help) o) }
 // ensures spans { IfOk result (λ o. IfSome o (λ x. All (λ e. IsSpan site.entry.text.now e.range)
 //     x.edits.items)) }
 #[inline]

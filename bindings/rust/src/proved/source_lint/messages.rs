@@ -40,7 +40,7 @@ fn help(alloc: Global, help: Option<&str>) -> Result<Option<Help>, AllocError> {
 }
 
 /// Returns the finding of a fault, for a trait of this name. Returns `Err` if an allocation fails.
-// ensures tells { IfOk result (λ x. TellsMessage (chars name.now) (seen_fault fault.now) x) }
+// ensures outcome { IfOk result (λ x. TellsMessage (chars name.now) (seen_fault fault.now) x) }
 // ensures spans { IfOk result (λ x. HasSpans site.entry.text.now x) }
 #[inline]
 fn finding(
@@ -66,7 +66,7 @@ fn finding(
 }
 
 /// Adds the findings of faults, for a trait of this name. Returns `Err` if an allocation fails.
-// ensures told { OnOk result ((xs : List FindingValue)
+// ensures outcome { OnOk result ((xs : List FindingValue)
 //     × (findings.new.items ≡ findings.old.items ++ xs)
 //     × TellMessages (chars name.now) (map seen_fault faults.now) xs) }
 // ensures spans { OnOk result (All (HasSpans site.entry.text.now) findings.old.items

@@ -64,7 +64,7 @@ fn counted_givens<'a>(
 /// Checks a call with this format string and these arguments, and adds its findings. Returns `Err`
 /// if an allocation fails.
 // requires { hashes string.style + length string.text.now + 2 < 2 ^ 64 }
-// ensures told { OnOk result (let s = start string.entry in (xs : List FindingValue)
+// ensures outcome { OnOk result (let s = start string.entry in (xs : List FindingValue)
 //     × (findings.new.items ≡ findings.old.items ++ xs)
 //     × AreFindings is_counted (call_of string.entry.captures s (map seen_given given.now)) xs) }
 // ensures spans { OnOk result (All (HasSpans site.entry.text.now) findings.old.items

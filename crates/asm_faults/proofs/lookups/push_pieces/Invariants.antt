@@ -1,6 +1,6 @@
 use Rattle.std.proofs.Common.{◌≡◌, ◌≤◌, ◌++◌, drop, length, map}
 use Rattle.rustc_parse_format.specs.Seen.{pair, seen}
-use Rattle.asm_faults.specs.Lookups.{next_behind, piece_lookups}
+use Rattle.asm_faults.specs.Lookups.{next_after_pieces, piece_lookups}
 use Rattle.asm_faults.specs.Seen.{seen_lookup}
 use Rattle.asm_faults.proofs.lookups.push_pieces.Given as goal
 
@@ -11,7 +11,7 @@ invariant-loop-piece l = record {
       (map pair l.places) (map seen (drop l.piece-index l.pieces))
       ≡ map seen_lookup l.fn.walk.lookups.items
       ++ piece_lookups l.template l.fn.walk.next (map pair l.fn.places) (map seen l.pieces);
-  next : next_behind l.walk.next (map seen (drop l.piece-index l.pieces))
-      ≡ next_behind l.fn.walk.next (map seen l.pieces);
+  next : next_after_pieces l.walk.next (map seen (drop l.piece-index l.pieces))
+      ≡ next_after_pieces l.fn.walk.next (map seen l.pieces);
   few : l.walk.next ≤ length l.walk.lookups.items;
 }

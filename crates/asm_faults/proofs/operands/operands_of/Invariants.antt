@@ -9,7 +9,7 @@ abbrev pub invariant-loop-index : goal.invariant-loop-index
 invariant-loop-index l = record {
   holds : Holds (map seen_operand l.operands.slots.items) l.operands;
   many : length l.operands.slots.items ≡ l.index;
-  told : map seen_fault l.faults.items ++ faults_from (map seen_operand l.operands.slots.items)
+  outcome : map seen_fault l.faults.items ++ faults_from (map seen_operand l.operands.slots.items)
       l.index (map seen_operand (drop l.index l.given))
       ≡ map seen_fault l.fn.faults.items ++ faults_from [] 0 (map seen_operand l.given);
   held : slots_after (map seen_operand l.operands.slots.items)

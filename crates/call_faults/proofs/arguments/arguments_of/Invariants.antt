@@ -10,7 +10,8 @@ use Rattle.call_faults.proofs.arguments.arguments_of.Given as goal
 abbrev pub invariant-loop-index : goal.invariant-loop-index
 invariant-loop-index l = record {
   holds : Holds (map seen_kept l.arguments.list.items) l.arguments;
-  told : map seen_fault l.faults.items ++ list_faults (map seen_kept l.arguments.list.items) l.index
+  outcome : map seen_fault l.faults.items ++ list_faults (map seen_kept l.arguments.list.items)
+      l.index
       (map seen_given (drop l.index l.given))
       ≡ map seen_fault l.fn.faults.items ++ list_faults [] 0 (map seen_given l.given);
   kept : kept_after (map seen_kept l.arguments.list.items) l.index

@@ -25,8 +25,8 @@ returns-clause-faults c = λ e.
     = omega (arith, length-map c.args.given.now seen_given) in
     let below : AllByRecursion (λ k. k.index < length c.args.given.now) ks
     = subst (λ (n : ℕ). AllByRecursion (λ k. k.index < n) ks) count (kept-below [] 0 gs tt) in
-    let told : map seen_fault c.arguments_of.new.faults.items ≡ list_faults [] 0 gs
-    = rw c.new-faults.ensures.items at c.in_ok-arguments.ensures.told in
+    let outcome : map seen_fault c.arguments_of.new.faults.items ≡ list_faults [] 0 gs
+    = rw c.new-faults.ensures.items at c.in_ok-arguments.ensures.outcome in
     let looked : map seen_lookup c.deref-2.result.now ≡ lookups_from 0 (map seen c.args.pieces.now)
     = rw c.deref-2.ensures.value c.in_ok-lookups.ensures in
     read-total c.args.string.captures gs (text_fault (start c.args.string))
@@ -34,5 +34,5 @@ returns-clause-faults c = λ e.
     (e ∙ c.if-not-is_read.false) goes_on
     (c.in_ok-compare.ensures ks holds below
     ∙ ap (λ (xs : List CallFault). xs
-    ++ compared c.args.string.captures ks (map seen_lookup c.deref-2.result.now)) told
+    ++ compared c.args.string.captures ks (map seen_lookup c.deref-2.result.now)) outcome
     ∙ ap (λ ls. list_faults [] 0 gs ++ compared c.args.string.captures ks ls) looked)

@@ -8,7 +8,7 @@ use Rattle.call_faults.specs.declared.lookups.Wanted.TheVariants.{Name}
 use Rattle.call_faults.specs.CallFaults.{CallFault}
 use Rattle.call_faults.specs.Comparison.{lookup_faults}
 use Rattle.call_faults.specs.Seen.{found_in, seen_fault, seen_lookup}
-use Rattle.call_faults.proofs.Comparing.{now-known, told-name}
+use Rattle.call_faults.proofs.Comparing.{now-known, outcome-name}
 use Rattle.call_faults.proofs.compared.look_up_one.Goals as goal
 
 pub returns-in_ok-push-in-Refer-default-Name : goal.returns-in_ok-push-in-Refer-default-Name
@@ -30,7 +30,8 @@ returns-in_ok-push-in-Refer-default-Name c = λ known h.
       λ ls. ap (λ (xs : List CallFault). xs ++ lookup_faults c.args.captures (w ∷ known) ls)
           (ap (map seen_fault) c.in_ok-push-in-Refer-default-Name.ensures.items
           ∙ map-append seen_fault c.args.faults.now.items _)
-          ∙ told-name (map seen_fault c.args.faults.now.items) c.args.captures known r w ls captures
+          ∙ outcome-name (map seen_fault c.args.faults.now.items) c.args.captures known r w ls
+          captures
           lacked
           ∙ ap (λ l. map seen_fault c.args.faults.now.items
           ++ lookup_faults c.args.captures known (seen_lookup l ∷ ls)) (sym is),

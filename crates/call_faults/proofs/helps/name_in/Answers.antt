@@ -7,6 +7,6 @@ returns c =
     rw (
       encodes-chars c.args.name.now c.utf8.name,
       c.in_ok-push_str.ensures.bytes,
-      c.behind_name.ensures,
+      c.after_name.ensures,
       c.in_ok-text.ensures.ok,
     ) refl

@@ -11,11 +11,11 @@ pub loop-line-preserved : goal.loop-line-preserved
 loop-line-preserved c =
     let l = c.loop-line in
     let s = c.args.style in
-    let behind = c.in-Some.behind.now in
+    let rest_after = c.in-Some.rest_after.now in
     record {
       is_text = search rules;
-      same = ap (λ p. with_texts s (slice_split is_line_feed behind) p) c.in_ok-end_line.ensures
-          ∙ sym (lines-step s l.rest.now c.in-Some.line.now behind
+      same = ap (λ p. with_texts s (slice_split is_line_feed rest_after) p) c.in_ok-end_line.ensures
+          ∙ sym (lines-step s l.rest.now c.in-Some.line.now rest_after
           (seen_page l.lines.items l.row.items) c.in-Some.ensures.lines)
           ∙ l.invariant.same;
     }

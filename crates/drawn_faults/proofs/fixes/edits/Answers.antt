@@ -4,7 +4,7 @@ use Rattle.std.proofs.lemmas.Grind.{common_steps}
 use Rattle.rustc_parse_format.specs.Seen.{seen_error, seen_mode}
 use Rattle.rustc_parse_format.specs.Faults.{Message}
 use Rattle.rustc_parse_format.specs.World.{Place}
-use Rattle.drawn_faults.specs.Edits.{AreInOrder, Edit, edits, edit_of, is_behind, made}
+use Rattle.drawn_faults.specs.Edits.{AreInOrder, Edit, edits, edit_of, is_after, made}
 use Rattle.drawn_faults.specs.SeenEdits.{seen_edit}
 use Rattle.drawn_faults.proofs.EditLaws.{made-order, some-made}
 use Rattle.drawn_faults.proofs.fixes.edits.Goals as goal
@@ -32,6 +32,6 @@ returns-in_err-push-clause-spare c = λ none.
     ≡ edits (seen_mode c.args.mode) (map seen_error c.args.errors.now) = l.invariant in
     let r : rest ≡ m ∷ left = grind (arith, common_steps) in
     let s : edit_of (seen_mode c.args.mode) m ≡ Some e = grind (arith, common_steps) in
-    let b : is_behind l.end e ≡ true = grind (arith, common_steps) in
+    let b : is_after l.end e ≡ true = grind (arith, common_steps) in
     absurd (some-made (seen_mode c.args.mode) (map seen_edit l.found.items) l.end rest left m e _ h
     r s b none)

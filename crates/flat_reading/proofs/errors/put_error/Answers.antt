@@ -15,11 +15,11 @@ returns c =
     let f5 = five.forward in
     let a1 = c.put-description.auto.texts in let a2 = c.put_note-note.auto.texts in
     let a3 = c.put-label.auto.texts in let a4 = c.put_second.auto.texts in
-    let behind_four = five in
-    let behind_three = Grows-trans _ _ _ _ _ _ a4 four behind_four in
-    let behind_two = Grows-trans _ _ _ _ _ _ a3 three behind_three in
-    let behind_one = Grows-trans _ _ _ _ _ _ a2 two behind_two in
-    let all = Grows-trans _ _ _ _ _ _ a1 one behind_one in
+    let after_four = five in
+    let after_three = Grows-trans _ _ _ _ _ _ a4 four after_four in
+    let after_two = Grows-trans _ _ _ _ _ _ a3 three after_three in
+    let after_one = Grows-trans _ _ _ _ _ _ a2 two after_two in
+    let all = Grows-trans _ _ _ _ _ _ a1 one after_one in
     record {
       grows = all;
       counted = omega (
@@ -34,15 +34,15 @@ returns c =
       );
       holds = λ fit. record {
         description = Holds-is _ _ _ _ _ c.as_str.ensures.value
-            (Holds-grow _ _ _ _ _ (behind_one.front (omega (
+            (Holds-grow _ _ _ _ _ (after_one.front (omega (
               arith,
               a1,
             ))) (c.put-description.ensures.holds (omega arith)));
         note = HoldsMaybe-grow _ _ c.put_note-note.result _
-            (behind_two.front (omega (arith, a1, a2)))
+            (after_two.front (omega (arith, a1, a2)))
             (c.put_note-note.ensures.holds (omega (arith, a1)));
         label = Holds-is _ _ _ _ _ c.as_str-2.ensures.value
-            (Holds-grow _ _ _ _ _ (behind_three.front (omega (
+            (Holds-grow _ _ _ _ _ (after_three.front (omega (
               arith,
               a1,
               a2,
@@ -50,7 +50,7 @@ returns c =
             ))) (c.put-label.ensures.holds (omega (arith, a1, a2))));
         span = c.extent.ensures;
         second = HoldsSecond-grow _ _ c.put_second.result.0 c.put_second.result.1 _
-            (behind_four.front (omega (
+            (after_four.front (omega (
               arith,
               a1,
               a2,

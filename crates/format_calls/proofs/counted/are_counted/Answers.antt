@@ -10,8 +10,8 @@ pub loop-index-preserved : goal.loop-index-preserved
 loop-index-preserved c =
     let xs = c.args.source.now in
     let i = c.loop-index.index in
-    let t = tree-within xs c.args.opening c.args.close i c.behind_tree-index.result
-    c.requires.pair c.behind_tree-index.ensures c.loop-index.invariant.behind
+    let t = tree-within xs c.args.opening c.args.close i c.after_tree-index.result
+    c.requires.pair c.after_tree-index.ensures c.loop-index.invariant.rest_after
     c.loop-index-test.true in
     let e : (c.loop-index.found || is_uncounted xs i) ≡ c.if-found.found =
     elim c.if-found.branch [
@@ -22,10 +22,10 @@ loop-index-preserved c =
           (sym w.is_uncounted-found.ensures) ∙ sym w.found-is)
     ] in
     record {
-      passed = subst (λ v. Passed xs c.args.from c.behind_tree-index.result c.args.close v) e
-          (passed-more xs c.args.from i c.behind_tree-index.result c.args.close c.loop-index.found
-          c.loop-index.invariant.passed c.behind_tree-index.ensures);
-      behind = let b = c.loop-index.invariant.behind in omega (arith, b, t.0);
+      passed = subst (λ v. Passed xs c.args.from c.after_tree-index.result c.args.close v) e
+          (passed-more xs c.args.from i c.after_tree-index.result c.args.close c.loop-index.found
+          c.loop-index.invariant.passed c.after_tree-index.ensures);
+      rest_after = let b = c.loop-index.invariant.rest_after in omega (arith, b, t.0);
       within = t.1;
     }
 

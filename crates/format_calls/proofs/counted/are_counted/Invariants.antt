@@ -5,7 +5,7 @@ use Rattle.format_calls.proofs.counted.are_counted.Given as goal
 abbrev pub invariant-loop-index : goal.invariant-loop-index
 invariant-loop-index l = record {
   passed : Passed l.source l.from l.index l.close l.found;
-  behind : l.opening < l.index;
+  rest_after : l.opening < l.index;
   within : l.index ≤ l.close;
 }
 

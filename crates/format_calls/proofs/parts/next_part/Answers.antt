@@ -21,8 +21,8 @@ loop-token-init c = record {
   );
 }
 
-pub add_behind_front-requires : goal.add_behind_front-requires
-add_behind_front-requires c = part-long _ _ _ _ _ c.in_ok-part.ensures.joins.1
+pub add_after_front-requires : goal.add_after_front-requires
+add_after_front-requires c = part-long _ _ _ _ _ c.in_ok-part.ensures.joins.1
 
 pub loop-token-preserved : goal.loop-token-preserved
 loop-token-preserved c =
@@ -73,9 +73,9 @@ returns-in-Some-front_of-clause-some c =
           (inl refl) in
           let w = seen_window c.loop-token.last in
           let front = (before ++ (g.0 ++ window w.name w.mark)) ++ leaf c.in-Some.token ∷ [] in
-          subst (λ v. IsBalanced v c.add_behind_front.new.balance)
+          subst (λ v. IsBalanced v c.add_after_front.new.balance)
           (ap (λ v. front ++ v) (ap (λ v. drop 3 v) j.1) ∙ part-more before _ _ _ _ _ _ p.0)
-          (c.in_ok-add_behind_front.ensures front (c.in_ok-add.ensures _ (g.3 before b))),
+          (c.in_ok-add_after_front.ensures front (c.in_ok-add.ensures _ (g.3 before b))),
     )
 
 pub returns-clause-none : goal.returns-clause-none

@@ -7,7 +7,7 @@ use Rattle.format_calls.proofs.split.argument_end.Given as goal
 abbrev pub invariant-loop-end : goal.invariant-loop-end
 invariant-loop-end l = record {
   walks : (js : List ℕ) × Walks l.source l.from (Start false) js l.end l.mode;
-  behind : l.from ≤ l.end;
+  rest_after : l.from ≤ l.end;
   within : l.end ≤ l.to;
   depth : depth_of l.mode ≤ l.end;
 }

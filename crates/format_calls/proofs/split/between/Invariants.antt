@@ -5,7 +5,7 @@ use Rattle.format_calls.proofs.split.between.Given as goal
 abbrev pub invariant-loop-start : goal.invariant-loop-start
 invariant-loop-start l = record {
   so_far : SoFar l.source (l.opening + 1) l.found.items l.start l.close;
-  behind : l.opening < l.start;
+  rest_after : l.opening < l.start;
   within : l.start ≤ l.close;
 }
 

@@ -1,7 +1,7 @@
 use Rattle.std.proofs.Common.{◌-◌, ap, chars, [], ◌∷◌, ◌∙◌, codes, refl}
 use Rattle.std.specs.Char.{is_whitespace}
 use Rattle.std.specs.Int.{from_bool}
-use Rattle.rustc_parse_format.specs.Characters.{Text, behind_white, byte_length, front}
+use Rattle.rustc_parse_format.specs.Characters.{Text, after_white, byte_length, front}
 use Rattle.rustc_parse_format.specs.Placeholder.{cut}
 use Rattle.rustc_parse_format.specs.Seen.{seen_mode}
 use Rattle.rustc_parse_format.specs.Spelling.{run}
@@ -11,7 +11,7 @@ use Rattle.rustc_parse_format.specs.Values.{number_after_spec}
 use Rattle.rustc_parse_format.proofs.Grammar.PartCuts.{cut-sound}
 use Rattle.rustc_parse_format.proofs.Grammar.PartFronts.{run-finds}
 use Rattle.rustc_parse_format.proofs.Grammar.PartLaws.{IsPart-moved, IsRow, only, opened}
-use Rattle.format_tokens.proofs.Calls.{ended, white-behind}
+use Rattle.format_tokens.proofs.Calls.{ended, white-rest_after}
 use Rattle.format_tokens.proofs.Taking.{then}
 use Rattle.format_tokens.proofs.walk.placeholder.Goals as goal
 
@@ -32,8 +32,8 @@ returns c n t e v i =
     ∙ ap (λ x. x.0) ((run-finds is_whitespace).complete p.seam a.field.space w.seam w.first))) in
     let t4 = c.in_ok-last.ensures a.field.spec n a.rest (IsPart-moved _ _ _ _ t3.leaves s)
     (ap (λ (k : Argument (Unit {0})). k.format) v) in
-    let t5 = c.in_ok-end.ensures (front is_whitespace a.rest) (behind_white a.rest)
-    (t4.leaves ∙ white-behind a.rest)
+    let t5 = c.in_ok-end.ensures (front is_whitespace a.rest) (after_white a.rest)
+    (t4.leaves ∙ white-rest_after a.rest)
     (c.run_width-2.ensures ∙ ap (λ (u : Text). byte_length (front is_whitespace u)) t4.leaves) in
     ended (seen_mode c.args.mode) n (chars c.args.text.now) t _ _ _ _ _ _ _ _ _ _
     (then t1 (then (then t2 (then t3 t4)) t5)) (c.from.ensures ∙ ap from_bool c.begins.ensures)

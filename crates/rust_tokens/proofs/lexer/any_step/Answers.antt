@@ -4,9 +4,9 @@ use Rattle.rust_tokens.proofs.lexer.any_step.Goals as goal
 
 pub returns-clause-begins : goal.returns-clause-begins
 returns-clause-begins c =
-    let v : IsUtf8 c.behind_suffix-rest.result.now = search rules in
+    let v : IsUtf8 c.after_suffix-rest.result.now = search rules in
     let u : IsUtf8 c.in-Some.body.rest.now = search rules in
-    step-begins _ _ _ _ _ c.utf8.text u v c.in-Some.ensures c.behind_suffix-rest.ensures
+    step-begins _ _ _ _ _ c.utf8.text u v c.in-Some.ensures c.after_suffix-rest.ensures
 
 pub returns-clause-fewer : goal.returns-clause-fewer
 returns-clause-fewer c =

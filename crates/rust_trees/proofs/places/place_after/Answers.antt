@@ -6,7 +6,7 @@ use Rattle.rust_trees.proofs.places.place_after.Goals as goal
 pub loop-c-preserved : goal.loop-c-preserved
 loop-c-preserved c =
     let g = grows c.loop-c.reached c.in-Some.c c.is_lf_next.result in
-    let e = c.behind_char-reached.ensures in
+    let e = c.after_char-reached.ensures in
     let s = c.in-Some.ensures.shorter in
     record {
       reached = reached-more _ _ _ _ _ _ _ _ c.loop-c.invariant.reached

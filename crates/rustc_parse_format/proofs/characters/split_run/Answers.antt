@@ -1,4 +1,4 @@
-use Rattle.rustc_parse_format.proofs.Bytes.ByteFronts.{chars-behind, chars-front}
+use Rattle.rustc_parse_format.proofs.Bytes.ByteFronts.{chars-rest_after, chars-front}
 use Rattle.rustc_parse_format.proofs.characters.split_run.Goals as goal
 
 pub returns-clause-front : goal.returns-clause-front
@@ -10,5 +10,5 @@ returns-clause-front c =
 pub returns-clause-rest : goal.returns-clause-rest
 returns-clause-rest c =
     rw (c.split_at.ensures.back)
-    (chars-behind _ c.requires _ _ c.utf8.text
+    (chars-rest_after _ c.requires _ _ c.utf8.text
     (rw (c.as_bytes.ensures.value) at c.run_width-width.ensures))

@@ -6,11 +6,11 @@ use Rattle.rustc_parse_format.proofs.characters.split_wide_word.Goals as goal
 pub before-requires : goal.before-requires
 before-requires c = let t = chars c.args.text.now in (
   word t,
-  rw (c.behind_while-rest.ensures.rest, c.behind_first.ensures.rest)
+  rw (c.after_while-rest.ensures.rest, c.after_first.ensures.rest)
       (word-rest t c.requires),
 )
 
 pub returns-clause-word : goal.returns-clause-word
 returns-clause-word c = let t = chars c.args.text.now in
-    c.before-2.ensures (word t) (rw (c.behind_while-rest.ensures.rest, c.behind_first.ensures.rest)
+    c.before-2.ensures (word t) (rw (c.after_while-rest.ensures.rest, c.after_first.ensures.rest)
     (word-rest t c.requires))

@@ -1,4 +1,4 @@
-use Rattle.rustc_parse_format.proofs.Bytes.ByteFronts.{left-behind}
+use Rattle.rustc_parse_format.proofs.Bytes.ByteFronts.{left-rest_after}
 use Rattle.rustc_parse_format.proofs.Bytes.WordBytes.{word-boundary, word-split}
 use Rattle.rustc_parse_format.proofs.characters.split_word.Goals as goal
 
@@ -21,4 +21,4 @@ returns-clause-left c input l =
     let front = rw c.as_bytes-bytes.ensures.value at c.word_width-width.ensures in
     let next = rw c.as_bytes-bytes.ensures.value at c.is_wide.ensures in
     rw c.split_at.ensures.back
-    (left-behind input _ _ (word-boundary _ _ front (next.0 c.if-is_wide.false)) l)
+    (left-rest_after input _ _ (word-boundary _ _ front (next.0 c.if-is_wide.false)) l)

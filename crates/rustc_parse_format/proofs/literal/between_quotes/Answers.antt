@@ -20,12 +20,13 @@ pub returns-in-Some : goal.returns-in-Some
 returns-in-Some c =
     let ascii : 34 < 128 = omega arith in
     let first = strip_prefix_char 34 c.args.snippet.now
-    (Some c.in-Some.behind) c.in-Some.ensures.cases ascii in
-    last_quote c.args.snippet.now c.in-Some.behind.now c.strip_suffix.result
-    (chars-first 34 c.args.snippet.now (Some c.in-Some.behind) c.utf8.snippet ascii first)
-    (chars-last 34 c.in-Some.behind.now c.strip_suffix.result
-    (first-IsUtf8 34 c.args.snippet.now c.in-Some.behind.now c.utf8.snippet ascii first) ascii
-    (strip_suffix_char 34 c.in-Some.behind.now c.strip_suffix.result c.strip_suffix.ensures.cases
+    (Some c.in-Some.rest_after) c.in-Some.ensures.cases ascii in
+    last_quote c.args.snippet.now c.in-Some.rest_after.now c.strip_suffix.result
+    (chars-first 34 c.args.snippet.now (Some c.in-Some.rest_after) c.utf8.snippet ascii first)
+    (chars-last 34 c.in-Some.rest_after.now c.strip_suffix.result
+    (first-IsUtf8 34 c.args.snippet.now c.in-Some.rest_after.now c.utf8.snippet ascii first) ascii
+    (strip_suffix_char 34 c.in-Some.rest_after.now c.strip_suffix.result
+    c.strip_suffix.ensures.cases
     ascii))
 
 pub returns-in-None : goal.returns-in-None

@@ -3,8 +3,8 @@ use Rattle.std.proofs.Common.{append-nil, sym, subst, ◌∙◌, length, IsOk}
 use Rattle.std.proofs.lemmas.Bool.{both_ways, false≢true}
 use Rattle.std.proofs.lemmas.Str.{chars-nil}
 use Rattle.rustc_parse_format.specs.LiteralUnits.{at_most_one, is_plain}
-use Rattle.rustc_parse_format.specs.Characters.{behind, front}
-use Rattle.rustc_parse_format.proofs.Sources.Contents.{behind-shorter}
+use Rattle.rustc_parse_format.specs.Characters.{rest_after, front}
+use Rattle.rustc_parse_format.proofs.Sources.Contents.{rest_after-shorter}
 use Rattle.rustc_parse_format.proofs.Literals.Meanings.{meaning-shorter}
 use Rattle.rustc_parse_format.proofs.Literals.Texts.{IsTextSoFar, so_far-none, so_far-plain}
 use Rattle.rustc_parse_format.proofs.Literals.Texts.{so_far-unit}
@@ -28,7 +28,7 @@ loop-rest-init c = record {
       ∙ (ap (λ x. chars x ++ front is_plain c.new-rest.result) c.in_ok-text.ensures.bytes
       ∙ (ap (λ x. x ++ front is_plain c.new-rest.result) chars-nil
       ∙ ap (front is_plain) c.new-rest.ensures))));
-  empty = λ e. c.in_ok-put_plain.ensures.rest ∙ ap (behind is_plain) (c.new-rest.ensures ∙ e);
+  empty = λ e. c.in_ok-put_plain.ensures.rest ∙ ap (rest_after is_plain) (c.new-rest.ensures ∙ e);
 }
 
 pub returns-in_default-clause-none : goal.returns-in_default-clause-none
@@ -50,7 +50,7 @@ pub loop-rest-smaller : goal.loop-rest-smaller
 loop-rest-smaller c = omega (
   arith,
   ap length c.in_ok-put_plain-2.ensures.rest,
-  behind-shorter is_plain c.read_unit.new.rest,
+  rest_after-shorter is_plain c.read_unit.new.rest,
   meaning-shorter c.loop-rest.rest (at_most_one c.in-Some.value) c.read_unit.new.rest
       c.in-Some.ensures,
 )

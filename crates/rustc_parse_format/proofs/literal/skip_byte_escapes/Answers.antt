@@ -1,6 +1,6 @@
 use Rattle.std.proofs.Common.{◌≡◌, ◌∷◌, [], true, refl, ap}
 use Rattle.std.proofs.lemmas.Bool.{eq-eqb}
-use Rattle.rustc_parse_format.specs.Characters.{begins_with, behind_first}
+use Rattle.rustc_parse_format.specs.Characters.{begins_with, after_first}
 use Rattle.rustc_parse_format.proofs.Literals.Ends.{ends-after, ends-unit}
 use Rattle.rustc_parse_format.proofs.Literals.Meanings.{meaning-shorter}
 use Rattle.rustc_parse_format.proofs.literal.skip_byte_escapes.Goals as goal
@@ -16,6 +16,6 @@ loop-byte-preserved c =
     c.consume_ascii.ensures.yes c.if-not-consume_ascii.false in
     let agrees : begins_with c.in-Some.byte c.loop-byte.wanted
     ≡ true = rw wanted (eq-eqb c.in-Some.byte c.in-Some.byte refl) in
-    rw (c.new.ensures, ← ap behind_first wanted) (ends-after _ _ _ _ _ _ c.loop-byte.invariant
+    rw (c.new.ensures, ← ap after_first wanted) (ends-after _ _ _ _ _ _ c.loop-byte.invariant
     (ends-unit c.loop-byte.rest _ c.loop-byte.wanted c.in-Some.byte
     (rw c.text.ensures at c.in-Some.ensures.meaning) agrees))

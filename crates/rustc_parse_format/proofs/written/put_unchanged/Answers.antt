@@ -1,7 +1,7 @@
 use Rattle.std.proofs.Common.{◌++◌, ap, ◌∙◌, arith, flat_map, length, string_bytes}
 use Rattle.rustc_parse_format.specs.Written.{is_unchanged, written}
 use Rattle.rustc_parse_format.proofs.Bytes.Unchanged.{unchanged-front}
-use Rattle.rustc_parse_format.proofs.Sources.Contents.{behind-shorter}
+use Rattle.rustc_parse_format.proofs.Sources.Contents.{rest_after-shorter}
 use Rattle.rustc_parse_format.proofs.written.put_unchanged.Goals as goal
 
 pub returns-clause-written : goal.returns-clause-written
@@ -16,12 +16,12 @@ pub returns-in_err-push_run-clause-shorter : goal.returns-in_err-push_run-clause
 returns-in_err-push_run-clause-shorter c = omega (
   arith,
   ap length c.take_run.ensures.rest,
-  behind-shorter is_unchanged c.args.rest.now,
+  rest_after-shorter is_unchanged c.args.rest.now,
 )
 
 pub returns-clause-shorter : goal.returns-clause-shorter
 returns-clause-shorter c = omega (
   arith,
   ap length c.take_run.ensures.rest,
-  behind-shorter is_unchanged c.args.rest.now,
+  rest_after-shorter is_unchanged c.args.rest.now,
 )

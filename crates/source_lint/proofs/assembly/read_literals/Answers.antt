@@ -9,7 +9,7 @@ use Rattle.source_lint.proofs.assembly.read_literals.Goals as goal
 
 pub returns-clause-read : goal.returns-clause-read
 returns-clause-read c =
-    let t = c.in_ok-check_call.ensures.told in
+    let t = c.in_ok-check_call.ensures.outcome in
     let whole = c.args.is_whole in
     let raw = c.args.operands.now.are_raw in
     let ts = map seen_read c.in-Some.read.items in

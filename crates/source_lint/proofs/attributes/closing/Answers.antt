@@ -1,10 +1,10 @@
 use Rattle.std.proofs.Common.{◌≡◌, arith, inl}
 use Rattle.std.proofs.lemmas.Option.{none-some, same_Some}
-use Rattle.format_calls.proofs.CallSteps.{closes-behind}
+use Rattle.format_calls.proofs.CallSteps.{closes-rest_after}
 use Rattle.source_lint.proofs.attributes.closing.Goals as goal
 
 pub returns-in-Some-clause-some : goal.returns-in-Some-clause-some
-returns-in-Some-clause-some c = closes-behind c.args.source.now c.args.index c.in-Some.partner
+returns-in-Some-clause-some c = closes-rest_after c.args.source.now c.args.index c.in-Some.partner
     c.in-Some.ensures.is_partner (omega arith)
 
 pub returns-in_default-clause-none : goal.returns-in_default-clause-none

@@ -3,11 +3,11 @@ use Rattle.source_lint.specs.Findings.{HasSpans}
 use Rattle.source_lint.proofs.Elements.{all-more}
 use Rattle.source_lint.proofs.form_words.put_form.Goals as goal
 
-pub returns-in_ok-push-clause-told : goal.returns-in_ok-push-clause-told
-returns-in_ok-push-clause-told c = (
+pub returns-in_ok-push-clause-outcome : goal.returns-in_ok-push-clause-outcome
+returns-in_ok-push-clause-outcome c = (
   c.in_ok-form_finding.field-0 ∷ [],
   c.in_ok-push.ensures.items,
-  rw c.in-Some.is (c.in_ok-form_finding.field-0, refl, c.in_ok-form_finding.ensures.told),
+  rw c.in-Some.is (c.in_ok-form_finding.field-0, refl, c.in_ok-form_finding.ensures.outcome),
 )
 
 pub returns-in_ok-push-clause-spans : goal.returns-in_ok-push-clause-spans

@@ -15,10 +15,10 @@ loop-edit-preserved c =
     let seen = map-append seen_edit c.loop-edit.yielded (c.in-Some.edit ∷ []) in
     let before = map seen_edit c.loop-edit.yielded in
     record {
-      told = subst (λ (es : List Edit). TellEdits es c.push.new.self.items) (sym seen)
+      outcome = subst (λ (es : List Edit). TellEdits es c.push.new.self.items) (sym seen)
           (subst (λ (xs : List FileEdit). TellEdits (before ++ seen_edit c.in-Some.edit ∷ []) xs)
           (sym c.in_ok-push.ensures.items)
-          (edits-more before (seen_edit c.in-Some.edit) old new c.loop-edit.invariant.told
+          (edits-more before (seen_edit c.in-Some.edit) old new c.loop-edit.invariant.outcome
           c.in_ok-text.ensures));
       spans = all-more (λ x. IsSpan c.args.site.text.now x.range) old _ _
           c.in_ok-push.ensures.items c.loop-edit.invariant.spans c.spot_range-range.ensures;

@@ -9,24 +9,24 @@ use Rattle.source_lint.proofs.Gathering.{gathered-all, gathered-none, slice-step
 use Rattle.source_lint.proofs.messages.put_findings.Goals as goal
 
 pub loop-fault-init : goal.loop-fault-init
-loop-fault-init c = record { told = gathered-none _ _ _; spans = λ h. h }
+loop-fault-init c = record { outcome = gathered-none _ _ _; spans = λ h. h }
 
 pub loop-fault-preserved : goal.loop-fault-preserved
 loop-fault-preserved c =
     let name = chars c.args.name.now in
     record {
-      told = slice-step seen_fault (λ fs xs. TellMessages name fs xs)
+      outcome = slice-step seen_fault (λ fs xs. TellMessages name fs xs)
           (λ f xs. (x : Finding) × (xs ≡ x ∷ []) × TellsMessage name f x)
           (λ f fs xs others p k. subst (λ v. TellMessages name (f ∷ fs) (v ++ others)) (sym p.1)
           (p.2, k)) c.args.faults.now c.loop-fault.fault-index _ _ _ _ _ c.loop-fault-test.true
-          c.loop-fault.invariant.told c.in_ok-push.ensures.items
-          (_, refl, c.in_ok-finding.ensures.tells);
+          c.loop-fault.invariant.outcome c.in_ok-push.ensures.items
+          (_, refl, c.in_ok-finding.ensures.outcome);
       spans = λ h. all-more (HasSpans c.args.site.text.now) _ _ _ c.in_ok-push.ensures.items
           (c.loop-fault.invariant.spans h) c.in_ok-finding.ensures.spans;
     }
 
-pub returns-clause-told : goal.returns-clause-told
-returns-clause-told c = gathered-all _ _ _ _ _
+pub returns-clause-outcome : goal.returns-clause-outcome
+returns-clause-outcome c = gathered-all _ _ _ _ _
     (subst (λ v. TellMessages (chars c.args.name.now) (map seen_fault v) [])
     (sym (drop_all c.loop-fault.fault-index c.args.faults.now c.loop-fault-test.false)) tt)
-    c.loop-fault.invariant.told
+    c.loop-fault.invariant.outcome

@@ -8,7 +8,7 @@ use Rattle.source_lint.proofs.messages.put_findings.Given as goal
 
 abbrev pub invariant-loop-fault : goal.invariant-loop-fault
 invariant-loop-fault l = record {
-  told : Gathered (λ fs xs. TellMessages (chars l.name) fs xs) (map seen_fault l.faults)
+  outcome : Gathered (λ fs xs. TellMessages (chars l.name) fs xs) (map seen_fault l.faults)
       (map seen_fault (drop l.fault-index l.faults)) l.initial.findings.items l.findings.items;
   spans : All (HasSpans l.site.text.now) l.initial.findings.items
       → All (HasSpans l.site.text.now) l.findings.items;

@@ -13,7 +13,7 @@ returns-clause-read c =
     let name = chars c.args.item.name.now in
     let ps = map (λ p. p.now) c.args.item.parameters.now in
     let r = rw c.in-Some.is at c.in_ok-literal.ensures.read in
-    let t = c.in_ok-put_findings.ensures.told in
+    let t = c.in_ok-put_findings.ensures.outcome in
     let found : map seen_fault c.deref-2.result.now ≡ message_faults (Some ps)
     (message_start (without_crs (chars c.args.token.now.text.now)) r.stands_for) =
     ap (map seen_fault) c.deref-2.ensures.value ∙ (c.in_ok-faults.ensures

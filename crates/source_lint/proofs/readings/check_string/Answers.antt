@@ -4,9 +4,9 @@ use Rattle.source_lint.specs.Findings.{AreFindings}
 use Rattle.source_lint.proofs.CheckedCalls.{call-same}
 use Rattle.source_lint.proofs.readings.check_string.Goals as goal
 
-pub returns-clause-told : goal.returns-clause-told
-returns-clause-told c =
-    let t = c.in_ok-put_findings.ensures.told in
+pub returns-clause-outcome : goal.returns-clause-outcome
+returns-clause-outcome c =
+    let t = c.in_ok-put_findings.ensures.outcome in
     let k = c.in_ok-checked.ensures in (
       t.0,
       t.1,

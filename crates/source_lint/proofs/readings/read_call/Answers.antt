@@ -57,7 +57,7 @@ returns-clause-read c =
     let a = rw c.in-Some.is at c.in_ok-arguments.ensures.some in
     let name = rw c.tokens-tokens.ensures at c.name_at-name.ensures in
     let form = rw c.tokens-tokens.ensures at c.form_here-form.ensures in
-    let t = c.in_ok-put_form-in-Err.ensures.told in (
+    let t = c.in_ok-put_form-in-Err.ensures.outcome in (
       t.0,
       t.1,
       reads-here is_new _ xs call args _ _ t.0

@@ -22,7 +22,7 @@ pub returns-clause-read : goal.returns-clause-read
 returns-clause-read c =
     let token = without_crs (chars c.args.site.literal.text.now) in
     let r = rw c.in-Some.is at c.in_ok-literal.ensures.read in
-    let t = c.in_ok-check_string.ensures.told in
+    let t = c.in_ok-check_string.ensures.outcome in
     let appended = c.args.appended_newline in
     let style = c.in-Some.literal.style in
     let start = start_of appended style token r.stands_for in

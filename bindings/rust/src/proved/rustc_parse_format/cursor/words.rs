@@ -6,23 +6,25 @@
 
 use super::Cursor;
 use crate::proved::rustc_parse_format::characters::{
-    before, begins_white, behind_while, is_underscore, leading_number, split_word, Class,
+    after_while, before, begins_white, is_underscore, leading_number, split_word, Class,
     LeadingNumber,
 };
 use core::ops::Range;
 
 impl<'input> Cursor<'input> {
     /// Moves past the longest prefix of characters in the class.
-    // ensures rest { self.new ≡ record self.old { rest = behind (passes class) self.old.rest } }
+    // ensures rest { self.new ≡ record self.old {
+    //   rest = rest_after (passes class) self.old.rest;
+    // } }
     #[inline(always)]
     pub fn skip_while(&mut self, class: Class) {
-        let rest = behind_while(self.rest, class);
+        let rest = after_while(self.rest, class);
 
         self.rest = rest;
     }
 
     /// Moves past the white space at the cursor. Most often there is none.
-    // ensures rest { self.new ≡ record self.old { rest = behind_white self.old.rest } }
+    // ensures rest { self.new ≡ record self.old { rest = after_white self.old.rest } }
     #[inline(always)]
     pub fn ws(&mut self) {
         if begins_white(self.rest) {
@@ -31,7 +33,7 @@ impl<'input> Cursor<'input> {
     }
 
     /// Moves past the white space at the cursor.
-    // ensures rest { self.new ≡ record self.old { rest = behind_white self.old.rest } }
+    // ensures rest { self.new ≡ record self.old { rest = after_white self.old.rest } }
     #[inline(never)]
     fn skip_ws(&mut self) {
         self.skip_while(Class::White);
@@ -51,10 +53,10 @@ impl<'input> Cursor<'input> {
     /// source.
     // requires { first_passes is_id_start self.old.rest ≡ true }
     // ensures value { chars result.0.now ≡ word self.old.rest }
-    // ensures rest { self.new ≡ record self.old { rest = behind_word self.old.rest } }
+    // ensures rest { self.new ≡ record self.old { rest = after_word self.old.rest } }
     // ensures underscore { option_map pair result.1
     //     ≡ if bytes_eq (word self.old.rest) (codes "_")
-    //     then Some (place_of self.old.world (up_to self.old.rest (behind_word self.old.rest)))
+    //     then Some (place_of self.old.world (up_to self.old.rest (after_word self.old.rest)))
     //     else None }
     #[inline(always)]
     pub fn word(&mut self) -> (&'input str, Option<Range<usize>>) {
@@ -87,12 +89,12 @@ impl<'input> Cursor<'input> {
     /// exceeds 65535, also returns the digits, and the byte range in the source of the digits with
     /// the character after them.
     // ensures value { result.0 ≡ number (digits self.old.rest) }
-    // ensures rest { self.new ≡ record self.old { rest = behind_digits self.old.rest } }
+    // ensures rest { self.new ≡ record self.old { rest = after_digits self.old.rest } }
     // ensures over { option_map {U = Text × Place} (λ x. (chars x.0.now, pair x.1)) result.1
     //     ≡ if is_over (digits self.old.rest)
     //     then Some (
     //       digits self.old.rest,
-    //       place_of self.old.world (through self.old.rest (behind_digits self.old.rest)),
+    //       place_of self.old.world (through self.old.rest (after_digits self.old.rest)),
     //     )
     //     else None }
     #[inline(always)]

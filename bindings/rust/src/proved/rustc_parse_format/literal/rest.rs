@@ -5,7 +5,7 @@
 // by results from outside, and beside what is proved (.ci/bindings) and the original (tools/agree).
 
 use crate::proved::rustc_parse_format::blocks::plain_front;
-use crate::proved::rustc_parse_format::characters::{behind_first, first, split_run, Class};
+use crate::proved::rustc_parse_format::characters::{after_first, first, split_run, Class};
 use crate::shim::prelude::*;
 
 /// The rest of a text.
@@ -51,17 +51,17 @@ impl<'a> Rest<'a> {
 
     /// Consumes and returns the next character, or returns `None` if nothing is left.
     // ensures value { result ≡ first self.old }
-    // ensures rest { self.new ≡ behind_first self.old }
+    // ensures rest { self.new ≡ after_first self.old }
     #[inline(always)]
     pub fn next(&mut self) -> Option<char> {
         let first = self.peek();
-        self.text = behind_first(self.text);
+        self.text = after_first(self.text);
         first
     }
 
     /// Consumes the next character, whatever it is, and returns whether it was this one.
     // ensures value { result ≡ begins_with c self.old }
-    // ensures rest { self.new ≡ behind_first self.old }
+    // ensures rest { self.new ≡ after_first self.old }
     #[inline(always)]
     pub fn next_eq(&mut self, c: char) -> bool {
         self.next() == Some(c)
@@ -81,7 +81,7 @@ impl<'a> Rest<'a> {
     // ensures no { IsFalse result → self.new ≡ self.old }
     #[inline(always)]
     pub fn consume_ascii(&mut self, byte: u8) -> bool {
-        match behind_ascii(self.text, byte) {
+        match after_ascii(self.text, byte) {
             Some(rest) => {
                 self.text = rest;
                 true
@@ -94,7 +94,7 @@ impl<'a> Rest<'a> {
     /// characters outside ASCII.
     // requires { IsOfAscii (passes class) }
     // ensures run { chars result.now ≡ front (passes class) self.old }
-    // ensures rest { self.new ≡ behind (passes class) self.old }
+    // ensures rest { self.new ≡ rest_after (passes class) self.old }
     #[inline(always)]
     pub fn take_run(&mut self, class: Class) -> &'a str {
         let (run, rest) = split_run(self.text, class);
@@ -106,7 +106,7 @@ impl<'a> Rest<'a> {
     // ensures { SharePlain self.old other.old self.new other.new }
     #[inline(always)]
     pub fn skip_plain(&mut self, other: &mut Rest<'_>) {
-        let (rest, left) = behind_plain(self.text, other.text);
+        let (rest, left) = after_plain(self.text, other.text);
         self.text = rest;
         other.text = left;
     }
@@ -115,7 +115,7 @@ impl<'a> Rest<'a> {
     // ensures { result ≡ begins_continuation self.now }
     #[inline(always)]
     pub fn begins_continuation(&self) -> bool {
-        self.begins_with('\\') && first(behind_first(self.text)) == Some('\n')
+        self.begins_with('\\') && first(after_first(self.text)) == Some('\n')
     }
 
     /// Skips all string continuations at the start of the rest of a content with its closing quote.
@@ -126,17 +126,17 @@ impl<'a> Rest<'a> {
     #[inline]
     pub fn skip_continuations(&mut self) {
         while self.begins_continuation() {
-            self.text = behind_first(behind_first(self.text));
+            self.text = after_first(after_first(self.text));
             self.skip_ws();
         }
     }
 
     /// Skips the white space that belongs to a string continuation: all HT, LF, CR and space.
-    // ensures { self.new ≡ behind is_skipped self.old }
+    // ensures { self.new ≡ rest_after is_skipped self.old }
     #[inline(always)]
     pub fn skip_ws(&mut self) {
         while let Some('\t' | '\n' | '\r' | ' ') = self.peek() {
-            self.text = behind_first(self.text);
+            self.text = after_first(self.text);
         }
     }
 }
@@ -152,7 +152,7 @@ fn byte_count(text: &str) -> usize {
 // requires { byte < 128 }
 // ensures { IfSome result (λ r. chars text.now ≡ byte ∷ chars r.now) }
 #[inline(always)]
-fn behind_ascii(text: &str, byte: u8) -> Option<&str> {
+fn after_ascii(text: &str, byte: u8) -> Option<&str> {
     let bytes = text.as_bytes();
     if bytes.is_empty() || bytes[0] != byte {
         return None;
@@ -193,7 +193,7 @@ fn begin_alike(bytes: &[u8], others: &[u8]) -> bool {
 // ensures { SharePlain (chars text.now) (chars other.now) (chars result.0.now)
 //     (chars result.1.now) }
 #[inline(always)]
-fn behind_plain<'a, 'b>(text: &'a str, other: &'b str) -> (&'a str, &'b str) {
+fn after_plain<'a, 'b>(text: &'a str, other: &'b str) -> (&'a str, &'b str) {
     let bytes = text.as_bytes();
     let others = other.as_bytes();
     if !begin_alike(bytes, others) {

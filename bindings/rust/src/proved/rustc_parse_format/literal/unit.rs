@@ -29,7 +29,7 @@ fn read_byte(rest: &mut Rest<'_>) -> Option<char> {
 
 /// Returns whether the text begins with `\n`, the most common escape.
 // ensures { IsTrue result → chars text.now ≡ 92 ∷ 110
-//     ∷ behind_first (behind_first (chars text.now)) }
+//     ∷ after_first (after_first (chars text.now)) }
 #[inline(always)]
 pub fn is_newline_escape(text: &str) -> bool {
     let bytes = text.as_bytes();
@@ -139,8 +139,8 @@ fn read_escape(rest: &mut Rest<'_>) -> Option<Option<char>> {
 // ensures { meaning (unit_at rest.old) ≡ option_map (λ v. (at_most_one v, rest.new)) result }
 #[inline(always)]
 pub fn read_unit(rest: &mut Rest<'_>) -> Option<Option<char>> {
-    if let Some((byte, behind)) = byte_escape(rest.text()) {
-        *rest = Rest::new(behind);
+    if let Some((byte, rest_after)) = byte_escape(rest.text()) {
+        *rest = Rest::new(rest_after);
         return Some(Some(byte as char));
     }
     if is_newline_escape(rest.text()) {

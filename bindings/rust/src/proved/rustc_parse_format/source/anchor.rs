@@ -18,7 +18,7 @@
 // That source is proved, and each contract here is its. That this text means the same is tested:
 // by results from outside, and beside what is proved (.ci/bindings) and the original (tools/agree).
 
-use crate::proved::rustc_parse_format::characters::{behind_first, first, run_width, Class};
+use crate::proved::rustc_parse_format::characters::{after_first, first, run_width, Class};
 use crate::proved::rustc_parse_format::literal::{is_newline_escape, read_unit, Rest};
 use crate::shim::prelude::*;
 use core::ops::Range;
@@ -92,7 +92,7 @@ struct CharacterEnd {
 // ensures stop { (w : World) (c : ℕ) (rest : Text) → IsHere snippet.now w (c ∷ rest) at
 //     → result.stop ≡ (place_at w (length (c ∷ rest))).1 }
 // ensures after { (w : World) (rest : Text) → IsHere snippet.now w rest at
-//     → IsHere snippet.now w (behind_first rest) result.next }
+//     → IsHere snippet.now w (after_first rest) result.next }
 #[inline(always)]
 fn character_at(snippet: &str, at: usize) -> CharacterEnd {
     let text = &snippet[at..];
@@ -127,7 +127,7 @@ fn unescaped_width(snippet: &str, at: usize) -> usize {
 // ensures over { IsLeft result.now rest.now }
 // ensures width { length text.now - length result.now ≤ bytes }
 #[inline(always)]
-fn behind_bytes<'a>(text: &'a str, bytes: usize, rest: &'a str) -> &'a str {
+fn after_bytes<'a>(text: &'a str, bytes: usize, rest: &'a str) -> &'a str {
     if text.len() - rest.len() <= bytes {
         return rest;
     }
@@ -157,14 +157,14 @@ impl<'input> Anchor<'input> {
     // ensures here { (w : World) → IsAnchor snippet.now w self.now
     //     → IsHere snippet.now w (chars result.0.now) result.1 }
     #[inline(always)]
-    fn behind_unescaped(&self, snippet: &str, rest: &'input str) -> (&'input str, usize) {
-        let behind = behind_bytes(self.rest, self.unescaped, rest);
-        let moved = self.rest.len() - behind.len();
+    fn after_unescaped(&self, snippet: &str, rest: &'input str) -> (&'input str, usize) {
+        let rest_after = after_bytes(self.rest, self.unescaped, rest);
+        let moved = self.rest.len() - rest_after.len();
         let offset = self.offset + moved;
         if moved == 0 || moved < self.unescaped {
-            return (behind, offset);
+            return (rest_after, offset);
         }
-        (behind, offset + continuations_width(&snippet[offset..]))
+        (rest_after, offset + continuations_width(&snippet[offset..]))
     }
 
     /// Returns the byte offset of `rest` in the snippet, by reading the snippet: in turn, bytes
@@ -174,10 +174,10 @@ impl<'input> Anchor<'input> {
     //     → IsHere snippet.now w (chars rest.now) result }
     #[inline(never)]
     fn offset_by_look(&self, snippet: &str, rest: &'input str) -> usize {
-        let mut at = self.behind_unescaped(snippet, rest);
+        let mut at = self.after_unescaped(snippet, rest);
         while at.0.len() > rest.len() {
             let next = character_at(snippet, at.1).next;
-            at = Anchor::new(snippet, behind_first(at.0), next).behind_unescaped(snippet, rest);
+            at = Anchor::new(snippet, after_first(at.0), next).after_unescaped(snippet, rest);
         }
         at.1
     }
@@ -221,13 +221,13 @@ impl<'input> Anchor<'input> {
     }
 
     /// Returns the byte range in the snippet of the first character of `rest`, and the anchor after
-    /// it, where `behind` starts.
+    /// it, where `rest_after` starts.
     // requires leads { Leads snippet.now self.now rest.now }
     // requires some { length rest.now ≡ 0 → ⊥ }
-    // requires behind { chars behind.now ≡ behind_first (chars rest.now) }
+    // requires rest_after { chars rest_after.now ≡ after_first (chars rest.now) }
     // ensures place { (w : World) → IsAnchor snippet.now w self.now
     //     → pair result.0 ≡ place_at w (length (chars rest.now)) }
-    // ensures after { result.1.rest.now ≡ behind.now }
+    // ensures after { result.1.rest.now ≡ rest_after.now }
     // ensures here { (w : World) → IsAnchor snippet.now w self.now
     //     → IsAnchor snippet.now w result.1 }
     #[inline(never)]
@@ -235,11 +235,11 @@ impl<'input> Anchor<'input> {
         &self,
         snippet: &str,
         rest: &'input str,
-        behind: &'input str,
+        rest_after: &'input str,
     ) -> (Range<usize>, Anchor<'input>) {
         let start = self.offset_of(snippet, rest);
         let CharacterEnd { stop, next } = character_at(snippet, start);
-        (start..stop, Anchor::new(snippet, behind, next))
+        (start..stop, Anchor::new(snippet, rest_after, next))
     }
 
     /// Returns the byte range in the snippet of the first character of `rest`, and the text after
@@ -248,21 +248,21 @@ impl<'input> Anchor<'input> {
     // requires some { length rest.now ≡ 0 → ⊥ }
     // ensures place { (w : World) → IsAnchor snippet.now w self.old
     //     → pair result.0 ≡ place_at w (length (chars rest.now)) }
-    // ensures rest { chars result.1.now ≡ behind_first (chars rest.now) }
+    // ensures rest { chars result.1.now ≡ after_first (chars rest.now) }
     // ensures left { (input : List ℕ) → IsLeft input rest.now → IsLeft input result.1.now }
     // ensures after { IsLeft self.new.rest.now result.1.now }
     // ensures here { (w : World) → IsAnchor snippet.now w self.old
     //     → IsAnchor snippet.now w self.new }
     #[inline(always)]
     pub fn pass(&mut self, snippet: &str, rest: &'input str) -> (Range<usize>, &'input str) {
-        let behind = behind_first(rest);
-        let moved = self.rest.len() - behind.len();
+        let rest_after = after_first(rest);
+        let moved = self.rest.len() - rest_after.len();
         if moved <= self.unescaped {
             let start = self.offset + (self.rest.len() - rest.len());
-            return (start..self.offset + moved, behind);
+            return (start..self.offset + moved, rest_after);
         }
-        let (place, anchor) = self.pass_by_look(snippet, rest, behind);
+        let (place, anchor) = self.pass_by_look(snippet, rest, rest_after);
         *self = anchor;
-        (place, behind)
+        (place, rest_after)
     }
 }

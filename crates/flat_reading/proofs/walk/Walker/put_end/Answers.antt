@@ -1,13 +1,13 @@
 use Rattle.std.proofs.Common.{ap, ◌∙◌}
 use Rattle.flat_reading.specs.Meant.{maybe_place, spec_at}
-use Rattle.flat_reading.proofs.Walking.{no_piece, told_end}
+use Rattle.flat_reading.proofs.Walking.{no_piece, report_end}
 use Rattle.flat_reading.proofs.walk.Walker.put_end.Goals as goal
 
 pub returns-clause-described : goal.returns-clause-described
 returns-clause-described c = λ peeks input specs.
     let step = c.put_bare_piece.new.step in
     let kept = c.put_bare_piece.ensures.others in
-    told_end peeks input specs step c.args.self.now.parser c.next_into.new.self
+    report_end peeks input specs step c.args.self.now.parser c.next_into.new.self
     c.in_ok-_none.ensures.state c.requires
     (no_piece input (spec_at input specs step.spec) step c.put_bare_piece.ensures.kind)
     (ap maybe_place kept.0)

@@ -37,22 +37,22 @@ pub overflow_sub-errors : goal.overflow_sub-errors
 overflow_sub-errors c =
     let before = sym (length-map c.errors-faults.result.now seen_error)
     ∙ ap length c.errors-faults.ensures in
-    let behind = sym (length-map c.errors.result.now seen_error) ∙ ap length c.errors.ensures in
+    let rest_after = sym (length-map c.errors.result.now seen_error) ∙ ap length c.errors.ensures in
     let grown = ap (λ (s : State). length s.errors) c.in_ok-given.ensures.state
     ∙ length-after c.args.self.now.parser (next_call c.args.self.now.parser) in
-    omega (arith, before, behind, grown)
+    omega (arith, before, rest_after, grown)
 
 pub add-requires : goal.add-requires
 add-requires c =
     let before = sym (length-map c.errors-faults.result.now seen_error)
     ∙ ap length c.errors-faults.ensures in
-    let behind = sym (length-map c.errors.result.now seen_error) ∙ ap length c.errors.ensures in
+    let rest_after = sym (length-map c.errors.result.now seen_error) ∙ ap length c.errors.ensures in
     let grown = ap (λ (s : State). length s.errors) c.in_ok-given.ensures.state
     ∙ length-after c.args.self.now.parser (next_call c.args.self.now.parser) in
     let few = few_fronts (next_call c.args.self.now.parser).faults in
     let fronts : c.in_ok-given.fronts ≡ fronts_in (next_call c.args.self.now.parser) =
     c.in_ok-given.ensures.fronts in
-    omega (arith, before, behind, grown, few, fronts)
+    omega (arith, before, rest_after, grown, few, fronts)
 
 pub returns-clause-described : goal.returns-clause-described
 returns-clause-described c = λ room.
@@ -79,14 +79,14 @@ returns-clause-call c =
     let ready = c.requires.ready in
     let before = sym (length-map c.errors-faults.result.now seen_error)
     ∙ ap length c.errors-faults.ensures in
-    let behind = sym (length-map c.errors.result.now seen_error) ∙ ap length c.errors.ensures in
+    let rest_after = sym (length-map c.errors.result.now seen_error) ∙ ap length c.errors.ensures in
     let grown = ap (λ (s : State). length s.errors) c.in_ok-given.ensures.state
     ∙ length-after old.parser (next_call old.parser) in
     let fs = (next_call old.parser).faults in
     let fronts : c.in_ok-given.fronts ≡ fronts_in (next_call old.parser) =
     c.in_ok-given.ensures.fronts in
     let found : length c.errors.result.now - length c.errors-faults.result.now
-    ≡ length fs = omega (arith, before, behind, grown) in
+    ≡ length fs = omega (arith, before, rest_after, grown) in
     let t = c.next_into.new.self in
     let state = c.in_ok-given.ensures.state in
     record {

@@ -14,7 +14,7 @@ returns-then-start-byte c _ e =
     ≡ (place_at c.args.self.now.world (length c.args.self.now.rest)).0 =
     c.start-start.ensures
     ∙ ap (λ (u : Unread). (place_at u.world (length u.rest)).0) c.self.view_is in
-    let behind = c.if-start-byte.true in
+    let rest_after = c.if-start-byte.true in
     past_indent c.args.self.now.world c.args.self.now.rest c.args.c c.args.byte places e
     (omega (arith, start)) (λ white. omega (arith, start))
 

@@ -1,8 +1,8 @@
 use Rattle.std.proofs.Common.{◌≡◌, ◌∙◌, ◌++◌, rules, ap, chars, refl, sym}
 use Rattle.rustc_parse_format.specs.Characters.{digits, is_over}
 use Rattle.rustc_parse_format.specs.Midway.{Unread}
-use Rattle.rustc_parse_format.proofs.Grammar.Fronts.{digits-behind}
-use Rattle.rustc_parse_format.proofs.Readers.Steps.{counted_on, behind_digits-part}
+use Rattle.rustc_parse_format.proofs.Grammar.Fronts.{digits-rest_after}
+use Rattle.rustc_parse_format.proofs.Readers.Steps.{counted_on, after_digits-part}
 use Rattle.rustc_parse_format.proofs.cursor.Cursor.number.Goals as goal
 use Rattle.rustc_parse_format.proofs.cursor.Cursor.number.Goals.{then-is_over, else-is_over}
 
@@ -11,13 +11,13 @@ digits_before-requires c =
     let t = chars c.self.inside.rest.now in (
       digits t,
       sym (ap (λ (u : Unread). u.rest) c.self.view_is)
-          ∙ rw c.leading_number-number.ensures.rest (digits-behind t),
+          ∙ rw c.leading_number-number.ensures.rest (digits-rest_after t),
     )
 
 pub count_before-requires : goal.count_before-requires
 count_before-requires c =
     let t = chars c.self.inside.rest.now in
-    (digits t, rw c.leading_number-number.ensures.rest (digits-behind t))
+    (digits t, rw c.leading_number-number.ensures.rest (digits-rest_after t))
 
 pub invariant_of-self : goal.invariant_of-self
 invariant_of-self c =
@@ -25,7 +25,7 @@ invariant_of-self c =
     let passed = rw c.leading_number-number.ensures.rest at c.count_before.ensures in (
       search rules,
       rw (c.leading_number-number.ensures.rest, c.pass.ensures)
-          (counted_on _ _ _ _ _ passed (behind_digits-part t) c.self.invariant.1),
+          (counted_on _ _ _ _ _ passed (after_digits-part t) c.self.invariant.1),
     )
 
 pub returns-clause-over : goal.returns-clause-over
@@ -33,7 +33,7 @@ returns-clause-over c =
     let t = chars c.self.inside.rest.now in
     let view = ap (λ (u : Unread). u.rest) c.self.view_is in
     let whole : c.args.self.now.rest ≡ digits t ++ chars c.leading_number-number.result.rest.now =
-    sym view ∙ rw c.leading_number-number.ensures.rest (digits-behind t) in
+    sym view ∙ rw c.leading_number-number.ensures.rest (digits-rest_after t) in
     let test = c.leading_number-number.ensures.over
     ∙ ap (λ (u : Unread). is_over (digits u.rest)) c.self.view_is in
     elim c.if-is_over.branch [

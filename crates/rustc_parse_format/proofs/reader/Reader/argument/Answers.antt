@@ -6,9 +6,9 @@ use Rattle.rustc_parse_format.specs.Seen.{seen_mode}
 use Rattle.rustc_parse_format.specs.Midway.{Midway}
 use Rattle.rustc_parse_format.specs.PartFaults.{cut_faults}
 use Rattle.rustc_parse_format.proofs.Grammar.CleanWords.{none_left, none_right}
-use Rattle.rustc_parse_format.specs.Characters.{behind_white}
+use Rattle.rustc_parse_format.specs.Characters.{after_white}
 use Rattle.rustc_parse_format.proofs.Grammar.Numbers.{specification_number}
-use Rattle.rustc_parse_format.proofs.Grammar.Rests.{IsRest-le, behind_white_rest, position_rest}
+use Rattle.rustc_parse_format.proofs.Grammar.Rests.{IsRest-le, after_white_rest, position_rest}
 use Rattle.rustc_parse_format.proofs.Readers.Parts.{argument_read}
 use Rattle.rustc_parse_format.proofs.reader.Reader.argument.Goals as goal
 
@@ -20,7 +20,7 @@ specification-requires-clause-numbers c =
     omega (
       arith,
       IsRest-le (position_rest t),
-      IsRest-le (behind_white_rest (position t).1),
+      IsRest-le (after_white_rest (position t).1),
       ap (λ (s : Midway). length s.rest) read,
       ap (λ (s : Midway). s.next) read,
       c.requires.numbers,
@@ -35,9 +35,9 @@ resolve-requires c =
     omega (
       arith,
       IsRest-le (position_rest t),
-      IsRest-le (behind_white_rest (position t).1),
+      IsRest-le (after_white_rest (position t).1),
       specification_number (seen_mode c.args.mode) c.args.self.now.next
-          (behind_white (position t).1),
+          (after_white (position t).1),
       ap (λ (s : Midway). s.next) state,
       c.requires.numbers,
     )

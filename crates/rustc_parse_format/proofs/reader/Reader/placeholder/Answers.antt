@@ -1,7 +1,7 @@
 use Rattle.std.proofs.Common.{◌∙◌, ap, map, sym, length, arith, refl, rules}
 use Rattle.std.specs.Prelude.{option_map}
 use Rattle.std.proofs.lemmas.Bool.{false≢true}
-use Rattle.rustc_parse_format.specs.Characters.{begins_with, behind_white, behind_first}
+use Rattle.rustc_parse_format.specs.Characters.{begins_with, after_white, after_first}
 use Rattle.rustc_parse_format.specs.Seen.{pair, seen_argument, seen_mode}
 use Rattle.rustc_parse_format.specs.Midway.{Midway, Unread, midway}
 use Rattle.rustc_parse_format.proofs.Readers.Placeholders.{argument-finds, call_opens, numbers_left}
@@ -23,7 +23,7 @@ closing_brace-requires c =
             c.ws.new.self.rest
             (λ e. opens-some c.args.self.now.rest c.requires.opens (sym rest ∙ e))
             (ap (λ (x : Midway). x.next) whole)
-            (white ∙ ap (λ (x : Midway). behind_white x.rest) whole),
+            (white ∙ ap (λ (x : Midway). after_white x.rest) whole),
         ap length rest,
         ap (λ (x : Midway). x.next) c.self.view_is,
         c.requires.numbers,
@@ -45,7 +45,7 @@ returns-clause-reads c =
     record {
       state = rw (opens, ← c.self.view_is)
           (placeholder_closed s _ c.closing_brace.new.self (seen_mode c.args.mode) u.rest
-          (behind_first u.rest)
+          (after_first u.rest)
           (pair c.consume_place-opening.result)
           (seen_argument c.argument.new.into) e c.consume_place-opening.ensures.place given.value
           (rw c.ws.ensures.rest at c.in_ok-closing_brace.ensures.state));
@@ -69,7 +69,7 @@ returns-in_err-argument-clause-reads c =
       err = search rules;
       spare = rw (opens, ← c.self.view_is)
           (λ h. absurd (false≢true (spare
-          (argument-finds s (seen_mode c.args.mode) u.rest (behind_first u.rest) h))));
+          (argument-finds s (seen_mode c.args.mode) u.rest (after_first u.rest) h))));
     }
 
 pub returns-in_err-closing_brace-clause-reads : goal.returns-in_err-closing_brace-clause-reads
@@ -82,7 +82,7 @@ returns-in_err-closing_brace-clause-reads c =
     } in
     let mode = seen_mode c.args.mode in
     let given = rw c.consume_place-opening.ensures.rest at c.in_ok-argument.ensures in
-    let at = ap (λ (x : Midway). begins_with 125 (behind_white x.rest))
+    let at = ap (λ (x : Midway). begins_with 125 (after_white x.rest))
     (c.self-2.view_is ∙ given.reads.state) in
     let spare = rw c.ws.ensures.rest at c.in_err-closing_brace.ensures.spare in
     let opens = call_opens (seen_mode c.args.mode) c.args.self.now.next c.args.self.now.rest
@@ -92,5 +92,5 @@ returns-in_err-closing_brace-clause-reads c =
       err = search rules;
       spare = rw (opens, ← c.self.view_is)
           (λ h. absurd (false≢true (spare
-          (at ∙ (placeholder-faultless mode s.next u.rest (behind_first u.rest) h.0).2))));
+          (at ∙ (placeholder-faultless mode s.next u.rest (after_first u.rest) h.0).2))));
     }

@@ -2,7 +2,7 @@ use Rattle.std.proofs.Common.{◌≡◌, ◌∙◌, [], ◌∷◌, Some, ap, cha
 use Rattle.std.specs.Prelude.{option_map}
 use Rattle.rustc_parse_format.specs.Seen.{pair}
 use Rattle.rustc_parse_format.specs.Midway.{Midway, Unread, midway}
-use Rattle.rustc_parse_format.specs.Characters.{Text, behind_first, first_passes, is_id_start}
+use Rattle.rustc_parse_format.specs.Characters.{Text, after_first, first_passes, is_id_start}
 use Rattle.rustc_parse_format.specs.PartFaults.{position_faults}
 use Rattle.rustc_parse_format.specs.Placeholder.{position}
 use Rattle.rustc_parse_format.specs.Syntax.{PositionText, Word}
@@ -14,9 +14,9 @@ use Rattle.rustc_parse_format.proofs.reader.Reader.prefixed_word.Goals as goal
 use Rattle.rustc_parse_format.proofs.reader.Reader.prefixed_word.Goals.{After-front-1}
 
 left : (c : After-front-1) → ◌≡◌ {A = Text} c.skip_char.new.self.rest
-    (behind_first c.args.self.now.rest)
+    (after_first c.args.self.now.rest)
 left c = ap (λ (u : Unread). u.rest) c.skip_char.ensures.rest ∙ ap
-    (λ (m : Midway). behind_first m.rest) c.self.view_is
+    (λ (m : Midway). after_first m.rest) c.self.view_is
 
 -- The `r`, and what is left after it.
 whole : (c : After-front-1) → ◌≡◌ {A = Text} (chars c.checkpoint-front.result.rest.now)
@@ -28,10 +28,10 @@ whole c =
 
 -- the word is that
 alone : (c : After-front-1) → position c.args.self.now.rest ≡
-    (Word (114 ∷ []), behind_first c.args.self.now.rest)
+    (Word (114 ∷ []), after_first c.args.self.now.rest)
 alone c = r-position c.args.self.now.rest c.requires
     (sym (c.if-not-is_word_ahead.ensures ∙ ap
-    (λ (u : Text). first_passes is_id_start (behind_first u)) (left c)))
+    (λ (u : Text). first_passes is_id_start (after_first u)) (left c)))
 
 pub since-requires : goal.since-requires
 since-requires c = (114 ∷ [], whole c)
@@ -53,9 +53,9 @@ returns-then-not-is_word_ahead-clause-reads c =
       lines = map pair r.lines.items;
       closed_place = option_map pair r.closed_place;
     }) c.skip_char.ensures.rest ∙ ap
-    (λ (m : Midway). record m { rest = behind_first m.rest }) c.self.view_is in
+    (λ (m : Midway). record m { rest = after_first m.rest }) c.self.view_is in
     record {
-      state = moved ∙ read_nothing (record s { rest = behind_first s.rest }) (position s.rest).1
+      state = moved ∙ read_nothing (record s { rest = after_first s.rest }) (position s.rest).1
           (position_faults s.rest (position s.rest).0)
           (ap (λ (x : PositionText × Text). x.1) here)
           (ap (λ (x : PositionText × Text). position_faults s.rest x.0) here

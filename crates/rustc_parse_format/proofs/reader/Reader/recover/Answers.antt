@@ -1,5 +1,5 @@
 use Rattle.std.proofs.Common.{◌∙◌, ap, sym}
-use Rattle.rustc_parse_format.specs.Characters.{Text, first, behind_first}
+use Rattle.rustc_parse_format.specs.Characters.{Text, first, after_first}
 use Rattle.rustc_parse_format.specs.Midway.{Midway}
 use Rattle.rustc_parse_format.specs.Seen.{pair, seen_argument, seen_mode}
 use Rattle.rustc_parse_format.proofs.Walking.Nexts.{on_ok}
@@ -20,7 +20,7 @@ returns-in_default-peek_ahead-clause-state c =
     let at = ap (λ (x : Midway). x.rest) c.self.view_is in
     short-recovers c.args.self.now (seen_mode c.args.mode) (pair c.args.opening)
     (seen_argument c.args.argument.now)
-    (ap (λ (t : Text). first (behind_first t)) (sym at) ∙
+    (ap (λ (t : Text). first (after_first t)) (sym at) ∙
     (sym c.peek_ahead.ensures ∙ c.in_default-peek_ahead.is))
 
 pub returns-then-begins_field-clause-state : goal.returns-then-begins_field-clause-state
@@ -32,7 +32,7 @@ returns-then-begins_field-clause-state c =
     (seen_mode c.args.mode) (pair c.args.opening) (seen_argument c.args.argument.now)
     c.in-Some.sign c.in-Some-peek_ahead.next
     (ap first (sym at) ∙ (sym c.peek.ensures ∙ c.in-Some.is))
-    (ap (λ (t : Text). first (behind_first t)) (sym at) ∙
+    (ap (λ (t : Text). first (after_first t)) (sym at) ∙
     (sym c.peek_ahead.ensures ∙ c.in-Some-peek_ahead.is))
     (sym c.if-begins_field.true ∙ c.begins_field.ensures))
 
@@ -44,7 +44,7 @@ returns-then-begins_late_debug-clause-state c =
     (pair c.args.opening) (seen_argument c.args.argument.now)
     c.in-Some.sign c.in-Some-peek_ahead.next
     (ap first (sym at) ∙ (sym c.peek.ensures ∙ c.in-Some.is))
-    (ap (λ (t : Text). first (behind_first t)) (sym at) ∙
+    (ap (λ (t : Text). first (after_first t)) (sym at) ∙
     (sym c.peek_ahead.ensures ∙ c.in-Some-peek_ahead.is))
     (sym c.if-begins_field.false ∙ c.begins_field.ensures)
     (sym c.if-begins_late_debug.true ∙ c.begins_late_debug.ensures))
@@ -57,7 +57,7 @@ returns-clause-state c =
     (pair c.args.opening) (seen_argument c.args.argument.now)
     c.in-Some.sign c.in-Some-peek_ahead.next
     (ap first (sym at) ∙ (sym c.peek.ensures ∙ c.in-Some.is))
-    (ap (λ (t : Text). first (behind_first t)) (sym at) ∙
+    (ap (λ (t : Text). first (after_first t)) (sym at) ∙
     (sym c.peek_ahead.ensures ∙ c.in-Some-peek_ahead.is))
     (sym c.if-begins_field.false ∙ c.begins_field.ensures)
     (sym c.if-begins_late_debug.false ∙ c.begins_late_debug.ensures))

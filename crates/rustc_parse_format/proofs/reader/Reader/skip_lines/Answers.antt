@@ -1,11 +1,11 @@
 use Rattle.std.proofs.Common.{rules, ◌≡◌, ap, subst, sym, ◌∙◌, length, arith, map, refl, Some, true}
-use Rattle.rustc_parse_format.specs.Characters.{behind, first, is_no_brace, is_in_line}
+use Rattle.rustc_parse_format.specs.Characters.{rest_after, first, is_no_brace, is_in_line}
 use Rattle.rustc_parse_format.specs.Midway.{Midway, Unread, IsInOneLine, IsPastIndent, midway}
 use Rattle.rustc_parse_format.specs.Midway.{read_run}
 use Rattle.std.specs.Prelude.{option_map}
 use Rattle.rustc_parse_format.specs.Seen.{pair}
 use Rattle.rustc_parse_format.proofs.Readers.RunLines.{run-step, one_line-step, one_line-no_newline}
-use Rattle.rustc_parse_format.proofs.Readers.RunSkips.{run-skip, one_line-skip, behind-shorter}
+use Rattle.rustc_parse_format.proofs.Readers.RunSkips.{run-skip, one_line-skip, rest_after-shorter}
 use Rattle.rustc_parse_format.proofs.reader.Reader.skip_lines.Goals as goal
 use Rattle.rustc_parse_format.proofs.reader.Reader.skip_lines.Goals.{After-skip_while}
 
@@ -21,7 +21,7 @@ after c =
 -- What is left of the line is skipped.
 passed : (c : After-skip_while)
     → ◌≡◌ {A = Midway} (after c)
-    (record c.loop-c.self { rest = behind is_in_line c.loop-c.self.rest })
+    (record c.loop-c.self { rest = rest_after is_in_line c.loop-c.self.rest })
 passed c =
     let r = c.self-then-is_past_indent.inside in
     ap (λ (u : Unread). record (midway u r.curarg r.line_start) {
@@ -29,7 +29,7 @@ passed c =
       lines = map pair r.lines.items;
       closed_place = option_map pair r.closed_place;
     }) c.skip_while.ensures.rest
-    ∙ ap (λ (m : Midway). record m { rest = behind is_in_line m.rest })
+    ∙ ap (λ (m : Midway). record m { rest = rest_after is_in_line m.rest })
     (c.self-then-is_past_indent.view_is ∙ c.is_past_indent.ensures.state)
 
 pub loop-c-smaller-then-is_past_indent : goal.loop-c-smaller-then-is_past_indent
@@ -40,7 +40,7 @@ loop-c-smaller-then-is_past_indent c =
     omega (
       arith,
       ap (λ (s : Midway). length s.rest) skipped,
-      behind-shorter is_in_line c.loop-c.self.rest c.in-Some.c next passes,
+      rest_after-shorter is_in_line c.loop-c.self.rest c.in-Some.c next passes,
     )
 
 pub loop-c-preserved-then-is_past_indent : goal.loop-c-preserved-then-is_past_indent

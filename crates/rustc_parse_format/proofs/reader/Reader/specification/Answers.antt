@@ -1,7 +1,7 @@
 use Rattle.std.proofs.Common.{◌≡◌, true, ap, arith, length, rules}
 use Rattle.rustc_parse_format.specs.Characters.{begins_with}
 use Rattle.rustc_parse_format.specs.Midway.{Unread}
-use Rattle.rustc_parse_format.proofs.Grammar.Rests.{IsRest-le, behind_first_rest}
+use Rattle.rustc_parse_format.proofs.Grammar.Rests.{IsRest-le, after_first_rest}
 use Rattle.rustc_parse_format.proofs.Readers.Steps.{at_colon}
 use Rattle.rustc_parse_format.proofs.reader.Reader.specification.Goals as goal
 
@@ -13,7 +13,7 @@ format-requires-clause-furthest c =
       arith,
       at_colon t colon,
       c.steps_are_few.ensures.word,
-      IsRest-le (behind_first_rest t),
+      IsRest-le (after_first_rest t),
       ap (λ (u : Unread). length u.rest) c.skip_char.ensures.rest,
       ap (λ (u : Unread). u.back.left) c.skip_char.ensures.rest,
     )

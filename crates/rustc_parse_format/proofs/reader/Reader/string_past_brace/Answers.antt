@@ -1,34 +1,34 @@
 use Rattle.std.proofs.Common.{◌≡◌, ◌++◌, ◌∙◌, ap, sym}
-use Rattle.rustc_parse_format.specs.Characters.{Text, front, behind, is_no_brace, behind_first}
+use Rattle.rustc_parse_format.specs.Characters.{Text, front, rest_after, is_no_brace, after_first}
 use Rattle.rustc_parse_format.specs.Characters.{with_first}
 use Rattle.rustc_parse_format.specs.Midway.{Midway, Unread}
-use Rattle.rustc_parse_format.proofs.Grammar.Fronts.{first-behind}
+use Rattle.rustc_parse_format.proofs.Grammar.Fronts.{first-rest_after}
 use Rattle.rustc_parse_format.proofs.reader.Reader.string_past_brace.Goals as goal
 
 pub since-requires : goal.since-requires
 since-requires c =
     let t : Text = c.args.self.now.rest in
-    let read : Text = with_first t (front is_no_brace (behind_first t)) in
-    let left : ◌≡◌ {A = Text} c.self-2.inside.cursor.rest (behind is_no_brace (behind_first t)) =
+    let read : Text = with_first t (front is_no_brace (after_first t)) in
+    let left : ◌≡◌ {A = Text} c.self-2.inside.cursor.rest (rest_after is_no_brace (after_first t)) =
     (ap (λ (s : Midway). s.rest) (c.self-2.view_is ∙ c.in_ok-skip_string.ensures.reads.state)
-    ∙ ap (behind is_no_brace)
+    ∙ ap (rest_after is_no_brace)
     (ap (λ (u : Unread). u.rest) c.skip_char.ensures.rest
-    ∙ ap (λ (s : Midway). behind_first s.rest) c.self.view_is)) in (
+    ∙ ap (λ (s : Midway). after_first s.rest) c.self.view_is)) in (
       read,
       sym (ap (λ (u : Unread). u.rest) c.checkpoint-from.ensures.at)
           ∙ (ap (λ (s : Midway). s.rest) c.self.view_is
-          ∙ (first-behind is_no_brace t ∙ ap (λ (u : Text). read ++ u) (sym left))),
+          ∙ (first-rest_after is_no_brace t ∙ ap (λ (u : Text). read ++ u) (sym left))),
     )
 
 pub returns-clause-value : goal.returns-clause-value
 returns-clause-value c =
     let t : Text = c.args.self.now.rest in
-    let read : Text = with_first t (front is_no_brace (behind_first t)) in
-    let left : ◌≡◌ {A = Text} c.self-2.inside.cursor.rest (behind is_no_brace (behind_first t)) =
+    let read : Text = with_first t (front is_no_brace (after_first t)) in
+    let left : ◌≡◌ {A = Text} c.self-2.inside.cursor.rest (rest_after is_no_brace (after_first t)) =
     (ap (λ (s : Midway). s.rest) (c.self-2.view_is ∙ c.in_ok-skip_string.ensures.reads.state)
-    ∙ ap (behind is_no_brace)
+    ∙ ap (rest_after is_no_brace)
     (ap (λ (u : Unread). u.rest) c.skip_char.ensures.rest
-    ∙ ap (λ (s : Midway). behind_first s.rest) c.self.view_is)) in
+    ∙ ap (λ (s : Midway). after_first s.rest) c.self.view_is)) in
     c.since.ensures read (sym (ap (λ (u : Unread). u.rest) c.checkpoint-from.ensures.at)
     ∙ (ap (λ (s : Midway). s.rest) c.self.view_is
-    ∙ (first-behind is_no_brace t ∙ ap (λ (u : Text). read ++ u) (sym left))))
+    ∙ (first-rest_after is_no_brace t ∙ ap (λ (u : Text). read ++ u) (sym left))))

@@ -1,7 +1,7 @@
 use Rattle.std.proofs.Common.{◌≡◌, ◌∙◌, ap, chars, length, rules, sym}
 use Rattle.std.proofs.lemmas.Str.{chars-nil}
 use Rattle.std.proofs.lemmas.List.{nil_from_length}
-use Rattle.rustc_parse_format.specs.Characters.{behind_first}
+use Rattle.rustc_parse_format.specs.Characters.{after_first}
 use Rattle.rustc_parse_format.specs.SeenSource.{seen_world}
 use Rattle.rustc_parse_format.specs.World.{place_at}
 use Rattle.rustc_parse_format.proofs.Sources.Places.{anchor_in, place_by, place_gone, plain_start}
@@ -17,7 +17,7 @@ pub returns-then-is_empty-clause-rest : goal.returns-then-is_empty-clause-rest
 returns-then-is_empty-clause-rest c =
     let z : length c.args.rest.now ≡ 0 = search rules in
     let none = ap chars (nil_from_length c.args.rest.now z) ∙ chars-nil in
-    none ∙ sym (ap behind_first none)
+    none ∙ sym (ap after_first none)
 
 pub pass-requires-clause-leads : goal.pass-requires-clause-leads
 pass-requires-clause-leads c =
@@ -34,6 +34,7 @@ returns-in-None-clause-place c =
     let z : length c.args.rest.now ≡ 0 → ⊥ = search rules in
     place_by (place_at (seen_world c.args.self.now) (length (chars c.args.rest.now))) _ _
     (plain_start c.args.self.now c.args.rest.now c.args.anchor.now c.requires c.in-None.is z)
-    (plain_stop c.args.self.now c.args.rest.now c.behind_first-behind.result.now c.args.anchor.now
-    c.requires c.in-None.is c.behind_first-behind.utf8 z
-    c.behind_first-behind.ensures.rest)
+    (plain_stop c.args.self.now c.args.rest.now c.after_first-rest_after.result.now
+    c.args.anchor.now
+    c.requires c.in-None.is c.after_first-rest_after.utf8 z
+    c.after_first-rest_after.ensures.rest)

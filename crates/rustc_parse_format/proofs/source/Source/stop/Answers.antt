@@ -30,6 +30,6 @@ returns-in-Some c =
 pub returns-in-None : goal.returns-in-None
 returns-in-None c =
     let z : length c.args.rest.now ≡ 0 → ⊥ = search rules in
-    plain_stop c.args.self.now c.args.rest.now c.behind_first.result.now c.args.anchor.now
+    plain_stop c.args.self.now c.args.rest.now c.after_first.result.now c.args.anchor.now
     c.requires
-    c.in-None.is c.behind_first.utf8 z c.behind_first.ensures.rest
+    c.in-None.is c.after_first.utf8 z c.after_first.ensures.rest

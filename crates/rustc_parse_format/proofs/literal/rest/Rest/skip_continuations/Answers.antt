@@ -1,14 +1,14 @@
 use Rattle.std.proofs.Common.{◌≡◌, ap, sym, ◌∙◌, arith}
-use Rattle.rustc_parse_format.specs.Characters.{behind, behind_first, byte_length}
+use Rattle.rustc_parse_format.specs.Characters.{rest_after, after_first, byte_length}
 use Rattle.rustc_parse_format.specs.LiteralUnits.{is_skipped}
-use Rattle.rustc_parse_format.proofs.Sources.Contents.{behind_continuation, continuation-narrower}
+use Rattle.rustc_parse_format.proofs.Sources.Contents.{after_continuation, continuation-narrower}
 use Rattle.rustc_parse_format.proofs.Sources.Contents.{continuation-shorter, left-none, left-taken}
 use Rattle.rustc_parse_format.proofs.literal.rest.Rest.skip_continuations.Goals as goal
 
 -- A backslash, an LF and the white space after them are skipped.
-taken : (c : goal.After-skip_ws) → c.skip_ws.new.self ≡ behind_continuation c.loop-self.self
-taken c = c.skip_ws.ensures ∙ ap (behind is_skipped) (c.behind_first-self-inside.ensures.rest
-    ∙ ap behind_first (c.behind_first.ensures.rest ∙ ap behind_first c.self.view_is))
+taken : (c : goal.After-skip_ws) → c.skip_ws.new.self ≡ after_continuation c.loop-self.self
+taken c = c.skip_ws.ensures ∙ ap (rest_after is_skipped) (c.after_first-self-inside.ensures.rest
+    ∙ ap after_first (c.after_first.ensures.rest ∙ ap after_first c.self.view_is))
 
 pub loop-self-smaller : goal.loop-self-smaller
 loop-self-smaller c =

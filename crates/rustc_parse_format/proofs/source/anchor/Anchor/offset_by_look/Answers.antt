@@ -17,30 +17,30 @@ new-requires c =
     let w = c.requires.here.0 in
     let here = c.loop-at.invariant.here w c.requires.here.1 in (
       w,
-      rw c.behind_first.ensures.rest
+      rw c.after_first.ensures.rest
           (c.character_at-next.ensures.after w (chars c.loop-at.at.0.now) here),
     )
 
-pub behind_unescaped-at-requires-in-loop-at : goal.behind_unescaped-at-requires-in-loop-at
-behind_unescaped-at-requires-in-loop-at c =
+pub after_unescaped-at-requires-in-loop-at : goal.after_unescaped-at-requires-in-loop-at
+after_unescaped-at-requires-in-loop-at c =
     let text = c.loop-at.at.0.now in
-    let behind = c.behind_first.result.now in
+    let rest_after = c.after_first.result.now in
     let rest = c.args.rest.now in
     let after = c.loop-at.invariant.after in
     let l = left text rest after in
-    let front = front_left text behind rest (IsUtf8-from_is_utf8 text after.valid)
+    let front = front_left text rest_after rest (IsUtf8-from_is_utf8 text after.valid)
     (IsUtf8-from_is_utf8 rest after.valid_rest)
-    c.behind_first.ensures.rest c.loop-at-test.true l.pre l.whole in
+    c.after_first.ensures.rest c.loop-at-test.true l.pre l.whole in
     let w = c.requires.here.0 in
     let here = c.loop-at.invariant.here w c.requires.here.1 in
     record {
       after = rw c.new.ensures.rest
-          (left_from behind rest front.0
-          (is_utf8-from_IsUtf8 behind c.behind_first.utf8) after.valid_rest front.1);
+          (left_from rest_after rest front.0
+          (is_utf8-from_IsUtf8 rest_after c.after_first.utf8) after.valid_rest front.1);
       here = (
         w,
         c.new.ensures.anchor w
-            (rw c.behind_first.ensures.rest
+            (rw c.after_first.ensures.rest
             (c.character_at-next.ensures.after w (chars text) here)),
       );
     }
@@ -51,17 +51,17 @@ loop-at-smaller c =
     omega (
       arith,
       ap length c.new.ensures.rest,
-      c.behind_unescaped-at-in-loop-at.ensures.shorter,
-      shorter text c.behind_first.result.now c.args.rest.now
-          (IsUtf8-from_is_utf8 text c.loop-at.invariant.after.valid) c.behind_first.utf8
-          c.behind_first.ensures.rest c.loop-at-test.true,
+      c.after_unescaped-at-in-loop-at.ensures.shorter,
+      shorter text c.after_first.result.now c.args.rest.now
+          (IsUtf8-from_is_utf8 text c.loop-at.invariant.after.valid) c.after_first.utf8
+          c.after_first.ensures.rest c.loop-at-test.true,
     )
 
 pub loop-at-preserved : goal.loop-at-preserved
 loop-at-preserved c = record {
-  after = c.behind_unescaped-at-in-loop-at.ensures.after;
-  here = λ w h. c.behind_unescaped-at-in-loop-at.ensures.here w (c.new.ensures.anchor w
-      (rw c.behind_first.ensures.rest
+  after = c.after_unescaped-at-in-loop-at.ensures.after;
+  here = λ w h. c.after_unescaped-at-in-loop-at.ensures.here w (c.new.ensures.anchor w
+      (rw c.after_first.ensures.rest
       (c.character_at-next.ensures.after w (chars c.loop-at.at.0.now)
       (c.loop-at.invariant.here w h))));
 }

@@ -17,7 +17,7 @@ character_at-stop-requires-clause-valid c =
 pub new-requires : goal.new-requires
 new-requires c = (
   c.requires.leads.here.0,
-  rw c.requires.behind
+  rw c.requires.rest_after
       (c.character_at-stop.ensures.after _ _
       (c.offset_of-start.ensures c.requires.leads.here.0 c.requires.leads.here.1)),
 )
@@ -37,5 +37,5 @@ returns-clause-place c w h =
 pub returns-clause-here : goal.returns-clause-here
 returns-clause-here c w h =
     c.new.ensures.anchor w
-    (rw c.requires.behind
+    (rw c.requires.rest_after
     (c.character_at-stop.ensures.after w _ (c.offset_of-start.ensures w h)))

@@ -1,9 +1,0 @@
-use Rattle.std.proofs.Common.{◌≡◌, length}
-use Rattle.rust_tokens.specs.Runs.{behind, is_in_line}
-use Rattle.rust_tokens.proofs.ends.behind_line.Given as goal
-
-abbrev pub invariant-loop-byte : goal.invariant-loop-byte
-invariant-loop-byte l = behind is_in_line l.rest ≡ behind is_in_line l.text
-
-abbrev pub decreases-loop-byte : goal.decreases-loop-byte
-decreases-loop-byte l = length l.rest

@@ -1,9 +1,0 @@
-use Rattle.std.proofs.Common.{◌≡◌, length, false}
-use Rattle.rust_tokens.specs.Strings.{behind_string}
-use Rattle.rust_tokens.proofs.ends.behind_string.Given as goal
-
-abbrev pub invariant-loop-byte : goal.invariant-loop-byte
-invariant-loop-byte l = behind_string l.is_escaped l.rest ≡ behind_string false l.text
-
-abbrev pub decreases-loop-byte : goal.decreases-loop-byte
-decreases-loop-byte l = length l.rest
