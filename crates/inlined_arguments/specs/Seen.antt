@@ -1,0 +1,62 @@
+-- What a contract sees of the values of this crate: texts as their characters, ranges as places.
+use Rattle.std.specs.Prelude.{◌≡◌, ℕ, List, Option, None, map, option_map, chars, string_bytes}
+use Rattle.std.specs.BTreeMap.{BTreeMap, get_by}
+use Rattle.std.specs.Cmp.Lexicographic.{slice_cmp}
+use Rattle.std.specs.Ordering.{nat_cmp}
+use Rattle.std.specs.Str.{encode_utf8_all}
+use denote.Ref.{Bor}
+use Rattle.rustc_parse_format.specs.Characters.{Text}
+use Rattle.rustc_parse_format.specs.Seen.{pair}
+use Rattle.placeholder_check.specs.Seen.{text}
+use Rattle.inlined_arguments.specs.declared.call.Argument.{Argument as DeclaredArgument}
+use Rattle.inlined_arguments.specs.declared.call.Call.{Call as DeclaredCall}
+use Rattle.inlined_arguments.specs.declared.call.Edit.{Edit as DeclaredEdit}
+use Rattle.inlined_arguments.specs.declared.values.Value.{Value as DeclaredValue}
+use Rattle.inlined_arguments.specs.declared.values.Value.TheVariants.{Variable as VariableIn}
+use Rattle.inlined_arguments.specs.declared.values.Value.TheVariants.{Expression as ExpressionIn}
+use Rattle.inlined_arguments.specs.declared.values.Values.{Values}
+use Rattle.inlined_arguments.specs.Conditions.{Call}
+use Rattle.inlined_arguments.specs.Edits.{Edit}
+use Rattle.inlined_arguments.specs.Values.{Value, Variable, Expression, Slot, first_named}
+use Rattle.inlined_arguments.specs.Variables.{Argument}
+
+-- An argument as a contract sees it.
+abbrev pub seen_argument : DeclaredArgument → Argument
+seen_argument a = record {
+  name = option_map text a.name;
+  word = option_map text a.word;
+  source = chars a.source.now;
+}
+
+-- A call as a contract sees it.
+abbrev pub seen_call : DeclaredCall → Call
+seen_call c = record {
+  text = text c.string.text;
+  style = c.string.style;
+  literal = option_map text c.string.snippet;
+  appended_newline = c.string.appended_newline;
+  captures = c.string.captures;
+  arguments = map seen_argument c.arguments.now;
+  is_counted = c.is_counted;
+  is_format_alone = c.is_format_alone;
+  has_const_form = c.has_const_form;
+}
+
+-- An edit as a contract sees it.
+abbrev pub seen_edit : DeclaredEdit → Edit
+seen_edit e = record { span = pair e.span; text = string_bytes e.text }
+
+-- A value as a contract sees it.
+abbrev pub seen_value : DeclaredValue → Value
+seen_value (VariableIn w) = Variable (text w)
+seen_value (ExpressionIn i n) = Expression i
+
+-- What a map has for a name.
+abbrev pub found_in : BTreeMap (Bor (List ℕ)) DeclaredValue → Text → Option Value
+found_in m w = option_map seen_value
+    (get_by (λ k. slice_cmp nat_cmp (encode_utf8_all w) k.now) m)
+
+-- The values are those of these slots.
+pub record Holds (ss : List Slot) (v : Values) : Type 0 where
+  pub list : map seen_value v.list.items ≡ map (λ s. s.value) ss
+  pub names : (w : Text) → found_in v.named w ≡ first_named ss w

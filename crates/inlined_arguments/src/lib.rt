@@ -1,0 +1,15 @@
+//! Arguments of a call that are variables, moved into its format string ([`inlined`]).
+#![tactic(auto)]
+
+mod call;
+mod conditions;
+mod edits;
+mod inlined;
+mod keywords;
+mod meaning;
+mod reading;
+mod values;
+mod variables;
+
+pub use call::{Argument, Call, Edit, Inlined, Left};
+pub use inlined::inlined;
