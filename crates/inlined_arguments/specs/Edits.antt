@@ -28,6 +28,10 @@ reference_places (Lit t) = []
 reference_places (NextArgument a) = a.position_span
     ∷ cons_option a.format.width_span (cons_option a.format.precision_span [])
 
+-- Each edit is at one of these places.
+abbrev pub AreAt : List Place → List Edit → Type 0
+AreAt places es = All (λ e. Contains places e.span) es
+
 -- Each edit is where one of these pieces refers to an argument.
 abbrev pub AreAtReferences : List (Piece Place) → List Edit → Type 0
-AreAtReferences ps es = All (λ e. Contains (flat_map reference_places ps) e.span) es
+AreAtReferences ps es = AreAt (flat_map reference_places ps) es

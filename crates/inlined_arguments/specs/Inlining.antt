@@ -1,43 +1,84 @@
--- What inlining is. A call is inlined if the arguments that are variables are gone, and the others
--- stay in their order; if its literal has the style of the old one, and differs from it only where
--- the old one refers to arguments; and if nothing is wrong with it, and it means what it meant.
-use Rattle.std.specs.Prelude.{◌≡◌, ◌++◌, ℕ, Bool, List, map, length, Option, Some, encode_utf8_all}
+-- What inlining is: the arguments that are variables go, and the others stay in their order. The
+-- literal keeps its style, and changes only where it refers to arguments. Nothing is wrong with the
+-- call before or after it, and it means the same.
+use Rattle.std.specs.Prelude.{◌≡◌, ◌++◌, ℕ, Bool, List, map, length, Option, Some, None, chars}
+use Rattle.std.specs.Prelude.{option_map}
 use Rattle.rustc_parse_format.specs.Characters.{Text}
 use Rattle.rustc_parse_format.specs.Call.{pieces_of}
 use Rattle.rustc_parse_format.specs.Literal.{IsLiteral, newline}
-use Rattle.rustc_parse_format.specs.State.{calls, first_state}
+use Rattle.rustc_parse_format.specs.State.{State, calls, first_state}
 use Rattle.rustc_parse_format.specs.Types.{Format, Piece}
 use Rattle.rustc_parse_format.specs.World.{Place, pieces_in}
+use Rattle.call_faults.specs.Arguments.{Given}
 use Rattle.call_faults.specs.Clean.{IsClean}
-use Rattle.inlined_arguments.specs.Conditions.{Call}
+use Rattle.inlined_arguments.specs.Conditions.{Call, condition}
 use Rattle.inlined_arguments.specs.Edits.{AreApart, AreAtReferences, Edit, edited}
 use Rattle.inlined_arguments.specs.Meaning.{meaning}
 use Rattle.inlined_arguments.specs.Values.{Slot, given, kept, slots}
+use Rattle.inlined_arguments.specs.Variables.{gone_from}
+use Rattle.inlined_arguments.specs.declared.call.Left.{Left}
+use Rattle.inlined_arguments.specs.declared.call.Left.TheVariants.{Uncounted, NoVariable, Mixed}
+use Rattle.inlined_arguments.specs.declared.call.Left.TheVariants.{CapturesNone, Alone, ConstForm}
+use Rattle.inlined_arguments.specs.declared.call.Left.TheVariants.{Comment, Faulty, NoLiteral}
+use Rattle.inlined_arguments.specs.declared.call.Left.TheVariants.{OtherMeaning}
 
--- The pieces of the format string of a call, with their places in its literal.
+-- A parser at the start of the format string of a call.
+abbrev pub start : Call → State
+start c = first_state Format c.text c.style (option_map chars c.literal) c.appended_newline
+
+-- The pieces of that string, with their places in the literal.
 abbrev pub pieces : Call → List (Piece Place)
-pieces c = let s = first_state Format c.text c.style c.literal c.appended_newline in
-    pieces_in s.world (pieces_of (calls s))
+pieces c = pieces_in (start c).world (pieces_of (calls (start c)))
 
--- Nothing is wrong with a call that has these slots and this string.
+-- Nothing is wrong with a call with these arguments and this string, which has these pieces.
+abbrev pub ReadsClean : Bool → List Given → Text → List (Piece (Unit {0})) → Type 0
+ReadsClean captures gs t ps = (c : IsClean captures gs t) × (c.pieces ≡ ps)
+
+-- Nothing is wrong with a call with these slots and this string.
 abbrev pub IsCleanCall : Bool → List Slot → Text → Type 0
-IsCleanCall captures ss text = IsClean captures (map given ss) text
+IsCleanCall captures ss t = IsClean captures (map given ss) t
 
--- The call c, with these edits of its literal and only with the arguments that are no variables, is
--- the call c inlined. The literal is then `literal`.
-pub record IsInlined (c : Call) (es : List Edit) (literal : Text) : Type 0 where
-  -- The literal is the old one but for the edits, each of which is at a reference.
-  pub old_literal : Text
-  pub is_old : c.literal ≡ Some old_literal
-  pub is_edited : encode_utf8_all literal ≡ edited 0 es (encode_utf8_all old_literal)
-  pub are_apart : AreApart 0 es (length (encode_utf8_all old_literal))
-  pub are_at_references : AreAtReferences (pieces c) es
-  -- It has the old style, and stands for a text.
+-- The call c with this literal, and without the arguments that are variables, means what c does,
+-- where ps are the pieces of the string of c. The literal has the style of that of c, and nothing is
+-- wrong with the new call.
+pub record MeansSame {A : Type 0} (c : Call) (ps : List (Piece A)) (literal : Text) : Type 0 where
   pub text : Text
   pub is_literal : IsLiteral c.style literal text
-  -- The old call and the new one are clean, and mean the same.
+  pub new : IsCleanCall c.captures (kept (slots c.arguments)) (text ++ newline c.appended_newline)
+  pub same : meaning (slots c.arguments) ps ≡ meaning (kept (slots c.arguments)) new.pieces
+
+-- A call that was inlined: the edits of its literal, the bytes of the literal with them, and the
+-- indices of the arguments that go.
+pub record Inlined : Type 0 where
+  pub edits : List Edit
+  pub literal : List ℕ
+  pub gone : List ℕ
+
+-- The call c was inlined, and this is what was made of it.
+pub record IsInlined (allows_mixed : Bool) (c : Call) (r : Inlined) : Type 0 where
+  pub may_be : condition allows_mixed c ≡ None
+  -- The arguments that go are those that are variables.
+  pub gone : r.gone ≡ gone_from 0 c.arguments
+  -- The literal is the old one with edits where that refers to arguments.
+  pub literal : List ℕ
+  pub is_literal : c.literal ≡ Some literal
+  pub is_edited : r.literal ≡ edited 0 r.edits literal
+  pub are_apart : AreApart 0 r.edits (length literal)
+  pub are_at_references : AreAtReferences (pieces c) r.edits
+  -- Nothing was wrong with the call, so each of its arguments was used. It means what it meant.
   pub old : IsCleanCall c.captures (slots c.arguments) c.text
-  pub new : IsCleanCall c.captures (kept (slots c.arguments))
-      (text ++ newline c.appended_newline)
-  pub same : meaning (slots c.arguments) old.pieces
-      ≡ meaning (kept (slots c.arguments)) new.pieces
+  pub means_same : MeansSame c old.pieces (chars r.literal)
+
+-- The call c is left as it is for this reason.
+abbrev pub IsLeft : Bool → Call → Left → Type 0
+IsLeft m c Uncounted = condition m c ≡ Some Uncounted
+IsLeft m c NoVariable = condition m c ≡ Some NoVariable
+IsLeft m c Mixed = condition m c ≡ Some Mixed
+IsLeft m c CapturesNone = condition m c ≡ Some CapturesNone
+IsLeft m c Alone = condition m c ≡ Some Alone
+IsLeft m c ConstForm = condition m c ≡ Some ConstForm
+IsLeft m c Comment = condition m c ≡ Some Comment
+IsLeft m c Faulty = (condition m c ≡ None) × (IsCleanCall c.captures (slots c.arguments) c.text → ⊥)
+IsLeft m c NoLiteral = condition m c ≡ None
+IsLeft m c OtherMeaning = (condition m c ≡ None)
+    × IsCleanCall c.captures (slots c.arguments) c.text

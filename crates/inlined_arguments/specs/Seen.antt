@@ -11,12 +11,19 @@ use Rattle.placeholder_check.specs.Seen.{text}
 use Rattle.inlined_arguments.specs.declared.call.Argument.{Argument as DeclaredArgument}
 use Rattle.inlined_arguments.specs.declared.call.Call.{Call as DeclaredCall}
 use Rattle.inlined_arguments.specs.declared.call.Edit.{Edit as DeclaredEdit}
+use Rattle.inlined_arguments.specs.declared.call.Inlined.{Inlined as DeclaredInlined}
+use Rattle.inlined_arguments.specs.declared.values.Amount.{Amount as DeclaredAmount}
+use Rattle.inlined_arguments.specs.declared.values.Amount.TheVariants.{Number as NumberIn}
+use Rattle.inlined_arguments.specs.declared.values.Amount.TheVariants.{ValueOf as ValueIn}
+use Rattle.inlined_arguments.specs.declared.values.Amount.TheVariants.{Absent as AbsentIn}
 use Rattle.inlined_arguments.specs.declared.values.Value.{Value as DeclaredValue}
 use Rattle.inlined_arguments.specs.declared.values.Value.TheVariants.{Variable as VariableIn}
 use Rattle.inlined_arguments.specs.declared.values.Value.TheVariants.{Expression as ExpressionIn}
 use Rattle.inlined_arguments.specs.declared.values.Values.{Values}
 use Rattle.inlined_arguments.specs.Conditions.{Call}
 use Rattle.inlined_arguments.specs.Edits.{Edit}
+use Rattle.inlined_arguments.specs.Inlining.{Inlined}
+use Rattle.inlined_arguments.specs.Values.{Amount, Number, ValueOf, Absent}
 use Rattle.inlined_arguments.specs.Values.{Value, Variable, Expression, Slot, first_named}
 use Rattle.inlined_arguments.specs.Variables.{Argument}
 
@@ -33,7 +40,7 @@ abbrev pub seen_call : DeclaredCall → Call
 seen_call c = record {
   text = text c.string.text;
   style = c.string.style;
-  literal = option_map text c.string.snippet;
+  literal = option_map (λ s. s.now) c.string.snippet;
   appended_newline = c.string.appended_newline;
   captures = c.string.captures;
   arguments = map seen_argument c.arguments.now;
@@ -50,6 +57,20 @@ seen_edit e = record { span = pair e.span; text = string_bytes e.text }
 abbrev pub seen_value : DeclaredValue → Value
 seen_value (VariableIn w) = Variable (text w)
 seen_value (ExpressionIn i n) = Expression i
+
+-- What is made of a call, as a contract sees it.
+abbrev pub seen_inlined : DeclaredInlined → Inlined
+seen_inlined r = record {
+  edits = map seen_edit r.edits.items;
+  literal = string_bytes r.literal;
+  gone = r.gone.items;
+}
+
+-- A width or a precision as a contract sees it.
+abbrev pub seen_amount : DeclaredAmount → Amount
+seen_amount (NumberIn n) = Number n
+seen_amount (ValueIn v) = ValueOf (option_map seen_value v)
+seen_amount AbsentIn = Absent
 
 -- What a map has for a name.
 abbrev pub found_in : BTreeMap (Bor (List ℕ)) DeclaredValue → Text → Option Value

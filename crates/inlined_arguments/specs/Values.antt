@@ -5,6 +5,7 @@ use Rattle.std.specs.Option.{option_map_or}
 use Rattle.std.specs.List.{slice_get}
 use Rattle.std.specs.Str.{bytes_eq}
 use Rattle.rustc_parse_format.specs.Characters.{Text}
+use Rattle.rustc_parse_format.specs.Types.{Count, Is, Name, Param, Star, Implied}
 use Rattle.placeholder_check.specs.Uses.{Use, ByIndex, ByName}
 use Rattle.call_faults.specs.Arguments.{Given}
 use Rattle.inlined_arguments.specs.Variables.{Argument, variable}
@@ -25,9 +26,13 @@ pub record Slot : Type 0 where
   pub name : Option Text
   pub value : Value
 
+-- The value of the argument with the index i.
+abbrev pub slot_value : ℕ → Argument → Value
+slot_value i a = option_map_or Variable (variable a) (Expression i)
+
 -- The slot of the argument with the index i.
 abbrev pub slot : ℕ → Argument → Slot
-slot i a = record { name = a.name; value = option_map_or Variable (variable a) (Expression i) }
+slot i a = record { name = a.name; value = slot_value i a }
 
 -- The slots of these arguments, the first of which has the index i.
 abbrev pub slots_from : ℕ → List Argument → List Slot
@@ -42,7 +47,12 @@ slots args = slots_from 0 args
 abbrev pub kept : List Slot → List Slot
 kept ss = filter (λ s. is_expression s.value) ss
 
--- Slots as the arguments of a call.
+-- All of these slots, or those that stay.
+abbrev pub selected : Bool → List Slot → List Slot
+selected true ss = ss
+selected false ss = kept ss
+
+-- A slot as an argument of a call.
 abbrev pub given : Slot → Given
 given s = record { name = s.name; variable = None }
 
@@ -64,3 +74,16 @@ value_at ss n = option_map (λ s. s.value) (slice_get ss n)
 abbrev pub value_of : List Slot → Use → Option Value
 value_of ss (ByIndex n) = value_at ss n
 value_of ss (ByName w) = Some (value_named ss w)
+
+-- A width or a precision: a number, the value of a use, or none.
+pub data Amount : Type 0 where
+  Number : ℕ → Amount
+  ValueOf : Option Value → Amount
+  Absent : Amount
+
+abbrev pub amount_of : {A : Type 0} → List Slot → Count A → Amount
+amount_of ss (Is n) = Number n
+amount_of ss (Name w s) = ValueOf (value_of ss (ByName w))
+amount_of ss (Param n) = ValueOf (value_of ss (ByIndex n))
+amount_of ss (Star n) = ValueOf (value_of ss (ByIndex n))
+amount_of ss Implied = Absent

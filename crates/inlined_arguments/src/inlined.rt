@@ -1,8 +1,18 @@
 //! Inlining, and the check of its result.
 
+ghost use Rattle.std.specs.Prelude.{◌≡◌, ◌+◌, ◌<◌, ◌^◌, ◌++◌, IfErr, IfOk, IsTrue, List, chars};
+ghost use Rattle.std.specs.Prelude.{length, map, string_bytes};
+ghost use Rattle.rustc_parse_format.specs.Literal.{newline};
+ghost use Rattle.rustc_parse_format.specs.Seen.{seen};
+ghost use Rattle.rustc_parse_format.specs.World.{hashes};
+ghost use Rattle.inlined_arguments.specs.Inlining.{IsInlined, IsLeft, MeansSame};
+ghost use Rattle.inlined_arguments.specs.Seen.{Holds, seen_argument, seen_call, seen_inlined};
+ghost use Rattle.inlined_arguments.specs.Values.{slots};
+
 use crate::call::{Call, Inlined, Left};
 use crate::conditions::condition;
-use crate::edits::{edited, edits_of};
+use crate::edited::edited;
+use crate::edits::edits_of;
 use crate::meaning::{Meant, means_same};
 use crate::reading::{givens, read};
 use crate::values::values_of;
@@ -11,6 +21,30 @@ use call_faults::FormatString;
 use piece_listing::literal::literal_text;
 use std::alloc::{AllocError, Global};
 
+/// Adds the newline that a macro appends, if it does. Returns `Err` if an allocation fails.
+fn put_newline(text: &mut String, appended: bool) -> Result<(), AllocError>
+    ensures text { OnOk result (chars (string_bytes text.new)
+        ≡ chars (string_bytes text.old) ++ newline appended) }
+    ensures short { OnOk result (length (string_bytes text.new)
+        ≤ length (string_bytes text.old) + 1) }
+{
+    if appended {
+        text.push('\n')?;
+    }
+    Ok(())
+}
+
+/// Returns whether two styles of literals are the same.
+fn is_same_style(left: Option<usize>, right: Option<usize>) -> bool
+    ensures { IsTrue result → left ≡ right }
+{
+    match (left, right) {
+        (None, None) => true,
+        (Some(left), Some(right)) => left == right,
+        _ => false,
+    }
+}
+
 /// Returns whether a call with this literal in place of its own, and without the arguments that are
 /// variables, means what the old one does. Returns `Err` if an allocation fails.
 fn keeps_meaning(
@@ -18,16 +52,18 @@ fn keeps_meaning(
     call: &Call<'_>,
     old: Meant<'_, '_>,
     literal: &str,
-) -> Result<bool, AllocError> {
+) -> Result<bool, AllocError>
+    ensures { IfOk result (λ b. Holds (slots (map seen_argument call.now.arguments.now))
+        old.entry.values.now → IsTrue b
+        → MeansSame (seen_call call.now) (map seen old.entry.pieces.now) (chars literal.now)) }
+{
     let Some((mut text, style)) = literal_text(alloc, literal)? else {
         return Ok(false);
     };
-    if style != call.string.style {
+    if !is_same_style(style, call.string.style) {
         return Ok(false);
     }
-    if call.string.appended_newline {
-        text.push('\n')?;
-    }
+    put_newline(&mut text, call.string.appended_newline)?;
     let string = FormatString {
         text: text.as_str(),
         style,
@@ -37,16 +73,14 @@ fn keeps_meaning(
     };
     let given = givens(alloc, call.arguments, false)?;
     let values = values_of(alloc, call.arguments, false)?;
-    match read(alloc, string, &given)? {
-        Some(pieces) => Ok(means_same(
-            old,
-            Meant {
-                pieces: &pieces,
-                values: &values,
-            },
-        )),
-        None => Ok(false),
-    }
+    let Some(pieces) = read(alloc, string, &given)? else {
+        return Ok(false);
+    };
+    let new = Meant {
+        pieces: &pieces,
+        values: &values,
+    };
+    Ok(means_same(old, new))
 }
 
 /// Returns a call with its arguments that are variables in its format string, or why it is left as
@@ -58,7 +92,13 @@ pub fn inlined(
     alloc: Global,
     call: &Call<'_>,
     allows_mixed: bool,
-) -> Result<Result<Inlined, Left>, AllocError> {
+) -> Result<Result<Inlined, Left>, AllocError>
+    requires { hashes call.now.string.style + length call.now.string.text.now + 2 < 2 ^ 64 }
+    // A call that is inlined has the old meaning. One that is left has a reason that holds.
+    ensures inlined { IfOk result (λ r. IfOk r (λ x.
+        IsInlined allows_mixed (seen_call call.now) (seen_inlined x))) }
+    ensures left { IfOk result (λ r. IfErr r (λ l. IsLeft allows_mixed (seen_call call.now) l)) }
+{
     if let Some(left) = condition(call, allows_mixed) {
         return Ok(Err(left));
     }

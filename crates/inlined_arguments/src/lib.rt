@@ -3,6 +3,7 @@
 
 mod call;
 mod conditions;
+mod edited;
 mod edits;
 mod inlined;
 mod keywords;

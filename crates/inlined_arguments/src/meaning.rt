@@ -1,31 +1,20 @@
 //! The comparison of the meanings of two calls.
 
-use crate::values::{Value, Values};
-use rustc_parse_format::{Argument, Count, FormatSpec, Piece, Position};
+ghost use Rattle.std.specs.Prelude.{◌≡◌, IsTrue, List, map, option_map};
+ghost use Rattle.rustc_parse_format.specs.Seen.{seen, seen_argument, seen_debug_hex, seen_sign};
+ghost use Rattle.rustc_parse_format.specs.Seen.{seen_spec};
+ghost use Rattle.inlined_arguments.specs.Meaning.{flags, meaning, part};
+ghost use Rattle.inlined_arguments.specs.Seen.{Holds, seen_amount, seen_value};
+ghost use Rattle.inlined_arguments.specs.Values.{Slot};
 
-/// Returns the value of a position, or `None` if it is an index that no argument has.
-pub(crate) fn position_value<'a>(
-    values: &Values<'a>,
-    position: &Position<'a>,
-) -> Option<Value<'a>> {
-    match position {
-        Position::ArgumentImplicitlyIs(n) | Position::ArgumentIs(n) => values.at(*n),
-        Position::ArgumentNamed(name) => Some(values.named(name)),
-    }
-}
-
-/// Returns the value of a width or a precision, or `None` if it is no argument or an index that
-/// none has.
-pub(crate) fn count_value<'a>(values: &Values<'a>, count: &Count<'a>) -> Option<Value<'a>> {
-    match count {
-        Count::CountIsParam(n) | Count::CountIsStar(n) => values.at(*n),
-        Count::CountIsName(name, _) => Some(values.named(name)),
-        Count::CountIs(_) | Count::CountImplied => None,
-    }
-}
+use crate::values::{Amount, Value, Values, amount_of, position_value};
+use rustc_parse_format::laws::{alignments_are_equal, debug_hexes_are_equal, signs_are_equal};
+use rustc_parse_format::{Argument, DebugHex, FormatSpec, Piece, Sign};
 
 /// Returns whether two values are the same.
-fn is_same_value(left: Value<'_>, right: Value<'_>) -> bool {
+fn is_same_value(left: Value<'_>, right: Value<'_>) -> bool
+    ensures { IsTrue result → seen_value left ≡ seen_value right }
+{
     match (left, right) {
         (Value::Variable(left), Value::Variable(right)) => left == right,
         (Value::Expression { index: left, .. }, Value::Expression { index: right, .. }) => {
@@ -36,28 +25,73 @@ fn is_same_value(left: Value<'_>, right: Value<'_>) -> bool {
 }
 
 /// Returns whether two values are there and the same.
-fn are_same_values(left: Option<Value<'_>>, right: Option<Value<'_>>) -> bool {
+fn are_same_values(left: Option<Value<'_>>, right: Option<Value<'_>>) -> bool
+    ensures { IsTrue result → option_map seen_value left ≡ option_map seen_value right }
+{
     match (left, right) {
         (Some(left), Some(right)) => is_same_value(left, right),
         _ => false,
     }
 }
 
-/// Returns whether a width or a precision is an argument.
-fn is_argument(count: &Count<'_>) -> bool {
-    match count {
-        Count::CountIsParam(_) | Count::CountIsStar(_) | Count::CountIsName(_, _) => true,
-        Count::CountIs(_) | Count::CountImplied => false,
+/// Returns whether two widths or precisions are the same.
+fn are_same_amounts(left: Amount<'_>, right: Amount<'_>) -> bool
+    ensures { IsTrue result → seen_amount left ≡ seen_amount right }
+{
+    match (left, right) {
+        (Amount::Number(left), Amount::Number(right)) => left == right,
+        (Amount::ValueOf(left), Amount::ValueOf(right)) => are_same_values(left, right),
+        (Amount::Absent, Amount::Absent) => true,
+        _ => false,
     }
 }
 
-/// Returns whether two widths or precisions are no arguments and the same.
-fn are_same_numbers(left: &Count<'_>, right: &Count<'_>) -> bool {
+/// Returns whether two fill characters are the same.
+fn are_same_fills(left: Option<char>, right: Option<char>) -> bool
+    ensures { IsTrue result → left ≡ right }
+{
     match (left, right) {
-        (Count::CountIs(left), Count::CountIs(right)) => left == right,
-        (Count::CountImplied, Count::CountImplied) => true,
+        (None, None) => true,
+        (Some(left), Some(right)) => left == right,
         _ => false,
     }
+}
+
+/// Returns whether two signs are the same.
+fn are_same_signs(left: Option<Sign>, right: Option<Sign>) -> bool
+    ensures { IsTrue result → option_map seen_sign left ≡ option_map seen_sign right }
+{
+    match (left, right) {
+        (None, None) => true,
+        (Some(left), Some(right)) => signs_are_equal(&left, &right),
+        _ => false,
+    }
+}
+
+/// Returns whether two flags of the type `?` are the same.
+fn are_same_hexes(left: Option<DebugHex>, right: Option<DebugHex>) -> bool
+    ensures { IsTrue result → option_map seen_debug_hex left ≡ option_map seen_debug_hex right }
+{
+    match (left, right) {
+        (None, None) => true,
+        (Some(left), Some(right)) => debug_hexes_are_equal(&left, &right),
+        _ => false,
+    }
+}
+
+/// Returns whether two specifications are the same but for their width, their precision and their
+/// places.
+#[tactic(auto, using(crate::proofs::Comparing::same_flags))]
+fn are_same_flags(left: &FormatSpec<'_>, right: &FormatSpec<'_>) -> bool
+    ensures { IsTrue result → flags (seen_spec left.now) ≡ flags (seen_spec right.now) }
+{
+    are_same_fills(left.fill, right.fill)
+        && alignments_are_equal(&left.align, &right.align)
+        && are_same_signs(left.sign, right.sign)
+        && left.alternate == right.alternate
+        && left.zero_pad == right.zero_pad
+        && are_same_hexes(left.debug_hex, right.debug_hex)
+        && left.ty == right.ty
 }
 
 /// A format string and the values that it refers to.
@@ -69,58 +103,27 @@ pub(crate) struct Meant<'s, 'a> {
     pub values: &'s Values<'a>,
 }
 
-/// Returns whether two widths or precisions mean the same.
-fn are_same_counts<'a, 'b>(
-    left_values: &Values<'a>,
-    left: &Count<'a>,
-    right_values: &Values<'b>,
-    right: &Count<'b>,
-) -> bool {
-    if is_argument(left) {
-        return are_same_values(
-            count_value(left_values, left),
-            count_value(right_values, right),
-        );
-    }
-    are_same_numbers(left, right)
-}
-
-/// Returns whether two specifications are the same but for their width, their precision and their
-/// places.
-fn are_same_flags(left: &FormatSpec<'_>, right: &FormatSpec<'_>) -> bool {
-    left.fill == right.fill
-        && left.align == right.align
-        && left.sign == right.sign
-        && left.alternate == right.alternate
-        && left.zero_pad == right.zero_pad
-        && left.debug_hex == right.debug_hex
-        && left.ty == right.ty
-}
-
 /// Returns whether two placeholders mean the same.
 fn are_same_uses<'a, 'b>(
     left_values: &Values<'a>,
     left: &Argument<'a>,
     right_values: &Values<'b>,
     right: &Argument<'b>,
-) -> bool {
-    are_same_flags(&left.format, &right.format)
-        && are_same_values(
-            position_value(left_values, &left.position),
-            position_value(right_values, &right.position),
-        )
-        && are_same_counts(
-            left_values,
-            &left.format.width,
-            right_values,
-            &right.format.width,
-        )
-        && are_same_counts(
-            left_values,
-            &left.format.precision,
-            right_values,
-            &right.format.precision,
-        )
+) -> bool
+    ensures { (ss ts : List Slot) → Holds ss left_values.now → Holds ts right_values.now
+        → IsTrue result
+        → use_part ss (seen_argument left.now) ≡ use_part ts (seen_argument right.now) }
+{
+    are_same_values(
+        position_value(left_values, &left.position),
+        position_value(right_values, &right.position),
+    ) && are_same_amounts(
+        amount_of(left_values, &left.format.width),
+        amount_of(right_values, &right.format.width),
+    ) && are_same_amounts(
+        amount_of(left_values, &left.format.precision),
+        amount_of(right_values, &right.format.precision),
+    ) && are_same_flags(&left.format, &right.format)
 }
 
 /// Returns whether two pieces mean the same.
@@ -129,7 +132,10 @@ fn are_same_parts<'a, 'b>(
     left: &Piece<'a>,
     right_values: &Values<'b>,
     right: &Piece<'b>,
-) -> bool {
+) -> bool
+    ensures { (ss ts : List Slot) → Holds ss left_values.now → Holds ts right_values.now
+        → IsTrue result → part ss (seen left.now) ≡ part ts (seen right.now) }
+{
     match (left, right) {
         (Piece::Lit(left), Piece::Lit(right)) => left == right,
         (Piece::NextArgument(left), Piece::NextArgument(right)) => {
@@ -140,16 +146,23 @@ fn are_same_parts<'a, 'b>(
 }
 
 /// Returns whether two calls mean the same.
-pub(crate) fn means_same<'a, 'b>(left: Meant<'_, 'a>, right: Meant<'_, 'b>) -> bool {
-    let mut others = right.pieces;
-    for piece in left.pieces {
-        let Some((other, rest)) = others.split_first() else {
-            return false;
-        };
-        if !are_same_parts(left.values, piece, right.values, other) {
-            return false;
-        }
-        others = rest;
+pub(crate) fn means_same<'a, 'b>(left: Meant<'_, 'a>, right: Meant<'_, 'b>) -> bool
+    ensures { (ss ts : List Slot) → Holds ss left.entry.values.now → Holds ts right.entry.values.now
+        → IsTrue result → meaning ss (map seen left.entry.pieces.now)
+        ≡ meaning ts (map seen right.entry.pieces.now) }
+{
+    if left.pieces.len() != right.pieces.len() {
+        return false;
     }
-    others.is_empty()
+    for (index, piece) in left.pieces.iter().enumerate() {
+        match right.pieces.get(index) {
+            Some(other) => {
+                if !are_same_parts(left.values, piece, right.values, other) {
+                    return false;
+                }
+            }
+            None => return false,
+        }
+    }
+    true
 }

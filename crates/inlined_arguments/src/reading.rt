@@ -1,5 +1,19 @@
 //! The reading of a call: its pieces, if nothing is wrong with it.
 
+ghost use Rattle.std.specs.Prelude.{◌≡◌, ◌+◌, ◌<◌, ◌^◌, IfOk, IsTrue, MatchOption, chars, length};
+ghost use Rattle.std.specs.Prelude.{map};
+ghost use Rattle.std.specs.List.{list_all};
+ghost use Rattle.rustc_parse_format.specs.Call.{pieces_of};
+ghost use Rattle.rustc_parse_format.specs.Seen.{seen};
+ghost use Rattle.rustc_parse_format.specs.State.{calls};
+ghost use Rattle.rustc_parse_format.specs.Types.{bare};
+ghost use Rattle.rustc_parse_format.specs.World.{hashes, pieces_in};
+ghost use Rattle.call_faults.specs.CallFaults.{is_warning};
+ghost use Rattle.call_faults.specs.Clean.{IsClean};
+ghost use Rattle.call_faults.specs.Seen.{seen_fault, seen_given, start};
+ghost use Rattle.inlined_arguments.specs.Seen.{seen_argument};
+ghost use Rattle.inlined_arguments.specs.Values.{given, selected, slots};
+
 use crate::call::Argument;
 use crate::variables::is_variable;
 use call_faults::{CallFault, FormatString, Given, call_faults};
@@ -12,25 +26,36 @@ pub(crate) fn givens<'a>(
     alloc: Global,
     arguments: &[Argument<'a>],
     has_variables: bool,
-) -> Result<Vec<Given<'a>>, AllocError> {
-    let mut given = Vec::new(alloc);
+) -> Result<Vec<Given<'a>>, AllocError>
+    ensures { IfOk result (λ v. map seen_given v.items
+        ≡ map given (selected has_variables (slots (map seen_argument arguments.now)))) }
+{
+    let mut found = Vec::new(alloc);
     for argument in arguments {
         if has_variables || !is_variable(argument) {
-            given.push(Given {
+            found.push(Given {
                 name: argument.name,
                 variable: None,
             })?;
         }
     }
-    Ok(given)
+    Ok(found)
 }
 
-/// Returns whether there is nothing but warnings among faults.
-fn are_warnings(faults: &[CallFault<'_>]) -> bool {
+/// Returns whether a fault is only a warning.
+fn is_warning(fault: &CallFault<'_>) -> bool
+    ensures { result ≡ is_warning (seen_fault fault.now) }
+{
+    matches!(fault, CallFault::NameUsedByIndex { .. })
+}
+
+/// Returns whether faults are only warnings.
+fn are_warnings(faults: &[CallFault<'_>]) -> bool
+    ensures { IsTrue result ↔ All (λ f. IsTrue (is_warning f)) (map seen_fault faults.now) }
+{
     for fault in faults {
-        match fault {
-            CallFault::NameUsedByIndex { .. } => {}
-            _ => return false,
+        if !is_warning(fault) {
+            return false;
         }
     }
     true
@@ -42,7 +67,16 @@ pub(crate) fn read<'a>(
     alloc: Global,
     string: FormatString<'a>,
     given: &'a [Given<'a>],
-) -> Result<Option<Vec<Piece<'a>>>, AllocError> {
+) -> Result<Option<Vec<Piece<'a>>>, AllocError>
+    requires { hashes string.style + length string.text.now + 2 < 2 ^ 64 }
+    ensures { IfOk result (λ o. MatchOption o
+        (IsClean string.entry.captures (map seen_given given.now) (chars string.entry.text.now)
+        → ⊥)
+        (λ v. let s = start string.entry in
+        (map seen v.items ≡ pieces_in s.world (pieces_of (calls s)))
+        × ReadsClean string.entry.captures (map seen_given given.now) (chars string.entry.text.now)
+        (map bare (map seen v.items)))) }
+{
     let checked = call_faults(alloc, string, given)?;
     if are_warnings(&checked.faults) {
         Ok(Some(checked.pieces))
