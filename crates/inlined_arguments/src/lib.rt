@@ -5,7 +5,7 @@ mod call;
 mod conditions;
 mod edited;
 mod edits;
-mod inlined;
+mod inlining;
 mod keywords;
 mod meaning;
 mod reading;
@@ -13,4 +13,4 @@ mod values;
 mod variables;
 
 pub use call::{Argument, Call, Edit, Inlined, Left};
-pub use inlined::inlined;
+pub use inlining::inlined;

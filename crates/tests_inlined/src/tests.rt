@@ -112,7 +112,7 @@ fn said(alloc: Global, case: Case, literal: &str, list: &str) -> Result<String, 
         is_format_alone: case.is_format_alone,
         has_const_form: case.has_const_form,
     };
-    match inlined(alloc, &call, case.allows_mixed)? {
+    match inlined(alloc, call, case.allows_mixed)? {
         Ok(made) => after(alloc, &made, &arguments),
         Err(left) => String::from_str(alloc, name_of(left)),
     }
