@@ -31,8 +31,8 @@ use Rattle.inlined_arguments.specs.Variables.{Argument}
 abbrev pub seen_argument : DeclaredArgument → Argument
 seen_argument a = record {
   name = option_map text a.name;
-  word = option_map text a.word;
-  source = chars a.source.now;
+  word = option_map (λ s. s.now) a.word;
+  source = a.source.now;
 }
 
 -- A call as a contract sees it.

@@ -1,6 +1,6 @@
 //! The conditions that can be seen without reading the format string.
 
-ghost use Rattle.std.specs.Prelude.{◌≡◌, IfSome, codes, map};
+ghost use Rattle.std.specs.Prelude.{◌≡◌, map, not};
 ghost use Rattle.std.specs.List.{list_any};
 ghost use Rattle.inlined_arguments.specs.Seen.{seen_argument, seen_call};
 ghost use Rattle.inlined_arguments.specs.Conditions.{condition, goes_with_comment};
