@@ -1,7 +1,8 @@
 -- Why a call is left as it is, as far as that is seen without reading its string.
-use Rattle.std.specs.Prelude.{ℕ, Bool, ◌&&◌, not, if◌then◌else◌, List, Option, Some, None, codes}
+use Prim.Native.Char.{code}
+use Rattle.std.specs.Prelude.{ℕ, Bool, false, ◌&&◌, ◌==◌, not, if◌then◌else◌, List, [], ◌∷◌}
+use Rattle.std.specs.Prelude.{Option, Some, None}
 use Rattle.std.specs.List.{list_any}
-use Rattle.std.specs.Str.{bytes_eq}
 use Rattle.rustc_parse_format.specs.Characters.{Text}
 use Rattle.inlined_arguments.specs.Variables.{Argument, has_comment, is_variable}
 use Rattle.inlined_arguments.specs.declared.call.Left.{Left}
@@ -40,12 +41,19 @@ list_condition allows_mixed c =
     else (if not allows_mixed && has_other c.arguments then Some Mixed
     else (if list_any goes_with_comment c.arguments then Some Comment else None)))
 
+-- The text is `{}`.
+abbrev pub is_bare : Text → Bool
+is_bare [] = false
+is_bare (c ∷ []) = false
+is_bare (c ∷ d ∷ []) = c == code "{" && d == code "}"
+is_bare (c ∷ d ∷ e ∷ t) = false
+
 -- The reason in its macro and its string.
 abbrev pub string_condition : Call → Option Left
 string_condition c =
     if not c.captures then Some CapturesNone
     else (if not c.is_format_alone && not (has_other c.arguments) then Some Alone
-    else (if c.has_const_form && bytes_eq c.text (codes "{}") then Some ConstForm else None))
+    else (if c.has_const_form && is_bare c.text then Some ConstForm else None))
 
 abbrev pub or_else : Option Left → Option Left → Option Left
 or_else None y = y

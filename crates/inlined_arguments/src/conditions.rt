@@ -1,14 +1,14 @@
 //! The conditions that can be seen without reading the format string.
 
-ghost use Rattle.std.specs.Prelude.{◌≡◌, map, not};
+ghost use Rattle.std.specs.Prelude.{◌≡◌, chars, map, not};
 ghost use Rattle.std.specs.List.{list_any};
 ghost use Rattle.inlined_arguments.specs.Seen.{seen_argument, seen_call};
-ghost use Rattle.inlined_arguments.specs.Conditions.{condition, goes_with_comment};
+ghost use Rattle.inlined_arguments.specs.Conditions.{condition, goes_with_comment, is_bare};
 ghost use Rattle.inlined_arguments.specs.Conditions.{list_condition, string_condition};
 ghost use Rattle.inlined_arguments.specs.Variables.{is_variable};
 
 use crate::call::{Argument, Call, Left};
-use crate::variables::{has_comment, is_variable};
+use crate::variables::{has_comment, is_variable, split_first};
 
 /// Returns whether one of arguments is a variable.
 fn has_variable(arguments: &[Argument<'_>]) -> bool
@@ -65,6 +65,19 @@ fn list_condition(call: &Call<'_>, allows_mixed: bool) -> Option<Left>
     None
 }
 
+/// Returns whether a text is `{}`.
+fn is_bare(text: &str) -> bool
+    ensures { result ≡ is_bare (chars text.now) }
+{
+    let Some(('{', rest)) = split_first(text) else {
+        return false;
+    };
+    match split_first(rest) {
+        Some(('}', tail)) => split_first(tail).is_none(),
+        _ => false,
+    }
+}
+
 /// Returns the reason in its macro and its string why a call is left, or `None` if there is none.
 fn string_condition(call: &Call<'_>) -> Option<Left>
     ensures { result ≡ string_condition (seen_call call.now) }
@@ -75,7 +88,7 @@ fn string_condition(call: &Call<'_>) -> Option<Left>
     if !call.is_format_alone && !has_other(call.arguments) {
         return Some(Left::Alone);
     }
-    if call.has_const_form && call.string.text == "{}" {
+    if call.has_const_form && is_bare(call.string.text) {
         return Some(Left::ConstForm);
     }
     None

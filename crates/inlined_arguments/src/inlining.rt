@@ -32,6 +32,7 @@ fn put_newline(text: &mut String, appended: bool) -> Result<(), AllocError>
 {
     if appended {
         text.push('\n')?;
+        return Ok(());
     }
     Ok(())
 }

@@ -3,7 +3,7 @@
 ghost use Rattle.std.specs.Prelude.{◌≡◌, IsTrue, List, map, option_map};
 ghost use Rattle.rustc_parse_format.specs.Seen.{seen, seen_argument, seen_debug_hex, seen_sign};
 ghost use Rattle.rustc_parse_format.specs.Seen.{seen_spec};
-ghost use Rattle.inlined_arguments.specs.Meaning.{flags, meaning, part};
+ghost use Rattle.inlined_arguments.specs.Meaning.{flags, meaning, part, use_part};
 ghost use Rattle.inlined_arguments.specs.Seen.{Holds, seen_amount, seen_value};
 ghost use Rattle.inlined_arguments.specs.Values.{Slot};
 
@@ -13,7 +13,7 @@ use rustc_parse_format::{Argument, DebugHex, FormatSpec, Piece, Sign};
 
 /// Returns whether two values are the same.
 fn is_same_value(left: Value<'_>, right: Value<'_>) -> bool
-    ensures { IsTrue result → seen_value left ≡ seen_value right }
+    ensures { IsTrue result → seen_value left.entry ≡ seen_value right.entry }
 {
     match (left, right) {
         (Value::Variable(left), Value::Variable(right)) => left == right,
@@ -26,7 +26,7 @@ fn is_same_value(left: Value<'_>, right: Value<'_>) -> bool
 
 /// Returns whether two values are there and the same.
 fn are_same_values(left: Option<Value<'_>>, right: Option<Value<'_>>) -> bool
-    ensures { IsTrue result → option_map seen_value left ≡ option_map seen_value right }
+    ensures { IsTrue result → option_map seen_value left.entry ≡ option_map seen_value right.entry }
 {
     match (left, right) {
         (Some(left), Some(right)) => is_same_value(left, right),
@@ -36,7 +36,7 @@ fn are_same_values(left: Option<Value<'_>>, right: Option<Value<'_>>) -> bool
 
 /// Returns whether two widths or precisions are the same.
 fn are_same_amounts(left: Amount<'_>, right: Amount<'_>) -> bool
-    ensures { IsTrue result → seen_amount left ≡ seen_amount right }
+    ensures { IsTrue result → seen_amount left.entry ≡ seen_amount right.entry }
 {
     match (left, right) {
         (Amount::Number(left), Amount::Number(right)) => left == right,

@@ -17,7 +17,7 @@ use std::alloc::{AllocError, Global};
 const FIRST_MARK: char = '\u{300}';
 
 /// Returns the first character and what is after it, or `None` if the text is empty.
-fn split_first(text: &str) -> Option<(char, &str)>
+pub(crate) fn split_first(text: &str) -> Option<(char, &str)>
     ensures parts { MatchOption result (chars text.now ≡ [])
         (λ x. chars text.now ≡ x.0 ∷ chars x.1.now) }
     ensures shorter { IfSome result (λ x. length x.1.now < length text.now) }
