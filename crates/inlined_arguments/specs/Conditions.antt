@@ -11,9 +11,10 @@ use Rattle.inlined_arguments.specs.declared.call.Left.TheVariants.{CapturesNone,
 use Rattle.inlined_arguments.specs.declared.call.Left.TheVariants.{Comment}
 
 -- A call of a macro that takes a format string: the text and the style of that, the bytes of its
--- literal if it is known, whether a newline is appended to the text, and whether it captures variables; the arguments
--- after it, and whether these are all; whether the string is a format string if no argument follows
--- it; and whether a `const fn` may make the call with one argument and the string `{}`.
+-- literal if it is known, whether a newline is appended to the text, and whether it captures
+-- variables; the arguments after it, and whether these are all; whether the string is a format
+-- string if no argument follows it; and whether a `const fn` may make the call with one argument
+-- and the string `{}`.
 pub record Call : Type 0 where
   pub text : Text
   pub style : Option ℕ

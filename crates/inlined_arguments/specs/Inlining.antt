@@ -38,16 +38,16 @@ ReadsClean captures gs t ps = (c : IsClean captures gs t) × (c.pieces ≡ ps)
 abbrev pub IsCleanCall : Bool → List Slot → Text → Type 0
 IsCleanCall captures ss t = IsClean captures (map given ss) t
 
--- Nothing is wrong with a call with this string and those of these slots that stay, and it means what
--- a call means whose string has these pieces, and which has all these slots.
+-- Nothing is wrong with a call with this string and those of these slots that stay, and it means
+-- what a call means whose string has these pieces, and which has all these slots.
 pub record IsCleanWith {A : Type 0} (captures : Bool) (ss : List Slot) (t : Text)
     (ps : List (Piece A)) : Type 0 where
   pub clean : IsCleanCall captures (kept ss) t
   pub same : meaning ss ps ≡ meaning (kept ss) clean.pieces
 
 -- The call c with this literal, and without the arguments that are variables, means what c does,
--- where ps are the pieces of the string of c. The literal has the style of that of c, and nothing is
--- wrong with the new call.
+-- where ps are the pieces of the string of c. The literal has the style of that of c, and nothing
+-- is wrong with the new call.
 pub record MeansSame {A : Type 0} (c : Call) (ps : List (Piece A)) (literal : Text) : Type 0 where
   pub text : Text
   pub is_literal : IsLiteral c.style literal text

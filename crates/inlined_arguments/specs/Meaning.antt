@@ -7,8 +7,8 @@ use Rattle.rustc_parse_format.specs.Types.{bare_spec}
 use Rattle.placeholder_check.specs.Uses.{position_use}
 use Rattle.inlined_arguments.specs.Values.{Amount, Slot, Value, amount_of, value_of}
 
--- A part: text; or a value that is formatted, with a width, a precision and flags. The flags are all
--- else of its specification, with the type, which names a trait.
+-- A part: text; or a value that is formatted, with a width, a precision and flags. The flags are
+-- all else of its specification, with the type, which names a trait.
 pub data Part : Type 0 where
   TextPart : Text → Part
   ValuePart : Option Value → Amount → Amount → Spec (Unit {0}) → Part

@@ -7,8 +7,8 @@ use Rattle.std.specs.List.{list_any}
 use Rattle.rustc_parse_format.specs.Characters.{Text}
 use Rattle.inlined_arguments.specs.Keywords.{is_keyword}
 
--- An argument: its name, if it has one; the bytes of its value as it is written, if that is one word;
--- and those of the source that goes with it.
+-- An argument: its name, if it has one; the bytes of its value as it is written, if that is one
+-- word; and those of the source that goes with it.
 pub record Argument : Type 0 where
   pub name : Option Text
   pub word : Option (List ℕ)
@@ -56,7 +56,9 @@ is_slash c = c == code "/"
 abbrev pub has_comment : Argument → Bool
 has_comment a = list_any is_slash a.source
 
--- The indices of those that are variables among these arguments, the first of which has the index i.
+-- The indices of those that are variables among these arguments, the first of which has the index
+-- i.
 abbrev pub gone_from : ℕ → List Argument → List ℕ
 gone_from i [] = []
-gone_from i (a ∷ args) = if is_variable a then i ∷ gone_from (suc i) args else gone_from (suc i) args
+gone_from i (a ∷ args) = if is_variable a then i ∷ gone_from (suc i) args
+    else gone_from (suc i) args

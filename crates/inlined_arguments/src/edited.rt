@@ -1,7 +1,7 @@
 //! A literal with edits.
 
-ghost use Rattle.std.specs.Prelude.{◌≡◌, ◌-◌, IfOk, IfSome, IsTrue, drop, length, map, string_bytes};
-ghost use Rattle.std.specs.Prelude.{take};
+ghost use Rattle.std.specs.Prelude.{◌≡◌, ◌-◌, IfOk, IfSome, IsTrue, drop, length, map};
+ghost use Rattle.std.specs.Prelude.{string_bytes, take};
 ghost use Rattle.inlined_arguments.specs.Edits.{AreApart, edited};
 ghost use Rattle.inlined_arguments.specs.Seen.{seen_edit};
 

@@ -6,5 +6,6 @@ use Rattle.inlined_arguments.proofs.conditions.has_other.Given as goal
 
 -- The answer for what is left is the answer for all.
 abbrev pub invariant-loop-argument : goal.invariant-loop-argument
-invariant-loop-argument l = list_any (λ a. not (is_variable a)) (map seen_argument (drop l.argument-index l.arguments))
+invariant-loop-argument l =
+    list_any (λ a. not (is_variable a)) (map seen_argument (drop l.argument-index l.arguments))
     ≡ list_any (λ a. not (is_variable a)) (map seen_argument l.arguments)

@@ -6,5 +6,6 @@ use Rattle.inlined_arguments.proofs.conditions.has_variable.Given as goal
 
 -- The answer for what is left is the answer for all.
 abbrev pub invariant-loop-argument : goal.invariant-loop-argument
-invariant-loop-argument l = list_any is_variable (map seen_argument (drop l.argument-index l.arguments))
+invariant-loop-argument l =
+    list_any is_variable (map seen_argument (drop l.argument-index l.arguments))
     ≡ list_any is_variable (map seen_argument l.arguments)
