@@ -174,6 +174,7 @@ pub fn lint_each(
             is_literal: true,
             path: "src/main.rs",
             show,
+            width: 140,
             colours: number % 4 == 1,
         };
         let mut reader = literal.as_bytes();

@@ -70,6 +70,7 @@ fn lint_one(
         is_literal: true,
         path: "src/main.rs",
         show,
+        width: 140,
         colours,
     };
     let mut reader = input.as_bytes();

@@ -12,9 +12,9 @@ use Rattle.std.proofs.lemmas.List.{append-nil, take_all}
 use Rattle.std.proofs.Math.Utf8.{scalars}
 use Rattle.rustc_parse_format.specs.declared.types.ParseMode.{ParseMode}
 use Rattle.rustc_parse_format.specs.declared.types.Argument.{Argument as DeclaredArgument}
-use Rattle.rustc_parse_format.specs.declared.types.Taken.{Taken}
-use Rattle.rustc_parse_format.specs.declared.types.Taken.TheVariants.{Lit as LitTaken}
-use Rattle.rustc_parse_format.specs.declared.types.Taken.TheVariants.{NextArgument as ArgumentTaken}
+use Rattle.rustc_parse_format.specs.declared.types.PieceKind.{PieceKind}
+use Rattle.rustc_parse_format.specs.declared.types.PieceKind.TheVariants.{Lit as TextKind}
+use Rattle.rustc_parse_format.specs.declared.types.PieceKind.TheVariants.{NextArgument as ArgumentKind}
 use Rattle.rustc_parse_format.specs.Seen.{seen_argument, seen_mode, seen_taken}
 use Rattle.rustc_parse_format.specs.Call.{call}
 use Rattle.rustc_parse_format.specs.Characters.{Text, byte_length}
@@ -183,15 +183,15 @@ from_there bytes part mode start next s a u cut is state gives =
     s.mode a (placeholder_texts s.mode _ _ _ _ a gives texts)
 
 -- The parser that begins there returns a placeholder too.
-again : (arg : DeclaredArgument) (o : Option Taken) (v w : World) (k : Option (Piece Span))
+again : (arg : DeclaredArgument) (o : Option PieceKind) (v w : World) (k : Option (Piece Span))
     (a : Argument Place) → option_map (seen_taken arg) o ≡ option_map (piece_in v) k
     → Some (NextArgument a) ≡ option_map (piece_in w) k
     → Some (NextArgument (seen_argument arg)) ≡ option_map (piece_in v) k
 again arg o v w None a e f = cc
 again arg o v w (Some (Lit t)) a e f = cc
 again arg None v w (Some (NextArgument b)) a e f = cc
-again arg (Some (LitTaken t)) v w (Some (NextArgument b)) a e f = cc
-again arg (Some ArgumentTaken) v w (Some (NextArgument b)) a e f = e
+again arg (Some (TextKind t)) v w (Some (NextArgument b)) a e f = cc
+again arg (Some ArgumentKind) v w (Some (NextArgument b)) a e f = e
 
 -- The texts of the placeholder b stand where its spans say, and are those of the placeholder a.
 pub record Found (bytes : List ℕ) (a b : Argument Place) : Type 0 where
@@ -201,7 +201,7 @@ pub record Found (bytes : List ℕ) (a b : Argument Place) : Type 0 where
       → PositionAt (text_at bytes x.text) a.position × SpecAt bytes x a.format
 
 pub found : (bytes part : List ℕ) (mode : Mode) (start next : ℕ) (first s : State)
-    (a : Argument Place) (arg : DeclaredArgument) (o : Option Taken)
+    (a : Argument Place) (arg : DeclaredArgument) (o : Option PieceKind)
     → IsUtf8 bytes → IsReadAt bytes mode next start (Some (NextArgument a))
     → part ≡ drop start bytes
     → first ≡ first_state mode (chars part) (Some start) None false

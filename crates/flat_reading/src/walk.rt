@@ -26,7 +26,7 @@ use crate::flat::{
 };
 use crate::records::{MaybeExtent, PIECE_NONE, PIECE_TEXT, POSITION_IMPLICIT, Step};
 use crate::texts::{has_texts, run_extent, texts_at};
-use rustc_parse_format::{Argument, ParseMode, Parser, Taken};
+use rustc_parse_format::{Argument, ParseMode, Parser, PieceKind};
 use std::alloc::{AllocError, Global};
 
 /// A step without a piece and without a state.
@@ -205,7 +205,7 @@ impl<'a> Walker<'a> {
     #[inline(always)]
     fn put_given(
         &self,
-        given: &Option<Taken<'_>>,
+        given: &Option<PieceKind<'_>>,
         start: usize,
         next: usize,
         specs: &mut SpecBuffer<'_>,
@@ -232,8 +232,12 @@ impl<'a> Walker<'a> {
     {
         match given {
             None => put_bare_piece(PIECE_NONE, NOWHERE, step),
-            Some(Taken::Lit(text)) => put_bare_piece(PIECE_TEXT, run_extent(step.read, text), step),
-            Some(Taken::NextArgument) => match self.escapes {
+            Some(PieceKind::Lit(text)) => put_bare_piece(
+                PIECE_TEXT,
+                run_extent(step.read, text),
+                step,
+            ),
+            Some(PieceKind::NextArgument) => match self.escapes {
                 Some(mode) => return self.put_escaped(mode, start, next, specs, step),
                 None => put_plain_argument(&self.argument, self.input, self.offset, specs, step),
             },

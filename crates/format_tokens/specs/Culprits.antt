@@ -12,7 +12,7 @@ use Rattle.format_tokens.specs.declared.kinds.Kind.TheVariants.{Text as TextKind
 use Rattle.format_tokens.specs.declared.kinds.Kind.TheVariants.{Open as OpenKind}
 use Rattle.format_tokens.specs.declared.kinds.Kind.TheVariants.{Close as CloseKind}
 use Rattle.format_tokens.specs.declared.kinds.Kind.TheVariants.{Integer, Identifier}
-use Rattle.format_tokens.specs.declared.kinds.Kind.TheVariants.{RawPrefix, White, Colon, Fill}
+use Rattle.format_tokens.specs.declared.kinds.Kind.TheVariants.{RawPrefix, Whitespace, Colon, Fill}
 use Rattle.format_tokens.specs.declared.kinds.Kind.TheVariants.{Align, Sign, NumberSign, Zero}
 use Rattle.format_tokens.specs.declared.kinds.Kind.TheVariants.{DollarSign, Dot, Asterisk}
 use Rattle.format_tokens.specs.declared.kinds.Kind.TheVariants.{«Type» as TypeKind, Modifier}
@@ -28,7 +28,7 @@ role_of CloseKind = Close
 role_of Integer = Number
 role_of Identifier = Name
 role_of RawPrefix = Name
-role_of White = Other
+role_of Whitespace = Other
 role_of Colon = Other
 role_of Fill = Other
 role_of Align = Other

@@ -10,7 +10,7 @@ use Rattle.rustc_parse_format.specs.LiteralUnits.{meaning, unit_at}
 use Rattle.format_tokens.specs.declared.kinds.Kind.{Kind}
 use Rattle.format_tokens.specs.declared.kinds.Kind.TheVariants.{Text as TextKind, Escape, Open}
 use Rattle.format_tokens.specs.declared.kinds.Kind.TheVariants.{Close, Integer, Identifier}
-use Rattle.format_tokens.specs.declared.kinds.Kind.TheVariants.{RawPrefix, White, Colon, Fill}
+use Rattle.format_tokens.specs.declared.kinds.Kind.TheVariants.{RawPrefix, Whitespace, Colon, Fill}
 use Rattle.format_tokens.specs.declared.kinds.Kind.TheVariants.{Align, Sign, NumberSign, Zero}
 use Rattle.format_tokens.specs.declared.kinds.Kind.TheVariants.{DollarSign, Dot, Asterisk}
 use Rattle.format_tokens.specs.declared.kinds.Kind.TheVariants.{«Type» as TypeKind, Modifier}
@@ -31,7 +31,7 @@ is_text Close = false
 is_text Integer = false
 is_text Identifier = false
 is_text RawPrefix = false
-is_text White = false
+is_text Whitespace = false
 is_text Colon = false
 is_text Fill = false
 is_text Align = false

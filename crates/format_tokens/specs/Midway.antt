@@ -6,7 +6,7 @@ use Rattle.std.specs.Char.{is_ascii_digit, is_whitespace}
 use Rattle.rustc_parse_format.specs.Characters.{Text, begins_with, after_first}
 use Rattle.format_tokens.specs.declared.kinds.Kind.{Kind}
 use Rattle.format_tokens.specs.declared.parts.Run.{Run}
-use Rattle.format_tokens.specs.declared.parts.Run.TheVariants.{Digits, White}
+use Rattle.format_tokens.specs.declared.parts.Run.TheVariants.{Digits, Whitespace}
 use Rattle.format_tokens.specs.Tokens.{Label}
 
 -- A kind and a number of characters.
@@ -25,7 +25,7 @@ pub record Took (ls : List Label) (r : Text) (old new : List Sized) (left : List
 -- The class of a run, as a test of characters.
 abbrev pub passes : Run → ℕ → Bool
 passes Digits = is_ascii_digit
-passes White = is_whitespace
+passes Whitespace = is_whitespace
 
 -- The text begins with `r#`, and then as the name does.
 abbrev pub names_raw : Text → Text → Bool

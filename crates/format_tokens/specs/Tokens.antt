@@ -15,7 +15,7 @@ use Rattle.format_tokens.specs.declared.kinds.Kind.{Kind}
 use Rattle.format_tokens.specs.declared.kinds.Kind.TheVariants.{Text as TextKind, Escape, Open}
 use Rattle.format_tokens.specs.declared.kinds.Kind.TheVariants.{Close}
 use Rattle.format_tokens.specs.declared.kinds.Kind.TheVariants.{Integer, Identifier, RawPrefix}
-use Rattle.format_tokens.specs.declared.kinds.Kind.TheVariants.{White}
+use Rattle.format_tokens.specs.declared.kinds.Kind.TheVariants.{Whitespace}
 use Rattle.format_tokens.specs.declared.kinds.Kind.TheVariants.{Colon, Fill, Align, Sign}
 use Rattle.format_tokens.specs.declared.kinds.Kind.TheVariants.{NumberSign}
 use Rattle.format_tokens.specs.declared.kinds.Kind.TheVariants.{Zero, DollarSign, Dot, Asterisk}
@@ -86,11 +86,11 @@ spec_tokens (DiagnosticText u) = token Colon (codes ":") ++ token DiagnosticKind
 
 -- A field: a position, white space and a specification.
 abbrev pub field_tokens : FieldText → List Label
-field_tokens a = position_tokens a.position ++ (token White a.space ++ spec_tokens a.spec)
+field_tokens a = position_tokens a.position ++ (token Whitespace a.space ++ spec_tokens a.spec)
 
 -- An opening brace, a field, and the white space after it.
 abbrev pub opened_tokens : FieldText → Text → List Label
-opened_tokens a space = token Open (codes "{") ++ (field_tokens a ++ token White space)
+opened_tokens a space = token Open (codes "{") ++ (field_tokens a ++ token Whitespace space)
 
 -- format_string := text [ maybe_format text ] *, maybe_format := '{' '{' | '}' '}' | format
 abbrev pub piece_tokens : PieceText → List Label

@@ -97,7 +97,7 @@ pub enum Run {
     /// The decimal digits.
     Digits,
     /// White space, as in `char::is_whitespace`.
-    White,
+    Whitespace,
 }
 
 impl Run {
@@ -107,7 +107,7 @@ impl Run {
     {
         match self {
             Run::Digits => c.is_ascii_digit(),
-            Run::White => c.is_whitespace(),
+            Run::Whitespace => c.is_whitespace(),
         }
     }
 }

@@ -14,7 +14,7 @@ ghost use Rattle.format_tokens.specs.Starts.{placed_sizes, starts_of};
 use crate::culprits::{fits, inside_after, marked_kind, role_of};
 use crate::kinds::{Kind, Token};
 use crate::parts::length_of;
-use rustc_parse_format::literal::{between_quotes, read_content};
+use rustc_parse_format::literal::{quoted_content, read_content};
 use std::alloc::{AllocError, Global};
 
 /// Returns the byte offsets where the characters of a text start, where it starts at `at` and each
@@ -51,7 +51,7 @@ pub fn ordinary_starts(
         → IsSource input None (chars snippet.now) appended_newline
         → v.items ≡ starts_of (world input None (Some (chars snippet.now)) appended_newline)) }
 {
-    let Some(content) = between_quotes(snippet) else {
+    let Some(content) = quoted_content(snippet) else {
         return Ok(Vec::new(alloc));
     };
     let Some(characters) = read_content(alloc, content)? else {

@@ -17,7 +17,7 @@ ghost use Rattle.format_tokens.specs.Walk.{read_tokens, skipped_tokens};
 
 use crate::kinds::Kind;
 use crate::parts::{Run, begins, position, run_width, specification, take, width_of};
-use rustc_parse_format::{Argument, ParseMode, Parser, Taken};
+use rustc_parse_format::{Argument, ParseMode, Parser, PieceKind};
 use std::alloc::{AllocError, Global};
 
 /// Returns the text before the closing brace at its end, or `None` if it does not end with one.
@@ -75,9 +75,19 @@ fn placeholder<'a>(
 {
     let field = take(labels, Kind::Open, 1, text)?;
     let space = position(labels, &argument.position, field)?;
-    let spec = take(labels, Kind::White, run_width(space, Run::White), space)?;
+    let spec = take(
+        labels,
+        Kind::Whitespace,
+        run_width(space, Run::Whitespace),
+        space,
+    )?;
     let last = specification(labels, mode, &argument.format, spec)?;
-    let end = take(labels, Kind::White, run_width(last, Run::White), last)?;
+    let end = take(
+        labels,
+        Kind::Whitespace,
+        run_width(last, Run::Whitespace),
+        last,
+    )?;
     let rest = take(labels, Kind::Close, usize::from(begins(end, '}')), end)?;
     let after = skipped(labels, width_of(rest).saturating_sub(left), rest)?;
     Ok(after)
@@ -125,7 +135,7 @@ fn literal<'a>(
 pub fn label<'a>(
     labels: &mut Vec<(Kind, usize)>,
     mode: ParseMode,
-    taken: Option<Taken<'_>>,
+    taken: Option<PieceKind<'_>>,
     argument: &Argument<'_>,
     left: usize,
     text: &'a str,
@@ -147,11 +157,11 @@ pub fn label<'a>(
         return Ok(after);
     };
     match piece {
-        Taken::Lit(_) => {
+        PieceKind::Lit(_) => {
             let after = literal(labels, left, text)?;
             Ok(after)
         }
-        Taken::NextArgument => {
+        PieceKind::NextArgument => {
             let after = placeholder(labels, mode, argument, left, text)?;
             Ok(after)
         }

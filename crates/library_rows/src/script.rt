@@ -14,7 +14,7 @@ use crate::listing::{put_error, put_line, put_range};
 use crate::names::names;
 use crate::{Row, read, start};
 use rustc_parse_format::literal::content_text;
-use rustc_parse_format::{Argument, ParseError, Parser, Piece, Taken, put_all_written};
+use rustc_parse_format::{Argument, ParseError, Parser, Piece, PieceKind, put_all_written};
 use std::alloc::{AllocError, Global};
 use std::ops::Range;
 
@@ -101,12 +101,12 @@ fn put_pieces(out: &mut String, parser: &mut Parser<'_>) -> Result<(), AllocErro
 fn put_taken<'a>(
     alloc: Global,
     out: &mut String,
-    taken: Option<Taken<'a>>,
+    taken: Option<PieceKind<'a>>,
     argument: Argument<'a>,
 ) -> Result<(), AllocError> {
     let piece = match taken {
-        Some(Taken::Lit(text)) => Some(Piece::Lit(text)),
-        Some(Taken::NextArgument) => { Some(Piece::NextArgument(Box::new(alloc, argument)?)) }
+        Some(PieceKind::Lit(text)) => Some(Piece::Lit(text)),
+        Some(PieceKind::NextArgument) => { Some(Piece::NextArgument(Box::new(alloc, argument)?)) }
         None => None,
     };
     put_piece(out, &piece)

@@ -5,7 +5,7 @@ ghost use Rattle.lint_words.specs.Colours.{wants_colours};
 
 /// The value of `--color`: when the output is in colours.
 #[derive(Clone, Copy, Debug, Eq, PartialEq)]
-pub enum When {
+pub enum ColourChoice {
     /// If the output is a terminal that has them.
     Auto,
     /// Always.
@@ -18,7 +18,7 @@ pub enum When {
 /// variables `NO_COLOR` and `TERM`. With `Auto` they are if the output is a terminal, `NO_COLOR` is
 /// unset or empty, and `TERM` is set and not `dumb`.
 pub fn wants_colours(
-    when: When,
+    when: ColourChoice,
     is_terminal: bool,
     no_color: Option<&str>,
     term: Option<&str>,
@@ -27,9 +27,9 @@ pub fn wants_colours(
         (option_map (λ w. w.now) term.entry) }
 {
     match when {
-        When::Always => true,
-        When::Never => false,
-        When::Auto => {
+        ColourChoice::Always => true,
+        ColourChoice::Never => false,
+        ColourChoice::Auto => {
             is_terminal
                 && no_color.is_none_or(|word| word.is_empty())
                 && term.is_some_and(|word| word != "dumb")

@@ -5,5 +5,5 @@
 mod colours;
 mod messages;
 
-pub use colours::{When, wants_colours};
+pub use colours::{ColourChoice, wants_colours};
 pub use messages::{put_failure, put_not_literal, put_place_failure, system_words};

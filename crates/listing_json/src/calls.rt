@@ -15,7 +15,7 @@ ghost use Rattle.listing_json.specs.Values.{fault_value, piece_value};
 use super::faults::put_fault;
 use super::pieces::put_piece;
 use json::Writer;
-use rustc_parse_format::{Argument, Fault, Parser, Taken};
+use rustc_parse_format::{Argument, Fault, Parser, PieceKind};
 use std::alloc::{AllocError, Global};
 use std::mem;
 
@@ -41,7 +41,7 @@ pub fn end_line(out: &mut Vec<u8>, writer: Writer) -> Result<(), AllocError>
 fn put_piece_line(
     alloc: Global,
     out: &mut Vec<u8>,
-    taken: &Taken<'_>,
+    taken: &PieceKind<'_>,
     argument: &Argument<'_>,
 ) -> Result<(), AllocError>
     ensures { OnOk result (Adds (piece_value (seen_taken argument.now taken.now) ∷ [])
@@ -57,7 +57,7 @@ fn put_piece_line(
 fn put_given(
     alloc: Global,
     out: &mut Vec<u8>,
-    taken: &Option<Taken<'_>>,
+    taken: &Option<PieceKind<'_>>,
     argument: &Argument<'_>,
 ) -> Result<(), AllocError>
     ensures { OnOk result (Adds (given_values (option_map (seen_taken argument.now) taken.now))

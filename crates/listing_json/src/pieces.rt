@@ -17,7 +17,9 @@ use super::fields::{
     begin_kind, put_index, put_maybe_span, put_name, put_number, put_span_of, put_text,
 };
 use json::Writer;
-use rustc_parse_format::{Alignment, Argument, Count, DebugHex, FormatSpec, Position, Sign, Taken};
+use rustc_parse_format::{
+    Alignment, Argument, Count, DebugHex, FormatSpec, PieceKind, Position, Sign,
+};
 use std::alloc::{AllocError, Global};
 use std::ops::Range;
 
@@ -218,7 +220,7 @@ fn put_placeholder(
 pub fn put_piece(
     alloc: Global,
     writer: &mut Writer,
-    taken: &Taken<'_>,
+    taken: &PieceKind<'_>,
     argument: &Argument<'_>,
 ) -> Result<(), AllocError>
     ensures tokens { OnOk result (writer.new.tokens ≡ writer.old.tokens
@@ -226,7 +228,7 @@ pub fn put_piece(
     ensures before { OnOk result (writer.new.before ≡ writer.old.before) }
 {
     match taken {
-        Taken::Lit(text) => put_run(writer, text),
-        Taken::NextArgument => put_placeholder(alloc, writer, argument),
+        PieceKind::Lit(text) => put_run(writer, text),
+        PieceKind::NextArgument => put_placeholder(alloc, writer, argument),
     }
 }

@@ -13,7 +13,8 @@ use Rattle.literal_faults.specs.declared.fault.FaultKind.{FaultKind}
 use Rattle.literal_faults.specs.declared.fault.FaultKind.TheVariants.{Missing, NotString, Suffix}
 use Rattle.literal_faults.specs.declared.fault.FaultKind.TheVariants.{UnterminatedString}
 use Rattle.literal_faults.specs.declared.fault.FaultKind.TheVariants.{UnterminatedRawString}
-use Rattle.literal_faults.specs.declared.fault.FaultKind.TheVariants.{BareCarriageReturn, Trailing}
+use Rattle.literal_faults.specs.declared.fault.FaultKind.TheVariants.{BareCarriageReturn}
+use Rattle.literal_faults.specs.declared.fault.FaultKind.TheVariants.{TrailingText}
 use Rattle.literal_faults.specs.declared.fault.LiteralFault.{LiteralFault}
 use Rattle.literal_faults.specs.Stops.{StopsAt}
 use Rattle.literal_faults.specs.Escapes.{escape_fault}
@@ -29,7 +30,7 @@ IsAnyLiteral t = (style : Option ℕ) × (text : Text) × IsLiteral style t text
 -- The fault of a literal that is not alone, by whether a suffix follows it.
 abbrev pub trailing : Bool → FaultKind
 trailing true = Suffix
-trailing false = Trailing
+trailing false = TrailingText
 
 -- The fault at a place where no unit comes next. None if only the closing quote is left.
 abbrev pub stop_fault : Text → Option FaultKind

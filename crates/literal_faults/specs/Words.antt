@@ -25,7 +25,8 @@ use Rattle.literal_faults.specs.declared.fault.FaultKind.TheVariants.{LeadingUnd
 use Rattle.literal_faults.specs.declared.fault.FaultKind.TheVariants.{OverlongUnicodeEscape}
 use Rattle.literal_faults.specs.declared.fault.FaultKind.TheVariants.{LoneSurrogateUnicodeEscape}
 use Rattle.literal_faults.specs.declared.fault.FaultKind.TheVariants.{OutOfRangeUnicodeEscape}
-use Rattle.literal_faults.specs.declared.fault.FaultKind.TheVariants.{BareCarriageReturn, Trailing}
+use Rattle.literal_faults.specs.declared.fault.FaultKind.TheVariants.{BareCarriageReturn}
+use Rattle.literal_faults.specs.declared.fault.FaultKind.TheVariants.{TrailingText}
 
 -- The title where a token of this kind stands in place of a string literal.
 abbrev pub found_title : Kind → List ℕ
@@ -61,7 +62,7 @@ title OutOfRangeUnicodeEscape =
     codes "invalid unicode character escape, which must be at most 10FFFF"
 title BareCarriageReturn = codes "bare CR not allowed in string, use `\\r` instead"
 title Suffix = codes "suffixes on string literals are invalid"
-title Trailing = codes "unexpected text after the string literal"
+title TrailingText = codes "unexpected text after the string literal"
 
 -- The character that a message names.
 abbrev pub named_character : FaultKind → Option ℕ

@@ -7,12 +7,12 @@ ghost use Rattle.literal_faults.specs.Margins.{IsSnippet};
 ghost use Rattle.literal_faults.specs.declared.fault.LiteralFault.{LiteralFault};
 
 /// A text is no string literal because of one fault, at one place.
-pub fn one_fault()
+pub fn fault_is_unique()
     ensures { (t : Text) (f g : LiteralFault) → IsFault t f → IsFault t g → f ≡ g }
 {}
 
 /// A file has one text without its margins, at one place.
-pub fn one_snippet()
+pub fn snippet_is_unique()
     ensures { (file a b s t : List ℕ) (m n : ℕ) → IsSnippet file a s m → IsSnippet file b t n
         → (a ≡ b) × (s ≡ t) × (m ≡ n) }
 {}

@@ -5,7 +5,7 @@ use Rattle.std.specs.Prelude.{Option, None, Some, MatchOption}
 use Rattle.std.specs.List.{position_or_len}
 use Rattle.std.specs.Str.Pattern.{FindsChar, SplitsAtFirstByte}
 use denote.Ref.{Bor}
-use Rattle.piece_listing.specs.Given.{cut, parts}
+use Rattle.piece_listing.specs.GivenArguments.{cut, parts}
 
 abbrev is_comma : ℕ → Bool
 is_comma b = b == 44

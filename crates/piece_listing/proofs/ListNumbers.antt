@@ -8,7 +8,7 @@ use Rattle.std.specs.List.{list_all}
 use Rattle.std.specs.Str.Parse.{AllDigits, IsNumeral, digits_value, without_leading_plus}
 use Rattle.std.proofs.lemmas.Bool.{leb-true, le-leb}
 use Rattle.std.proofs.lemmas.Bool.Decides.{Decides-and, Decides-ltb}
-use Rattle.piece_listing.specs.Given.{is_number}
+use Rattle.piece_listing.specs.GivenArguments.{is_number}
 
 digits-Decides : (ds : List ℕ)
     → Decides (list_all (λ b. nat_lt (digit_value b) 10) ds) (AllDigits 10 ds)

@@ -10,14 +10,15 @@ use Rattle.rustc_parse_format.specs.World.{Place}
 use Rattle.placeholder_check.specs.Report.{Report}
 use Rattle.placeholder_check.specs.Uses.{uses}
 use Rattle.placeholder_check.proofs.Unique.{one-report}
-use Rattle.piece_listing.specs.Given.{Given}
+use Rattle.piece_listing.specs.GivenArguments.{GivenArguments}
 use Rattle.piece_listing.specs.Program.{Answer, IsListed, IsOwed, IsOwedFor, IsReportFor, IsShort}
 use Rattle.piece_listing.specs.Program.{Task, limit, listed, pieces}
 use Rattle.piece_listing.specs.Source.{IsSourceOf, Source}
 use Rattle.piece_listing.proofs.OneLiteral.{source-only}
 
 -- a source and a list have one report, and so one listing
-report-only : (g : Option Given) (ps : List (Piece Place)) (r q : Report) → IsReportFor g ps r
+report-only : (g : Option GivenArguments) (ps : List (Piece Place)) (r q : Report)
+    → IsReportFor g ps r
     → IsReportFor g ps q → r ≡ q
 report-only None ps r q h k = h ∙ sym k
 report-only (Some g) ps r q h k = one-report (uses ps) g.positional g.names r q h k

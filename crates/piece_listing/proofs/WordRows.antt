@@ -7,15 +7,15 @@ use Rattle.rustc_parse_format.specs.Types.{Mode, Format, InlineAsm, Diagnostic, 
 use Rattle.rustc_parse_format.proofs.Rows.Definitions.{computing}
 use Rattle.placeholder_check.specs.Report.{Report}
 use Rattle.placeholder_check.proofs.Deciding.{report-decided}
-use Rattle.piece_listing.specs.Given.{Given, cut, given_by}
+use Rattle.piece_listing.specs.GivenArguments.{GivenArguments, cut, given_by}
 use Rattle.piece_listing.specs.Listing.{flag_entries, report_lines, value_entries}
 use Rattle.piece_listing.specs.Program.{IsListed, Task, task_of, errors, mode_named, pieces}
 use Rattle.piece_listing.specs.Source.{bare_source}
 
-abbrev given_are : ℕ → List (List ℕ) → Option Given
+abbrev given_are : ℕ → List (List ℕ) → Option GivenArguments
 given_are n ws = Some (record { positional = n; names = map chars ws })
 
-abbrev asks : Mode → Bool → Option Given → Option Task
+abbrev asks : Mode → Bool → Option GivenArguments → Option Task
 asks mode literal g = Some (record { mode = mode; is_literal = literal; given = g })
 
 list-number_alone : given_by (codes "2") ≡ given_are 2 []
@@ -68,9 +68,9 @@ words-mode_alone : task_of (codes "asm" ∷ []) ≡ asks InlineAsm false None
 unfolding mode_named
 words-mode_alone = refl
 
-words-names_alone : task_of (codes "diagnostic-named" ∷ []) ≡ asks DiagnosticNamed false None
+words-uses_are_by_name : task_of (codes "diagnostic-named" ∷ []) ≡ asks DiagnosticNamed false None
 unfolding mode_named
-words-names_alone = refl
+words-uses_are_by_name = refl
 
 words-literal : task_of (codes "format" ∷ codes "--literal" ∷ []) ≡ asks Format true None
 unfolding mode_named

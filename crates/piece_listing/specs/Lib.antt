@@ -1,5 +1,5 @@
 pub mod Listing
 pub mod Source
-pub mod Given
+pub mod GivenArguments
 pub mod Program
 pub mod SeenTask

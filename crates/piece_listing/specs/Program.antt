@@ -16,7 +16,7 @@ use Rattle.piece_listing.specs.declared.verdict.RunFault.TheVariants.{Words, Rea
 use Rattle.piece_listing.specs.declared.verdict.RunFault.TheVariants.{NotLiteral, Memory, Write}
 use Rattle.piece_listing.specs.Listing.{listing}
 use Rattle.piece_listing.specs.Source.{Source, IsSourceOf}
-use Rattle.piece_listing.specs.Given.{Given, given_by}
+use Rattle.piece_listing.specs.GivenArguments.{GivenArguments, given_by}
 
 -- The most bytes that an input may have: 1 MiB.
 abbrev pub limit : ℕ
@@ -28,7 +28,7 @@ pub record Task : Type 0 where
   -- The input is a string literal, as written in a program.
   pub is_literal : Bool
   -- The arguments that the pieces are to be compared with, if any.
-  pub given : Option Given
+  pub given : Option GivenArguments
 
 -- The mode that a word names. None if it names none.
 unfoldable pub mode_named : List ℕ → Option Mode
@@ -39,12 +39,12 @@ mode_named w =
     else (if bytes_eq w (codes "diagnostic-named") then Some DiagnosticNamed else None)))
 
 -- The task with these parts, if there is a mode.
-abbrev pub task : Bool → Option Given → Option Mode → Option Task
+abbrev pub task : Bool → Option GivenArguments → Option Mode → Option Task
 task literal g None = None
 task literal g (Some mode) = Some (record { mode = mode; is_literal = literal; given = g })
 
 -- The task with these parts, if there are a mode and a list of arguments.
-abbrev pub task_with : Bool → Option Given → Option Mode → Option Task
+abbrev pub task_with : Bool → Option GivenArguments → Option Mode → Option Task
 task_with literal None mode = None
 task_with literal (Some g) mode = task literal (Some g) mode
 
@@ -84,7 +84,7 @@ no_entries = record { missing_index = []; missing_name = []; unused_index = []; 
 
 -- The report on these pieces, as the checker defines it. Without a list of arguments it has no
 -- entry.
-abbrev pub IsReportFor : Option Given → List (Piece Place) → Report → Type 0
+abbrev pub IsReportFor : Option GivenArguments → List (Piece Place) → Report → Type 0
 IsReportFor None ps r = r ≡ no_entries
 IsReportFor (Some g) ps r = IsReport (uses ps) g.positional g.names r
 

@@ -13,7 +13,7 @@ ghost use Rattle.piece_listing.specs.Listing.{piece_line};
 
 use super::listing::{put_argument, put_literal};
 use placeholder_check::Uses;
-use rustc_parse_format::{Argument, FormatSpec, Parser, Position, Taken};
+use rustc_parse_format::{Argument, FormatSpec, Parser, PieceKind, Position};
 use std::alloc::AllocError;
 
 /// Makes the next call of a parser, and returns its piece. A placeholder is in `argument`. Returns
@@ -21,7 +21,7 @@ use std::alloc::AllocError;
 fn next_piece<'a>(
     parser: &mut Parser<'a>,
     argument: &mut Argument<'a>,
-) -> Result<Option<Taken<'a>>, AllocError>
+) -> Result<Option<PieceKind<'a>>, AllocError>
     ensures piece { IfOk result (λ t. option_map (seen_taken argument.new) t
         ≡ option_map (piece_in parser.old.world) (next_call parser.old).piece) }
     ensures state { OnOk result (parser.new ≡ after parser.old (next_call parser.old)) }
@@ -32,13 +32,17 @@ fn next_piece<'a>(
 }
 
 /// Appends the line of a piece. Returns `Err` if an allocation fails.
-fn put_taken(out: &mut String, taken: &Taken<'_>, argument: &Argument<'_>) -> Result<(), AllocError>
+fn put_taken(
+    out: &mut String,
+    taken: &PieceKind<'_>,
+    argument: &Argument<'_>,
+) -> Result<(), AllocError>
     ensures { OnOk result (string_bytes out.new ≡ string_bytes out.old
         ++ piece_line (seen_taken argument.now taken.now)) }
 {
     match taken {
-        Taken::Lit(text) => put_literal(out, text)?,
-        Taken::NextArgument => put_argument(out, argument)?,
+        PieceKind::Lit(text) => put_literal(out, text)?,
+        PieceKind::NextArgument => put_argument(out, argument)?,
     }
     Ok(())
 }
@@ -48,13 +52,13 @@ fn put_taken(out: &mut String, taken: &Taken<'_>, argument: &Argument<'_>) -> Re
 fn add_uses<'a>(
     uses: &mut Uses<'a>,
     compares: bool,
-    taken: &Taken<'a>,
+    taken: &PieceKind<'a>,
     argument: &Argument<'a>,
 ) -> Result<(), AllocError>
     ensures { OnOk result (IsTrue compares → (us : List Use) → Holds us uses.old
         → Holds (us ++ piece_uses (seen_taken argument.now taken.now)) uses.new) }
 {
-    if compares && matches!(taken, Taken::NextArgument) {
+    if compares && matches!(taken, PieceKind::NextArgument) {
         uses.add(argument)?;
     }
     Ok(())

@@ -5,7 +5,7 @@ ghost use Rattle.std.specs.Prelude.{chars, if◌then◌else◌, length, map, opt
 ghost use Rattle.std.specs.List.{list_all};
 ghost use Rattle.std.specs.Str.Parse.{digits_value};
 ghost use Rattle.placeholder_check.specs.Seen.{texts};
-ghost use Rattle.piece_listing.specs.Given.{given_by, is_name, is_number, parts};
+ghost use Rattle.piece_listing.specs.GivenArguments.{given_by, is_name, is_number, parts};
 ghost use Rattle.piece_listing.specs.SeenTask.{seen_given, seen_names};
 
 use std::alloc::{AllocError, Global};
@@ -15,7 +15,7 @@ const MOST_DIGITS: usize = 5;
 
 /// A list of arguments that are given.
 #[derive(Copy, Clone)]
-pub struct Given<'a> {
+pub struct GivenArguments<'a> {
     /// The number of arguments that are given by position.
     pub positional: usize,
     /// The names of the others, separated by commas, or `None` if there are none.
@@ -61,12 +61,12 @@ fn are_names(text: &str) -> bool
 }
 
 /// Returns the list of arguments that a word is, or `None` if it is none.
-pub fn given_by(word: &str) -> Option<Given<'_>>
+pub fn given_by(word: &str) -> Option<GivenArguments<'_>>
     ensures { option_map seen_given result ≡ given_by word.now }
 {
     let Some((digits, names)) = around_comma(word) else {
         let positional = number(word)?;
-        return Some(Given {
+        return Some(GivenArguments {
             positional,
             names: None,
         });
@@ -75,7 +75,7 @@ pub fn given_by(word: &str) -> Option<Given<'_>>
     if !are_names(names) {
         return None;
     }
-    Some(Given {
+    Some(GivenArguments {
         positional,
         names: Some(names),
     })

@@ -20,9 +20,9 @@ ghost use Rattle.piece_listing.specs.Program.{no_entries};
 ghost use Rattle.piece_listing.specs.SeenTask.{seen_given, seen_task};
 
 use super::calls::put_calls;
-use super::given::Given;
+use super::given::GivenArguments;
 use super::listing::put_faults;
-use super::literal::{literal_text, without_newline};
+use super::literal::{literal_text, strip_newline};
 use super::report_lines::{has_entries, put_report, report_for};
 use super::task::Task;
 use super::verdict::RunFault;
@@ -56,7 +56,7 @@ fn put_ends(
 fn list_calls<'a>(
     alloc: Global,
     parser: &mut Parser<'a>,
-    given: Option<Given<'a>>,
+    given: Option<GivenArguments<'a>>,
 ) -> Result<(String, bool), AllocError>
     ensures lines { IfOk result (λ x.
         let ps = pieces_in parser.old.world (pieces_of (calls parser.old)) in
@@ -132,7 +132,7 @@ fn list_literal(alloc: Global, input: &str, task: Task<'_>) -> Result<(String, b
     ensures is_text { IfErr result (λ fault. fault ≢ NotText) }
     ensures empty { input.now ≡ [] → result ≡ Err NotLiteral }
 {
-    let literal = without_newline(input);
+    let literal = strip_newline(input);
     let Some((text, style)) = literal_text(alloc, literal)? else {
         return Err(RunFault::NotLiteral);
     };

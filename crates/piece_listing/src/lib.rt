@@ -13,7 +13,7 @@ pub mod run;
 mod task;
 pub mod verdict;
 
-pub use given::Given;
+pub use given::GivenArguments;
 pub use listing::{put_piece, put_quoted};
 pub use numbers::put_span;
 pub use report_lines::{has_entries, report_for};

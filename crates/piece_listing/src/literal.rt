@@ -9,7 +9,7 @@ ghost use Rattle.rustc_parse_format.specs.Literal.{IsLiteral, IsOrdinaryLiteral,
 ghost use Rattle.rustc_parse_format.specs.Literal.{raw_closing, raw_frame, raw_opening};
 ghost use Rattle.rustc_parse_format.specs.World.{hashes};
 
-use rustc_parse_format::literal::{between_quotes, content_text};
+use rustc_parse_format::literal::{content_text, quoted_content};
 use std::alloc::{AllocError, Global};
 
 /// Returns a text without the character `c` at its end, or `None` if it does not end in `c`.
@@ -24,7 +24,7 @@ fn without_last(text: &str, c: char) -> Option<&str>
 }
 
 /// Returns a text without the newline at its end, if it ends in one.
-pub fn without_newline(text: &str) -> &str
+pub fn strip_newline(text: &str) -> &str
     ensures cut { (b : Bool) × (chars result.now ++ newline b ≡ chars text.now) }
     // A text that does not end in a newline, and is `text` or `text` without a newline at its end,
     // is the result.
@@ -102,7 +102,7 @@ fn ordinary_text(alloc: Global, literal: &str) -> Result<Option<String>, AllocEr
         (λ s. IsOrdinaryLiteral (chars literal.now) (chars (string_bytes s)))) }
     ensures empty { literal.now ≡ [] → IsOk result }
 {
-    let Some(content) = between_quotes(literal) else {
+    let Some(content) = quoted_content(literal) else {
         return Ok(None);
     };
     content_text(alloc, content)

@@ -11,7 +11,7 @@ ghost use Rattle.piece_listing.specs.Listing.{index_line, name_line, report_line
 ghost use Rattle.piece_listing.specs.Program.{IsReportFor, has_entries, no_entries};
 ghost use Rattle.piece_listing.specs.SeenTask.{seen_given};
 
-use super::given::{Given, names};
+use super::given::{GivenArguments, names};
 use super::listing::put_quoted;
 use super::numbers::put_number;
 use placeholder_check::{Report, Uses, check_uses};
@@ -22,7 +22,7 @@ use std::alloc::{AllocError, Global};
 pub fn report_for<'a>(
     alloc: Global,
     used: &Uses<'a>,
-    given: Option<Given<'a>>,
+    given: Option<GivenArguments<'a>>,
 ) -> Result<Report<'a>, AllocError>
     ensures report { IfOk result (λ r. (ps : List (Piece Place))
         → (IsSome given.entry → Holds (uses ps) used.now)

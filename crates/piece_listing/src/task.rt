@@ -2,11 +2,11 @@
 
 ghost use Rattle.std.specs.Prelude.{◌≡◌, map, option_map, string_bytes};
 ghost use Rattle.rustc_parse_format.specs.Seen.{seen_mode};
-ghost use Rattle.piece_listing.specs.Given.{given_by};
+ghost use Rattle.piece_listing.specs.GivenArguments.{given_by};
 ghost use Rattle.piece_listing.specs.Program.{task_of, mode_named, task, task_with};
 ghost use Rattle.piece_listing.specs.SeenTask.{seen_given, seen_task};
 
-use super::given::{Given, given_by};
+use super::given::{GivenArguments, given_by};
 use rustc_parse_format::ParseMode;
 
 /// The task that the command-line arguments give.
@@ -16,7 +16,7 @@ pub struct Task<'a> {
     /// Whether the input is a string literal.
     pub is_literal: bool,
     /// The list of arguments to compare the pieces with, if there is one.
-    pub given: Option<Given<'a>>,
+    pub given: Option<GivenArguments<'a>>,
 }
 
 /// Returns the mode that a word names, or `None` if it names none.
@@ -38,7 +38,7 @@ fn mode_named(word: &str) -> Option<ParseMode>
 }
 
 /// Returns the task with the mode that `word` names, or `None` if it names none.
-fn task_in<'a>(word: &str, is_literal: bool, given: Option<Given<'a>>) -> Option<Task<'a>>
+fn task_in<'a>(word: &str, is_literal: bool, given: Option<GivenArguments<'a>>) -> Option<Task<'a>>
     ensures { option_map seen_task result
         ≡ task is_literal (option_map seen_given given.entry) (mode_named word.now) }
 {

@@ -62,7 +62,7 @@ pub fn read_and_check<'a>(
 
     // In the mode `DiagnosticNamed`, if the parser has no error, no index is missing and each index
     // that is given is unused.
-    ensures names_alone { IfOk result (λ x. seen_mode mode ≡ DiagnosticNamed → x.1.errors ≡ []
+    ensures uses_are_by_name { IfOk result (λ x. seen_mode mode ≡ DiagnosticNamed → x.1.errors ≡ []
         → ((seen_report x.2).missing_index ≡ [])
         × Lists (λ n. n < positional) (seen_report x.2).unused_index) }
 

@@ -167,7 +167,7 @@ fn after_shebang(text: &str) -> &str
 }
 
 /// Returns the rest of a file after its byte order mark and its shebang.
-pub fn after_head(text: &str) -> &str
+pub fn skip_head(text: &str) -> &str
     // The tokens hs are the mark and the shebang. With the tokens of the rest they are the file's.
     ensures { (hs : List Lexeme) × IsTrue (list_all (λ x. is_head x.kind) hs)
         × ((rs : List Lexeme) → Reads (chars result.now) rs → ReadsFile (chars text.now) (hs ++ rs))

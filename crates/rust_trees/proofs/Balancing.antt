@@ -5,7 +5,7 @@ use Rattle.std.specs.Prelude.{◌&&◌, is_some, reverse}
 use Rattle.std.specs.List.{list_all}
 use Rattle.std.proofs.lemmas.Bool.{and_parts}
 use Rattle.std.proofs.lemmas.List.{append_assoc, append-nil}
-use Rattle.rust_trees.specs.declared.balance.BreakAt.{BreakAt}
+use Rattle.rust_trees.specs.declared.balance.FileBreak.{FileBreak}
 use Rattle.rust_trees.specs.declared.balance.BreakKind.TheVariants.{Unclosed, Unexpected, Unended}
 use Rattle.rust_trees.specs.declared.matching.Opening.{Opening}
 use Rattle.rust_trees.specs.declared.sides.Delimiter.{Delimiter}
@@ -24,25 +24,25 @@ pub known-none : (os : List Opening) → os ≡ [] → IsKnownTo [] os None
 known-none os e = rw e (record { are_ended = refl; scanned = refl; are_open = tt })
 
 -- Tokens that do not break.
-pub goes-on : (w : List Leaf) (os : List Opening) (o : Option BreakAt) → false ≡ is_some o
+pub goes-on : (w : List Leaf) (os : List Opening) (o : Option FileBreak) → false ≡ is_some o
     → IsKnownTo w os o → GoesOn w os
 goes-on w os None e h = h
 goes-on w os (Some b) e h = absurd cc
 
-pub still-on : (w : List Leaf) (os : List Opening) (o : Option BreakAt) → false ≡ is_some o
+pub still-on : (w : List Leaf) (os : List Opening) (o : Option FileBreak) → false ≡ is_some o
     → GoesOn w os → IsKnownTo w os o
 still-on w os None e h = h
 still-on w os (Some b) e h = absurd cc
 
-pub none-is : (o : Option BreakAt) → false ≡ is_some o → o ≡ None
+pub none-is : (o : Option FileBreak) → false ≡ is_some o → o ≡ None
 none-is None e = refl
 none-is (Some b) e = absurd cc
 
 -- Tokens that break do so with more after them.
-pub known-broken : (w : List Leaf) (x : Leaf) (os : List Opening) (o : Option BreakAt)
+pub known-first_break : (w : List Leaf) (x : Leaf) (os : List Opening) (o : Option FileBreak)
     → true ≡ is_some o → IsKnownTo w os o → IsKnownTo (w ++ x ∷ []) os o
-known-broken w x os None e h = absurd cc
-known-broken w x os (Some b) e h = λ ys.
+known-first_break w x os None e h = absurd cc
+known-first_break w x os (Some b) e h = λ ys.
     subst (λ t. BreaksIn t b.kind b.start) (sym (append_assoc w (x ∷ []) ys)) (h (x ∷ ys))
 
 pub known-unended : (w : List Leaf) (x : Leaf) (os : List Opening) → GoesOn w os
@@ -150,7 +150,7 @@ known-close w x os ns o g e s f =
     }
 
 -- The break that is known where no token is left.
-pub all-known : (w : List Leaf) (os : List Opening) (o : Option BreakAt) → true ≡ is_some o
+pub all-known : (w : List Leaf) (os : List Opening) (o : Option FileBreak) → true ≡ is_some o
     → IsKnownTo w os o → BreaksAt w o
 all-known w os None e h = absurd cc
 all-known w os (Some b) e h = subst (λ t. BreaksIn t b.kind b.start) (append-nil w) (h [])

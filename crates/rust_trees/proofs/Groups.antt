@@ -13,7 +13,7 @@ use Rattle.rust_trees.specs.Scans.{scan}
 use Rattle.rust_trees.specs.Forests.{IsGroup, IsPair}
 use Rattle.rust_trees.specs.Matching.{Alive, IsMatched, Sealed}
 use Rattle.rust_trees.proofs.Lists.{same-first, same-rest}
-use Rattle.rust_trees.proofs.Scanning.{scan-forest, stays-broken}
+use Rattle.rust_trees.proofs.Scanning.{scan-forest, stays-first_break}
 
 -- A list that is not longer than the first of two is its front.
 pub cut-list : {A : Type 0} (a b c d : List A) → a ++ b ≡ c ++ d → length c ≤ length a
@@ -40,7 +40,7 @@ keeps-pairs w ys i j sealed p h =
     by_size v e f (inr l) =
         let c = cut-list p.inside (p.closing ∷ p.after) v ys (sym f) l in
         absurd (none-some [] (sym (ap (λ t. scan (Some []) t) c.1
-        ∙ stays-broken (Some []) v c.0 (sealed p.before v p.opening p.pairs.0 e p.pairs.1))
+        ∙ stays-first_break (Some []) v c.0 (sealed p.before v p.opening p.pairs.0 e p.pairs.1))
         ∙ scan-forest p.inside p.is_forest))
 
     by_rest : (r : List Leaf) → w ≡ p.before ++ r

@@ -115,9 +115,9 @@ pair-within w i j p =
     let m = length-at p.inside p.after p.closing in
     (omega (arith, n, m, p.starts), omega (arith, n, m, p.starts, p.ends))
 
-pub pair-broken : (w : List Leaf) (i j : ℕ) (p : IsPair w i j)
+pub pair-first_break : (w : List Leaf) (i j : ℕ) (p : IsPair w i j)
     → scan (Some []) (p.inside ++ p.closing ∷ p.after) ≡ None
-pair-broken w i j p =
+pair-first_break w i j p =
     scan-append (Some []) p.inside (p.closing ∷ p.after)
     ∙ (ap (λ o. scan o (p.closing ∷ p.after)) (scan-forest p.inside p.is_forest)
     ∙ (ap (λ s. scan (open_after s (Some [])) p.after) p.pairs.2 ∙ scan-none p.after))

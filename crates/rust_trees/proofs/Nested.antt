@@ -6,7 +6,7 @@ use Rattle.rust_trees.specs.Leaves.{Leaf}
 use Rattle.rust_trees.specs.Scans.{scan}
 use Rattle.rust_trees.specs.Forests.{IsPair}
 use Rattle.rust_trees.proofs.Lists.{Order, Front, Same, After, order, length-at}
-use Rattle.rust_trees.proofs.Scanning.{scan-forest, stays-broken}
+use Rattle.rust_trees.proofs.Scanning.{scan-forest, stays-first_break}
 use Rattle.rust_trees.proofs.Growing.{dead-inside}
 
 -- A pair that opens within another one is closed there.
@@ -18,7 +18,7 @@ nested xs o c i j p q h k =
     by_closing : (r s : List Leaf) → p.inside ≡ r ++ q.opening ∷ s → length r + (o + 1) ≡ i
         → Order s p.after p.closing q.inside q.after q.closing → j < c
     by_closing r s e l (Front t f g) = absurd (none-some [] (sym (ap (λ v. scan (Some []) v) f
-        ∙ stays-broken (Some []) s (p.closing ∷ t) (dead-inside r s q.opening q.pairs.0
+        ∙ stays-first_break (Some []) s (p.closing ∷ t) (dead-inside r s q.opening q.pairs.0
         (ap (λ v. scan (Some []) v) (sym e) ∙ scan-forest p.inside p.is_forest) q.pairs.1))
         ∙ scan-forest q.inside q.is_forest))
     by_closing r s e l (Same f g m) = absurd (none-some [] (sym (ap (λ v. scan (Some []) v) (sym f)

@@ -5,8 +5,8 @@ use Rattle.std.proofs.lemmas.List.{append_assoc, append-nil}
 use Rattle.std.proofs.lemmas.Option.{none-some}
 use Rattle.rust_trees.specs.declared.sides.Delimiter.{Delimiter}
 use Rattle.rust_trees.specs.declared.sides.Side.TheVariants.{Opens, Closes, Neither}
-use Rattle.rust_trees.specs.declared.matching.Break.{Break}
-use Rattle.rust_trees.specs.declared.matching.Break.TheVariants.{Unclosed, Unexpected}
+use Rattle.rust_trees.specs.declared.matching.DelimiterBreak.{DelimiterBreak}
+use Rattle.rust_trees.specs.declared.matching.DelimiterBreak.TheVariants.{Unclosed, Unexpected}
 use Rattle.rust_trees.specs.Leaves.{Leaf, side}
 use Rattle.rust_trees.specs.Scans.{scan}
 use Rattle.rust_trees.specs.Forests.{Forest, Empty, Token, Pair, spelling, IsWell, IsForest}
@@ -118,7 +118,7 @@ one-unclosed w j k u v =
     by_order (After r h m) = no-inner r u.after u.opening u.delimiter
         (subst (λ t. IsForest t) m v.is_forest) u.opens u.is_forest
 
-pub one-break : (w : List Leaf) (a b : Option Break) → Breaks w a → Breaks w b → a ≡ b
+pub one-break : (w : List Leaf) (a b : Option DelimiterBreak) → Breaks w a → Breaks w b → a ≡ b
 one-break w None None f g = refl
 one-break w None (Some (Unexpected k)) f g =
     absurd (unexpected-no-front w k g (forest-front w f))

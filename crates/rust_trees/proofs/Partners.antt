@@ -18,7 +18,7 @@ use Rattle.rust_trees.specs.Forests.{IsPair, ArePartners}
 use Rattle.rust_trees.specs.Matching.{Alive, partner, IsSound, IsComplete}
 use Rattle.rust_trees.proofs.Lists.{length-at, same-place, same-first, no-cons}
 use Rattle.rust_trees.proofs.Scanning.{same-same, scan-forest, forest-scan}
-use Rattle.rust_trees.proofs.Growing.{partners-more, pair-parts, pair-within, pair-broken}
+use Rattle.rust_trees.proofs.Growing.{partners-more, pair-parts, pair-within, pair-first_break}
 use Rattle.rust_trees.proofs.Growing.{EndsPair}
 use Rattle.rust_trees.proofs.Stacks.{Fate, Dead, Top, Under, fate, joins-more, Mismatches, mismatch}
 use Rattle.rust_trees.proofs.Stacks.{no-open-close}
@@ -160,7 +160,7 @@ complete-pair os o w x ps n s l e f c i j p = by_parts (pair-parts w x i j p)
     not-opening q h =
         let same = same-place q.before (q.inside ++ q.closing ∷ q.after) q.opening l.0 l.1 l.2
         (sym q.joins ∙ l.3) (sym q.starts ∙ (h ∙ l.4)) in
-        none-some [] (sym (pair-broken w i j q) ∙ (ap (λ t. scan (Some []) t) same.2 ∙ l.6))
+        none-some [] (sym (pair-first_break w i j q) ∙ (ap (λ t. scan (Some []) t) same.2 ∙ l.6))
 
     not-closing : (q : IsPair w i j) → j ≡ o.at → ⊥
     not-closing q h =

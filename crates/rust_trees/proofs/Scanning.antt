@@ -41,9 +41,9 @@ scan-none [] = refl
 scan-none (x ∷ xs) = scan-none xs
 
 -- Tokens that break stay broken.
-pub stays-broken : (o : Option (List Delimiter)) (xs ys : List Leaf) → scan o xs ≡ None
+pub stays-first_break : (o : Option (List Delimiter)) (xs ys : List Leaf) → scan o xs ≡ None
     → scan o (xs ++ ys) ≡ None
-stays-broken o xs ys h =
+stays-first_break o xs ys h =
     scan-append o xs ys ∙ (ap (λ s. scan s ys) h ∙ scan-none ys)
 
 -- A token that is read.
@@ -146,12 +146,12 @@ closing-on x ds xs more h = by_side (side x) refl
     by_open : (d : Delimiter) → side x ≡ Opens d → Closing (d ∷ ds) xs → Closing ds (x ∷ xs)
     by_open d e c = with-pair x c.1 c.0 ds c.2 xs (d, e, c.4) c.3 c.5 c.6
 
-    broken : open_after (side x) (Some ds) ≡ None → Closing ds (x ∷ xs)
-    broken e = absurd (none-some [] (sym (scan-none xs) ∙ next None e))
+    first_break : open_after (side x) (Some ds) ≡ None → Closing ds (x ∷ xs)
+    first_break e = absurd (none-some [] (sym (scan-none xs) ∙ next None e))
 
     by_test : (c d : Delimiter) (es : List Delimiter) → ds ≡ c ∷ es → side x ≡ Closes d
         → (b : Bool) → is_same c d ≡ b → Closing ds (x ∷ xs)
-    by_test c d es e f false g = broken (ap (λ s. open_after s (Some ds)) f
+    by_test c d es e f false g = first_break (ap (λ s. open_after s (Some ds)) f
         ∙ (ap (λ t. open_after (Closes d) (Some t)) e
         ∙ ap (λ t. if t then Some es else None) g))
     by_test c d es e f true g = subst (λ t. Closing t (x ∷ xs)) (sym e) (
@@ -168,7 +168,7 @@ closing-on x ds xs more h = by_side (side x) refl
 
     by_close : (es : List Delimiter) (d : Delimiter) → ds ≡ es → side x ≡ Closes d
         → Closing ds (x ∷ xs)
-    by_close [] d e f = broken (ap (λ s. open_after s (Some ds)) f
+    by_close [] d e f = first_break (ap (λ s. open_after s (Some ds)) f
         ∙ ap (λ t. open_after (Closes d) (Some t)) e)
     by_close (c ∷ es) d e f = by_test c d es e f (is_same c d) refl
 

@@ -12,7 +12,7 @@ use Rattle.rust_trees.specs.Leaves.{Leaf, side}
 use Rattle.rust_trees.specs.Scans.{open_after, scan}
 use Rattle.rust_trees.specs.Matching.{Sealed, Alive}
 use Rattle.rust_trees.proofs.Lists.{Order, Front, Same, After, order, at-end}
-use Rattle.rust_trees.proofs.Scanning.{scan-append, stays-broken, below, closes-top}
+use Rattle.rust_trees.proofs.Scanning.{scan-append, stays-first_break, below, closes-top}
 use Rattle.rust_trees.proofs.Growing.{dead-inside}
 
 -- No side is two things.
@@ -42,7 +42,7 @@ over-top : (r q : List Leaf) (b : Leaf) (d : Delimiter) (s : Option (List Delimi
     → scan (Some []) r ≡ s → side b ≡ Opens d → scan (Some []) q ≡ Some []
     → (scan (Some []) (r ++ b ∷ q) ≡ None)
     ⊎ ((ds : List Delimiter) × (scan (Some []) (r ++ b ∷ q) ≡ Some (d ∷ ds)))
-over-top r q b d None e o h = inl (stays-broken (Some []) r (b ∷ q) e)
+over-top r q b d None e o h = inl (stays-first_break (Some []) r (b ∷ q) e)
 over-top r q b d (Some ds) e o h = inr (
   ds,
   scan-append (Some []) r (b ∷ q) ∙ (ap (λ t. scan (open_after (side b) t) q) e
@@ -70,9 +70,9 @@ fate (o ∷ os) w u v a d l e s = by_order (order u v a l.0 l.1 l.2 (sym e ∙ l
         Dead (dead-inside r v a d (ap (λ t. scan (Some []) t) (sym g) ∙ l.6) s)
 
 -- One more token after tokens that break.
-broken-more : (v r : List Leaf) (x : Leaf) → v ≡ r ++ x ∷ [] → scan (Some []) r ≡ None
+first_break-more : (v r : List Leaf) (x : Leaf) → v ≡ r ++ x ∷ [] → scan (Some []) r ≡ None
     → scan (Some []) v ≡ None
-broken-more v r x e h = ap (λ t. scan (Some []) t) e ∙ stays-broken (Some []) r (x ∷ []) h
+first_break-more v r x e h = ap (λ t. scan (Some []) t) e ∙ stays-first_break (Some []) r (x ∷ []) h
 
 -- One more token after tokens that do not.
 pub last-token : (v r : List Leaf) (x : Leaf) (o : Option (List Delimiter)) → v ≡ r ++ x ∷ []
@@ -98,7 +98,7 @@ joins-more w u v a x e = ap (λ t. t ++ x ∷ []) e ∙ append_assoc u (a ∷ v)
 pub alive-token : (os : List Opening) (w : List Leaf) (x : Leaf) → side x ≡ Neither → Alive os w
     → Alive os (w ++ x ∷ [])
 alive-token [] w x s l = seal w x (λ d e. no-open-neither d (sym e ∙ s))
-    (λ u v r a d e t f. broken-more v r x f (l u r a d e t))
+    (λ u v r a d e t f. first_break-more v r x f (l u r a d e t))
 alive-token (o ∷ os) w x s l = (
   l.0,
   l.1 ++ x ∷ [],
@@ -122,13 +122,13 @@ alive-close [] o w x s l = seal w x (λ d e. no-open-close d o.delimiter (sym e 
   where
     by_order : (u v r : List Leaf) (a : Leaf) (d : Delimiter) → side a ≡ Opens d → v ≡ r ++ x ∷ []
         → Order u r a l.0 l.1 l.2 → scan (Some []) v ≡ None
-    by_order u v r a d t f (Front p g h) = broken-more v r x f
+    by_order u v r a d t f (Front p g h) = first_break-more v r x f
         (ap (λ q. scan (Some []) q) h
-        ∙ stays-broken (Some []) p (l.2 ∷ l.1) (l.7 u p a d g t))
+        ∙ stays-first_break (Some []) p (l.2 ∷ l.1) (l.7 u p a d g t))
     by_order u v r a d t f (Same g h k) =
         last-token v r x (Some []) f (ap (λ q. scan (Some []) q) k ∙ l.6)
         ∙ ap (λ q. open_after q (Some [])) s
-    by_order u v r a d t f (After p g h) = broken-more v r x f
+    by_order u v r a d t f (After p g h) = first_break-more v r x f
         (dead-inside p r a d (ap (λ q. scan (Some []) q) (sym h) ∙ l.6) t)
 alive-close (n ∷ os) o w x s l =
     let m = l.7 in (
@@ -169,7 +169,7 @@ alive-break os w x d s m l = seal w x (λ e f. no-open-close e d (sym f ∙ s))
   where
     by_fate : (v r : List Leaf) → v ≡ r ++ x ∷ [] → (u : List Leaf) (e : Delimiter)
         → Fate os u r e → scan (Some []) v ≡ None
-    by_fate v r h u e (Dead f) = broken-more v r x h f
+    by_fate v r h u e (Dead f) = first_break-more v r x h f
     by_fate v r h u e (Top o rest f g j k) = last-token v r x (Some []) h g
         ∙ ap (λ q. open_after q (Some [])) s
     by_fate v r h u e (Under o rest ds f g) = last-token v r x (Some (o.delimiter ∷ ds)) h g

@@ -2,7 +2,7 @@
 use Rattle.std.specs.Prelude.{◌≡◌, ◌++◌, ℕ, List, [], ◌∷◌, Option, Some, None, IsTrue, IsFalse, map}
 use Rattle.std.specs.Prelude.{reverse, slice_get}
 use Rattle.std.specs.List.{list_all}
-use Rattle.rust_trees.specs.declared.balance.BreakAt.{BreakAt}
+use Rattle.rust_trees.specs.declared.balance.FileBreak.{FileBreak}
 use Rattle.rust_trees.specs.declared.balance.BreakKind.{BreakKind}
 use Rattle.rust_trees.specs.declared.balance.BreakKind.TheVariants.{Unclosed, Unexpected, Unended}
 use Rattle.rust_trees.specs.declared.balance.Balance.{Balance}
@@ -62,7 +62,7 @@ BreaksIn xs Unexpected n = IsUnexpectedAt xs n
 BreaksIn xs Unended n = IsUnended xs n
 
 -- The tokens of a file break there; or they are a forest, and have their ends.
-abbrev pub BreaksAt : List Leaf → Option BreakAt → Type 0
+abbrev pub BreaksAt : List Leaf → Option FileBreak → Type 0
 BreaksAt xs None = IsForest xs × AreEnded xs
 BreaksAt xs (Some b) = BreaksIn xs b.kind b.start
 
@@ -80,9 +80,9 @@ pub record GoesOn (w : List Leaf) (os : List Opening) : Type 0 where
   pub are_open : AreOpen (reverse os) w
 
 -- The knowledge of the tokens so far: they break, for good, or these delimiters are open.
-abbrev pub IsKnownTo : List Leaf → List Opening → Option BreakAt → Type 0
+abbrev pub IsKnownTo : List Leaf → List Opening → Option FileBreak → Type 0
 IsKnownTo w os None = GoesOn w os
 IsKnownTo w os (Some b) = (ys : List Leaf) → BreaksIn (w ++ ys) b.kind b.start
 
 abbrev pub IsBalanced : List Leaf → Balance → Type 0
-IsBalanced w b = IsKnownTo w b.openings.items b.broken
+IsBalanced w b = IsKnownTo w b.openings.items b.first_break

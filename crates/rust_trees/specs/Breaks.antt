@@ -2,8 +2,8 @@
 use Rattle.std.specs.Prelude.{◌≡◌, ◌++◌, ℕ, List, [], ◌∷◌, length, Option, Some, None}
 use Rattle.rust_trees.specs.declared.sides.Delimiter.{Delimiter}
 use Rattle.rust_trees.specs.declared.sides.Side.TheVariants.{Opens}
-use Rattle.rust_trees.specs.declared.matching.Break.{Break}
-use Rattle.rust_trees.specs.declared.matching.Break.TheVariants.{Unclosed, Unexpected}
+use Rattle.rust_trees.specs.declared.matching.DelimiterBreak.{DelimiterBreak}
+use Rattle.rust_trees.specs.declared.matching.DelimiterBreak.TheVariants.{Unclosed, Unexpected}
 use Rattle.rust_trees.specs.Leaves.{Leaf, side}
 use Rattle.rust_trees.specs.Forests.{IsForest}
 
@@ -36,7 +36,7 @@ pub record IsUnclosed (xs : List Leaf) (k : ℕ) : Type 0 where
   pub is_forest : IsForest after
 
 -- The tokens are a forest, or they break there.
-abbrev pub Breaks : List Leaf → Option Break → Type 0
+abbrev pub Breaks : List Leaf → Option DelimiterBreak → Type 0
 Breaks xs None = IsForest xs
 Breaks xs (Some (Unexpected k)) = IsUnexpected xs k
 Breaks xs (Some (Unclosed k)) = IsUnclosed xs k

@@ -23,7 +23,7 @@ pub enum BreakKind {
 
 /// Where tokens break.
 #[derive(Clone, Copy)]
-pub struct BreakAt {
+pub struct FileBreak {
     /// In which way.
     pub kind: BreakKind,
     /// The byte offset where the token starts.
@@ -36,7 +36,7 @@ pub struct Balance {
     /// The delimiters that may still be closed, each with the byte offset where it starts.
     openings: Vec<Opening>,
     /// Where the tokens break already.
-    broken: Option<BreakAt>,
+    first_break: Option<FileBreak>,
 }
 
 impl Balance {
@@ -46,14 +46,14 @@ impl Balance {
     {
         Balance {
             openings: Vec::new(alloc),
-            broken: None,
+            first_break: None,
         }
     }
 
     /// Adds a closing delimiter to tokens that do not break.
     fn close(&mut self, delimiter: Delimiter, start: usize)
         ensures { (w : List Leaf) (x : Leaf) → GoesOn w self.old.openings.items
-            → self.old.broken ≡ None → x.is_ended ≡ true → side x ≡ Closes delimiter
+            → self.old.first_break ≡ None → x.is_ended ≡ true → side x ≡ Closes delimiter
             → start ≡ x.start → IsBalanced (w ++ x ∷ []) self.new }
     {
         if let Some(top) = self.openings.pop() {
@@ -61,7 +61,7 @@ impl Balance {
                 return;
             }
         }
-        self.broken = Some(BreakAt {
+        self.first_break = Some(FileBreak {
             kind: BreakKind::Unexpected,
             start,
         });
@@ -72,11 +72,11 @@ impl Balance {
         ensures { OnOk result ((w : List Leaf) → IsBalanced w self.old
             → IsBalanced (w ++ leaf token.now ∷ []) self.new) }
     {
-        if self.broken.is_some() {
+        if self.first_break.is_some() {
             return Ok(());
         }
         if !token.is_ended {
-            self.broken = Some(BreakAt {
+            self.first_break = Some(FileBreak {
                 kind: BreakKind::Unended,
                 start: token.start,
             });
@@ -105,14 +105,14 @@ impl Balance {
     }
 
     /// Returns where all the tokens break, or `None` if they are a forest.
-    pub fn broken(mut self) -> Option<BreakAt>
+    pub fn first_break(mut self) -> Option<FileBreak>
         ensures { (w : List Leaf) → IsBalanced w self → BreaksAt w result }
     {
-        if self.broken.is_some() {
-            return self.broken;
+        if self.first_break.is_some() {
+            return self.first_break;
         }
         match self.openings.pop() {
-            Some(opening) => Some(BreakAt {
+            Some(opening) => Some(FileBreak {
                 kind: BreakKind::Unclosed,
                 start: opening.at,
             }),

@@ -4,7 +4,7 @@ ghost use Rattle.std.specs.Prelude.{◌≡◌, List, Option};
 ghost use Rattle.rust_trees.specs.Breaks.{Breaks};
 ghost use Rattle.rust_trees.specs.Forests.{Forest, IsWell, spelling};
 ghost use Rattle.rust_trees.specs.Leaves.{Leaf};
-ghost use Rattle.rust_trees.specs.declared.matching.Break.{Break};
+ghost use Rattle.rust_trees.specs.declared.matching.DelimiterBreak.{DelimiterBreak};
 
 /// Tokens are a forest in at most one way.
 pub fn one_forest()
@@ -13,5 +13,5 @@ pub fn one_forest()
 
 /// Tokens are a forest, or they break at one place.
 pub fn one_break()
-    ensures { (xs : List Leaf) (a b : Option Break) → Breaks xs a → Breaks xs b → a ≡ b }
+    ensures { (xs : List Leaf) (a b : Option DelimiterBreak) → Breaks xs a → Breaks xs b → a ≡ b }
 {}

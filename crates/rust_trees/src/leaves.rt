@@ -7,7 +7,7 @@ ghost use Rattle.rust_tokens.specs.Tokens.{Lexeme};
 ghost use Rattle.rust_trees.specs.Leaves.{AreLeft, Leaf, is_leaf, leaf, leaves, side};
 
 use crate::sides::{Side, side_of};
-use rust_tokens::{Kind, after_head, split_first_token};
+use rust_tokens::{Kind, skip_head, split_first_token};
 use std::alloc::{AllocError, Global};
 use std::marker::Model;
 
@@ -107,7 +107,7 @@ impl<'a> Tokens<'a> {
     {
         Tokens {
             text,
-            rest: after_head(text),
+            rest: skip_head(text),
         }
     }
 

@@ -10,9 +10,9 @@ mod places;
 mod sides;
 mod source;
 
-pub use balance::{Balance, BreakAt, BreakKind};
+pub use balance::{Balance, BreakKind, FileBreak};
 pub use leaves::{Token, Tokens};
-pub use matching::Break;
+pub use matching::DelimiterBreak;
 pub use places::{Place, Places, place_after, place_at};
 pub use sides::{Delimiter, Side, is_opening};
 pub use source::Source;

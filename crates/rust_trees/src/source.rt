@@ -11,7 +11,7 @@ ghost use Rattle.rust_trees.specs.Matching.{IsMatched};
 ghost use Rattle.rust_trees.specs.Sources.{HasPairs};
 
 use crate::leaves::{Token, Tokens, leaves};
-use crate::matching::{Break, Matching, add, break_of, is_closed, match_delimiters};
+use crate::matching::{DelimiterBreak, Matching, add, break_of, is_closed, match_delimiters};
 use crate::sides::is_closing;
 use std::alloc::{AllocError, Global};
 use std::marker::Model;
@@ -21,7 +21,7 @@ use std::marker::Model;
 pub struct Source<'a> {
     tokens: Vec<Token<'a>>,
     partners: Vec<Option<usize>>,
-    broken: Option<Break>,
+    first_break: Option<DelimiterBreak>,
 }
 
 impl<'a> Model for Source<'a> {
@@ -29,7 +29,7 @@ impl<'a> Model for Source<'a> {
 
     ghost view = { λ s. map leaf s.tokens.items };
 
-    ghost invariant = { λ s. HasPairs (map leaf s.tokens.items) s.partners.items s.broken };
+    ghost invariant = { λ s. HasPairs (map leaf s.tokens.items) s.partners.items s.first_break };
 }
 
 /// Returns tokens with the pairs that were found among them.
@@ -37,11 +37,11 @@ fn source_of<'a>(tokens: Vec<Token<'a>>, found: Matching) -> Source<'a>
     requires { IsMatched (map leaf tokens.items) found }
     ensures { result ≡ map leaf tokens.entry.items }
 {
-    let broken = break_of(found.unexpected, found.openings);
+    let first_break = break_of(found.unexpected, found.openings);
     Source {
         tokens,
         partners: found.partners,
-        broken,
+        first_break,
     }
 }
 
@@ -103,9 +103,9 @@ impl<'a> Source<'a> {
     }
 
     /// Returns the place where the tokens break, or `None` if they are a forest.
-    pub fn broken(&self) -> Option<Break>
+    pub fn first_break(&self) -> Option<DelimiterBreak>
         ensures { Breaks self.now result }
     {
-        self.broken
+        self.first_break
     }
 }

@@ -12,9 +12,9 @@ use Rattle.rustc_parse_format.specs.declared.types.ParseMode.TheVariants.{Diagno
 use Rattle.rustc_parse_format.specs.declared.types.Piece.{Piece as DeclaredPiece}
 use Rattle.rustc_parse_format.specs.declared.types.Piece.TheVariants.{Lit as LitPiece}
 use Rattle.rustc_parse_format.specs.declared.types.Piece.TheVariants.{NextArgument as ArgumentPiece}
-use Rattle.rustc_parse_format.specs.declared.types.Taken.{Taken as DeclaredTaken}
-use Rattle.rustc_parse_format.specs.declared.types.Taken.TheVariants.{Lit as LitTaken}
-use Rattle.rustc_parse_format.specs.declared.types.Taken.TheVariants.{NextArgument as ArgumentTaken}
+use Rattle.rustc_parse_format.specs.declared.types.PieceKind.{PieceKind as DeclaredTaken}
+use Rattle.rustc_parse_format.specs.declared.types.PieceKind.TheVariants.{Lit as TextKind}
+use Rattle.rustc_parse_format.specs.declared.types.PieceKind.TheVariants.{NextArgument as ArgumentKind}
 use Rattle.rustc_parse_format.specs.declared.types.Argument.{Argument as DeclaredArgument}
 use Rattle.rustc_parse_format.specs.declared.types.FormatSpec.{FormatSpec}
 use Rattle.rustc_parse_format.specs.declared.types.Position.{Position as DeclaredPosition}
@@ -128,8 +128,8 @@ seen_argument a = record {
 
 -- A piece whose placeholder was read into a given argument, as a contract sees it.
 abbrev pub seen_taken : DeclaredArgument → DeclaredTaken → Piece Place
-seen_taken a (LitTaken t) = Lit (chars t.now)
-seen_taken a ArgumentTaken = NextArgument (seen_argument a)
+seen_taken a (TextKind t) = Lit (chars t.now)
+seen_taken a ArgumentKind = NextArgument (seen_argument a)
 
 -- A piece as a contract sees it.
 abbrev pub seen : DeclaredPiece → Piece Place

@@ -3,7 +3,7 @@
 use crate::faults::Fault;
 use crate::laws::default_of_spec;
 use crate::reader::Reader;
-use crate::types::{Argument, ParseMode, Piece, Position, Taken};
+use crate::types::{Argument, ParseMode, Piece, PieceKind, Position};
 use std::alloc::{AllocError, Global};
 use std::ops::Range;
 
@@ -185,7 +185,7 @@ impl<'input> Reader<'input> {
         &mut self,
         mode: ParseMode,
         into: &mut Argument<'input>,
-    ) -> Result<Option<Taken<'input>>, AllocError>
+    ) -> Result<Option<PieceKind<'input>>, AllocError>
         requires numbers { self.old.next + length self.old.rest < 2 ^ 64 }
         ensures piece { IfOk result (λ p. option_map (seen_taken into.new) p
             ≡ option_map (piece_in self.old.world)
@@ -198,11 +198,11 @@ impl<'input> Reader<'input> {
             into.position = Position::ArgumentImplicitlyIs(0);
             into.format = default_of_spec();
             self.placeholder(mode, into)?;
-            return Ok(Some(Taken::NextArgument));
+            return Ok(Some(PieceKind::NextArgument));
         }
         let text = self.text()?;
         match text {
-            Some(text) => Ok(Some(Taken::Lit(text))),
+            Some(text) => Ok(Some(PieceKind::Lit(text))),
             None => Ok(None),
         }
     }

@@ -20,7 +20,7 @@ ghost use Rattle.rustc_parse_format.specs.Seen.{seen_debug_hex, seen_mode, seen_
 ghost use Rattle.rustc_parse_format.specs.Seen.{seen_sign, seen_spec};
 
 use crate::types::{
-    Alignment, Argument, Count, DebugHex, FormatSpec, ParseMode, Piece, Position, Sign, Taken,
+    Alignment, Argument, Count, DebugHex, FormatSpec, ParseMode, Piece, PieceKind, Position, Sign,
 };
 use std::alloc::AllocError;
 
@@ -195,7 +195,7 @@ pub fn clone_of_argument<'input>(
 }
 
 /// Clones a piece whose placeholder is elsewhere. Always succeeds, and the clone equals its source.
-pub fn clone_of_taken<'input>(taken: &Taken<'input>) -> Result<Taken<'input>, AllocError>
+pub fn clone_of_taken<'input>(taken: &PieceKind<'input>) -> Result<PieceKind<'input>, AllocError>
     ensures { IsOkAnd result (λ t. t ≡ taken.now) }
 {
     taken.clone()

@@ -54,8 +54,8 @@ pub use types::Alignment::{AlignCenter, AlignLeft, AlignRight, AlignUnknown};
 pub use types::Count::{CountImplied, CountIs, CountIsName, CountIsParam, CountIsStar};
 pub use types::Position::{ArgumentImplicitlyIs, ArgumentIs, ArgumentNamed};
 pub use types::{
-    Alignment, Argument, Count, DebugHex, FormatSpec, ParseError, ParseMode, Piece, Position, Sign,
-    Suggestion, Taken,
+    Alignment, Argument, Count, DebugHex, FormatSpec, ParseError, ParseMode, Piece, PieceKind,
+    Position, Sign, Suggestion,
 };
 #[doc(hidden)]
 pub use written::{put_all_written, put_written};

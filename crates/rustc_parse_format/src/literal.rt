@@ -174,7 +174,7 @@ fn before_newline(text: &str) -> Option<&str>
 
 /// Returns the input without the newline that a macro appended to it, or `None` if one was appended
 /// and the input does not end with it.
-fn without_newline(input: &str, appended: bool) -> Option<&str>
+fn strip_newline(input: &str, appended: bool) -> Option<&str>
     ensures { MatchOption result
         ((t : List ℕ) → t ++ newline appended ≡ chars input.now → ⊥)
         (λ t. chars t.now ++ newline appended ≡ chars input.now) }
@@ -189,7 +189,7 @@ fn without_newline(input: &str, appended: bool) -> Option<&str>
 /// Returns the text between the first and the last character, or `None` if these are not two
 /// quotes. Does not check that the text is the content of a literal (`read_content` does). Does
 /// not allocate.
-pub fn between_quotes(snippet: &str) -> Option<&str>
+pub fn quoted_content(snippet: &str) -> Option<&str>
     ensures { MatchOption result
         ((t : List ℕ) → chars snippet.now ≡ ordinary_frame t → ⊥)
         (λ t. chars snippet.now ≡ ordinary_frame (chars t.now)) }
@@ -258,7 +258,7 @@ fn ordinary_end(snippet: &str, text: &str) -> Option<usize>
         (λ e. IsOrdinaryLiteral (chars snippet.now) (chars text.now)
         × (e ≡ literal_end None (chars snippet.now))) }
 {
-    match between_quotes(snippet) {
+    match quoted_content(snippet) {
         Some(content) => spelled_end(content, text),
         None => None,
     }
@@ -355,7 +355,7 @@ pub(crate) fn source_end(
         (IsSource (chars input.now) style (chars snippet.now) appended_newline → ⊥)
         (λ e. IsSourceTo (chars input.now) style (chars snippet.now) appended_newline e) }
 {
-    let text = without_newline(input, appended_newline)?;
+    let text = strip_newline(input, appended_newline)?;
     match style {
         None => ordinary_end(snippet, text),
         Some(hashes) => raw_end(snippet, hashes, text),

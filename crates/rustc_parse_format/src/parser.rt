@@ -9,7 +9,7 @@ use crate::cursor::Cursor;
 use crate::lists::Lists;
 use crate::reader::Reader;
 use crate::source::{quote_offset, source_of};
-use crate::types::{Argument, ParseError, ParseMode, Piece, Taken};
+use crate::types::{Argument, ParseError, ParseMode, Piece, PieceKind};
 use ahead::Ahead;
 use std::alloc::{AllocError, Global};
 use std::marker::Model;
@@ -250,7 +250,7 @@ impl<'input> Parser<'input> {
     pub fn next_into(
         &mut self,
         argument: &mut Argument<'input>,
-    ) -> Result<(Option<Taken<'input>>, usize), AllocError>
+    ) -> Result<(Option<PieceKind<'input>>, usize), AllocError>
         ensures piece { IfOk result (λ x. option_map (seen_taken argument.new) x.0
             ≡ option_map (piece_in self.old.world) (next_call self.old).piece) }
         ensures fronts { IfOk result (λ x. x.1

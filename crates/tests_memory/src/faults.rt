@@ -5,7 +5,7 @@ use crate::rows::{Row, rows};
 use crate::sheet::Sheet;
 use crate::start::{check_row, start};
 use crate::walks::check_unchanged;
-use rustc_parse_format::{Argument, Fault, ParseError, Parser, Taken};
+use rustc_parse_format::{Argument, Fault, ParseError, Parser, PieceKind};
 use std::alloc::Global;
 use std::io::Print;
 use std::process::Abort;
@@ -70,7 +70,7 @@ fn call_again<'input>(
     parser: &mut Parser<'input>,
     argument: &mut Argument<'input>,
     faults: &mut Vec<Fault<'input>>,
-) -> Result<Option<Taken<'input>>, Fail> {
+) -> Result<Option<PieceKind<'input>>, Fail> {
     let (before, errors) = (shown(parser)?, listed(rt, alloc, faults)?);
     check_unchanged(rt, alloc, parser, &before)?;
     if let Ok(taken) = parser.next_with_faults(argument, faults) {

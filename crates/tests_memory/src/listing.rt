@@ -2,8 +2,8 @@
 
 use crate::sheet::Sheet;
 use rustc_parse_format::{
-    Alignment, Argument, Count, DebugHex, FormatSpec, ParseError, Parser, Piece, Position, Sign,
-    Suggestion, Taken,
+    Alignment, Argument, Count, DebugHex, FormatSpec, ParseError, Parser, Piece, PieceKind,
+    Position, Sign, Suggestion,
 };
 use std::fmt;
 use std::fmt::Write;
@@ -129,10 +129,10 @@ pub fn put_piece(out: &mut Sheet, piece: &Piece<'_>) -> fmt::Result {
 }
 
 /// Adds the line of a piece whose placeholder was read into an argument.
-pub fn put_read(out: &mut Sheet, taken: &Taken<'_>, argument: &Argument<'_>) -> fmt::Result {
+pub fn put_read(out: &mut Sheet, taken: &PieceKind<'_>, argument: &Argument<'_>) -> fmt::Result {
     match taken {
-        Taken::Lit(text) => put_literal(out, text)?,
-        Taken::NextArgument => put_argument(out, argument)?,
+        PieceKind::Lit(text) => put_literal(out, text)?,
+        PieceKind::NextArgument => put_argument(out, argument)?,
     }
     out.write_str("\n")
 }

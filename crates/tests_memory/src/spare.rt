@@ -2,7 +2,7 @@
 
 use rustc_parse_format::literal::is_source_literal;
 use rustc_parse_format::{
-    Argument, FormatSpec, ParseMode, Parser, Piece, Pieces, Position, Taken, read_all,
+    Argument, FormatSpec, ParseMode, Parser, Piece, PieceKind, Pieces, Position, read_all,
 };
 use std::alloc::{AllocError, Global};
 use std::process::Abort;
@@ -95,7 +95,7 @@ fn named() -> Argument<'static> {
 /// The next piece is a placeholder without a fault in front, which is read into an argument.
 pub fn next_is_read(parser: &mut Parser<'_>) -> Result<bool, AllocError> {
     let (taken, fronts) = parser.next_into(&mut Argument::default())?;
-    Ok(matches!(taken, Some(Taken::NextArgument)) && fronts == 0)
+    Ok(matches!(taken, Some(PieceKind::NextArgument)) && fronts == 0)
 }
 
 /// The next piece of such a parser is one.

@@ -7,7 +7,7 @@ use crate::sheet::Sheet;
 use crate::spare::next_is_read;
 use crate::start::{check_row, start};
 use crate::walks::check_unchanged;
-use rustc_parse_format::{Argument, ParseMode, Parser, Taken};
+use rustc_parse_format::{Argument, ParseMode, Parser, PieceKind};
 use std::alloc::Global;
 use std::io::Print;
 use std::process::Abort;
@@ -28,7 +28,7 @@ fn second_call<'input>(
     rt: &impl Abort,
     parser: &mut Parser<'input>,
     argument: &mut Argument<'input>,
-) -> Result<Option<Taken<'input>>, Fail> {
+) -> Result<Option<PieceKind<'input>>, Fail> {
     let before = kept(parser);
     let (taken, _) = parser.next_into(argument)?;
     assert!(rt; kept(parser) != before);
@@ -41,7 +41,7 @@ fn call_again<'input>(
     alloc: Global,
     parser: &mut Parser<'input>,
     argument: &mut Argument<'input>,
-) -> Result<Option<Taken<'input>>, Fail> {
+) -> Result<Option<PieceKind<'input>>, Fail> {
     let before = shown(parser)?;
     check_unchanged(rt, alloc, parser, &before)?;
     if let Ok((taken, _)) = parser.next_into(argument) {

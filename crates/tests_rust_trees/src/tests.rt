@@ -6,7 +6,7 @@ use format_calls::{
     AsmPart, Part, Reason, Row, Table, arguments, asm_part, calls, format_string, is_mark, is_text,
     next_part, template_count,
 };
-use rust_trees::{Balance, Break, Places, Source, Tokens, place_at};
+use rust_trees::{Balance, DelimiterBreak, Places, Source, Tokens, place_at};
 use std::alloc::{AllocError, Global};
 use std::io::Print;
 use std::process::Abort;
@@ -14,10 +14,10 @@ use std::test::Fail;
 
 /// Where the tokens break: nowhere, at a token that is not closed, or at one that is unexpected.
 fn breaks(source: &Source<'_>) -> (usize, usize) {
-    match source.broken() {
+    match source.first_break() {
         None => (0, 0),
-        Some(Break::Unclosed(index)) => (1, index),
-        Some(Break::Unexpected(index)) => (2, index),
+        Some(DelimiterBreak::Unclosed(index)) => (1, index),
+        Some(DelimiterBreak::Unexpected(index)) => (2, index),
     }
 }
 
@@ -39,10 +39,10 @@ fn trees(rt: HostRuntime) -> Result<(), Fail> {
         ("(\")\" ')' r#\")\"#)", 5, (0, 0), Some(4)),
         ("\u{feff}#!a (\n()", 2, (0, 0), Some(1)),
     ];
-    for (text, count, broken, partner) in rows {
+    for (text, count, first_break, partner) in rows {
         let source = Source::new(alloc, text)?;
         assert_eq!(&rt; source.tokens().len(), count);
-        assert!(&rt; breaks(&source) == broken);
+        assert!(&rt; breaks(&source) == first_break);
         assert!(&rt; source.partner(0) == partner);
     }
     Ok(())
@@ -123,15 +123,17 @@ fn check(
     }
     assert_eq!(rt; count, expected.len());
     // and where the tokens break
-    let place = match source.broken() {
-        Some(Break::Unclosed(index) | Break::Unexpected(index)) => index,
+    let place = match source.first_break() {
+        Some(DelimiterBreak::Unclosed(index) | DelimiterBreak::Unexpected(index)) => index,
         None => source.tokens().len(),
     };
-    let broken = balance.broken().map_or(text.len(), |broken| broken.start);
+    let first_break = balance
+        .first_break()
+        .map_or(text.len(), |first_break| first_break.start);
     if place < source.tokens().len() {
-        assert_eq!(rt; broken, source.tokens()[place].start);
+        assert_eq!(rt; first_break, source.tokens()[place].start);
     } else {
-        assert_eq!(rt; broken, text.len());
+        assert_eq!(rt; first_break, text.len());
     }
     Ok(())
 }
@@ -158,7 +160,7 @@ fn macro_calls(rt: HostRuntime) -> Result<(), Fail> {
     check(&rt, alloc, &table, "$todo!() todo() todo! a != (b)", &[])?;
     check(&rt, alloc, &table, "( ] assert!(a) panic!(", &[(2, 6)])?;
     check(&rt, alloc, &table, "info!(\"a\")", &[])?;
-    let crates = Table::of_crates(alloc)?;
+    let crates = Table::with_crates(alloc)?;
     for row in &crates.rows {
         table.add(*row)?;
     }
@@ -188,7 +190,7 @@ fn number(string: Result<usize, Reason>) -> usize {
 fn strings_of_calls(rt: HostRuntime) -> Result<(), Fail> {
     let alloc = rt.alloc();
     let mut table = Table::standard(alloc)?;
-    let crates = Table::of_crates(alloc)?;
+    let crates = Table::with_crates(alloc)?;
     for row in &crates.rows {
         table.add(*row)?;
     }

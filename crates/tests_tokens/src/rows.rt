@@ -45,7 +45,7 @@ fn each_kind_of_a_format_string(rt: HostRuntime) -> Result<(), Fail> {
         (Open, 4),
         (RawPrefix, 5),
         (Identifier, 7),
-        (White, 8),
+        (Whitespace, 8),
         (Colon, 9),
         (Fill, 10),
         (Align, 11),
@@ -57,7 +57,7 @@ fn each_kind_of_a_format_string(rt: HostRuntime) -> Result<(), Fail> {
         (Dot, 17),
         (Asterisk, 18),
         (Type, 19),
-        (White, 21),
+        (Whitespace, 21),
         (Close, 22),
         (Escape, 23),
         (Text, 25),
@@ -207,7 +207,7 @@ fn culprits(rt: HostRuntime) -> Result<(), Fail> {
     let inside = [
         (Open, 0),
         (Identifier, 1),
-        (White, 2),
+        (Whitespace, 2),
         (Unexpected, 3),
         (Close, 4),
     ];
@@ -215,7 +215,7 @@ fn culprits(rt: HostRuntime) -> Result<(), Fail> {
     let alone = [
         (Unexpected, 0),
         (Identifier, 1),
-        (White, 2),
+        (Whitespace, 2),
         (Open, 3),
         (Close, 4),
     ];

@@ -2,7 +2,7 @@
 
 use crate::faults::Fault;
 use crate::parser::Parser;
-use crate::types::{Argument, Taken};
+use crate::types::{Argument, PieceKind};
 use std::alloc::AllocError;
 
 impl<'input> Parser<'input> {
@@ -26,7 +26,7 @@ impl<'input> Parser<'input> {
         &mut self,
         argument: &mut Argument<'input>,
         faults: &mut Vec<Fault<'input>>,
-    ) -> Result<Option<Taken<'input>>, AllocError>
+    ) -> Result<Option<PieceKind<'input>>, AllocError>
         ensures piece { IfOk result (λ t. option_map (seen_taken argument.new) t
             ≡ option_map (piece_in self.old.world) (next_call self.old).piece) }
         ensures faults { OnOk result (map seen_fault faults.new.items ≡ map seen_fault

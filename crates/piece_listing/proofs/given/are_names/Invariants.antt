@@ -2,7 +2,7 @@ use Rattle.std.proofs.Common.{◌≡◌, length}
 use Rattle.std.specs.List.{list_all}
 use denote.Shadow.{shadow}
 use denote.Text.{Utf8}
-use Rattle.piece_listing.specs.Given.{is_name, parts}
+use Rattle.piece_listing.specs.GivenArguments.{is_name, parts}
 use Rattle.piece_listing.proofs.given.are_names.Given as goal
 
 -- All parts so far are names.

@@ -2,7 +2,7 @@ use Rattle.std.proofs.Common.{◌≡◌, ◌++◌, chars, length, map}
 use denote.Shadow.{shadow}
 use denote.Text.{Utf8}
 use Rattle.placeholder_check.specs.Seen.{texts}
-use Rattle.piece_listing.specs.Given.{parts}
+use Rattle.piece_listing.specs.GivenArguments.{parts}
 use Rattle.piece_listing.proofs.given.between_commas.Given as goal
 
 -- The names so far and those of the rest are all the names.

@@ -22,8 +22,8 @@ returns-clause-reading c = λ clean. record {
   ) c.in_ok-report.ensures.report;
 }
 
-pub returns-clause-names_alone : goal.returns-clause-names_alone
-returns-clause-names_alone c = λ named. λ clean.
+pub returns-clause-uses_are_by_name : goal.returns-clause-uses_are_by_name
+returns-clause-uses_are_by_name c = λ named. λ clean.
     let ps = map seen c.in_ok-pieces.pieces.items in
     let read = rw named at c.in_ok-pieces.ensures.reading clean in
     let report : IsReport (uses (map bare ps)) c.args.positional (texts c.args.names.now)

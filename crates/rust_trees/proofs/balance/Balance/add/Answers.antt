@@ -1,10 +1,10 @@
 use Rattle.std.proofs.Common.{◌≡◌, refl, sym, true}
-use Rattle.rust_trees.proofs.Balancing.{goes-on, known-broken, known-open, known-token}
+use Rattle.rust_trees.proofs.Balancing.{goes-on, known-first_break, known-open, known-token}
 use Rattle.rust_trees.proofs.Balancing.{known-unended, none-is, still-on}
 use Rattle.rust_trees.proofs.balance.Balance.add.Goals as goal
 
 pub returns-then-is_some : goal.returns-then-is_some
-returns-then-is_some c w h = known-broken w _ _ _ c.if-is_some.ensures h
+returns-then-is_some c w h = known-first_break w _ _ _ c.if-is_some.ensures h
 
 pub returns-then-not-token : goal.returns-then-not-token
 returns-then-not-token c w h =

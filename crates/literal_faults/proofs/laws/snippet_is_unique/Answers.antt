@@ -1,5 +1,5 @@
 use Rattle.literal_faults.proofs.Snippets.{one-snippet}
-use Rattle.literal_faults.proofs.laws.one_snippet.Goals as goal
+use Rattle.literal_faults.proofs.laws.snippet_is_unique.Goals as goal
 
 pub returns : goal.returns
 returns c = one-snippet

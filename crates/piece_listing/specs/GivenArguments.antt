@@ -9,7 +9,7 @@ use Rattle.std.specs.Str.Parse.{digits_value}
 use Rattle.rustc_parse_format.specs.Characters.{Text, is_nil}
 
 -- The arguments of a list.
-pub record Given : Type 0 where
+pub record GivenArguments : Type 0 where
   pub positional : ℕ
   pub names : List Text
 
@@ -34,7 +34,7 @@ is_name w = not (is_nil w)
 
 -- The arguments that a word gives: a number, and then any number of names, each after a comma. None
 -- for any other word.
-abbrev pub given_by : List ℕ → Option Given
+abbrev pub given_by : List ℕ → Option GivenArguments
 given_by w =
     if is_number (cut w).0 && list_all is_name (cut w).1
     then Some (record { positional = digits_value 10 (cut w).0; names = map chars (cut w).1 })

@@ -1,5 +1,5 @@
 use Rattle.placeholder_check.proofs.NamedArguments.{named-alone, named-only}
-use Rattle.placeholder_check.proofs.laws.names_alone.Goals as goal
+use Rattle.placeholder_check.proofs.laws.uses_are_by_name.Goals as goal
 
 pub returns-clause-named : goal.returns-clause-named
 returns-clause-named c = named-alone

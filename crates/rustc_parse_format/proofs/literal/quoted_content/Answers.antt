@@ -4,7 +4,7 @@ use Rattle.std.proofs.lemmas.Str.Pattern.{strip_prefix_char, strip_suffix_char}
 use Rattle.rustc_parse_format.specs.Characters.{Text}
 use Rattle.rustc_parse_format.specs.Literal.{ordinary_frame}
 use Rattle.rustc_parse_format.proofs.Literals.Edges.{chars-last, chars-first, first-IsUtf8}
-use Rattle.rustc_parse_format.proofs.literal.between_quotes.Goals as goal
+use Rattle.rustc_parse_format.proofs.literal.quoted_content.Goals as goal
 
 -- The text after the first quote ends with a quote, or the whole is not in quotes.
 last_quote : (bs rest : List ℕ) (r : Option (Bor (List ℕ))) → chars bs ≡ 34 ∷ chars rest →

@@ -1,6 +1,6 @@
 use Rattle.std.proofs.Common.{rules}
 use Rattle.rust_trees.proofs.Balancing.{all-closed-at-end, all-known, all-unclosed, goes-on}
-use Rattle.rust_trees.proofs.balance.Balance.broken.Goals as goal
+use Rattle.rust_trees.proofs.balance.Balance.first_break.Goals as goal
 
 pub returns-then-is_some : goal.returns-then-is_some
 returns-then-is_some c w h = all-known w _ _ c.if-is_some.ensures h
