@@ -16,8 +16,10 @@ use Rattle.drawn_faults.specs.Diagnostics.{level_word, lower, lowest, marked_lin
 use Rattle.drawn_faults.specs.Diagnostics.{note_gutter, notes_rows, parting_above, placed_edit}
 use Rattle.drawn_faults.specs.Diagnostics.{plain_note, shown_label, shown_note, titled}
 use Rattle.drawn_lines.specs.Glyphs.{IsHarmless, glyph, glyph_count, is_obeyed}
-use Rattle.drawn_lines.specs.Frames.{Frame, cut_of, line_indent}
-use Rattle.drawn_labels.specs.Labels.{Label, mark}
+use Rattle.drawn_lines.specs.Frames.{Frame, line_indent}
+use Rattle.drawn_lines.specs.Windows.{shift}
+use Rattle.drawn_labels.specs.Labels.{Label, mark, mark_in}
+use Rattle.drawn_labels.specs.Margins.{window_of}
 use Rattle.drawn_labels.specs.Marks.{is_right_of, sorted}
 use Rattle.drawn_lines.specs.Painting.{IsColourOf, IsHarmlessWith}
 use Rattle.drawn_lines.specs.Places.{Picture, extent, uncoloured}
@@ -69,16 +71,17 @@ abbrev HaveSigns : List Label → Type 0
 HaveSigns [] = Unit {0}
 HaveSigns (l ∷ ls) = (is_obeyed l.sign ≡ false) × HaveSigns ls
 
-marks-signed : (cut : ℕ) (ls : List Label) → HaveSigns ls → AreSigned (map (mark cut) ls)
+marks-signed : (f : Frame) (ls : List Label) → HaveSigns ls → AreSigned (map (mark_in f) ls)
 unfolding mark
-marks-signed cut [] p = tt
-marks-signed cut (l ∷ ls) p = (p.0, marks-signed cut ls p.1)
+marks-signed f [] p = tt
+marks-signed f (l ∷ ls) p = (p.0, marks-signed f ls p.1)
 
 of_each : (f : Frame) (ls : List Label) → HaveSigns ls
     → IsColourOf (each_in_line f ls) (each_in_line (plain_frame f) ls)
+unfolding shift
 of_each f ls p =
-    of_marked_lines f None (sorted is_right_of [] (map (mark f.cut) ls))
-    (sorted-signed is_right_of [] (map (mark f.cut) ls) tt (marks-signed f.cut ls p))
+    of_marked_lines f None (sorted is_right_of [] (map (mark_in f) ls))
+    (sorted-signed is_right_of [] (map (mark_in f) ls) tt (marks-signed f ls p))
 
 of_labels : (f : Frame) (ls : List Label) → HaveSigns ls
     → IsColourOf (labels_rows f ls) (labels_rows (plain_frame f) ls)
@@ -129,7 +132,7 @@ frame-same p g ls =
     ap (λ (n : Option ℕ). record {
       picture = uncoloured p;
       gutter = off g;
-      cut = cut_of (unwrap_or n 0);
+      window = window_of p g (unwrap_or n 0) ls;
     }) (sym (lowest-same p None ls))
 
 of_shown_note : (p : Picture) (g : Gutter) (t : List ℕ) (ls : List Label) → HaveSigns ls

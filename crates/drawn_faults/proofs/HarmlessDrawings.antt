@@ -14,7 +14,8 @@ use Rattle.fault_fixes.specs.Edits.{offered}
 use Rattle.drawn_lines.specs.Glyphs.{IsHarmless, is_obeyed}
 use Rattle.drawn_edits.specs.Edited.{Edit}
 use Rattle.drawn_lines.specs.Frames.{Frame}
-use Rattle.drawn_labels.specs.Labels.{Label, mark}
+use Rattle.drawn_labels.specs.Labels.{Label, mark, mark_in}
+use Rattle.drawn_lines.specs.Windows.{shift}
 use Rattle.drawn_faults.specs.Labels.{edit_of, frame, is_same, primary, second, second_text}
 use Rattle.drawn_faults.specs.Labels.{text_name}
 use Rattle.drawn_lines.specs.Painting.{IsColourOf, IsHarmlessWith}
@@ -91,11 +92,11 @@ sign_of false = written-harmless 45 refl
 of_rows : (p : Picture) (m : Message Place) (f : Frame) (l : Label) (o : Option (List ℕ × Place))
     → is_obeyed l.sign ≡ false → IsColourOf (labelled_rows f l (option_map (label p m) o))
     (labelled_rows (plain_frame f) l (option_map (label p m) o))
-unfolding labelled_rows mark
+unfolding labelled_rows mark shift
 of_rows p m f l None h =
-    either (l.extent.start.line == l.extent.end.line) (of_labelled f (mark f.cut l) h) (of_long f l)
+    either (l.extent.start.line == l.extent.end.line) (of_labelled f (mark_in f l) h) (of_long f l)
 of_rows p m f l (Some x) h =
-    of_two f (mark f.cut l) (mark f.cut (label p m x)) h (sign_of (is_same x.1 m.span))
+    of_two f (mark_in f l) (mark_in f (label p m x)) h (sign_of (is_same x.1 m.span))
 
 pub of_note_word : (g : Gutter) → IsColourOf (note_word g) (note_word (off g))
 of_note_word g =
@@ -158,6 +159,7 @@ picture-same p e = ap (λ (b : Bool). record {
   source = p.source;
   line_start = p.line_start;
   literal_start = p.literal_start;
+  width = p.width;
   colours = b;
 }) e
 

@@ -10,10 +10,11 @@ use Rattle.drawn_faults.specs.Drawing.{arrow, note_word}
 use Rattle.drawn_lines.specs.Glyphs.{glyph, glyph_bytes, glyph_count, run}
 use Rattle.drawn_edits.specs.Helps.{edits_rows, help_word}
 use Rattle.drawn_edits.specs.Edited.{Edit, placed}
-use Rattle.drawn_lines.specs.Frames.{Frame, cut_of, line_indent}
-use Rattle.drawn_labels.specs.Labels.{Label, mark}
+use Rattle.drawn_lines.specs.Frames.{Frame, line_indent}
+use Rattle.drawn_labels.specs.Labels.{Label, mark_in}
 use Rattle.drawn_lines.specs.Lines.{code_row, gap, parting}
 use Rattle.drawn_labels.specs.Long.{long_rows}
+use Rattle.drawn_labels.specs.Margins.{window_of}
 use Rattle.drawn_labels.specs.Marks.{is_right_of, mark_rows, sorted}
 use Rattle.drawn_lines.specs.Painting.{painted, palette_of}
 use Rattle.drawn_lines.specs.Places.{Picture, extent, origin}
@@ -115,7 +116,7 @@ unfoldable pub frame_of : Picture → Gutter → List Label → Frame
 frame_of p gutter ls = record {
   picture = p;
   gutter = gutter;
-  cut = cut_of (unwrap_or (lowest p None ls) 0);
+  window = window_of p gutter (unwrap_or (lowest p None ls) 0) ls;
 }
 
 -- The place s is in a line above t, or in front of it in the same line.
@@ -164,7 +165,7 @@ marked_lines f before (m ∷ ms) =
 
 -- The lines of these labels, each in the line in which it begins.
 abbrev pub each_in_line : Frame → List Label → List ℕ
-each_in_line f ls = marked_lines f None (sorted is_right_of [] (map (mark f.cut) ls))
+each_in_line f ls = marked_lines f None (sorted is_right_of [] (map (mark_in f) ls))
 
 -- The lines of a label that is alone. One over several lines is drawn so.
 abbrev pub single_rows : Frame → Label → List ℕ

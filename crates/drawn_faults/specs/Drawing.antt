@@ -9,7 +9,7 @@ use Rattle.fault_fixes.specs.Edits.{offered}
 use Rattle.drawn_lines.specs.Glyphs.{glyph_bytes, run}
 use Rattle.drawn_lines.specs.Painting.{painted}
 use Rattle.drawn_lines.specs.Places.{Picture}
-use Rattle.drawn_labels.specs.Labels.{Label, mark, labelled, two_labels}
+use Rattle.drawn_labels.specs.Labels.{Label, mark_in, labelled, two_labels}
 use Rattle.drawn_edits.specs.Edited.{Edit}
 use Rattle.drawn_lines.specs.Frames.{Frame}
 use Rattle.drawn_faults.specs.Labels.{primary, second, edit_of, frame, text_name}
@@ -46,8 +46,8 @@ head mode f description at = title f.gutter.palette mode description ++ (arrow f
 -- several lines has one sign there.
 unfoldable pub labelled_rows : Frame → Label → Option Label → List ℕ
 labelled_rows f l None =
-    if l.extent.start.line == l.extent.end.line then labelled f (mark f.cut l) else long_rows f l
-labelled_rows f l (Some s) = two_labels f (mark f.cut l) (mark f.cut s)
+    if l.extent.start.line == l.extent.end.line then labelled f (mark_in f l) else long_rows f l
+labelled_rows f l (Some s) = two_labels f (mark_in f l) (mark_in f s)
 
 -- The start of a note.
 abbrev pub note_word : Gutter → List ℕ

@@ -1,6 +1,6 @@
 -- The labels and the edit of an error, with their places in the source.
 use Rattle.std.specs.Prelude.{ℕ, ◌+◌, Bool, ◌&&◌, ◌==◌, ◌++◌, if◌then◌else◌, nat_lt, max, List}
-use Rattle.std.specs.Prelude.{length, Option, None, Some, option_map, codes, decimal}
+use Rattle.std.specs.Prelude.{[], ◌∷◌, length, Option, None, Some, option_map, codes, decimal}
 use Rattle.rustc_parse_format.specs.World.{Place}
 use Rattle.rustc_parse_format.specs.Types.{Mode, Format, InlineAsm, Diagnostic, DiagnosticNamed}
 use Rattle.rustc_parse_format.specs.Faults.{Message, Suggestion, Nothing, UsePositional}
@@ -9,10 +9,12 @@ use Rattle.rustc_parse_format.specs.Faults.{UseRustDebugPrintingMacro}
 use Rattle.fault_fixes.specs.Edits.{offered}
 use Rattle.drawn_lines.specs.Painting.{palette_of}
 use Rattle.drawn_lines.specs.Places.{Picture, extent, line}
+use Rattle.drawn_lines.specs.declared.paint.Gutter.{Gutter}
 use Rattle.drawn_lines.specs.declared.paint.Palette.TheVariants.{Error}
 use Rattle.drawn_edits.specs.Edited.{Edit, placed}
 use Rattle.drawn_labels.specs.Labels.{Label}
-use Rattle.drawn_lines.specs.Frames.{cut_of, Frame, line_indent}
+use Rattle.drawn_labels.specs.Margins.{window_of}
+use Rattle.drawn_lines.specs.Frames.{Frame, line_indent}
 
 -- The name of the compiler for the text of a literal in a mode.
 abbrev pub text_name : Mode → List ℕ
@@ -91,13 +93,25 @@ least None (Some n) = n
 least (Some m) None = m
 least (Some m) (Some n) = if nat_lt n m then n else m
 
+-- The labels.
+abbrev pub all_labels : Label → Option Label → List Label
+all_labels l None = l ∷ []
+all_labels l (Some s) = l ∷ s ∷ []
+
+-- The gutter for labels and an edit.
+abbrev pub gutter_for : Picture → Label → Option Label → Option Edit → Gutter
+gutter_for p l s e = record {
+  columns = length (decimal (last_number p l s e));
+  palette = palette_of p.colours Error;
+}
+
 -- The layout for labels and an edit.
 unfoldable pub frame : Picture → Label → Option Label → Option Edit → Frame
 frame p l s e = record {
   picture = p;
-  gutter = record {
-    columns = length (decimal (last_number p l s e));
-    palette = palette_of p.colours Error;
-  };
-  cut = cut_of (least (line_indent p l.extent.start.line) (line_indent p (other_line l s)));
+  gutter = gutter_for p l s e;
+  window =
+      window_of p (gutter_for p l s e)
+      (least (line_indent p l.extent.start.line) (line_indent p (other_line l s)))
+      (all_labels l s);
 }

@@ -11,10 +11,8 @@ ghost use Rattle.drawn_faults.specs.Labels.{edit_line, edit_of, frame, last_line
 ghost use Rattle.drawn_faults.specs.Labels.{other_line, second, second_text, text_name};
 
 use drawn_edits::{Edit, placed};
-use drawn_labels::Label;
-use drawn_lines::{
-    Frame, Gutter, Palette, Picture, cut_of, digits, extent_of, line_indent, palette_of,
-};
+use drawn_labels::{Label, window_of};
+use drawn_lines::{Frame, Gutter, Palette, Picture, digits, extent_of, line_indent, palette_of};
 use fault_fixes::is_offered;
 use rustc_parse_format::{ParseError, ParseMode, Suggestion};
 use std::ops::Range;
@@ -172,7 +170,7 @@ pub fn frame_for<'a>(
     requires small_edit { IfSome edit.now (λ e. e.extent.end.line < 2 ^ 59) }
     ensures value { seen_frame result ≡ frame (seen_picture picture.now)
         (seen_label label.now) (option_map seen_label second.now) (option_map seen_edit edit.now) }
-    ensures small_cut { result.cut < 2 ^ 62 }
+    ensures source { length result.picture.now.source.now < 2 ^ 59 }
 {
     let last = label
         .extent
@@ -181,10 +179,15 @@ pub fn frame_for<'a>(
         .max(last_line(second).max(edit_line(edit)));
     let columns = digits(picture.line_start as usize + last);
     let palette = palette_of(picture.colours, Palette::Error);
+    let gutter = Gutter { columns, palette };
     let indent = least_indent(picture, label.extent.start.line, other_line(label, second));
+    let window = match second {
+        None => window_of(picture, gutter, indent, &[*label]),
+        Some(second) => window_of(picture, gutter, indent, &[*label, *second]),
+    };
     Frame {
         picture,
-        gutter: Gutter { columns, palette },
-        cut: cut_of(indent),
+        gutter,
+        window,
     }
 }

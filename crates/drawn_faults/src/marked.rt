@@ -8,7 +8,7 @@ ghost use Rattle.drawn_faults.specs.Diagnostics.{each_in_line, earlier, first_sp
 ghost use Rattle.drawn_faults.specs.Diagnostics.{gap_after, is_before, in_line, labels_rows};
 ghost use Rattle.drawn_faults.specs.Diagnostics.{last_edit_line, last_label_line, line_rows, lower};
 ghost use Rattle.drawn_faults.specs.Diagnostics.{lowest, marked_lines, next_line, single_rows};
-ghost use Rattle.drawn_labels.specs.Labels.{mark, seen_label};
+ghost use Rattle.drawn_labels.specs.Labels.{mark_in, seen_label};
 ghost use Rattle.drawn_edits.specs.Edited.{seen_edit};
 ghost use Rattle.drawn_lines.specs.Frames.{seen_frame};
 ghost use Rattle.drawn_labels.specs.Marks.{is_right_of, sorted};
@@ -16,8 +16,8 @@ ghost use Rattle.drawn_lines.specs.Places.{seen_picture};
 ghost use Rattle.drawn_labels.specs.Rows.{seen_mark};
 
 use drawn_edits::Edit;
-use drawn_labels::{Label, Mark, from_right, mark_of, put_long, put_mark_rows};
-use drawn_lines::{Frame, Gutter, ORIGIN, Picture, Spot, cut_of, line_indent, put_code, put_gap};
+use drawn_labels::{Label, Mark, from_right, mark_in, put_long, put_mark_rows, window_of};
+use drawn_lines::{Frame, Gutter, ORIGIN, Picture, Spot, line_indent, put_code, put_gap};
 use std::alloc::{AllocError, Global};
 
 /// Returns the last line in which one of labels ends, or `last` if that is further down.
@@ -94,13 +94,12 @@ pub fn frame_of<'a>(picture: &'a Picture<'a>, gutter: Gutter, labels: &[Label<'_
     requires { length picture.now.source.now < 2 ^ 59 }
     ensures value { seen_frame result
         ≡ frame_of (seen_picture picture.now) gutter (map seen_label labels.now) }
-    ensures cut { result.cut < 2 ^ 62 }
     ensures source { length result.picture.now.source.now < 2 ^ 59 }
 {
     Frame {
         picture,
         gutter,
-        cut: cut_of(lowest_indent(picture, labels)),
+        window: window_of(picture, gutter, lowest_indent(picture, labels), labels),
     }
 }
 
@@ -155,15 +154,16 @@ pub fn first_spot(labels: &[Label<'_>]) -> Spot
 /// `Err` if an allocation fails.
 fn marks_of<'a>(
     alloc: Global,
-    cut: usize,
+    frame: &Frame<'_>,
     labels: &[Label<'a>],
 ) -> Result<Vec<Mark<'a>>, AllocError>
-    ensures { IfOk result (λ v. map seen_mark v.items
-        ≡ sorted is_right_of [] (map (mark cut) (map seen_label labels.now))) }
+    requires { length frame.now.picture.now.source.now < 2 ^ 59 }
+    ensures { IfOk result (λ v. map seen_mark v.items ≡ sorted is_right_of []
+        (map (mark_in (seen_frame frame.now)) (map seen_label labels.now))) }
 {
     let mut list = Vec::new(alloc);
     for label in labels {
-        list.push(mark_of(label, cut))?;
+        list.push(mark_in(frame, label))?;
     }
     let marks = from_right(alloc, &list)?;
     Ok(marks)
@@ -194,7 +194,7 @@ fn put_gap_after(
     before: Option<usize>,
     number: usize,
 ) -> Result<(), AllocError>
-    requires cut { frame.now.cut < 2 ^ 62 }
+    requires source { length frame.now.picture.now.source.now < 2 ^ 59 }
     requires before { IfSome before (λ n. n < 2 ^ 59) }
     ensures { OnOk result (string_bytes out.new ≡ string_bytes out.old
         ++ gap_after (seen_frame frame.now) before number) }
@@ -212,7 +212,7 @@ fn put_line_rows(
     number: usize,
     marks: &[Mark<'_>],
 ) -> Result<(), AllocError>
-    requires cut { frame.now.cut < 2 ^ 62 }
+    requires source { length frame.now.picture.now.source.now < 2 ^ 59 }
     requires number { number < 2 ^ 59 }
     ensures { OnOk result (string_bytes out.new ≡ string_bytes out.old
         ++ line_rows (seen_frame frame.now) number (map seen_mark marks.now)) }
@@ -241,7 +241,7 @@ fn put_next_line(
     number: usize,
     marks: &[Mark<'_>],
 ) -> Result<(), AllocError>
-    requires cut { frame.now.cut < 2 ^ 62 }
+    requires source { length frame.now.picture.now.source.now < 2 ^ 59 }
     requires before { IfSome before (λ n. n < 2 ^ 59) }
     requires number { number < 2 ^ 59 }
     ensures { OnOk result (string_bytes out.new ≡ string_bytes out.old
@@ -261,7 +261,7 @@ fn put_marked_lines(
     frame: &Frame<'_>,
     marks: &[Mark<'_>],
 ) -> Result<(), AllocError>
-    requires { frame.now.cut < 2 ^ 62 }
+    requires { length frame.now.picture.now.source.now < 2 ^ 59 }
     ensures { OnOk result (string_bytes out.new ≡ string_bytes out.old
         ++ marked_lines (seen_frame frame.now) None (map seen_mark marks.now)) }
 {
@@ -279,18 +279,18 @@ fn put_each_in_line(
     frame: &Frame<'_>,
     labels: &[Label<'_>],
 ) -> Result<(), AllocError>
-    requires { frame.now.cut < 2 ^ 62 }
+    requires { length frame.now.picture.now.source.now < 2 ^ 59 }
     ensures { OnOk result (string_bytes out.new ≡ string_bytes out.old
         ++ each_in_line (seen_frame frame.now) (map seen_label labels.now)) }
 {
-    let marks = marks_of(*out.allocator(), frame.cut, labels)?;
+    let marks = marks_of(*out.allocator(), frame, labels)?;
     put_marked_lines(out, frame, &marks)?;
     Ok(())
 }
 
 /// Adds the lines of a label that is alone.
 fn put_single(out: &mut String, frame: &Frame<'_>, label: &Label<'_>) -> Result<(), AllocError>
-    requires { frame.now.cut < 2 ^ 62 }
+    requires { length frame.now.picture.now.source.now < 2 ^ 59 }
     ensures { OnOk result (string_bytes out.new ≡ string_bytes out.old
         ++ single_rows (seen_frame frame.now) (seen_label label.now)) }
 {
@@ -308,7 +308,7 @@ pub fn put_labels_rows(
     frame: &Frame<'_>,
     labels: &[Label<'_>],
 ) -> Result<(), AllocError>
-    requires { frame.now.cut < 2 ^ 62 }
+    requires { length frame.now.picture.now.source.now < 2 ^ 59 }
     ensures { OnOk result (string_bytes out.new ≡ string_bytes out.old
         ++ labels_rows (seen_frame frame.now) (map seen_label labels.now)) }
 {

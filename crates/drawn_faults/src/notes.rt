@@ -83,7 +83,7 @@ pub fn put_titled(
     title: &str,
     labels: &[Label<'_>],
 ) -> Result<(), AllocError>
-    requires { frame.now.cut < 2 ^ 62 }
+    requires { length frame.now.picture.now.source.now < 2 ^ 59 }
     ensures { OnOk result (string_bytes out.new ≡ string_bytes out.old
         ++ titled (seen_frame frame.now) palette word.now title.now (map seen_label labels.now)) }
 {

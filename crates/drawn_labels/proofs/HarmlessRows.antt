@@ -6,6 +6,7 @@ use Rattle.std.proofs.Common.{append-nil, map}
 use Rattle.std.specs.Prelude.{◌==◌, ◌&&◌, encode_utf8}
 use Rattle.drawn_lines.specs.Glyphs.{IsHarmless, is_obeyed}
 use Rattle.drawn_lines.specs.Frames.{Frame}
+use Rattle.drawn_lines.specs.Windows.{shift}
 use Rattle.drawn_labels.specs.Labels.{Label, apart, labelled, two_labels}
 use Rattle.drawn_labels.specs.Long.{bar_gap, bar_row, bar_rows, between, first_rows, is_bare_line}
 use Rattle.drawn_labels.specs.Long.{last_rows, lead, long_rows, signed_row, without_bare}
@@ -183,19 +184,20 @@ of_lead p n h =
     (join_harmless (run-harmless n 95 (written-harmless 95 refl)) (harmless_text (codes "^") refl)))
 
 of_first : (f : Frame) (l : Label) → IsColourOf (first_rows f l) (first_rows (plain_frame f) l)
-unfolding first_rows
+unfolding first_rows shift
 of_first f l =
     either l.extent.start.is_indent
     (of_signed_row f l.extent.start.line (harmless_text (codes "/") refl))
     (join (of_source f l.extent.start.line (harmless_text (codes "   ") refl))
-    (of_under f.gutter (of_lead f.gutter.palette (l.extent.start.column - f.cut + 1)
-    (harmless_text (codes " ") refl))))
+    (of_under f.gutter (of_lead f.gutter.palette
+    (l.extent.start.column - shift f l.extent.start.line + 1) (harmless_text (codes " ") refl))))
 
 of_last : (f : Frame) (l : Label) → IsColourOf (last_rows f l) (last_rows (plain_frame f) l)
-unfolding last_rows
+unfolding last_rows shift
 of_last f l =
     join (of_bar_row f l.extent.end.line)
-    (of_under f.gutter (join (of_lead f.gutter.palette (max (l.extent.end.column - f.cut) 1)
+    (of_under f.gutter (join (of_lead f.gutter.palette
+    (max (l.extent.end.column - shift f l.extent.end.line) 1)
     (harmless_text (codes "|") refl))
     (join (text (codes " ") refl)
     (of_painted f.gutter.palette PrimaryText (glyphs-harmless (chars l.text))))))

@@ -1,10 +1,11 @@
 -- Labels of ranges of the source, and lines with one or two of them, as bytes.
 use Rattle.std.specs.Prelude.{ℕ, ◌+◌, ◌-◌, ◌==◌, ◌++◌, if◌then◌else◌, nat_lt, max, List}
-use Rattle.drawn_lines.specs.Places.{Extent, seen_extent, extent, line}
+use Rattle.drawn_lines.specs.Places.{Extent, seen_extent}
 use Rattle.drawn_labels.specs.Rows.{Mark, alone, both}
 use Rattle.drawn_labels.specs.declared.labels.Label.{Label as DeclaredLabel}
 use Rattle.drawn_lines.specs.Lines.{code_row, gap, under}
 use Rattle.drawn_lines.specs.Frames.{Frame}
+use Rattle.drawn_lines.specs.Windows.{shift}
 
 -- A label: the sign under its columns, its text, and where it is.
 pub record Label : Type 0 where
@@ -26,6 +27,10 @@ mark cut l = record {
   sign = l.sign;
   text = l.text;
 }
+
+-- A label as it is drawn in the line in which it begins.
+abbrev pub mark_in : Frame → Label → Mark
+mark_in f l = mark (shift f l.extent.start.line) l
 
 -- A line of the source with a label.
 unfoldable pub labelled : Frame → Mark → List ℕ

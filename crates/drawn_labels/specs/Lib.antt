@@ -1,4 +1,5 @@
 pub mod Rows
 pub mod Labels
+pub mod Margins
 pub mod Long
 pub mod Marks

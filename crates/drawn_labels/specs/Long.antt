@@ -10,6 +10,7 @@ use Rattle.drawn_lines.specs.Painting.{painted}
 use Rattle.drawn_lines.specs.Places.{line}
 use Rattle.drawn_lines.specs.Lines.{under, number_bar, source_line, source_row}
 use Rattle.drawn_lines.specs.Frames.{Frame}
+use Rattle.drawn_lines.specs.Windows.{shift}
 use Rattle.drawn_labels.specs.Labels.{Label}
 use Rattle.drawn_lines.specs.declared.paint.Palette.{Palette}
 use Rattle.drawn_lines.specs.declared.paint.Style.TheVariants.{Primary, PrimaryText, Secondary}
@@ -87,14 +88,15 @@ first_rows f l =
     if l.extent.start.is_indent then signed_row f (codes "/") l.extent.start.line
     else source_row f (codes "   ") l.extent.start.line
     ++ under f.gutter
-    (lead f.gutter.palette (codes " ") (l.extent.start.column - f.cut + 1))
+    (lead f.gutter.palette (codes " ") (l.extent.start.column - shift f l.extent.start.line + 1))
 
 -- The last line, and the row under it that leads to where the label ends, with its text.
 unfoldable pub last_rows : Frame → Label → List ℕ
 last_rows f l =
     bar_row f l.extent.end.line
     ++ under f.gutter
-    (lead f.gutter.palette (codes "|") (max (l.extent.end.column - f.cut) 1)
+    (lead f.gutter.palette (codes "|")
+    (max (l.extent.end.column - shift f l.extent.end.line) 1)
     ++ (codes " " ++ painted f.gutter.palette PrimaryText (glyph_bytes l.text)))
 
 -- The rows between the first and the last line: at most three lines after the first one, without

@@ -1,14 +1,15 @@
 //! Labels of ranges of the source, and lines with one or two of them. A function whose name begins
 //! with `put_` appends to `out`, and returns `Err` if an allocation fails.
 
-ghost use Rattle.std.specs.Prelude.{◌≡◌, ◌++◌, ◌<◌, ◌^◌, OnOk, string_bytes};
+ghost use Rattle.std.specs.Prelude.{◌≡◌, ◌++◌, ◌<◌, ◌^◌, OnOk, length, string_bytes};
 ghost use Rattle.drawn_lines.specs.Frames.{seen_frame};
-ghost use Rattle.drawn_labels.specs.Labels.{apart, labelled, mark, seen_label, two_labels};
+ghost use Rattle.drawn_labels.specs.Labels.{apart, labelled, mark, mark_in, seen_label};
+ghost use Rattle.drawn_labels.specs.Labels.{two_labels};
 ghost use Rattle.drawn_labels.specs.Rows.{seen_mark};
 
 use crate::mark::Mark;
 use crate::rows::{put_both, put_one};
-use drawn_lines::{Extent, Frame, put_code, put_gap};
+use drawn_lines::{Extent, Frame, put_code, put_gap, shift};
 use std::alloc::AllocError;
 
 /// A label of a range of the source.
@@ -28,6 +29,7 @@ pub fn mark_of<'a>(label: &Label<'a>, cut: usize) -> Mark<'a>
     requires { label.now.extent.start.column < 2 ^ 61 }
     ensures value { seen_mark result ≡ mark cut (seen_label label.now) }
     ensures line { result.line ≡ label.now.extent.start.line }
+    ensures columns { result.to < 2 ^ 62 }
 {
     let start = label.extent.start;
     let end = label.extent.end;
@@ -46,11 +48,20 @@ pub fn mark_of<'a>(label: &Label<'a>, cut: usize) -> Mark<'a>
     }
 }
 
+/// Returns a label as it is drawn in the line in which it begins.
+pub fn mark_in<'a>(frame: &Frame<'_>, label: &Label<'a>) -> Mark<'a>
+    requires source { length frame.now.picture.now.source.now < 2 ^ 59 }
+    requires column { label.now.extent.start.column < 2 ^ 61 }
+    ensures value { seen_mark result ≡ mark_in (seen_frame frame.now) (seen_label label.now) }
+    ensures line { result.line ≡ label.now.extent.start.line }
+{
+    mark_of(label, shift(frame, label.extent.start.line))
+}
+
 /// Adds a line of the source with a label.
 #[tactic(auto, unfolding(crate::specs::Labels::labelled))]
 pub fn put_labelled(out: &mut String, frame: &Frame<'_>, mark: &Mark<'_>) -> Result<(), AllocError>
-    requires number { mark.now.line < 2 ^ 61 }
-    requires cut { frame.now.cut < 2 ^ 62 }
+    requires { mark.now.line < 2 ^ 61 }
     ensures { OnOk result (string_bytes out.new ≡ string_bytes out.old
         ++ labelled (seen_frame frame.now) (seen_mark mark.now)) }
 {
@@ -69,7 +80,6 @@ fn put_apart(
 ) -> Result<(), AllocError>
     requires number { m.now.line < 2 ^ 60 }
     requires second_number { n.now.line < 2 ^ 60 }
-    requires cut { frame.now.cut < 2 ^ 62 }
     ensures { OnOk result (string_bytes out.new ≡ string_bytes out.old
         ++ apart (seen_frame frame.now) (seen_mark m.now) (seen_mark n.now)) }
 {
@@ -89,7 +99,6 @@ pub fn put_two_labels(
 ) -> Result<(), AllocError>
     requires number { m.now.line < 2 ^ 60 }
     requires second_number { n.now.line < 2 ^ 60 }
-    requires cut { frame.now.cut < 2 ^ 62 }
     ensures { OnOk result (string_bytes out.new ≡ string_bytes out.old
         ++ two_labels (seen_frame frame.now) (seen_mark m.now) (seen_mark n.now)) }
 {

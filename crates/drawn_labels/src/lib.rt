@@ -6,13 +6,15 @@ mod cells;
 mod hanging;
 mod labels;
 mod long;
+mod margin;
 mod mark;
 mod marks;
 mod order;
 mod rows;
 
-pub use labels::{Label, mark_of, put_labelled, put_two_labels};
+pub use labels::{Label, mark_in, put_labelled, put_two_labels};
 pub use long::put_long;
+pub use margin::{Reach, window_of};
 pub use mark::Mark;
 pub use marks::put_mark_rows;
 pub use order::from_right;

@@ -18,7 +18,7 @@ ghost use Rattle.drawn_lines.specs.declared.paint.Style.TheVariants.{PrimaryText
 use crate::labels::Label;
 use drawn_lines::{
     Frame, Gutter, Palette, Style, line, put_closing, put_gutter, put_number_bar, put_opening,
-    put_painted, put_painted_glyphs, put_run, put_source, put_source_line, split_first,
+    put_painted, put_painted_glyphs, put_run, put_source, put_source_line, shift, split_first,
 };
 use std::alloc::AllocError;
 
@@ -108,7 +108,6 @@ fn put_signed_row(
     number: usize,
 ) -> Result<(), AllocError>
     requires number { number < 2 ^ 61 }
-    requires cut { frame.now.cut < 2 ^ 62 }
     ensures { OnOk result (string_bytes out.new ≡ string_bytes out.old
         ++ signed_row (seen_frame frame.now) sign.now number) }
 {
@@ -122,7 +121,6 @@ fn put_signed_row(
 /// Adds a line between the first and the last one.
 fn put_bar_row(out: &mut String, frame: &Frame<'_>, number: usize) -> Result<(), AllocError>
     requires number { number < 2 ^ 61 }
-    requires cut { frame.now.cut < 2 ^ 62 }
     ensures { OnOk result (string_bytes out.new ≡ string_bytes out.old
         ++ bar_row (seen_frame frame.now) number) }
 {
@@ -138,7 +136,6 @@ fn put_bar_rows(
     count: usize,
 ) -> Result<(), AllocError>
     requires number { first + count < 2 ^ 60 }
-    requires cut { frame.now.cut < 2 ^ 62 }
     ensures { OnOk result (string_bytes out.new ≡ string_bytes out.old
         ++ bar_rows (seen_frame frame.now) first count) }
 {
@@ -157,7 +154,6 @@ fn put_bar_gap(
     last: usize,
 ) -> Result<(), AllocError>
     requires number { first < 2 ^ 60 }
-    requires cut { frame.now.cut < 2 ^ 62 }
     ensures { OnOk result (string_bytes out.new ≡ string_bytes out.old
         ++ bar_gap (seen_frame frame.now) first last) }
 {
@@ -205,9 +201,9 @@ fn put_start(out: &mut String, gutter: Gutter, columns: usize) -> Result<(), All
 /// Adds the first line of a label.
 #[tactic(auto, unfolding(crate::specs::Long::first_rows))]
 fn put_first_rows(out: &mut String, frame: &Frame<'_>, label: &Label<'_>) -> Result<(), AllocError>
+    requires source { length frame.now.picture.now.source.now < 2 ^ 59 }
     requires number { label.now.extent.start.line < 2 ^ 60 }
     requires column { label.now.extent.start.column < 2 ^ 62 }
-    requires cut { frame.now.cut < 2 ^ 62 }
     ensures { OnOk result (string_bytes out.new ≡ string_bytes out.old
         ++ first_rows (seen_frame frame.now) (seen_label label.now)) }
 {
@@ -216,7 +212,7 @@ fn put_first_rows(out: &mut String, frame: &Frame<'_>, label: &Label<'_>) -> Res
         put_signed_row(out, frame, "/", start.line)?;
     } else {
         put_source(out, frame, "   ", start.line)?;
-        let columns = start.column.saturating_sub(frame.cut) + 1;
+        let columns = start.column.saturating_sub(shift(frame, start.line)) + 1;
         put_start(out, frame.gutter, columns)?;
     }
     Ok(())
@@ -239,19 +235,15 @@ fn put_end(out: &mut String, gutter: Gutter, columns: usize, text: &str) -> Resu
 /// Adds the last line of a label.
 #[tactic(auto, unfolding(crate::specs::Long::last_rows))]
 fn put_last_rows(out: &mut String, frame: &Frame<'_>, label: &Label<'_>) -> Result<(), AllocError>
+    requires source { length frame.now.picture.now.source.now < 2 ^ 59 }
     requires number { label.now.extent.end.line < 2 ^ 60 }
-    requires cut { frame.now.cut < 2 ^ 62 }
     ensures { OnOk result (string_bytes out.new ≡ string_bytes out.old
         ++ last_rows (seen_frame frame.now) (seen_label label.now)) }
 {
     let end = label.extent.end;
+    let columns = end.column.saturating_sub(shift(frame, end.line)).max(1);
     put_bar_row(out, frame, end.line)?;
-    put_end(
-        out,
-        frame.gutter,
-        end.column.saturating_sub(frame.cut).max(1),
-        label.text,
-    )?;
+    put_end(out, frame.gutter, columns, label.text)?;
     Ok(())
 }
 
@@ -265,7 +257,6 @@ fn put_between(
 ) -> Result<(), AllocError>
     requires first { first < 2 ^ 59 }
     requires last { last < 2 ^ 60 }
-    requires cut { frame.now.cut < 2 ^ 62 }
     ensures { OnOk result (string_bytes out.new ≡ string_bytes out.old
         ++ between (seen_frame frame.now) first last) }
 {
@@ -284,10 +275,10 @@ fn put_between(
 /// Adds the lines of a label over several lines.
 #[tactic(auto, unfolding(crate::specs::Long::long_rows))]
 pub fn put_long(out: &mut String, frame: &Frame<'_>, label: &Label<'_>) -> Result<(), AllocError>
+    requires source { length frame.now.picture.now.source.now < 2 ^ 59 }
     requires number { label.now.extent.start.line < 2 ^ 59 }
     requires last { label.now.extent.end.line < 2 ^ 59 }
     requires column { label.now.extent.start.column < 2 ^ 62 }
-    requires cut { frame.now.cut < 2 ^ 62 }
     ensures { OnOk result (string_bytes out.new ≡ string_bytes out.old
         ++ long_rows (seen_frame frame.now) (seen_label label.now)) }
 {

@@ -1,6 +1,6 @@
 -- Lemmas on texts of which a terminal obeys no character, but for line feeds.
 use Rattle.std.proofs.Common.{◌≡◌, ◌<◌, ℕ, suc, zero, Bool, true, false, List, [], ◌∷◌, ◌++◌, ◌%◌}
-use Rattle.std.proofs.Common.{◌+◌, ◌/◌, arith, cond, drop, encode_utf8_all, refl, replicate}
+use Rattle.std.proofs.Common.{◌+◌, ◌-◌, ◌/◌, arith, cond, drop, encode_utf8_all, refl, replicate}
 use Rattle.std.proofs.lemmas.Bool.{and_parts, cond_both, or_parts}
 use Rattle.std.proofs.lemmas.Bool.Decides.{nat_tests}
 use Rattle.std.proofs.lemmas.Str.{NoCharPasses-append, encodes-IsAscii}
@@ -12,7 +12,8 @@ use Rattle.std.specs.List.{list_all}
 use Rattle.std.specs.Str.{IsAscii, NonePass}
 use Rattle.rustc_parse_format.specs.Characters.{Text}
 use Rattle.drawn_lines.specs.Glyphs.{IsHarmless, glyph, glyph_count, glyphs, is_bidi_control}
-use Rattle.drawn_lines.specs.Glyphs.{is_obeyed, is_printable, run}
+use Rattle.drawn_lines.specs.Glyphs.{is_obeyed, is_printable, run, width}
+use Rattle.drawn_lines.specs.Windows.{past_columns, within_columns}
 
 -- two texts after each other
 pub join : {a b : List ℕ} → IsHarmless a → IsHarmless b → IsHarmless (a ++ b)
@@ -115,6 +116,22 @@ none-glyphs [] = tt
 none-glyphs (c ∷ t) =
     none-append (replicate (glyph_count c) (glyph c)) (glyphs t)
     (none-replicate (glyph_count c) (glyph c) (glyph-harmless c)) (none-glyphs t)
+
+-- one of two texts, a text without its first columns, and its first columns
+pub none-cond : (b : Bool) (s t : Text) → NonePass is_obeyed s → NonePass is_obeyed t
+    → NonePass is_obeyed (cond b s t)
+none-cond true s t p q = p
+none-cond false s t p q = q
+
+pub none-past : (n : ℕ) (t : Text) → NonePass is_obeyed t → NonePass is_obeyed (past_columns n t)
+none-past n [] p = tt
+none-past n (c ∷ t) p = none-cond (n == 0) _ _ p (none-past (n - width c) t p.1)
+
+pub none-within : (n : ℕ) (t : Text) → NonePass is_obeyed t
+    → NonePass is_obeyed (within_columns n t)
+none-within n [] p = tt
+none-within n (c ∷ t) p =
+    none-cond (nat_lt n (width c)) _ _ tt (p.0, none-within (n - width c) t p.1)
 
 -- a text as it is drawn,
 pub glyphs-harmless : (t : Text) → IsHarmless (encode_utf8_all (glyphs t))

@@ -1,13 +1,17 @@
 -- Lines of a drawing: without their colours they are those without colours, and a terminal obeys
 -- no character of these, but for line feeds.
-use Rattle.std.proofs.Common.{◌≡◌, ◌+◌, ◌-◌, ℕ, true, List, chars, codes, length, nat_lt, refl}
+use Rattle.std.proofs.Common.{◌≡◌, ◌+◌, ◌-◌, ℕ, Bool, true, List, chars, codes, length, nat_lt}
+use Rattle.std.proofs.Common.{refl}
 use Rattle.std.specs.Prelude.{◌==◌, ◌&&◌, decimal, encode_utf8_all}
 use Rattle.rustc_parse_format.specs.Characters.{Text}
-use Rattle.drawn_lines.specs.Glyphs.{IsHarmless, glyph_bytes, glyphs, run}
+use Rattle.drawn_lines.specs.Glyphs.{IsHarmless, glyph_bytes, glyphs, is_obeyed, run}
 use Rattle.drawn_lines.specs.Frames.{Frame}
-use Rattle.drawn_lines.specs.Lines.{code_row, gap, number_bar, numbered, shown, after_bar}
+use Rattle.drawn_lines.specs.Lines.{code_row, gap, number_bar, numbered, after_bar}
 use Rattle.drawn_lines.specs.Lines.{source_line, source_row, blank, under, parting}
 use Rattle.drawn_lines.specs.Painting.{IsColourOf, painted}
+use Rattle.drawn_lines.specs.Windows.{after_dots, columns, dots_before, dotted, in_window, is_wide}
+use Rattle.drawn_lines.specs.Windows.{left_out, past_columns, shown, up_to_dots, within_columns}
+use Rattle.drawn_lines.specs.declared.window.Window.{Window}
 use Rattle.drawn_lines.specs.Places.{line, uncoloured}
 use Rattle.drawn_lines.specs.declared.paint.Gutter.{Gutter}
 use Rattle.drawn_lines.specs.declared.paint.Palette.{Palette}
@@ -16,17 +20,19 @@ use Rattle.drawn_lines.specs.declared.paint.Style.{Style}
 use Rattle.drawn_lines.specs.declared.paint.Style.TheVariants.{Secondary}
 use Rattle.drawn_lines.proofs.Coloured.{either, join, nothing, of_closing, of_opening, of_painted}
 use Rattle.drawn_lines.proofs.Coloured.{plain}
-use Rattle.drawn_lines.proofs.Harmless.{rest_after-harmless, decimal-harmless, glyphs-harmless}
+use Rattle.drawn_lines.proofs.Harmless.{decimal-harmless, glyphs-harmless, none-cond, none-glyphs}
+use Rattle.drawn_lines.proofs.Harmless.{none-past, none-within}
 use Rattle.drawn_lines.proofs.Harmless.{run-harmless, text as harmless_text, is_written}
 use Rattle.drawn_lines.proofs.Harmless.{written-harmless}
 use Rattle.std.specs.List.{list_all}
+use Rattle.std.specs.Str.{NonePass}
 
 -- A gutter and a layout without colours.
 abbrev pub off : Gutter → Gutter
 off g = record { columns = g.columns; palette = Colourless }
 
 abbrev pub plain_frame : Frame → Frame
-plain_frame f = record { picture = uncoloured f.picture; gutter = off f.gutter; cut = f.cut }
+plain_frame f = record { picture = uncoloured f.picture; gutter = off f.gutter; window = f.window }
 
 -- a text of printable characters
 pub text : (bs : List ℕ) → list_all is_written bs ≡ true → IsColourOf bs bs
@@ -67,23 +73,42 @@ pub of_dots : (p : Palette)
     → IsColourOf (painted p Secondary (codes "...")) (painted Colourless Secondary (codes "..."))
 of_dots p = of_painted p Secondary (harmless_text (codes "...") refl)
 
-of_shown : (p : Palette) (cut : ℕ) (t : Text) → IsColourOf (shown p cut t) (shown Colourless cut t)
-unfolding shown
-of_shown p cut t =
-    either (cut == 0) (plain (glyphs-harmless t))
-    (join (of_dots p) (plain (rest_after-harmless (cut + 3) t)))
+of_before : (p : Palette) (w : Window) (t : Text)
+    → IsColourOf (dots_before p w t) (dots_before Colourless w t)
+of_before p w t =
+    either (w.left == 0) nothing (join (of_dots p) (spaces (left_out 3 t - 3)))
 
-of_after_bar : (p : Palette) {front : List ℕ} (cut : ℕ) (t : Text) → IsHarmless front
-    → IsColourOf (after_bar p front cut t) (after_bar Colourless front cut t)
-of_after_bar p cut t h =
-    either ((cut == 0) && (length (encode_utf8_all (glyphs t)) == 0)) nothing
-    (join (plain h) (of_shown p cut t))
+of_up_to : (p : Palette) (wide : Bool) (t : Text) → NonePass is_obeyed t
+    → IsColourOf (up_to_dots p wide t) (up_to_dots Colourless wide t)
+of_up_to p wide t h =
+    let n = columns t - 3 in
+    either wide (join (plain (within_columns n t, refl, none-within n t h)) (of_dots p))
+    (plain (t, refl, h))
+
+of_dotted : (p : Palette) (w : Window) (wide : Bool) (t : Text) → NonePass is_obeyed t
+    → IsColourOf (dotted p w wide t) (dotted Colourless w wide t)
+of_dotted p w wide t h =
+    join (of_before p w t)
+    (of_up_to p wide (after_dots w t) (none-cond (w.left == 0) _ _ h (none-past 3 t h)))
+
+of_shown : (p : Palette) (w : Window) (t : Text) → IsColourOf (shown p w t) (shown Colourless w t)
+unfolding shown
+of_shown p w t =
+    let past = none-past w.left (glyphs t) (none-glyphs t) in
+    of_dotted p w (is_wide w t) (in_window w (is_wide w t) (glyphs t))
+    (none-cond (is_wide w t) _ _ (none-within w.most (past_columns w.left (glyphs t)) past) past)
+
+of_after_bar : (p : Palette) {front : List ℕ} (w : Window) (t : Text) → IsHarmless front
+    → IsColourOf (after_bar p front w t) (after_bar Colourless front w t)
+of_after_bar p w t h =
+    either ((w.left == 0) && (length (encode_utf8_all (glyphs t)) == 0)) nothing
+    (join (plain h) (of_shown p w t))
 
 pub of_source_line : (f : Frame) {front : List ℕ} (n : ℕ) → IsHarmless front
     → IsColourOf (source_line f front n) (source_line (plain_frame f) front n)
 unfolding source_line
 of_source_line f n h =
-    join (of_after_bar f.gutter.palette f.cut (chars (line n f.picture.source)) h)
+    join (of_after_bar f.gutter.palette f.window (chars (line n f.picture.source)) h)
     (text (codes "\n") refl)
 
 pub of_source : (f : Frame) {front : List ℕ} (n : ℕ) → IsHarmless front

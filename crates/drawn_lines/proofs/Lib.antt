@@ -3,6 +3,8 @@ pub mod Joining
 pub mod Spaces
 pub mod PrintableLemmas
 pub mod LineLemmas
+pub mod WindowLemmas
+pub mod Cuts
 pub mod Harmless
 pub mod Coloured
 pub mod HarmlessLines

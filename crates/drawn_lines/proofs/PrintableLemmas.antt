@@ -115,7 +115,7 @@ drop-printable (c ∷ f) (suc n) t e =
     let b : suc n - suc (min n (length f)) ≡ n - min n (length f) = omega arith in
     rw (a, b, count-printable c parts.0) (drop-printable f n t parts.1)
 
-width-printable : (c : ℕ) → is_printable c ≡ true → width c ≡ 1
+pub width-printable : (c : ℕ) → is_printable c ≡ true → width c ≡ 1
 unfolding width char_width is_bidi_control
 width-printable c e = grind (arith, nat_tests)
 

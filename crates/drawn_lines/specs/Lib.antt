@@ -2,4 +2,5 @@ pub mod Glyphs
 pub mod Painting
 pub mod Places
 pub mod Frames
+pub mod Windows
 pub mod Lines

@@ -1,15 +1,17 @@
 -- Lines of the source and gutters of rows, as bytes.
 use Rattle.std.specs.Prelude.{ℕ, ◌+◌, ◌-◌, ◌==◌, ◌&&◌, ◌++◌, if◌then◌else◌, nat_lt, List, []}
-use Rattle.std.specs.Prelude.{length, drop, chars, codes, decimal}
+use Rattle.std.specs.Prelude.{length, chars, codes, decimal}
 use Rattle.std.specs.Str.{encode_utf8_all}
 use Rattle.rustc_parse_format.specs.Characters.{Text}
 use Rattle.drawn_lines.specs.Glyphs.{glyphs, run}
 use Rattle.drawn_lines.specs.Painting.{closing, opening, painted}
 use Rattle.drawn_lines.specs.Places.{line}
 use Rattle.drawn_lines.specs.Frames.{Frame}
+use Rattle.drawn_lines.specs.Windows.{dots, shown}
 use Rattle.drawn_lines.specs.declared.paint.Palette.{Palette}
 use Rattle.drawn_lines.specs.declared.paint.Style.TheVariants.{Secondary}
 use Rattle.drawn_lines.specs.declared.paint.Gutter.{Gutter}
+use Rattle.drawn_lines.specs.declared.window.Window.{Window}
 
 -- The gutter of a row that has no number.
 abbrev pub blank : Gutter → List ℕ
@@ -31,22 +33,16 @@ abbrev pub number_bar : Frame → ℕ → List ℕ
 number_bar f n =
     numbered f n ++ (codes " " ++ painted f.gutter.palette Secondary (codes "|"))
 
--- A line as it is drawn. Where it is cut, three dots stand at its start.
-unfoldable pub shown : Palette → ℕ → Text → List ℕ
-shown p cut t =
-    if cut == 0 then encode_utf8_all (glyphs t)
-    else painted p Secondary (codes "...") ++ encode_utf8_all (drop (cut + 3) (glyphs t))
-
 -- The text after a bar: a line after a text in front of it, or nothing for an empty line.
-abbrev pub after_bar : Palette → List ℕ → ℕ → Text → List ℕ
-after_bar p front cut t =
-    if (cut == 0) && (length (encode_utf8_all (glyphs t)) == 0) then []
-    else front ++ shown p cut t
+abbrev pub after_bar : Palette → List ℕ → Window → Text → List ℕ
+after_bar p front w t =
+    if (w.left == 0) && (length (encode_utf8_all (glyphs t)) == 0) then []
+    else front ++ shown p w t
 
 -- A line of the source, after a text in front of it.
 unfoldable pub source_line : Frame → List ℕ → ℕ → List ℕ
 source_line f front n =
-    after_bar f.gutter.palette front f.cut (chars (line n f.picture.source)) ++ codes "\n"
+    after_bar f.gutter.palette front f.window (chars (line n f.picture.source)) ++ codes "\n"
 
 -- A line of the source with its number, after a text in front of it.
 abbrev pub source_row : Frame → List ℕ → ℕ → List ℕ
@@ -60,7 +56,7 @@ code_row f n = source_row f (codes " ") n
 unfoldable pub gap : Frame → ℕ → ℕ → List ℕ
 gap f first last =
     if last == first + 2 then code_row f (first + 1)
-    else if nat_lt (first + 2) last then painted f.gutter.palette Secondary (codes "...") ++ codes "\n" else []
+    else if nat_lt (first + 2) last then dots f.gutter.palette ++ codes "\n" else []
 
 -- The row between two parts of the drawing.
 unfoldable pub parting : Frame → List ℕ

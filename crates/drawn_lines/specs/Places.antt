@@ -11,12 +11,14 @@ use Rattle.drawn_lines.specs.declared.extent.Spot.{Spot}
 use Rattle.drawn_lines.specs.declared.extent.Extent.{Extent as DeclaredExtent}
 
 -- The source of a drawing: the path of the source, its text, the number of its first line, the
--- byte offset at which the literal begins, and whether there are colours.
+-- byte offset at which the literal begins, how many columns a row has, and whether there are
+-- colours.
 pub record Picture : Type 0 where
   pub path : List ℕ
   pub source : List ℕ
   pub line_start : ℕ
   pub literal_start : ℕ
+  pub width : ℕ
   pub colours : Bool
 
 -- A picture as a contract sees it.
@@ -26,6 +28,7 @@ seen_picture p = record {
   source = p.source.now;
   line_start = p.line_start;
   literal_start = p.literal_start;
+  width = p.width;
   colours = p.colours;
 }
 
@@ -36,6 +39,7 @@ uncoloured p = record {
   source = p.source;
   line_start = p.line_start;
   literal_start = p.literal_start;
+  width = p.width;
   colours = false;
 }
 

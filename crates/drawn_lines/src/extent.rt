@@ -24,4 +24,5 @@ pub struct Extent {
     ghost small_end: { end.line < 2 ^ 59 },
     ghost small_chars: { start.chars < 2 ^ 59 },
     ghost small_column: { start.column < 2 ^ 61 },
+    ghost small_end_column: { end.column < 2 ^ 61 },
 }

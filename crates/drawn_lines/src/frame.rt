@@ -2,11 +2,12 @@
 
 ghost use Rattle.std.specs.Prelude.{◌≡◌, ◌<◌, ◌≤◌, ◌^◌, IfSome, decimal, length};
 ghost use Rattle.drawn_lines.specs.Places.{seen_picture};
-ghost use Rattle.drawn_lines.specs.Frames.{cut_of, line_indent};
+ghost use Rattle.drawn_lines.specs.Frames.{line_indent};
 
 use crate::glyphs::indent;
 use crate::paint::Gutter;
 use crate::places::{Picture, after_lines};
+use crate::window::Window;
 
 /// How a picture is laid out.
 #[derive(Clone, Copy)]
@@ -15,8 +16,8 @@ pub struct Frame<'a> {
     pub picture: &'a Picture<'a>,
     /// The columns of the numbers of the lines, and the colours.
     pub gutter: Gutter,
-    /// How many columns at the start of each line are cut.
-    pub cut: usize,
+    /// Which columns of the lines are drawn.
+    pub window: Window,
 }
 
 /// Returns the indent of a line of the source, unless it is blank.
@@ -27,14 +28,6 @@ pub fn line_indent(picture: &Picture<'_>, number: usize) -> Option<usize>
     ensures small { IfSome result (λ n. n < 2 ^ 62) }
 {
     indent(after_lines(picture.source, number))
-}
-
-/// Returns how many columns are cut of lines with an indent.
-pub fn cut_of(indent: usize) -> usize
-    ensures value { result ≡ cut_of indent }
-    ensures less { result ≤ indent }
-{
-    if indent > 26 { indent - 22 } else { 0 }
 }
 
 /// Returns the number of digits of a number.

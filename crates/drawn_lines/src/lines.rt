@@ -4,12 +4,13 @@
 ghost use Rattle.std.specs.Prelude.{◌≡◌, ◌++◌, ◌<◌, ◌^◌, OnOk, chars, codes, decimal, string_bytes};
 ghost use Rattle.drawn_lines.specs.Frames.{seen_frame};
 ghost use Rattle.drawn_lines.specs.Lines.{after_bar, blank, code_row, gap, number_bar, numbered};
-ghost use Rattle.drawn_lines.specs.Lines.{parting, shown, source_line, source_row};
+ghost use Rattle.drawn_lines.specs.Lines.{parting, source_line, source_row};
 
 use crate::frame::{Frame, digits};
-use crate::glyphs::{draws_nothing, put_glyphs, put_run};
+use crate::glyphs::{draws_nothing, put_run};
 use crate::paint::{Gutter, Palette, Style, put_closing, put_gutter_bar, put_opening, put_painted};
 use crate::places::line;
+use crate::window::{Window, put_shown};
 use itoa::Buffer;
 use std::alloc::AllocError;
 
@@ -82,37 +83,20 @@ pub fn put_number_bar(out: &mut String, frame: &Frame<'_>, line: usize) -> Resul
     Ok(())
 }
 
-/// Adds a line as it is drawn.
-#[tactic(auto, unfolding(crate::specs::Lines::shown))]
-fn put_shown(out: &mut String, palette: Palette, text: &str, cut: usize) -> Result<(), AllocError>
-    requires { cut < 2 ^ 62 }
-    ensures { OnOk result (string_bytes out.new
-        ≡ string_bytes out.old ++ shown palette cut (chars text.now)) }
-{
-    if cut == 0 {
-        put_glyphs(out, text, 0)?;
-    } else {
-        put_painted(out, palette, Style::Secondary, "...")?;
-        put_glyphs(out, text, cut + 3)?;
-    }
-    Ok(())
-}
-
 /// Adds the text after a bar: a line, after a text in front of it.
 fn put_after_bar(
     out: &mut String,
     palette: Palette,
     front: &str,
     text: &str,
-    cut: usize,
+    window: Window,
 ) -> Result<(), AllocError>
-    requires { cut < 2 ^ 62 }
     ensures { OnOk result (string_bytes out.new
-        ≡ string_bytes out.old ++ after_bar palette front.now cut (chars text.now)) }
+        ≡ string_bytes out.old ++ after_bar palette front.now window (chars text.now)) }
 {
-    if cut > 0 || !draws_nothing(text) {
+    if window.left > 0 || !draws_nothing(text) {
         out.push_str(front)?;
-        put_shown(out, palette, text, cut)?;
+        put_shown(out, palette, window, text)?;
     }
     Ok(())
 }
@@ -125,12 +109,11 @@ pub fn put_source_line(
     front: &str,
     number: usize,
 ) -> Result<(), AllocError>
-    requires { frame.now.cut < 2 ^ 62 }
     ensures { OnOk result (string_bytes out.new ≡ string_bytes out.old
         ++ source_line (seen_frame frame.now) front.now number) }
 {
     let line = line(frame.picture.source, number);
-    put_after_bar(out, frame.gutter.palette, front, line, frame.cut)?;
+    put_after_bar(out, frame.gutter.palette, front, line, frame.window)?;
     out.push_str("\n")?;
     Ok(())
 }
@@ -142,8 +125,7 @@ pub fn put_source(
     front: &str,
     number: usize,
 ) -> Result<(), AllocError>
-    requires number { number < 2 ^ 61 }
-    requires cut { frame.now.cut < 2 ^ 62 }
+    requires { number < 2 ^ 61 }
     ensures { OnOk result (string_bytes out.new ≡ string_bytes out.old
         ++ source_row (seen_frame frame.now) front.now number) }
 {
@@ -154,8 +136,7 @@ pub fn put_source(
 
 /// Adds a line of the source.
 pub fn put_code(out: &mut String, frame: &Frame<'_>, number: usize) -> Result<(), AllocError>
-    requires number { number < 2 ^ 61 }
-    requires cut { frame.now.cut < 2 ^ 62 }
+    requires { number < 2 ^ 61 }
     ensures { OnOk result (string_bytes out.new ≡ string_bytes out.old
         ++ code_row (seen_frame frame.now) number) }
 {
@@ -171,8 +152,7 @@ pub fn put_gap(
     first: usize,
     last: usize,
 ) -> Result<(), AllocError>
-    requires number { first < 2 ^ 60 }
-    requires cut { frame.now.cut < 2 ^ 62 }
+    requires { first < 2 ^ 60 }
     ensures { OnOk result (string_bytes out.new ≡ string_bytes out.old
         ++ gap (seen_frame frame.now) first last) }
 {

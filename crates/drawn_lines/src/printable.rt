@@ -4,7 +4,7 @@
 ghost use Rattle.std.specs.List.{list_all};
 ghost use Rattle.std.specs.Prelude.{◌≡◌, ◌+◌, ◌++◌, ◌≤◌, IsTrue, chars, encode_utf8_all, length};
 ghost use Rattle.std.specs.Prelude.{true};
-ghost use Rattle.drawn_lines.specs.Glyphs.{glyphs, is_ascii_or_as_is, is_drawn_as_is, is_printable};
+ghost use Rattle.drawn_lines.specs.Glyphs.{glyphs, is_drawn_as_it_is, is_drawn_as_is, is_printable};
 
 use rustc_parse_format::{Stops, front_width};
 
@@ -83,8 +83,8 @@ pub fn is_drawn_as_is(text: &str) -> bool
 
 /// Returns `true` only if each part of a text without ASCII is drawn as it is. For some texts of
 /// which that holds it returns `false`.
-pub fn is_ascii_or_as_is(text: &str) -> bool
-    ensures { IsTrue result → list_all is_ascii_or_as_is text.now ≡ true }
+pub fn is_drawn_as_it_is(text: &str) -> bool
+    ensures { IsTrue result → list_all is_drawn_as_it_is text.now ≡ true }
 {
     front_width(text.as_bytes(), BEYOND_ASCII) == text.len()
 }

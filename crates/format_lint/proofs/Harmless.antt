@@ -28,7 +28,7 @@ use Rattle.format_tokens.specs.declared.kinds.Kind.{Kind}
 use Rattle.format_tokens.specs.declared.kinds.Kind.TheVariants.{Text as TextKind}
 use Rattle.format_tokens.specs.declared.kinds.Kind.TheVariants.{Escape as EscapeKind}
 use Rattle.format_tokens.specs.declared.kinds.Kind.TheVariants.{Close, Integer, Identifier, Open}
-use Rattle.format_tokens.specs.declared.kinds.Kind.TheVariants.{RawPrefix, White, Colon, Fill}
+use Rattle.format_tokens.specs.declared.kinds.Kind.TheVariants.{RawPrefix, Whitespace, Colon, Fill}
 use Rattle.format_tokens.specs.declared.kinds.Kind.TheVariants.{Align, Sign, NumberSign, Zero}
 use Rattle.format_tokens.specs.declared.kinds.Kind.TheVariants.{DollarSign, Dot, Asterisk}
 use Rattle.format_tokens.specs.declared.kinds.Kind.TheVariants.{«Type» as TypeKind, Modifier}
@@ -107,7 +107,7 @@ name-written Close = refl
 name-written Integer = refl
 name-written Identifier = refl
 name-written RawPrefix = refl
-name-written White = refl
+name-written Whitespace = refl
 name-written Colon = refl
 name-written Fill = refl
 name-written Align = refl
@@ -147,7 +147,7 @@ colour-digits Close = refl
 colour-digits Integer = refl
 colour-digits Identifier = refl
 colour-digits RawPrefix = refl
-colour-digits White = refl
+colour-digits Whitespace = refl
 colour-digits Colon = refl
 colour-digits Fill = refl
 colour-digits Align = refl

@@ -4,13 +4,13 @@ use Rattle.std.specs.Prelude.{Some, codes, drop, length}
 use Rattle.std.specs.Str.{encode_utf8_all}
 use Rattle.rustc_parse_format.specs.Characters.{Text}
 use Rattle.piece_listing.specs.Listing.{quoted, span_text}
-use Rattle.drawn_lines.specs.Glyphs.{glyph_bytes, glyphs, is_ascii_or_as_is, is_drawn_as_is}
+use Rattle.drawn_lines.specs.Glyphs.{glyph_bytes, glyphs, is_drawn_as_it_is, is_drawn_as_is}
 use Rattle.drawn_lines.specs.Places.{within}
 use Rattle.format_tokens.specs.Escapes.{Placed}
 use Rattle.format_tokens.specs.declared.kinds.Kind.{Kind}
 use Rattle.format_tokens.specs.declared.kinds.Kind.TheVariants.{Text as TextKind, Escape, Open}
 use Rattle.format_tokens.specs.declared.kinds.Kind.TheVariants.{Close, Integer, Identifier}
-use Rattle.format_tokens.specs.declared.kinds.Kind.TheVariants.{RawPrefix, White, Colon, Fill}
+use Rattle.format_tokens.specs.declared.kinds.Kind.TheVariants.{RawPrefix, Whitespace, Colon, Fill}
 use Rattle.format_tokens.specs.declared.kinds.Kind.TheVariants.{Align, Sign, NumberSign, Zero}
 use Rattle.format_tokens.specs.declared.kinds.Kind.TheVariants.{DollarSign, Dot, Asterisk}
 use Rattle.format_tokens.specs.declared.kinds.Kind.TheVariants.{«Type» as TypeKind, Modifier}
@@ -26,7 +26,7 @@ kind_name Close = codes "close"
 kind_name Integer = codes "integer"
 kind_name Identifier = codes "identifier"
 kind_name RawPrefix = codes "raw-prefix"
-kind_name White = codes "white"
+kind_name Whitespace = codes "white"
 kind_name Colon = codes "colon"
 kind_name Fill = codes "fill"
 kind_name Align = codes "align"
@@ -55,7 +55,7 @@ colour Close = Some (codes "35")
 colour Integer = Some (codes "36")
 colour Identifier = Some (codes "36")
 colour RawPrefix = Some (codes "36")
-colour White = None
+colour Whitespace = None
 colour Colon = Some (codes "35")
 colour Fill = Some (codes "33")
 colour Align = Some (codes "33")
@@ -87,7 +87,7 @@ shown_token false x u = kind_name x.0
 -- The byte is one of a character that is shown as it is in a colour, or that is quoted as it is.
 abbrev pub stays : Bool → ℕ → Bool
 stays true b = is_drawn_as_is b
-stays false b = is_ascii_or_as_is b
+stays false b = is_drawn_as_it_is b
 
 -- The rest of a text after its first characters, as many as end within n bytes.
 abbrev pub rest_after : ℕ → Text → Text

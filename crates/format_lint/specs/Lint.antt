@@ -35,6 +35,8 @@ pub record Task : Type 0 where
   -- The path that is shown for the input.
   pub path : List ℕ
   pub show : Show
+  -- How many columns a row of a drawing has.
+  pub width : ℕ
   -- The output has colours.
   pub colours : Bool
 
@@ -106,6 +108,7 @@ picture a s = record {
   source = s.lines;
   line_start = s.line_start;
   literal_start = s.start;
+  width = a.width;
   colours = a.colours;
 }
 

@@ -17,6 +17,7 @@ seen_task t = record {
   is_literal = t.is_literal;
   path = t.path.now;
   show = t.show;
+  width = t.width;
   colours = t.colours;
 }
 

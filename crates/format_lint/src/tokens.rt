@@ -4,14 +4,14 @@
 ghost use Rattle.std.specs.List.{list_all};
 ghost use Rattle.std.specs.Prelude.{◌≡◌, ◌++◌, ℕ, IsTrue, List, MatchOption, OnOk, chars, codes};
 ghost use Rattle.std.specs.Prelude.{false, map, string_bytes, true};
-ghost use Rattle.drawn_lines.specs.Glyphs.{glyph_bytes, is_ascii_or_as_is, is_drawn_as_is};
+ghost use Rattle.drawn_lines.specs.Glyphs.{glyph_bytes, is_drawn_as_it_is, is_drawn_as_is};
 ghost use Rattle.drawn_lines.specs.Places.{within};
 ghost use Rattle.format_tokens.specs.Seen.{seen_token};
 ghost use Rattle.piece_listing.specs.Listing.{quoted};
 ghost use Rattle.format_lint.specs.Colours.{rest_after, colour, in_colour, kind_name};
 ghost use Rattle.format_lint.specs.Colours.{shown_token, shown_tokens, stays};
 
-use drawn_lines::{is_ascii_or_as_is, is_drawn_as_is, put_glyphs};
+use drawn_lines::{is_drawn_as_is, is_drawn_as_it_is, put_glyphs};
 use format_tokens::{Kind, Token};
 use piece_listing::{put_quoted, put_span};
 use std::alloc::AllocError;
@@ -29,7 +29,7 @@ fn kind_name(kind: Kind) -> &'static str
         Kind::Integer => "integer",
         Kind::Identifier => "identifier",
         Kind::RawPrefix => "raw-prefix",
-        Kind::White => "white",
+        Kind::Whitespace => "white",
         Kind::Colon => "colon",
         Kind::Fill => "fill",
         Kind::Align => "align",
@@ -57,7 +57,7 @@ fn colour_escape(kind: Kind) -> Option<&'static str>
         (λ s. (u : List ℕ) → in_colour (colour kind) u ≡ s.now ++ (u ++ codes "\u{1b}[0m")) }
 {
     match kind {
-        Kind::Text | Kind::White | Kind::DiagnosticText | Kind::Quote => None,
+        Kind::Text | Kind::Whitespace | Kind::DiagnosticText | Kind::Quote => None,
         Kind::Escape => Some("\u{1b}[34m"),
         Kind::Open | Kind::Close | Kind::Colon | Kind::DollarSign | Kind::Dot => Some("\u{1b}[35m"),
         Kind::Integer | Kind::Identifier | Kind::RawPrefix | Kind::Asterisk => Some("\u{1b}[36m"),
@@ -103,7 +103,7 @@ fn put_in_colour(out: &mut String, as_is: bool, kind: Kind, text: &str) -> Resul
 /// Adds a text in quotes as that is drawn. If `as_is`, each of its characters beyond ASCII is drawn
 /// as it is.
 fn put_drawn_quoted(out: &mut String, as_is: bool, text: &str) -> Result<(), AllocError>
-    requires { IsTrue as_is → list_all is_ascii_or_as_is text.now ≡ true }
+    requires { IsTrue as_is → list_all is_drawn_as_it_is text.now ≡ true }
     ensures { OnOk result (string_bytes out.new
         ≡ string_bytes out.old ++ glyph_bytes (quoted (chars text.now))) }
 {
@@ -119,7 +119,7 @@ fn put_drawn_quoted(out: &mut String, as_is: bool, text: &str) -> Result<(), All
 /// Adds a line with the kind, the byte range and the text of a token. If `as_is`, each character of
 /// that beyond ASCII is drawn as it is.
 fn put_line(out: &mut String, as_is: bool, token: &Token, text: &str) -> Result<(), AllocError>
-    requires { IsTrue as_is → list_all is_ascii_or_as_is text.now ≡ true }
+    requires { IsTrue as_is → list_all is_drawn_as_it_is text.now ≡ true }
     ensures { OnOk result (string_bytes out.new ≡ string_bytes out.old
         ++ shown_token false (seen_token token.now) (chars text.now)) }
 {
@@ -168,7 +168,7 @@ fn stays(colours: bool, text: &str) -> bool
     if colours {
         is_drawn_as_is(text)
     } else {
-        is_ascii_or_as_is(text)
+        is_drawn_as_it_is(text)
     }
 }
 

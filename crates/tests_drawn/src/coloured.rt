@@ -1,7 +1,7 @@
 //! Drawings of several labels in colours, against those of rustc 1.95.
 
 use drawn_faults::{Diagnostic, Level, SourceHelp, SourceLabel, SourceNote, draw_labels};
-use drawn_lines::Picture;
+use drawn_lines::{Picture, WIDTH};
 use fault_fixes::Edit;
 use std::alloc::Global;
 use std::process::Abort;
@@ -20,6 +20,7 @@ fn check(
         source,
         line_start: 1,
         literal_start: 0,
+        width: WIDTH,
         colours: true,
     };
     let text = draw_labels(alloc, &picture, diagnostic)?;

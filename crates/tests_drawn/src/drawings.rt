@@ -2,11 +2,12 @@
 
 use crate::asm_rows::asm_rows;
 use crate::coloured_rows::coloured_rows;
+use crate::cut_rows::cut_rows;
 use crate::line_rows::line_rows;
 use crate::row::Row;
 use crate::short_rows::short_rows;
 use drawn_faults::{draw, put_drawing};
-use drawn_lines::Picture;
+use drawn_lines::{Picture, WIDTH};
 use fault_fixes::errors_of;
 use rustc_parse_format::{ParseError, ParseMode};
 use std::alloc::{AllocError, Global};
@@ -47,6 +48,7 @@ fn errors_in(
 fn drawn(
     alloc: Global,
     mode: ParseMode,
+    width: usize,
     colours: bool,
     row: &Row,
     error: &ParseError,
@@ -57,6 +59,7 @@ fn drawn(
         source: source.as_str(),
         line_start: row.line,
         literal_start: row.before.len(),
+        width,
         colours,
     };
     let mut drawing = draw(alloc, mode, &picture, error)?;
@@ -82,19 +85,20 @@ fn check(
     rt: &impl Abort,
     alloc: Global,
     mode: ParseMode,
+    width: usize,
     colours: bool,
     row: &Row,
 ) -> Result<(), AllocError> {
     let errors = errors_in(rt, alloc, mode, row)?;
     assert!(rt; !errors.is_empty(), "{}", row.literal);
-    let drawing = drawn(alloc, mode, colours, row, &errors[0])?;
+    let drawing = drawn(alloc, mode, width, colours, row, &errors[0])?;
     check_drawing(rt, alloc, row, drawing.as_str())
 }
 
 #[test]
 fn one_line(rt: HostRuntime) -> Result<(), Fail> {
     for row in short_rows() {
-        check(&rt, rt.alloc(), ParseMode::Format, false, row)?;
+        check(&rt, rt.alloc(), ParseMode::Format, WIDTH, false, row)?;
     }
     Ok(())
 }
@@ -102,7 +106,15 @@ fn one_line(rt: HostRuntime) -> Result<(), Fail> {
 #[test]
 fn several_lines(rt: HostRuntime) -> Result<(), Fail> {
     for row in line_rows() {
-        check(&rt, rt.alloc(), ParseMode::Format, false, row)?;
+        check(&rt, rt.alloc(), ParseMode::Format, WIDTH, false, row)?;
+    }
+    Ok(())
+}
+
+#[test]
+fn cut_lines(rt: HostRuntime) -> Result<(), Fail> {
+    for row in cut_rows() {
+        check(&rt, rt.alloc(), ParseMode::Format, 40, false, row)?;
     }
     Ok(())
 }
@@ -110,7 +122,7 @@ fn several_lines(rt: HostRuntime) -> Result<(), Fail> {
 #[test]
 fn assembly(rt: HostRuntime) -> Result<(), Fail> {
     for row in asm_rows() {
-        check(&rt, rt.alloc(), ParseMode::InlineAsm, false, row)?;
+        check(&rt, rt.alloc(), ParseMode::InlineAsm, WIDTH, false, row)?;
     }
     Ok(())
 }
@@ -118,7 +130,7 @@ fn assembly(rt: HostRuntime) -> Result<(), Fail> {
 #[test]
 fn in_colours(rt: HostRuntime) -> Result<(), Fail> {
     for row in coloured_rows() {
-        check(&rt, rt.alloc(), ParseMode::Format, true, row)?;
+        check(&rt, rt.alloc(), ParseMode::Format, WIDTH, true, row)?;
     }
     Ok(())
 }

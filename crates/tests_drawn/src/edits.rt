@@ -1,7 +1,7 @@
 //! Drawings of helps with edits in one line, against those of rustc 1.95.
 
 use drawn_faults::{Diagnostic, Level, SourceHelp, SourceLabel, draw_labels};
-use drawn_lines::Picture;
+use drawn_lines::{Picture, WIDTH};
 use fault_fixes::Edit;
 use std::alloc::Global;
 use std::process::Abort;
@@ -20,6 +20,7 @@ pub fn check(
         source,
         line_start: 1,
         literal_start: 0,
+        width: WIDTH,
         colours: false,
     };
     let text = draw_labels(alloc, &picture, diagnostic)?;

@@ -1,7 +1,7 @@
 //! Characters that a terminal obeys are drawn as others, wherever they stand.
 
 use drawn_faults::draw;
-use drawn_lines::{Picture, put_glyphs};
+use drawn_lines::{Picture, WIDTH, put_glyphs};
 use rustc_parse_format::{ParseError, ParseMode, Suggestion};
 use std::alloc::{AllocError, Global};
 use std::test::Fail;
@@ -27,6 +27,7 @@ fn in_a_drawing(rt: HostRuntime) -> Result<(), Fail> {
         source: "\u{9b}\u{61c}\u{200e}\u{200d}ab",
         line_start: 7,
         literal_start: 2,
+        width: WIDTH,
         colours: false,
     };
     let drawing = draw(rt.alloc(), ParseMode::Format, &picture, &error)?;

@@ -1,10 +1,10 @@
 //! Tests of `drawn_faults`: the drawings of faults, against those of rustc 1.95.
 //!
-//! `short_rows`, `line_rows` and `asm_rows` are the tables, and `coloured_rows` that of drawings in
-//! colours; `drawings` draws each row. `misfits` has spans that no parser gives, and `harmless`
-//! characters that a terminal obeys. In `memory` an allocation fails. `several` draws diagnostics
-//! with several labels, `edits` and `line_edits` helps with edits in one and in several lines, and
-//! `coloured` some of both in colours.
+//! `short_rows`, `line_rows` and `asm_rows` are the tables, `cut_rows` that of lines which are cut,
+//! and `coloured_rows` that of drawings in colours; `drawings` draws each row. `misfits` has spans
+//! that no parser gives, and `harmless` characters that a terminal obeys. In `memory` an allocation
+//! fails. `several` draws diagnostics with several labels, `edits` and `line_edits` helps with
+//! edits in one and in several lines, and `coloured` some of both in colours.
 #![tactic(auto)]
 
 #[cfg(test)]
@@ -13,6 +13,8 @@ mod asm_rows;
 mod coloured;
 #[cfg(test)]
 mod coloured_rows;
+#[cfg(test)]
+mod cut_rows;
 #[cfg(test)]
 mod drawings;
 #[cfg(test)]

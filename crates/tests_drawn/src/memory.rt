@@ -6,7 +6,7 @@
 
 use crate::misfits::error_at;
 use drawn_faults::{Diagnostic, Level, SourceHelp, draw, draw_labels};
-use drawn_lines::Picture;
+use drawn_lines::{Picture, WIDTH};
 use fault_fixes::Edit;
 use rustc_parse_format::{ParseError, ParseMode};
 use std::alloc::Global;
@@ -19,6 +19,7 @@ const PICTURE: Picture<'static> = Picture {
     source: "日a",
     line_start: 7,
     literal_start: 0,
+    width: WIDTH,
     colours: false,
 };
 
@@ -75,6 +76,7 @@ fn help_out_of_memory_is_made_again(rt: HostRuntime) -> Result<(), Fail> {
         source: "fn f() { let _ = format!(\"{a.b}\n\"); }\n",
         line_start: 1,
         literal_start: 0,
+        width: WIDTH,
         colours: false,
     };
     let edits = [

@@ -1,7 +1,7 @@
 //! Spans that do not fit the source are drawn where they are cut.
 
 use drawn_faults::draw;
-use drawn_lines::Picture;
+use drawn_lines::{Picture, WIDTH};
 use rustc_parse_format::{ParseError, ParseMode, Suggestion};
 use std::alloc::{AllocError, Global};
 use std::ops::Range;
@@ -37,6 +37,7 @@ fn check(
         source: "日a",
         line_start: 7,
         literal_start: 0,
+        width: WIDTH,
         colours: false,
     };
     let error = error_at(alloc, span, second)?;

@@ -1,7 +1,7 @@
 //! Drawings of several labels, against those of rustc 1.95.
 
 use drawn_faults::{Diagnostic, Level, SourceHelp, SourceLabel, SourceNote, draw_labels};
-use drawn_lines::Picture;
+use drawn_lines::{Picture, WIDTH};
 use fault_fixes::Edit;
 use std::alloc::{AllocError, Global};
 use std::test::Fail;
@@ -13,6 +13,7 @@ fn drawn(alloc: Global, source: &str, diagnostic: &Diagnostic<'_>) -> Result<Str
         source,
         line_start: 1,
         literal_start: 0,
+        width: WIDTH,
         colours: false,
     };
     draw_labels(alloc, &picture, diagnostic)

@@ -1,0 +1,10 @@
+use Rattle.std.proofs.Common.{arith, chars}
+use Rattle.drawn_lines.specs.Glyphs.{glyphs}
+use Rattle.drawn_lines.proofs.WindowLemmas.{left_out-none}
+use Rattle.drawn_lines.proofs.window.left_out.Goals as goal
+
+pub returns-then-left-eq0 : goal.returns-then-left-eq0
+returns-then-left-eq0 c =
+    let none =
+    left_out-none c.loop-c.left (glyphs (chars c.loop-c.rest.now)) c.if-left-eq0.true in
+    omega (arith, none, c.loop-c.invariant.whole)
