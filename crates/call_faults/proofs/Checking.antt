@@ -11,7 +11,7 @@ use Rattle.rustc_parse_format.specs.Grammar.{IsInGrammar, Reads}
 use Rattle.rustc_parse_format.specs.State.{State, after_all, calls}
 use Rattle.rustc_parse_format.specs.Types.{Format, Mode, Piece, bare}
 use Rattle.rustc_parse_format.specs.World.{Place}
-use Rattle.call_faults.specs.Arguments.{Given, kept_after, list_faults}
+use Rattle.call_faults.specs.Arguments.{FormatArgument, kept_after, list_faults}
 use Rattle.call_faults.specs.CallFaults.{CallFault, is_warning}
 use Rattle.call_faults.specs.Calls.{call_faults, is_last}
 use Rattle.call_faults.specs.Clean.{IsClean}
@@ -26,7 +26,7 @@ none-is None e = refl
 none-is (Some x) e = absurd cc
 
 -- a call whose string is read
-pub read-total : (captures : Bool) (gs : List Given) (fault : Option (Fault Place))
+pub read-total : (captures : Bool) (gs : List FormatArgument) (fault : Option (Fault Place))
     (ps : List (Piece Place)) (all : List CallFault) → is_none fault ≡ true
     → list_any is_last (list_faults [] 0 gs) ≡ false
     → all ≡ list_faults [] 0 gs ++ compared captures (kept_after [] 0 gs) (lookups_from 0 ps)
@@ -40,7 +40,8 @@ map-nil f (x ∷ xs) e = absurd (cc e)
 
 -- Nothing but warnings is found exactly if the call is clean, where s is the parser at the start of
 -- its string, and es are the errors of the parser after it.
-pub clean-is : (captures : Bool) (gs : List Given) (t : Text) (s : State) (ps : List (Piece Place))
+pub clean-is : (captures : Bool) (gs : List FormatArgument) (t : Text) (s : State) (ps : List
+    (Piece Place))
     (fs : List CallFault) (new : State) → s.errors ≡ [] → new ≡ after_all s (calls s)
     → ((new.errors ≡ []) ↔ IsInGrammar Format t)
     → (new.errors ≡ [] → Reads Format 0 t (map bare ps))

@@ -14,7 +14,8 @@ use Rattle.rustc_parse_format.specs.World.{Place}
 use Rattle.placeholder_check.specs.Uses.{Use, ByIndex, ByName, uses}
 use Rattle.call_faults.specs.declared.faults.Missing.{Missing}
 use Rattle.call_faults.specs.declared.faults.Reference.{Reference}
-use Rattle.call_faults.specs.Arguments.{Given, Kept, first_of, is_late, kept_after, list_faults}
+use Rattle.call_faults.specs.Arguments.{FormatArgument, Kept, first_of, is_late, kept_after}
+use Rattle.call_faults.specs.Arguments.{list_faults}
 use Rattle.call_faults.specs.Arguments.{repeated, with_given}
 use Rattle.call_faults.specs.CallFaults.{CallFault, is_warning, PositionalAfterNamed, RepeatedName}
 use Rattle.call_faults.specs.CallFaults.{TextFault, MissingName, UnknownTrait, MissingArguments}
@@ -53,7 +54,7 @@ repeated-serious : (i : ℕ) (o : Option ℕ) → Serious (repeated i o)
 repeated-serious i None = tt
 repeated-serious i (Some f) = (refl, tt)
 
-list-serious : (ks : List Kept) (i : ℕ) (gs : List Given) → Serious (list_faults ks i gs)
+list-serious : (ks : List Kept) (i : ℕ) (gs : List FormatArgument) → Serious (list_faults ks i gs)
 list-serious ks i [] = tt
 list-serious ks i (g ∷ gs) = serious-choice (is_late ks g) _ _ (refl, tt)
     (all-join _ (repeated i (first_of ks g)) _ (repeated-serious i (first_of ks g))
@@ -142,7 +143,7 @@ pub quiet-compared : (captures : Bool) (ks : List Kept) (ls : List Lookup) → Q
 quiet-compared captures ks ls q = rw (q.looked, q.lacked, q.left) refl
 
 -- the parts of a clean call
-clean-compared : (captures : Bool) (gs : List Given) (ps : List (Piece Place)) (t : Text)
+clean-compared : (captures : Bool) (gs : List FormatArgument) (ps : List (Piece Place)) (t : Text)
     → InOrder gs → Reads Format 0 t (map bare ps)
     → Quiet captures (numbered 0 gs) (lookups_from 0 ps) → IsClean captures gs t
 clean-compared captures gs ps t o r q =
@@ -162,7 +163,7 @@ clean-compared captures gs ps t o r q =
       are_used = rw (uses-bare ps) (all-used gs ls us o (λ p. any-uses p 0 ps) q.left);
     }
 
-compared-clean : (captures : Bool) (gs : List Given) (ps : List (Piece Place)) (t : Text)
+compared-clean : (captures : Bool) (gs : List FormatArgument) (ps : List (Piece Place)) (t : Text)
     (c : IsClean captures gs t) → c.pieces ≡ map bare ps
     → Quiet captures (numbered 0 gs) (lookups_from 0 ps)
 compared-clean captures gs ps t c e =
@@ -183,7 +184,7 @@ compared-clean captures gs ps t c e =
     }
 
 -- a call with nothing but warnings
-pub clean-of : (captures : Bool) (gs : List Given) (fault : Option (Fault Place))
+pub clean-of : (captures : Bool) (gs : List FormatArgument) (fault : Option (Fault Place))
     (ps : List (Piece Place)) (t : Text) → (fault ≡ None → Reads Format 0 t (map bare ps))
     → Warnings (call_faults captures gs fault ps) → IsClean captures gs t
 clean-of captures gs fault ps t r w =
@@ -199,12 +200,12 @@ clean-of captures gs fault ps t r w =
     text None r w o k = clean-compared captures gs ps t o (r refl)
         (quiet-of captures (numbered 0 gs) (lookups_from 0 ps) (rw k at w))
 
-nothing-rest_after : (gs : List Given) → After [] gs
+nothing-rest_after : (gs : List FormatArgument) → After [] gs
 nothing-rest_after [] = tt
 nothing-rest_after (g ∷ gs) = (tt, nothing-rest_after gs)
 
 -- what is found in a clean call
-pub found-clean : (captures : Bool) (gs : List Given) (fault : Option (Fault Place))
+pub found-clean : (captures : Bool) (gs : List FormatArgument) (fault : Option (Fault Place))
     (ps : List (Piece Place)) (t : Text) (c : IsClean captures gs t) → fault ≡ None
     → c.pieces ≡ map bare ps → call_faults captures gs fault ps
     ≡ filter_map (by_index (numbered 0 gs)) (lookups_from 0 ps)
@@ -215,7 +216,7 @@ found-clean captures gs fault ps t c e f =
     rw (e, none, kept) (quiet-compared captures (numbered 0 gs) (lookups_from 0 ps)
     (compared-clean captures gs ps t c f))
 
-pub warnings-clean : (captures : Bool) (gs : List Given) (fault : Option (Fault Place))
+pub warnings-clean : (captures : Bool) (gs : List FormatArgument) (fault : Option (Fault Place))
     (ps : List (Piece Place)) (t : Text) (c : IsClean captures gs t) → fault ≡ None
     → c.pieces ≡ map bare ps → Warnings (call_faults captures gs fault ps)
 warnings-clean captures gs fault ps t c e f = rw (found-clean captures gs fault ps t c e f)

@@ -19,7 +19,8 @@ use Rattle.call_faults.specs.declared.faults.Missing.{Missing}
 use Rattle.call_faults.specs.declared.faults.Reference.{Reference}
 use Rattle.call_faults.specs.declared.arguments.Arguments.{Arguments}
 use Rattle.call_faults.specs.Seen.{Holds, KnowsNames}
-use Rattle.call_faults.specs.Arguments.{Given, Kept, first_of, has_name, index_of, kept_after}
+use Rattle.call_faults.specs.Arguments.{FormatArgument, Kept, first_of, has_name, index_of}
+use Rattle.call_faults.specs.Arguments.{kept_after}
 use Rattle.call_faults.specs.Arguments.{with_given}
 use Rattle.call_faults.specs.CallFaults.{CallFault, MissingName}
 use Rattle.call_faults.specs.Comparison.{by_index, compared, indices, is_missing_name, is_redundant}
@@ -198,7 +199,7 @@ below-push : (ks : List Kept) (k : Kept) (n : ℕ) → AllByRecursion (λ l. l.i
 below-push [] k n a l = (l, tt)
 below-push (x ∷ ks) k n a l = (a.0, below-push ks k n a.1 l)
 
-with-below : (ks : List Kept) (i : ℕ) (g : Given) → AllByRecursion (λ k. k.index < i) ks
+with-below : (ks : List Kept) (i : ℕ) (g : FormatArgument) → AllByRecursion (λ k. k.index < i) ks
     → AllByRecursion (λ k. k.index < suc i) (with_given ks i g)
 with-below ks i g a = choose (is_some (first_of ks g))
   where
@@ -208,7 +209,8 @@ with-below ks i g a = choose (is_some (first_of ks g))
     choose false = below-push ks (record { index = i; given = g }) (suc i)
         (below-more ks i (suc i) (omega arith) a) (omega arith)
 
-pub kept-below : (ks : List Kept) (i : ℕ) (gs : List Given) → AllByRecursion (λ k. k.index < i) ks
+pub kept-below : (ks : List Kept) (i : ℕ) (gs : List FormatArgument)
+    → AllByRecursion (λ k. k.index < i) ks
     → AllByRecursion (λ k. k.index < i + length gs) (kept_after ks i gs)
 kept-below ks i [] a = below-more ks i (i + 0) (omega arith) a
 kept-below ks i (g ∷ gs) a =

@@ -20,7 +20,7 @@ use Rattle.rustc_parse_format.specs.Characters.{Text}
 use Rattle.placeholder_check.specs.Seen.{text}
 use Rattle.call_faults.specs.declared.arguments.Arguments.{Arguments}
 use Rattle.call_faults.specs.declared.arguments.Kept.{Kept as DeclaredKept}
-use Rattle.call_faults.specs.Arguments.{Given, Kept, first_of, has_name, index_of}
+use Rattle.call_faults.specs.Arguments.{FormatArgument, Kept, first_of, has_name, index_of}
 use Rattle.call_faults.specs.Seen.{Holds, found_in, seen_given, seen_kept}
 use Rattle.call_faults.proofs.Lists.{skipped}
 

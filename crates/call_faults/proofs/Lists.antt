@@ -14,22 +14,25 @@ use Rattle.std.proofs.lemmas.List.Elements.{All-from_recursion, recursion_from_A
 use Rattle.std.proofs.lemmas.List.Kept.{AllPairs-cons}
 use Rattle.std.proofs.lemmas.Slice.Eq.{bytes_eq-Decides}
 use Rattle.rustc_parse_format.specs.Characters.{Text}
-use Rattle.call_faults.specs.Arguments.{Given, Kept, MayPrecede, first_of, has_name, index_of}
+use Rattle.call_faults.specs.Arguments.{FormatArgument, Kept, MayPrecede, first_of, has_name}
+use Rattle.call_faults.specs.Arguments.{index_of}
 use Rattle.call_faults.specs.Arguments.{is_late, kept_after, list_faults, repeated, with_given}
 use Rattle.call_faults.specs.CallFaults.{CallFault, PositionalAfterNamed, RepeatedName}
 use Rattle.call_faults.proofs.Empty.{else-nil, left-nil, right-nil}
 
 -- order, by recursion on the list
-abbrev pub InOrder : List Given → Type 0
+abbrev pub InOrder : List FormatArgument → Type 0
 InOrder [] = Unit {0}
 InOrder (g ∷ gs) = AllByRecursion (λ h. MayPrecede g.name h.name) gs × InOrder gs
 
-pub order-pairs : (gs : List Given) → InOrder gs → AllPairs (λ g h. MayPrecede g.name h.name) gs
+pub order-pairs : (gs : List FormatArgument) → InOrder gs
+    → AllPairs (λ g h. MayPrecede g.name h.name) gs
 order-pairs [] o = λ i j d a b. absurd (omega arith)
 order-pairs (g ∷ gs) o = AllPairs-cons (λ g h. MayPrecede g.name h.name) g gs
     (All-from_recursion (λ h. MayPrecede g.name h.name) gs o.0) (order-pairs gs o.1)
 
-pub pairs-order : (gs : List Given) → AllPairs (λ g h. MayPrecede g.name h.name) gs → InOrder gs
+pub pairs-order : (gs : List FormatArgument) → AllPairs (λ g h. MayPrecede g.name h.name) gs
+    → InOrder gs
 pairs-order [] o = tt
 pairs-order (g ∷ gs) o = (
   recursion_from_All (λ h. MayPrecede g.name h.name) gs
@@ -105,19 +108,19 @@ clean-precede ks None v e f = unnamed-all ks e
 clean-precede ks (Some w) v e f = index_none ks w f
 
 -- these arguments, with their indices from i on
-abbrev pub numbered : ℕ → List Given → List Kept
+abbrev pub numbered : ℕ → List FormatArgument → List Kept
 numbered i [] = []
 numbered i (g ∷ gs) = record { index = i; given = g } ∷ numbered (suc i) gs
 
 -- each argument of the second list may stand after each of the first
-abbrev pub After : List Kept → List Given → Type 0
+abbrev pub After : List Kept → List FormatArgument → Type 0
 After ks gs = AllByRecursion (λ g. Precede ks g.name) gs
 
 no_repeat : (i : ℕ) (o : Option ℕ) → repeated i o ≡ [] → o ≡ None
 no_repeat i None e = refl
 no_repeat i (Some f) e = absurd (cc e)
 
-kept-new : (ks : List Kept) (i : ℕ) (g : Given) → first_of ks g ≡ None
+kept-new : (ks : List Kept) (i : ℕ) (g : FormatArgument) → first_of ks g ≡ None
     → with_given ks i g ≡ ks ++ record { index = i; given = g } ∷ []
 kept-new ks i g e = ap (λ (o : Option ℕ). cond (is_some o) ks (ks ++ record {
   index = i;
@@ -135,7 +138,7 @@ precede-join : (ks : List Kept) (k : Kept) (n : Option Text) → Precede ks n
 precede-join [] k n h p = (p, tt)
 precede-join (l ∷ ks) k n h p = (h.0, precede-join ks k n h.1 p)
 
-rest_after-split : (ks : List Kept) (k : Kept) (gs : List Given) → After (ks ++ k ∷ []) gs
+rest_after-split : (ks : List Kept) (k : Kept) (gs : List FormatArgument) → After (ks ++ k ∷ []) gs
     → After ks gs × AllByRecursion (λ h. MayPrecede k.given.name h.name) gs
 rest_after-split ks k [] b = (tt, tt)
 rest_after-split ks k (g ∷ gs) b =
@@ -143,19 +146,19 @@ rest_after-split ks k (g ∷ gs) b =
     let there = rest_after-split ks k gs b.1 in
     ((here.0, there.0), (here.1, there.1))
 
-rest_after-join : (ks : List Kept) (k : Kept) (gs : List Given) → After ks gs
+rest_after-join : (ks : List Kept) (k : Kept) (gs : List FormatArgument) → After ks gs
     → AllByRecursion (λ h. MayPrecede k.given.name h.name) gs → After (ks ++ k ∷ []) gs
 rest_after-join ks k [] b a = tt
 rest_after-join ks k (g ∷ gs) b a =
     (precede-join ks k g.name b.0 a.0, rest_after-join ks k gs b.1 a.1)
 
 -- A list of arguments with nothing wrong.
-pub record Faultless (ks : List Kept) (i : ℕ) (gs : List Given) : Type 0 where
+pub record Faultless (ks : List Kept) (i : ℕ) (gs : List FormatArgument) : Type 0 where
   pub rest_after : After ks gs
   pub in_order : InOrder gs
   pub kept : kept_after ks i gs ≡ ks ++ numbered i gs
 
-pub none-order : (ks : List Kept) (i : ℕ) (gs : List Given) → list_faults ks i gs ≡ []
+pub none-order : (ks : List Kept) (i : ℕ) (gs : List FormatArgument) → list_faults ks i gs ≡ []
     → Faultless ks i gs
 none-order ks i [] e = record { rest_after = tt; in_order = tt; kept = sym (append-nil ks) }
 none-order ks i (g ∷ gs) e =
@@ -174,7 +177,7 @@ none-order ks i (g ∷ gs) e =
           ∙ (rest.kept ∙ append_assoc ks (k ∷ []) (numbered (suc i) gs));
     }
 
-pub order-none : (ks : List Kept) (i : ℕ) (gs : List Given) → After ks gs → InOrder gs
+pub order-none : (ks : List Kept) (i : ℕ) (gs : List FormatArgument) → After ks gs → InOrder gs
     → list_faults ks i gs ≡ []
 order-none ks i [] b o = refl
 order-none ks i (g ∷ gs) b o =

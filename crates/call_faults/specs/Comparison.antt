@@ -11,7 +11,7 @@ use Rattle.call_faults.specs.declared.faults.Part.{Part}
 use Rattle.call_faults.specs.declared.faults.Part.TheVariants.{Position, Precision, Width}
 use Rattle.call_faults.specs.declared.faults.Missing.{Missing}
 use Rattle.call_faults.specs.declared.faults.Reference.{Reference}
-use Rattle.call_faults.specs.Arguments.{Given, Kept, has_name, index_of}
+use Rattle.call_faults.specs.Arguments.{FormatArgument, Kept, has_name, index_of}
 use Rattle.call_faults.specs.CallFaults.{CallFault, MissingName, UnknownTrait, MissingArguments}
 use Rattle.call_faults.specs.CallFaults.{UnusedArguments, RedundantArguments, NameUsedByIndex}
 use Rattle.call_faults.specs.CallFaults.{PositionalAfterNamed, RepeatedName, TextFault}

@@ -10,7 +10,7 @@ use Rattle.rustc_parse_format.specs.Faults.{UseRustDebugPrintingMacro}
 use Rattle.rustc_parse_format.specs.Types.{Argument, Count, Implied, Index, Implicit, Is, Lit, Name}
 use Rattle.rustc_parse_format.specs.Types.{Named, NextArgument, Param, Piece, Position, Spec, Star}
 use Rattle.rustc_parse_format.specs.World.{Place}
-use Rattle.call_faults.specs.Arguments.{Given}
+use Rattle.call_faults.specs.Arguments.{FormatArgument}
 use Rattle.call_faults.specs.CallFaults.{CallFault, PositionalAfterNamed, RepeatedName, TextFault}
 use Rattle.call_faults.specs.CallFaults.{MissingName, UnknownTrait, MissingArguments}
 use Rattle.call_faults.specs.CallFaults.{UnusedArguments, RedundantArguments, NameUsedByIndex}
@@ -33,7 +33,7 @@ use Rattle.call_faults.specs.declared.spots.Spot.TheVariants.{Value, ValueUpToNe
 -- those that count; the pieces, and of each how many placeholders stand before it; the places of
 -- these; how many arguments they take one after the other; and the faults.
 pub record Call : Type 0 where
-  pub given : List Given
+  pub given : List FormatArgument
   pub kept : List ℕ
   pub pieces : List (Piece Place)
   pub counts : List ℕ
@@ -132,7 +132,7 @@ few_labels c =
     ++ (star_labels c.total c.pieces ++ next_labels c.pieces c.places)
 
 -- The labels of arguments that are not used.
-abbrev pub unused_labels : List Given → List ℕ → List Label
+abbrev pub unused_labels : List FormatArgument → List ℕ → List Label
 unused_labels gs is = map (λ i. primary (Value i) (never_used (slice_get gs i))) is
 
 -- The label of a literal that lacks a placeholder.
@@ -140,7 +140,7 @@ unfoldable pub single_text : List ℕ
 single_text = codes "formatting specifier missing"
 
 -- The labels of an argument that is not used, and that of the literal.
-abbrev pub one_unused : List Given → ℕ → List Label
+abbrev pub one_unused : List FormatArgument → ℕ → List Label
 one_unused gs i =
     primary (Value i) (never_used (slice_get gs i)) ∷ secondary Literal single_text ∷ []
 
@@ -149,23 +149,23 @@ unfoldable pub several_text : List ℕ
 several_text = codes "multiple missing formatting specifiers"
 
 -- The labels of several arguments that are not used, and that of the literal.
-abbrev pub many_unused : List Given → List ℕ → List Label
+abbrev pub many_unused : List FormatArgument → List ℕ → List Label
 many_unused gs is =
     secondary Literal several_text ∷ unused_labels gs is
 
 -- The labels of arguments that are not used, and that of the literal, which has no placeholder for
 -- them.
-abbrev pub unused_and_literal : List Given → List ℕ → List Label
+abbrev pub unused_and_literal : List FormatArgument → List ℕ → List Label
 unused_and_literal gs [] = many_unused gs []
 unused_and_literal gs (i ∷ []) = one_unused gs i
 unused_and_literal gs (i ∷ j ∷ is) = many_unused gs (i ∷ j ∷ is)
 
 -- One of these arguments has a name.
-abbrev pub have_names : List Given → Bool
+abbrev pub have_names : List FormatArgument → Bool
 have_names gs = list_any (λ g. is_some g.name) gs
 
 -- The argument is the last one.
-abbrev pub is_last : List Given → ℕ → Bool
+abbrev pub is_last : List FormatArgument → ℕ → Bool
 is_last gs i = suc i == length gs
 
 -- The label of an argument that is left out.
@@ -178,14 +178,14 @@ removal_up_to_next i =
     secondary (ValueUpToNext i) removal_text ∷ primary (Value i) [] ∷ []
 
 -- The labels of an argument that is left out.
-abbrev pub removal_labels : List Given → ℕ → List Label
+abbrev pub removal_labels : List FormatArgument → ℕ → List Label
 removal_labels gs i = if is_last gs i then primary (Value i) removal_text ∷ []
     else removal_up_to_next i
 
 -- The labels of redundant arguments. The label of one alone says that it can be removed, unless
 -- any argument
 -- has a name.
-abbrev pub redundant_labels : List Given → List ℕ → List Label
+abbrev pub redundant_labels : List FormatArgument → List ℕ → List Label
 redundant_labels gs [] = []
 redundant_labels gs (i ∷ []) =
     if have_names gs then primary (Value i) [] ∷ [] else removal_labels gs i

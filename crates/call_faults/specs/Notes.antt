@@ -13,7 +13,7 @@ use Rattle.rustc_parse_format.specs.Types.{Alignment, Argument, Center, Count, I
 use Rattle.rustc_parse_format.specs.Types.{Implicit, Is, Left, Lit, Name, Named, NextArgument}
 use Rattle.rustc_parse_format.specs.Types.{Param, Piece, Position, Right, Spec, Star, Unknown}
 use Rattle.rustc_parse_format.specs.World.{Place}
-use Rattle.call_faults.specs.Arguments.{Given}
+use Rattle.call_faults.specs.Arguments.{FormatArgument}
 use Rattle.call_faults.specs.CallFaults.{CallFault, PositionalAfterNamed, RepeatedName, TextFault}
 use Rattle.call_faults.specs.CallFaults.{MissingName, UnknownTrait, MissingArguments}
 use Rattle.call_faults.specs.CallFaults.{UnusedArguments, RedundantArguments, NameUsedByIndex}
@@ -147,11 +147,11 @@ unused_help c n =
     }) else None
 
 -- The variable that an argument is, if it is one.
-abbrev pub variable_of : List Given → ℕ → Option Text
+abbrev pub variable_of : List FormatArgument → ℕ → Option Text
 variable_of gs i = option_and_then (λ g. g.variable) (slice_get gs i)
 
 -- The argument is this variable.
-abbrev pub is_variable : List Given → Text → ℕ → Bool
+abbrev pub is_variable : List FormatArgument → Text → ℕ → Bool
 is_variable gs w i = option_map_or (bytes_eq w) (variable_of gs i) false
 
 -- The position is a name that passes the test.
@@ -186,15 +186,15 @@ redundant_note c is = record {
 
 -- The place that is removed with an argument that is left out: its value, and what is after it up
 -- to the next one, if there is one.
-abbrev pub removed_spot : List Given → ℕ → Spot
+abbrev pub removed_spot : List FormatArgument → ℕ → Spot
 removed_spot gs i = if is_last gs i then Value i else ValueUpToNext i
 
 -- The edit that removes an argument.
-abbrev pub removal : List Given → ℕ → Edit
+abbrev pub removal : List FormatArgument → ℕ → Edit
 removal gs i = edit (removed_spot gs i) []
 
 -- The help for several redundant arguments. For one alone it is a label.
-abbrev pub redundant_help : List Given → List ℕ → Option Help
+abbrev pub redundant_help : List FormatArgument → List ℕ → Option Help
 redundant_help gs is = if nat_lt 1 (length is) && not (have_names gs) then Some (record {
   text = codes "this can be removed";
   edits = map (removal gs) is;
@@ -225,7 +225,7 @@ replacing s t = record {
 }
 
 -- How many of these arguments stand before the first one with a name.
-abbrev pub unnamed_count : List Given → ℕ
+abbrev pub unnamed_count : List FormatArgument → ℕ
 unnamed_count [] = 0
 unnamed_count (g ∷ gs) = if is_some g.name then 0 else suc (unnamed_count gs)
 
@@ -235,7 +235,7 @@ added_spot zero = AfterLiteral
 added_spot (suc n) = ValueEnd n
 
 -- The help for an expression at this place of the string: it becomes an argument.
-abbrev pub positional_help : List Given → Place → Help
+abbrev pub positional_help : List FormatArgument → Place → Help
 positional_help gs s = record {
   text = codes "consider using a positional formatting argument instead";
   edits = edit (bytes_at s) (decimal (unnamed_count gs)) ∷ record {

@@ -25,9 +25,9 @@ use Rattle.call_faults.specs.declared.faults.CallFault.TheVariants.{MissingArgum
 use Rattle.call_faults.specs.declared.faults.CallFault.TheVariants.{UnusedArguments as UnusedIn}
 use Rattle.call_faults.specs.declared.faults.CallFault.TheVariants.{RedundantArguments as TwinsIn}
 use Rattle.call_faults.specs.declared.faults.CallFault.TheVariants.{NameUsedByIndex as ByIndexIn}
-use Rattle.call_faults.specs.declared.checker.Checked.{Checked}
+use Rattle.call_faults.specs.declared.checker.CallReport.{CallReport}
 use Rattle.call_faults.specs.declared.checker.FormatString.{FormatString}
-use Rattle.call_faults.specs.declared.arguments.Given.{Given as DeclaredGiven}
+use Rattle.call_faults.specs.declared.arguments.FormatArgument.{FormatArgument as DeclaredArgument}
 use Rattle.call_faults.specs.declared.arguments.Kept.{Kept as DeclaredKept}
 use Rattle.call_faults.specs.declared.arguments.Arguments.{Arguments}
 use Rattle.call_faults.specs.declared.spots.CallEdit.{CallEdit}
@@ -39,7 +39,7 @@ use Rattle.call_faults.specs.declared.lookups.Lookup.TheVariants.{Refer as Refer
 use Rattle.call_faults.specs.declared.lookups.Lookup.TheVariants.{NoTrait as NoTraitIn}
 use Rattle.call_faults.specs.declared.lookups.Wanted.{Wanted}
 use Rattle.call_faults.specs.declared.lookups.Wanted.TheVariants.{Index, Name}
-use Rattle.call_faults.specs.Arguments.{Given, Kept, index_of}
+use Rattle.call_faults.specs.Arguments.{FormatArgument, Kept, index_of}
 use Rattle.call_faults.specs.CallFaults.{CallFault, PositionalAfterNamed, RepeatedName, TextFault}
 use Rattle.call_faults.specs.CallFaults.{MissingName, UnknownTrait, MissingArguments}
 use Rattle.call_faults.specs.CallFaults.{UnusedArguments, RedundantArguments, NameUsedByIndex}
@@ -49,7 +49,7 @@ use Rattle.call_faults.specs.Spots.{Edit, Help, Label, Note}
 use Rattle.call_faults.specs.Words.{TitleParts}
 
 -- An argument as a contract sees it.
-abbrev pub seen_given : DeclaredGiven → Given
+abbrev pub seen_given : DeclaredArgument → FormatArgument
 seen_given g = record { name = option_map text g.name; variable = option_map text g.variable }
 
 -- An argument that counts, as a contract sees it.
@@ -97,7 +97,7 @@ pub record Holds (ks : List Kept) (a : Arguments) : Type 0 where
   pub has_names : a.has_names ≡ list_any (λ k. is_some k.given.name) ks
 
 -- A call as its titles need it, with the numbers that are too large.
-abbrev pub title_parts : Checked → List ℕ → TitleParts Place
+abbrev pub title_parts : CallReport → List ℕ → TitleParts Place
 title_parts c numbers = record {
   given = map seen_given c.given.now;
   count = length c.kept.items;
@@ -128,7 +128,7 @@ abbrev pub seen_help : CallHelp → Help
 seen_help h = record { text = string_bytes h.text; edits = map seen_edit h.edits.items }
 
 -- A call that was checked, as the messages of its faults need it.
-abbrev pub seen_call : Checked → Call
+abbrev pub seen_call : CallReport → Call
 seen_call c = record {
   given = map seen_given c.given.now;
   kept = c.kept.items;

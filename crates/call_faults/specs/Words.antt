@@ -8,7 +8,7 @@ use Rattle.rustc_parse_format.specs.FaultIds.{fault_id}
 use Rattle.rustc_parse_format.specs.Faults.{message}
 use Rattle.rustc_parse_format.specs.Types.{Argument, Count, Implied, Index, Implicit, Is, Lit, Name}
 use Rattle.rustc_parse_format.specs.Types.{Named, NextArgument, Param, Piece, Position, Star}
-use Rattle.call_faults.specs.Arguments.{Given}
+use Rattle.call_faults.specs.Arguments.{FormatArgument}
 use Rattle.call_faults.specs.CallFaults.{CallFault, PositionalAfterNamed, RepeatedName, TextFault}
 use Rattle.call_faults.specs.CallFaults.{MissingName, UnknownTrait, MissingArguments}
 use Rattle.call_faults.specs.CallFaults.{UnusedArguments, RedundantArguments, NameUsedByIndex}
@@ -71,12 +71,12 @@ abbrev pub quoted : Text → List ℕ
 quoted w = codes "`" ++ (encode_utf8_all w ++ codes "`")
 
 -- The name of an argument, or nothing if it has none.
-abbrev pub name_of : Option Given → Text
+abbrev pub name_of : Option FormatArgument → Text
 name_of None = []
 name_of (Some g) = unwrap_or g.name []
 
 -- The argument has a name.
-abbrev pub is_named : Option Given → Bool
+abbrev pub is_named : Option FormatArgument → Bool
 is_named None = false
 is_named (Some g) = is_some g.name
 
@@ -93,11 +93,11 @@ few_title total count = decimal total ++ (plural (codes " positional argument") 
     ++ (codes " in format string, but " ++ count_text count))
 
 -- An argument is not used.
-abbrev pub never_used : Option Given → List ℕ
+abbrev pub never_used : Option FormatArgument → List ℕ
 never_used g = if is_named g then codes "named argument never used" else codes "argument never used"
 
 -- The title of arguments that are not used.
-abbrev pub unused_title : List Given → List ℕ → List ℕ
+abbrev pub unused_title : List FormatArgument → List ℕ → List ℕ
 unused_title gs [] = codes "multiple unused formatting arguments"
 unused_title gs (i ∷ []) = never_used (slice_get gs i)
 unused_title gs (i ∷ j ∷ is) = codes "multiple unused formatting arguments"
@@ -106,7 +106,7 @@ unused_title gs (i ∷ j ∷ is) = codes "multiple unused formatting arguments"
 -- how many of them count; the pieces; how many arguments their placeholders take one after the
 -- other; and the numbers that are too large, each once and in rising order.
 pub record TitleParts (A : Type 0) : Type 0 where
-  pub given : List Given
+  pub given : List FormatArgument
   pub count : ℕ
   pub pieces : List (Piece A)
   pub total : ℕ

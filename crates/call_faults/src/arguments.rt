@@ -16,7 +16,7 @@ use std::collections::BTreeMap;
 
 /// An argument of a call, as far as its placeholders can tell it from others.
 #[derive(Clone, Copy)]
-pub struct Given<'a> {
+pub struct FormatArgument<'a> {
     /// Its name, without the `r#` of a raw identifier, as `a` in `a = 1`.
     pub name: Option<&'a str>,
     /// The variable that it is, without `r#`, as `a` in `println!("{}", a)`. `None` if it is any
@@ -29,7 +29,7 @@ pub struct Given<'a> {
 pub(crate) struct Kept<'a> {
     /// Its index among all that are given.
     pub index: usize,
-    pub given: Given<'a>,
+    pub given: FormatArgument<'a>,
 }
 
 /// The arguments that count.
@@ -75,7 +75,7 @@ pub(crate) fn insert<'a>(
 
 /// Returns the index of the argument with the name that an argument has, or `None` if it has none
 /// or there is none.
-fn first_of<'a>(arguments: &Arguments<'a>, given: &Given<'a>) -> Option<usize>
+fn first_of<'a>(arguments: &Arguments<'a>, given: &FormatArgument<'a>) -> Option<usize>
     ensures { (ks : List KeptValue) → Holds ks arguments.now
         → result ≡ first_of ks (seen_given given.now) }
 {
@@ -86,7 +86,11 @@ fn first_of<'a>(arguments: &Arguments<'a>, given: &Given<'a>) -> Option<usize>
 }
 
 /// Adds an argument to those that count. Returns `Err` if an allocation fails.
-fn keep<'a>(arguments: &mut Arguments<'a>, index: usize, given: Given<'a>) -> Result<(), AllocError>
+fn keep<'a>(
+    arguments: &mut Arguments<'a>,
+    index: usize,
+    given: FormatArgument<'a>,
+) -> Result<(), AllocError>
     ensures { OnOk result ((ks : List KeptValue) → Holds ks arguments.old
         → first_of ks (seen_given given.entry) ≡ None
         → Holds (ks ++ record { index = index; given = seen_given given.entry } ∷ [])
@@ -106,7 +110,7 @@ fn add<'a>(
     arguments: &mut Arguments<'a>,
     faults: &mut Vec<CallFault<'a>>,
     index: usize,
-    given: Given<'a>,
+    given: FormatArgument<'a>,
 ) -> Result<(), AllocError>
     ensures kept { OnOk result ((ks : List KeptValue) → Holds ks arguments.old
         → Holds (with_given ks index (seen_given given.entry)) arguments.new) }
@@ -122,7 +126,7 @@ fn add<'a>(
 }
 
 /// Returns whether an argument has no name, although one that counts has one.
-fn is_late<'a>(arguments: &Arguments<'a>, given: &Given<'a>) -> bool
+fn is_late<'a>(arguments: &Arguments<'a>, given: &FormatArgument<'a>) -> bool
     ensures { (ks : List KeptValue) → Holds ks arguments.now
         → result ≡ is_late ks (seen_given given.now) }
 {
@@ -148,7 +152,7 @@ fn named_of(alloc: Global, list: &[Kept<'_>]) -> Result<Vec<usize>, AllocError>
 pub(crate) fn arguments_of<'a>(
     alloc: Global,
     faults: &mut Vec<CallFault<'a>>,
-    given: &[Given<'a>],
+    given: &[FormatArgument<'a>],
 ) -> Result<Option<Arguments<'a>>, AllocError>
     ensures outcome { OnOk result (map seen_fault faults.new.items ≡ map seen_fault faults.old.items
         ++ list_faults [] 0 (map seen_given given.now)) }

@@ -16,7 +16,7 @@ ghost use Rattle.call_faults.specs.Seen.{seen_fault, seen_given, start};
 ghost use Rattle.call_faults.specs.Spots.{counts_before};
 ghost use Rattle.call_faults.specs.Texts.{text_fault};
 
-use crate::arguments::{Given, arguments_of};
+use crate::arguments::{FormatArgument, arguments_of};
 use crate::compared::{compare, indices_of};
 use crate::faults::CallFault;
 use crate::lookups::lookups_of;
@@ -43,9 +43,9 @@ pub struct FormatString<'a> {
 
 /// A call that was checked.
 #[derive(Drop)]
-pub struct Checked<'a> {
+pub struct CallReport<'a> {
     /// The arguments that are given.
-    pub given: &'a [Given<'a>],
+    pub given: &'a [FormatArgument<'a>],
     /// The indices of the arguments that count: of those whose name is not that of an earlier one.
     /// Empty if an argument without a name after one with a name ended the check.
     pub kept: Vec<usize>,
@@ -96,7 +96,7 @@ fn faults_of<'a>(
     string: FormatString<'a>,
     is_read: bool,
     pieces: &[Piece<'a>],
-    given: &[Given<'a>],
+    given: &[FormatArgument<'a>],
     kept: &mut Vec<usize>,
 ) -> Result<Vec<CallFault<'a>>, AllocError>
     requires { hashes string.style + length string.text.now + 2 < 2 ^ 64 }
@@ -138,8 +138,8 @@ fn faults_of<'a>(
 pub fn call_faults<'a>(
     alloc: Global,
     string: FormatString<'a>,
-    given: &'a [Given<'a>],
-) -> Result<Checked<'a>, AllocError>
+    given: &'a [FormatArgument<'a>],
+) -> Result<CallReport<'a>, AllocError>
     requires { hashes string.style + length string.text.now + 2 < 2 ^ 64 }
     // The pieces and the parser are those of the calls of a parser at the start of the string, and
     // the faults are those that the definition names, in its order.
@@ -171,7 +171,7 @@ pub fn call_faults<'a>(
     let mut kept = Vec::new(alloc);
     let faults = faults_of(alloc, string, is_read, &pieces, given, &mut kept)?;
     let counts = counts_before(alloc, &pieces)?;
-    Ok(Checked {
+    Ok(CallReport {
         given,
         kept,
         pieces,

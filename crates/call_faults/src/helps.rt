@@ -13,8 +13,8 @@ ghost use Rattle.call_faults.specs.Notes.{unnamed_count, unused_help};
 ghost use Rattle.call_faults.specs.Seen.{seen_call, seen_edit, seen_given, seen_help};
 ghost use Rattle.call_faults.specs.Spots.{edit};
 
-use crate::arguments::Given;
-use crate::checker::Checked;
+use crate::arguments::FormatArgument;
+use crate::checker::CallReport;
 use crate::faults::{CallFault, Part, Reference};
 use crate::labels::{have_names, is_last};
 use crate::notes::{are_missing, put_specifiers};
@@ -64,7 +64,7 @@ fn put_placeholders(out: &mut String, count: usize) -> Result<(), AllocError>
 /// allocation fails.
 fn unused_help(
     alloc: Global,
-    call: &Checked<'_>,
+    call: &CallReport<'_>,
     count: usize,
 ) -> Result<Option<CallHelp>, AllocError>
     ensures { IfOk result (λ o. option_map seen_help o
@@ -83,7 +83,7 @@ fn unused_help(
 }
 
 /// Returns where the text is that is removed with an argument.
-fn removed_spot(given: &[Given<'_>], index: usize) -> Spot
+fn removed_spot(given: &[FormatArgument<'_>], index: usize) -> Spot
     ensures { result ≡ removed_spot (map seen_given given.now) index }
 {
     if is_last(given, index) {
@@ -96,7 +96,7 @@ fn removed_spot(given: &[Given<'_>], index: usize) -> Spot
 /// Adds the edits that remove arguments.
 fn push_removals(
     edits: &mut Vec<CallEdit>,
-    given: &[Given<'_>],
+    given: &[FormatArgument<'_>],
     indices: &[usize],
 ) -> Result<(), AllocError>
     ensures { OnOk result (map seen_edit edits.new.items ≡ map seen_edit edits.old.items
@@ -117,7 +117,7 @@ fn push_removals(
 /// allocation fails.
 fn redundant_help(
     alloc: Global,
-    given: &[Given<'_>],
+    given: &[FormatArgument<'_>],
     redundant: &[usize],
 ) -> Result<Option<CallHelp>, AllocError>
     ensures { IfOk result (λ o. option_map seen_help o
@@ -156,7 +156,7 @@ fn name_in(alloc: Global, part: Part, name: &str) -> Result<String, AllocError>
 /// fails.
 fn by_index_help(
     alloc: Global,
-    call: &Checked<'_>,
+    call: &CallReport<'_>,
     reference: Reference,
     index: usize,
 ) -> Result<CallHelp, AllocError>
@@ -184,7 +184,7 @@ fn replacing(alloc: Global, spot: Spot, new: &str) -> Result<CallHelp, AllocErro
 }
 
 /// Returns how many of arguments stand before the first one with a name.
-fn unnamed_count(given: &[Given<'_>]) -> usize
+fn unnamed_count(given: &[FormatArgument<'_>]) -> usize
     ensures { result ≡ unnamed_count (map seen_given given.now) }
 {
     for (index, argument) in given.iter().enumerate() {
@@ -210,7 +210,7 @@ fn added_spot(count: usize) -> Spot
 /// fails.
 fn positional_help(
     alloc: Global,
-    given: &[Given<'_>],
+    given: &[FormatArgument<'_>],
     span: &Range<usize>,
 ) -> Result<CallHelp, AllocError>
     ensures { IfOk result (λ h. seen_help h
@@ -258,7 +258,7 @@ fn debug_help(alloc: Global, kept: &[usize]) -> Result<Option<CallHelp>, AllocEr
 /// `Err` if an allocation fails.
 fn text_help(
     alloc: Global,
-    call: &Checked<'_>,
+    call: &CallReport<'_>,
     fault: &Fault<'_>,
 ) -> Result<Option<CallHelp>, AllocError>
     ensures { IfOk result (λ o. option_map seen_help o
@@ -281,7 +281,7 @@ fn text_help(
     }
 }
 
-impl<'a> Checked<'a> {
+impl<'a> CallReport<'a> {
     ghost use Rattle.std.specs.Prelude.{◌≡◌, IfOk, option_map};
     ghost use Rattle.call_faults.specs.Notes.{help};
     ghost use Rattle.call_faults.specs.Seen.{seen_call, seen_fault, seen_help};

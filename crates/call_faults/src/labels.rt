@@ -18,8 +18,8 @@ ghost use Rattle.call_faults.specs.Spots.{primary, secondary};
 ghost use Rattle.call_faults.specs.declared.spots.Spot.TheVariants.{Argument as WholeArgument};
 ghost use Rattle.call_faults.specs.declared.spots.Spot.TheVariants.{Value};
 
-use crate::arguments::Given;
-use crate::checker::Checked;
+use crate::arguments::FormatArgument;
+use crate::checker::CallReport;
 use crate::faults::{CallFault, Reference};
 use crate::missing_labels::{few_labels, push_missing};
 use crate::spots::{
@@ -126,7 +126,7 @@ fn push_text(
 /// Adds the labels of arguments that are not used.
 fn push_unused(
     labels: &mut Vec<CallLabel>,
-    given: &[Given<'_>],
+    given: &[FormatArgument<'_>],
     unused: &[usize],
 ) -> Result<(), AllocError>
     ensures { OnOk result (map seen_label labels.new.items ≡ map seen_label labels.old.items
@@ -152,7 +152,7 @@ fn single_text() -> &'static str
 #[tactic(auto, using(std::proofs::Common::append_assoc))]
 fn push_one_unused(
     labels: &mut Vec<CallLabel>,
-    given: &[Given<'_>],
+    given: &[FormatArgument<'_>],
     index: usize,
 ) -> Result<(), AllocError>
     ensures { OnOk result (map seen_label labels.new.items ≡ map seen_label labels.old.items
@@ -175,7 +175,7 @@ fn several_text() -> &'static str
 #[tactic(auto, using(std::proofs::Common::append_assoc))]
 fn push_many_unused(
     labels: &mut Vec<CallLabel>,
-    given: &[Given<'_>],
+    given: &[FormatArgument<'_>],
     unused: &[usize],
 ) -> Result<(), AllocError>
     ensures { OnOk result (map seen_label labels.new.items ≡ map seen_label labels.old.items
@@ -189,7 +189,7 @@ fn push_many_unused(
 /// Adds the labels of arguments that are not used, and that of the literal.
 fn push_unused_and_literal(
     labels: &mut Vec<CallLabel>,
-    given: &[Given<'_>],
+    given: &[FormatArgument<'_>],
     unused: &[usize],
 ) -> Result<(), AllocError>
     ensures { OnOk result (map seen_label labels.new.items ≡ map seen_label labels.old.items
@@ -203,14 +203,14 @@ fn push_unused_and_literal(
 }
 
 /// Returns whether an argument is the last one.
-pub(crate) fn is_last(given: &[Given<'_>], index: usize) -> bool
+pub(crate) fn is_last(given: &[FormatArgument<'_>], index: usize) -> bool
     ensures { result ≡ is_last (map seen_given given.now) index }
 {
     given.len().saturating_sub(index) == 1
 }
 
 /// Returns whether one of these arguments has a name.
-pub(crate) fn have_names(given: &[Given<'_>]) -> bool
+pub(crate) fn have_names(given: &[FormatArgument<'_>]) -> bool
     ensures { result ≡ have_names (map seen_given given.now) }
 {
     for first in given {
@@ -243,7 +243,7 @@ fn push_removal_up_to_next(labels: &mut Vec<CallLabel>, index: usize) -> Result<
 /// Adds the labels of an argument that is left out.
 fn push_removal(
     labels: &mut Vec<CallLabel>,
-    given: &[Given<'_>],
+    given: &[FormatArgument<'_>],
     index: usize,
 ) -> Result<(), AllocError>
     ensures { OnOk result (map seen_label labels.new.items ≡ map seen_label labels.old.items
@@ -273,7 +273,7 @@ fn push_bare(labels: &mut Vec<CallLabel>, indices: &[usize]) -> Result<(), Alloc
 /// Adds the labels of redundant arguments.
 fn push_redundant(
     labels: &mut Vec<CallLabel>,
-    given: &[Given<'_>],
+    given: &[FormatArgument<'_>],
     redundant: &[usize],
 ) -> Result<(), AllocError>
     ensures { OnOk result (map seen_label labels.new.items ≡ map seen_label labels.old.items
@@ -311,7 +311,7 @@ fn use_text(alloc: Global, name: &str) -> Result<String, AllocError>
 #[tactic(auto, using(std::proofs::Common::append_assoc))]
 fn push_by_index(
     labels: &mut Vec<CallLabel>,
-    call: &Checked<'_>,
+    call: &CallReport<'_>,
     reference: Reference,
     index: usize,
 ) -> Result<(), AllocError>
@@ -326,7 +326,7 @@ fn push_by_index(
     Ok(())
 }
 
-impl<'a> Checked<'a> {
+impl<'a> CallReport<'a> {
     ghost use Rattle.std.specs.Prelude.{◌≡◌, IfOk, map};
     ghost use Rattle.call_faults.specs.Labels.{labels};
     ghost use Rattle.call_faults.specs.Seen.{seen_call, seen_fault, seen_label};

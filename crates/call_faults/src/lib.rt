@@ -14,8 +14,8 @@ mod spots;
 mod text;
 mod titles;
 
-pub use arguments::Given;
-pub use checker::{Checked, FormatString, call_faults};
+pub use arguments::FormatArgument;
+pub use checker::{CallReport, FormatString, call_faults};
 pub use faults::{CallFault, Missing, Part, Reference};
 pub use spots::{CallEdit, CallHelp, CallLabel, CallNote, Spot};
 pub use text::text_fault;

@@ -10,7 +10,7 @@ ghost use Rattle.call_faults.specs.Seen.{seen_call, seen_label};
 ghost use Rattle.call_faults.specs.Spots.{primary, reference_spot, secondary};
 ghost use Rattle.call_faults.specs.declared.spots.Spot.TheVariants.{Value};
 
-use crate::checker::Checked;
+use crate::checker::CallReport;
 use crate::faults::Missing;
 use crate::spots::{
     CallLabel, Spot, first_spot, push_plain, push_secondary, reference_spot, rest_after, spot_of,
@@ -167,7 +167,7 @@ fn push_stars(
 }
 
 /// Returns the labels of too few arguments, where none is referred to by a number that is written.
-pub(crate) fn few_labels(alloc: Global, call: &Checked<'_>) -> Result<Vec<CallLabel>, AllocError>
+pub(crate) fn few_labels(alloc: Global, call: &CallReport<'_>) -> Result<Vec<CallLabel>, AllocError>
     ensures { IfOk result (λ v. map seen_label v.items ≡ few_labels (seen_call call.now)) }
 {
     let mut labels = Vec::new(alloc);

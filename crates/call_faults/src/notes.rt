@@ -20,8 +20,8 @@ ghost use Rattle.placeholder_check.specs.Seen.{text};
 ghost use Rattle.call_faults.specs.Seen.{found_in, seen_call, seen_fault, seen_given, seen_note};
 ghost use Rattle.call_faults.specs.Spots.{plain};
 
-use crate::arguments::{Given, index_of, insert};
-use crate::checker::Checked;
+use crate::arguments::{FormatArgument, index_of, insert};
+use crate::checker::CallReport;
 use crate::faults::CallFault;
 use crate::missing_labels::star_of;
 use crate::spots::{CallNote, Spot, bytes_at};
@@ -237,7 +237,7 @@ pub(crate) fn put_specifiers(out: &mut String, count: usize) -> Result<(), Alloc
 /// Adds the note of so many unused arguments, if there is one.
 fn push_unused(
     notes: &mut Vec<CallNote>,
-    call: &Checked<'_>,
+    call: &CallReport<'_>,
     count: usize,
 ) -> Result<(), AllocError>
     ensures { OnOk result (map seen_note notes.new.items
@@ -253,7 +253,7 @@ fn push_unused(
 }
 
 /// Returns the variable that an argument is, or `None` if it is no variable.
-fn variable_of<'a>(given: &[Given<'a>], index: usize) -> Option<&'a str>
+fn variable_of<'a>(given: &[FormatArgument<'a>], index: usize) -> Option<&'a str>
     ensures { option_map text result ≡ variable_of (map seen_given given.now) index }
 {
     match given.get(index) {
@@ -266,7 +266,7 @@ fn variable_of<'a>(given: &[Given<'a>], index: usize) -> Option<&'a str>
 /// allocation fails.
 fn variables_of<'a>(
     alloc: Global,
-    given: &[Given<'a>],
+    given: &[FormatArgument<'a>],
     indices: &[usize],
 ) -> Result<BTreeMap<&'a str, usize>, AllocError>
     ensures { IfOk result (λ m. (w : Text) → is_some (found_in m w)
@@ -341,7 +341,7 @@ fn redundant_text(count: usize) -> &'static str
 fn push_redundant<'a>(
     alloc: Global,
     notes: &mut Vec<CallNote>,
-    call: &Checked<'a>,
+    call: &CallReport<'a>,
     redundant: &[usize],
 ) -> Result<(), AllocError>
     ensures { OnOk result (map seen_note notes.new.items ≡ map seen_note notes.old.items
@@ -354,7 +354,7 @@ fn push_redundant<'a>(
     Ok(())
 }
 
-impl<'a> Checked<'a> {
+impl<'a> CallReport<'a> {
     ghost use Rattle.std.specs.Prelude.{◌≡◌, IfOk, map};
     ghost use Rattle.call_faults.specs.Notes.{notes};
     ghost use Rattle.call_faults.specs.Seen.{seen_call, seen_fault, seen_note};

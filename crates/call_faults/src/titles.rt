@@ -15,8 +15,8 @@ ghost use Rattle.call_faults.specs.Words.{is_named, is_number, listed, name_of, 
 ghost use Rattle.call_faults.specs.Words.{numbers_title, plural, quoted, separator};
 ghost use Rattle.call_faults.specs.Words.{title, unused_title};
 
-use crate::arguments::Given;
-use crate::checker::Checked;
+use crate::arguments::FormatArgument;
+use crate::checker::CallReport;
 use crate::faults::CallFault;
 use itoa::Buffer;
 use placeholder_check::check;
@@ -213,7 +213,7 @@ fn put_few_title(out: &mut String, total: usize, count: usize) -> Result<(), All
 }
 
 /// Returns the name of an argument, or an empty text if it has none.
-pub(crate) fn name_of<'a>(given: &[Given<'a>], index: usize) -> &'a str
+pub(crate) fn name_of<'a>(given: &[FormatArgument<'a>], index: usize) -> &'a str
     ensures { chars result.now ≡ name_of (slice_get (map seen_given given.now) index) }
 {
     match given.get(index) {
@@ -226,7 +226,7 @@ pub(crate) fn name_of<'a>(given: &[Given<'a>], index: usize) -> &'a str
 }
 
 /// Returns whether an argument has a name.
-fn is_named(given: &[Given<'_>], index: usize) -> bool
+fn is_named(given: &[FormatArgument<'_>], index: usize) -> bool
     ensures { result ≡ is_named (slice_get (map seen_given given.now) index) }
 {
     match given.get(index) {
@@ -236,7 +236,7 @@ fn is_named(given: &[Given<'_>], index: usize) -> bool
 }
 
 /// Returns the label of an argument that is not used.
-pub(crate) fn never_used(given: &[Given<'_>], index: usize) -> &'static str
+pub(crate) fn never_used(given: &[FormatArgument<'_>], index: usize) -> &'static str
     ensures { result.now ≡ never_used (slice_get (map seen_given given.now) index) }
 {
     if is_named(given, index) {
@@ -247,7 +247,7 @@ pub(crate) fn never_used(given: &[Given<'_>], index: usize) -> &'static str
 }
 
 /// Returns the title of arguments that are not used.
-fn unused_title(given: &[Given<'_>], unused: &[usize]) -> &'static str
+fn unused_title(given: &[FormatArgument<'_>], unused: &[usize]) -> &'static str
     ensures { result.now ≡ unused_title (map seen_given given.now) unused.now }
 {
     match unused {
@@ -268,7 +268,7 @@ fn put_text_title(alloc: Global, out: &mut String, fault: &Fault<'_>) -> Result<
 }
 
 /// Adds the title of missing arguments.
-fn put_missing(out: &mut String, call: &Checked<'_>) -> Result<(), AllocError>
+fn put_missing(out: &mut String, call: &CallReport<'_>) -> Result<(), AllocError>
     ensures { OnOk result ((r : Report) → IsReport (uses (map seen call.now.pieces.items))
         (length call.now.kept.items) [] r → string_bytes out.new ≡ string_bytes out.old
         ++ (if list_any has_number (map seen call.now.pieces.items)
@@ -286,7 +286,7 @@ fn put_missing(out: &mut String, call: &Checked<'_>) -> Result<(), AllocError>
     Ok(())
 }
 
-impl<'a> Checked<'a> {
+impl<'a> CallReport<'a> {
     ghost use Rattle.std.specs.Prelude.{◌≡◌, ◌++◌, [], OnOk, length, map, string_bytes};
     ghost use Rattle.rustc_parse_format.specs.Seen.{seen};
     ghost use Rattle.placeholder_check.specs.Report.{IsReport, Report};

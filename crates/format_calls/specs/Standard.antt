@@ -1,7 +1,7 @@
 -- The macros of the standard library that take a format string, or templates of assembly.
 use Rattle.std.specs.Prelude.{ℕ, List, [], ◌∷◌, codes}
 use Rattle.format_calls.specs.declared.table.Rule.{Rule}
-use Rattle.format_calls.specs.declared.table.Rule.TheVariants.{At, ByEdition, AfterFields}
+use Rattle.format_calls.specs.declared.table.Rule.TheVariants.{At, IndexByEdition, FirstLiteral}
 use Rattle.format_calls.specs.declared.table.Rule.TheVariants.{Templates}
 use Rattle.format_calls.specs.Rows.{Entry}
 
@@ -13,20 +13,23 @@ abbrev pub standard : List Entry
 standard =
     at (codes "format") (At 0) ∷ at (codes "format_args") (At 0) ∷ at (codes "print") (At 0)
     ∷ at (codes "println") (At 0) ∷ at (codes "eprint") (At 0) ∷ at (codes "eprintln") (At 0)
-    ∷ at (codes "write") (At 1) ∷ at (codes "writeln") (At 1) ∷ at (codes "panic") (ByEdition 0)
-    ∷ at (codes "unreachable") (ByEdition 0) ∷ at (codes "todo") (At 0)
-    ∷ at (codes "unimplemented") (At 0) ∷ at (codes "assert") (ByEdition 1)
-    ∷ at (codes "debug_assert") (ByEdition 1) ∷ at (codes "assert_eq") (At 2)
+    ∷ at (codes "write") (At 1) ∷ at (codes "writeln") (At 1) ∷ at (codes "panic")
+    (IndexByEdition 0)
+    ∷ at (codes "unreachable") (IndexByEdition 0) ∷ at (codes "todo") (At 0)
+    ∷ at (codes "unimplemented") (At 0) ∷ at (codes "assert") (IndexByEdition 1)
+    ∷ at (codes "debug_assert") (IndexByEdition 1) ∷ at (codes "assert_eq") (At 2)
     ∷ at (codes "assert_ne") (At 2) ∷ at (codes "debug_assert_eq") (At 2)
     ∷ at (codes "debug_assert_ne") (At 2) ∷ at (codes "assert_matches") (At 2)
     ∷ at (codes "debug_assert_matches") (At 2) ∷ at (codes "asm") Templates
     ∷ at (codes "global_asm") Templates ∷ at (codes "naked_asm") Templates ∷ []
 
 -- Macros of the crates log, tracing, slog, anyhow and eyre.
-abbrev pub of_crates : List Entry
-of_crates =
-    at (codes "error") AfterFields ∷ at (codes "warn") AfterFields ∷ at (codes "info") AfterFields
-    ∷ at (codes "debug") AfterFields ∷ at (codes "trace") AfterFields
-    ∷ at (codes "crit") AfterFields ∷ at (codes "log") AfterFields ∷ at (codes "event") AfterFields
+abbrev pub with_crates : List Entry
+with_crates =
+    at (codes "error") FirstLiteral ∷ at (codes "warn") FirstLiteral ∷ at
+    (codes "info") FirstLiteral
+    ∷ at (codes "debug") FirstLiteral ∷ at (codes "trace") FirstLiteral
+    ∷ at (codes "crit") FirstLiteral ∷ at (codes "log") FirstLiteral ∷ at
+    (codes "event") FirstLiteral
     ∷ at (codes "anyhow") (At 0) ∷ at (codes "eyre") (At 0) ∷ at (codes "format_err") (At 0)
     ∷ at (codes "bail") (At 0) ∷ at (codes "ensure") (At 1) ∷ []

@@ -12,7 +12,7 @@ use Rattle.format_calls.specs.declared.strings.Reason.TheVariants.{Missing, Edit
 use Rattle.format_calls.specs.declared.strings.Reason.TheVariants.{Suffix}
 use Rattle.format_calls.specs.declared.strings.Reason.TheVariants.{Macro, Expression}
 use Rattle.format_calls.specs.declared.table.Rule.{Rule}
-use Rattle.format_calls.specs.declared.table.Rule.TheVariants.{At, ByEdition, AfterFields}
+use Rattle.format_calls.specs.declared.table.Rule.TheVariants.{At, IndexByEdition, FirstLiteral}
 use Rattle.format_calls.specs.declared.table.Rule.TheVariants.{Templates}
 use Rattle.format_calls.specs.Marks.{is_mark, is_word}
 
@@ -60,8 +60,8 @@ first_text xs bs = position (λ a. begins_text xs a) bs
 -- The argument is the format string by this rule. For macros of slog key-values may follow it.
 abbrev pub is_string_by : Rule → List Leaf → Argument → Bool
 is_string_by (At n) xs a = is_text xs a
-is_string_by (ByEdition n) xs a = is_text xs a
-is_string_by AfterFields xs a = begins_text xs a
+is_string_by (IndexByEdition n) xs a = is_text xs a
+is_string_by FirstLiteral xs a = begins_text xs a
 is_string_by Templates xs a = is_text xs a
 
 abbrev pub text_or : Option ℕ → Result ℕ Reason
@@ -77,7 +77,7 @@ argument_or xs n (Some a) b = if b then Err Edition else
 -- `is_new` is false, the last argument is none for some. Of several templates it is the first.
 abbrev pub format_string : List Leaf → Rule → List Argument → Bool → Result ℕ Reason
 format_string xs (At n) bs is_new = argument_or xs n (slice_get bs n) false
-format_string xs (ByEdition n) bs is_new =
+format_string xs (IndexByEdition n) bs is_new =
     argument_or xs n (slice_get bs n) (not is_new && (n + 1) == length bs)
-format_string xs AfterFields bs is_new = text_or (first_text xs bs)
+format_string xs FirstLiteral bs is_new = text_or (first_text xs bs)
 format_string xs Templates bs is_new = argument_or xs 0 (slice_get bs 0) false

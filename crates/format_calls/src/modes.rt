@@ -26,8 +26,8 @@ pub enum Mode {
     Parameters,
 }
 
-/// Returns whether a token follows another without white space and comments.
-fn is_joint(token: &Token<'_>, next: &Token<'_>) -> bool
+/// Returns whether a token follows another one without white space and comments.
+pub fn is_joint(token: &Token<'_>, next: &Token<'_>) -> bool
     ensures { result ≡ is_joint (leaf token.now) (leaf next.now) }
 {
     token.start <= next.start && next.start - token.start == token.text.len()

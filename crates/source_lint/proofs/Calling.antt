@@ -1,5 +1,5 @@
 -- A call that is read.
-use Rattle.std.proofs.Common.{◌≡◌, ◌<◌, ◌≤◌, ◌+◌, ◌-◌, ◌⊎◌, ℕ, Bool, false, List, Option, None}
+use Rattle.std.proofs.Common.{◌≡◌, ◌<◌, ◌≤◌, ◌+◌, ◌-◌, ◌⊎◌, ℕ, Bool, List, Option, None}
 use Rattle.std.proofs.Common.{Some, inl, inr, sym, subst, ◌∙◌, length, length-drop, arith, drop}
 use Rattle.std.proofs.Common.{take}
 use Rattle.std.specs.Prelude.{Result, slice_get}
@@ -13,7 +13,7 @@ use Rattle.rust_trees.proofs.Nested.{nested}
 use Rattle.format_calls.specs.Arguments.{AreArguments}
 use Rattle.format_calls.specs.declared.listing.Call.{Call}
 use Rattle.format_calls.specs.declared.split.Argument.{Argument}
-use Rattle.call_faults.specs.Arguments.{Given}
+use Rattle.call_faults.specs.Arguments.{FormatArgument}
 use Rattle.source_lint.specs.declared.report.CallReading.{CallReading}
 use Rattle.source_lint.specs.declared.report.Finding.{Finding}
 use Rattle.source_lint.specs.Readings.{ReadsBy, ReadsLiteral, ReadsUnless, index_or}
@@ -44,18 +44,18 @@ after-one args n =
     take_all (length args - (n + 1)) (drop (n + 1) args) (omega (arith, d))
 
 -- The same is read where all that is known of the call is the same.
-pub reads-by : (t : Text) (a b p q m n : Bool) (gs hs : List Given) (r : CallReading)
+pub reads-by : (t : Text) (a b p q m n : Bool) (gs hs : List FormatArgument) (r : CallReading)
     (fs : List Finding) → a ≡ b → p ≡ q → m ≡ n → gs ≡ hs → ReadsLiteral t a p m gs r fs
     → ReadsLiteral t b q n hs r fs
 reads-by t a b p q m n gs hs r fs e f g h k =
     subst (λ v. ReadsLiteral t v q n hs r fs) e
     (subst (λ v. ReadsLiteral t a v n hs r fs) f
     (subst (λ v. ReadsLiteral t a p v hs r fs) g
-    (subst (λ (v : List Given). ReadsLiteral t a p m v r fs) h k)))
+    (subst (λ (v : List FormatArgument). ReadsLiteral t a p m v r fs) h k)))
 
 -- The reading of a call whose macro the file does not define.
-pub reads-here : (is_new t : Bool) (xs : List Leaf) (c : Call) (bs : List Argument)
-    (o : Result ℕ CallReading) (r : CallReading) (fs : List Finding) → false ≡ t
+pub reads-here : (is_new : Bool) (t : Option CallReading) (xs : List Leaf) (c : Call)
+    (bs : List Argument) (o : Result ℕ CallReading) (r : CallReading) (fs : List Finding) → None ≡ t
     → AreArguments xs (c.name + 3) bs c.close → o ≡ index_or is_new xs c.rule bs
     → ReadsBy is_new xs c bs o r fs → ReadsUnless t is_new xs c r fs
 reads-here is_new t xs c bs o r fs n a e h =

@@ -6,17 +6,17 @@ use Rattle.rustc_parse_format.specs.Literal.{newline}
 use Rattle.rustc_parse_format.specs.Seen.{seen}
 use Rattle.rustc_parse_format.specs.State.{State, after_all, calls, first_state}
 use Rattle.rustc_parse_format.specs.Types.{Format}
-use Rattle.call_faults.specs.Arguments.{Given}
+use Rattle.call_faults.specs.Arguments.{FormatArgument}
 use Rattle.call_faults.specs.Calls.{call_faults, kept_indices}
 use Rattle.call_faults.specs.Labels.{Call}
 use Rattle.call_faults.specs.Seen.{seen_call, seen_fault, seen_given}
 use Rattle.call_faults.specs.Spots.{counts_before}
 use Rattle.call_faults.specs.Texts.{text_fault}
-use Rattle.call_faults.specs.declared.checker.Checked.{Checked}
+use Rattle.call_faults.specs.declared.checker.CallReport.{CallReport}
 use Rattle.source_lint.specs.Readings.{call_of, pieces, start_of}
 
 -- A checked call is that of the string at whose start the parser was.
-pub call-same : (s : State) (x : Checked) (gs : List Given) (captures : Bool)
+pub call-same : (s : State) (x : CallReport) (gs : List FormatArgument) (captures : Bool)
     → map seen_given x.given.now ≡ gs → x.kept.items ≡ kept_indices gs
     → map seen x.pieces.items ≡ pieces s
     → x.counts.items ≡ counts_before 0 (map seen x.pieces.items) → x.parser ≡ after_all s (calls s)

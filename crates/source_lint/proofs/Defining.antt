@@ -5,6 +5,7 @@ use Rattle.std.specs.BTreeMap.{is_at}
 use Rattle.std.specs.BTreeSet.{BTreeSet, UpdatesBy}
 use Rattle.std.specs.Cmp.Lexicographic.{nat_list_eq_equiv, slice_cmp}
 use Rattle.std.specs.List.{list_any}
+use Rattle.std.specs.Prelude.{◌&&◌, slice_get}
 use Rattle.std.specs.Ordering.{is_eq, nat_cmp}
 use Rattle.std.specs.Str.{bytes_eq}
 use denote.Ref.{Bor}
@@ -13,12 +14,15 @@ use Rattle.std.proofs.lemmas.List.Folds.{list_any-append}
 use Rattle.std.proofs.lemmas.Map.Text.{is_eq-slice_cmp}
 use Rattle.rust_trees.specs.Leaves.{AreLeft, Leaf, Unread}
 use Rattle.format_calls.specs.declared.listing.Call.{Call}
+use Rattle.format_calls.specs.declared.table.Rule.{Rule}
 use Rattle.source_lint.specs.declared.report.CallReading.{CallReading}
 use Rattle.source_lint.specs.declared.report.Finding.{Finding}
 use Rattle.source_lint.specs.Macros.{begins_definition, definition, macro_names, names_after}
 use Rattle.source_lint.specs.Macros.{names_in}
 use Rattle.format_calls.specs.Marks.{is_word, word}
-use Rattle.source_lint.specs.Readings.{ReadsAll, ReadsUnless, name_at}
+use Rattle.source_lint.specs.Paths.{is_foreign}
+use Rattle.source_lint.specs.Readings.{ReadsAll, ReadsUnless, Scope, is_log, name_of_leaf}
+use Rattle.source_lint.specs.Readings.{offset_of_leaf, skipped, skipped_if}
 use Rattle.source_lint.specs.Reports.{ReadsCalls}
 use Rattle.format_calls.specs.Rows.{Entry}
 
@@ -102,27 +106,38 @@ pub defines-all : (start u : Unread) (found : List (List ℕ)) (w m : Option Lea
 defines-all start u found w m h l =
     let t = h [] l in (t.0, t.1, λ n. sym (t.2 n ∙ or-none (has found n)))
 
+skipped-same : (s t : Scope) (r : Rule) (o : Option Leaf) → s.text ≡ t.text
+    → ((n : List ℕ) → has s.defined n ≡ has t.defined n) → skipped s r o ≡ skipped t r o
+skipped-same s t r o w e =
+    ap (λ b. skipped_if b (is_log r (name_of_leaf o) && is_foreign s.text (offset_of_leaf o)))
+    (e (name_of_leaf o))
+    ∙ ap (λ v. skipped_if (has t.defined (name_of_leaf o))
+    (is_log r (name_of_leaf o) && is_foreign v (offset_of_leaf o))) w
+
 -- the calls of a file are read in the same way by names that are the same
-all-same : (ds es : List (List ℕ)) (is_new : Bool) (xs : List Leaf)
-    → ((n : List ℕ) → has ds n ≡ has es n) → (cs : List Call) (rs : List CallReading)
-    (fs : List Finding) → ReadsAll ds is_new xs cs rs fs → ReadsAll es is_new xs cs rs fs
-all-same ds es is_new xs e [] rs fs h = h
-all-same ds es is_new xs e (c ∷ cs) rs fs h = (
+all-same : (s t : Scope) (is_new : Bool) (xs : List Leaf) → s.text ≡ t.text
+    → ((n : List ℕ) → has s.defined n ≡ has t.defined n) → (cs : List Call)
+    (rs : List CallReading) (fs : List Finding) → ReadsAll s is_new xs cs rs fs
+    → ReadsAll t is_new xs cs rs fs
+all-same s t is_new xs w e [] rs fs h = h
+all-same s t is_new xs w e (c ∷ cs) rs fs h = (
   h.0,
   h.1,
   h.2,
   h.3,
   h.4,
   h.5,
-  subst (λ t. ReadsUnless t is_new xs c h.0 h.2) (e (name_at xs c.name)) h.6,
-  all-same ds es is_new xs e cs h.1 h.3 h.7,
+  subst (λ o. ReadsUnless o is_new xs c h.0 h.2) (skipped-same s t c.rule (slice_get xs c.name) w e)
+      h.6,
+  all-same s t is_new xs w e cs h.1 h.3 h.7,
 )
 
-pub calls-same : (entries : List Entry) (ds es : List (List ℕ)) (is_new : Bool) (xs : List Leaf)
-    (rs : List CallReading) (fs : List Finding) → ((n : List ℕ) → has ds n ≡ has es n)
-    → ReadsCalls entries ds is_new xs rs fs → ReadsCalls entries es is_new xs rs fs
-calls-same entries ds es is_new xs rs fs e h = record {
+pub calls-same : (entries : List Entry) (s t : Scope) (is_new : Bool) (xs : List Leaf)
+    (rs : List CallReading) (fs : List Finding) → s.text ≡ t.text
+    → ((n : List ℕ) → has s.defined n ≡ has t.defined n)
+    → ReadsCalls entries s is_new xs rs fs → ReadsCalls entries t is_new xs rs fs
+calls-same entries s t is_new xs rs fs w e h = record {
   calls = h.calls;
   are_calls = h.are_calls;
-  reads = all-same ds es is_new xs e h.calls rs fs h.reads;
+  reads = all-same s t is_new xs w e h.calls rs fs h.reads;
 }

@@ -17,6 +17,7 @@ pub mod MovedForms
 pub mod MovedReadings
 pub mod MovedStrings
 pub mod Operands
+pub mod PathWords
 pub mod Reporting
 pub mod Telling
 pub mod Undefined

@@ -15,7 +15,7 @@ use Rattle.format_calls.specs.declared.listing.Call.{Call}
 use Rattle.format_calls.proofs.CallSteps.{call-within}
 use Rattle.source_lint.specs.declared.report.CallReading.{CallReading}
 use Rattle.source_lint.specs.declared.report.Finding.{Finding}
-use Rattle.source_lint.specs.Readings.{ReadsAll}
+use Rattle.source_lint.specs.Readings.{ReadsAll, Scope}
 use Rattle.source_lint.specs.Reports.{AreCalls, ReadsCalls, ReadsParts}
 use Rattle.source_lint.proofs.Elements.{here, in-mapped, mapped-in, nothing-in}
 use Rattle.source_lint.proofs.Embedding.{Embeds, embeds}
@@ -142,31 +142,31 @@ left-embeds gap part left =
     (embeds (gap ++ part) left []))
 
 -- The readings of calls among other tokens.
-reads-moved : (es : List Entry) (names : List (List ℕ)) (is_new : Bool) (xs ys : List Leaf) (g : ℕ)
+reads-moved : (es : List Entry) (s : Scope) (is_new : Bool) (xs ys : List Leaf) (g : ℕ)
     (cs : List Call) (rs : List CallReading) (fs : List Finding) → Embeds xs ys g
-    → ((c : Call) → Contains cs c → IsCall es xs c) → ReadsAll names is_new xs cs rs fs
-    → ReadsAll names is_new ys (map (moved g) cs) rs fs
-reads-moved es names is_new xs ys g [] rs fs e k h = h
-reads-moved es names is_new xs ys g (c ∷ cs) rs fs e k h = (
+    → ((c : Call) → Contains cs c → IsCall es xs c) → ReadsAll s is_new xs cs rs fs
+    → ReadsAll s is_new ys (map (moved g) cs) rs fs
+reads-moved es s is_new xs ys g [] rs fs e k h = h
+reads-moved es s is_new xs ys g (c ∷ cs) rs fs e k h = (
   h.0,
   h.1,
   h.2,
   h.3,
   h.4,
   h.5,
-  reads-same names is_new xs ys g c h.0 h.2 e (k c (here c cs)).is_pair h.6,
-  reads-moved es names is_new xs ys g cs h.1 h.3 e
+  reads-same s is_new xs ys g c h.0 h.2 e (k c (here c cs)).is_pair h.6,
+  reads-moved es s is_new xs ys g cs h.1 h.3 e
       (λ d m. k d (Contains-append_right (c ∷ []) cs d m)) h.7,
 )
 
-reads-join : (names : List (List ℕ)) (is_new : Bool) (xs : List Leaf) (cs ds : List Call)
-    (rs ss : List CallReading) (fs gs : List Finding) → ReadsAll names is_new xs cs rs fs
-    → ReadsAll names is_new xs ds ss gs
-    → ReadsAll names is_new xs (cs ++ ds) (rs ++ ss) (fs ++ gs)
-reads-join names is_new xs [] ds rs ss fs gs h k =
-    subst (λ v. ReadsAll names is_new xs ds v (fs ++ gs)) (sym (ap (λ v. v ++ ss) h.0))
-    (subst (λ v. ReadsAll names is_new xs ds ss v) (sym (ap (λ v. v ++ gs) h.1)) k)
-reads-join names is_new xs (c ∷ cs) ds rs ss fs gs h k = (
+reads-join : (s : Scope) (is_new : Bool) (xs : List Leaf) (cs ds : List Call)
+    (rs ss : List CallReading) (fs gs : List Finding) → ReadsAll s is_new xs cs rs fs
+    → ReadsAll s is_new xs ds ss gs
+    → ReadsAll s is_new xs (cs ++ ds) (rs ++ ss) (fs ++ gs)
+reads-join s is_new xs [] ds rs ss fs gs h k =
+    subst (λ v. ReadsAll s is_new xs ds v (fs ++ gs)) (sym (ap (λ v. v ++ ss) h.0))
+    (subst (λ v. ReadsAll s is_new xs ds ss v) (sym (ap (λ v. v ++ gs) h.1)) k)
+reads-join s is_new xs (c ∷ cs) ds rs ss fs gs h k = (
   h.0,
   h.1 ++ ss,
   h.2,
@@ -174,14 +174,14 @@ reads-join names is_new xs (c ∷ cs) ds rs ss fs gs h k = (
   ap (λ v. v ++ ss) h.4,
   ap (λ v. v ++ gs) h.5 ∙ append_assoc h.2 h.3 gs,
   h.6,
-  reads-join names is_new xs cs ds h.1 ss h.3 gs h.7 k,
+  reads-join s is_new xs cs ds h.1 ss h.3 gs h.7 k,
 )
 
 -- The readings of the parts are those of all tokens.
-pub merged : (es : List Entry) (names : List (List ℕ)) (is_new : Bool) (xs : List Leaf)
+pub merged : (es : List Entry) (s : Scope) (is_new : Bool) (xs : List Leaf)
     (ps : List (List Leaf)) (rs : List CallReading) (fs : List Finding)
-    → ReadsParts es names is_new xs ps rs fs → ReadsCalls es names is_new xs rs fs
-merged es names is_new xs [] rs fs h = record {
+    → ReadsParts es s is_new xs ps rs fs → ReadsCalls es s is_new xs rs fs
+merged es s is_new xs [] rs fs h = record {
   calls = [];
   are_calls = record {
     each = λ c. (λ k. nothing-in c k, λ k. absurd (h.0 c k));
@@ -189,21 +189,21 @@ merged es names is_new xs [] rs fs h = record {
   };
   reads = (h.1, h.2);
 }
-merged es names is_new xs (p ∷ ps) rs fs h =
+merged es s is_new xs (p ∷ ps) rs fs h =
     let gap = h.0 in
     let left = h.1 in
     let a = h.10 in
-    let b = merged es names is_new left ps h.3 h.5 h.11 in
-    let first = reads-moved es names is_new p (gap ++ (p ++ left)) (length gap) a.calls h.2 h.4
+    let b = merged es s is_new left ps h.3 h.5 h.11 in
+    let first = reads-moved es s is_new p (gap ++ (p ++ left)) (length gap) a.calls h.2 h.4
     (embeds gap p left) (λ c k. (a.are_calls.each c).0 k) a.reads in
-    let second = reads-moved es names is_new left (gap ++ (p ++ left)) (length gap + length p)
+    let second = reads-moved es s is_new left (gap ++ (p ++ left)) (length gap + length p)
     b.calls h.3 h.5 (left-embeds gap p left) (λ c k. (b.are_calls.each c).0 k) b.reads in
-    let all : ReadsCalls es names is_new (gap ++ (p ++ left)) (h.2 ++ h.3) (h.4 ++ h.5) =
+    let all : ReadsCalls es s is_new (gap ++ (p ++ left)) (h.2 ++ h.3) (h.4 ++ h.5) =
     record {
       calls = map (moved (length gap)) a.calls ++ map (moved (length gap + length p)) b.calls;
       are_calls = calls-join es gap p left a.calls b.calls h.7 a.are_calls b.are_calls;
-      reads = reads-join names is_new (gap ++ (p ++ left)) _ _ h.2 h.3 h.4 h.5 first second;
+      reads = reads-join s is_new (gap ++ (p ++ left)) _ _ h.2 h.3 h.4 h.5 first second;
     } in
-    subst (λ v. ReadsCalls es names is_new v rs fs) (sym h.6)
-    (subst (λ v. ReadsCalls es names is_new (gap ++ (p ++ left)) v fs) (sym h.8)
-    (subst (λ v. ReadsCalls es names is_new (gap ++ (p ++ left)) (h.2 ++ h.3) v) (sym h.9) all))
+    subst (λ v. ReadsCalls es s is_new v rs fs) (sym h.6)
+    (subst (λ v. ReadsCalls es s is_new (gap ++ (p ++ left)) v fs) (sym h.8)
+    (subst (λ v. ReadsCalls es s is_new (gap ++ (p ++ left)) (h.2 ++ h.3) v) (sym h.9) all))

@@ -1,9 +1,8 @@
 -- The reading of a call among other tokens.
-use Rattle.std.proofs.Common.{◌≡◌, ◌<◌, ◌+◌, ◌∷◌, ◌||◌, [], ℕ, Bool, true, false, List, ap, refl}
-use Rattle.std.proofs.Common.{sym, subst, ◌∙◌, length, arith, map}
-use Rattle.std.specs.Prelude.{◌&&◌, Result, Ok, Err, is_some, not, option_map}
+use Rattle.std.proofs.Common.{◌≡◌, ◌<◌, ◌+◌, ◌∷◌, ◌||◌, [], ℕ, Bool, List, Option, None, Some, ap}
+use Rattle.std.proofs.Common.{refl, sym, subst, ◌∙◌, length, arith, map}
+use Rattle.std.specs.Prelude.{◌&&◌, Result, Ok, Err, is_some, not, option_map, slice_get}
 use Rattle.std.specs.List.{AllByRecursion, list_any}
-use Rattle.std.specs.Str.{bytes_eq}
 use Rattle.std.proofs.lemmas.Option.{slice_get-map}
 use Rattle.rust_trees.specs.Leaves.{Leaf}
 use Rattle.rust_trees.specs.Forests.{IsPair}
@@ -15,7 +14,7 @@ use Rattle.format_calls.specs.Strings.{format_string}
 use Rattle.format_calls.specs.declared.listing.Call.{Call}
 use Rattle.format_calls.specs.declared.split.Argument.{Argument}
 use Rattle.format_calls.specs.declared.table.Rule.{Rule}
-use Rattle.format_calls.specs.declared.table.Rule.TheVariants.{At, ByEdition, AfterFields}
+use Rattle.format_calls.specs.declared.table.Rule.TheVariants.{At, IndexByEdition, FirstLiteral}
 use Rattle.format_calls.specs.declared.table.Rule.TheVariants.{Templates}
 use Rattle.source_lint.specs.declared.report.CallReading.{CallReading}
 use Rattle.source_lint.specs.declared.report.Finding.{Finding}
@@ -25,7 +24,7 @@ use Rattle.source_lint.specs.Forms.{form_here, joined}
 use Rattle.source_lint.specs.Readings.{Reads, ReadsAt, ReadsBy, ReadsOne, ReadsUnless, captures}
 use Rattle.source_lint.specs.Readings.{ends_early}
 use Rattle.source_lint.specs.Readings.{has_expressions, index_if, index_or, is_empty, name_at}
-use Rattle.source_lint.specs.Readings.{name_of_leaf}
+use Rattle.source_lint.specs.Readings.{Scope, name_of_leaf, skipped}
 use Rattle.source_lint.proofs.Calling.{reads-by}
 use Rattle.source_lint.proofs.Embedding.{Embeds}
 use Rattle.source_lint.proofs.MovedAssembly.{asm-same}
@@ -76,9 +75,9 @@ one-same : (rule : Rule) (is_new : Bool) (xs ys : List Leaf) (g : ℕ) (c : Call
     → ReadsOne rule is_new xs c bs n r fs
     → ReadsOne rule is_new ys (moved g c) (map (shifted g) bs) n r fs
 one-same (At m) is_new xs ys g c bs n r fs e p k h = at-same is_new xs ys g c bs n r fs e p k h
-one-same (ByEdition m) is_new xs ys g c bs n r fs e p k h =
+one-same (IndexByEdition m) is_new xs ys g c bs n r fs e p k h =
     at-same is_new xs ys g c bs n r fs e p k h
-one-same AfterFields is_new xs ys g c bs n r fs e p k h =
+one-same FirstLiteral is_new xs ys g c bs n r fs e p k h =
     at-same is_new xs ys g c bs n r fs e p k h
 one-same Templates is_new xs ys g c bs n r fs e p k h = asm-same xs ys g c bs r fs e p k h
 
@@ -123,11 +122,11 @@ index-same xs ys g from to r bs is_new e w l =
     (has_expressions r && list_any (λ p. is_some (joined p)) (map (tokens_of xs) bs)) o)
     (string-same xs ys g from to r bs is_new e w l))
 
-unless-same : (b is_new : Bool) (xs ys : List Leaf) (g : ℕ) (c : Call) (r : CallReading)
-    (fs : List Finding) → Embeds xs ys g → IsPair xs (c.name + 2) c.close
-    → ReadsUnless b is_new xs c r fs → ReadsUnless b is_new ys (moved g c) r fs
-unless-same true is_new xs ys g c r fs e p h = h
-unless-same false is_new xs ys g c r fs e p h =
+unless-same : (o : Option CallReading) (is_new : Bool) (xs ys : List Leaf) (g : ℕ) (c : Call)
+    (r : CallReading) (fs : List Finding) → Embeds xs ys g → IsPair xs (c.name + 2) c.close
+    → ReadsUnless o is_new xs c r fs → ReadsUnless o is_new ys (moved g c) r fs
+unless-same (Some q) is_new xs ys g c r fs e p h = h
+unless-same None is_new xs ys g c r fs e p h =
     let w = (pair-within xs (c.name + 2) c.close p).1 in
     let n : g + (c.name + 3) ≡ g + c.name + 3 = omega arith in (
       map (shifted g) h.0,
@@ -140,12 +139,12 @@ unless-same false is_new xs ys g c r fs e p h =
     )
 
 -- The same is read, and the same is found.
-pub reads-same : (ds : List (List ℕ)) (is_new : Bool) (xs ys : List Leaf) (g : ℕ) (c : Call)
+pub reads-same : (s : Scope) (is_new : Bool) (xs ys : List Leaf) (g : ℕ) (c : Call)
     (r : CallReading) (fs : List Finding) → Embeds xs ys g → IsPair xs (c.name + 2) c.close
-    → Reads ds is_new xs c r fs → Reads ds is_new ys (moved g c) r fs
-reads-same ds is_new xs ys g c r fs e p h =
+    → Reads s is_new xs c r fs → Reads s is_new ys (moved g c) r fs
+reads-same s is_new xs ys g c r fs e p h =
     let w = (pair-within xs (c.name + 2) c.close p).1 in
     let q = p.ends in
-    subst (λ v. ReadsUnless (list_any (bytes_eq v) ds) is_new ys (moved g c) r fs)
-    (sym (name-same xs ys g c.name e (omega (arith, w, q))))
-    (unless-same (list_any (bytes_eq (name_at xs c.name)) ds) is_new xs ys g c r fs e p h)
+    subst (λ o. ReadsUnless (skipped s c.rule o) is_new ys (moved g c) r fs)
+    (sym (e.same c.name (omega (arith, w, q))))
+    (unless-same (skipped s c.rule (slice_get xs c.name)) is_new xs ys g c r fs e p h)

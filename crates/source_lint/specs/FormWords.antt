@@ -1,12 +1,14 @@
 -- The words of rustc for a fault in the arguments of a call, as bytes.
-use Rattle.std.specs.Prelude.{◌≡◌, ◌++◌, ℕ, zero, suc, Bool, true, false, List, [], ◌∷◌}
+use Rattle.std.specs.Prelude.{◌≡◌, ◌++◌, ◌||◌, ℕ, zero, suc, Bool, true, false, List, [], ◌∷◌}
 use Rattle.std.specs.Prelude.{Option, Some, None, codes, option_map, string_bytes, if◌then◌else◌}
+use Rattle.std.specs.Str.{bytes_eq}
 use Rattle.call_faults.specs.Spots.{Help, edit}
 use Rattle.call_faults.specs.declared.spots.Spot.TheVariants.{Argument as WholeArgument}
 use Rattle.source_lint.specs.declared.report.Finding.{Finding}
 use Rattle.source_lint.specs.declared.report.Label.{Label}
 use Rattle.source_lint.specs.Findings.{TellsHelp}
 use Rattle.source_lint.specs.Forms.{Form, NoString, NoLiteral, NoComma, NoExpression}
+use Rattle.source_lint.specs.Forms.{is_control, is_modifier, is_special}
 
 -- The id of a fault, the same for all of a kind.
 unfoldable pub form_id : Form → List ℕ
@@ -15,10 +17,32 @@ form_id (NoLiteral n b) = codes "no-string-literal"
 form_id (NoComma t) = codes "missing-comma"
 form_id (NoExpression k) = codes "missing-expression"
 
+-- A keyword that has no use so far.
+abbrev pub is_reserved : List ℕ → Bool
+is_reserved w = bytes_eq w (codes "abstract") || (bytes_eq w (codes "become")
+    || (bytes_eq w (codes "box") || (bytes_eq w (codes "do") || (bytes_eq w (codes "final")
+    || (bytes_eq w (codes "macro") || (bytes_eq w (codes "override") || (bytes_eq w (codes "priv")
+    || (bytes_eq w (codes "try") || (bytes_eq w (codes "typeof") || (bytes_eq w (codes "unsized")
+    || (bytes_eq w (codes "virtual") || bytes_eq w (codes "yield"))))))))))))
+
+-- A keyword, if the word is not reserved.
+abbrev pub is_keyword : List ℕ → Bool
+is_keyword w = is_control w || (is_modifier w || (is_special w || (bytes_eq w (codes "await")
+    || (bytes_eq w (codes "enum") || (bytes_eq w (codes "mod") || (bytes_eq w (codes "pub")
+    || (bytes_eq w (codes "struct") || (bytes_eq w (codes "trait") || (bytes_eq w (codes "type")
+    || (bytes_eq w (codes "use") || bytes_eq w (codes "where")))))))))))
+
+-- The words of rustc before a token in a title, with the space after them.
+unfoldable pub kind_word : List ℕ → List ℕ
+kind_word w = if bytes_eq w (codes "_") then codes "reserved identifier "
+    else if is_reserved w then codes "reserved keyword "
+    else if is_keyword w then codes "keyword " else []
+
 unfoldable pub form_title : Form → List ℕ
 form_title NoString = codes "requires at least a format string argument"
 form_title (NoLiteral n b) = codes "format argument must be a string literal"
-form_title (NoComma t) = codes "expected `,`, found `" ++ (t ++ codes "`")
+form_title (NoComma t) =
+    codes "expected `,`, found " ++ (kind_word t ++ (codes "`" ++ (t ++ codes "`")))
 form_title (NoExpression k) = codes "expected expression, found `,`"
 
 -- The text of the primary label.

@@ -3,7 +3,7 @@
 use Prim.Native.Char.{code}
 use Rattle.std.specs.Prelude.{ℕ, ◌+◌, ◌-◌, ◌==◌, ◌&&◌, ◌||◌, not, Bool, true, false}
 use Rattle.std.specs.Prelude.{List, [], ◌∷◌, Option, Some, None, is_some, option_map, nat_lt}
-use Rattle.std.specs.Prelude.{codes, length, slice_get, if◌then◌else◌}
+use Rattle.std.specs.Prelude.{nat_le, codes, length, slice_get, if◌then◌else◌}
 use Rattle.std.specs.List.{list_any}
 use Rattle.std.specs.Str.{bytes_eq}
 use Rattle.rust_tokens.specs.declared.kinds.Kind.{Kind}
@@ -17,11 +17,12 @@ use Rattle.rust_trees.specs.declared.sides.Side.TheVariants.{Opens, Closes, Neit
 use Rattle.format_calls.specs.Marks.{is_mark_of, is_variable}
 use Rattle.format_calls.specs.Rows.{rule_of}
 use Rattle.format_calls.specs.Standard.{standard}
-use Rattle.format_calls.specs.Strings.{is_string, is_text_leaf}
+use Rattle.format_calls.specs.Strings.{is_string}
 use Rattle.format_calls.specs.declared.split.Argument.{Argument}
 use Rattle.format_calls.specs.declared.table.Rule.{Rule}
-use Rattle.format_calls.specs.declared.table.Rule.TheVariants.{At, ByEdition, AfterFields}
+use Rattle.format_calls.specs.declared.table.Rule.TheVariants.{At, IndexByEdition, FirstLiteral}
 use Rattle.format_calls.specs.declared.table.Rule.TheVariants.{Templates}
+use Rattle.source_lint.specs.Commas.{has_more, in_place}
 use Rattle.source_lint.specs.declared.forms.Form.{Form as DeclaredForm}
 use Rattle.source_lint.specs.declared.forms.Form.TheVariants.{NoString as NoStringIn}
 use Rattle.source_lint.specs.declared.forms.Form.TheVariants.{NoLiteral as NoLiteralIn}
@@ -150,19 +151,17 @@ are_bytes [] = false
 are_bytes (x ∷ []) = is_byte_string x.kind
 are_bytes (x ∷ y ∷ xs) = false
 
--- `;` in place of the comma after a string literal.
-abbrev pub semicolon_form : Leaf → List Leaf → Option Form
-semicolon_form x [] = None
-semicolon_form x (y ∷ ys) = if is_text_leaf x && is_mark_of (code ";") (Some y)
-    then Some (NoComma y.text) else None
+-- The fault of an argument that is a string literal and more tokens after it.
+abbrev pub comma_form : List Leaf → Option Form
+comma_form xs = option_map (λ y. NoComma y.text) (in_place xs)
 
 -- The fault of an argument that should be the format string, where n others stand after it.
 -- Only paths and literals are looked at.
 abbrev pub literal_form : ℕ → List Leaf → Option Form
 literal_form n [] = None
-literal_form n (x ∷ xs) = if is_string x.kind then semicolon_form x xs else
-    (if is_operand x && not (list_any (λ y. not (is_path y)) (x ∷ xs))
-    then Some (NoLiteral n (are_bytes (x ∷ xs))) else None)
+literal_form n (x ∷ xs) = if not (is_string x.kind)
+    && (is_operand x && not (list_any (λ y. not (is_path y)) (x ∷ xs)))
+    then Some (NoLiteral n (are_bytes (x ∷ xs))) else None
 
 abbrev pub string_form : Bool → ℕ → Option (List Leaf) → Option Form
 string_form b n None = if b then Some NoString else None
@@ -176,11 +175,23 @@ abbrev pub form_by : Bool → ℕ → List (List Leaf) → Option ℕ → Option
 form_by b n ps None = string_form b (length ps - (n + 1)) (slice_get ps n)
 form_by b n ps (Some k) = form_at n k (slice_get ps k)
 
+-- All arguments before the one with the index n are expressions, where the first that is none has
+-- this index, if there is one.
+abbrev pub starts_well : ℕ → Option ℕ → Bool
+starts_well n None = true
+starts_well n (Some k) = nat_le n k
+
+-- A string literal with more tokens after it comes before all that is wrong after it.
+abbrev pub form_with : Bool → ℕ → List (List Leaf) → Option ℕ → Option (List Leaf) → Option Form
+form_with b n ps o None = form_by b n ps o
+form_with b n ps o (Some p) =
+    if starts_well n o && has_more p then comma_form p else form_by b n ps o
+
 -- The fault in arguments of which the one with the index n should be the format string. Where
 -- it is a fault that there is none, b is true.
 abbrev pub form_of : Bool → ℕ → List (List Leaf) → Option Form
-form_of b n ps =
-    if list_any has_variable ps then None else form_by b n ps (first_bad 0 ps)
+form_of b n ps = if list_any has_variable ps then None else
+    form_with b n ps (first_bad 0 ps) (slice_get ps n)
 
 -- A macro of this name wants a format string, and has no other rule where no argument is given.
 abbrev pub needs_string : List ℕ → Bool
@@ -198,8 +209,8 @@ lacks_string w close (a ∷ b ∷ bs) = false
 -- expression for some macros, and templates have rules of their own.
 abbrev pub index_of : Bool → Rule → Option ℕ
 index_of is_new (At n) = Some n
-index_of is_new (ByEdition n) = if is_new then Some n else None
-index_of is_new AfterFields = None
+index_of is_new (IndexByEdition n) = if is_new then Some n else None
+index_of is_new FirstLiteral = None
 index_of is_new Templates = None
 
 abbrev pub form_from : Bool → List (List Leaf) → Option ℕ → Option Form

@@ -9,7 +9,7 @@ use Rattle.rust_tokens.specs.declared.kinds.Kind.{Kind}
 use Rattle.rust_tokens.specs.declared.kinds.Kind.TheVariants.{Ident, RawIdent}
 use Rattle.rust_trees.specs.Leaves.{Leaf}
 use Rattle.format_calls.specs.declared.split.Argument.{Argument}
-use Rattle.call_faults.specs.Arguments.{Given}
+use Rattle.call_faults.specs.Arguments.{FormatArgument}
 
 -- A text without `r#` at its start.
 abbrev pub without_raw : Text → Text
@@ -43,5 +43,5 @@ variable_of xs a = if not a.is_named && (nat_lt a.start a.end && (a.end - a.star
     then option_and_then variable (slice_get xs a.start) else None
 
 -- An argument, as placeholders refer to it.
-abbrev pub given : List Leaf → Argument → Given
+abbrev pub given : List Leaf → Argument → FormatArgument
 given xs a = record { name = name_of xs a; variable = variable_of xs a }

@@ -1,6 +1,7 @@
 pub mod AsmFindings
 pub mod Assembly
 pub mod Attributes
+pub mod Commas
 pub mod Files
 pub mod Findings
 pub mod FormWords
@@ -9,5 +10,6 @@ pub mod Generics
 pub mod Givens
 pub mod Literals
 pub mod Macros
+pub mod Paths
 pub mod Readings
 pub mod Reports

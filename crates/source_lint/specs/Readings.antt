@@ -14,21 +14,25 @@ use Rattle.rust_trees.specs.Leaves.{Leaf}
 use Rattle.format_calls.specs.Arguments.{AreArguments, tokens_of}
 use Rattle.format_calls.specs.Counted.{AreUpTo, is_uncounted}
 use Rattle.format_calls.specs.Marks.{word}
+use Rattle.format_calls.specs.Rows.{rule_of}
+use Rattle.format_calls.specs.Standard.{with_crates}
 use Rattle.format_calls.specs.Strings.{format_string}
 use Rattle.format_calls.specs.declared.listing.Call.{Call}
 use Rattle.format_calls.specs.declared.split.Argument.{Argument}
 use Rattle.format_calls.specs.declared.strings.Reason.{Reason}
 use Rattle.format_calls.specs.declared.table.Rule.{Rule}
-use Rattle.format_calls.specs.declared.table.Rule.TheVariants.{At, ByEdition, AfterFields}
+use Rattle.format_calls.specs.declared.table.Rule.TheVariants.{At, IndexByEdition, FirstLiteral}
 use Rattle.format_calls.specs.declared.table.Rule.TheVariants.{Templates}
 use Rattle.format_calls.specs.Assembly.{template_count}
-use Rattle.call_faults.specs.Arguments.{Given}
+use Rattle.call_faults.specs.Arguments.{FormatArgument}
 use Rattle.call_faults.specs.Calls.{call_faults, kept_indices}
 use Rattle.call_faults.specs.Labels.{Call as CheckedCall}
 use Rattle.call_faults.specs.Spots.{counts_before}
 use Rattle.call_faults.specs.Texts.{text_fault}
+use Rattle.source_lint.specs.declared.macros.File.{File}
 use Rattle.source_lint.specs.declared.report.CallReading.{CallReading}
-use Rattle.source_lint.specs.declared.report.CallReading.TheVariants.{Redefined, NoExpression}
+use Rattle.source_lint.specs.declared.report.CallReading.TheVariants.{RedefinedMacro, ForeignMacro}
+use Rattle.source_lint.specs.declared.report.CallReading.TheVariants.{NoExpression}
 use Rattle.source_lint.specs.declared.report.CallReading.TheVariants.{NoComma, Unread, Malformed}
 use Rattle.source_lint.specs.declared.report.Finding.{Finding}
 use Rattle.source_lint.specs.Assembly.{ReadsTemplates}
@@ -37,6 +41,8 @@ use Rattle.source_lint.specs.FormWords.{TellsForms}
 use Rattle.source_lint.specs.Forms.{form_here, joined}
 use Rattle.source_lint.specs.Givens.{given}
 use Rattle.source_lint.specs.Literals.{appends_newline, without_crs}
+use Rattle.source_lint.specs.Macros.{names_in}
+use Rattle.source_lint.specs.Paths.{is_foreign}
 
 -- A parser at the start of a format string that is this literal and stands for the text t, with a
 -- newline appended or not.
@@ -49,7 +55,7 @@ abbrev pub pieces : State → List (Piece Place)
 pieces s = pieces_in s.world (pieces_of (calls s))
 
 -- A call with this format string, which captures variables or not, and with these arguments.
-abbrev pub call_of : Bool → State → List Given → CheckedCall
+abbrev pub call_of : Bool → State → List FormatArgument → CheckedCall
 call_of captures s gs = record {
   given = gs;
   kept = kept_indices gs;
@@ -61,18 +67,19 @@ call_of captures s gs = record {
 }
 
 -- The arguments that count: none if their number is not known.
-abbrev pub counted_givens : Bool → List Given → List Given
+abbrev pub counted_givens : Bool → List FormatArgument → List FormatArgument
 counted_givens true gs = gs
 counted_givens false gs = []
 
 -- This is the reading of a call with this format string and these arguments, and these are the
 -- findings. If the number of arguments is not known, only the fault of the string counts.
-abbrev pub Finds : Bool → Bool → State → List Given → CallReading → List Finding → Type 0
+abbrev pub Finds : Bool → Bool → State → List FormatArgument → CallReading → List Finding → Type 0
 Finds captures counted s gs r fs = (r ≡ reading_of counted)
     × AreFindings counted (call_of captures s (counted_givens counted gs)) fs
 
 -- The same where the format string is this literal, which may stand for no text.
-abbrev pub ReadsLiteral : Text → Bool → Bool → Bool → List Given → CallReading → List Finding
+abbrev pub ReadsLiteral : Text → Bool → Bool → Bool → List FormatArgument → CallReading
+    → List Finding
     → Type 0
 ReadsLiteral literal appended captures counted gs r fs =
     (((style : Option ℕ) (t : Text) → IsLiteral style literal t → ⊥) × (r ≡ Malformed) × (fs ≡ []))
@@ -91,15 +98,15 @@ name_at xs i = name_of_leaf (slice_get xs i)
 -- does `unreachable!` of the standard library before the edition 2021.
 abbrev pub captures : Bool → Rule → List ℕ → Bool
 captures is_new (At n) w = true
-captures is_new (ByEdition n) w = is_new || not (bytes_eq w (codes "unreachable"))
-captures is_new AfterFields w = true
+captures is_new (IndexByEdition n) w = is_new || not (bytes_eq w (codes "unreachable"))
+captures is_new FirstLiteral w = true
 captures is_new Templates w = true
 
 -- `;` ends the arguments of a macro with this rule: key-values follow it in those of slog.
 abbrev pub ends_early : Rule → Bool
 ends_early (At n) = false
-ends_early (ByEdition n) = false
-ends_early AfterFields = true
+ends_early (IndexByEdition n) = false
+ends_early FirstLiteral = true
 ends_early Templates = false
 
 -- The arguments that start before the token `end`, of which the last ends there at the latest.
@@ -129,8 +136,8 @@ pub record ReadsAt (is_new : Bool) (xs : List Leaf) (c : Call) (args : List Argu
 abbrev pub ReadsOne : Rule → Bool → List Leaf → Call → List Argument → ℕ → CallReading
     → List Finding → Type 0
 ReadsOne (At m) is_new xs c args n r fs = ReadsAt is_new xs c args n r fs
-ReadsOne (ByEdition m) is_new xs c args n r fs = ReadsAt is_new xs c args n r fs
-ReadsOne AfterFields is_new xs c args n r fs = ReadsAt is_new xs c args n r fs
+ReadsOne (IndexByEdition m) is_new xs c args n r fs = ReadsAt is_new xs c args n r fs
+ReadsOne FirstLiteral is_new xs c args n r fs = ReadsAt is_new xs c args n r fs
 ReadsOne Templates is_new xs c args n r fs =
     ReadsTemplates xs c args (template_count xs args) r fs
 
@@ -157,8 +164,8 @@ index_if lacks joins o =
 -- The arguments of a macro with this rule are expressions: operands are none.
 abbrev pub has_expressions : Rule → Bool
 has_expressions (At n) = true
-has_expressions (ByEdition n) = true
-has_expressions AfterFields = true
+has_expressions (IndexByEdition n) = true
+has_expressions FirstLiteral = true
 has_expressions Templates = false
 
 -- The index of the argument that is the format string, or the reading if none is read: where no
@@ -169,23 +176,58 @@ index_or is_new xs r args = index_if (list_any is_empty args)
     (has_expressions r && list_any (λ p. is_some (joined p)) (map (tokens_of xs) args))
     (format_string xs r args is_new)
 
--- The same, unless the file defines a macro of this name.
-abbrev pub ReadsUnless : Bool → Bool → List Leaf → Call → CallReading → List Finding → Type 0
-ReadsUnless true is_new xs c r fs = (r ≡ Redefined) × (fs ≡ [])
-ReadsUnless false is_new xs c r fs = (args : List Argument)
+-- The parts of a file that say which macro a name is: its text, in bytes, and the names of the
+-- macros that it defines.
+pub record Scope : Type 0 where
+  pub text : List ℕ
+  pub defined : List (List ℕ)
+
+-- Those of a file as a contract sees them.
+abbrev pub scope : File → Scope
+scope f = record { text = f.text.now; defined = names_in f.macros.now }
+
+-- The offset of the name of a call in its file.
+abbrev pub offset_of_leaf : Option Leaf → ℕ
+offset_of_leaf None = 0
+offset_of_leaf (Some x) = x.start
+
+-- A macro with this rule and this name is one of log, tracing or slog, if no path says otherwise.
+abbrev pub is_log : Rule → List ℕ → Bool
+is_log (At n) w = false
+is_log (IndexByEdition n) w = false
+is_log FirstLiteral w = is_some (rule_of with_crates w)
+is_log Templates w = false
+
+abbrev pub skipped_if : Bool → Bool → Option CallReading
+skipped_if true b = Some RedefinedMacro
+skipped_if false true = Some ForeignMacro
+skipped_if false false = None
+
+-- The reading of a call with this rule and this name, if its macro is another one than that of the
+-- table: the file defines one of this name, or the name is one of log, tracing or slog, with a path
+-- of another crate in front of it.
+abbrev pub skipped : Scope → Rule → Option Leaf → Option CallReading
+skipped s r o = skipped_if (list_any (bytes_eq (name_of_leaf o)) s.defined)
+    (is_log r (name_of_leaf o) && is_foreign s.text (offset_of_leaf o))
+
+-- The same, unless this is the reading, since the macro is another one.
+abbrev pub ReadsUnless : Option CallReading → Bool → List Leaf → Call → CallReading → List Finding
+    → Type 0
+ReadsUnless (Some q) is_new xs c r fs = (r ≡ q) × (fs ≡ [])
+ReadsUnless None is_new xs c r fs = (args : List Argument)
     × AreArguments xs (c.name + 3) args c.close
     × ReadsBy is_new xs c args (index_or is_new xs c.rule args) r fs
 
--- This is the reading of a call, and these are the findings in it, where the file defines macros of
--- these names, and its edition is from 2021 on or not.
-abbrev pub Reads : List (List ℕ) → Bool → List Leaf → Call → CallReading → List Finding → Type 0
-Reads ds is_new xs c r fs =
-    ReadsUnless (list_any (bytes_eq (name_at xs c.name)) ds) is_new xs c r fs
+-- This is the reading of a call, and these are the findings in it, in a file whose edition is from
+-- 2021 on or not.
+abbrev pub Reads : Scope → Bool → List Leaf → Call → CallReading → List Finding → Type 0
+Reads s is_new xs c r fs =
+    ReadsUnless (skipped s c.rule (slice_get xs c.name)) is_new xs c r fs
 
 -- These are the readings of calls and the findings in them, one call after the other.
-abbrev pub ReadsAll : List (List ℕ) → Bool → List Leaf → List Call → List CallReading
-    → List Finding → Type 0
-ReadsAll ds is_new xs [] rs fs = (rs ≡ []) × (fs ≡ [])
-ReadsAll ds is_new xs (c ∷ cs) rs fs = (r : CallReading) × (more : List CallReading)
+abbrev pub ReadsAll : Scope → Bool → List Leaf → List Call → List CallReading → List Finding
+    → Type 0
+ReadsAll s is_new xs [] rs fs = (rs ≡ []) × (fs ≡ [])
+ReadsAll s is_new xs (c ∷ cs) rs fs = (r : CallReading) × (more : List CallReading)
     × (first others : List Finding) × (rs ≡ r ∷ more) × (fs ≡ first ++ others)
-    × Reads ds is_new xs c r first × ReadsAll ds is_new xs cs more others
+    × Reads s is_new xs c r first × ReadsAll s is_new xs cs more others

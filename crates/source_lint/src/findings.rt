@@ -12,7 +12,7 @@ ghost use Rattle.source_lint.specs.declared.report.Finding.{Finding as FindingVa
 use crate::labels::{help, labels, notes, primary_span};
 use crate::report::{CallReading, Finding};
 use crate::spans::Site;
-use call_faults::{CallEdit, CallFault, CallHelp, Checked};
+use call_faults::{CallEdit, CallFault, CallHelp, CallReport};
 use std::alloc::{AllocError, Global};
 
 /// Returns how much of a call is read where the number of its arguments is known, and where not.
@@ -74,7 +74,7 @@ fn counted_help(help: Option<CallHelp>, is_whole: bool) -> Option<CallHelp>
 fn finding<'c>(
     alloc: Global,
     site: Site<'_, '_>,
-    checked: &Checked<'c>,
+    checked: &CallReport<'c>,
     fault: &CallFault<'c>,
     is_whole: bool,
 ) -> Result<Finding, AllocError>
@@ -106,7 +106,7 @@ fn put_finding<'c>(
     alloc: Global,
     findings: &mut Vec<Finding>,
     site: Site<'_, '_>,
-    checked: &Checked<'c>,
+    checked: &CallReport<'c>,
     fault: &CallFault<'c>,
     is_whole: bool,
 ) -> Result<(), AllocError>
@@ -129,7 +129,7 @@ pub fn put_findings<'c>(
     alloc: Global,
     findings: &mut Vec<Finding>,
     site: Site<'_, '_>,
-    checked: &Checked<'c>,
+    checked: &CallReport<'c>,
     is_whole: bool,
 ) -> Result<(), AllocError>
     ensures outcome { OnOk result ((xs : List FindingValue)

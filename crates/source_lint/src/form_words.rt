@@ -7,12 +7,13 @@ ghost use Rattle.source_lint.specs.Findings.{HasSpans, IsSpan, TellsHelp};
 ghost use Rattle.source_lint.specs.FormWords.{TellLabels, TellsForm, TellsForms, bytes_label};
 ghost use Rattle.source_lint.specs.FormWords.{form_help, form_id, form_label, form_labels};
 ghost use Rattle.source_lint.specs.FormWords.{form_title, has_bytes, lacks_literal, literal_for};
+ghost use Rattle.source_lint.specs.FormWords.{is_keyword, is_reserved, kind_word};
 ghost use Rattle.source_lint.specs.FormWords.{more_placeholders};
 ghost use Rattle.source_lint.specs.Forms.{seen_form};
 ghost use Rattle.source_lint.specs.declared.report.Finding.{Finding as FindingValue};
 ghost use Rattle.source_lint.specs.declared.report.Label.{Label as LabelValue};
 
-use crate::forms::Form;
+use crate::forms::{Form, is_control, is_modifier, is_special};
 use crate::report::{Edit, Finding, Help, Label};
 use crate::spans::{call_range, range_in, tokens_range};
 use format_calls::{Argument, Call};
@@ -33,6 +34,59 @@ fn form_id(form: Form<'_>) -> &'static str
     }
 }
 
+/// Returns whether a word is a keyword that has no use so far.
+fn is_reserved(word: &str) -> bool
+    ensures { result ≡ is_reserved word.now }
+{
+    word == "abstract"
+        || word == "become"
+        || word == "box"
+        || word == "do"
+        || word == "final"
+        || word == "macro"
+        || word == "override"
+        || word == "priv"
+        || word == "try"
+        || word == "typeof"
+        || word == "unsized"
+        || word == "virtual"
+        || word == "yield"
+}
+
+/// Returns whether a word that is not reserved is a keyword.
+fn is_keyword(word: &str) -> bool
+    ensures { result ≡ is_keyword word.now }
+{
+    is_control(word)
+        || is_modifier(word)
+        || is_special(word)
+        || word == "await"
+        || word == "enum"
+        || word == "mod"
+        || word == "pub"
+        || word == "struct"
+        || word == "trait"
+        || word == "type"
+        || word == "use"
+        || word == "where"
+}
+
+/// Returns the words of rustc before a token in a title, with the space after them.
+#[tactic(auto, unfolding(crate::specs::FormWords::kind_word))]
+fn kind_word(text: &str) -> &'static str
+    ensures { result.now ≡ kind_word text.now }
+{
+    if text == "_" {
+        "reserved identifier "
+    } else if is_reserved(text) {
+        "reserved keyword "
+    } else if is_keyword(text) {
+        "keyword "
+    } else {
+        ""
+    }
+}
+
 /// Adds the title. Returns `Err` if an allocation fails.
 #[tactic(auto, unfolding(crate::specs::FormWords::form_title))]
 fn put_title(out: &mut String, form: Form<'_>) -> Result<(), AllocError>
@@ -43,7 +97,9 @@ fn put_title(out: &mut String, form: Form<'_>) -> Result<(), AllocError>
         Form::NoString => out.push_str("requires at least a format string argument")?,
         Form::NoLiteral { .. } => out.push_str("format argument must be a string literal")?,
         Form::NoComma(token) => {
-            out.push_str("expected `,`, found `")?;
+            out.push_str("expected `,`, found ")?;
+            out.push_str(kind_word(token.text))?;
+            out.push_str("`")?;
             out.push_str(token.text)?;
             out.push_str("`")?;
         }

@@ -7,16 +7,15 @@ ghost use Rattle.std.specs.List.{list_any};
 ghost use Rattle.rust_trees.specs.Forests.{IsPair};
 ghost use Rattle.rust_trees.specs.Leaves.{leaf};
 ghost use Rattle.format_calls.specs.Arguments.{tokens_of};
-ghost use Rattle.source_lint.specs.Forms.{are_bytes, bad_form, depth_after, first_bad, form_at};
-ghost use Rattle.source_lint.specs.Forms.{form_here};
+ghost use Rattle.source_lint.specs.Forms.{are_bytes, bad_form, comma_form, depth_after, first_bad};
+ghost use Rattle.source_lint.specs.Forms.{form_at, form_here};
 ghost use Rattle.source_lint.specs.Forms.{form_of, has_variable, index_of, is_bad, is_control};
 ghost use Rattle.source_lint.specs.Forms.{is_literal, is_modifier, is_operand, is_path, is_special};
 ghost use Rattle.source_lint.specs.Forms.{joined, lacks_string, literal_form, needs_string};
-ghost use Rattle.source_lint.specs.Forms.{next_operand, seen_form};
+ghost use Rattle.source_lint.specs.Forms.{next_operand, seen_form, starts_well};
 
-use format_calls::{
-    Argument, Part, Rule, closing, is_mark_of, is_standard, is_text_leaf, token_at,
-};
+use crate::commas::{has_more, in_place};
+use format_calls::{Argument, Part, Rule, closing, is_mark_of, is_standard, token_at};
 use rust_tokens::Kind;
 use rust_trees::{Side, Source, Token};
 
@@ -48,7 +47,7 @@ fn tokens_of<'s, 'a>(tokens: &'s [Token<'a>], argument: &Argument) -> &'s [Token
 }
 
 /// Returns whether a word is a keyword around which expressions may stand.
-fn is_control(word: &str) -> bool
+pub fn is_control(word: &str) -> bool
     ensures { result ≡ is_control word.now }
 {
     word == "as"
@@ -67,7 +66,7 @@ fn is_control(word: &str) -> bool
 }
 
 /// Returns whether a word is a keyword in front of an expression, a pattern or a type.
-fn is_modifier(word: &str) -> bool
+pub fn is_modifier(word: &str) -> bool
     ensures { result ≡ is_modifier word.now }
 {
     word == "async"
@@ -84,7 +83,7 @@ fn is_modifier(word: &str) -> bool
 }
 
 /// Returns whether a word is a keyword that is an expression or begins a path.
-fn is_special(word: &str) -> bool
+pub fn is_special(word: &str) -> bool
     ensures { result ≡ is_special word.now }
 {
     word == "_"
@@ -260,15 +259,7 @@ fn literal_form<'a>(tokens: &[Token<'a>], others: usize) -> Option<Form<'a>>
     let Some(first) = tokens.first() else {
         return None;
     };
-    if matches!(first.kind, Kind::Str | Kind::RawStr) {
-        return match tokens.get(1) {
-            Some(token) if is_text_leaf(first) && is_mark_of(token, b';') => {
-                Some(Form::NoComma(*token))
-            }
-            _ => None,
-        };
-    }
-    if is_operand(first) && are_path(tokens) {
+    if !matches!(first.kind, Kind::Str | Kind::RawStr) && is_operand(first) && are_path(tokens) {
         return Some(Form::NoLiteral {
             others,
             is_bytes: is_bytes(tokens),
@@ -358,6 +349,28 @@ fn form_at<'a>(
     }
 }
 
+/// Returns whether all arguments before the one with an index are expressions, where the one with
+/// the index `bad`, if any, is the first that is none.
+fn starts_well(bad: Option<usize>, index: usize) -> bool
+    ensures { result ≡ starts_well index bad }
+{
+    match bad {
+        Some(bad) => bad >= index,
+        None => true,
+    }
+}
+
+/// Returns the fault of an argument that is a string literal and more tokens after it, if it is
+/// known.
+fn comma_form<'a>(tokens: &[Token<'a>]) -> Option<Form<'a>>
+    ensures { option_map seen_form result ≡ comma_form (map leaf tokens.now) }
+{
+    match in_place(tokens) {
+        Some(token) => Some(Form::NoComma(token)),
+        None => None,
+    }
+}
+
 /// Returns how many arguments stand after the one with an index.
 fn others_after(arguments: &[Argument], index: usize) -> usize
     ensures { result ≡ length arguments.now - (index + 1) }
@@ -380,7 +393,13 @@ fn form_of<'a>(
     if have_variables(part, arguments) {
         return None;
     }
-    match first_bad(part, arguments) {
+    let bad = first_bad(part, arguments);
+    if let Some(string) = part_at(part.tokens(), arguments, index) {
+        if starts_well(bad, index) && has_more(string) {
+            return comma_form(string);
+        }
+    }
+    match bad {
         Some(bad) => form_at(part, arguments, index, bad),
         None => match part_at(part.tokens(), arguments, index) {
             Some(string) => literal_form(string, others_after(arguments, index)),
@@ -425,8 +444,8 @@ fn index_of(rule: Rule, is_from_2021: bool) -> Option<usize>
 {
     match rule {
         Rule::At(index) => Some(index),
-        Rule::ByEdition(index) => { if is_from_2021 { Some(index) } else { None } }
-        Rule::AfterFields | Rule::Templates => None,
+        Rule::IndexByEdition(index) => { if is_from_2021 { Some(index) } else { None } }
+        Rule::FirstLiteral | Rule::Templates => None,
     }
 }
 

@@ -7,7 +7,7 @@ ghost use Rattle.call_faults.specs.Seen.{seen_given};
 ghost use Rattle.source_lint.specs.Givens.{given, is_keyword, name_of, variable, variable_of};
 ghost use Rattle.source_lint.specs.Givens.{without_raw};
 
-use call_faults::Given;
+use call_faults::FormatArgument;
 use format_calls::{Argument, token_at};
 use rust_tokens::{Kind, split_first};
 use rust_trees::Token;
@@ -83,10 +83,10 @@ fn variable_of<'a>(tokens: &[Token<'a>], argument: &Argument) -> Option<&'a str>
 }
 
 /// Returns an argument as placeholders refer to it.
-fn given<'a>(tokens: &[Token<'a>], argument: &Argument) -> Given<'a>
+fn given<'a>(tokens: &[Token<'a>], argument: &Argument) -> FormatArgument<'a>
     ensures { seen_given result ≡ given (map leaf tokens.now) argument.now }
 {
-    Given {
+    FormatArgument {
         name: name_of(tokens, argument),
         variable: variable_of(tokens, argument),
     }
@@ -97,7 +97,7 @@ pub fn givens<'a>(
     alloc: Global,
     tokens: &[Token<'a>],
     arguments: &[Argument],
-) -> Result<Vec<Given<'a>>, AllocError>
+) -> Result<Vec<FormatArgument<'a>>, AllocError>
     ensures { IfOk result (λ v. map seen_given v.items
         ≡ map (given (map leaf tokens.now)) arguments.now) }
 {

@@ -4,6 +4,7 @@
 mod asm_findings;
 mod assembly;
 mod attributes;
+mod commas;
 mod findings;
 mod form_words;
 mod forms;
@@ -14,6 +15,7 @@ mod lint;
 mod literals;
 mod macros;
 mod messages;
+mod paths;
 mod readings;
 mod report;
 mod spans;

@@ -7,14 +7,14 @@ ghost use Rattle.rust_trees.specs.Leaves.{Leaf};
 ghost use Rattle.format_calls.specs.Rows.{entry};
 ghost use Rattle.source_lint.specs.Files.{AreLeaves};
 ghost use Rattle.source_lint.specs.Findings.{HasSpans};
-ghost use Rattle.source_lint.specs.Macros.{names_in};
+ghost use Rattle.source_lint.specs.Readings.{scope};
 ghost use Rattle.source_lint.specs.Reports.{IsReport, ReadsAttributes, ReadsCalls};
 ghost use Rattle.source_lint.specs.declared.report.CallReading.{CallReading as ReadingValue};
 ghost use Rattle.source_lint.specs.declared.report.Finding.{Finding as FindingValue};
 
 use crate::attributes::read_attributes;
-use crate::macros::macro_names;
-use crate::readings::{File, read_call};
+use crate::macros::{File, macro_names};
+use crate::readings::read_call;
 use crate::report::{CallReading, Finding, Options, Report};
 use format_calls::{Part, Table, calls, next_part};
 use rust_trees::{Balance, Source, Tokens};
@@ -39,8 +39,8 @@ fn read_part<'a>(
     ensures read { OnOk result ((rs : List ReadingValue) × (xs : List FindingValue)
         × (found.new.calls.items ≡ found.old.calls.items ++ rs)
         × (found.new.findings.items ≡ found.old.findings.items ++ xs)
-        × ReadsCalls (map entry table.now.rows.items) (names_in file.entry.macros.now)
-        file.entry.is_from_2021 part.now rs xs) }
+        × ReadsCalls (map entry table.now.rows.items) (scope file.entry) file.entry.is_from_2021
+        part.now rs xs) }
     ensures spans { OnOk result (All (HasSpans file.entry.text.now)
         found.old.findings.items
         → All (HasSpans file.entry.text.now) found.new.findings.items) }
@@ -64,8 +64,8 @@ fn read_file(
     balance: &mut Balance,
 ) -> Result<Readings, AllocError>
     ensures read { IfOk result (λ f. (ls : List Leaf) × AreLeaves file.entry.text.now ls
-        × ReadsCalls (map entry table.now.rows.items) (names_in file.entry.macros.now)
-        file.entry.is_from_2021 ls f.calls.items f.findings.items
+        × ReadsCalls (map entry table.now.rows.items) (scope file.entry) file.entry.is_from_2021
+        ls f.calls.items f.findings.items
         × ((w : List Leaf) → IsBalanced w balance.old → IsBalanced (w ++ ls) balance.new)) }
     ensures spans { IfOk result (λ f. All (HasSpans file.entry.text.now)
         f.findings.items) }
@@ -119,6 +119,6 @@ pub fn file_faults(alloc: Global, text: &str, options: &Options<'_>) -> Result<R
     Ok(Report {
         calls: found.calls,
         findings: found.findings,
-        broken: balance.broken(),
+        first_break: balance.first_break(),
     })
 }

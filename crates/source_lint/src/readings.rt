@@ -13,11 +13,10 @@ ghost use Rattle.call_faults.specs.Seen.{seen_given, start};
 ghost use Rattle.source_lint.specs.Findings.{AreFindings, HasSpans};
 ghost use Rattle.source_lint.specs.Givens.{given};
 ghost use Rattle.source_lint.specs.Literals.{appends_newline, without_crs};
-ghost use Rattle.source_lint.specs.Macros.{names_in};
 ghost use Rattle.source_lint.specs.Readings.{Reads, ReadsAt, ReadsLiteral, ReadsOne, call_of};
 ghost use Rattle.source_lint.specs.Readings.{arguments_before, captures, counted_givens};
 ghost use Rattle.source_lint.specs.Readings.{ends_early, has_expressions, index_or, is_empty};
-ghost use Rattle.source_lint.specs.Readings.{name_at};
+ghost use Rattle.source_lint.specs.Readings.{name_at, scope};
 ghost use Rattle.source_lint.specs.declared.report.Finding.{Finding as FindingValue};
 
 use crate::assembly::read_asm;
@@ -26,37 +25,13 @@ use crate::form_words::put_form;
 use crate::forms::{form_here, have_joined};
 use crate::givens::givens;
 use crate::literals::{appends_newline, dropped_crs, read_literal};
-use crate::macros::is_defined;
+use crate::macros::{File, name_at, other_macro};
 use crate::report::{CallReading, Finding};
 use crate::spans::Site;
-use call_faults::{FormatString, Given, call_faults};
-use format_calls::{
-    Argument, Call, Part, Rule, arguments, extent_of, format_string, token_at, word,
-};
+use call_faults::{FormatArgument, FormatString, call_faults};
+use format_calls::{Argument, Call, Part, Rule, arguments, extent_of, format_string, token_at};
 use rust_trees::Token;
 use std::alloc::{AllocError, Global};
-use std::collections::BTreeSet;
-
-/// A file, with what its calls are read by.
-#[derive(Clone, Copy)]
-pub struct File<'s, 'a> {
-    /// The text.
-    pub text: &'a str,
-    /// The names of the macros that it defines.
-    pub macros: &'s BTreeSet<&'a [u8]>,
-    /// Whether its edition is 2021 or a later one.
-    pub is_from_2021: bool,
-}
-
-/// Returns the name of a call, without `r#`.
-fn name_at<'a>(tokens: &[Token<'a>], name: usize) -> &'a [u8]
-    ensures { result.now ≡ name_at (map leaf tokens.now) name }
-{
-    match token_at(tokens, name) {
-        Some(token) => word(&token),
-        None => b"",
-    }
-}
 
 /// Returns arguments as placeholders refer to them, or none if their number is not known.
 /// Returns `Err` if an allocation fails.
@@ -65,7 +40,7 @@ fn counted_givens<'a>(
     tokens: &[Token<'a>],
     arguments: &[Argument],
     is_counted: bool,
-) -> Result<Vec<Given<'a>>, AllocError>
+) -> Result<Vec<FormatArgument<'a>>, AllocError>
     ensures { IfOk result (λ v. map seen_given v.items
         ≡ counted_givens is_counted (map (given (map leaf tokens.now)) arguments.now)) }
 {
@@ -83,7 +58,7 @@ fn check_string<'c>(
     findings: &mut Vec<Finding>,
     site: Site<'_, '_>,
     string: FormatString<'c>,
-    given: &'c [Given<'c>],
+    given: &'c [FormatArgument<'c>],
     is_counted: bool,
 ) -> Result<(), AllocError>
     requires { hashes string.style + length string.text.now + 2 < 2 ^ 64 }
@@ -139,8 +114,8 @@ fn captures(rule: Rule, name: &[u8], is_from_2021: bool) -> bool
     ensures { result ≡ captures is_from_2021 rule name.now }
 {
     match rule {
-        Rule::ByEdition(_) => is_from_2021 || name != b"unreachable".as_slice(),
-        Rule::At(_) | Rule::AfterFields | Rule::Templates => true,
+        Rule::IndexByEdition(_) => is_from_2021 || name != b"unreachable".as_slice(),
+        Rule::At(_) | Rule::FirstLiteral | Rule::Templates => true,
     }
 }
 
@@ -160,7 +135,7 @@ fn argument_at(arguments: &[Argument], index: usize) -> Option<Argument>
 fn ends_early(rule: Rule) -> bool
     ensures { result ≡ ends_early rule }
 {
-    matches!(rule, Rule::AfterFields)
+    matches!(rule, Rule::FirstLiteral)
 }
 
 /// Returns the arguments that start before a token, of which the last ends there at the latest.
@@ -304,7 +279,7 @@ fn read_one<'a>(
             let reading = read_asm(alloc, findings, file.text, part, call, arguments)?;
             Ok(reading)
         }
-        Rule::At(_) | Rule::ByEdition(_) | Rule::AfterFields => {
+        Rule::At(_) | Rule::IndexByEdition(_) | Rule::FirstLiteral => {
             let reading = read_at(alloc, findings, file, part, call, arguments, index)?;
             Ok(reading)
         }
@@ -373,16 +348,15 @@ pub fn read_call<'a>(
     requires { IsPair part.now (call.now.name + 2) call.now.close }
     ensures read { IfOk result (λ r. (xs : List FindingValue)
         × (findings.new.items ≡ findings.old.items ++ xs)
-        × Reads (names_in file.entry.macros.now) file.entry.is_from_2021 part.now call.now
-        r xs) }
+        × Reads (scope file.entry) file.entry.is_from_2021 part.now call.now r xs) }
     ensures spans { OnOk result (All (HasSpans file.entry.text.now) findings.old.items
         → All (HasSpans file.entry.text.now) findings.new.items) }
 {
     let tokens = part.tokens();
-    let name = name_at(tokens, call.name);
-    if is_defined(file.macros, name) {
-        return Ok(CallReading::Redefined);
+    if let Some(reading) = other_macro(file, tokens, call) {
+        return Ok(reading);
     }
+    let name = name_at(tokens, call.name);
     let Some(arguments) = arguments(alloc, part.source(), call.close)? else {
         return Ok(CallReading::Whole);
     };

@@ -1,7 +1,7 @@
 //! The options for reading a file, and the report on it.
 
 use format_calls::{Reason, Table};
-use rust_trees::BreakAt;
+use rust_trees::FileBreak;
 use std::ops::Range;
 
 /// How a file is read.
@@ -22,7 +22,10 @@ pub enum CallReading {
     /// macro repeats some of them.
     StringAlone,
     /// Nothing, since the file defines a macro of this name by `macro_rules!`.
-    Redefined,
+    RedefinedMacro,
+    /// Nothing, since the macro has the name of one of log, tracing or slog, but the path in front
+    /// of it is one of another crate.
+    ForeignMacro,
     /// Nothing, since no expression stands where one of its arguments should, before a comma.
     NoExpression,
     /// Nothing, since no comma stands between two of its expressions.
@@ -100,5 +103,5 @@ pub struct Report {
     /// The faults of these calls, one call after the other.
     pub findings: Vec<Finding>,
     /// Where the file breaks, or `None` if it does not. Calls before that place are read.
-    pub broken: Option<BreakAt>,
+    pub first_break: Option<FileBreak>,
 }

@@ -4,6 +4,7 @@ ghost use Rattle.std.specs.Prelude.{◌≤◌, length};
 ghost use Rattle.source_lint.specs.Findings.{IsSpan};
 
 use crate::literals::offset_in;
+use crate::paths::is_in_path;
 use call_faults::Spot;
 use format_calls::{Argument, token_at};
 use rust_trees::Token;
@@ -51,11 +52,6 @@ pub fn tokens_range(tokens: &[Token<'_>], from: usize, to: usize) -> Range<usize
         Some(last) => first.start..last.start.saturating_add(last.text.len()),
         None => first.start..first.start,
     }
-}
-
-/// Returns whether a byte of a text may stand in a path beside `::`.
-fn is_in_path(byte: u8) -> bool {
-    byte.is_ascii_alphanumeric() || byte == b'_' || byte == b'$' || byte >= 0x80
 }
 
 /// Returns the offset of the word that ends at an offset of a text, or that offset if none does.

@@ -1,7 +1,7 @@
 //! Calls that are checked, and the messages for them.
 
 use crate::rows::ROWS;
-use call_faults::{CallFault, Checked, FormatString, Given, call_faults};
+use call_faults::{CallFault, CallReport, FormatArgument, FormatString, call_faults};
 use std::alloc::{AllocError, Global};
 use std::test::Fail;
 
@@ -26,18 +26,18 @@ fn expression(text: &str) -> Option<&str> {
 }
 
 /// Returns the arguments of a list with a comma and a space between them.
-pub fn arguments<'a>(alloc: Global, list: &'a str) -> Result<Vec<Given<'a>>, AllocError> {
+pub fn arguments<'a>(alloc: Global, list: &'a str) -> Result<Vec<FormatArgument<'a>>, AllocError> {
     let mut given = Vec::new(alloc);
     for argument in list.split(", ") {
         if argument.is_empty() {
             continue;
         }
         given.push(match argument.split_once(" = ") {
-            Some((name, value)) => Given {
+            Some((name, value)) => FormatArgument {
                 name: Some(name),
                 variable: expression(value),
             },
-            None => Given {
+            None => FormatArgument {
                 name: None,
                 variable: expression(argument),
             },

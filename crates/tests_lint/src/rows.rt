@@ -30,6 +30,7 @@ impl Row {
             is_literal: self.is_literal,
             path: "a",
             show: self.show,
+            width: 140,
             colours: self.colours,
         }
     }
@@ -41,6 +42,7 @@ const ALL: Task<'static> = Task {
     is_literal: false,
     path: "a",
     show: Show::All,
+    width: 140,
     colours: false,
 };
 

@@ -12,13 +12,13 @@ returns-in-Templates-clause-literal c =
     rw c.in-Templates.is
     (rw c.tokens-tokens.ensures at c.string_at-in-Templates.ensures.literal)
 
-pub returns-in-ByEdition-clause-literal : goal.returns-in-ByEdition-clause-literal
-returns-in-ByEdition-clause-literal c =
-    rw c.in-ByEdition.is
-    (rw c.tokens-tokens.ensures at c.string_at-in-ByEdition.ensures.literal)
+pub returns-in-IndexByEdition-clause-literal : goal.returns-in-IndexByEdition-clause-literal
+returns-in-IndexByEdition-clause-literal c =
+    rw c.in-IndexByEdition.is
+    (rw c.tokens-tokens.ensures at c.string_at-in-IndexByEdition.ensures.literal)
 
 pub returns-in-Some-clause-literal : goal.returns-in-Some-clause-literal
 returns-in-Some-clause-literal c =
-    rw c.in-AfterFields.is (text-found c.args.source.now c.args.arguments.now c.in-Some.index
+    rw c.in-FirstLiteral.is (text-found c.args.source.now c.args.arguments.now c.in-Some.index
     (sym (subst (λ v. Some c.in-Some.index ≡ first_text v c.args.arguments.now)
     c.tokens-tokens.ensures c.in-Some.ensures)))

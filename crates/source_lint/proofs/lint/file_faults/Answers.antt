@@ -1,4 +1,4 @@
-use Rattle.std.proofs.Common.{◌∙◌, [], ap}
+use Rattle.std.proofs.Common.{◌∙◌, [], ap, refl}
 use Rattle.std.specs.List.{list_any}
 use Rattle.std.specs.Str.{bytes_eq}
 use Rattle.source_lint.specs.Macros.{macro_names}
@@ -19,7 +19,7 @@ returns-clause-report c =
       of_attributes = a.0;
       findings = a.1;
       reads_attributes = a.2;
-      reads = calls-same _ _ _ _ _ _ _
+      reads = calls-same _ _ _ _ _ _ _ refl
           (λ w. n.2 w ∙ ap (λ v. list_any (bytes_eq w) (macro_names v)) same) r.2;
-      breaks = c.broken.ensures r.0 (r.3 [] c.new-balance.ensures);
+      breaks = c.first_break.ensures r.0 (r.3 [] c.new-balance.ensures);
     }

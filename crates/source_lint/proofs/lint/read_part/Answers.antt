@@ -2,8 +2,7 @@ use Rattle.std.proofs.Common.{◌≡◌, ◌∷◌, rules, subst, sym}
 use Rattle.std.specs.Prelude.{Contains}
 use Rattle.source_lint.proofs.Elements.{after-here, here}
 use Rattle.std.proofs.lemmas.List.{nil_from_length}
-use Rattle.source_lint.specs.Macros.{names_in}
-use Rattle.source_lint.specs.Readings.{ReadsAll}
+use Rattle.source_lint.specs.Readings.{ReadsAll, scope}
 use Rattle.source_lint.proofs.Joining.{reading-all, reading-more, reading-none}
 use Rattle.source_lint.proofs.lint.read_part.Goals as goal
 
@@ -48,7 +47,7 @@ returns-clause-read c =
           each = rw c.source.ensures at c.in_ok-calls.ensures.each;
           in_order = rw c.source.ensures at c.in_ok-calls.ensures.in_order;
         };
-        reads = subst (λ v. ReadsAll (names_in c.args.file.macros.now)
-            c.args.file.is_from_2021 c.args.part.now v r.0 r.1) c.as_slice-rest.ensures.value r.4;
+        reads = subst (λ v. ReadsAll (scope c.args.file) c.args.file.is_from_2021 c.args.part.now v
+            r.0 r.1) c.as_slice-rest.ensures.value r.4;
       },
     )

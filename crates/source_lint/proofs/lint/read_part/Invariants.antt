@@ -5,15 +5,15 @@ use Rattle.format_calls.specs.Calls.{IsCall}
 use Rattle.format_calls.specs.Rows.{entry}
 use Rattle.format_calls.specs.declared.listing.Call.{Call}
 use Rattle.source_lint.specs.Findings.{HasSpans}
-use Rattle.source_lint.specs.Macros.{names_in}
+use Rattle.source_lint.specs.Readings.{scope}
 use Rattle.source_lint.proofs.Joining.{Reading}
 use Rattle.source_lint.proofs.lint.read_part.Given as goal
 
 abbrev pub invariant-loop-call : goal.invariant-loop-call
 invariant-loop-call l = record {
-  read : Reading (names_in l.file.macros.now) l.file.is_from_2021 l.part
-      l.initial.rest l.rest l.initial.found.calls.items l.found.calls.items
-      l.initial.found.findings.items l.found.findings.items;
+  read : Reading (scope l.file) l.file.is_from_2021 l.part l.initial.rest l.rest
+      l.initial.found.calls.items l.found.calls.items l.initial.found.findings.items
+      l.found.findings.items;
   are_calls : (c : Call) → Contains l.rest c → IsCall (map entry l.table.rows.items) l.part c;
   spans : All (HasSpans l.file.text.now) l.initial.found.findings.items
       → All (HasSpans l.file.text.now) l.found.findings.items;

@@ -1,50 +1,49 @@
 use Rattle.std.proofs.Common.{◌∙◌, ◌+◌, [], ap, map, refl, subst, sym}
-use Rattle.std.specs.List.{list_any}
-use Rattle.std.specs.Str.{bytes_eq}
+use Rattle.std.specs.Prelude.{slice_get}
 use Rattle.std.proofs.lemmas.List.{append-nil}
 use Rattle.format_calls.specs.Arguments.{tokens_of}
-use Rattle.source_lint.specs.declared.report.CallReading.TheVariants.{Redefined}
 use Rattle.source_lint.specs.FormWords.{TellsForms}
 use Rattle.source_lint.specs.Forms.{form_here}
-use Rattle.source_lint.specs.Macros.{names_in}
-use Rattle.source_lint.specs.Readings.{ReadsUnless, name_at}
+use Rattle.source_lint.specs.Readings.{ReadsUnless, scope, skipped}
 use Rattle.source_lint.proofs.Calling.{arguments-here, reads-here}
 use Rattle.source_lint.proofs.readings.read_call.Goals as goal
 
-pub returns-then-is_defined-clause-read : goal.returns-then-is_defined-clause-read
-returns-then-is_defined-clause-read c = (
+pub returns-in-Some-clause-read : goal.returns-in-Some-clause-read
+returns-in-Some-clause-read c = (
   [],
   sym (append-nil _),
-  subst (λ t. ReadsUnless t c.args.file.is_from_2021 c.args.part.now c.args.call.now Redefined [])
-      (c.if-is_defined.ensures
-      ∙ ap (λ w. list_any (bytes_eq w) (names_in c.args.file.macros.now))
-      (c.name_at-name.ensures ∙ ap (λ v. name_at v c.args.call.now.name) c.tokens-tokens.ensures))
+  subst (λ o. ReadsUnless o c.args.file.is_from_2021 c.args.part.now c.args.call.now
+      c.in-Some.reading [])
+      (sym c.in-Some.is ∙ (c.other_macro.ensures
+      ∙ ap (λ v. skipped (scope c.args.file) c.args.call.now.rule
+      (slice_get v c.args.call.now.name)) c.tokens-tokens.ensures))
       (refl, refl),
 )
 
-pub returns-in_default-clause-read : goal.returns-in_default-clause-read
-returns-in_default-clause-read c =
-    absurd ((rw (c.in_default.is, c.source.ensures) at c.in_ok-arguments.ensures.none) refl
+pub returns-in_default-2-clause-read : goal.returns-in_default-2-clause-read
+returns-in_default-2-clause-read c =
+    absurd ((rw (c.in_default-2.is, c.source.ensures) at c.in_ok-arguments.ensures.none) refl
     (c.args.call.now.name + 2) c.requires)
 
 pub read_one-requires-clause-split : goal.read_one-requires-clause-split
 read_one-requires-clause-split c =
-    let a = rw (c.in-Some.is, c.source.ensures) at c.in_ok-arguments.ensures.some in
-    arguments-here c.args.part.now c.args.call.now c.in-Some.arguments.items
+    let a = rw (c.in-Some-2.is, c.source.ensures) at c.in_ok-arguments.ensures.some in
+    arguments-here c.args.part.now c.args.call.now c.in-Some-2.arguments.items
     c.as_slice-list.result.now a.0 c.as_slice-list.ensures.value c.requires a.1 a.2
 
 pub returns-in-Ok-clause-read : goal.returns-in-Ok-clause-read
 returns-in-Ok-clause-read c =
-    let a = rw (c.in-Some.is, c.source.ensures) at c.in_ok-arguments.ensures.some in
+    let a = rw (c.in-Some-2.is, c.source.ensures) at c.in_ok-arguments.ensures.some in
     let name = rw c.tokens-tokens.ensures at c.name_at-name.ensures in
     let r = c.in_ok-reading-in-Ok.ensures.read in (
       r.0,
       r.1,
       reads-here c.args.file.is_from_2021 _ c.args.part.now c.args.call.now
           c.as_slice-list.result.now _ _ r.0
-          (c.if-is_defined.ensures
-          ∙ ap (λ w. list_any (bytes_eq w) (names_in c.args.file.macros.now)) name)
-          (arguments-here c.args.part.now c.args.call.now c.in-Some.arguments.items
+          (sym c.in_default.is ∙ (c.other_macro.ensures
+          ∙ ap (λ v. skipped (scope c.args.file) c.args.call.now.rule
+          (slice_get v c.args.call.now.name)) c.tokens-tokens.ensures))
+          (arguments-here c.args.part.now c.args.call.now c.in-Some-2.arguments.items
           c.as_slice-list.result.now a.0 c.as_slice-list.ensures.value c.requires a.1 a.2)
           c.in-Ok.ensures.value r.2,
     )
@@ -55,16 +54,17 @@ returns-clause-read c =
     let call = c.args.call.now in
     let is_new = c.args.file.is_from_2021 in
     let args = c.as_slice-list.result.now in
-    let a = rw (c.in-Some.is, c.source.ensures) at c.in_ok-arguments.ensures.some in
+    let a = rw (c.in-Some-2.is, c.source.ensures) at c.in_ok-arguments.ensures.some in
     let name = rw c.tokens-tokens.ensures at c.name_at-name.ensures in
     let form = c.form_here-form.ensures in
     let t = c.in_ok-put_form-in-Err.ensures.outcome in (
       t.0,
       t.1,
       reads-here is_new _ xs call args _ _ t.0
-          (c.if-is_defined.ensures
-          ∙ ap (λ w. list_any (bytes_eq w) (names_in c.args.file.macros.now)) name)
-          (arguments-here xs call c.in-Some.arguments.items args a.0 c.as_slice-list.ensures.value
+          (sym c.in_default.is ∙ (c.other_macro.ensures
+          ∙ ap (λ v. skipped (scope c.args.file) c.args.call.now.rule
+          (slice_get v c.args.call.now.name)) c.tokens-tokens.ensures))
+          (arguments-here xs call c.in-Some-2.arguments.items args a.0 c.as_slice-list.ensures.value
           c.requires a.1 a.2)
           c.in-Err.ensures.value (
             refl,

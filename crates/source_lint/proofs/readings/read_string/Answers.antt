@@ -1,7 +1,7 @@
 use Rattle.std.proofs.Common.{◌≡◌, ◌∙◌, [], List, ap, chars, inl, inr, map, refl, subst, sym}
 use Rattle.std.proofs.lemmas.List.{append-nil}
 use Rattle.rust_trees.specs.Leaves.{leaf}
-use Rattle.call_faults.specs.Arguments.{Given}
+use Rattle.call_faults.specs.Arguments.{FormatArgument}
 use Rattle.call_faults.specs.Seen.{seen_given}
 use Rattle.source_lint.specs.Findings.{AreFindings}
 use Rattle.source_lint.specs.Givens.{given}
@@ -41,7 +41,7 @@ returns-clause-read c =
         r.is_literal,
         (
           c.reading_of.ensures,
-          subst (λ (gs : List Given). AreFindings c.args.is_counted
+          subst (λ (gs : List FormatArgument). AreFindings c.args.is_counted
               (call_of c.args.captures start gs) t.0) given
               (subst (λ q. AreFindings c.args.is_counted
               (call_of c.args.captures q (map seen_given c.as_slice-list.result.now)) t.0)

@@ -2,7 +2,7 @@ use Rattle.std.proofs.Common.{◌++◌, ◌∙◌, ap, string_bytes, sym}
 use Rattle.call_faults.specs.declared.faults.CallFault.{CallFault}
 use Rattle.call_faults.specs.Seen.{seen_fault, title_parts}
 use Rattle.call_faults.specs.Words.{title}
-use Rattle.call_faults.proofs.checker.Checked.put_title.Goals as goal
+use Rattle.call_faults.proofs.checker.CallReport.put_title.Goals as goal
 
 pub returns-in_ok-put_named-in-MissingName : goal.returns-in_ok-put_named-in-MissingName
 unfolding title
