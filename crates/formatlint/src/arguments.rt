@@ -1,10 +1,12 @@
 //! The values that the arguments of the program stand for.
 
+use crate::changes::Change;
 use crate::forms::Form;
 use clap::ArgMatches;
+use drawn_lines::WIDTH;
 use format_calls::{Row, Rule, Table};
 use format_lint::task::{Show, Task};
-use lint_words::{When, wants_colours};
+use lint_words::{ColourChoice, wants_colours};
 use rust_tokens::{Kind, first_token};
 use rustc_parse_format::ParseMode;
 use std::alloc::{AllocError, Global};
@@ -27,11 +29,11 @@ fn mode_of(matches: &ArgMatches<'_>) -> ParseMode {
 }
 
 /// Returns when colours are written.
-fn when_of(matches: &ArgMatches<'_>) -> When {
+fn when_of(matches: &ArgMatches<'_>) -> ColourChoice {
     match matches.get_str("color").unwrap_or("auto") {
-        "always" => When::Always,
-        "never" => When::Never,
-        _ => When::Auto,
+        "always" => ColourChoice::Always,
+        "never" => ColourChoice::Never,
+        _ => ColourChoice::Auto,
     }
 }
 
@@ -57,14 +59,35 @@ pub fn has_colours(rt: &HostRuntime, matches: &ArgMatches<'_>) -> bool {
     )
 }
 
+/// Returns how many columns a row of a drawing has, or `None` if the word for it is no number.
+pub fn width_of(matches: &ArgMatches<'_>) -> Option<usize> {
+    match matches.get_str("width") {
+        None => Some(WIDTH),
+        Some(word) => word.parse::<usize>().ok(),
+    }
+}
+
 /// Returns the form of messages, drawn in colours or not.
-pub fn form_of(matches: &ArgMatches<'_>, colours: bool) -> Form {
+pub fn form_of(matches: &ArgMatches<'_>, width: usize, colours: bool) -> Form {
     match matches.get_str("message-format").unwrap_or("human") {
         "short" => Form::Short,
         "json" => Form::Json,
         "github" => Form::Github,
         "sarif" => Form::Sarif,
-        _ => Form::Human { colours },
+        _ => Form::Human { colours, width },
+    }
+}
+
+/// Returns what is done with files that are fixed, or `None` if none is fixed.
+pub fn change_of(matches: &ArgMatches<'_>) -> Option<Change> {
+    if !matches.get_flag("fix") {
+        None
+    } else if matches.get_flag("diff") {
+        Some(Change::Diff)
+    } else if matches.get_flag("check") {
+        Some(Change::Check)
+    } else {
+        Some(Change::Write)
     }
 }
 
@@ -90,12 +113,18 @@ fn show_of(matches: &ArgMatches<'_>) -> Show {
 }
 
 /// Returns the task for one string, where the input has this path.
-pub fn task_of<'a>(matches: &ArgMatches<'_>, path: &'a str, colours: bool) -> Task<'a> {
+pub fn task_of<'a>(
+    matches: &ArgMatches<'_>,
+    path: &'a str,
+    width: usize,
+    colours: bool,
+) -> Task<'a> {
     Task {
         mode: mode_of(matches),
         is_literal: !matches.get_flag("text"),
         path,
         show: show_of(matches),
+        width,
         colours,
     }
 }
@@ -139,7 +168,7 @@ pub fn table_of<'a>(alloc: Global, given: &[&'a str]) -> Result<Table<'a>, Optio
     let Ok(mut table) = Table::standard(alloc) else {
         return Err(None);
     };
-    let Ok(others) = Table::of_crates(alloc) else {
+    let Ok(others) = Table::with_crates(alloc) else {
         return Err(None);
     };
     for row in &others.rows {

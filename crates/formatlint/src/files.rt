@@ -2,6 +2,7 @@
 
 ghost use Rattle.std.specs.Prelude.{◌≡◌};
 
+use crate::changes::{Change, replace};
 use crate::editions::Editions;
 use crate::failure::Failure;
 use crate::forms::{File, Form, put_end, put_finding, put_start};
@@ -9,11 +10,13 @@ use crate::literal::tell_of_terminal;
 use crate::recorder::Recorder;
 use crate::totals::Totals;
 use crate::walk::Walk;
+use file_fixes::fixes;
 use piece_listing::run::write_whole;
 use rust_trees::{BreakKind, Places};
 use source_lint::{Options, Report, file_faults};
 use std::io::Read;
 use std::{fs, io};
+use unified_diff::put_diff;
 
 /// The most bytes of a file that are read.
 const MOST: usize = 64 << 20;
@@ -34,6 +37,8 @@ pub struct Request<'a> {
     pub form: Form,
     /// The edition, or `None` for that of each package.
     pub edition: Option<&'a str>,
+    /// What is done with files that are fixed, or `None` if none is fixed.
+    pub change: Option<Change>,
     /// The version of the program.
     pub version: &'a str,
 }
@@ -49,6 +54,8 @@ struct Run<'a> {
     out: String,
     /// Whether there was a message.
     has_messages: bool,
+    /// Whether messages are written to standard error.
+    is_aside: bool,
 }
 
 /// Returns why a file is not read further.
@@ -62,8 +69,13 @@ fn break_words(kind: BreakKind) -> &'static str {
 
 /// Writes a text to standard output.
 pub fn write(rt: &HostRuntime, text: &str) -> Result<(), Failure> {
+    write_bytes(rt, text.as_bytes())
+}
+
+/// Writes bytes to standard output.
+fn write_bytes(rt: &HostRuntime, bytes: &[u8]) -> Result<(), Failure> {
     let mut writer = Recorder::new(rt.stdout());
-    match write_whole(&mut writer, text.as_bytes()) {
+    match write_whole(&mut writer, bytes) {
         Ok(()) => Ok(()),
         Err(fault) => Err(Failure {
             fault,
@@ -77,7 +89,11 @@ impl<'a> Run<'a> {
     fn flush(&mut self, rt: &HostRuntime) -> Result<(), Failure> {
         if !self.out.is_empty() {
             self.totals.clear_progress(rt);
-            write(rt, self.out.as_str())?;
+            if self.is_aside {
+                let _ = rt.eprint(self.out.as_str());
+            } else {
+                write(rt, self.out.as_str())?;
+            }
             self.out.clear();
         }
         Ok(())
@@ -143,10 +159,10 @@ fn tell_end(rt: &HostRuntime, totals: &mut Totals, file: &File<'_>, extent: Exte
         Extent::Text => totals.fail_at(rt, file.path, end, "not UTF-8"),
         Extent::Front => totals.fail_at(rt, file.path, end, "longer than 64 MiB"),
         Extent::Whole => {
-            if let Some(broken) = &report.broken {
-                let start = file.text.floor_char_boundary(broken.start);
+            if let Some(first_break) = &report.first_break {
+                let start = file.text.floor_char_boundary(first_break.start);
                 let place = file.places.at(start);
-                totals.fail_at(rt, file.path, place, break_words(broken.kind));
+                totals.fail_at(rt, file.path, place, break_words(first_break.kind));
             }
         }
     }
@@ -159,31 +175,134 @@ fn read_all<R: Read + Drop>(rt: &HostRuntime, stream: R) -> io::Result<Vec<u8>> 
     Ok(bytes)
 }
 
+/// Where the bytes of a file are from.
+#[derive(Clone, Copy, PartialEq)]
+enum Origin {
+    /// A file.
+    File,
+    /// Standard input.
+    Stdin,
+}
+
 impl<'a> Run<'a> {
-    /// Reads the bytes of a file, and writes the messages about it.
-    fn lint<'x>(
+    /// Writes the messages of a report on a file, of which this extent was read.
+    fn put_report<'x>(
         &mut self,
         rt: &HostRuntime,
         path: &'x str,
-        bytes: &'x [u8],
+        text: &'x str,
+        extent: Extent,
+        report: &'x Report,
+    ) -> Result<(), Failure> {
+        let is_broken = report.first_break.is_some() || !matches!(extent, Extent::Whole);
+        if report.findings.is_empty() && !is_broken {
+            return Ok(());
+        }
+        let places = Places::new(rt.alloc(), text)?;
+        let file = File { path, text, places };
+        if !matches!(self.request.change, Some(Change::Diff | Change::Check)) {
+            self.put_findings(rt, &file, report)?;
+            self.flush(rt)?;
+        }
+        tell_end(rt, &mut self.totals, &file, extent, report);
+        Ok(())
+    }
+
+    /// Writes the fixed text of a file where the request says. Returns whether that was done.
+    fn put_fixed(
+        &mut self,
+        rt: &HostRuntime,
+        path: &str,
+        origin: Origin,
+        change: Change,
+        texts: (&str, &str),
+    ) -> Result<bool, Failure> {
+        let (old, new) = texts;
+        self.totals.clear_progress(rt);
+        match change {
+            Change::Diff => {
+                let mut diff = String::new(rt.alloc());
+                put_diff(&mut diff, path, old, new)?;
+                write(rt, diff.as_str())?;
+            }
+            Change::Check => {
+                write(rt, path)?;
+                write(rt, "\n")?;
+            }
+            Change::Write if origin == Origin::Stdin => write(rt, new)?,
+            Change::Write => {
+                if let Err(failure) = replace(rt, path, old.as_bytes(), new.as_bytes()) {
+                    self.totals.fail_step(rt, path, &failure);
+                    return Ok(false);
+                }
+            }
+        }
+        Ok(true)
+    }
+
+    /// Fixes a file that was read whole, and writes what the request wants of it.
+    fn fix(
+        &mut self,
+        rt: &HostRuntime,
+        path: &str,
+        text: &str,
+        origin: Origin,
+        change: Change,
+    ) -> Result<(), Failure> {
+        let fixed = fixes(rt.alloc(), text, &self.options)?;
+        let is_source = origin == Origin::Stdin && change == Change::Write;
+        let Some(new) = &fixed.text else {
+            if is_source {
+                write(rt, text)?;
+            }
+            self.totals.add(&fixed.report);
+            return self.put_report(rt, path, text, Extent::Whole, &fixed.report);
+        };
+        if !self.put_fixed(rt, path, origin, change, (text, new.as_str()))? {
+            return self.report(rt, path, text, Extent::Whole);
+        }
+        self.totals.add(&fixed.report);
+        self.totals.add_fixes(fixed.ids.len());
+        self.put_report(rt, path, new.as_str(), Extent::Whole, &fixed.report)
+    }
+
+    /// Reads a text of a file, and writes the messages about it.
+    fn report(
+        &mut self,
+        rt: &HostRuntime,
+        path: &str,
+        text: &str,
+        extent: Extent,
+    ) -> Result<(), Failure> {
+        let report = file_faults(rt.alloc(), text, &self.options)?;
+        self.totals.add(&report);
+        self.put_report(rt, path, text, extent, &report)
+    }
+
+    /// Reads the bytes of a file, and writes the messages about it.
+    fn lint(
+        &mut self,
+        rt: &HostRuntime,
+        path: &str,
+        bytes: &[u8],
+        origin: Origin,
     ) -> Result<(), Failure> {
         let (text, extent) = text_of(bytes);
         self.options.is_from_2021 = match self.editions.is_from_2021(rt, path) {
             Ok(known) => known,
             Err(error) => return Err(Failure::of(error)),
         };
-        let report = file_faults(rt.alloc(), text, &self.options)?;
-        self.totals.add(&report);
-        let is_broken = report.broken.is_some() || !matches!(extent, Extent::Whole);
-        if report.findings.is_empty() && !is_broken {
-            return Ok(());
+        let Some(change) = self.request.change else {
+            return self.report(rt, path, text, extent);
+        };
+        match extent {
+            Extent::Whole => self.fix(rt, path, text, origin, change),
+            Extent::Text if origin == Origin::Stdin && change == Change::Write => {
+                write_bytes(rt, bytes)?;
+                self.report(rt, path, text, extent)
+            }
+            Extent::Text | Extent::Front => self.report(rt, path, text, extent),
         }
-        let places = Places::new(rt.alloc(), text)?;
-        let file = File { path, text, places };
-        self.put_findings(rt, &file, &report)?;
-        self.flush(rt)?;
-        tell_end(rt, &mut self.totals, &file, extent, &report);
-        Ok(())
     }
 
     /// Reads standard input.
@@ -191,7 +310,7 @@ impl<'a> Run<'a> {
         tell_of_terminal(rt);
         let path = self.request.stdin_path.unwrap_or("<stdin>");
         match read_all(rt, rt.stdin()) {
-            Ok(bytes) => self.lint(rt, path, bytes.as_slice()),
+            Ok(bytes) => self.lint(rt, path, bytes.as_slice(), Origin::Stdin),
             Err(error) => {
                 self.totals.fail(rt, path, &error);
                 Ok(())
@@ -206,7 +325,7 @@ impl<'a> Run<'a> {
             Err(error) => Err(error),
         };
         match read {
-            Ok(bytes) => self.lint(rt, path, bytes.as_slice()),
+            Ok(bytes) => self.lint(rt, path, bytes.as_slice(), Origin::File),
             Err(error) => {
                 self.totals.fail(rt, path, &error);
                 Ok(())
@@ -262,6 +381,14 @@ impl<'a> Run<'a> {
     }
 }
 
+/// Returns whether standard output has the fixed source of standard input, so that messages are
+/// written to standard error.
+fn is_aside(request: &Request<'_>) -> bool {
+    let is_stdin_read = request.paths.contains(&"-")
+        || request.paths.is_empty() && request.stdin_path.is_some();
+    is_stdin_read && request.change.is_some()
+}
+
 /// Reads all paths of a request, and writes the messages about them. Returns the totals, even if
 /// the run ended with a failure.
 pub fn lint<'a>(
@@ -276,6 +403,7 @@ pub fn lint<'a>(
         totals: Totals::new(rt),
         out: String::new(rt.alloc()),
         has_messages: false,
+        is_aside: is_aside(request),
     };
     let result = run.lint_all(rt);
     (run.totals, result)

@@ -1,10 +1,10 @@
 //! The run over one string: a literal, or a text.
 
-use crate::arguments::{file_of, has_colours, list_words, task_of};
+use crate::arguments::{file_of, has_colours, list_words, task_of, width_of};
 use crate::failure::Failure;
 use crate::recorder::Recorder;
 use clap::ArgMatches;
-use drawn_lines::put_glyphs;
+use drawn_lines::{WIDTH, put_glyphs};
 use format_lint::run::run;
 use lint_words::{put_failure, put_not_literal, system_words};
 use listing_json::{Listing, list};
@@ -136,7 +136,8 @@ fn answer(
     let result = if matches.get_flag("list") {
         answer_listing(rt, &mut writer, matches, input)
     } else {
-        let task = task_of(matches, path, has_colours(rt, matches));
+        let width = width_of(matches).unwrap_or(WIDTH);
+        let task = task_of(matches, path, width, has_colours(rt, matches));
         let mut reader = input;
         run(alloc, &mut reader, &mut writer, &mut error_writer, task)
     };

@@ -2,6 +2,7 @@
 #![tactic(auto)]
 
 mod arguments;
+mod changes;
 mod drawings;
 mod editions;
 mod failure;
@@ -14,9 +15,11 @@ mod recorder;
 mod totals;
 mod walk;
 
-use arguments::{form_of, has_colours, table_of};
+use arguments::{change_of, form_of, has_colours, table_of, width_of};
+use changes::Change;
 use clap::error::ErrorKind;
 use clap::{ArgMatches, Error};
+use drawn_lines::WIDTH;
 use fault_rules::{RULES, put_explanation, rule_of};
 use files::{Request, lint, write};
 use forms::Form;
@@ -32,6 +35,9 @@ use totals::Totals;
 /// The error message for a value of `--args` that is no list of arguments.
 const WRONG_LIST: &str = "invalid value for '--args <LIST>': it is a number of arguments, and then \
     names, each after a comma, as in 2,w";
+
+/// The error message for a value of `--width` that is no number.
+const WRONG_WIDTH: &str = "invalid value for '--width <N>': it is a number of columns";
 
 /// The error message for several paths where one string is read.
 const SEVERAL: &str = "--literal and --text read one string, of one file or of standard input";
@@ -112,12 +118,22 @@ fn read_string(rt: &HostRuntime, matches: &ArgMatches<'_>) -> Result<u8, Error> 
     }
 }
 
-/// Returns the exit status of a run with these totals: 3 if something could not be read, otherwise
-/// 1 if there is a fault, and 0 if there is none.
-fn status_of(totals: &Totals) -> u8 {
+/// Returns whether fixes are shown and not written.
+fn is_preview(change: Option<Change>) -> bool {
+    matches!(change, Some(Change::Diff | Change::Check))
+}
+
+/// Returns the exit status of a run with these totals: 3 if something could not be read or written,
+/// otherwise 1 if there is a fault, or for a preview if a file would change, and otherwise 0.
+fn status_of(totals: &Totals, change: Option<Change>) -> u8 {
+    let is_found = if is_preview(change) {
+        totals.changed > 0
+    } else {
+        totals.faults > 0
+    };
     if totals.failures > 0 {
         3
-    } else if totals.faults > 0 {
+    } else if is_found {
         1
     } else {
         0
@@ -139,9 +155,9 @@ fn read_files(
         totals.show_counts(rt);
     }
     if !matches.get_flag("quiet") && !matches!(request.form, Form::Json | Form::Sarif) {
-        totals.sum_up(rt);
+        totals.sum_up(rt, is_preview(request.change));
     }
-    status_of(&totals)
+    status_of(&totals, request.change)
 }
 
 /// Reads the files and folders that the arguments name. Returns the exit status.
@@ -166,8 +182,13 @@ fn files_status(rt: &HostRuntime, matches: &ArgMatches<'_>) -> Result<u8, Error>
         paths,
         excluded: matches.get_strs("exclude").unwrap_or(&[]),
         stdin_path,
-        form: form_of(matches, has_colours(rt, matches)),
+        form: form_of(
+            matches,
+            width_of(matches).unwrap_or(WIDTH),
+            has_colours(rt, matches),
+        ),
         edition: matches.get_str("edition"),
+        change: change_of(matches),
         version: VERSION,
     };
     let options = Options {
@@ -188,6 +209,9 @@ fn status(rt: &HostRuntime, words: &[String]) -> Result<u8, Error> {
     }
     if let Some(id) = matches.get_str("explain") {
         return explain(rt, id);
+    }
+    if width_of(&matches).is_none() {
+        return value_error(rt, WRONG_WIDTH);
     }
     if matches.get_flag("literal") || matches.get_flag("text") {
         return read_string(rt, &matches);

@@ -1,11 +1,13 @@
 //! The totals of a run over files, and the lines about it on standard error.
 
+use crate::changes::StepFailure;
 use crate::progress::Progress;
 use format_calls::Reason;
 use lint_words::{put_failure, put_place_failure, system_words};
 use piece_listing::verdict::RunFault;
 use rust_trees::Place;
 use source_lint::{CallReading, Report};
+use std::alloc::AllocError;
 use std::io;
 
 /// The numbers of calls whose format string was not read, by the reason.
@@ -20,6 +22,7 @@ struct Unread {
     empty: usize,
     joined: usize,
     redefined: usize,
+    foreign: usize,
     malformed: usize,
 }
 
@@ -36,6 +39,10 @@ pub struct Totals {
     pub faults: usize,
     /// The number of warnings that were found.
     pub warnings: usize,
+    /// The number of files that are fixed.
+    pub changed: usize,
+    /// The number of faults and warnings that are fixed.
+    fixed: usize,
     /// The number of files and folders, or parts of them, that could not be read.
     pub failures: usize,
     progress: Progress,
@@ -49,6 +56,17 @@ fn count(number: &mut usize) {
 /// Returns the plural of a noun, unless there is one.
 fn ending(number: usize) -> &'static str {
     if number == 1 { "" } else { "s" }
+}
+
+/// Appends the line that says why the file with this path was not replaced. Returns `Err` if an
+/// allocation fails.
+fn put_step(out: &mut String, path: &str, failure: &StepFailure) -> Result<(), AllocError> {
+    let alloc = *out.allocator();
+    let (step, error) = (failure.step, &failure.error);
+    let words = format!(in alloc; "{error}")?;
+    let why = system_words(words.as_str());
+    let reason = format!(in alloc; "not written: {step}: {why}")?;
+    put_failure(out, path, RunFault::Write, reason.as_str())
 }
 
 impl Unread {
@@ -65,11 +83,12 @@ impl Unread {
     }
 
     /// Returns how many calls there are for each reason, with the reason.
-    fn rows(&self) -> [(usize, &'static str); 10] {
+    fn rows(&self) -> [(usize, &'static str); 11] {
         [
             (self.missing, "no format string"),
             (self.edition, "a lone message, before the edition 2021"),
             (self.redefined, "the file defines the macro"),
+            (self.foreign, "a path of another crate"),
             (self.variable, "a variable of a macro"),
             (self.inner, "a macro inside"),
             (self.expression, "another expression"),
@@ -99,10 +118,13 @@ impl Totals {
                 empty: 0,
                 joined: 0,
                 redefined: 0,
+                foreign: 0,
                 malformed: 0,
             },
             faults: 0,
             warnings: 0,
+            changed: 0,
+            fixed: 0,
             failures: 0,
             progress: Progress::new(rt),
         }
@@ -124,7 +146,8 @@ impl Totals {
         match reading {
             CallReading::Whole => count(&mut self.whole),
             CallReading::StringAlone => count(&mut self.alone),
-            CallReading::Redefined => count(&mut self.unread.redefined),
+            CallReading::RedefinedMacro => count(&mut self.unread.redefined),
+            CallReading::ForeignMacro => count(&mut self.unread.foreign),
             CallReading::NoExpression => count(&mut self.unread.empty),
             CallReading::NoComma => count(&mut self.unread.joined),
             CallReading::Malformed => count(&mut self.unread.malformed),
@@ -145,6 +168,24 @@ impl Totals {
                 count(&mut self.faults);
             }
         }
+    }
+
+    /// Counts a fixed file, and how many faults and warnings are fixed in it.
+    pub fn add_fixes(&mut self, fixes: usize) {
+        count(&mut self.changed);
+        self.fixed = self.fixed.saturating_add(fixes);
+    }
+
+    /// Counts a failure, and writes to standard error why the file with this path was not
+    /// replaced.
+    pub fn fail_step(&mut self, rt: &HostRuntime, path: &str, failure: &StepFailure) {
+        count(&mut self.failures);
+        self.progress.clear(rt);
+        let mut out = String::new(rt.alloc());
+        let _ = match put_step(&mut out, path, failure) {
+            Ok(()) => rt.eprint(out.as_str()),
+            Err(_) => rt.eprintln("formatlint: out of memory"),
+        };
     }
 
     /// Counts a failure, and writes to standard error why the file or folder with this path was not
@@ -182,8 +223,9 @@ impl Totals {
         self.whole.saturating_add(self.alone)
     }
 
-    /// Writes how many files and format strings were read, and how many faults were found.
-    pub fn sum_up(&self, rt: &HostRuntime) {
+    /// Writes how many files and format strings were read, and how many faults were found and
+    /// fixed, or are to be fixed where no file is written.
+    pub fn sum_up(&self, rt: &HostRuntime, is_preview: bool) {
         let (files, strings, faults) = (self.files, self.strings(), self.faults);
         let (of_files, of_strings) = (ending(files), ending(strings));
         let of_faults = ending(faults);
@@ -193,6 +235,12 @@ impl Totals {
             let warnings = self.warnings;
             let of_warnings = ending(warnings);
             let _ = eprint!(rt; ", {warnings} warning{of_warnings}");
+        }
+        if self.changed > 0 {
+            let (fixed, changed) = (self.fixed, self.changed);
+            let of_changed = ending(changed);
+            let word = if is_preview { "to fix" } else { "fixed" };
+            let _ = eprint!(rt; " left, {fixed} {word} in {changed} file{of_changed}");
         }
         let _ = rt.eprintln("");
     }

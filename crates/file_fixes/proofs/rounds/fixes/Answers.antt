@@ -1,0 +1,91 @@
+use Rattle.std.proofs.Common.{◌≡◌, ◌-◌, ◌++◌, [], IfSome, ap, append-nil}
+use Rattle.std.proofs.Common.{◌∙◌, arith, map, string_bytes, subst, sym}
+use Rattle.std.proofs.lemmas.Grind.{common_steps}
+use Rattle.std.proofs.lemmas.List.{map-append}
+use Rattle.std.specs.List.{All}
+use Rattle.format_calls.specs.Rows.{entry}
+use Rattle.source_lint.specs.Findings.{HasSpans}
+use Rattle.file_fixes.specs.FileFixes.{AreRounds, IsRound, bytes_or}
+use Rattle.file_fixes.proofs.RoundLaws.{one-more, stay}
+use Rattle.file_fixes.proofs.rounds.fixes.Goals as goal
+
+pub loop-rounds-init : goal.loop-rounds-init
+loop-rounds-init c =
+    let r = c.in_ok-file_faults.field-0 in
+    record {
+      few = omega (arith);
+      report = c.in_ok-file_faults.ensures.report;
+      spans = c.in_ok-file_faults.ensures.spans;
+      rounds = (
+        r,
+        c.in_ok-file_faults.ensures.report,
+        λ cs q ws h.
+            subst (λ xs. AreRounds (map entry c.args.options.now.table.rows.items)
+            c.args.options.now.is_from_2021 16 c.args.text.now r cs q (map (λ w. w.now) xs ++ ws))
+            (sym c.new.ensures.items) h,
+      );
+    }
+
+pub returns-in_default-clause-rounds : goal.returns-in_default-clause-rounds
+returns-in_default-clause-rounds c =
+    let l = c.loop-rounds in
+    let i = l.invariant.rounds in
+    let es = map entry c.args.options.now.table.rows.items in
+    let new = c.args.options.now.is_from_2021 in
+    let text = c.args.text.now in
+    let cs = bytes_or l.fixed.text text in (
+      i.0,
+      i.1,
+      subst (λ ws. AreRounds es new 16 text i.0 cs l.fixed.report ws) (append-nil _)
+          (i.2 cs l.fixed.report [] (stay es new (16 - l.rounds) cs l.fixed.report)),
+    )
+
+pub loop-rounds-preserved : goal.loop-rounds-preserved
+loop-rounds-preserved c =
+    let l = c.loop-rounds in
+    let i = l.invariant.rounds in
+    let x = c.in-Some.round in
+    let y = c.in_ok-fixed.fixed in
+    let es = map entry c.args.options.now.table.rows.items in
+    let new = c.args.options.now.is_from_2021 in
+    let text = c.args.text.now in
+    let round : IsRound es new (bytes_or l.fixed.text text) l.fixed.report (string_bytes x.text)
+    x.report (map (λ w. w.now) x.ids.items) = grind (arith, common_steps) in
+    let next : IsRound es new (bytes_or l.fixed.text text) l.fixed.report (bytes_or y.text text)
+    y.report (map (λ w. w.now) x.ids.items) = grind (arith, common_steps, round) in
+    let spans : All (HasSpans (string_bytes x.text)) x.report.findings.items =
+    subst (λ o. IfSome o (λ z. All (HasSpans (string_bytes z.text)) z.report.findings.items))
+    c.in-Some.is c.in_ok-round.ensures.spans in
+    let e : map (λ w. w.now) y.ids.items
+    ≡ map (λ w. w.now) l.fixed.ids.items ++ map (λ w. w.now) x.ids.items =
+    ap (map (λ w. w.now)) c.in_ok-fixed.ensures.ids
+    ∙ map-append (λ w. w.now) l.fixed.ids.items x.ids.items in
+    record {
+      few = omega (arith, c.loop-rounds-test.true);
+      report = next.report;
+      spans = subst (λ p. All (HasSpans (bytes_or y.text text)) p.findings.items)
+          (sym c.in_ok-fixed.ensures.report) (subst (λ t. All (HasSpans (bytes_or t text))
+          x.report.findings.items) (sym c.in_ok-fixed.ensures.text) spans);
+      rounds = (
+        i.0,
+        i.1,
+        λ cs q ws h. subst (λ us. AreRounds es new 16 text i.0 cs q (us ++ ws))
+            (sym e) (one-more es new l.rounds text (bytes_or l.fixed.text text)
+            (bytes_or y.text text) i.0 l.fixed.report y.report (map (λ w. w.now) l.fixed.ids.items)
+            (map (λ w. w.now) x.ids.items) c.loop-rounds-test.true next i.2 cs q ws h),
+      );
+    }
+
+pub returns-clause-rounds : goal.returns-clause-rounds
+returns-clause-rounds c =
+    let l = c.loop-rounds in
+    let i = l.invariant.rounds in
+    let es = map entry c.args.options.now.table.rows.items in
+    let new = c.args.options.now.is_from_2021 in
+    let text = c.args.text.now in
+    let cs = bytes_or l.fixed.text text in (
+      i.0,
+      i.1,
+      subst (λ ws. AreRounds es new 16 text i.0 cs l.fixed.report ws) (append-nil _)
+          (i.2 cs l.fixed.report [] (stay es new (16 - l.rounds) cs l.fixed.report)),
+    )

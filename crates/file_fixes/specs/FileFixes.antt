@@ -1,0 +1,39 @@
+-- A file with the suggestions to its faults applied.
+use Rattle.std.specs.Prelude.{◌≡◌, ◌⊎◌, ◌++◌, ◌≤◌, ℕ, zero, suc, Bool, List, [], Option, Some, None}
+use Rattle.std.specs.Prelude.{length, map, string_bytes}
+use Rattle.std.specs.declared.alloc.Global.{Global}
+use Rattle.std.specs.declared.string.String.{String}
+use Rattle.fault_fixes.specs.Edits.{applied}
+use Rattle.format_calls.specs.Rows.{Entry}
+use Rattle.source_lint.specs.Reports.{IsReport}
+use Rattle.source_lint.specs.declared.report.Report.{Report}
+use Rattle.file_fixes.specs.Suggestions.{all_edits, mended}
+
+-- The bytes of a text.
+abbrev pub bytes_or : Option (String Global) → List ℕ → List ℕ
+bytes_or None bs = bs
+bytes_or (Some s) bs = string_bytes s
+
+-- The report q is no worse than r: the file does not break, has as many calls, and no more faults.
+pub record IsNoWorse (r q : Report) : Type 0 where
+  pub old_is_whole : r.first_break ≡ None
+  pub new_is_whole : q.first_break ≡ None
+  pub calls : length q.calls.items ≡ length r.calls.items
+  pub findings : length q.findings.items ≤ length r.findings.items
+
+-- In a round the file with the bytes bs and the report r, of which faults are mended, becomes the
+-- bytes cs with the report q. The mended faults have the ids ws.
+pub record IsRound (es : List Entry) (is_new : Bool) (bs : List ℕ) (r : Report) (cs : List ℕ)
+    (q : Report) (ws : List (List ℕ)) : Type 0 where
+  pub text : cs ≡ applied 0 (all_edits (mended 0 r.findings.items)) bs
+  pub ids : ws ≡ map (λ x. x.id.now) (mended 0 r.findings.items)
+  pub report : IsReport es is_new cs q
+  pub no_worse : IsNoWorse r q
+
+-- The same after at most n rounds, in which faults with the ids ws are mended.
+unfoldable pub AreRounds : List Entry → Bool → ℕ → List ℕ → Report → List ℕ → Report
+    → List (List ℕ) → Type 0
+AreRounds es is_new zero bs r cs q ws = (cs ≡ bs) × (q ≡ r) × (ws ≡ [])
+AreRounds es is_new (suc n) bs r cs q ws = ((cs ≡ bs) × (q ≡ r) × (ws ≡ []))
+    ⊎ ((ds : List ℕ) × (p : Report) × (us vs : List (List ℕ)) × (ws ≡ us ++ vs)
+    × IsRound es is_new bs r ds p us × AreRounds es is_new n ds p cs q vs)

@@ -1,0 +1,3 @@
+pub mod FileFixes
+pub mod SeenEdited
+pub mod Suggestions

@@ -1,0 +1,240 @@
+//! The findings in small files, and how much of their calls is read.
+
+use format_calls::Table;
+use source_lint::{CallReading, Options, Report, file_faults};
+use std::alloc::{AllocError, Global};
+use std::io::Print;
+use std::process::Abort;
+use std::test::Fail;
+
+/// Reads a file with all macros that are known.
+fn report(alloc: Global, text: &str, is_from_2021: bool) -> Result<Report, AllocError> {
+    let mut table = Table::standard(alloc)?;
+    let others = Table::with_crates(alloc)?;
+    for row in &others.rows {
+        table.rows.push(*row)?;
+    }
+    let options = Options {
+        table,
+        is_from_2021,
+    };
+    let report = file_faults(alloc, text, &options)?;
+    Ok(report)
+}
+
+/// Returns a line for each finding of a file: its first byte, its id and its title.
+fn findings(alloc: Global, text: &str) -> Result<String, AllocError> {
+    let report = report(alloc, text, true)?;
+    let mut out = String::new(alloc);
+    for finding in &report.findings {
+        if !out.is_empty() {
+            out.push('\n')?;
+        }
+        let (start, id) = (finding.span.start, finding.id);
+        write!(out, "{start} {id} {}", finding.title)?;
+    }
+    Ok(out)
+}
+
+/// Returns a letter for how much of a call is read.
+fn letter(reading: CallReading) -> char {
+    match reading {
+        CallReading::Whole => 'w',
+        CallReading::StringAlone => 's',
+        CallReading::RedefinedMacro => 'r',
+        CallReading::ForeignMacro => 'f',
+        CallReading::NoExpression => 'e',
+        CallReading::NoComma => 'c',
+        CallReading::Unread(_) => 'u',
+        CallReading::Malformed => 'm',
+    }
+}
+
+/// Returns a letter for each call of a file.
+fn readings(alloc: Global, text: &str, is_from_2021: bool) -> Result<String, AllocError> {
+    let report = report(alloc, text, is_from_2021)?;
+    let mut out = String::new(alloc);
+    for reading in &report.calls {
+        out.push(letter(*reading))?;
+    }
+    Ok(out)
+}
+
+#[test]
+fn findings_of_files(rt: HostRuntime) -> Result<(), Fail> {
+    let alloc = rt.alloc();
+    let rows = [
+        ("", ""),
+        ("fn f() { g(\"{\"); }", ""),
+        (
+            "\u{feff}// é\r\nprintln!(\"é {\", a);\r\n",
+            "24 missing-closing-brace invalid format string: expected `}` but string was terminated",
+        ),
+        (
+            "print!(\"{}\", format!(\"{a b}\"));",
+            "25 missing-closing-brace invalid format string: expected `}`, found `b`",
+        ),
+        (
+            "asm!(\"{}\", \"{b}\", in(reg) a);",
+            "13 missing-name there is no argument named `b`",
+        ),
+        (
+            "#[diagnostic::on_unimplemented(message = \"{A} {B}\")]\ntrait T<A> {}",
+            "47 missing-parameter there is no parameter `B` on trait `T`",
+        ),
+        (
+            "format!(); write!(a, \"{}\" , b); write!(a, ); print!(\"a\",, b);",
+            "0 missing-format-string requires at least a format string argument\n\
+             32 missing-format-string requires at least a format string argument\n\
+             56 missing-expression expected expression, found `,`",
+        ),
+    ];
+    for (text, expected) in rows {
+        let said = findings(alloc, text)?;
+        assert_eq!(&rt; said.as_str(), expected, "{}", text);
+    }
+    Ok(())
+}
+
+/// The token in whose place a comma should be.
+#[test]
+fn commas_that_are_missing(rt: HostRuntime) -> Result<(), Fail> {
+    let alloc = rt.alloc();
+    // the arguments of `print!`, and what rustc found in place of the comma
+    let rows = [
+        ("\"{}\" a", "12 missing-comma expected `,`, found `a`"),
+        (
+            "\"{}\" \"a\"",
+            "12 missing-comma expected `,`, found `\"a\"`",
+        ),
+        ("\"{}\" + a", "12 missing-comma expected `,`, found `+`"),
+        ("\"{}\" &*a", "12 missing-comma expected `,`, found `&`"),
+        ("\"{}\" **a", "12 missing-comma expected `,`, found `*`"),
+        ("\"{}\".f(a)", "11 missing-comma expected `,`, found `.`"),
+        ("\"{}\"; a", "11 missing-comma expected `,`, found `;`"),
+        ("\"{}\" (a + b)", "12 missing-comma expected `,`, found `(`"),
+        ("\"{}\" 'a", "12 missing-comma expected `,`, found `'a`"),
+        (
+            "\"{}\" self.a",
+            "12 missing-comma expected `,`, found keyword `self`",
+        ),
+        (
+            "\"{}\" as A",
+            "12 missing-comma expected `,`, found keyword `as`",
+        ),
+        (
+            "\"{}\" where",
+            "12 missing-comma expected `,`, found keyword `where`",
+        ),
+        ("\"{}\" r#as", "12 missing-comma expected `,`, found `r#as`"),
+        (
+            "\"{}\" _",
+            "12 missing-comma expected `,`, found reserved identifier `_`",
+        ),
+        (
+            "\"{}\" box a",
+            "12 missing-comma expected `,`, found reserved keyword `box`",
+        ),
+        (
+            "\"{}\" + a b,, c",
+            "12 missing-comma expected `,`, found `+`",
+        ),
+        // (an operator of several characters)
+        ("\"{}\" += a", ""),
+        ("\"{}\" ..= a", ""),
+        ("\"{}\" == a b", ""),
+        // (a variable of a macro may be the comma)
+        ("\"{}\" + $a", ""),
+        ("\"{}\"x + a", ""),
+    ];
+    for (list, expected) in rows {
+        let text = format!(in alloc; "print!({list});")?;
+        let said = findings(alloc, text.as_str())?;
+        assert_eq!(&rt; said.as_str(), expected, "{}", list);
+    }
+    Ok(())
+}
+
+#[test]
+fn readings_of_calls(rt: HostRuntime) -> Result<(), Fail> {
+    let alloc = rt.alloc();
+    // a file, and how its calls are read from the edition 2021 on, and before
+    let rows = [
+        ("print!(\"{}\", a); print!(\"{}\", $($a),*);", "ws", "ws"),
+        (
+            "print!(\"\\q\"); print!(\"a\",, b); print!(\"a\" b, c)",
+            "mec",
+            "mec",
+        ),
+        ("panic!(\"{}\"); panic!(\"{}\", a)", "ww", "uw"),
+        (
+            "macro_rules! print { () => {} } print!(\"{}\"); std::print!(\"a\")",
+            "rr",
+            "rr",
+        ),
+        // paths of log, tracing and slog, and of the package itself
+        (
+            "info!(\"a\"); log::info!(\"a\"); ::log::info!(\"a\")",
+            "www",
+            "www",
+        ),
+        (
+            "a::tracing::event!(B, \"a\"); a::slog::crit!(b, \"a\")",
+            "ww",
+            "ww",
+        ),
+        (
+            "crate::info!(\"a\"); self::warn!(\"a\"); super::a::log!(\"a\")",
+            "www",
+            "www",
+        ),
+        (
+            "$crate::info!(\"a\"); {a:info!(\"a\")}; a ::info!(\"a\")",
+            "wwf",
+            "wwf",
+        ),
+        ("a::/**/info!(\"a\"); a:: info!(\"a\")", "ww", "ww"),
+        // paths of other crates
+        (
+            "a::info!(\"a\"); ::a::log_b::warn!(\"a\"); r#a::error!(\"a\")",
+            "fff",
+            "fff",
+        ),
+        (
+            "é::info!(\"a\"); $a::info!(\"a\"); logs::info!(\"a\")",
+            "fff",
+            "fff",
+        ),
+        // macros of other names are read after each path
+        (
+            "a::bail!(\"a\"); a::print!(\"a\"); a::ensure!(b, \"a\")",
+            "www",
+            "www",
+        ),
+    ];
+    for (text, expected, before) in rows {
+        let said = readings(alloc, text, true)?;
+        assert_eq!(&rt; said.as_str(), expected, "{}", text);
+        let said = readings(alloc, text, false)?;
+        assert_eq!(&rt; said.as_str(), before, "{}", text);
+    }
+    Ok(())
+}
+
+#[test]
+fn a_file_out_of_memory_is_read_again(rt: HostRuntime) -> Result<(), Fail> {
+    let alloc = rt.alloc();
+    let text = "print!(\"{a.b} {\r\n}\", a); asm!(\"{b}\"); print!(c);";
+    let expected = "9 field-access invalid format string: field access isn't supported\n\
+                    32 missing-name there is no argument named `b`\n\
+                    45 no-string-literal format argument must be a string literal";
+    let said = match findings(alloc, text) {
+        Ok(said) => said,
+        Err(_) => {
+            println!(rt; "refused")?;
+            findings(alloc, text)?
+        }
+    };
+    assert_eq!(rt; said.as_str(), expected);
+    Ok(())
+}
