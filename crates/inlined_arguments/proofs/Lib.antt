@@ -1,0 +1,5 @@
+pub mod CleanPieces
+pub mod Comparing
+pub mod Naming
+pub mod Placing
+pub mod Widths

@@ -1,0 +1,11 @@
+use Rattle.std.proofs.Common.{◌≡◌, drop, map}
+use Rattle.std.specs.List.{list_any}
+use Rattle.inlined_arguments.specs.Variables.{is_variable}
+use Rattle.inlined_arguments.specs.Seen.{seen_argument}
+use Rattle.inlined_arguments.proofs.conditions.has_variable.Given as goal
+
+-- The answer for what is left is the answer for all.
+abbrev pub invariant-loop-argument : goal.invariant-loop-argument
+invariant-loop-argument l =
+    list_any is_variable (map seen_argument (drop l.argument-index l.arguments))
+    ≡ list_any is_variable (map seen_argument l.arguments)

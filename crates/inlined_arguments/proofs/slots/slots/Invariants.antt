@@ -1,0 +1,13 @@
+use Rattle.std.proofs.Common.{◌≡◌, ◌≤◌, ◌++◌, drop, map}
+use Rattle.inlined_arguments.specs.Seen.{seen_argument, seen_slot}
+use Rattle.inlined_arguments.specs.Values.{slots_from}
+use Rattle.inlined_arguments.proofs.slots.slots.Given as goal
+
+-- The slots so far, and then those of the arguments that are left, are all.
+abbrev pub invariant-loop-index : goal.invariant-loop-index
+invariant-loop-index l = record {
+  few : l.number ≤ l.index;
+  all : map seen_slot l.slots.items
+      ++ slots_from l.index (map seen_argument (drop l.index l.arguments))
+      ≡ slots_from 0 (map seen_argument l.arguments);
+}

@@ -1,0 +1,91 @@
+-- What inlining is: the arguments that are variables go, and the others stay in their order. The
+-- literal keeps its style, and changes only where it refers to arguments. Nothing is wrong with the
+-- call before or after it, and it means the same.
+use Rattle.std.specs.Prelude.{◌≡◌, ◌++◌, ℕ, Bool, List, map, length, Some, None, chars}
+use Rattle.std.specs.Prelude.{option_map}
+use Rattle.rustc_parse_format.specs.Characters.{Text}
+use Rattle.rustc_parse_format.specs.Call.{pieces_of}
+use Rattle.rustc_parse_format.specs.Literal.{IsLiteral, newline}
+use Rattle.rustc_parse_format.specs.State.{State, calls, first_state}
+use Rattle.rustc_parse_format.specs.Types.{Format, Piece}
+use Rattle.rustc_parse_format.specs.World.{Place, pieces_in}
+use Rattle.call_faults.specs.Arguments.{FormatArgument}
+use Rattle.call_faults.specs.Clean.{IsClean}
+use Rattle.inlined_arguments.specs.Conditions.{Call, condition}
+use Rattle.inlined_arguments.specs.Edits.{AreApart, AreAtReferences, Edit, edited}
+use Rattle.inlined_arguments.specs.Meaning.{meaning}
+use Rattle.inlined_arguments.specs.Values.{Slot, given, kept, slots}
+use Rattle.inlined_arguments.specs.Variables.{gone_from}
+use Rattle.inlined_arguments.specs.declared.call.Left.{Left}
+use Rattle.inlined_arguments.specs.declared.call.Left.TheVariants.{Uncounted, NoVariable, Mixed}
+use Rattle.inlined_arguments.specs.declared.call.Left.TheVariants.{CapturesNone, Alone, ConstForm}
+use Rattle.inlined_arguments.specs.declared.call.Left.TheVariants.{Comment, Faulty, NoLiteral}
+use Rattle.inlined_arguments.specs.declared.call.Left.TheVariants.{OtherMeaning}
+
+-- A parser at the start of the format string of a call.
+abbrev pub start : Call → State
+start c = first_state Format c.text c.style (option_map chars c.literal) c.appended_newline
+
+-- The pieces of that string, with their places in the literal.
+abbrev pub pieces : Call → List (Piece Place)
+pieces c = pieces_in (start c).world (pieces_of (calls (start c)))
+
+-- Nothing is wrong with a call with these arguments and this string, which has these pieces.
+abbrev pub ReadsClean : Bool → List FormatArgument → Text → List (Piece (Unit {0})) → Type 0
+ReadsClean captures gs t ps = (c : IsClean captures gs t) × (c.pieces ≡ ps)
+
+-- Nothing is wrong with a call with these slots and this string.
+abbrev pub IsCleanCall : Bool → List Slot → Text → Type 0
+IsCleanCall captures ss t = IsClean captures (map given ss) t
+
+-- Nothing is wrong with a call with the slots ts and the string t, and it means what a call means
+-- that has the slots ss and a string with the pieces ps.
+pub record IsCleanAs {A : Type 0} (captures : Bool) (ss : List Slot) (ps : List (Piece A))
+    (ts : List Slot) (t : Text) : Type 0 where
+  pub clean : IsCleanCall captures ts t
+  pub same : meaning ss ps ≡ meaning ts clean.pieces
+
+-- The call c with this literal, and without the arguments that are variables, means what c does,
+-- where ps are the pieces of the string of c. The literal has the style of that of c, and nothing
+-- is wrong with the new call.
+pub record MeansSame {A : Type 0} (c : Call) (ps : List (Piece A)) (literal : Text) : Type 0 where
+  pub text : Text
+  pub is_literal : IsLiteral c.style literal text
+  pub new : IsCleanAs c.captures (slots c.arguments) ps (kept (slots c.arguments))
+      (text ++ newline c.appended_newline)
+
+-- A call that was inlined: the edits of its literal, the bytes of the literal with them, and the
+-- indices of the arguments that go.
+pub record Inlined : Type 0 where
+  pub edits : List Edit
+  pub literal : List ℕ
+  pub gone : List ℕ
+
+-- The call c was inlined, and this is what was made of it.
+pub record IsInlined (allows_mixed : Bool) (c : Call) (r : Inlined) : Type 0 where
+  pub may_be : condition allows_mixed c ≡ None
+  -- The arguments that go are those that are variables.
+  pub gone : r.gone ≡ gone_from 0 c.arguments
+  -- The literal is the old one with edits where that refers to arguments.
+  pub literal : List ℕ
+  pub is_literal : c.literal ≡ Some literal
+  pub is_edited : r.literal ≡ edited 0 r.edits literal
+  pub are_apart : AreApart 0 r.edits (length literal)
+  pub are_at_references : AreAtReferences (pieces c) r.edits
+  -- Nothing was wrong with the call, so each of its arguments was used. It means what it meant.
+  pub old : IsCleanCall c.captures (slots c.arguments) c.text
+  pub means_same : MeansSame c old.pieces (chars r.literal)
+
+-- The call c is left as it is for this reason.
+abbrev pub IsLeft : Bool → Call → Left → Type 0
+IsLeft m c Uncounted = condition m c ≡ Some Uncounted
+IsLeft m c NoVariable = condition m c ≡ Some NoVariable
+IsLeft m c Mixed = condition m c ≡ Some Mixed
+IsLeft m c CapturesNone = condition m c ≡ Some CapturesNone
+IsLeft m c Alone = condition m c ≡ Some Alone
+IsLeft m c ConstForm = condition m c ≡ Some ConstForm
+IsLeft m c Comment = condition m c ≡ Some Comment
+IsLeft m c Faulty = (condition m c ≡ None) × (IsCleanCall c.captures (slots c.arguments) c.text → ⊥)
+IsLeft m c NoLiteral = (condition m c ≡ None) × (c.literal ≡ None)
+IsLeft m c OtherMeaning = (condition m c ≡ None)
+    × IsCleanCall c.captures (slots c.arguments) c.text

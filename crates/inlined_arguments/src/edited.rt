@@ -1,0 +1,52 @@
+//! A literal with edits.
+
+ghost use Rattle.std.specs.Prelude.{◌≡◌, IfOk, IfSome, length, map, string_bytes};
+ghost use Rattle.inlined_arguments.specs.Edits.{AreApart, edited};
+ghost use Rattle.inlined_arguments.specs.Seen.{seen_edit};
+
+use crate::call::Edit;
+use std::alloc::{AllocError, Global};
+
+/// Returns bytes with edits, or `None` if these are not one after the other in the bytes, or
+/// overlap. Returns `Err` if an allocation fails.
+fn edited_bytes(alloc: Global, bytes: &[u8], edits: &[Edit]) -> Result<Option<Vec<u8>>, AllocError>
+    ensures { IfOk result (λ o. IfSome o (λ v.
+        AreApart 0 (map seen_edit edits.now) (length bytes.now)
+        × (v.items ≡ edited 0 (map seen_edit edits.now) bytes.now))) }
+{
+    let mut out = Vec::new(alloc);
+    let mut at = 0;
+    for edit in edits {
+        if edit.span.end < edit.span.start {
+            return Ok(None);
+        }
+        let Some(front) = bytes.get(at..edit.span.start) else {
+            return Ok(None);
+        };
+        out.extend_from_slice(front)?;
+        out.extend_from_slice(edit.text.as_bytes())?;
+        at = edit.span.end;
+    }
+    let Some(rest) = bytes.get(at..) else {
+        return Ok(None);
+    };
+    out.extend_from_slice(rest)?;
+    Ok(Some(out))
+}
+
+/// Returns a literal with edits, or `None` if these are not one after the other in it, overlap or
+/// cut a character. Returns `Err` if an allocation fails.
+pub(crate) fn edited(
+    alloc: Global,
+    literal: &str,
+    edits: &[Edit],
+) -> Result<Option<String>, AllocError>
+    ensures { IfOk result (λ o. IfSome o (λ s.
+        AreApart 0 (map seen_edit edits.now) (length literal.now)
+        × (string_bytes s ≡ edited 0 (map seen_edit edits.now) literal.now))) }
+{
+    match edited_bytes(alloc, literal.as_bytes(), edits)? {
+        Some(bytes) => Ok(String::from_utf8(bytes).ok()),
+        None => Ok(None),
+    }
+}

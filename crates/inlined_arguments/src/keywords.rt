@@ -1,0 +1,90 @@
+//! The keywords of all editions.
+
+ghost use Rattle.std.specs.Prelude.{◌≡◌, chars};
+ghost use Rattle.std.specs.List.{list_any};
+ghost use Rattle.std.specs.Str.{bytes_eq};
+ghost use Rattle.inlined_arguments.specs.Keywords.{expressions, is_keyword, items, reserved};
+ghost use Rattle.inlined_arguments.specs.Keywords.{statements};
+
+/// Returns whether a word is a keyword that stands in expressions.
+fn is_in_expressions(word: &str) -> bool
+    ensures { result ≡ list_any (bytes_eq word.now) expressions }
+{
+    word == "as"
+        || word == "async"
+        || word == "await"
+        || word == "break"
+        || word == "continue"
+        || word == "crate"
+        || word == "dyn"
+        || word == "false"
+        || word == "move"
+        || word == "return"
+        || word == "Self"
+        || word == "super"
+        || word == "true"
+        || word == "unsafe"
+        || word == "_"
+}
+
+/// Returns whether a word is a keyword that begins or joins statements and branches.
+fn is_in_statements(word: &str) -> bool
+    ensures { result ≡ list_any (bytes_eq word.now) statements }
+{
+    word == "else"
+        || word == "for"
+        || word == "if"
+        || word == "in"
+        || word == "let"
+        || word == "loop"
+        || word == "match"
+        || word == "mut"
+        || word == "ref"
+        || word == "while"
+}
+
+/// Returns whether a word is a keyword that stands in items.
+fn is_in_items(word: &str) -> bool
+    ensures { result ≡ list_any (bytes_eq word.now) items }
+{
+    word == "const"
+        || word == "enum"
+        || word == "extern"
+        || word == "fn"
+        || word == "impl"
+        || word == "mod"
+        || word == "pub"
+        || word == "static"
+        || word == "struct"
+        || word == "trait"
+        || word == "type"
+        || word == "use"
+        || word == "where"
+}
+
+/// Returns whether a word is a keyword without a use.
+fn is_reserved(word: &str) -> bool
+    ensures { result ≡ list_any (bytes_eq word.now) reserved }
+{
+    word == "abstract"
+        || word == "become"
+        || word == "box"
+        || word == "do"
+        || word == "final"
+        || word == "gen"
+        || word == "macro"
+        || word == "override"
+        || word == "priv"
+        || word == "try"
+        || word == "typeof"
+        || word == "unsized"
+        || word == "virtual"
+        || word == "yield"
+}
+
+/// Returns whether a word is a keyword of some edition, except `self`.
+pub(crate) fn is_keyword(word: &str) -> bool
+    ensures { result ≡ is_keyword word.now }
+{
+    is_in_expressions(word) || is_in_statements(word) || is_in_items(word) || is_reserved(word)
+}

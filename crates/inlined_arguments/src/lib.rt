@@ -1,0 +1,17 @@
+//! Arguments of a call that are variables, moved into its format string ([`inlined`]).
+#![tactic(auto)]
+
+mod call;
+mod conditions;
+mod edited;
+mod edits;
+mod inlining;
+mod keywords;
+mod meaning;
+mod reading;
+mod slots;
+mod values;
+mod variables;
+
+pub use call::{Argument, Call, Edit, Inlined, Left};
+pub use inlining::inlined;
