@@ -28,8 +28,8 @@ static int answers(const row *r, const size_t rooms[BUFFERS], int less, uint32_t
     memset(answer, 0, sizeof *answer);
     int is_right = read_row(r, buffers, told, answer) == code;
     if (less < BUFFERS) {
-        const unsigned char *behind = (const unsigned char *)buffers[less] + told[less] * bytes_of[less];
-        for (size_t i = 0; i < bytes_of[less]; i++) is_right &= behind[i] == 0x5a;
+        const unsigned char *after = (const unsigned char *)buffers[less] + told[less] * bytes_of[less];
+        for (size_t i = 0; i < bytes_of[less]; i++) is_right &= after[i] == 0x5a;
     }
     for (int b = 0; b < BUFFERS; b++) free(buffers[b]);
     return is_right;

@@ -38,15 +38,15 @@ fn left_out(case: &Case) -> Option<&'static str> {
 fn warns(snippet: &str) -> bool {
     let mut rest = snippet;
     while let Some(at) = rest.find('\\') {
-        let behind = &rest[at + 1..];
-        if let Some(continued) = behind.strip_prefix('\n') {
+        let after = &rest[at + 1..];
+        if let Some(continued) = after.strip_prefix('\n') {
             let left = continued.trim_start_matches([' ', '\t', '\n', '\r']);
             let skipped = &continued[..continued.len() - left.len()];
             if skipped.contains('\n') || left.starts_with(char::is_whitespace) {
                 return true;
             }
         }
-        rest = behind.get(1..).unwrap_or(behind.trim_start_matches(|_| true));
+        rest = after.get(1..).unwrap_or(after.trim_start_matches(|_| true));
     }
     false
 }
@@ -124,8 +124,8 @@ fn compare(case: &Case, random: &mut Random, counts: &mut Counts) {
     same_as_its_literal(case);
     counts.compared += 1;
     counts.literals += usize::from(a.is_source_literal);
-    let mut behind = 0;
-    while behind < 3 {
+    let mut after = 0;
+    while after < 3 {
         same_state(case, &a, &b, counts);
         match random.below(24) {
             0 => (a.curarg, b.curarg) = (7, 7),
@@ -144,7 +144,7 @@ fn compare(case: &Case, random: &mut Random, counts: &mut Counts) {
             }
             _ => {}
         }
-        behind += usize::from(b.peek().is_none());
+        after += usize::from(b.peek().is_none());
         let (x, y) = (a.next(), b.next());
         counts.calls += 1;
         assert_eq!(format!("{x:?}"), format!("{y:?}"), "piece of {case:?}");

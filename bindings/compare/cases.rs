@@ -172,12 +172,12 @@ pub fn literal(random: &mut Random) -> Case {
 
 /// Compares what the functions of `literal` say of a case with what a parser shows of it.
 pub fn same_as_its_literal(case: &Case) {
-    use dephungo::literal::{between_quotes, is_source_literal, read_content, Literal};
+    use dephungo::literal::{quoted_content, is_source_literal, read_content, Literal};
     let Some(snippet) = &case.snippet else { return };
     let format = dephungo::ParseMode::Format;
     // (a literal is read in runs of characters)
     let ordinary = Literal::new(snippet, format).filter(|it| it.style.is_none());
-    let units = between_quotes(snippet).and_then(read_content);
+    let units = quoted_content(snippet).and_then(read_content);
     let text = units.map(|it| it.iter().map(|(_, c)| *c).collect::<String>());
     assert_eq!(ordinary.map(|it| it.text), text, "Literal::new of {case:?}");
     let snippet_too = Some(snippet.clone());
@@ -188,7 +188,7 @@ pub fn same_as_its_literal(case: &Case) {
     if !is_literal || case.style.is_some() {
         return;
     }
-    let content = between_quotes(snippet).expect("a content between quotes");
+    let content = quoted_content(snippet).expect("a content between quotes");
     let found = read_content(content).expect("the content of a literal");
     let text: String = found.iter().map(|(_, c)| *c).collect();
     assert_eq!(text + if case.newline { "\n" } else { "" }, case.input, "read_content of {case:?}");

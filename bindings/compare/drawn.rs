@@ -7,6 +7,8 @@ use dephungo::ParseMode;
 mod asm_rows;
 #[path = "../../crates/tests_drawn/src/coloured_rows.rt"]
 mod coloured_rows;
+#[path = "../../crates/tests_drawn/src/cut_rows.rt"]
+mod cut_rows;
 #[path = "../../crates/tests_drawn/src/line_rows.rt"]
 mod line_rows;
 #[path = "../../crates/tests_drawn/src/row.rt"]
@@ -15,7 +17,7 @@ mod row;
 mod short_rows;
 
 /// The first fault of a row is drawn as it says.
-fn check(mode: ParseMode, colours: bool, row: &row::Row) {
+fn check(mode: ParseMode, width: usize, colours: bool, row: &row::Row) {
     let snippet = Some(row.literal.to_string());
     let errors = errors_of(row.text, row.style, snippet, row.appended_newline, mode);
     let source = [row.before, row.literal, row.after].concat();
@@ -24,6 +26,7 @@ fn check(mode: ParseMode, colours: bool, row: &row::Row) {
         source: &source,
         line_start: row.line,
         literal_start: row.before.len(),
+        width,
         colours,
     };
     let wanted = row.lines.join("\n") + "\n\n";
@@ -32,14 +35,15 @@ fn check(mode: ParseMode, colours: bool, row: &row::Row) {
 
 fn main() {
     let tables = [
-        (ParseMode::Format, false, short_rows::short_rows()),
-        (ParseMode::Format, false, line_rows::line_rows()),
-        (ParseMode::InlineAsm, false, asm_rows::asm_rows()),
-        (ParseMode::Format, true, coloured_rows::coloured_rows()),
+        (ParseMode::Format, 140, false, short_rows::short_rows()),
+        (ParseMode::Format, 140, false, line_rows::line_rows()),
+        (ParseMode::Format, 40, false, cut_rows::cut_rows()),
+        (ParseMode::InlineAsm, 140, false, asm_rows::asm_rows()),
+        (ParseMode::Format, 140, true, coloured_rows::coloured_rows()),
     ];
-    for (mode, colours, rows) in tables {
-        rows.iter().for_each(|row| check(mode, colours, row));
+    for (mode, width, colours, rows) in tables {
+        rows.iter().for_each(|row| check(mode, width, colours, row));
     }
-    let count: usize = tables.iter().map(|(_, _, rows)| rows.len()).sum();
+    let count: usize = tables.iter().map(|(.., rows)| rows.len()).sum();
     println!("{count} drawings: all are those of rustc");
 }

@@ -14,6 +14,7 @@ const PARTS: &[&str] = &[
     "print!(\"{0} {0} {1}\", a = b, a = c, d)", "print!(\"{}{:.1$}{:2$}\", a, b, b, r#c = 1, c)",
     "print!(\"{:w$} {w} {v}\", v = a, move |a, b| c, d::<E, F>(), x as T<U, V>, |a| b, g = 1 + h,)",
     "$print!(\"{}\")", "$crate::print!(\"}\")", "print!(\"{}\", $($a),*)", "print!($a)", "print!(\"a\"u8)",
+    "print!(\"{} {}\", a $)",
     "print!(\"{} {}\", f::<fn(A) -> B, C>(), a == b, c => d)", "print!(\"{}\", a::<B<C>, D>(), x >= y)",
     "print!(\"{} {}\", <A as B<C, D>>::f(), x as A<B<C>, D>, a -> b, c != d, e <= f, g)",
     "print!(\"{}\", x as T <= y, z > w)", "print!(\"{}\", a || b, c || d, e | f, g | h, i)",
@@ -102,7 +103,7 @@ macro_rules! seen_by {
                 let Some((text, style)) = call.literal().and_then(content) else {
                     return Vec::new();
                 };
-                let mut given: Vec<Given> = call.formatted().iter().map(|it| it.given).collect();
+                let mut given: Vec<FormatArgument> = call.formatted().iter().map(|it| it.given).collect();
                 // (a call gives no variable of an argument with a name, and others may)
                 for it in given.iter_mut().filter(|it| it.name.is_some()) {
                     it.variable = Some("x");
@@ -127,7 +128,7 @@ macro_rules! seen_by {
                 let string = call.string.map_err(reason);
                 let mut lines = vec![format!("{} {:?} {string:?}", call.name, call.span)];
                 for it in &call.arguments {
-                    let Given { name, variable } = it.given;
+                    let FormatArgument { name, variable } = it.given;
                     let (text, span, value) = (it.text, &it.span, &it.value);
                     lines.push(format!(" {name:?} {variable:?} {text:?} {span:?} {value:?}"));
                 }
@@ -142,14 +143,14 @@ macro_rules! seen_by {
                     lines.push(format!("{} {} {token:?}", place.line, place.column));
                 }
                 lines.push(format!("{:?}", broken_at(file)));
-                let mut table = Table::of_crates();
+                let mut table = Table::with_crates();
                 Table::standard().rows().iter().for_each(|row| table.add(*row));
                 table.add(Row { name: "say", rule: Rule::At(1) });
                 lines.extend(calls(file, &table, is_from_2021).iter().flat_map(call));
                 let report = file_faults(file, &table, is_from_2021);
                 lines.extend(report.calls.iter().map(|it| format!("{it:?}")));
                 lines.extend(report.findings.iter().map(|it| format!("{it:?}")));
-                lines.push(format!("{:?}", report.broken));
+                lines.push(format!("{:?}", report.first_break));
                 lines
             }
         }

@@ -76,6 +76,7 @@ fn drawings(
         source: snippet,
         line_start: 1,
         literal_start: 0,
+        width: 140,
         colours: false,
     };
     let calls = calls(snippet, text, style, mode);

@@ -19,6 +19,7 @@ const LINT_WORDS: &[&str] = &[
     "--literal", "--literal", "--literal", "--text", "--mode", "format", "asm", "asmm", "--mode=",
     "--mode=diagnostic", "--mode=formt", "--text=x", "--fix", "--tokens", "--tokns", "--all",
     "--list", "--args", "--args=2,w", "2,w", "--color", "always", "--color=never", "--color=alway",
+    "--width=40", "--width", "9", "--width=x",
     "--version", "--help", "-h", "-V", "-x", "-hV", "-qx", "--", "-", "--zzzz", "---", "--=a", "é",
     "FILE", "GONE", "", "--exclude", "sub", "--exclude=a.rs", "--stdin-path=b.rs", "--edition",
     "2018", "--edition=2021", "--edition=2020", "--macro", "say:0", "--macro=say:1", "--macro=é:0",

@@ -97,6 +97,7 @@ macro_rules! seen_by {
                     source,
                     line_start: 9,
                     literal_start: 0,
+                    width: 140,
                     colours: false,
                 };
                 errors.iter().for_each(|error| made += &draw(mode, &picture, error));

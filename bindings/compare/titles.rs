@@ -3,7 +3,7 @@
 //! titles that rustc gives it, and the labels, the notes and the help under these. The tables are read
 //! as they stand there.
 use dephungo::source::{call_faults, calls, file_faults};
-use dephungo::source::{CallArgument, CallFault, Finding, FormatString, Given, Table};
+use dephungo::source::{CallArgument, CallFault, Finding, FormatString, FormatArgument, Table};
 use std::ops::Range;
 
 #[path = "../../crates/tests_calls/src/missing_rows.rt"]
@@ -43,17 +43,17 @@ fn file_of(text: &str, arguments: &str) -> String {
 }
 
 /// What is known of an argument of a file. Of one with a name a call gives no variable, and others may.
-fn given<'a>(file: &'a str, argument: &CallArgument<'a>) -> Given<'a> {
+fn given<'a>(file: &'a str, argument: &CallArgument<'a>) -> FormatArgument<'a> {
     let value = &file[argument.value.clone()];
     let is_variable = value.bytes().all(|byte| byte.is_ascii_lowercase());
-    Given { variable: is_variable.then_some(value), ..argument.given }
+    FormatArgument { variable: is_variable.then_some(value), ..argument.given }
 }
 
 /// The titles of what is wrong with the call of a file, each on a line.
 fn titles(file: &str, text: &str) -> String {
     let found = calls(file, &Table::standard(), true);
     let [call] = &found[..] else { panic!("one call in {file}") };
-    let given: Vec<Given> = call.formatted().iter().map(|argument| given(file, argument)).collect();
+    let given: Vec<FormatArgument> = call.formatted().iter().map(|argument| given(file, argument)).collect();
     let checked = call_faults(
         FormatString {
             text,

@@ -14,7 +14,8 @@ CRATES = ("rustc_parse_format", "placeholder_check", "format_tokens", "fault_fix
           "drawn_labels", "drawn_edits", "drawn_faults", "rust_tokens", "rust_trees",
           "format_calls", "call_faults", "asm_faults", "message_faults", "piece_listing",
           "listing_json", "literal_faults", "format_lint", "lint_words", "source_lint",
-          "fault_rules", "message_forms", "package_edition", "formatread", "formatlint")
+          "file_fixes", "unified_diff", "fault_rules", "message_forms", "package_edition", "formatread",
+          "formatlint")
 NOTICE = """\
 // Extracted from {place} by tools/extract: not to be edited.
 // That source is proved, and each contract here is its. That this text means the same is tested:
@@ -23,7 +24,7 @@ NOTICE = """\
 """
 
 
-# What sources became, by all that decides that.
+# The texts that sources became, by all that decides them.
 TEXTS = {}
 
 
@@ -50,8 +51,8 @@ class Read:
         self.erase(self.sources[at])
 
     def changed(self, path, text):
-        """What another text of a file becomes in Rust, whose bodies of functions are all that differs
-        and need nothing else, after `made`."""
+        """The text in Rust of another text of a file, after `made`. Only bodies of functions differ, and
+        they need nothing else."""
         old = next(it for it in self.sources if it.path == str(path))
         source = source_of(old.crate, old.name, path, text)
         self.erase(source)
@@ -153,7 +154,7 @@ def in_place(path, call, *arguments):
 
 
 class Needs:
-    """What is needed: items by their file and name, and methods by what is called."""
+    """The items that are needed, by their file and name, and the methods, by the calls of them."""
 
     def __init__(self, sources):
         self.sources = sources
@@ -285,7 +286,7 @@ def module_of(name):
 
 
 def clones_in(source, item):
-    """Whether a method is a clone that asks for an allocator, which no derive is there."""
+    """Whether a method is a clone that takes an allocator, for which Rust has a derive."""
     words = source.texts(item.head, item.open) if item.kind == "fn" else []
     return words[1:8] == ["clone", "(", "&", "self", ",", "alloc", ":"]
 
@@ -353,8 +354,8 @@ def item_rewritten(source, item, crates, empty, cloned):
 
 
 def head_of(source, item):
-    """Puts the clauses of a function behind its documentation, and lets it be inlined if nothing is
-    said of that: rustc compiles a crate in parts, and Rattle as a whole."""
+    """Puts the clauses of a function after its documentation, and lets it be inlined if no attribute
+    says otherwise: rustc compiles a crate in parts, and Rattle as a whole."""
     if item.kind == "fn":
         if (source.name, item.name) == ("main.rt", "main"):
             # a program of the crate for Rust calls it

@@ -58,7 +58,7 @@ def clauses(source, item):
         return ""
     if not all(source.tokens[at].is_word("requires", "ensures") or source.is_word(at)
                or source.tokens[at].kind == "ghost" for at in places if at >= first):
-        source.refuse(first, "something behind the clauses of a function that is no clause")
+        source.refuse(first, "something after the clauses of a function that is no clause")
     last = source.prev(item.open)
     before = source.prev(first) + 1
     text = source.span(before, last)
@@ -86,7 +86,7 @@ def members(source, item):
 
 
 def field_end(source, at, end):
-    """The comma behind a field, or the last token of the last one."""
+    """The comma after a field, or the last token of the last one."""
     while at < end:
         at, depth = source.skip(at), int(source.text(at) == "<")
         while depth > 0:
@@ -224,7 +224,7 @@ def doubt(source, first, last, empty, held):
 
 
 def is_harmless(source, at, empty, held):
-    """Whether a call does nothing but to a value that takes no bytes, or only looks."""
+    """Whether a call changes nothing but a value that takes no bytes, or only looks."""
     before = source.prev(at)
     of = source.text(source.prev(before))
     if source.text(before) == "::":

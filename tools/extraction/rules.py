@@ -1,12 +1,12 @@
 """The rules by which a source in Rattle becomes one in Rust: each leaves out what only the prover
-reads, or rewrites a form that Rust does not have. What no rule knows is refused by its name."""
+reads, or rewrites a form that Rust does not have. A form that no rule knows is refused by its name."""
 import re
 from pathlib import Path
 
 from extraction.source import Import
 
-# What of the library may be named, and what replaces it. A path that is not here is refused. What
-# reads the parser by its calls reads that of the layer, so that there is one.
+# The paths of the library that may be named, and those that replace them. Any other is refused. A
+# source that reads the parser by its calls reads that of the layer, so that there is one.
 LIBRARY = {"clap": "crate::shim::clap", "itoa": "crate::shim::itoa",
            "json": "crate::shim::json",
            "rustc_parse_format::Parser": "crate::shim::parser::Parser",
@@ -27,10 +27,12 @@ LIBRARY = {"clap": "crate::shim::clap", "itoa": "crate::shim::itoa",
 # Calls that take the allocator, or return an allocation failure. In Rust they are methods of the
 # shim's traits.
 CONSTRUCTORS = {"new": "made_in", "with_capacity": "made_for", "from_str": "made_from"}
-# What of a module of the library may be named by itself or behind it.
-NAMED = {"env": {"args", "var"}, "fs": {"DirEntry", "canonicalize", "metadata", "open", "read_dir"},
+# The names of a module of the library that may stand by themselves or after it.
+NAMED = {"env": {"args", "var"},
+         "fs": {"DirEntry", "File", "canonicalize", "metadata", "open", "read_dir", "remove_file",
+                "rename", "set_permissions"},
          "io": {"Error", "ErrorKind", "IsTerminal", "Read", "Result", "Write"}, "mem": {"replace"}}
-# Constructors that ask for no memory.
+# Constructors that take no memory.
 PLAIN = ("from_utf8",)
 METHODS = {
     "push": "try_push",
@@ -49,12 +51,12 @@ METHODS = {
     "floor_char_boundary": "boundary_at_most",
     # of the standard library only since Rust 1.80
     "split_at_checked": "parts_at",
-    "trim_ascii_start": "behind_ascii_space",
+    "trim_ascii_start": "after_ascii_space",
     "trim_ascii_end": "before_ascii_space",
 }
 # Methods of `Option` that are only in younger libraries, and the value that they have for `None`.
 TESTS = {"is_some_and": "false", "is_none_or": "true"}
-# What a path may begin with besides what a file names, and what of a plain type.
+# Words with which a path may begin besides those that a file names, and names of a plain type.
 KNOWN = ("super", "char", "u8", "u8x16", "u16", "u32", "u64", "usize")
 OF_PLAIN = {"MAX", "from", "from_slice", "from_u32", "is_whitespace", "splat"}
 MACROS = {"matches": "matches", "format": "crate::shim::format_in", "vec": "crate::shim::vec_in",
@@ -69,27 +71,27 @@ SHOWN = ("Debug", "Eq", "PartialEq")
 ADDED = {("placeholder_check", "Report"): ("Clone", *SHOWN),
          ("rustc_parse_format", "Fault"): ("Clone", *SHOWN),
          ("fault_fixes", "Fixed"): ("Clone",),
-         ("call_faults", "Given"): SHOWN, ("source_lint", "CallReading"): SHOWN,
+         ("call_faults", "FormatArgument"): SHOWN, ("source_lint", "CallReading"): SHOWN,
          **{("source_lint", name): ("Clone", *SHOWN)
             for name in ("Edit", "Finding", "Help", "Label", "Note", "Report")},
-         **{("rust_trees", name): SHOWN for name in ("BreakAt", "BreakKind", "Place")},
+         **{("rust_trees", name): SHOWN for name in ("FileBreak", "BreakKind", "Place")},
          **{("format_calls", name): SHOWN for name in ("Reason", "Row", "Rule")},
          **{(crate, name): ("Hash",) for crate in ("format_tokens", "rust_tokens")
             for name in ("Kind", "Token")}}
 # Members that what calls the crates has to write, for which they have no call.
 OPENED = {"Cursor": {"source"}}
-# Words behind which an expression may begin.
+# Words after which an expression may begin.
 KEYWORDS = ("else", "if", "in", "match", "return", "while")
 # Methods of the library that do the same in both languages, and on each Unicode version but for
 # white space. Others that are called are those of the crates or of the shim.
 PLAIN_METHODS = set("""
-all as_bytes as_deref as_millis as_ref as_slice as_str capacity chars checked_add contains copied ends_with
-enumerate error_len get is_ascii is_ascii_alphanumeric is_ascii_digit is_ascii_hexdigit
+all as_bytes as_deref as_millis as_ref as_slice as_str capacity chars checked_add contains copied
+ends_with enumerate error_len get is_ascii is_ascii_alphanumeric is_ascii_digit is_ascii_hexdigit
 is_ascii_lowercase is_dir is_empty is_err is_file is_none is_ok is_some is_whitespace iter kind last
-len len_utf8 lines map map_or max min next ok or pop read_to_end read_to_string remove rev reverse
-rfind rsplit_once saturating_add saturating_mul saturating_sub shrink_to_fit split split_at
-split_once starts_with strip_prefix strip_suffix then_some to_digit trailing_zeros trim trim_end
-trim_start unwrap_or valid_up_to zip
+len len_utf8 lines map map_or max min next ok or permissions pop read_to_end read_to_string readonly
+remove rev reverse rfind rsplit_once saturating_add saturating_mul saturating_sub shrink_to_fit
+split split_at split_inclusive split_once starts_with strip_prefix strip_suffix then_some to_digit
+trailing_zeros trim trim_end trim_start unwrap_or valid_up_to zip
 """.split())
 SHIM = Path(__file__).resolve().parent.parent.parent / "bindings/rust/src/shim"
 SHIM_METHODS = {name for file in SHIM.rglob("*.rs")
@@ -298,8 +300,8 @@ def ends_value(source, at):
 
 
 def is_place(source, at):
-    """Whether a range without an end stands in an index, or a call of `get` or `num_args`, and not in
-    an array."""
+    """Whether a range without an end stands in an index, or a call of `get` or `num_args`: in an array
+    it is another thing."""
     if source.text(source.next(at)) not in (")", "]"):
         return False
     depth = 0
@@ -314,7 +316,7 @@ def is_place(source, at):
 
 
 def is_pattern(source, at):
-    """Whether a bracket behind a parenthesis stands in what a `let` binds."""
+    """Whether a bracket after a parenthesis stands in the pattern of a `let`."""
     while source.text(at) not in (";", "{", "}", "=", ""):
         at = source.prev(at)
         if source.text(at) == "let":
@@ -327,7 +329,7 @@ def modules_of(source):
 
 
 def in_library(path):
-    """What of the library a path leads to, or None."""
+    """The path of the library to which a path leads, or None."""
     return next((it for it in LIBRARY if path[: it.count("::") + 1] == it.split("::")), None)
 
 

@@ -71,7 +71,7 @@ class Source:
         return "".join(token.text for token in self.tokens[first : last + 1])
 
     def around(self, at):
-        """The texts of a token and of those before and behind it."""
+        """The texts of a token and of those before and after it."""
         return self.text(at), self.text(self.prev(at)), self.text(self.next(at))
 
     def texts(self, first, last):
@@ -142,7 +142,7 @@ class Source:
         return at
 
     def parameters(self, at, refused):
-        """What comes after parameters in angles, if there are any: lifetimes, and types of which
+        """The token after parameters in angles, if there are any: lifetimes, and types of which
         nothing but a few bounds is known."""
         if self.text(at) != "<":
             return at
@@ -153,7 +153,7 @@ class Source:
         return self.next(at)
 
     def bounds(self, at, refused):
-        """What comes after a parameter that is a type. Its bound `Drop`, which is another one in
+        """The token after a parameter that is a type. Its bound `Drop`, which is another one in
         Rust, is left out."""
         mark, kept = self.next(at), []
         if self.text(mark) != ":":
@@ -175,7 +175,7 @@ class Source:
         return mark
 
     def impl(self, item):
-        """What an impl is of, its trait, and its parts. A model is for the prover alone."""
+        """The type of an impl, its trait, and its parts. A model is for the prover alone."""
         at = self.parameters(self.next(item.head), "an `impl` with a parameter that is a type")
         item.open = self.opening(at)
         words = self.texts(at, item.open - 1)
@@ -195,8 +195,8 @@ class Source:
             part.of = item.name
 
     def names_in(self, first, last, itself=None):
-        """What tokens name: `(".", name, count)` for a method that is called with so many
-        arguments, `(of, name)` for what is behind a type or a module, and `name` for a name by
+        """The names in tokens: `(".", name, count)` for a method that is called with so many
+        arguments, `(of, name)` for a name after a type or a module, and `name` for a name by
         itself, which may be the first one of a path."""
         found = set()
         for at in self.places(first, last):
@@ -229,7 +229,7 @@ class Source:
         return count
 
     def imports(self):
-        """What this file calls by a name of its own, and by which path it is known."""
+        """The names that this file gives to others, and the path of each."""
         if self.named is None:
             uses = [Import(self, self.next(it.head)) for it in self.items if it.kind == "use"]
             self.named = {called: path for it in uses for path, called in it.paths()}
@@ -237,8 +237,8 @@ class Source:
 
 
 class Import:
-    """A part of what a `use` names: a segment of a path with what is behind it, or a name with what
-    it is called."""
+    """A part of a `use`: a segment of a path with those after it, or a name with the one that it gets
+    here."""
 
     def __init__(self, source, at):
         self.name, self.behind, self.called = source.text(at), [], source.text(at)

@@ -68,7 +68,7 @@ def tokens_of(source):
 
 
 def opens_clause(words):
-    """Whether the brace after these words opens what only the check reads: `requires {`, `ensures
+    """Whether the brace after these words opens a part for the check alone: `requires {`, `ensures
     name {`, `ghost name = {` or `ghost name: {`."""
     before = " ".join(words[:-1])
     return re.search(r"\b(requires|ensures)( \w+)?$|\bghost \S+ [=:]$", before) is not None

@@ -67,6 +67,7 @@ fn answer(input: &str, before: usize, start: usize, mode: usize, all: bool) -> O
         source: &source,
         line_start: 0,
         literal_start: 1,
+        width: 140,
         colours: false,
     };
     let kind = |it: &Token| part(&format!("{:?}", it.kind), "", Some(&it.span));

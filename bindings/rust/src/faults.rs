@@ -12,7 +12,7 @@ use alloc::string::String;
 use alloc::vec::Vec;
 use core::fmt::{self, Display, Formatter};
 
-pub use crate::proved::drawn_lines::Picture;
+pub use crate::proved::drawn_lines::{Picture, WIDTH};
 pub use crate::proved::fault_fixes::{Edit, Fixed};
 pub use crate::proved::rustc_parse_format::Fault;
 
@@ -38,7 +38,7 @@ pub use crate::proved::rustc_parse_format::Fault;
 ///
 /// let source = "println!(\"{a!}\");";
 /// let errors = errors_of("{a!}\n", None, Some("\"{a!}\"".to_string()), true, ParseMode::Format);
-/// let picture = Picture { path: "a.rs", source, line_start: 1, literal_start: 9, colours: false };
+/// let picture = Picture { path: "a.rs", source, line_start: 1, literal_start: 9, width: 140, colours: false };
 /// let wanted = "\
 /// error: invalid format string: expected `}`, found `!`
 ///  --> a.rs:1:13

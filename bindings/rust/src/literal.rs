@@ -12,7 +12,7 @@ use alloc::string::{String, ToString};
 use alloc::vec::Vec;
 use core::ops::Range;
 
-pub use crate::proved::rustc_parse_format::literal::{between_quotes, is_source_literal};
+pub use crate::proved::rustc_parse_format::literal::{is_source_literal, quoted_content};
 
 /// A string literal that is read as a format string: the five arguments that the calls of this
 /// crate take, in one value, and these calls. An allocation failure aborts, as elsewhere in Rust.

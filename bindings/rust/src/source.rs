@@ -17,11 +17,12 @@
 //!     assert_eq!(said, format!("2:15: {title}"));
 //! }
 //! ```
-use crate::proved::call_faults::{call_faults as call_faults_in, Checked as CheckedIn};
+use crate::proved::call_faults::{call_faults as call_faults_in, CallReport as CallReportIn};
+use crate::proved::file_fixes::fixes as fixes_in;
 use crate::proved::format_calls::{arguments, calls as calls_in, format_string};
 use crate::proved::format_calls::{Argument as ArgumentIn, Table as TableIn};
 use crate::proved::rust_tokens::tokens as tokens_in;
-use crate::proved::rust_trees::{Break, Places as PlacesIn, Source as SourceIn};
+use crate::proved::rust_trees::{DelimiterBreak, Places as PlacesIn, Source as SourceIn};
 use crate::proved::source_lint::givens::givens;
 use crate::proved::source_lint::{file_faults as file_faults_in, Options};
 use crate::shim::alloc::{answer, Global};
@@ -30,10 +31,13 @@ use alloc::string::String;
 use alloc::vec::Vec;
 use core::ops::Range;
 
-pub use crate::proved::call_faults::{CallFault, FormatString, Given, Missing, Part, Reference};
+pub use crate::proved::call_faults::{
+    CallFault, FormatArgument, FormatString, Missing, Part, Reference,
+};
+pub use crate::proved::file_fixes::FileFixes;
 pub use crate::proved::format_calls::{Reason, Row, Rule};
 pub use crate::proved::rust_tokens::{Kind, Token};
-pub use crate::proved::rust_trees::{BreakAt, BreakKind, Place};
+pub use crate::proved::rust_trees::{BreakKind, FileBreak, Place};
 pub use crate::proved::source_lint::{CallReading, Finding, Report};
 
 /// Returns the tokens of a file, with white space and comments, one after the other from its start
@@ -110,9 +114,9 @@ impl<'a> Table<'a> {
 
     /// Returns macros of the crates log, tracing, slog, anyhow and eyre. An allocation failure
     /// aborts, as elsewhere in Rust.
-    pub fn of_crates() -> Table<'a> {
+    pub fn with_crates() -> Table<'a> {
         Table {
-            table: answer(TableIn::of_crates(Global)),
+            table: answer(TableIn::with_crates(Global)),
         }
     }
 
@@ -157,7 +161,7 @@ pub struct Call<'a> {
 #[derive(Clone, Debug, Eq, PartialEq)]
 pub struct CallArgument<'a> {
     /// The argument as [`call_faults`] takes it.
-    pub given: Given<'a>,
+    pub given: FormatArgument<'a>,
     /// Its text, with its name.
     pub text: &'a str,
     /// The byte range of that. It is empty if nothing stands between two commas.
@@ -189,7 +193,7 @@ fn argument_of<'a>(
     text: &'a str,
     source: &SourceIn<'a>,
     argument: &ArgumentIn,
-    given: Given<'a>,
+    given: FormatArgument<'a>,
 ) -> CallArgument<'a> {
     let tokens = &source.tokens()[argument.start..];
     let count = argument.end - argument.start;
@@ -246,7 +250,8 @@ pub fn calls<'a>(text: &'a str, table: &Table<'_>, is_from_2021: bool) -> Vec<Ca
 /// ```
 pub fn broken_at(text: &str) -> Option<usize> {
     let source = answer(SourceIn::new(Global, text));
-    let (Break::Unclosed(index) | Break::Unexpected(index)) = source.broken()?;
+    let (DelimiterBreak::Unclosed(index) | DelimiterBreak::Unexpected(index)) =
+        source.first_break()?;
     source.tokens().get(index).map(|token| token.start)
 }
 
@@ -267,18 +272,44 @@ pub fn broken_at(text: &str) -> Option<usize> {
 /// assert_eq!((finding.id, &text[finding.span.clone()]), ("missing-colon", "?"));
 /// ```
 pub fn file_faults(text: &str, table: &Table<'_>, is_from_2021: bool) -> Report {
-    let options = Options {
+    answer(file_faults_in(Global, text, &options(table, is_from_2021)))
+}
+
+/// Reads a file as [`file_faults`] does, and applies to its faults the suggestions that rustc calls
+/// applicable by a machine, but for two: an argument that can be removed, since a comma stays, and the
+/// macro `dbg!` in the place of another one.
+///
+/// Suggestions are applied until none is left, in at most sixteen rounds. A round is left out if the
+/// file then breaks, has another number of calls, or more faults. An allocation failure aborts, as
+/// elsewhere in Rust.
+///
+/// ```
+/// use dephungo::source::{file_fixes, Table};
+///
+/// let text = "fn f() { print!(\"{a?} {r#type}\"); print!(\"{self.name}\"); }";
+/// let fixes = file_fixes(text, &Table::standard(), true);
+/// let fixed = "fn f() { print!(\"{a:?} {type}\"); print!(\"{0}\", self.name); }";
+/// assert_eq!(fixes.text.as_deref(), Some(fixed));
+/// assert_eq!(fixes.ids, ["missing-colon", "field-access", "raw-identifier"]);
+/// assert!(fixes.report.findings.is_empty());
+/// ```
+pub fn file_fixes(text: &str, table: &Table<'_>, is_from_2021: bool) -> FileFixes {
+    answer(fixes_in(Global, text, &options(table, is_from_2021)))
+}
+
+/// Returns the options for reading a file.
+fn options<'a>(table: &Table<'a>, is_from_2021: bool) -> Options<'a> {
+    Options {
         table: TableIn {
             rows: table.rows().to_vec(),
         },
         is_from_2021,
-    };
-    answer(file_faults_in(Global, text, &options))
+    }
 }
 
 /// A call that was checked.
 pub struct CheckedCall<'a> {
-    checked: CheckedIn<'a>,
+    checked: CallReportIn<'a>,
 }
 
 /// Checks a call of a macro that takes a format string: reads the string, compares its placeholders
@@ -289,7 +320,7 @@ pub struct CheckedCall<'a> {
 /// allocation failure aborts, as elsewhere in Rust.
 ///
 /// ```
-/// use dephungo::source::{call_faults, FormatString, Given};
+/// use dephungo::source::{call_faults, FormatString, FormatArgument};
 ///
 /// let string = FormatString {
 ///     text: "{} {}",
@@ -298,7 +329,7 @@ pub struct CheckedCall<'a> {
 ///     appended_newline: false,
 ///     captures: true,
 /// };
-/// let given = [Given { name: None, variable: Some("x") }];
+/// let given = [FormatArgument { name: None, variable: Some("x") }];
 /// let checked = call_faults(string, &given);
 /// let fault = &checked.faults()[0];
 /// assert_eq!(fault.id(), "missing-argument");
@@ -307,7 +338,10 @@ pub struct CheckedCall<'a> {
 ///     "2 positional arguments in format string, but there is 1 argument"
 /// );
 /// ```
-pub fn call_faults<'a>(string: FormatString<'a>, given: &'a [Given<'a>]) -> CheckedCall<'a> {
+pub fn call_faults<'a>(
+    string: FormatString<'a>,
+    given: &'a [FormatArgument<'a>],
+) -> CheckedCall<'a> {
     CheckedCall {
         checked: answer(call_faults_in(Global, string, given)),
     }

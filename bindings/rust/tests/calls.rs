@@ -97,7 +97,7 @@ fn each_field_of_a_specification() {
 }
 
 #[test]
-fn a_call_goes_on_behind_none() {
+fn a_call_goes_on_after_none() {
     let mut parser = Parser::new("}a}", None, None, false, ParseMode::Format);
     assert_eq!(parser.next(), None);
     assert_eq!(

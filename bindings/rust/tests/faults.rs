@@ -265,6 +265,7 @@ fn a_long_drawing() {
         source: &source,
         line_start: 1,
         literal_start: 2,
+        width: 100_000,
         colours: false,
     };
     let before = " ".repeat(6003);
@@ -354,6 +355,7 @@ fn spans() {
             source,
             line_start: 7,
             literal_start: 0,
+            width: 140,
             colours: false,
         };
         let drawing = draw(Format, &picture, &error(span, second, Suggestion::None));
@@ -380,6 +382,7 @@ fn what_a_terminal_obeys() {
         source: "\u{61c}\u{9b}\u{200e}\u{200d}ab",
         line_start: 7,
         literal_start: 2,
+        width: 140,
         colours: false,
     };
     let wanted = "error: invalid format string: d\u{241b}[31m\n --> a\u{2407}.rs:7:5\n  |\n\

@@ -1,6 +1,6 @@
 //! Literals as they stand in a program, beside the calls with five arguments.
 use dephungo::faults::{errors_of, faults_of, fix};
-use dephungo::literal::Literal;
+use dephungo::literal::{is_source_literal, Literal};
 use dephungo::tokens::tokens;
 use dephungo::ParseMode::{Format, InlineAsm};
 use dephungo::{check, ParseMode, Parser, Piece};
@@ -99,6 +99,21 @@ fn no_literals() {
     for text in texts {
         assert_eq!(Literal::new(text, Format), None, "{text}");
     }
+}
+
+/// A text that its literal has as it stands is not the literal's if it begins with what a literal
+/// cannot have as it stands, however long it is.
+#[test]
+fn texts_as_they_stand() {
+    let tail = "0123456789 and some more letters";
+    for front in ["\\n", "\"", "\r", "\\"] {
+        let text = [front, tail].concat();
+        let snippet = format!("\"{text}\"");
+        assert!(!is_source_literal(&text, None, &snippet, false), "{text}");
+    }
+    let escaped = format!("\"\\\\n{tail}\"");
+    let text = format!("\\n{tail}");
+    assert!(is_source_literal(&text, None, &escaped, false));
 }
 
 /// A newline is appended once.

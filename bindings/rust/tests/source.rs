@@ -49,7 +49,7 @@ fn tokens_join() {
         assert_eq!((end, broken_at(&text)), (text.len(), None), "{path:?}");
         let report = file_faults(&text, &Table::standard(), true);
         assert!(
-            report.broken.is_none() && report.findings.is_empty(),
+            report.first_break.is_none() && report.findings.is_empty(),
             "{path:?}"
         );
     }
@@ -68,6 +68,19 @@ fn tokens_that_have_no_end() {
             (found.len(), found[0].kind, found[0].is_ended),
             (1, kind, false)
         );
+    }
+}
+
+#[test]
+fn tokens_of_rare_characters() {
+    for (text, first) in [
+        ("1e-3-", Kind::Float),
+        ("1E+3_0f32-", Kind::Float),
+        ("a\u{301}é-", Kind::Ident),
+        ("\u{2028}\u{200e}\u{85}-", Kind::Whitespace),
+    ] {
+        let kinds: Vec<_> = tokens(text).iter().map(|it| it.kind).collect();
+        assert_eq!(kinds, [first, Kind::Punct], "{text:?}");
     }
 }
 
@@ -178,9 +191,34 @@ fn arguments() {
     assert_eq!((empty.span.clone(), empty.text), (11..11, ""));
 }
 
+/// A comma in the parameters of a type or of a closure is none between arguments, whatever keyword
+/// stands in front.
+#[test]
+fn arguments_after_keywords() {
+    for argument in [
+        "break <A as B<C, D>>::e()",
+        "if <A as B<C, D>>::e() {}",
+        "match <A as B<C, D>>::e() {}",
+        "return <A as B<C, D>>::e()",
+        "while <A as B<C, D>>::e() {}",
+        "for a in <A as B<C, D>>::e() {}",
+        "yield <A as B<C, D>>::e()",
+        "move |a, b| a",
+        "async |a, b| a",
+        "static |a, b| a",
+        "x as &'a mut A<B, C>",
+        "x as *const A<B, C>",
+    ] {
+        let text = format!("print!(\"\", {argument}, x)");
+        let found = calls(&text, &Table::standard(), true);
+        let texts = found[0].formatted().iter().map(|it| it.text);
+        assert_eq!(texts.collect::<Vec<_>>(), [argument, "x"]);
+    }
+}
+
 #[test]
 fn tables() {
-    let mut table = Table::of_crates();
+    let mut table = Table::with_crates();
     assert!(table.rows().iter().any(|row| row.name == "bail"));
     table.add(Row {
         name: "bail",
@@ -189,6 +227,23 @@ fn tables() {
     let found = calls("bail!(1, \"a\"); info!(b = 2, \"c\")", &table, true);
     let shown: Vec<_> = found.iter().map(|call| call.literal()).collect();
     assert_eq!(shown, [Some("\"a\""), Some("\"c\"")]);
+}
+
+/// A macro with a name of log, tracing or slog is another one after a path of another crate.
+#[test]
+fn paths_of_macros() {
+    let text = "kv_log_macro::info!(\"{\"); log::info!(\"\"); crate::warn!(\"\"); a::bail!(\"\");";
+    let report = file_faults(text, &Table::with_crates(), true);
+    assert!(report.findings.is_empty());
+    assert!(matches!(
+        report.calls[..],
+        [
+            CallReading::ForeignMacro,
+            CallReading::Whole,
+            CallReading::Whole,
+            CallReading::Whole,
+        ]
+    ));
 }
 
 /// How much of each call is read, and the findings, at the places that rustc 1.95 reports.
@@ -213,19 +268,19 @@ fn reports() {
     ]
     .join("\r\n");
     let report = file_faults(&text, &Table::standard(), true);
-    assert!(report.broken.is_none());
+    assert!(report.first_break.is_none());
     assert!(matches!(
         report.calls[..],
         [
             CallReading::StringAlone,
             CallReading::Whole,
-            CallReading::Redefined,
+            CallReading::RedefinedMacro,
             CallReading::Unread(Reason::Expression),
             CallReading::Malformed,
             CallReading::Whole,
             CallReading::NoExpression,
             CallReading::NoComma,
-            CallReading::Redefined,
+            CallReading::RedefinedMacro,
             CallReading::NoComma,
             CallReading::Unread(Reason::Missing),
         ]
@@ -269,6 +324,42 @@ fn reports() {
     assert_eq!(help.edits[0].text, "\"{}\", ");
 }
 
+/// Of a call whose arguments a macro repeats, a help counts that needs none of them.
+#[test]
+fn helps_in_macros() {
+    let help = |string: &str| {
+        let text =
+            format!("macro_rules! m {{ ($($x:expr),*) => {{ print!({string}, $($x),*) }} }}");
+        let findings = file_faults(&text, &Table::standard(), true).findings;
+        let help = findings[0].help.as_ref()?;
+        let edits = help.edits.iter().map(|it| (it.range.clone(), &it.text[..]));
+        Some(format!("{} {:?}", help.text, edits.collect::<Vec<_>>()))
+    };
+    let wanted = "did you mean `#?`? [(48..50, \"#?\")]";
+    assert_eq!(help("\"{a:?#}\"").as_deref(), Some(wanted));
+    assert_eq!(help("\"{a.b}\""), None);
+}
+
+/// Each of these faults comes before all earlier ones in a parser's list. Their time grows as the text
+/// does: if each of them moved the others, this would take minutes.
+#[test]
+fn many_faults_in_front() {
+    let text = format!("print!(\"{}\")", "{+".repeat(1 << 17));
+    let findings = file_faults(&text, &Table::standard(), true).findings;
+    assert_eq!((findings.len(), findings[0].id), (1, "sign-before-colon"));
+}
+
+/// A range has whole characters. (rustc 1.95 ends with an error of its own over this text, in which the
+/// place that it computes is within a character.)
+#[test]
+fn ranges_of_whole_characters() {
+    let text = "#[diagnostic::on_unimplemented(message = r#\"{é?}\"#)] trait A {}";
+    let findings = file_faults(text, &Table::standard(), true).findings;
+    let labels = &findings[0].labels;
+    assert_eq!(findings[0].title, "expected `}`, found `?`");
+    assert!(labels.len() == 2 && labels.iter().all(|it| text.get(it.range.clone()).is_some()));
+}
+
 /// Calls in front of the place where a file breaks are read.
 #[test]
 fn breaks() {
@@ -279,13 +370,13 @@ fn breaks() {
     ] {
         let front = "format!(\"{}\");\n";
         let report = file_faults(&format!("{front}{end}"), &Table::standard(), true);
-        let broken = report.broken.unwrap();
-        let kind = match broken.kind {
+        let first_break = report.first_break.unwrap();
+        let kind = match first_break.kind {
             BreakKind::Unclosed => "unclosed",
             BreakKind::Unexpected => "unexpected",
             BreakKind::Unended => "unended",
         };
-        assert_eq!((broken.start, kind), (front.len() + at, wanted));
+        assert_eq!((first_break.start, kind), (front.len() + at, wanted));
         assert_eq!(report.findings.len(), 1);
     }
 }

@@ -30,7 +30,7 @@ fn each_kind() {
         (Open, "{"),
         (RawPrefix, "r#"),
         (Identifier, "a"),
-        (White, " "),
+        (Whitespace, " "),
         (Colon, ":"),
         (Fill, "*"),
         (Align, ">"),
@@ -42,7 +42,7 @@ fn each_kind() {
         (Dot, "."),
         (Asterisk, "*"),
         (Type, "x?"),
-        (White, " "),
+        (Whitespace, " "),
         (Close, "}"),
         (Escape, "{{"),
         (Text, "b"),
@@ -150,7 +150,7 @@ fn culprits() {
     let inside = [
         (Open, "{"),
         (Identifier, "a"),
-        (White, " "),
+        (Whitespace, " "),
         (Unexpected, "b"),
         (Unexpected, "{{"),
         (Unexpected, "c"),
@@ -160,7 +160,7 @@ fn culprits() {
     let alone = [
         (Unexpected, "{"),
         (Identifier, "a"),
-        (White, " "),
+        (Whitespace, " "),
         (Open, "{"),
         (Close, "}"),
     ];

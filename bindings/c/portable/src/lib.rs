@@ -303,7 +303,7 @@ fn read(
 ///
 /// # Safety
 ///
-/// No pointer is null, each has as much behind it as its length or its room says, and what is written
+/// No pointer is null, each points to as much as its length or its room says, and what is written
 /// overlaps nothing else.
 #[no_mangle]
 #[allow(clippy::too_many_arguments)]

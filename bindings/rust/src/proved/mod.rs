@@ -9,6 +9,7 @@ pub mod drawn_lines;
 pub mod fault_fixes;
 #[cfg(feature = "std")]
 pub mod fault_rules;
+pub mod file_fixes;
 pub mod format_calls;
 #[cfg(feature = "std")]
 pub mod format_lint;
@@ -34,3 +35,5 @@ pub mod rust_tokens;
 pub mod rust_trees;
 pub mod rustc_parse_format;
 pub mod source_lint;
+#[cfg(feature = "std")]
+pub mod unified_diff;

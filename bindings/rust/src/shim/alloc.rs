@@ -231,7 +231,7 @@ pub trait StrIn {
 
     /// Returns the text without the ASCII white space at its start. In the standard library this is
     /// `trim_ascii_start`, which is recent.
-    fn behind_ascii_space(&self) -> &str;
+    fn after_ascii_space(&self) -> &str;
 
     /// Returns the text without the ASCII white space at its end. In the standard library this is
     /// `trim_ascii_end`, which is recent.
@@ -257,7 +257,7 @@ impl StrIn for str {
     }
 
     #[inline(always)]
-    fn behind_ascii_space(&self) -> &str {
+    fn after_ascii_space(&self) -> &str {
         self.trim_start_matches(|c: char| c.is_ascii_whitespace())
     }
 

@@ -166,8 +166,34 @@ pub mod env {
 pub mod fs {
     use super::HostRuntime;
     use std::ffi::OsString;
-    use std::io::{Error, ErrorKind, Result};
+    use std::io::{Error, ErrorKind, Result, Write};
     use std::marker::PhantomData;
+
+    /// A file that is open to be written.
+    pub struct File(std::fs::File);
+
+    impl File {
+        /// Makes a file. Returns `Err` if there is one.
+        pub fn create_new(_: &HostRuntime, path: &str) -> Result<File> {
+            let mut options = std::fs::OpenOptions::new();
+            Ok(File(options.write(true).create_new(true).open(path)?))
+        }
+
+        /// Waits until what was written is on the disk.
+        pub fn sync_all(&self) -> Result<()> {
+            self.0.sync_all()
+        }
+    }
+
+    impl Write for File {
+        fn write(&mut self, bytes: &[u8]) -> Result<usize> {
+            self.0.write(bytes)
+        }
+
+        fn flush(&mut self) -> Result<()> {
+            self.0.flush()
+        }
+    }
 
     /// Opens a file, to be read.
     pub fn open(_: &HostRuntime, path: &str) -> Result<std::fs::File> {
@@ -177,6 +203,25 @@ pub mod fs {
     /// Returns what a path leads to.
     pub fn metadata(_: &HostRuntime, path: &str) -> Result<std::fs::Metadata> {
         std::fs::metadata(path)
+    }
+
+    /// Sets the permissions of what a path leads to.
+    pub fn set_permissions(
+        _: &HostRuntime,
+        path: &str,
+        permissions: std::fs::Permissions,
+    ) -> Result<()> {
+        std::fs::set_permissions(path, permissions)
+    }
+
+    /// Gives a file another path, in place of the file that has it.
+    pub fn rename(_: &HostRuntime, from: &str, to: &str) -> Result<()> {
+        std::fs::rename(from, to)
+    }
+
+    /// Removes a file.
+    pub fn remove_file(_: &HostRuntime, path: &str) -> Result<()> {
+        std::fs::remove_file(path)
     }
 
     /// Returns a name. One that is not UTF-8 is an error, which the standard library has as a kind of

@@ -1,6 +1,7 @@
 //! The parser, with the calls by which other extracted modules read it.
+use crate::faults::error_of;
 use crate::proved::rustc_parse_format::faults::Fault;
-use crate::proved::rustc_parse_format::types::Taken;
+use crate::proved::rustc_parse_format::types::PieceKind;
 use crate::shim::alloc::{AllocError, Global};
 use crate::{Argument, ParseError, ParseMode, Piece};
 use alloc::string::String;
@@ -9,7 +10,11 @@ use core::ops::Range;
 
 /// A parser over an input, which reads one piece at a time.
 pub struct Parser<'input> {
+    /// The parser, which leaves the faults of a call in its reader.
     parser: crate::Parser<'input>,
+    /// The errors that come before those of the parser, from the last one to the first. After a call
+    /// that returns no piece they are among those: one by one, each would move all others.
+    front: Vec<ParseError>,
 }
 
 impl<'input> Parser<'input> {
@@ -22,8 +27,46 @@ impl<'input> Parser<'input> {
         appended_newline: bool,
         mode: ParseMode,
     ) -> Result<Parser<'input>, AllocError> {
+        let mut parser = crate::Parser::new(input, style, snippet, appended_newline, mode);
+        parser.keeps_faults = true;
         Ok(Parser {
-            parser: crate::Parser::new(input, style, snippet, appended_newline, mode),
+            parser,
+            front: Vec::new(),
+        })
+    }
+
+    /// Makes errors of the faults of the last call. `is_last` is whether it returned no piece.
+    fn add_errors(&mut self, is_last: bool) {
+        let faults = &mut self.parser.reader.faults;
+        let mut index = 0;
+        while let Some(fault) = faults.get(index) {
+            let errors = if fault.is_front() {
+                &mut self.front
+            } else {
+                &mut self.parser.errors
+            };
+            errors.push(error_of(fault));
+            index += 1;
+        }
+        faults.clear();
+        if is_last && !self.front.is_empty() {
+            let mut errors = core::mem::take(&mut self.front);
+            errors.reverse();
+            errors.append(&mut self.parser.errors);
+            self.parser.errors = errors;
+        }
+    }
+
+    /// Returns the next piece, and reads a placeholder into `argument`. The faults stay in the
+    /// reader.
+    #[inline]
+    fn read_into(&mut self, argument: &mut Argument<'input>) -> Option<PieceKind<'input>> {
+        self.parser.next().map(|piece| match piece {
+            Piece::Lit(text) => PieceKind::Lit(text),
+            Piece::NextArgument(read) => {
+                *argument = *read;
+                PieceKind::NextArgument
+            }
         })
     }
 
@@ -37,14 +80,9 @@ impl<'input> Parser<'input> {
     pub fn next_into(
         &mut self,
         argument: &mut Argument<'input>,
-    ) -> Result<(Option<Taken<'input>>, ()), AllocError> {
-        let taken = self.parser.next().map(|piece| match piece {
-            Piece::Lit(text) => Taken::Lit(text),
-            Piece::NextArgument(read) => {
-                *argument = *read;
-                Taken::NextArgument
-            }
-        });
+    ) -> Result<(Option<PieceKind<'input>>, ()), AllocError> {
+        let taken = self.read_into(argument);
+        self.add_errors(taken.is_none());
         Ok((taken, ()))
     }
 
@@ -55,10 +93,8 @@ impl<'input> Parser<'input> {
         &mut self,
         argument: &mut Argument<'input>,
         faults: &mut Vec<Fault<'input>>,
-    ) -> Result<Option<Taken<'input>>, AllocError> {
-        self.parser.keeps_faults = true;
-        let (taken, _) = self.next_into(argument)?;
-        self.parser.keeps_faults = false;
+    ) -> Result<Option<PieceKind<'input>>, AllocError> {
+        let taken = self.read_into(argument);
         self.parser.reader.faults.move_to(faults)?;
         Ok(taken)
     }
@@ -73,7 +109,7 @@ impl<'input> Parser<'input> {
         self.parser.reader.cursor.position()
     }
 
-    /// Returns the errors of all calls so far.
+    /// Returns the errors of all calls so far, of which the last one returned no piece.
     pub fn errors(&self) -> &[ParseError] {
         &self.parser.errors
     }
@@ -90,6 +126,7 @@ impl<'input> Parser<'input> {
 
     /// Takes the errors of all calls so far out of the parser.
     pub fn take_errors(&mut self) -> Vec<ParseError> {
+        self.add_errors(true);
         core::mem::take(&mut self.parser.errors)
     }
 }
@@ -104,6 +141,11 @@ pub fn read_all<'input>(
     mode: ParseMode,
 ) -> Result<(Vec<Piece<'input>>, Parser<'input>), AllocError> {
     let mut parser = Parser::new(alloc, input, style, snippet, appended_newline, mode)?;
-    let pieces = parser.parser.by_ref().collect();
+    let mut pieces = Vec::new();
+    while let Some(piece) = parser.parser.next() {
+        parser.add_errors(false);
+        pieces.push(piece);
+    }
+    parser.add_errors(true);
     Ok((pieces, parser))
 }

@@ -14,8 +14,8 @@ impl UnicodeWidthChar for char {
             '\0'..='\u{1f}' | '\u{7f}'..='\u{9f}' => None,
             ' '..='~' => Some(1),
             _ => {
-                let behind = WIDTHS.partition_point(|&run| run >> 2 <= u32::from(self));
-                Some(WIDTHS[behind - 1] as usize & 3)
+                let after = WIDTHS.partition_point(|&run| run >> 2 <= u32::from(self));
+                Some(WIDTHS[after - 1] as usize & 3)
             }
         }
     }

@@ -11,7 +11,7 @@ use alloc::collections::BTreeMap;
 
 /// An argument of a call, as far as its placeholders can tell it from others.
 #[derive(Clone, Copy, Debug, Eq, PartialEq)]
-pub struct Given<'a> {
+pub struct FormatArgument<'a> {
     /// Its name, without the `r#` of a raw identifier, as `a` in `a = 1`.
     pub name: Option<&'a str>,
     /// The variable that it is, without `r#`, as `a` in `println!("{}", a)`. `None` if it is any
@@ -24,7 +24,7 @@ pub struct Given<'a> {
 pub(crate) struct Kept<'a> {
     /// Its index among all that are given.
     pub index: usize,
-    pub given: Given<'a>,
+    pub given: FormatArgument<'a>,
 }
 
 /// The arguments that count.
@@ -72,7 +72,7 @@ pub(crate) fn insert<'a>(
 // ensures { (ks : List KeptValue) → Holds ks arguments.now
 //     → result ≡ first_of ks (seen_given given.now) }
 #[inline]
-fn first_of<'a>(arguments: &Arguments<'a>, given: &Given<'a>) -> Option<usize> {
+fn first_of<'a>(arguments: &Arguments<'a>, given: &FormatArgument<'a>) -> Option<usize> {
     match given.name {
         None => None,
         Some(name) => index_of(&arguments.indices, name),
@@ -88,7 +88,7 @@ fn first_of<'a>(arguments: &Arguments<'a>, given: &Given<'a>) -> Option<usize> {
 fn keep<'a>(
     arguments: &mut Arguments<'a>,
     index: usize,
-    given: Given<'a>,
+    given: FormatArgument<'a>,
 ) -> Result<(), AllocError> {
     if let Some(name) = given.name {
         insert(&mut arguments.indices, name, index)?;
@@ -110,7 +110,7 @@ fn add<'a>(
     arguments: &mut Arguments<'a>,
     faults: &mut Vec<CallFault<'a>>,
     index: usize,
-    given: Given<'a>,
+    given: FormatArgument<'a>,
 ) -> Result<(), AllocError> {
     match first_of(arguments, &given) {
         Some(first) => faults.try_push(CallFault::RepeatedName { index, first })?,
@@ -123,7 +123,7 @@ fn add<'a>(
 // ensures { (ks : List KeptValue) → Holds ks arguments.now
 //     → result ≡ is_late ks (seen_given given.now) }
 #[inline]
-fn is_late<'a>(arguments: &Arguments<'a>, given: &Given<'a>) -> bool {
+fn is_late<'a>(arguments: &Arguments<'a>, given: &FormatArgument<'a>) -> bool {
     given.name.is_none() && arguments.has_names
 }
 
@@ -153,7 +153,7 @@ fn named_of(alloc: Global, list: &[Kept<'_>]) -> Result<Vec<usize>, AllocError> 
 pub(crate) fn arguments_of<'a>(
     alloc: Global,
     faults: &mut Vec<CallFault<'a>>,
-    given: &[Given<'a>],
+    given: &[FormatArgument<'a>],
 ) -> Result<Option<Arguments<'a>>, AllocError> {
     let mut arguments = no_arguments(alloc);
     for (index, argument) in given.iter().enumerate() {

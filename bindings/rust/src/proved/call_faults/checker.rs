@@ -4,7 +4,7 @@
 // That source is proved, and each contract here is its. That this text means the same is tested:
 // by results from outside, and beside what is proved (.ci/bindings) and the original (tools/agree).
 
-use crate::proved::call_faults::arguments::{arguments_of, Given};
+use crate::proved::call_faults::arguments::{arguments_of, FormatArgument};
 use crate::proved::call_faults::compared::{compare, indices_of};
 use crate::proved::call_faults::faults::CallFault;
 use crate::proved::call_faults::lookups::lookups_of;
@@ -32,9 +32,9 @@ pub struct FormatString<'a> {
 }
 
 /// A call that was checked.
-pub struct Checked<'a> {
+pub struct CallReport<'a> {
     /// The arguments that are given.
-    pub given: &'a [Given<'a>],
+    pub given: &'a [FormatArgument<'a>],
     /// The indices of the arguments that count: of those whose name is not that of an earlier one.
     /// Empty if an argument without a name after one with a name ended the check.
     pub kept: Vec<usize>,
@@ -92,7 +92,7 @@ fn faults_of<'a>(
     string: FormatString<'a>,
     is_read: bool,
     pieces: &[Piece<'a>],
-    given: &[Given<'a>],
+    given: &[FormatArgument<'a>],
     kept: &mut Vec<usize>,
 ) -> Result<Vec<CallFault<'a>>, AllocError> {
     let mut faults = Vec::made_in(alloc);
@@ -144,8 +144,8 @@ fn faults_of<'a>(
 pub fn call_faults<'a>(
     alloc: Global,
     string: FormatString<'a>,
-    given: &'a [Given<'a>],
-) -> Result<Checked<'a>, AllocError> {
+    given: &'a [FormatArgument<'a>],
+) -> Result<CallReport<'a>, AllocError> {
     let snippet = owned(alloc, string.snippet)?;
     let (pieces, parser) = read_all(
         alloc,
@@ -159,7 +159,7 @@ pub fn call_faults<'a>(
     let mut kept = Vec::made_in(alloc);
     let faults = faults_of(alloc, string, is_read, &pieces, given, &mut kept)?;
     let counts = counts_before(alloc, &pieces)?;
-    Ok(Checked {
+    Ok(CallReport {
         given,
         kept,
         pieces,

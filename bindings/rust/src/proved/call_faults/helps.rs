@@ -4,8 +4,8 @@
 // That source is proved, and each contract here is its. That this text means the same is tested:
 // by results from outside, and beside what is proved (.ci/bindings) and the original (tools/agree).
 
-use crate::proved::call_faults::arguments::Given;
-use crate::proved::call_faults::checker::Checked;
+use crate::proved::call_faults::arguments::FormatArgument;
+use crate::proved::call_faults::checker::CallReport;
 use crate::proved::call_faults::faults::{CallFault, Part, Reference};
 use crate::proved::call_faults::labels::{have_names, is_last};
 use crate::proved::call_faults::notes::{are_missing, put_specifiers};
@@ -59,7 +59,7 @@ fn put_placeholders(out: &mut String, count: usize) -> Result<(), AllocError> {
 #[inline]
 fn unused_help(
     alloc: Global,
-    call: &Checked<'_>,
+    call: &CallReport<'_>,
     count: usize,
 ) -> Result<Option<CallHelp>, AllocError> {
     if are_missing(&call.faults) || count != call.kept.len() {
@@ -77,7 +77,7 @@ fn unused_help(
 /// Returns where the text is that is removed with an argument.
 // ensures { result ≡ removed_spot (map seen_given given.now) index }
 #[inline]
-fn removed_spot(given: &[Given<'_>], index: usize) -> Spot {
+fn removed_spot(given: &[FormatArgument<'_>], index: usize) -> Spot {
     if is_last(given, index) {
         Spot::Value(index)
     } else {
@@ -91,7 +91,7 @@ fn removed_spot(given: &[Given<'_>], index: usize) -> Spot {
 #[inline]
 fn push_removals(
     edits: &mut Vec<CallEdit>,
-    given: &[Given<'_>],
+    given: &[FormatArgument<'_>],
     indices: &[usize],
 ) -> Result<(), AllocError> {
     let alloc = *edits.own_allocator();
@@ -112,7 +112,7 @@ fn push_removals(
 #[inline]
 fn redundant_help(
     alloc: Global,
-    given: &[Given<'_>],
+    given: &[FormatArgument<'_>],
     redundant: &[usize],
 ) -> Result<Option<CallHelp>, AllocError> {
     if redundant.len() <= 1 || have_names(given) {
@@ -151,7 +151,7 @@ fn name_in(alloc: Global, part: Part, name: &str) -> Result<String, AllocError> 
 #[inline]
 fn by_index_help(
     alloc: Global,
-    call: &Checked<'_>,
+    call: &CallReport<'_>,
     reference: Reference,
     index: usize,
 ) -> Result<CallHelp, AllocError> {
@@ -178,7 +178,7 @@ fn replacing(alloc: Global, spot: Spot, new: &str) -> Result<CallHelp, AllocErro
 /// Returns how many of arguments stand before the first one with a name.
 // ensures { result ≡ unnamed_count (map seen_given given.now) }
 #[inline]
-fn unnamed_count(given: &[Given<'_>]) -> usize {
+fn unnamed_count(given: &[FormatArgument<'_>]) -> usize {
     for (index, argument) in given.iter().enumerate() {
         if argument.name.is_some() {
             return index;
@@ -205,7 +205,7 @@ fn added_spot(count: usize) -> Spot {
 #[inline]
 fn positional_help(
     alloc: Global,
-    given: &[Given<'_>],
+    given: &[FormatArgument<'_>],
     span: &Range<usize>,
 ) -> Result<CallHelp, AllocError> {
     let count = unnamed_count(given);
@@ -253,7 +253,7 @@ fn debug_help(alloc: Global, kept: &[usize]) -> Result<Option<CallHelp>, AllocEr
 #[inline]
 fn text_help(
     alloc: Global,
-    call: &Checked<'_>,
+    call: &CallReport<'_>,
     fault: &Fault<'_>,
 ) -> Result<Option<CallHelp>, AllocError> {
     let error = fault.error(alloc)?;
@@ -273,7 +273,7 @@ fn text_help(
     }
 }
 
-impl<'a> Checked<'a> {
+impl<'a> CallReport<'a> {
     /// Returns the suggestion of rustc for one of the faults, or `None` if there is none or it is
     /// in a label. The suggestions for the directives of other languages are left out. Returns
     /// `Err` if an allocation fails.

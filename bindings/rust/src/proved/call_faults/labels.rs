@@ -5,8 +5,8 @@
 // That source is proved, and each contract here is its. That this text means the same is tested:
 // by results from outside, and beside what is proved (.ci/bindings) and the original (tools/agree).
 
-use crate::proved::call_faults::arguments::Given;
-use crate::proved::call_faults::checker::Checked;
+use crate::proved::call_faults::arguments::FormatArgument;
+use crate::proved::call_faults::checker::CallReport;
 use crate::proved::call_faults::faults::{CallFault, Reference};
 use crate::proved::call_faults::missing_labels::{few_labels, push_missing};
 use crate::proved::call_faults::spots::{
@@ -114,7 +114,7 @@ fn push_text(
 #[inline]
 fn push_unused(
     labels: &mut Vec<CallLabel>,
-    given: &[Given<'_>],
+    given: &[FormatArgument<'_>],
     unused: &[usize],
 ) -> Result<(), AllocError> {
     let mut rest = unused;
@@ -138,7 +138,7 @@ fn single_text() -> &'static str {
 #[inline]
 fn push_one_unused(
     labels: &mut Vec<CallLabel>,
-    given: &[Given<'_>],
+    given: &[FormatArgument<'_>],
     index: usize,
 ) -> Result<(), AllocError> {
     push_primary(labels, Spot::Value(index), never_used(given, index))?;
@@ -159,7 +159,7 @@ fn several_text() -> &'static str {
 #[inline]
 fn push_many_unused(
     labels: &mut Vec<CallLabel>,
-    given: &[Given<'_>],
+    given: &[FormatArgument<'_>],
     unused: &[usize],
 ) -> Result<(), AllocError> {
     push_secondary(labels, Spot::Literal, several_text())?;
@@ -173,7 +173,7 @@ fn push_many_unused(
 #[inline]
 fn push_unused_and_literal(
     labels: &mut Vec<CallLabel>,
-    given: &[Given<'_>],
+    given: &[FormatArgument<'_>],
     unused: &[usize],
 ) -> Result<(), AllocError> {
     match unused {
@@ -186,14 +186,14 @@ fn push_unused_and_literal(
 /// Returns whether an argument is the last one.
 // ensures { result ≡ is_last (map seen_given given.now) index }
 #[inline]
-pub(crate) fn is_last(given: &[Given<'_>], index: usize) -> bool {
+pub(crate) fn is_last(given: &[FormatArgument<'_>], index: usize) -> bool {
     given.len().saturating_sub(index) == 1
 }
 
 /// Returns whether one of these arguments has a name.
 // ensures { result ≡ have_names (map seen_given given.now) }
 #[inline]
-pub(crate) fn have_names(given: &[Given<'_>]) -> bool {
+pub(crate) fn have_names(given: &[FormatArgument<'_>]) -> bool {
     for first in given {
         if first.name.is_some() {
             return true;
@@ -225,7 +225,7 @@ fn push_removal_up_to_next(labels: &mut Vec<CallLabel>, index: usize) -> Result<
 #[inline]
 fn push_removal(
     labels: &mut Vec<CallLabel>,
-    given: &[Given<'_>],
+    given: &[FormatArgument<'_>],
     index: usize,
 ) -> Result<(), AllocError> {
     if is_last(given, index) {
@@ -255,7 +255,7 @@ fn push_bare(labels: &mut Vec<CallLabel>, indices: &[usize]) -> Result<(), Alloc
 #[inline]
 fn push_redundant(
     labels: &mut Vec<CallLabel>,
-    given: &[Given<'_>],
+    given: &[FormatArgument<'_>],
     redundant: &[usize],
 ) -> Result<(), AllocError> {
     if let [index] = redundant {
@@ -290,7 +290,7 @@ fn use_text(alloc: Global, name: &str) -> Result<String, AllocError> {
 #[inline]
 fn push_by_index(
     labels: &mut Vec<CallLabel>,
-    call: &Checked<'_>,
+    call: &CallReport<'_>,
     reference: Reference,
     index: usize,
 ) -> Result<(), AllocError> {
@@ -302,7 +302,7 @@ fn push_by_index(
     Ok(())
 }
 
-impl<'a> Checked<'a> {
+impl<'a> CallReport<'a> {
     /// Returns the labels of one of the faults, as rustc has them. The primary label that begins
     /// first in the source is where rustc says that the fault is. A fault of the string has the
     /// labels of its error. Returns `Err` if an allocation fails.

@@ -5,7 +5,7 @@
 // That source is proved, and each contract here is its. That this text means the same is tested:
 // by results from outside, and beside what is proved (.ci/bindings) and the original (tools/agree).
 
-use crate::proved::call_faults::checker::Checked;
+use crate::proved::call_faults::checker::CallReport;
 use crate::proved::call_faults::faults::Missing;
 use crate::proved::call_faults::spots::{
     first_spot, push_plain, push_secondary, reference_spot, rest_after, spot_of, CallLabel, Spot,
@@ -171,7 +171,10 @@ fn push_stars(
 /// Returns the labels of too few arguments, where none is referred to by a number that is written.
 // ensures { IfOk result (λ v. map seen_label v.items ≡ few_labels (seen_call call.now)) }
 #[inline]
-pub(crate) fn few_labels(alloc: Global, call: &Checked<'_>) -> Result<Vec<CallLabel>, AllocError> {
+pub(crate) fn few_labels(
+    alloc: Global,
+    call: &CallReport<'_>,
+) -> Result<Vec<CallLabel>, AllocError> {
     let mut labels = Vec::made_in(alloc);
     push_values(&mut labels, &call.kept)?;
     push_stars(&mut labels, call.parser.curarg(), &call.pieces)?;

@@ -17,8 +17,8 @@ pub(crate) mod spots;
 pub(crate) mod text;
 pub(crate) mod titles;
 
-pub use arguments::Given;
-pub use checker::{call_faults, Checked, FormatString};
+pub use arguments::FormatArgument;
+pub use checker::{call_faults, CallReport, FormatString};
 pub use faults::{CallFault, Missing, Part, Reference};
 pub use spots::{CallEdit, CallHelp, CallLabel, CallNote, Spot};
 pub use text::text_fault;

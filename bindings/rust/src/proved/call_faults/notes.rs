@@ -5,8 +5,8 @@
 // That source is proved, and each contract here is its. That this text means the same is tested:
 // by results from outside, and beside what is proved (.ci/bindings) and the original (tools/agree).
 
-use crate::proved::call_faults::arguments::{index_of, insert, Given};
-use crate::proved::call_faults::checker::Checked;
+use crate::proved::call_faults::arguments::{index_of, insert, FormatArgument};
+use crate::proved::call_faults::checker::CallReport;
 use crate::proved::call_faults::faults::CallFault;
 use crate::proved::call_faults::missing_labels::star_of;
 use crate::proved::call_faults::spots::{bytes_at, CallNote, Spot};
@@ -223,7 +223,7 @@ pub(crate) fn put_specifiers(out: &mut String, count: usize) -> Result<(), Alloc
 #[inline]
 fn push_unused(
     notes: &mut Vec<CallNote>,
-    call: &Checked<'_>,
+    call: &CallReport<'_>,
     count: usize,
 ) -> Result<(), AllocError> {
     if are_missing(&call.faults) || count == call.kept.len() || count <= 1 {
@@ -238,7 +238,7 @@ fn push_unused(
 /// Returns the variable that an argument is, or `None` if it is no variable.
 // ensures { option_map text result ≡ variable_of (map seen_given given.now) index }
 #[inline]
-fn variable_of<'a>(given: &[Given<'a>], index: usize) -> Option<&'a str> {
+fn variable_of<'a>(given: &[FormatArgument<'a>], index: usize) -> Option<&'a str> {
     match given.get(index) {
         Some(argument) => argument.variable,
         None => None,
@@ -252,7 +252,7 @@ fn variable_of<'a>(given: &[Given<'a>], index: usize) -> Option<&'a str> {
 #[inline]
 fn variables_of<'a>(
     alloc: Global,
-    given: &[Given<'a>],
+    given: &[FormatArgument<'a>],
     indices: &[usize],
 ) -> Result<BTreeMap<&'a str, usize>, AllocError> {
     let mut names = BTreeMap::made_in(alloc);
@@ -327,7 +327,7 @@ fn redundant_text(count: usize) -> &'static str {
 fn push_redundant<'a>(
     alloc: Global,
     notes: &mut Vec<CallNote>,
-    call: &Checked<'a>,
+    call: &CallReport<'a>,
     redundant: &[usize],
 ) -> Result<(), AllocError> {
     let names = variables_of(alloc, call.given, redundant)?;
@@ -337,7 +337,7 @@ fn push_redundant<'a>(
     Ok(())
 }
 
-impl<'a> Checked<'a> {
+impl<'a> CallReport<'a> {
     /// Returns the notes of one of the faults, as rustc has them, but for the note of a warning
     /// which says that it is on by default. A fault of the string has the note of its error.
     /// Returns `Err` if an allocation fails.

@@ -5,8 +5,8 @@
 // That source is proved, and each contract here is its. That this text means the same is tested:
 // by results from outside, and beside what is proved (.ci/bindings) and the original (tools/agree).
 
-use crate::proved::call_faults::arguments::Given;
-use crate::proved::call_faults::checker::Checked;
+use crate::proved::call_faults::arguments::FormatArgument;
+use crate::proved::call_faults::checker::CallReport;
 use crate::proved::call_faults::faults::CallFault;
 use crate::proved::placeholder_check::check;
 use crate::proved::rustc_parse_format::{Count, Fault, Piece, Position};
@@ -201,7 +201,7 @@ fn put_few_title(out: &mut String, total: usize, count: usize) -> Result<(), All
 /// Returns the name of an argument, or an empty text if it has none.
 // ensures { chars result.now ≡ name_of (slice_get (map seen_given given.now) index) }
 #[inline]
-pub(crate) fn name_of<'a>(given: &[Given<'a>], index: usize) -> &'a str {
+pub(crate) fn name_of<'a>(given: &[FormatArgument<'a>], index: usize) -> &'a str {
     match given.get(index) {
         Some(given) => match given.name {
             Some(name) => name,
@@ -214,7 +214,7 @@ pub(crate) fn name_of<'a>(given: &[Given<'a>], index: usize) -> &'a str {
 /// Returns whether an argument has a name.
 // ensures { result ≡ is_named (slice_get (map seen_given given.now) index) }
 #[inline]
-fn is_named(given: &[Given<'_>], index: usize) -> bool {
+fn is_named(given: &[FormatArgument<'_>], index: usize) -> bool {
     match given.get(index) {
         Some(given) => given.name.is_some(),
         None => false,
@@ -224,7 +224,7 @@ fn is_named(given: &[Given<'_>], index: usize) -> bool {
 /// Returns the label of an argument that is not used.
 // ensures { result.now ≡ never_used (slice_get (map seen_given given.now) index) }
 #[inline]
-pub(crate) fn never_used(given: &[Given<'_>], index: usize) -> &'static str {
+pub(crate) fn never_used(given: &[FormatArgument<'_>], index: usize) -> &'static str {
     if is_named(given, index) {
         "named argument never used"
     } else {
@@ -235,7 +235,7 @@ pub(crate) fn never_used(given: &[Given<'_>], index: usize) -> &'static str {
 /// Returns the title of arguments that are not used.
 // ensures { result.now ≡ unused_title (map seen_given given.now) unused.now }
 #[inline]
-fn unused_title(given: &[Given<'_>], unused: &[usize]) -> &'static str {
+fn unused_title(given: &[FormatArgument<'_>], unused: &[usize]) -> &'static str {
     match unused {
         [index] => never_used(given, *index),
         _ => "multiple unused formatting arguments",
@@ -260,7 +260,7 @@ fn put_text_title(alloc: Global, out: &mut String, fault: &Fault<'_>) -> Result<
 //     then numbers_title r.missing_index (length call.now.kept.items)
 //     else few_title call.now.parser.next (length call.now.kept.items))) }
 #[inline]
-fn put_missing(out: &mut String, call: &Checked<'_>) -> Result<(), AllocError> {
+fn put_missing(out: &mut String, call: &CallReport<'_>) -> Result<(), AllocError> {
     let count = call.kept.len();
     if have_numbers(&call.pieces) {
         let alloc = *call.pieces.own_allocator();
@@ -272,7 +272,7 @@ fn put_missing(out: &mut String, call: &Checked<'_>) -> Result<(), AllocError> {
     Ok(())
 }
 
-impl<'a> Checked<'a> {
+impl<'a> CallReport<'a> {
     /// Adds the title of one of the faults to the end of `out`, as rustc has it. Returns `Err` if
     /// an allocation fails; a part may then be at the end of `out`.
     // ensures { OnOk result ((r : Report) → IsReport (uses (map seen self.now.pieces.items))

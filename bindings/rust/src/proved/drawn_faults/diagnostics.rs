@@ -141,7 +141,6 @@ fn level_of(level: Level) -> Palette {
 
 /// Adds the drawing of a diagnostic with these labels in a layout.
 // requires source { length frame.now.picture.now.source.now < 2 ^ 59 }
-// requires cut { frame.now.cut < 2 ^ 62 }
 // ensures { OnOk result (string_bytes out.new ≡ string_bytes out.old
 //     ++ drawn_in (seen_frame frame.now) (seen_diagnostic diagnostic.now)
 //     (map seen_label labels.now)) }

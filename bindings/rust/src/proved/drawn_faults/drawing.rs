@@ -7,7 +7,7 @@
 
 use crate::proved::drawn_edits::{put_edit, Edit};
 use crate::proved::drawn_faults::labels::{edit_of, frame_for, second, text_name};
-use crate::proved::drawn_labels::{mark_of, put_labelled, put_long, put_two_labels, Label};
+use crate::proved::drawn_labels::{mark_in, put_labelled, put_long, put_two_labels, Label};
 use crate::proved::drawn_lines::{
     extent_of, has_colours, put_closing, put_decimal, put_glyphs, put_note_sign, put_opening,
     put_painted, put_parting, put_run, Frame, Gutter, Palette, Picture, Spot, Style,
@@ -93,13 +93,13 @@ fn put_head(
 // requires number { label.now.extent.start.line < 2 ^ 59 }
 // requires last { label.now.extent.end.line < 2 ^ 59 }
 // requires column { label.now.extent.start.column < 2 ^ 61 }
-// requires cut { frame.now.cut < 2 ^ 62 }
+// requires source { length frame.now.picture.now.source.now < 2 ^ 59 }
 // ensures { OnOk result (string_bytes out.new ≡ string_bytes out.old
 //     ++ labelled_rows (seen_frame frame.now) (seen_label label.now) None) }
 #[inline]
 fn put_label(out: &mut String, frame: &Frame<'_>, label: &Label<'_>) -> Result<(), AllocError> {
     if label.extent.start.line == label.extent.end.line {
-        put_labelled(out, frame, &mark_of(label, frame.cut))?;
+        put_labelled(out, frame, &mark_in(frame, label))?;
     } else {
         put_long(out, frame, label)?;
     }
@@ -112,7 +112,7 @@ fn put_label(out: &mut String, frame: &Frame<'_>, label: &Label<'_>) -> Result<(
 // requires column { label.now.extent.start.column < 2 ^ 61 }
 // requires second_number { IfSome second.now (λ l. l.extent.start.line < 2 ^ 59) }
 // requires second_column { IfSome second.now (λ l. l.extent.start.column < 2 ^ 61) }
-// requires cut { frame.now.cut < 2 ^ 62 }
+// requires source { length frame.now.picture.now.source.now < 2 ^ 59 }
 // ensures { OnOk result (string_bytes out.new ≡ string_bytes out.old
 //     ++ labelled_rows (seen_frame frame.now) (seen_label label.now)
 //     (option_map seen_label second.now)) }
@@ -126,7 +126,7 @@ fn put_labels(
     match second {
         None => put_label(out, frame, label)?,
         Some(second) => {
-            let (m, n) = (mark_of(label, frame.cut), mark_of(second, frame.cut));
+            let (m, n) = (mark_in(frame, label), mark_in(frame, second));
             put_two_labels(out, frame, &m, &n)?;
         }
     }
@@ -270,8 +270,9 @@ fn least_length(picture: &Picture<'_>, error: &ParseError) -> usize {
 /// suggestion, if one is made in this mode (see [`edits`](fault_fixes::edits)); an empty line. A
 /// suggestion to remove or to insert something is a second label, one to replace a text shows the
 /// old and the new lines. Those for which the arguments of the call are needed, `UsePositional` and
-/// `UseRustDebugPrintingMacro`, are left out. Long lines are not cut at their right. Of two labels
-/// each is drawn in the line in which it begins.
+/// `UseRustDebugPrintingMacro`, are left out. Of two labels each is drawn in the line in which it
+/// begins. Lines with labels, and those between, are cut where a row would be wider than the
+/// picture.
 ///
 /// The width of a character is that of the crate `unicode_width`. Of all characters up to U+323FF,
 /// it differs from that of rustc 1.95 for U+FF9E and U+FF9F, and for 1,027 that are new in Unicode

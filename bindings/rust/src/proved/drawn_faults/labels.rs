@@ -5,9 +5,9 @@
 // by results from outside, and beside what is proved (.ci/bindings) and the original (tools/agree).
 
 use crate::proved::drawn_edits::{placed, Edit};
-use crate::proved::drawn_labels::Label;
+use crate::proved::drawn_labels::{window_of, Label};
 use crate::proved::drawn_lines::{
-    cut_of, digits, extent_of, line_indent, palette_of, Frame, Gutter, Palette, Picture,
+    digits, extent_of, line_indent, palette_of, Frame, Gutter, Palette, Picture,
 };
 use crate::proved::fault_fixes::is_offered;
 use crate::proved::rustc_parse_format::{ParseError, ParseMode, Suggestion};
@@ -164,7 +164,7 @@ fn least_indent(picture: &Picture<'_>, number: usize, other: usize) -> usize {
 // requires small_edit { IfSome edit.now (λ e. e.extent.end.line < 2 ^ 59) }
 // ensures value { seen_frame result ≡ frame (seen_picture picture.now)
 //     (seen_label label.now) (option_map seen_label second.now) (option_map seen_edit edit.now) }
-// ensures small_cut { result.cut < 2 ^ 62 }
+// ensures source { length result.picture.now.source.now < 2 ^ 59 }
 #[inline]
 pub fn frame_for<'a>(
     picture: &'a Picture<'a>,
@@ -179,10 +179,15 @@ pub fn frame_for<'a>(
         .max(last_line(second).max(edit_line(edit)));
     let columns = digits(picture.line_start as usize + last);
     let palette = palette_of(picture.colours, Palette::Error);
+    let gutter = Gutter { columns, palette };
     let indent = least_indent(picture, label.extent.start.line, other_line(label, second));
+    let window = match second {
+        None => window_of(picture, gutter, indent, &[*label]),
+        Some(second) => window_of(picture, gutter, indent, &[*label, *second]),
+    };
     Frame {
         picture,
-        gutter: Gutter { columns, palette },
-        cut: cut_of(indent),
+        gutter,
+        window,
     }
 }

@@ -6,9 +6,11 @@
 // by results from outside, and beside what is proved (.ci/bindings) and the original (tools/agree).
 
 use crate::proved::drawn_edits::Edit;
-use crate::proved::drawn_labels::{from_right, mark_of, put_long, put_mark_rows, Label, Mark};
+use crate::proved::drawn_labels::{
+    from_right, mark_in, put_long, put_mark_rows, window_of, Label, Mark,
+};
 use crate::proved::drawn_lines::{
-    cut_of, line_indent, put_code, put_gap, Frame, Gutter, Picture, Spot, ORIGIN,
+    line_indent, put_code, put_gap, Frame, Gutter, Picture, Spot, ORIGIN,
 };
 use crate::shim::alloc::{AllocError, Global};
 use crate::shim::prelude::*;
@@ -85,14 +87,13 @@ fn lowest_indent(picture: &Picture<'_>, labels: &[Label<'_>]) -> usize {
 // requires { length picture.now.source.now < 2 ^ 59 }
 // ensures value { seen_frame result
 //     ≡ frame_of (seen_picture picture.now) gutter (map seen_label labels.now) }
-// ensures cut { result.cut < 2 ^ 62 }
 // ensures source { length result.picture.now.source.now < 2 ^ 59 }
 #[inline]
 pub fn frame_of<'a>(picture: &'a Picture<'a>, gutter: Gutter, labels: &[Label<'_>]) -> Frame<'a> {
     Frame {
         picture,
         gutter,
-        cut: cut_of(lowest_indent(picture, labels)),
+        window: window_of(picture, gutter, lowest_indent(picture, labels), labels),
     }
 }
 
@@ -145,17 +146,18 @@ pub fn first_spot(labels: &[Label<'_>]) -> Spot {
 
 /// Returns labels in the lines in which they begin, in the order in which they are drawn. Returns
 /// `Err` if an allocation fails.
-// ensures { IfOk result (λ v. map seen_mark v.items
-//     ≡ sorted is_right_of [] (map (mark cut) (map seen_label labels.now))) }
+// requires { length frame.now.picture.now.source.now < 2 ^ 59 }
+// ensures { IfOk result (λ v. map seen_mark v.items ≡ sorted is_right_of []
+//     (map (mark_in (seen_frame frame.now)) (map seen_label labels.now))) }
 #[inline]
 fn marks_of<'a>(
     alloc: Global,
-    cut: usize,
+    frame: &Frame<'_>,
     labels: &[Label<'a>],
 ) -> Result<Vec<Mark<'a>>, AllocError> {
     let mut list = Vec::made_in(alloc);
     for label in labels {
-        list.try_push(mark_of(label, cut))?;
+        list.try_push(mark_in(frame, label))?;
     }
     let marks = from_right(alloc, &list)?;
     Ok(marks)
@@ -180,7 +182,7 @@ fn in_line<'a>(
 }
 
 /// Adds the rows between a line that was drawn, if there is one, and the next one.
-// requires cut { frame.now.cut < 2 ^ 62 }
+// requires source { length frame.now.picture.now.source.now < 2 ^ 59 }
 // requires before { IfSome before (λ n. n < 2 ^ 59) }
 // ensures { OnOk result (string_bytes out.new ≡ string_bytes out.old
 //     ++ gap_after (seen_frame frame.now) before number) }
@@ -198,7 +200,7 @@ fn put_gap_after(
 }
 
 /// Adds a line and the rows under it.
-// requires cut { frame.now.cut < 2 ^ 62 }
+// requires source { length frame.now.picture.now.source.now < 2 ^ 59 }
 // requires number { number < 2 ^ 59 }
 // ensures { OnOk result (string_bytes out.new ≡ string_bytes out.old
 //     ++ line_rows (seen_frame frame.now) number (map seen_mark marks.now)) }
@@ -226,7 +228,7 @@ fn is_drawn(before: Option<usize>, number: usize) -> bool {
 }
 
 /// Adds a line with labels, unless it was drawn before.
-// requires cut { frame.now.cut < 2 ^ 62 }
+// requires source { length frame.now.picture.now.source.now < 2 ^ 59 }
 // requires before { IfSome before (λ n. n < 2 ^ 59) }
 // requires number { number < 2 ^ 59 }
 // ensures { OnOk result (string_bytes out.new ≡ string_bytes out.old
@@ -248,7 +250,7 @@ fn put_next_line(
 }
 
 /// Adds the lines of labels, which are in the order in which they are drawn.
-// requires { frame.now.cut < 2 ^ 62 }
+// requires { length frame.now.picture.now.source.now < 2 ^ 59 }
 // ensures { OnOk result (string_bytes out.new ≡ string_bytes out.old
 //     ++ marked_lines (seen_frame frame.now) None (map seen_mark marks.now)) }
 #[inline]
@@ -266,7 +268,7 @@ fn put_marked_lines(
 }
 
 /// Adds the lines of labels, each in the line in which it begins.
-// requires { frame.now.cut < 2 ^ 62 }
+// requires { length frame.now.picture.now.source.now < 2 ^ 59 }
 // ensures { OnOk result (string_bytes out.new ≡ string_bytes out.old
 //     ++ each_in_line (seen_frame frame.now) (map seen_label labels.now)) }
 #[inline]
@@ -275,13 +277,13 @@ fn put_each_in_line(
     frame: &Frame<'_>,
     labels: &[Label<'_>],
 ) -> Result<(), AllocError> {
-    let marks = marks_of(*out.own_allocator(), frame.cut, labels)?;
+    let marks = marks_of(*out.own_allocator(), frame, labels)?;
     put_marked_lines(out, frame, &marks)?;
     Ok(())
 }
 
 /// Adds the lines of a label that is alone.
-// requires { frame.now.cut < 2 ^ 62 }
+// requires { length frame.now.picture.now.source.now < 2 ^ 59 }
 // ensures { OnOk result (string_bytes out.new ≡ string_bytes out.old
 //     ++ single_rows (seen_frame frame.now) (seen_label label.now)) }
 #[inline]
@@ -295,7 +297,7 @@ fn put_single(out: &mut String, frame: &Frame<'_>, label: &Label<'_>) -> Result<
 }
 
 /// Adds the lines of labels.
-// requires { frame.now.cut < 2 ^ 62 }
+// requires { length frame.now.picture.now.source.now < 2 ^ 59 }
 // ensures { OnOk result (string_bytes out.new ≡ string_bytes out.old
 //     ++ labels_rows (seen_frame frame.now) (map seen_label labels.now)) }
 #[inline]

@@ -69,7 +69,7 @@ pub fn last_note_line(
 }
 
 /// Adds a title, in these colours, after a word, and labels under it.
-// requires { frame.now.cut < 2 ^ 62 }
+// requires { length frame.now.picture.now.source.now < 2 ^ 59 }
 // ensures { OnOk result (string_bytes out.new ≡ string_bytes out.old
 //     ++ titled (seen_frame frame.now) palette word.now title.now (map seen_label labels.now)) }
 #[inline]

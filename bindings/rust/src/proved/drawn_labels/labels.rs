@@ -7,7 +7,7 @@
 
 use crate::proved::drawn_labels::mark::Mark;
 use crate::proved::drawn_labels::rows::{put_both, put_one};
-use crate::proved::drawn_lines::{put_code, put_gap, Extent, Frame};
+use crate::proved::drawn_lines::{put_code, put_gap, shift, Extent, Frame};
 use crate::shim::alloc::AllocError;
 use crate::shim::prelude::*;
 
@@ -26,6 +26,7 @@ pub struct Label<'a> {
 // requires { label.now.extent.start.column < 2 ^ 61 }
 // ensures value { seen_mark result ≡ mark cut (seen_label label.now) }
 // ensures line { result.line ≡ label.now.extent.start.line }
+// ensures columns { result.to < 2 ^ 62 }
 #[inline]
 pub fn mark_of<'a>(label: &Label<'a>, cut: usize) -> Mark<'a> {
     let start = label.extent.start;
@@ -45,9 +46,18 @@ pub fn mark_of<'a>(label: &Label<'a>, cut: usize) -> Mark<'a> {
     }
 }
 
+/// Returns a label as it is drawn in the line in which it begins.
+// requires source { length frame.now.picture.now.source.now < 2 ^ 59 }
+// requires column { label.now.extent.start.column < 2 ^ 61 }
+// ensures value { seen_mark result ≡ mark_in (seen_frame frame.now) (seen_label label.now) }
+// ensures line { result.line ≡ label.now.extent.start.line }
+#[inline]
+pub fn mark_in<'a>(frame: &Frame<'_>, label: &Label<'a>) -> Mark<'a> {
+    mark_of(label, shift(frame, label.extent.start.line))
+}
+
 /// Adds a line of the source with a label.
-// requires number { mark.now.line < 2 ^ 61 }
-// requires cut { frame.now.cut < 2 ^ 62 }
+// requires { mark.now.line < 2 ^ 61 }
 // ensures { OnOk result (string_bytes out.new ≡ string_bytes out.old
 //     ++ labelled (seen_frame frame.now) (seen_mark mark.now)) }
 #[inline]
@@ -64,7 +74,6 @@ pub fn put_labelled(
 /// Adds two lines with labels, of which `m` is the first one.
 // requires number { m.now.line < 2 ^ 60 }
 // requires second_number { n.now.line < 2 ^ 60 }
-// requires cut { frame.now.cut < 2 ^ 62 }
 // ensures { OnOk result (string_bytes out.new ≡ string_bytes out.old
 //     ++ apart (seen_frame frame.now) (seen_mark m.now) (seen_mark n.now)) }
 #[inline]
@@ -83,7 +92,6 @@ fn put_apart(
 /// Adds the lines with two labels.
 // requires number { m.now.line < 2 ^ 60 }
 // requires second_number { n.now.line < 2 ^ 60 }
-// requires cut { frame.now.cut < 2 ^ 62 }
 // ensures { OnOk result (string_bytes out.new ≡ string_bytes out.old
 //     ++ two_labels (seen_frame frame.now) (seen_mark m.now) (seen_mark n.now)) }
 #[inline]

@@ -8,7 +8,7 @@
 use crate::proved::drawn_labels::labels::Label;
 use crate::proved::drawn_lines::{
     line, put_closing, put_gutter, put_number_bar, put_opening, put_painted, put_painted_glyphs,
-    put_run, put_source, put_source_line, split_first, Frame, Gutter, Palette, Style,
+    put_run, put_source, put_source_line, shift, split_first, Frame, Gutter, Palette, Style,
 };
 use crate::shim::alloc::AllocError;
 use crate::shim::prelude::*;
@@ -93,7 +93,6 @@ fn without_bare(frame: &Frame<'_>, first: usize, count: usize) -> usize {
 
 /// Adds a line of the source at the right of a sign of the label.
 // requires number { number < 2 ^ 61 }
-// requires cut { frame.now.cut < 2 ^ 62 }
 // ensures { OnOk result (string_bytes out.new ≡ string_bytes out.old
 //     ++ signed_row (seen_frame frame.now) sign.now number) }
 #[inline]
@@ -112,7 +111,6 @@ fn put_signed_row(
 
 /// Adds a line between the first and the last one.
 // requires number { number < 2 ^ 61 }
-// requires cut { frame.now.cut < 2 ^ 62 }
 // ensures { OnOk result (string_bytes out.new ≡ string_bytes out.old
 //     ++ bar_row (seen_frame frame.now) number) }
 #[inline]
@@ -123,7 +121,6 @@ fn put_bar_row(out: &mut String, frame: &Frame<'_>, number: usize) -> Result<(),
 
 /// Adds so many lines after a line.
 // requires number { first + count < 2 ^ 60 }
-// requires cut { frame.now.cut < 2 ^ 62 }
 // ensures { OnOk result (string_bytes out.new ≡ string_bytes out.old
 //     ++ bar_rows (seen_frame frame.now) first count) }
 #[inline]
@@ -141,7 +138,6 @@ fn put_bar_rows(
 
 /// Adds the rows between two lines of the label that are drawn.
 // requires number { first < 2 ^ 60 }
-// requires cut { frame.now.cut < 2 ^ 62 }
 // ensures { OnOk result (string_bytes out.new ≡ string_bytes out.old
 //     ++ bar_gap (seen_frame frame.now) first last) }
 #[inline]
@@ -193,9 +189,9 @@ fn put_start(out: &mut String, gutter: Gutter, columns: usize) -> Result<(), All
 }
 
 /// Adds the first line of a label.
+// requires source { length frame.now.picture.now.source.now < 2 ^ 59 }
 // requires number { label.now.extent.start.line < 2 ^ 60 }
 // requires column { label.now.extent.start.column < 2 ^ 62 }
-// requires cut { frame.now.cut < 2 ^ 62 }
 // ensures { OnOk result (string_bytes out.new ≡ string_bytes out.old
 //     ++ first_rows (seen_frame frame.now) (seen_label label.now)) }
 #[inline]
@@ -209,7 +205,7 @@ fn put_first_rows(
         put_signed_row(out, frame, "/", start.line)?;
     } else {
         put_source(out, frame, "   ", start.line)?;
-        let columns = start.column.saturating_sub(frame.cut) + 1;
+        let columns = start.column.saturating_sub(shift(frame, start.line)) + 1;
         put_start(out, frame.gutter, columns)?;
     }
     Ok(())
@@ -230,27 +226,22 @@ fn put_end(out: &mut String, gutter: Gutter, columns: usize, text: &str) -> Resu
 }
 
 /// Adds the last line of a label.
+// requires source { length frame.now.picture.now.source.now < 2 ^ 59 }
 // requires number { label.now.extent.end.line < 2 ^ 60 }
-// requires cut { frame.now.cut < 2 ^ 62 }
 // ensures { OnOk result (string_bytes out.new ≡ string_bytes out.old
 //     ++ last_rows (seen_frame frame.now) (seen_label label.now)) }
 #[inline]
 fn put_last_rows(out: &mut String, frame: &Frame<'_>, label: &Label<'_>) -> Result<(), AllocError> {
     let end = label.extent.end;
+    let columns = end.column.saturating_sub(shift(frame, end.line)).max(1);
     put_bar_row(out, frame, end.line)?;
-    put_end(
-        out,
-        frame.gutter,
-        end.column.saturating_sub(frame.cut).max(1),
-        label.text,
-    )?;
+    put_end(out, frame.gutter, columns, label.text)?;
     Ok(())
 }
 
 /// Adds the rows between the first and the last line of a label.
 // requires first { first < 2 ^ 59 }
 // requires last { last < 2 ^ 60 }
-// requires cut { frame.now.cut < 2 ^ 62 }
 // ensures { OnOk result (string_bytes out.new ≡ string_bytes out.old
 //     ++ between (seen_frame frame.now) first last) }
 #[inline]
@@ -273,10 +264,10 @@ fn put_between(
 }
 
 /// Adds the lines of a label over several lines.
+// requires source { length frame.now.picture.now.source.now < 2 ^ 59 }
 // requires number { label.now.extent.start.line < 2 ^ 59 }
 // requires last { label.now.extent.end.line < 2 ^ 59 }
 // requires column { label.now.extent.start.column < 2 ^ 62 }
-// requires cut { frame.now.cut < 2 ^ 62 }
 // ensures { OnOk result (string_bytes out.new ≡ string_bytes out.old
 //     ++ long_rows (seen_frame frame.now) (seen_label label.now)) }
 #[inline]

@@ -10,6 +10,7 @@ pub(crate) mod cells;
 pub(crate) mod hanging;
 pub(crate) mod labels;
 pub(crate) mod long;
+pub(crate) mod margin;
 pub(crate) mod mark;
 #[cfg(feature = "std")]
 pub(crate) mod marks;
@@ -17,8 +18,9 @@ pub(crate) mod marks;
 pub(crate) mod order;
 pub(crate) mod rows;
 
-pub use labels::{mark_of, put_labelled, put_two_labels, Label};
+pub use labels::{mark_in, put_labelled, put_two_labels, Label};
 pub use long::put_long;
+pub use margin::window_of;
 #[cfg(feature = "std")]
 pub use mark::Mark;
 #[cfg(feature = "std")]

@@ -7,6 +7,7 @@
 use crate::proved::drawn_lines::glyphs::indent;
 use crate::proved::drawn_lines::paint::Gutter;
 use crate::proved::drawn_lines::places::{after_lines, Picture};
+use crate::proved::drawn_lines::window::Window;
 
 /// How a picture is laid out.
 #[derive(Clone, Copy)]
@@ -15,8 +16,8 @@ pub struct Frame<'a> {
     pub picture: &'a Picture<'a>,
     /// The columns of the numbers of the lines, and the colours.
     pub gutter: Gutter,
-    /// How many columns at the start of each line are cut.
-    pub cut: usize,
+    /// Which columns of the lines are drawn.
+    pub window: Window,
 }
 
 /// Returns the indent of a line of the source, unless it is blank.
@@ -26,18 +27,6 @@ pub struct Frame<'a> {
 #[inline]
 pub fn line_indent(picture: &Picture<'_>, number: usize) -> Option<usize> {
     indent(after_lines(picture.source, number))
-}
-
-/// Returns how many columns are cut of lines with an indent.
-// ensures value { result ≡ cut_of indent }
-// ensures less { result ≤ indent }
-#[inline]
-pub fn cut_of(indent: usize) -> usize {
-    if indent > 26 {
-        indent - 22
-    } else {
-        0
-    }
 }
 
 /// Returns the number of digits of a number.

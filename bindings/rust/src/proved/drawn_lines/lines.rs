@@ -6,11 +6,12 @@
 // by results from outside, and beside what is proved (.ci/bindings) and the original (tools/agree).
 
 use crate::proved::drawn_lines::frame::{digits, Frame};
-use crate::proved::drawn_lines::glyphs::{draws_nothing, put_glyphs, put_run};
+use crate::proved::drawn_lines::glyphs::{draws_nothing, put_run};
 use crate::proved::drawn_lines::paint::{
     put_closing, put_gutter_bar, put_opening, put_painted, Gutter, Palette, Style,
 };
 use crate::proved::drawn_lines::places::line;
+use crate::proved::drawn_lines::window::{put_shown, Window};
 use crate::shim::alloc::AllocError;
 use crate::shim::itoa::Buffer;
 use crate::shim::prelude::*;
@@ -82,42 +83,25 @@ pub fn put_number_bar(out: &mut String, frame: &Frame<'_>, line: usize) -> Resul
     Ok(())
 }
 
-/// Adds a line as it is drawn.
-// requires { cut < 2 ^ 62 }
-// ensures { OnOk result (string_bytes out.new
-//     ≡ string_bytes out.old ++ shown palette cut (chars text.now)) }
-#[inline]
-fn put_shown(out: &mut String, palette: Palette, text: &str, cut: usize) -> Result<(), AllocError> {
-    if cut == 0 {
-        put_glyphs(out, text, 0)?;
-    } else {
-        put_painted(out, palette, Style::Secondary, "...")?;
-        put_glyphs(out, text, cut + 3)?;
-    }
-    Ok(())
-}
-
 /// Adds the text after a bar: a line, after a text in front of it.
-// requires { cut < 2 ^ 62 }
 // ensures { OnOk result (string_bytes out.new
-//     ≡ string_bytes out.old ++ after_bar palette front.now cut (chars text.now)) }
+//     ≡ string_bytes out.old ++ after_bar palette front.now window (chars text.now)) }
 #[inline]
 fn put_after_bar(
     out: &mut String,
     palette: Palette,
     front: &str,
     text: &str,
-    cut: usize,
+    window: Window,
 ) -> Result<(), AllocError> {
-    if cut > 0 || !draws_nothing(text) {
+    if window.left > 0 || !draws_nothing(text) {
         out.try_push_str(front)?;
-        put_shown(out, palette, text, cut)?;
+        put_shown(out, palette, window, text)?;
     }
     Ok(())
 }
 
 /// Adds a line of the source, after a text in front of it.
-// requires { frame.now.cut < 2 ^ 62 }
 // ensures { OnOk result (string_bytes out.new ≡ string_bytes out.old
 //     ++ source_line (seen_frame frame.now) front.now number) }
 #[inline]
@@ -128,14 +112,13 @@ pub fn put_source_line(
     number: usize,
 ) -> Result<(), AllocError> {
     let line = line(frame.picture.source, number);
-    put_after_bar(out, frame.gutter.palette, front, line, frame.cut)?;
+    put_after_bar(out, frame.gutter.palette, front, line, frame.window)?;
     out.try_push_str("\n")?;
     Ok(())
 }
 
 /// Adds a line of the source with its number, after a text in front of it.
-// requires number { number < 2 ^ 61 }
-// requires cut { frame.now.cut < 2 ^ 62 }
+// requires { number < 2 ^ 61 }
 // ensures { OnOk result (string_bytes out.new ≡ string_bytes out.old
 //     ++ source_row (seen_frame frame.now) front.now number) }
 #[inline]
@@ -151,8 +134,7 @@ pub fn put_source(
 }
 
 /// Adds a line of the source.
-// requires number { number < 2 ^ 61 }
-// requires cut { frame.now.cut < 2 ^ 62 }
+// requires { number < 2 ^ 61 }
 // ensures { OnOk result (string_bytes out.new ≡ string_bytes out.old
 //     ++ code_row (seen_frame frame.now) number) }
 #[inline]
@@ -162,8 +144,7 @@ pub fn put_code(out: &mut String, frame: &Frame<'_>, number: usize) -> Result<()
 }
 
 /// Adds the rows between two lines with labels.
-// requires number { first < 2 ^ 60 }
-// requires cut { frame.now.cut < 2 ^ 62 }
+// requires { first < 2 ^ 60 }
 // ensures { OnOk result (string_bytes out.new ≡ string_bytes out.old
 //     ++ gap (seen_frame frame.now) first last) }
 #[inline]

@@ -1,5 +1,5 @@
 //! Lines of a source as rustc draws them: the characters and the columns that these take, colours,
-//! places, and the gutter with the numbers of the lines.
+//! places, the gutter with the numbers of the lines, and the windows to which lines are cut.
 
 // Extracted from crates/drawn_lines/src/lib.rt by tools/extract: not to be edited.
 // That source is proved, and each contract here is its. That this text means the same is tested:
@@ -12,9 +12,10 @@ pub(crate) mod lines;
 pub(crate) mod paint;
 pub(crate) mod places;
 pub(crate) mod printable;
+pub(crate) mod window;
 
 pub use extent::{Extent, Spot};
-pub use frame::{cut_of, digits, line_indent, Frame};
+pub use frame::{digits, line_indent, Frame};
 pub use glyphs::{
     draws_nothing, glyph, glyph_count, put_glyphs, put_glyphs_after, put_painted_glyphs,
     put_painted_run, put_run, split_first, width,
@@ -29,6 +30,7 @@ pub use paint::{
 };
 #[cfg(feature = "std")]
 pub use places::ORIGIN;
-pub use places::{after_lines, extent_of, line, offsets, split_line, Picture};
+pub use places::{after_lines, extent_of, line, offsets, split_line, Picture, WIDTH};
 #[cfg(feature = "std")]
-pub use printable::{is_ascii_or_as_is, is_drawn_as_is};
+pub use printable::{is_drawn_as_is, is_drawn_as_it_is};
+pub use window::{columns, shift, Window};

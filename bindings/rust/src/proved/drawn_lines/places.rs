@@ -20,9 +20,15 @@ pub struct Picture<'a> {
     pub line_start: u32,
     /// The byte offset in `source` at which the literal begins.
     pub literal_start: usize,
+    /// How many columns a row has with the number of its line, as rustc's `--diagnostic-width` says
+    /// it. Longer lines are cut, but for those of a suggestion. [`WIDTH`] is rustc's default.
+    pub width: usize,
     /// Whether the drawing has colours, as rustc gives them to a terminal.
     pub colours: bool,
 }
+
+/// How many columns a row has if nothing else is said.
+pub const WIDTH: usize = 140;
 
 /// The place at the start of a text.
 pub const ORIGIN: Spot = Spot {

@@ -83,8 +83,8 @@ pub fn is_drawn_as_is(text: &str) -> bool {
 
 /// Returns `true` only if each part of a text without ASCII is drawn as it is. For some texts of
 /// which that holds it returns `false`.
-// ensures { IsTrue result → list_all is_ascii_or_as_is text.now ≡ true }
+// ensures { IsTrue result → list_all is_drawn_as_it_is text.now ≡ true }
 #[inline]
-pub fn is_ascii_or_as_is(text: &str) -> bool {
+pub fn is_drawn_as_it_is(text: &str) -> bool {
     front_width(text.as_bytes(), BEYOND_ASCII) == text.len()
 }

@@ -24,10 +24,10 @@ pub enum Mode {
     Parameters,
 }
 
-/// Returns whether a token follows another without white space and comments.
+/// Returns whether a token follows another one without white space and comments.
 // ensures { result ≡ is_joint (leaf token.now) (leaf next.now) }
 #[inline]
-fn is_joint(token: &Token<'_>, next: &Token<'_>) -> bool {
+pub fn is_joint(token: &Token<'_>, next: &Token<'_>) -> bool {
     token.start <= next.start && next.start - token.start == token.text.len()
 }
 

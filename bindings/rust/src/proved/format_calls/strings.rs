@@ -132,8 +132,8 @@ pub fn format_string(
     match rule {
         Rule::At(index) => string_at(tokens, arguments, index, false),
         Rule::Templates => string_at(tokens, arguments, 0, false),
-        Rule::ByEdition(index) => string_at(tokens, arguments, index, !is_from_2021),
-        Rule::AfterFields => match first_text(tokens, arguments) {
+        Rule::IndexByEdition(index) => string_at(tokens, arguments, index, !is_from_2021),
+        Rule::FirstLiteral => match first_text(tokens, arguments) {
             Some(index) => Ok(index),
             None => Err(Reason::Expression),
         },

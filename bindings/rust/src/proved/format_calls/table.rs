@@ -15,9 +15,9 @@ pub enum Rule {
     At(usize),
     /// The argument with this index. Before the edition 2021 it is any expression if it is the
     /// last.
-    ByEdition(usize),
+    IndexByEdition(usize),
     /// The first argument that is a string literal: fields may stand before it.
-    AfterFields,
+    FirstLiteral,
     /// The first argument, and the string literals that follow it, are templates of inline
     /// assembly. Operands follow.
     Templates,
@@ -74,11 +74,11 @@ const STANDARD: [Row<'static>; 23] = [
     },
     Row {
         name: "panic",
-        rule: Rule::ByEdition(0),
+        rule: Rule::IndexByEdition(0),
     },
     Row {
         name: "unreachable",
-        rule: Rule::ByEdition(0),
+        rule: Rule::IndexByEdition(0),
     },
     Row {
         name: "todo",
@@ -90,11 +90,11 @@ const STANDARD: [Row<'static>; 23] = [
     },
     Row {
         name: "assert",
-        rule: Rule::ByEdition(1),
+        rule: Rule::IndexByEdition(1),
     },
     Row {
         name: "debug_assert",
-        rule: Rule::ByEdition(1),
+        rule: Rule::IndexByEdition(1),
     },
     Row {
         name: "assert_eq",
@@ -138,35 +138,35 @@ const STANDARD: [Row<'static>; 23] = [
 const CRATES: [Row<'static>; 13] = [
     Row {
         name: "error",
-        rule: Rule::AfterFields,
+        rule: Rule::FirstLiteral,
     },
     Row {
         name: "warn",
-        rule: Rule::AfterFields,
+        rule: Rule::FirstLiteral,
     },
     Row {
         name: "info",
-        rule: Rule::AfterFields,
+        rule: Rule::FirstLiteral,
     },
     Row {
         name: "debug",
-        rule: Rule::AfterFields,
+        rule: Rule::FirstLiteral,
     },
     Row {
         name: "trace",
-        rule: Rule::AfterFields,
+        rule: Rule::FirstLiteral,
     },
     Row {
         name: "crit",
-        rule: Rule::AfterFields,
+        rule: Rule::FirstLiteral,
     },
     Row {
         name: "log",
-        rule: Rule::AfterFields,
+        rule: Rule::FirstLiteral,
     },
     Row {
         name: "event",
-        rule: Rule::AfterFields,
+        rule: Rule::FirstLiteral,
     },
     Row {
         name: "anyhow",
@@ -212,9 +212,9 @@ impl<'a> Table<'a> {
 
     /// Returns macros of the crates log, tracing, slog, anyhow and eyre. Returns `Err` if an
     /// allocation fails.
-    // ensures { IfOk result (λ t. map entry t.rows.items ≡ of_crates) }
+    // ensures { IfOk result (λ t. map entry t.rows.items ≡ with_crates) }
     #[inline]
-    pub fn of_crates(alloc: Global) -> Result<Self, AllocError> {
+    pub fn with_crates(alloc: Global) -> Result<Self, AllocError> {
         let mut rows = Vec::made_in(alloc);
         push_rows(&mut rows, CRATES.as_slice())?;
         Ok(Table { rows })
@@ -250,4 +250,11 @@ pub fn rule_of(rows: &[Row<'_>], word: &[u8]) -> Option<Rule> {
 #[inline]
 pub fn is_standard(word: &[u8]) -> bool {
     rule_of(&STANDARD, word).is_some()
+}
+
+/// Returns whether a macro of this name is one of log, tracing, slog, anyhow or eyre.
+// ensures { result ≡ is_some (rule_of with_crates word.now) }
+#[inline]
+pub fn is_of_crates(word: &[u8]) -> bool {
+    rule_of(&CRATES, word).is_some()
 }

@@ -160,6 +160,7 @@ fn put_faults(
         source: source.lines,
         line_start: source.line_start,
         literal_start: source.start,
+        width: task.width,
         colours: task.colours,
     };
     put_drawings(alloc, out, all, task.mode, &picture, faults)

@@ -30,6 +30,8 @@ pub struct Task<'a> {
     /// The path that is shown for the input.
     pub path: &'a str,
     pub show: Show,
+    /// How many columns a row of a drawing has.
+    pub width: usize,
     /// Whether the output has colours, for a terminal.
     pub colours: bool,
 }

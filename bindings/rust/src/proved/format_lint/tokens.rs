@@ -5,7 +5,7 @@
 // That source is proved, and each contract here is its. That this text means the same is tested:
 // by results from outside, and beside what is proved (.ci/bindings) and the original (tools/agree).
 
-use crate::proved::drawn_lines::{is_ascii_or_as_is, is_drawn_as_is, put_glyphs};
+use crate::proved::drawn_lines::{is_drawn_as_is, is_drawn_as_it_is, put_glyphs};
 use crate::proved::format_tokens::{Kind, Token};
 use crate::proved::piece_listing::{put_quoted, put_span};
 use crate::shim::alloc::AllocError;
@@ -23,7 +23,7 @@ fn kind_name(kind: Kind) -> &'static str {
         Kind::Integer => "integer",
         Kind::Identifier => "identifier",
         Kind::RawPrefix => "raw-prefix",
-        Kind::White => "white",
+        Kind::Whitespace => "white",
         Kind::Colon => "colon",
         Kind::Fill => "fill",
         Kind::Align => "align",
@@ -50,7 +50,7 @@ fn kind_name(kind: Kind) -> &'static str {
 #[inline]
 fn colour_escape(kind: Kind) -> Option<&'static str> {
     match kind {
-        Kind::Text | Kind::White | Kind::DiagnosticText | Kind::Quote => None,
+        Kind::Text | Kind::Whitespace | Kind::DiagnosticText | Kind::Quote => None,
         Kind::Escape => Some("\u{1b}[34m"),
         Kind::Open | Kind::Close | Kind::Colon | Kind::DollarSign | Kind::Dot => Some("\u{1b}[35m"),
         Kind::Integer | Kind::Identifier | Kind::RawPrefix | Kind::Asterisk => Some("\u{1b}[36m"),
@@ -93,7 +93,7 @@ fn put_in_colour(out: &mut String, as_is: bool, kind: Kind, text: &str) -> Resul
 
 /// Adds a text in quotes as that is drawn. If `as_is`, each of its characters beyond ASCII is drawn
 /// as it is.
-// requires { IsTrue as_is → list_all is_ascii_or_as_is text.now ≡ true }
+// requires { IsTrue as_is → list_all is_drawn_as_it_is text.now ≡ true }
 // ensures { OnOk result (string_bytes out.new
 //     ≡ string_bytes out.old ++ glyph_bytes (quoted (chars text.now))) }
 #[inline]
@@ -109,7 +109,7 @@ fn put_drawn_quoted(out: &mut String, as_is: bool, text: &str) -> Result<(), All
 
 /// Adds a line with the kind, the byte range and the text of a token. If `as_is`, each character of
 /// that beyond ASCII is drawn as it is.
-// requires { IsTrue as_is → list_all is_ascii_or_as_is text.now ≡ true }
+// requires { IsTrue as_is → list_all is_drawn_as_it_is text.now ≡ true }
 // ensures { OnOk result (string_bytes out.new ≡ string_bytes out.old
 //     ++ shown_token false (seen_token token.now) (chars text.now)) }
 #[inline]
@@ -159,7 +159,7 @@ fn stays(colours: bool, text: &str) -> bool {
     if colours {
         is_drawn_as_is(text)
     } else {
-        is_ascii_or_as_is(text)
+        is_drawn_as_it_is(text)
     }
 }
 

@@ -36,7 +36,7 @@ pub fn role_of(kind: Kind) -> Role {
         Kind::Identifier | Kind::RawPrefix | Kind::Unexpected => Role::Name,
         Kind::Integer => Role::Number,
         Kind::DiagnosticText => Role::Message,
-        Kind::White
+        Kind::Whitespace
         | Kind::Colon
         | Kind::Fill
         | Kind::Align

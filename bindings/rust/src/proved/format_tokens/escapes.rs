@@ -36,7 +36,7 @@ fn is_text(kind: Kind) -> bool {
         | Kind::Integer
         | Kind::Identifier
         | Kind::RawPrefix
-        | Kind::White
+        | Kind::Whitespace
         | Kind::Colon
         | Kind::Fill
         | Kind::Align

@@ -25,7 +25,7 @@ pub enum Kind {
     /// The `r#` of a raw identifier.
     RawPrefix,
     /// White space in a placeholder.
-    White,
+    Whitespace,
     /// The `:` before a specification.
     Colon,
     /// The fill character.

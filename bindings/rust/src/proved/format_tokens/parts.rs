@@ -82,7 +82,7 @@ pub enum Run {
     /// The decimal digits.
     Digits,
     /// White space, as in `char::is_whitespace`.
-    White,
+    Whitespace,
 }
 
 impl Run {
@@ -92,7 +92,7 @@ impl Run {
     fn passes(self, c: char) -> bool {
         match self {
             Run::Digits => c.is_ascii_digit(),
-            Run::White => c.is_whitespace(),
+            Run::Whitespace => c.is_whitespace(),
         }
     }
 }

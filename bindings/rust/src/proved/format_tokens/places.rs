@@ -7,7 +7,7 @@
 use crate::proved::format_tokens::culprits::{fits, inside_after, marked_kind, role_of};
 use crate::proved::format_tokens::kinds::{Kind, Token};
 use crate::proved::format_tokens::parts::length_of;
-use crate::proved::rustc_parse_format::literal::{between_quotes, read_content};
+use crate::proved::rustc_parse_format::literal::{quoted_content, read_content};
 use crate::shim::alloc::{AllocError, Global};
 use crate::shim::prelude::*;
 
@@ -45,7 +45,7 @@ pub fn ordinary_starts(
     snippet: &str,
     appended_newline: bool,
 ) -> Result<Vec<usize>, AllocError> {
-    let Some(content) = between_quotes(snippet) else {
+    let Some(content) = quoted_content(snippet) else {
         return Ok(Vec::made_in(alloc));
     };
     let Some(characters) = read_content(alloc, content)? else {

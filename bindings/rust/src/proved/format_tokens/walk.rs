@@ -8,7 +8,7 @@ use crate::proved::format_tokens::kinds::Kind;
 use crate::proved::format_tokens::parts::{
     begins, position, run_width, specification, take, width_of, Run,
 };
-use crate::proved::rustc_parse_format::{Argument, ParseMode, Taken};
+use crate::proved::rustc_parse_format::{Argument, ParseMode, PieceKind};
 use crate::shim::alloc::{AllocError, Global};
 use crate::shim::parser::Parser;
 use crate::shim::prelude::*;
@@ -68,9 +68,19 @@ fn placeholder<'a>(
 ) -> Result<&'a str, AllocError> {
     let field = take(labels, Kind::Open, 1, text)?;
     let space = position(labels, &argument.position, field)?;
-    let spec = take(labels, Kind::White, run_width(space, Run::White), space)?;
+    let spec = take(
+        labels,
+        Kind::Whitespace,
+        run_width(space, Run::Whitespace),
+        space,
+    )?;
     let last = specification(labels, mode, &argument.format, spec)?;
-    let end = take(labels, Kind::White, run_width(last, Run::White), last)?;
+    let end = take(
+        labels,
+        Kind::Whitespace,
+        run_width(last, Run::Whitespace),
+        last,
+    )?;
     let rest = take(labels, Kind::Close, usize::from(begins(end, '}')), end)?;
     let after = skipped(labels, width_of(rest).saturating_sub(left), rest)?;
     Ok(after)
@@ -125,7 +135,7 @@ fn literal<'a>(
 pub fn label<'a>(
     labels: &mut Vec<(Kind, usize)>,
     mode: ParseMode,
-    taken: Option<Taken<'_>>,
+    taken: Option<PieceKind<'_>>,
     argument: &Argument<'_>,
     left: usize,
     text: &'a str,
@@ -140,11 +150,11 @@ pub fn label<'a>(
         return Ok(after);
     };
     match piece {
-        Taken::Lit(_) => {
+        PieceKind::Lit(_) => {
             let after = literal(labels, left, text)?;
             Ok(after)
         }
-        Taken::NextArgument => {
+        PieceKind::NextArgument => {
             let after = placeholder(labels, mode, argument, left, text)?;
             Ok(after)
         }

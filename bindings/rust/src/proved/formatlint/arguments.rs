@@ -4,10 +4,12 @@
 // That source is proved, and each contract here is its. That this text means the same is tested:
 // by results from outside, and beside what is proved (.ci/bindings) and the original (tools/agree).
 
+use crate::proved::drawn_lines::WIDTH;
 use crate::proved::format_calls::{Row, Rule, Table};
 use crate::proved::format_lint::task::{Show, Task};
+use crate::proved::formatlint::changes::Change;
 use crate::proved::formatlint::forms::Form;
-use crate::proved::lint_words::{wants_colours, When};
+use crate::proved::lint_words::{wants_colours, ColourChoice};
 use crate::proved::rust_tokens::{first_token, Kind};
 use crate::proved::rustc_parse_format::ParseMode;
 use crate::shim::alloc::{AllocError, Global};
@@ -35,11 +37,11 @@ fn mode_of(matches: &ArgMatches<'_>) -> ParseMode {
 
 /// Returns when colours are written.
 #[inline]
-fn when_of(matches: &ArgMatches<'_>) -> When {
+fn when_of(matches: &ArgMatches<'_>) -> ColourChoice {
     match matches.get_str("color").unwrap_or("auto") {
-        "always" => When::Always,
-        "never" => When::Never,
-        _ => When::Auto,
+        "always" => ColourChoice::Always,
+        "never" => ColourChoice::Never,
+        _ => ColourChoice::Auto,
     }
 }
 
@@ -67,15 +69,38 @@ pub fn has_colours(rt: &crate::shim::host::HostRuntime, matches: &ArgMatches<'_>
     )
 }
 
+/// Returns how many columns a row of a drawing has, or `None` if the word for it is no number.
+#[inline]
+pub fn width_of(matches: &ArgMatches<'_>) -> Option<usize> {
+    match matches.get_str("width") {
+        None => Some(WIDTH),
+        Some(word) => word.parse::<usize>().ok(),
+    }
+}
+
 /// Returns the form of messages, drawn in colours or not.
 #[inline]
-pub fn form_of(matches: &ArgMatches<'_>, colours: bool) -> Form {
+pub fn form_of(matches: &ArgMatches<'_>, width: usize, colours: bool) -> Form {
     match matches.get_str("message-format").unwrap_or("human") {
         "short" => Form::Short,
         "json" => Form::Json,
         "github" => Form::Github,
         "sarif" => Form::Sarif,
-        _ => Form::Human { colours },
+        _ => Form::Human { colours, width },
+    }
+}
+
+/// Returns what is done with files that are fixed, or `None` if none is fixed.
+#[inline]
+pub fn change_of(matches: &ArgMatches<'_>) -> Option<Change> {
+    if !matches.get_flag("fix") {
+        None
+    } else if matches.get_flag("diff") {
+        Some(Change::Diff)
+    } else if matches.get_flag("check") {
+        Some(Change::Check)
+    } else {
+        Some(Change::Write)
     }
 }
 
@@ -104,12 +129,18 @@ fn show_of(matches: &ArgMatches<'_>) -> Show {
 
 /// Returns the task for one string, where the input has this path.
 #[inline]
-pub fn task_of<'a>(matches: &ArgMatches<'_>, path: &'a str, colours: bool) -> Task<'a> {
+pub fn task_of<'a>(
+    matches: &ArgMatches<'_>,
+    path: &'a str,
+    width: usize,
+    colours: bool,
+) -> Task<'a> {
     Task {
         mode: mode_of(matches),
         is_literal: !matches.get_flag("text"),
         path,
         show: show_of(matches),
+        width,
         colours,
     }
 }
@@ -157,7 +188,7 @@ pub fn table_of<'a>(alloc: Global, given: &[&'a str]) -> Result<Table<'a>, Optio
     let Ok(mut table) = Table::standard(alloc) else {
         return Err(None);
     };
-    let Ok(others) = Table::of_crates(alloc) else {
+    let Ok(others) = Table::with_crates(alloc) else {
         return Err(None);
     };
     for row in &others.rows {

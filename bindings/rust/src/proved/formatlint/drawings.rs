@@ -15,10 +15,8 @@ use crate::shim::alloc::{AllocError, Global};
 use crate::shim::prelude::*;
 use core::ops::Range;
 
-/// The most bytes that the lines of a drawing have in the file.
+/// The most bytes of a file that a drawing is about, and the most bytes of a line of it.
 const MOST: usize = 4096;
-/// The most bytes that one of these lines has.
-const MOST_OF_A_LINE: usize = 400;
 /// The most labels of a drawing.
 const MOST_LABELS: usize = 20;
 
@@ -86,7 +84,7 @@ fn line_start(text: &str, offset: usize) -> usize {
 #[inline]
 fn line_end(text: &str, offset: usize) -> Option<usize> {
     let (_, back) = text.split_at(text.boundary_at_most(offset));
-    let (near, far) = back.split_at(back.boundary_at_most(MOST_OF_A_LINE + 2));
+    let (near, far) = back.split_at(back.boundary_at_most(MOST + 2));
     let length = match near.split_once('\n') {
         Some((line, _)) => line.strip_suffix('\r').unwrap_or(line).len(),
         None if far.is_empty() => near.len(),
@@ -105,7 +103,7 @@ fn excerpt_of<'a>(
 ) -> Result<Option<Excerpt<'a>>, AllocError> {
     let from = file.text.boundary_at_most(range.start);
     let place = file.places.at(from);
-    if range.end.saturating_sub(range.start) > MOST || place.column > MOST_OF_A_LINE {
+    if range.end.saturating_sub(range.start) > MOST || place.column > MOST {
         return Ok(None);
     }
     let start = line_start(file.text, from);
@@ -115,7 +113,7 @@ fn excerpt_of<'a>(
     let lines = file.text.get(start..end).unwrap_or("");
     let mut source = String::made_in(alloc);
     for line in lines.split('\n') {
-        if line.len() > MOST_OF_A_LINE {
+        if line.len() > MOST {
             return Ok(None);
         }
         source.try_push_str(line.strip_suffix('\r').unwrap_or(line))?;
@@ -290,6 +288,7 @@ fn level(finding: &Finding) -> Level {
 fn put_drawn<'x>(
     out: &mut String,
     colours: bool,
+    width: usize,
     path: &'x str,
     excerpt: &'x Excerpt<'_>,
     finding: &'x Finding,
@@ -306,6 +305,7 @@ fn put_drawn<'x>(
         source: excerpt.source.as_str(),
         line_start: excerpt.number,
         literal_start: 0,
+        width,
         colours,
     };
     let diagnostic = Diagnostic {
@@ -319,13 +319,14 @@ fn put_drawn<'x>(
 }
 
 /// Appends the drawing of a finding, maybe in colours, and returns whether there is one: none is
-/// made of more than 20 labels, of lines with more than 4,096 bytes, or of a line with more than
-/// 400. Returns `Err` if an allocation fails.
+/// made of more than 20 labels, of more than 4,096 bytes, or of a line with more than that. Returns
+/// `Err` if an allocation fails.
 // requires { file.now.places ≡ file.now.text.now }
 #[inline]
 pub fn put_drawing(
     out: &mut String,
     colours: bool,
+    width: usize,
     file: &File<'_>,
     finding: &Finding,
 ) -> Result<bool, AllocError> {
@@ -335,6 +336,6 @@ pub fn put_drawing(
     let Some(excerpt) = excerpt_of(*out.own_allocator(), file, &extent(finding))? else {
         return Ok(false);
     };
-    put_drawn(out, colours, file.path, &excerpt, finding)?;
+    put_drawn(out, colours, width, file.path, &excerpt, finding)?;
     Ok(true)
 }

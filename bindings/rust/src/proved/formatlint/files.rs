@@ -4,6 +4,8 @@
 // That source is proved, and each contract here is its. That this text means the same is tested:
 // by results from outside, and beside what is proved (.ci/bindings) and the original (tools/agree).
 
+use crate::proved::file_fixes::fixes;
+use crate::proved::formatlint::changes::{replace, Change};
 use crate::proved::formatlint::editions::Editions;
 use crate::proved::formatlint::failure::Failure;
 use crate::proved::formatlint::forms::{put_end, put_finding, put_start, File, Form};
@@ -14,6 +16,7 @@ use crate::proved::formatlint::walk::Walk;
 use crate::proved::piece_listing::run::write_whole;
 use crate::proved::rust_trees::{BreakKind, Places};
 use crate::proved::source_lint::{file_faults, Options, Report};
+use crate::proved::unified_diff::put_diff;
 use crate::shim::host::fs;
 use crate::shim::prelude::*;
 use std::io;
@@ -37,6 +40,8 @@ pub struct Request<'a> {
     pub form: Form,
     /// The edition, or `None` for that of each package.
     pub edition: Option<&'a str>,
+    /// What is done with files that are fixed, or `None` if none is fixed.
+    pub change: Option<Change>,
     /// The version of the program.
     pub version: &'a str,
 }
@@ -51,6 +56,8 @@ struct Run<'a> {
     out: String,
     /// Whether there was a message.
     has_messages: bool,
+    /// Whether messages are written to standard error.
+    is_aside: bool,
 }
 
 /// Returns why a file is not read further.
@@ -66,8 +73,14 @@ fn break_words(kind: BreakKind) -> &'static str {
 /// Writes a text to standard output.
 #[inline]
 pub fn write(rt: &crate::shim::host::HostRuntime, text: &str) -> Result<(), Failure> {
+    write_bytes(rt, text.as_bytes())
+}
+
+/// Writes bytes to standard output.
+#[inline]
+fn write_bytes(rt: &crate::shim::host::HostRuntime, bytes: &[u8]) -> Result<(), Failure> {
     let mut writer = Recorder::new(rt.stdout());
-    match write_whole(&mut writer, text.as_bytes()) {
+    match write_whole(&mut writer, bytes) {
         Ok(()) => Ok(()),
         Err(fault) => Err(Failure {
             fault,
@@ -82,7 +95,11 @@ impl<'a> Run<'a> {
     fn flush(&mut self, rt: &crate::shim::host::HostRuntime) -> Result<(), Failure> {
         if !self.out.is_empty() {
             self.totals.clear_progress(rt);
-            write(rt, self.out.as_str())?;
+            if self.is_aside {
+                let _ = rt.eprint(self.out.as_str());
+            } else {
+                write(rt, self.out.as_str())?;
+            }
             self.out.clear();
         }
         Ok(())
@@ -155,10 +172,10 @@ fn tell_end(
         Extent::Text => totals.fail_at(rt, file.path, end, "not UTF-8"),
         Extent::Front => totals.fail_at(rt, file.path, end, "longer than 64 MiB"),
         Extent::Whole => {
-            if let Some(broken) = &report.broken {
-                let start = file.text.boundary_at_most(broken.start);
+            if let Some(first_break) = &report.first_break {
+                let start = file.text.boundary_at_most(first_break.start);
                 let place = file.places.at(start);
-                totals.fail_at(rt, file.path, place, break_words(broken.kind));
+                totals.fail_at(rt, file.path, place, break_words(first_break.kind));
             }
         }
     }
@@ -172,32 +189,139 @@ fn read_all<R: Read>(rt: &crate::shim::host::HostRuntime, stream: R) -> io::Resu
     Ok(bytes)
 }
 
+/// Where the bytes of a file are from.
+#[derive(Clone, Copy, PartialEq)]
+enum Origin {
+    /// A file.
+    File,
+    /// Standard input.
+    Stdin,
+}
+
 impl<'a> Run<'a> {
-    /// Reads the bytes of a file, and writes the messages about it.
+    /// Writes the messages of a report on a file, of which this extent was read.
     #[inline]
-    fn lint<'x>(
+    fn put_report<'x>(
         &mut self,
         rt: &crate::shim::host::HostRuntime,
         path: &'x str,
-        bytes: &'x [u8],
+        text: &'x str,
+        extent: Extent,
+        report: &'x Report,
+    ) -> Result<(), Failure> {
+        let is_broken = report.first_break.is_some() || !matches!(extent, Extent::Whole);
+        if report.findings.is_empty() && !is_broken {
+            return Ok(());
+        }
+        let places = Places::new(rt.alloc(), text)?;
+        let file = File { path, text, places };
+        if !matches!(self.request.change, Some(Change::Diff | Change::Check)) {
+            self.put_findings(rt, &file, report)?;
+            self.flush(rt)?;
+        }
+        tell_end(rt, &mut self.totals, &file, extent, report);
+        Ok(())
+    }
+
+    /// Writes the fixed text of a file where the request says. Returns whether that was done.
+    #[inline]
+    fn put_fixed(
+        &mut self,
+        rt: &crate::shim::host::HostRuntime,
+        path: &str,
+        origin: Origin,
+        change: Change,
+        texts: (&str, &str),
+    ) -> Result<bool, Failure> {
+        let (old, new) = texts;
+        self.totals.clear_progress(rt);
+        match change {
+            Change::Diff => {
+                let mut diff = String::made_in(rt.alloc());
+                put_diff(&mut diff, path, old, new)?;
+                write(rt, diff.as_str())?;
+            }
+            Change::Check => {
+                write(rt, path)?;
+                write(rt, "\n")?;
+            }
+            Change::Write if origin == Origin::Stdin => write(rt, new)?,
+            Change::Write => {
+                if let Err(failure) = replace(rt, path, old.as_bytes(), new.as_bytes()) {
+                    self.totals.fail_step(rt, path, &failure);
+                    return Ok(false);
+                }
+            }
+        }
+        Ok(true)
+    }
+
+    /// Fixes a file that was read whole, and writes what the request wants of it.
+    #[inline]
+    fn fix(
+        &mut self,
+        rt: &crate::shim::host::HostRuntime,
+        path: &str,
+        text: &str,
+        origin: Origin,
+        change: Change,
+    ) -> Result<(), Failure> {
+        let fixed = fixes(rt.alloc(), text, &self.options)?;
+        let is_source = origin == Origin::Stdin && change == Change::Write;
+        let Some(new) = &fixed.text else {
+            if is_source {
+                write(rt, text)?;
+            }
+            self.totals.add(&fixed.report);
+            return self.put_report(rt, path, text, Extent::Whole, &fixed.report);
+        };
+        if !self.put_fixed(rt, path, origin, change, (text, new.as_str()))? {
+            return self.report(rt, path, text, Extent::Whole);
+        }
+        self.totals.add(&fixed.report);
+        self.totals.add_fixes(fixed.ids.len());
+        self.put_report(rt, path, new.as_str(), Extent::Whole, &fixed.report)
+    }
+
+    /// Reads a text of a file, and writes the messages about it.
+    #[inline]
+    fn report(
+        &mut self,
+        rt: &crate::shim::host::HostRuntime,
+        path: &str,
+        text: &str,
+        extent: Extent,
+    ) -> Result<(), Failure> {
+        let report = file_faults(rt.alloc(), text, &self.options)?;
+        self.totals.add(&report);
+        self.put_report(rt, path, text, extent, &report)
+    }
+
+    /// Reads the bytes of a file, and writes the messages about it.
+    #[inline]
+    fn lint(
+        &mut self,
+        rt: &crate::shim::host::HostRuntime,
+        path: &str,
+        bytes: &[u8],
+        origin: Origin,
     ) -> Result<(), Failure> {
         let (text, extent) = text_of(bytes);
         self.options.is_from_2021 = match self.editions.is_from_2021(rt, path) {
             Ok(known) => known,
             Err(error) => return Err(Failure::of(error)),
         };
-        let report = file_faults(rt.alloc(), text, &self.options)?;
-        self.totals.add(&report);
-        let is_broken = report.broken.is_some() || !matches!(extent, Extent::Whole);
-        if report.findings.is_empty() && !is_broken {
-            return Ok(());
+        let Some(change) = self.request.change else {
+            return self.report(rt, path, text, extent);
+        };
+        match extent {
+            Extent::Whole => self.fix(rt, path, text, origin, change),
+            Extent::Text if origin == Origin::Stdin && change == Change::Write => {
+                write_bytes(rt, bytes)?;
+                self.report(rt, path, text, extent)
+            }
+            Extent::Text | Extent::Front => self.report(rt, path, text, extent),
         }
-        let places = Places::new(rt.alloc(), text)?;
-        let file = File { path, text, places };
-        self.put_findings(rt, &file, &report)?;
-        self.flush(rt)?;
-        tell_end(rt, &mut self.totals, &file, extent, &report);
-        Ok(())
     }
 
     /// Reads standard input.
@@ -206,7 +330,7 @@ impl<'a> Run<'a> {
         tell_of_terminal(rt);
         let path = self.request.stdin_path.unwrap_or("<stdin>");
         match read_all(rt, rt.stdin()) {
-            Ok(bytes) => self.lint(rt, path, bytes.as_slice()),
+            Ok(bytes) => self.lint(rt, path, bytes.as_slice(), Origin::Stdin),
             Err(error) => {
                 self.totals.fail(rt, path, &error);
                 Ok(())
@@ -226,7 +350,7 @@ impl<'a> Run<'a> {
             Err(error) => Err(error),
         };
         match read {
-            Ok(bytes) => self.lint(rt, path, bytes.as_slice()),
+            Ok(bytes) => self.lint(rt, path, bytes.as_slice(), Origin::File),
             Err(error) => {
                 self.totals.fail(rt, path, &error);
                 Ok(())
@@ -293,6 +417,15 @@ impl<'a> Run<'a> {
     }
 }
 
+/// Returns whether standard output has the fixed source of standard input, so that messages are
+/// written to standard error.
+#[inline]
+fn is_aside(request: &Request<'_>) -> bool {
+    let is_stdin_read =
+        request.paths.contains(&"-") || request.paths.is_empty() && request.stdin_path.is_some();
+    is_stdin_read && request.change.is_some()
+}
+
 /// Reads all paths of a request, and writes the messages about them. Returns the totals, even if
 /// the run ended with a failure.
 #[inline]
@@ -308,6 +441,7 @@ pub fn lint<'a>(
         totals: Totals::new(rt),
         out: String::made_in(rt.alloc()),
         has_messages: false,
+        is_aside: is_aside(request),
     };
     let result = run.lint_all(rt);
     (run.totals, result)

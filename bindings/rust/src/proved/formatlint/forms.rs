@@ -4,7 +4,9 @@
 // That source is proved, and each contract here is its. That this text means the same is tested:
 // by results from outside, and beside what is proved (.ci/bindings) and the original (tools/agree).
 
+use crate::proved::drawn_lines::WIDTH;
 use crate::proved::fault_rules::RULES;
+use crate::proved::file_fixes::{is_applicable, suggestion_of, LabelSuggestion};
 use crate::proved::formatlint::drawings::put_drawing;
 use crate::proved::message_forms::{
     put_github, put_json, put_sarif_end, put_sarif_result, put_sarif_start, put_short, Child,
@@ -23,6 +25,8 @@ pub enum Form {
     Human {
         /// Whether the drawings have colours.
         colours: bool,
+        /// How many columns a row of a drawing has.
+        width: usize,
     },
     /// A line for an editor.
     Short,
@@ -94,7 +98,8 @@ fn level_of(finding: &Finding) -> Level {
     }
 }
 
-/// Returns the labels of a finding as ranges of its message. Returns `Err` if an allocation fails.
+/// Returns the labels of a finding as ranges of its message. One that is a suggestion is a child of
+/// the message, and no label. Returns `Err` if an allocation fails.
 // requires { file.now.places ≡ file.now.text.now }
 #[inline]
 fn label_spans<'a>(
@@ -103,15 +108,27 @@ fn label_spans<'a>(
     finding: &'a Finding,
 ) -> Result<Vec<Span<'a>>, AllocError> {
     let mut spans = Vec::made_in(alloc);
+    let mut has_primary = false;
     for label in &finding.labels {
+        let is_suggestion = suggestion_of(label.text.as_str()).is_some();
+        if is_suggestion && (has_primary || !label.is_primary) {
+            continue;
+        }
+        has_primary = has_primary || label.is_primary;
         let mut span = span_of(file, Form::Json, &label.range);
         span.is_primary = label.is_primary;
-        if !label.text.is_empty() {
+        if !label.text.is_empty() && !is_suggestion {
             span.label = Some(label.text.as_str());
         }
         spans.try_push(span)?;
     }
     Ok(spans)
+}
+
+/// Returns whether rustc calls the help of a fault with this id applicable by a machine.
+#[inline]
+fn is_sure(id: &str) -> bool {
+    is_applicable(id) || id == "debug-equals" || id == "redundant-argument"
 }
 
 /// Returns the edits of a help as ranges of its message. Returns `Err` if an allocation fails.
@@ -121,21 +138,42 @@ fn edit_spans<'a>(
     alloc: Global,
     file: &File<'a>,
     help: &'a Help,
+    is_sure: bool,
 ) -> Result<Vec<Span<'a>>, AllocError> {
     let mut spans = Vec::made_in(alloc);
     for edit in &help.edits {
         let mut span = span_of(file, Form::Json, &edit.range);
         span.suggestion = Some(Suggestion {
             text: edit.text.as_str(),
-            is_sure: false,
+            is_sure,
         });
         spans.try_push(span)?;
     }
     Ok(spans)
 }
 
-/// Returns the ranges of the notes of a finding, and then those of its help. Returns `Err` if an
-/// allocation fails.
+/// Returns the range of a suggestion that is drawn as a label. Returns `Err` if an allocation
+/// fails.
+// requires { file.now.places ≡ file.now.text.now }
+#[inline]
+fn suggestion_spans<'a>(
+    alloc: Global,
+    file: &File<'a>,
+    range: &Range<usize>,
+    suggestion: LabelSuggestion,
+) -> Result<Vec<Span<'a>>, AllocError> {
+    let mut span = span_of(file, Form::Json, range);
+    span.suggestion = Some(Suggestion {
+        text: suggestion.text,
+        is_sure: suggestion.is_sure,
+    });
+    let mut spans = Vec::made_in(alloc);
+    spans.try_push(span)?;
+    Ok(spans)
+}
+
+/// Returns the ranges of the notes of a finding, then those of the suggestions among its labels,
+/// and those of its help. Returns `Err` if an allocation fails.
 // requires { file.now.places ≡ file.now.text.now }
 #[inline]
 fn child_spans<'a>(
@@ -151,14 +189,19 @@ fn child_spans<'a>(
         }
         all.try_push(spans)?;
     }
+    for label in &finding.labels {
+        if let Some(suggestion) = suggestion_of(label.text.as_str()) {
+            all.try_push(suggestion_spans(alloc, file, &label.range, suggestion)?)?;
+        }
+    }
     if let Some(help) = &finding.help {
-        all.try_push(edit_spans(alloc, file, help)?)?;
+        all.try_push(edit_spans(alloc, file, help, is_sure(finding.id))?)?;
     }
     Ok(all)
 }
 
-/// Returns the notes and the help of a finding, with these ranges. Returns `Err` if an allocation
-/// fails.
+/// Returns the notes of a finding, the suggestions among its labels and its help, with these
+/// ranges. Returns `Err` if an allocation fails.
 #[inline]
 fn children<'a, 's>(
     alloc: Global,
@@ -172,6 +215,19 @@ fn children<'a, 's>(
             text: note.text.as_str(),
             spans: spans.as_slice(),
         })?;
+    }
+    let mut index = finding.notes.len();
+    for label in &finding.labels {
+        if let (Some(suggestion), Some(spans)) =
+            (suggestion_of(label.text.as_str()), ranges.get(index))
+        {
+            children.try_push(Child {
+                level: ChildLevel::Help,
+                text: suggestion.advice,
+                spans: spans.as_slice(),
+            })?;
+            index = index.saturating_add(1);
+        }
     }
     if let (Some(help), Some(spans)) = (&finding.help, ranges.last()) {
         children.try_push(Child {
@@ -190,11 +246,12 @@ fn children<'a, 's>(
 fn put_human(
     out: &mut String,
     colours: bool,
+    width: usize,
     file: &File<'_>,
     finding: &Finding,
     message: &Message<'_>,
 ) -> Result<(), AllocError> {
-    if put_drawing(out, colours, file, finding)? {
+    if put_drawing(out, colours, width, file, finding)? {
         return Ok(());
     }
     put_short(out, message)
@@ -211,7 +268,7 @@ fn put_line<'a>(
 ) -> Result<(), AllocError> {
     let alloc = *out.own_allocator();
     let mut rendered = String::made_in(alloc);
-    put_human(&mut rendered, false, file, finding, message)?;
+    put_human(&mut rendered, false, WIDTH, file, finding, message)?;
     let spans = label_spans(alloc, file, finding)?;
     let ranges = child_spans(alloc, file, finding)?;
     let children = children(alloc, finding, ranges.as_slice())?;
@@ -242,7 +299,7 @@ pub fn put_finding<'a>(
         primary: span_of(file, form, &finding.span),
     };
     match form {
-        Form::Human { colours } => put_human(out, colours, file, finding, &message),
+        Form::Human { colours, width } => put_human(out, colours, width, file, finding, &message),
         Form::Short => put_short(out, &message),
         Form::Json => put_line(out, file, finding, &message),
         Form::Github => put_github(out, &message),

@@ -4,9 +4,9 @@
 // That source is proved, and each contract here is its. That this text means the same is tested:
 // by results from outside, and beside what is proved (.ci/bindings) and the original (tools/agree).
 
-use crate::proved::drawn_lines::put_glyphs;
+use crate::proved::drawn_lines::{put_glyphs, WIDTH};
 use crate::proved::format_lint::run::run;
-use crate::proved::formatlint::arguments::{file_of, has_colours, list_words, task_of};
+use crate::proved::formatlint::arguments::{file_of, has_colours, list_words, task_of, width_of};
 use crate::proved::formatlint::failure::Failure;
 use crate::proved::formatlint::recorder::Recorder;
 use crate::proved::lint_words::{put_failure, put_not_literal, system_words};
@@ -151,7 +151,8 @@ fn answer(
     let result = if matches.get_flag("list") {
         answer_listing(rt, &mut writer, matches, input)
     } else {
-        let task = task_of(matches, path, has_colours(rt, matches));
+        let width = width_of(matches).unwrap_or(WIDTH);
+        let task = task_of(matches, path, width, has_colours(rt, matches));
         let mut reader = input;
         run(alloc, &mut reader, &mut writer, &mut error_writer, task)
     };

@@ -6,6 +6,7 @@
 
 use crate::shim::prelude::*;
 pub(crate) mod arguments;
+pub(crate) mod changes;
 pub(crate) mod drawings;
 pub(crate) mod editions;
 pub(crate) mod failure;
@@ -18,6 +19,7 @@ pub(crate) mod recorder;
 pub(crate) mod totals;
 pub(crate) mod walk;
 
+use crate::proved::drawn_lines::WIDTH;
 use crate::proved::fault_rules::{put_explanation, rule_of, RULES};
 use crate::proved::source_lint::Options;
 use crate::shim::alloc::{AllocError, Global};
@@ -25,7 +27,8 @@ use crate::shim::clap::error::ErrorKind;
 use crate::shim::clap::{ArgMatches, Error};
 use crate::shim::host::env;
 use crate::shim::strsim::levenshtein;
-use arguments::{form_of, has_colours, table_of};
+use arguments::{change_of, form_of, has_colours, table_of, width_of};
+use changes::Change;
 use files::{lint, write, Request};
 use forms::Form;
 use literal::{literal_status, tell};
@@ -37,6 +40,9 @@ use totals::Totals;
 const WRONG_LIST: &str =
     "invalid value for '--args <LIST>': it is a number of arguments, and then \
     names, each after a comma, as in 2,w";
+
+/// The error message for a value of `--width` that is no number.
+const WRONG_WIDTH: &str = "invalid value for '--width <N>': it is a number of columns";
 
 /// The error message for several paths where one string is read.
 const SEVERAL: &str = "--literal and --text read one string, of one file or of standard input";
@@ -126,13 +132,24 @@ fn read_string(rt: &crate::shim::host::HostRuntime, matches: &ArgMatches<'_>) ->
     }
 }
 
-/// Returns the exit status of a run with these totals: 3 if something could not be read, otherwise
-/// 1 if there is a fault, and 0 if there is none.
+/// Returns whether fixes are shown and not written.
 #[inline]
-fn status_of(totals: &Totals) -> u8 {
+fn is_preview(change: Option<Change>) -> bool {
+    matches!(change, Some(Change::Diff | Change::Check))
+}
+
+/// Returns the exit status of a run with these totals: 3 if something could not be read or written,
+/// otherwise 1 if there is a fault, or for a preview if a file would change, and otherwise 0.
+#[inline]
+fn status_of(totals: &Totals, change: Option<Change>) -> u8 {
+    let is_found = if is_preview(change) {
+        totals.changed > 0
+    } else {
+        totals.faults > 0
+    };
     if totals.failures > 0 {
         3
-    } else if totals.faults > 0 {
+    } else if is_found {
         1
     } else {
         0
@@ -155,9 +172,9 @@ fn read_files(
         totals.show_counts(rt);
     }
     if !matches.get_flag("quiet") && !matches!(request.form, Form::Json | Form::Sarif) {
-        totals.sum_up(rt);
+        totals.sum_up(rt, is_preview(request.change));
     }
-    status_of(&totals)
+    status_of(&totals, request.change)
 }
 
 /// Reads the files and folders that the arguments name. Returns the exit status.
@@ -186,8 +203,13 @@ fn files_status(
         paths,
         excluded: matches.get_strs("exclude").unwrap_or(&[]),
         stdin_path,
-        form: form_of(matches, has_colours(rt, matches)),
+        form: form_of(
+            matches,
+            width_of(matches).unwrap_or(WIDTH),
+            has_colours(rt, matches),
+        ),
         edition: matches.get_str("edition"),
+        change: change_of(matches),
         version: VERSION,
     };
     let options = Options {
@@ -209,6 +231,9 @@ fn status(rt: &crate::shim::host::HostRuntime, words: &[String]) -> Result<u8, E
     }
     if let Some(id) = matches.get_str("explain") {
         return explain(rt, id);
+    }
+    if width_of(&matches).is_none() {
+        return value_error(rt, WRONG_WIDTH);
     }
     if matches.get_flag("literal") || matches.get_flag("text") {
         return read_string(rt, &matches);

@@ -28,6 +28,12 @@ const EDITIONS: [&str; 4] = ["2015", "2018", "2021", "2024"];
 /// The options about files, which are not given with those about a string.
 const FILES: [&str; 5] = ["exclude", "edition", "macro", "message-format", "stats"];
 
+/// The options with which no diff is printed.
+const NO_PREVIEW: [&str; 3] = ["message-format", "literal", "text"];
+
+/// The options with which no paths are printed.
+const NO_CHECK: [&str; 4] = ["message-format", "literal", "text", "diff"];
+
 /// An option, as a row of a table.
 struct Row {
     /// The name, without its two dashes.
@@ -63,7 +69,7 @@ const FLAG: Row = Row {
 };
 
 /// The options, in the order of the help.
-static OPTIONS: [Row; 19] = [
+static OPTIONS: [Row; 22] = [
     Row {
         name: "exclude",
         value: Some("NAME"),
@@ -124,9 +130,22 @@ static OPTIONS: [Row; 19] = [
     },
     Row {
         name: "fix",
-        help: "Print the literal with the suggestions applied, and the fault that it then has",
-        needs: &["literal"],
+        help: "Apply the suggestions to the files in place, or print the literal or standard input with them",
         conflicts: &["text"],
+        ..FLAG
+    },
+    Row {
+        name: "diff",
+        help: "With --fix: print what would change in files as a unified diff, and write no file",
+        needs: &["fix"],
+        conflicts: &NO_PREVIEW,
+        ..FLAG
+    },
+    Row {
+        name: "check",
+        help: "With --fix: print the paths of the files that would change, and write no file",
+        needs: &["fix"],
+        conflicts: &NO_CHECK,
         ..FLAG
     },
     Row {
@@ -180,6 +199,13 @@ static OPTIONS: [Row; 19] = [
         help: "Whether tokens and drawings have colours; auto: if standard output is a terminal that has them",
         values: &TIMES,
         default: Some("auto"),
+        ..FLAG
+    },
+    Row {
+        name: "width",
+        value: Some("N"),
+        help: "How many columns a row of a drawing has; longer lines are cut as rustc cuts them",
+        default: Some("140"),
         ..FLAG
     },
     Row {

@@ -5,11 +5,13 @@
 // by results from outside, and beside what is proved (.ci/bindings) and the original (tools/agree).
 
 use crate::proved::format_calls::Reason;
+use crate::proved::formatlint::changes::StepFailure;
 use crate::proved::formatlint::progress::Progress;
 use crate::proved::lint_words::{put_failure, put_place_failure, system_words};
 use crate::proved::piece_listing::verdict::RunFault;
 use crate::proved::rust_trees::Place;
 use crate::proved::source_lint::{CallReading, Report};
+use crate::shim::alloc::AllocError;
 use crate::shim::prelude::*;
 use std::io;
 
@@ -24,6 +26,7 @@ struct Unread {
     empty: usize,
     joined: usize,
     redefined: usize,
+    foreign: usize,
     malformed: usize,
 }
 
@@ -39,6 +42,10 @@ pub struct Totals {
     pub faults: usize,
     /// The number of warnings that were found.
     pub warnings: usize,
+    /// The number of files that are fixed.
+    pub changed: usize,
+    /// The number of faults and warnings that are fixed.
+    fixed: usize,
     /// The number of files and folders, or parts of them, that could not be read.
     pub failures: usize,
     progress: Progress,
@@ -60,6 +67,18 @@ fn ending(number: usize) -> &'static str {
     }
 }
 
+/// Appends the line that says why the file with this path was not replaced. Returns `Err` if an
+/// allocation fails.
+#[inline]
+fn put_step(out: &mut String, path: &str, failure: &StepFailure) -> Result<(), AllocError> {
+    let alloc = *out.own_allocator();
+    let (step, error) = (failure.step, &failure.error);
+    let words = crate::shim::format_in!(alloc; "{error}")?;
+    let why = system_words(words.as_str());
+    let reason = crate::shim::format_in!(alloc; "not written: {step}: {why}")?;
+    put_failure(out, path, RunFault::Write, reason.as_str())
+}
+
 impl Unread {
     /// Counts a call.
     #[inline]
@@ -76,11 +95,12 @@ impl Unread {
 
     /// Returns how many calls there are for each reason, with the reason.
     #[inline]
-    fn rows(&self) -> [(usize, &'static str); 10] {
+    fn rows(&self) -> [(usize, &'static str); 11] {
         [
             (self.missing, "no format string"),
             (self.edition, "a lone message, before the edition 2021"),
             (self.redefined, "the file defines the macro"),
+            (self.foreign, "a path of another crate"),
             (self.variable, "a variable of a macro"),
             (self.inner, "a macro inside"),
             (self.expression, "another expression"),
@@ -111,10 +131,13 @@ impl Totals {
                 empty: 0,
                 joined: 0,
                 redefined: 0,
+                foreign: 0,
                 malformed: 0,
             },
             faults: 0,
             warnings: 0,
+            changed: 0,
+            fixed: 0,
             failures: 0,
             progress: Progress::new(rt),
         }
@@ -139,7 +162,8 @@ impl Totals {
         match reading {
             CallReading::Whole => count(&mut self.whole),
             CallReading::StringAlone => count(&mut self.alone),
-            CallReading::Redefined => count(&mut self.unread.redefined),
+            CallReading::RedefinedMacro => count(&mut self.unread.redefined),
+            CallReading::ForeignMacro => count(&mut self.unread.foreign),
             CallReading::NoExpression => count(&mut self.unread.empty),
             CallReading::NoComma => count(&mut self.unread.joined),
             CallReading::Malformed => count(&mut self.unread.malformed),
@@ -161,6 +185,31 @@ impl Totals {
                 count(&mut self.faults);
             }
         }
+    }
+
+    /// Counts a fixed file, and how many faults and warnings are fixed in it.
+    #[inline]
+    pub fn add_fixes(&mut self, fixes: usize) {
+        count(&mut self.changed);
+        self.fixed = self.fixed.saturating_add(fixes);
+    }
+
+    /// Counts a failure, and writes to standard error why the file with this path was not
+    /// replaced.
+    #[inline]
+    pub fn fail_step(
+        &mut self,
+        rt: &crate::shim::host::HostRuntime,
+        path: &str,
+        failure: &StepFailure,
+    ) {
+        count(&mut self.failures);
+        self.progress.clear(rt);
+        let mut out = String::made_in(rt.alloc());
+        let _ = match put_step(&mut out, path, failure) {
+            Ok(()) => rt.eprint(out.as_str()),
+            Err(_) => rt.eprintln("formatlint: out of memory"),
+        };
     }
 
     /// Counts a failure, and writes to standard error why the file or folder with this path was not
@@ -207,9 +256,10 @@ impl Totals {
         self.whole.saturating_add(self.alone)
     }
 
-    /// Writes how many files and format strings were read, and how many faults were found.
+    /// Writes how many files and format strings were read, and how many faults were found and
+    /// fixed, or are to be fixed where no file is written.
     #[inline]
-    pub fn sum_up(&self, rt: &crate::shim::host::HostRuntime) {
+    pub fn sum_up(&self, rt: &crate::shim::host::HostRuntime, is_preview: bool) {
         let (files, strings, faults) = (self.files, self.strings(), self.faults);
         let (of_files, of_strings) = (ending(files), ending(strings));
         let of_faults = ending(faults);
@@ -219,6 +269,13 @@ impl Totals {
             let warnings = self.warnings;
             let of_warnings = ending(warnings);
             let _ = crate::shim::eprint_in!(rt; ", {warnings} warning{of_warnings}");
+        }
+        if self.changed > 0 {
+            let (fixed, changed) = (self.fixed, self.changed);
+            let of_changed = ending(changed);
+            let word = if is_preview { "to fix" } else { "fixed" };
+            let _ =
+                crate::shim::eprint_in!(rt; " left, {fixed} {word} in {changed} file{of_changed}");
         }
         let _ = rt.eprintln("");
     }

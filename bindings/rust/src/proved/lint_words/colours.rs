@@ -6,7 +6,7 @@
 
 /// The value of `--color`: when the output is in colours.
 #[derive(Clone, Copy, Debug, Eq, PartialEq)]
-pub enum When {
+pub enum ColourChoice {
     /// If the output is a terminal that has them.
     Auto,
     /// Always.
@@ -22,15 +22,15 @@ pub enum When {
 //     (option_map (λ w. w.now) term.entry) }
 #[inline]
 pub fn wants_colours(
-    when: When,
+    when: ColourChoice,
     is_terminal: bool,
     no_color: Option<&str>,
     term: Option<&str>,
 ) -> bool {
     match when {
-        When::Always => true,
-        When::Never => false,
-        When::Auto => {
+        ColourChoice::Always => true,
+        ColourChoice::Never => false,
+        ColourChoice::Auto => {
             is_terminal
                 && no_color.map_or(true, |word| word.is_empty())
                 && term.map_or(false, |word| word != "dumb")

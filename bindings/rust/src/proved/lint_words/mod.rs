@@ -8,5 +8,5 @@
 pub(crate) mod colours;
 pub(crate) mod messages;
 
-pub use colours::{wants_colours, When};
+pub use colours::{wants_colours, ColourChoice};
 pub use messages::{put_failure, put_not_literal, put_place_failure, system_words};

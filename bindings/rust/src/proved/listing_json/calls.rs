@@ -7,7 +7,7 @@
 
 use super::faults::put_fault;
 use super::pieces::put_piece;
-use crate::proved::rustc_parse_format::{Argument, Fault, Taken};
+use crate::proved::rustc_parse_format::{Argument, Fault, PieceKind};
 use crate::shim::alloc::{AllocError, Global};
 use crate::shim::json::Writer;
 use crate::shim::parser::Parser;
@@ -39,7 +39,7 @@ pub fn end_line(out: &mut Vec<u8>, writer: Writer) -> Result<(), AllocError> {
 fn put_piece_line(
     alloc: Global,
     out: &mut Vec<u8>,
-    taken: &Taken<'_>,
+    taken: &PieceKind<'_>,
     argument: &Argument<'_>,
 ) -> Result<(), AllocError> {
     let mut writer = begin_line(alloc, out);
@@ -55,7 +55,7 @@ fn put_piece_line(
 fn put_given(
     alloc: Global,
     out: &mut Vec<u8>,
-    taken: &Option<Taken<'_>>,
+    taken: &Option<PieceKind<'_>>,
     argument: &Argument<'_>,
 ) -> Result<(), AllocError> {
     match taken {

@@ -9,7 +9,7 @@ use super::fields::{
     begin_kind, put_index, put_maybe_span, put_name, put_number, put_span_of, put_text,
 };
 use crate::proved::rustc_parse_format::{
-    Alignment, Argument, Count, DebugHex, FormatSpec, Position, Sign, Taken,
+    Alignment, Argument, Count, DebugHex, FormatSpec, PieceKind, Position, Sign,
 };
 use crate::shim::alloc::{AllocError, Global};
 use crate::shim::json::Writer;
@@ -221,11 +221,11 @@ fn put_placeholder(
 pub fn put_piece(
     alloc: Global,
     writer: &mut Writer,
-    taken: &Taken<'_>,
+    taken: &PieceKind<'_>,
     argument: &Argument<'_>,
 ) -> Result<(), AllocError> {
     match taken {
-        Taken::Lit(text) => put_run(writer, text),
-        Taken::NextArgument => put_placeholder(alloc, writer, argument),
+        PieceKind::Lit(text) => put_run(writer, text),
+        PieceKind::NextArgument => put_placeholder(alloc, writer, argument),
     }
 }

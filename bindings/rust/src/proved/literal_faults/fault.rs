@@ -50,7 +50,7 @@ pub enum FaultKind {
     /// A word directly after the closing quote.
     Suffix,
     /// Anything else after the literal.
-    Trailing,
+    TrailingText,
 }
 
 /// The reason why a text is no string literal.
@@ -77,7 +77,7 @@ fn trailing(is_suffix: bool) -> FaultKind {
     if is_suffix {
         FaultKind::Suffix
     } else {
-        FaultKind::Trailing
+        FaultKind::TrailingText
     }
 }
 

@@ -40,7 +40,7 @@ fn after_mark(file: &str) -> &str {
 #[inline]
 pub fn snippet_of(file: &str) -> Snippet<'_> {
     let source = after_mark(file);
-    let rest = source.behind_ascii_space();
+    let rest = source.after_ascii_space();
     Snippet {
         source,
         text: rest.before_ascii_space(),

@@ -53,7 +53,7 @@ fn title(kind: FaultKind) -> &'static str {
         }
         FaultKind::BareCarriageReturn => "bare CR not allowed in string, use `\\r` instead",
         FaultKind::Suffix => "suffixes on string literals are invalid",
-        FaultKind::Trailing => "unexpected text after the string literal",
+        FaultKind::TrailingText => "unexpected text after the string literal",
     }
 }
 

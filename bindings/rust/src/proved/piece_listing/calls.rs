@@ -7,7 +7,7 @@
 
 use super::listing::{put_argument, put_literal};
 use crate::proved::placeholder_check::Uses;
-use crate::proved::rustc_parse_format::{Argument, FormatSpec, Position, Taken};
+use crate::proved::rustc_parse_format::{Argument, FormatSpec, PieceKind, Position};
 use crate::shim::alloc::AllocError;
 use crate::shim::parser::Parser;
 use crate::shim::prelude::*;
@@ -22,7 +22,7 @@ use crate::shim::prelude::*;
 fn next_piece<'a>(
     parser: &mut Parser<'a>,
     argument: &mut Argument<'a>,
-) -> Result<Option<Taken<'a>>, AllocError> {
+) -> Result<Option<PieceKind<'a>>, AllocError> {
     let (taken, _) = parser.next_into(argument)?;
     Ok(taken)
 }
@@ -33,12 +33,12 @@ fn next_piece<'a>(
 #[inline]
 fn put_taken(
     out: &mut String,
-    taken: &Taken<'_>,
+    taken: &PieceKind<'_>,
     argument: &Argument<'_>,
 ) -> Result<(), AllocError> {
     match taken {
-        Taken::Lit(text) => put_literal(out, text)?,
-        Taken::NextArgument => put_argument(out, argument)?,
+        PieceKind::Lit(text) => put_literal(out, text)?,
+        PieceKind::NextArgument => put_argument(out, argument)?,
     }
     Ok(())
 }
@@ -51,10 +51,10 @@ fn put_taken(
 fn add_uses<'a>(
     uses: &mut Uses<'a>,
     compares: bool,
-    taken: &Taken<'a>,
+    taken: &PieceKind<'a>,
     argument: &Argument<'a>,
 ) -> Result<(), AllocError> {
-    if compares && matches!(taken, Taken::NextArgument) {
+    if compares && matches!(taken, PieceKind::NextArgument) {
         uses.add(argument)?;
     }
     Ok(())

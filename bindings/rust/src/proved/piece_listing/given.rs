@@ -12,7 +12,7 @@ const MOST_DIGITS: usize = 5;
 
 /// A list of arguments that are given.
 #[derive(Copy, Clone)]
-pub struct Given<'a> {
+pub struct GivenArguments<'a> {
     /// The number of arguments that are given by position.
     pub positional: usize,
     /// The names of the others, separated by commas, or `None` if there are none.
@@ -60,10 +60,10 @@ fn are_names(text: &str) -> bool {
 /// Returns the list of arguments that a word is, or `None` if it is none.
 // ensures { option_map seen_given result ≡ given_by word.now }
 #[inline]
-pub fn given_by(word: &str) -> Option<Given<'_>> {
+pub fn given_by(word: &str) -> Option<GivenArguments<'_>> {
     let Some((digits, names)) = around_comma(word) else {
         let positional = number(word)?;
-        return Some(Given {
+        return Some(GivenArguments {
             positional,
             names: None,
         });
@@ -72,7 +72,7 @@ pub fn given_by(word: &str) -> Option<Given<'_>> {
     if !are_names(names) {
         return None;
     }
-    Some(Given {
+    Some(GivenArguments {
         positional,
         names: Some(names),
     })

@@ -5,9 +5,9 @@
 // by results from outside, and beside what is proved (.ci/bindings) and the original (tools/agree).
 
 use super::calls::put_calls;
-use super::given::Given;
+use super::given::GivenArguments;
 use super::listing::put_faults;
-use super::literal::{literal_text, without_newline};
+use super::literal::{literal_text, strip_newline};
 use super::report_lines::{has_entries, put_report, report_for};
 use super::task::Task;
 use super::verdict::RunFault;
@@ -53,7 +53,7 @@ fn put_ends(
 fn list_calls<'a>(
     alloc: Global,
     parser: &mut Parser<'a>,
-    given: Option<Given<'a>>,
+    given: Option<GivenArguments<'a>>,
 ) -> Result<(String, bool), AllocError> {
     let mut lines = String::made_in(alloc);
     let mut used = Uses::new(alloc);
@@ -118,7 +118,7 @@ fn list_text_of(
 // ensures empty { input.now ≡ [] → result ≡ Err NotLiteral }
 #[inline]
 fn list_literal(alloc: Global, input: &str, task: Task<'_>) -> Result<(String, bool), RunFault> {
-    let literal = without_newline(input);
+    let literal = strip_newline(input);
     let Some((text, style)) = literal_text(alloc, literal)? else {
         return Err(RunFault::NotLiteral);
     };

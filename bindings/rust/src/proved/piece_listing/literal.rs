@@ -4,7 +4,7 @@
 // That source is proved, and each contract here is its. That this text means the same is tested:
 // by results from outside, and beside what is proved (.ci/bindings) and the original (tools/agree).
 
-use crate::proved::rustc_parse_format::literal::{between_quotes, content_text};
+use crate::proved::rustc_parse_format::literal::{content_text, quoted_content};
 use crate::shim::alloc::{AllocError, Global};
 use crate::shim::prelude::*;
 
@@ -27,7 +27,7 @@ fn without_last(text: &str, c: char) -> Option<&str> {
 //     → ((t : Text) → t ++ newline true ≡ l → ⊥) → l ≡ chars result.now }
 // ensures short { length result.now ≤ length text.now }
 #[inline]
-pub fn without_newline(text: &str) -> &str {
+pub fn strip_newline(text: &str) -> &str {
     match without_last(text, '\n') {
         Some(line) => line,
         None => text,
@@ -98,7 +98,7 @@ pub fn raw_text(literal: &str) -> Option<(usize, &str)> {
 // ensures empty { literal.now ≡ [] → IsOk result }
 #[inline]
 fn ordinary_text(alloc: Global, literal: &str) -> Result<Option<String>, AllocError> {
-    let Some(content) = between_quotes(literal) else {
+    let Some(content) = quoted_content(literal) else {
         return Ok(None);
     };
     content_text(alloc, content)

@@ -4,7 +4,7 @@
 // That source is proved, and each contract here is its. That this text means the same is tested:
 // by results from outside, and beside what is proved (.ci/bindings) and the original (tools/agree).
 
-use super::given::{names, Given};
+use super::given::{names, GivenArguments};
 use super::listing::put_quoted;
 use super::numbers::put_number;
 use crate::proved::placeholder_check::{check_uses, Report, Uses};
@@ -22,7 +22,7 @@ use crate::shim::prelude::*;
 pub fn report_for<'a>(
     alloc: Global,
     used: &Uses<'a>,
-    given: Option<Given<'a>>,
+    given: Option<GivenArguments<'a>>,
 ) -> Result<Report<'a>, AllocError> {
     match given {
         Some(given) => {

@@ -4,7 +4,7 @@
 // That source is proved, and each contract here is its. That this text means the same is tested:
 // by results from outside, and beside what is proved (.ci/bindings) and the original (tools/agree).
 
-use super::given::{given_by, Given};
+use super::given::{given_by, GivenArguments};
 use crate::proved::rustc_parse_format::ParseMode;
 use crate::shim::prelude::*;
 
@@ -15,7 +15,7 @@ pub struct Task<'a> {
     /// Whether the input is a string literal.
     pub is_literal: bool,
     /// The list of arguments to compare the pieces with, if there is one.
-    pub given: Option<Given<'a>>,
+    pub given: Option<GivenArguments<'a>>,
 }
 
 /// Returns the mode that a word names, or `None` if it names none.
@@ -39,7 +39,11 @@ fn mode_named(word: &str) -> Option<ParseMode> {
 // ensures { option_map seen_task result
 //     ≡ task is_literal (option_map seen_given given.entry) (mode_named word.now) }
 #[inline]
-fn task_in<'a>(word: &str, is_literal: bool, given: Option<Given<'a>>) -> Option<Task<'a>> {
+fn task_in<'a>(
+    word: &str,
+    is_literal: bool,
+    given: Option<GivenArguments<'a>>,
+) -> Option<Task<'a>> {
     let mode = mode_named(word)?;
     Some(Task {
         mode,

@@ -164,7 +164,7 @@ fn after_shebang(text: &str) -> &str {
 //     × ((rs : List Lexeme) → Reads (chars result.now) rs → ReadsFile (chars text.now) (hs ++ rs))
 //     × (end_of_all 0 hs + length result.now ≡ length text.now) }
 #[inline]
-pub fn after_head(text: &str) -> &str {
+pub fn skip_head(text: &str) -> &str {
     after_shebang(after_mark(text))
 }
 

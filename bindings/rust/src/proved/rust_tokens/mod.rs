@@ -22,5 +22,5 @@ pub(crate) mod openings;
 pub(crate) mod texts;
 
 pub use kinds::{Kind, Token};
-pub use lexer::{after_head, first_token, split_first_token, tokens};
+pub use lexer::{first_token, skip_head, split_first_token, tokens};
 pub use texts::split_first;

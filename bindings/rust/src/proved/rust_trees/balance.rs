@@ -23,7 +23,7 @@ pub enum BreakKind {
 
 /// Where tokens break.
 #[derive(Clone, Copy, Debug, Eq, PartialEq)]
-pub struct BreakAt {
+pub struct FileBreak {
     /// In which way.
     pub kind: BreakKind,
     /// The byte offset where the token starts.
@@ -35,7 +35,7 @@ pub struct Balance {
     /// The delimiters that may still be closed, each with the byte offset where it starts.
     openings: Vec<Opening>,
     /// Where the tokens break already.
-    broken: Option<BreakAt>,
+    first_break: Option<FileBreak>,
 }
 
 impl Balance {
@@ -45,13 +45,13 @@ impl Balance {
     pub fn new(alloc: Global) -> Balance {
         Balance {
             openings: Vec::made_in(alloc),
-            broken: None,
+            first_break: None,
         }
     }
 
     /// Adds a closing delimiter to tokens that do not break.
     // ensures { (w : List Leaf) (x : Leaf) → GoesOn w self.old.openings.items
-    //     → self.old.broken ≡ None → x.is_ended ≡ true → side x ≡ Closes delimiter
+    //     → self.old.first_break ≡ None → x.is_ended ≡ true → side x ≡ Closes delimiter
     //     → start ≡ x.start → IsBalanced (w ++ x ∷ []) self.new }
     #[inline]
     fn close(&mut self, delimiter: Delimiter, start: usize) {
@@ -60,7 +60,7 @@ impl Balance {
                 return;
             }
         }
-        self.broken = Some(BreakAt {
+        self.first_break = Some(FileBreak {
             kind: BreakKind::Unexpected,
             start,
         });
@@ -71,11 +71,11 @@ impl Balance {
     //     → IsBalanced (w ++ leaf token.now ∷ []) self.new) }
     #[inline]
     pub fn add(&mut self, token: &Token<'_>) -> Result<(), AllocError> {
-        if self.broken.is_some() {
+        if self.first_break.is_some() {
             return Ok(());
         }
         if !token.is_ended {
-            self.broken = Some(BreakAt {
+            self.first_break = Some(FileBreak {
                 kind: BreakKind::Unended,
                 start: token.start,
             });
@@ -106,12 +106,12 @@ impl Balance {
     /// Returns where all the tokens break, or `None` if they are a forest.
     // ensures { (w : List Leaf) → IsBalanced w self → BreaksAt w result }
     #[inline]
-    pub fn broken(mut self) -> Option<BreakAt> {
-        if self.broken.is_some() {
-            return self.broken;
+    pub fn first_break(mut self) -> Option<FileBreak> {
+        if self.first_break.is_some() {
+            return self.first_break;
         }
         match self.openings.pop() {
-            Some(opening) => Some(BreakAt {
+            Some(opening) => Some(FileBreak {
                 kind: BreakKind::Unclosed,
                 start: opening.at,
             }),

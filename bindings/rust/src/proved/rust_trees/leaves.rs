@@ -4,7 +4,7 @@
 // That source is proved, and each contract here is its. That this text means the same is tested:
 // by results from outside, and beside what is proved (.ci/bindings) and the original (tools/agree).
 
-use crate::proved::rust_tokens::{after_head, split_first_token, Kind};
+use crate::proved::rust_tokens::{skip_head, split_first_token, Kind};
 use crate::proved::rust_trees::sides::{side_of, Side};
 use crate::shim::alloc::{AllocError, Global};
 use crate::shim::prelude::*;
@@ -92,7 +92,7 @@ impl<'a> Tokens<'a> {
     pub fn new(text: &'a str) -> Self {
         Tokens {
             text,
-            rest: after_head(text),
+            rest: skip_head(text),
         }
     }
 

@@ -11,7 +11,7 @@ use crate::shim::prelude::*;
 
 /// The place where tokens that are no forest break: the index of a token.
 #[derive(Clone, Copy)]
-pub enum Break {
+pub enum DelimiterBreak {
     /// A delimiter that is not closed: the last of these.
     Unclosed(usize),
     /// A closing delimiter where nothing is to be closed, or a delimiter of another kind is.
@@ -100,11 +100,11 @@ pub fn match_delimiters(alloc: Global, tokens: &[Token<'_>]) -> Result<Matching,
 /// Returns where the tokens break, or `None` if they are a forest.
 // ensures { (w : List Leaf) → HasOpen w openings.items unexpected → Breaks w result }
 #[inline]
-pub fn break_of(unexpected: Option<usize>, mut openings: Vec<Opening>) -> Option<Break> {
+pub fn break_of(unexpected: Option<usize>, mut openings: Vec<Opening>) -> Option<DelimiterBreak> {
     match unexpected {
-        Some(index) => Some(Break::Unexpected(index)),
+        Some(index) => Some(DelimiterBreak::Unexpected(index)),
         None => match openings.pop() {
-            Some(opening) => Some(Break::Unclosed(opening.at)),
+            Some(opening) => Some(DelimiterBreak::Unclosed(opening.at)),
             None => None,
         },
     }

@@ -12,9 +12,9 @@ pub(crate) mod places;
 pub(crate) mod sides;
 pub(crate) mod source;
 
-pub use balance::{Balance, BreakAt, BreakKind};
+pub use balance::{Balance, BreakKind, FileBreak};
 pub use leaves::{Token, Tokens};
-pub use matching::Break;
+pub use matching::DelimiterBreak;
 #[cfg(feature = "std")]
 pub use places::place_at;
 pub use places::{Place, Places};

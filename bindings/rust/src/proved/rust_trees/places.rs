@@ -88,7 +88,7 @@ pub fn place_at(text: &str, offset: usize) -> Place {
 }
 
 /// The number of bytes between two places of a text that are known.
-const STEP: usize = 4096;
+const STEP: usize = 256;
 
 /// A byte offset of a text with its place.
 #[derive(Clone, Copy)]

@@ -6,7 +6,7 @@
 
 use crate::proved::rust_trees::leaves::{leaves, Token, Tokens};
 use crate::proved::rust_trees::matching::{
-    add, break_of, is_closed, match_delimiters, Break, Matching,
+    add, break_of, is_closed, match_delimiters, DelimiterBreak, Matching,
 };
 use crate::proved::rust_trees::sides::is_closing;
 use crate::shim::alloc::{AllocError, Global};
@@ -16,7 +16,7 @@ use crate::shim::prelude::*;
 pub struct Source<'a> {
     tokens: Vec<Token<'a>>,
     partners: Vec<Option<usize>>,
-    broken: Option<Break>,
+    first_break: Option<DelimiterBreak>,
 }
 
 /// Returns tokens with the pairs that were found among them.
@@ -24,11 +24,11 @@ pub struct Source<'a> {
 // ensures { result ≡ map leaf tokens.entry.items }
 #[inline]
 fn source_of<'a>(tokens: Vec<Token<'a>>, found: Matching) -> Source<'a> {
-    let broken = break_of(found.unexpected, found.openings);
+    let first_break = break_of(found.unexpected, found.openings);
     Source {
         tokens,
         partners: found.partners,
-        broken,
+        first_break,
     }
 }
 
@@ -92,7 +92,7 @@ impl<'a> Source<'a> {
     /// Returns the place where the tokens break, or `None` if they are a forest.
     // ensures { Breaks self.now result }
     #[inline]
-    pub fn broken(&self) -> Option<Break> {
-        self.broken
+    pub fn first_break(&self) -> Option<DelimiterBreak> {
+        self.first_break
     }
 }

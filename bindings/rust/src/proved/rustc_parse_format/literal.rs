@@ -165,7 +165,7 @@ fn before_newline(text: &str) -> Option<&str> {
 //     ((t : List ℕ) → t ++ newline appended ≡ chars input.now → ⊥)
 //     (λ t. chars t.now ++ newline appended ≡ chars input.now) }
 #[inline]
-fn without_newline(input: &str, appended: bool) -> Option<&str> {
+fn strip_newline(input: &str, appended: bool) -> Option<&str> {
     if appended {
         before_newline(input)
     } else {
@@ -180,7 +180,7 @@ fn without_newline(input: &str, appended: bool) -> Option<&str> {
 //     ((t : List ℕ) → chars snippet.now ≡ ordinary_frame t → ⊥)
 //     (λ t. chars snippet.now ≡ ordinary_frame (chars t.now)) }
 #[inline]
-pub fn between_quotes(snippet: &str) -> Option<&str> {
+pub fn quoted_content(snippet: &str) -> Option<&str> {
     match snippet.strip_prefix('"') {
         Some(rest_after) => rest_after.strip_suffix('"'),
         None => None,
@@ -246,7 +246,7 @@ fn spelled_end(content: &str, text: &str) -> Option<usize> {
 //     × (e ≡ literal_end None (chars snippet.now))) }
 #[inline]
 fn ordinary_end(snippet: &str, text: &str) -> Option<usize> {
-    match between_quotes(snippet) {
+    match quoted_content(snippet) {
         Some(content) => spelled_end(content, text),
         None => None,
     }
@@ -341,7 +341,7 @@ pub(crate) fn source_end(
     snippet: &str,
     appended_newline: bool,
 ) -> Option<usize> {
-    let text = without_newline(input, appended_newline)?;
+    let text = strip_newline(input, appended_newline)?;
     match style {
         None => ordinary_end(snippet, text),
         Some(hashes) => raw_end(snippet, hashes, text),

@@ -36,7 +36,7 @@ pub enum Piece<'input> {
 /// A piece as returned by `Parser::next_into`, which reads a placeholder into an argument of the
 /// caller.
 #[derive(Clone, Copy)]
-pub enum Taken<'input> {
+pub enum PieceKind<'input> {
     /// Literal text, borrowed from the input. An escaped brace, `{{` or `}}`, is one brace.
     Lit(&'input str),
     /// A placeholder, which is in the argument of the caller.

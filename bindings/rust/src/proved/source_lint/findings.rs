@@ -4,7 +4,7 @@
 // That source is proved, and each contract here is its. That this text means the same is tested:
 // by results from outside, and beside what is proved (.ci/bindings) and the original (tools/agree).
 
-use crate::proved::call_faults::{CallEdit, CallFault, CallHelp, Checked};
+use crate::proved::call_faults::{CallEdit, CallFault, CallHelp, CallReport};
 use crate::proved::source_lint::labels::{help, labels, notes, primary_span};
 use crate::proved::source_lint::report::{CallReading, Finding};
 use crate::proved::source_lint::spans::Site;
@@ -74,7 +74,7 @@ fn counted_help(help: Option<CallHelp>, is_whole: bool) -> Option<CallHelp> {
 fn finding<'c>(
     alloc: Global,
     site: Site<'_, '_>,
-    checked: &Checked<'c>,
+    checked: &CallReport<'c>,
     fault: &CallFault<'c>,
     is_whole: bool,
 ) -> Result<Finding, AllocError> {
@@ -109,7 +109,7 @@ fn put_finding<'c>(
     alloc: Global,
     findings: &mut Vec<Finding>,
     site: Site<'_, '_>,
-    checked: &Checked<'c>,
+    checked: &CallReport<'c>,
     fault: &CallFault<'c>,
     is_whole: bool,
 ) -> Result<(), AllocError> {
@@ -131,7 +131,7 @@ pub fn put_findings<'c>(
     alloc: Global,
     findings: &mut Vec<Finding>,
     site: Site<'_, '_>,
-    checked: &Checked<'c>,
+    checked: &CallReport<'c>,
     is_whole: bool,
 ) -> Result<(), AllocError> {
     for fault in &checked.faults {

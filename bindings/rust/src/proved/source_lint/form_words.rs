@@ -6,7 +6,7 @@
 
 use crate::proved::format_calls::{Argument, Call};
 use crate::proved::rust_trees::Token;
-use crate::proved::source_lint::forms::Form;
+use crate::proved::source_lint::forms::{is_control, is_modifier, is_special, Form};
 use crate::proved::source_lint::report::{Edit, Finding, Help, Label};
 use crate::proved::source_lint::spans::{call_range, range_in, tokens_range};
 use crate::shim::alloc::{AllocError, Global};
@@ -25,6 +25,58 @@ fn form_id(form: Form<'_>) -> &'static str {
     }
 }
 
+/// Returns whether a word is a keyword that has no use so far.
+// ensures { result ≡ is_reserved word.now }
+#[inline]
+fn is_reserved(word: &str) -> bool {
+    word == "abstract"
+        || word == "become"
+        || word == "box"
+        || word == "do"
+        || word == "final"
+        || word == "macro"
+        || word == "override"
+        || word == "priv"
+        || word == "try"
+        || word == "typeof"
+        || word == "unsized"
+        || word == "virtual"
+        || word == "yield"
+}
+
+/// Returns whether a word that is not reserved is a keyword.
+// ensures { result ≡ is_keyword word.now }
+#[inline]
+fn is_keyword(word: &str) -> bool {
+    is_control(word)
+        || is_modifier(word)
+        || is_special(word)
+        || word == "await"
+        || word == "enum"
+        || word == "mod"
+        || word == "pub"
+        || word == "struct"
+        || word == "trait"
+        || word == "type"
+        || word == "use"
+        || word == "where"
+}
+
+/// Returns the words of rustc before a token in a title, with the space after them.
+// ensures { result.now ≡ kind_word text.now }
+#[inline]
+fn kind_word(text: &str) -> &'static str {
+    if text == "_" {
+        "reserved identifier "
+    } else if is_reserved(text) {
+        "reserved keyword "
+    } else if is_keyword(text) {
+        "keyword "
+    } else {
+        ""
+    }
+}
+
 /// Adds the title. Returns `Err` if an allocation fails.
 // ensures { OnOk result (string_bytes out.new
 //     ≡ string_bytes out.old ++ form_title (seen_form form.entry)) }
@@ -34,7 +86,9 @@ fn put_title(out: &mut String, form: Form<'_>) -> Result<(), AllocError> {
         Form::NoString => out.try_push_str("requires at least a format string argument")?,
         Form::NoLiteral { .. } => out.try_push_str("format argument must be a string literal")?,
         Form::NoComma(token) => {
-            out.try_push_str("expected `,`, found `")?;
+            out.try_push_str("expected `,`, found ")?;
+            out.try_push_str(kind_word(token.text))?;
+            out.try_push_str("`")?;
             out.try_push_str(token.text)?;
             out.try_push_str("`")?;
         }

@@ -5,10 +5,11 @@
 // by results from outside, and beside what is proved (.ci/bindings) and the original (tools/agree).
 
 use crate::proved::format_calls::{
-    closing, is_mark_of, is_standard, is_text_leaf, token_at, Argument, Part, Rule,
+    closing, is_mark_of, is_standard, token_at, Argument, Part, Rule,
 };
 use crate::proved::rust_tokens::Kind;
 use crate::proved::rust_trees::{Side, Source, Token};
+use crate::proved::source_lint::commas::{has_more, in_place};
 
 /// A fault in the arguments of a call.
 #[derive(Clone, Copy)]
@@ -40,7 +41,7 @@ fn tokens_of<'s, 'a>(tokens: &'s [Token<'a>], argument: &Argument) -> &'s [Token
 /// Returns whether a word is a keyword around which expressions may stand.
 // ensures { result ≡ is_control word.now }
 #[inline]
-fn is_control(word: &str) -> bool {
+pub fn is_control(word: &str) -> bool {
     word == "as"
         || word == "break"
         || word == "continue"
@@ -59,7 +60,7 @@ fn is_control(word: &str) -> bool {
 /// Returns whether a word is a keyword in front of an expression, a pattern or a type.
 // ensures { result ≡ is_modifier word.now }
 #[inline]
-fn is_modifier(word: &str) -> bool {
+pub fn is_modifier(word: &str) -> bool {
     word == "async"
         || word == "const"
         || word == "dyn"
@@ -76,7 +77,7 @@ fn is_modifier(word: &str) -> bool {
 /// Returns whether a word is a keyword that is an expression or begins a path.
 // ensures { result ≡ is_special word.now }
 #[inline]
-fn is_special(word: &str) -> bool {
+pub fn is_special(word: &str) -> bool {
     word == "_"
         || word == "crate"
         || word == "false"
@@ -255,15 +256,7 @@ fn literal_form<'a>(tokens: &[Token<'a>], others: usize) -> Option<Form<'a>> {
     let Some(first) = tokens.first() else {
         return None;
     };
-    if matches!(first.kind, Kind::Str | Kind::RawStr) {
-        return match tokens.get(1) {
-            Some(token) if is_text_leaf(first) && is_mark_of(token, b';') => {
-                Some(Form::NoComma(*token))
-            }
-            _ => None,
-        };
-    }
-    if is_operand(first) && are_path(tokens) {
+    if !matches!(first.kind, Kind::Str | Kind::RawStr) && is_operand(first) && are_path(tokens) {
         return Some(Form::NoLiteral {
             others,
             is_bytes: is_bytes(tokens),
@@ -351,6 +344,28 @@ fn form_at<'a>(
     }
 }
 
+/// Returns whether all arguments before the one with an index are expressions, where the one with
+/// the index `bad`, if any, is the first that is none.
+// ensures { result ≡ starts_well index bad }
+#[inline]
+fn starts_well(bad: Option<usize>, index: usize) -> bool {
+    match bad {
+        Some(bad) => bad >= index,
+        None => true,
+    }
+}
+
+/// Returns the fault of an argument that is a string literal and more tokens after it, if it is
+/// known.
+// ensures { option_map seen_form result ≡ comma_form (map leaf tokens.now) }
+#[inline]
+fn comma_form<'a>(tokens: &[Token<'a>]) -> Option<Form<'a>> {
+    match in_place(tokens) {
+        Some(token) => Some(Form::NoComma(token)),
+        None => None,
+    }
+}
+
 /// Returns how many arguments stand after the one with an index.
 // ensures { result ≡ length arguments.now - (index + 1) }
 #[inline]
@@ -373,7 +388,13 @@ fn form_of<'a>(
     if have_variables(part, arguments) {
         return None;
     }
-    match first_bad(part, arguments) {
+    let bad = first_bad(part, arguments);
+    if let Some(string) = part_at(part.tokens(), arguments, index) {
+        if starts_well(bad, index) && has_more(string) {
+            return comma_form(string);
+        }
+    }
+    match bad {
         Some(bad) => form_at(part, arguments, index, bad),
         None => match part_at(part.tokens(), arguments, index) {
             Some(string) => literal_form(string, others_after(arguments, index)),
@@ -418,14 +439,14 @@ fn lacks_string(name: &[u8], arguments: &[Argument], close: usize) -> bool {
 fn index_of(rule: Rule, is_from_2021: bool) -> Option<usize> {
     match rule {
         Rule::At(index) => Some(index),
-        Rule::ByEdition(index) => {
+        Rule::IndexByEdition(index) => {
             if is_from_2021 {
                 Some(index)
             } else {
                 None
             }
         }
-        Rule::AfterFields | Rule::Templates => None,
+        Rule::FirstLiteral | Rule::Templates => None,
     }
 }
 

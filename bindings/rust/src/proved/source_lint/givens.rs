@@ -4,7 +4,7 @@
 // That source is proved, and each contract here is its. That this text means the same is tested:
 // by results from outside, and beside what is proved (.ci/bindings) and the original (tools/agree).
 
-use crate::proved::call_faults::Given;
+use crate::proved::call_faults::FormatArgument;
 use crate::proved::format_calls::{token_at, Argument};
 use crate::proved::rust_tokens::{split_first, Kind};
 use crate::proved::rust_trees::Token;
@@ -83,8 +83,8 @@ fn variable_of<'a>(tokens: &[Token<'a>], argument: &Argument) -> Option<&'a str>
 /// Returns an argument as placeholders refer to it.
 // ensures { seen_given result ≡ given (map leaf tokens.now) argument.now }
 #[inline]
-fn given<'a>(tokens: &[Token<'a>], argument: &Argument) -> Given<'a> {
-    Given {
+fn given<'a>(tokens: &[Token<'a>], argument: &Argument) -> FormatArgument<'a> {
+    FormatArgument {
         name: name_of(tokens, argument),
         variable: variable_of(tokens, argument),
     }
@@ -98,7 +98,7 @@ pub fn givens<'a>(
     alloc: Global,
     tokens: &[Token<'a>],
     arguments: &[Argument],
-) -> Result<Vec<Given<'a>>, AllocError> {
+) -> Result<Vec<FormatArgument<'a>>, AllocError> {
     let mut found = Vec::made_in(alloc);
     for argument in arguments {
         found.try_push(given(tokens, argument))?;

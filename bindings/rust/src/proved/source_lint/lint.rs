@@ -7,8 +7,8 @@
 use crate::proved::format_calls::{calls, next_part, Part, Table};
 use crate::proved::rust_trees::{Balance, Source, Tokens};
 use crate::proved::source_lint::attributes::read_attributes;
-use crate::proved::source_lint::macros::macro_names;
-use crate::proved::source_lint::readings::{read_call, File};
+use crate::proved::source_lint::macros::{macro_names, File};
+use crate::proved::source_lint::readings::read_call;
 use crate::proved::source_lint::report::{CallReading, Finding, Options, Report};
 use crate::shim::alloc::{AllocError, Global};
 use crate::shim::prelude::*;
@@ -24,8 +24,8 @@ struct Readings {
 // ensures read { OnOk result ((rs : List ReadingValue) × (xs : List FindingValue)
 //     × (found.new.calls.items ≡ found.old.calls.items ++ rs)
 //     × (found.new.findings.items ≡ found.old.findings.items ++ xs)
-//     × ReadsCalls (map entry table.now.rows.items) (names_in file.entry.macros.now)
-//     file.entry.is_from_2021 part.now rs xs) }
+//     × ReadsCalls (map entry table.now.rows.items) (scope file.entry) file.entry.is_from_2021
+//     part.now rs xs) }
 // ensures spans { OnOk result (All (HasSpans file.entry.text.now)
 //     found.old.findings.items
 //     → All (HasSpans file.entry.text.now) found.new.findings.items) }
@@ -50,8 +50,8 @@ fn read_part<'a>(
 /// Reads the calls of a file, part by part, and adds all its tokens to `balance`. Returns `Err` if
 /// an allocation fails.
 // ensures read { IfOk result (λ f. (ls : List Leaf) × AreLeaves file.entry.text.now ls
-//     × ReadsCalls (map entry table.now.rows.items) (names_in file.entry.macros.now)
-//     file.entry.is_from_2021 ls f.calls.items f.findings.items
+//     × ReadsCalls (map entry table.now.rows.items) (scope file.entry) file.entry.is_from_2021
+//     ls f.calls.items f.findings.items
 //     × ((w : List Leaf) → IsBalanced w balance.old → IsBalanced (w ++ ls) balance.new)) }
 // ensures spans { IfOk result (λ f. All (HasSpans file.entry.text.now)
 //     f.findings.items) }
@@ -115,6 +115,6 @@ pub fn file_faults(alloc: Global, text: &str, options: &Options<'_>) -> Result<R
     Ok(Report {
         calls: found.calls,
         findings: found.findings,
-        broken: balance.broken(),
+        first_break: balance.first_break(),
     })
 }

@@ -1,15 +1,28 @@
-//! The macros that a file defines by `macro_rules!`.
+//! The macros that a file defines by `macro_rules!`, and calls of others than those of the table.
 
 // Extracted from crates/source_lint/src/macros.rt by tools/extract: not to be edited.
 // That source is proved, and each contract here is its. That this text means the same is tested:
 // by results from outside, and beside what is proved (.ci/bindings) and the original (tools/agree).
 
-use crate::proved::format_calls::{is_mark_of, is_word, word};
+use crate::proved::format_calls::{is_mark_of, is_of_crates, is_word, token_at, word, Call, Rule};
 use crate::proved::rust_tokens::Kind;
 use crate::proved::rust_trees::{Token, Tokens};
+use crate::proved::source_lint::paths::is_foreign;
+use crate::proved::source_lint::report::CallReading;
 use crate::shim::alloc::{AllocError, Global};
 use crate::shim::prelude::*;
 use alloc::collections::BTreeSet;
+
+/// A file, with what its calls are read by.
+#[derive(Clone, Copy)]
+pub struct File<'s, 'a> {
+    /// The text.
+    pub text: &'a str,
+    /// The names of the macros that it defines.
+    pub macros: &'s BTreeSet<&'a [u8]>,
+    /// Whether its edition is 2021 or a later one.
+    pub is_from_2021: bool,
+}
 
 /// Returns whether a token is the word `macro_rules`.
 // ensures { result ≡ is_macro_rules (leaf token.now) }
@@ -72,6 +85,54 @@ pub fn macro_names<'a>(alloc: Global, text: &'a str) -> Result<BTreeSet<&'a [u8]
 /// Returns whether a word is one of these names.
 // ensures { result ≡ list_any (bytes_eq word.now) (names_in names.now) }
 #[inline]
-pub fn is_defined<'a>(names: &BTreeSet<&'a [u8]>, word: &'a [u8]) -> bool {
+fn is_defined<'a>(names: &BTreeSet<&'a [u8]>, word: &'a [u8]) -> bool {
     names.contains(&word)
+}
+
+/// Returns the name of a call, without `r#`.
+// ensures { result.now ≡ name_at (map leaf tokens.now) name }
+#[inline]
+pub fn name_at<'a>(tokens: &[Token<'a>], name: usize) -> &'a [u8] {
+    match token_at(tokens, name) {
+        Some(token) => word(&token),
+        None => b"",
+    }
+}
+
+/// Returns the offset of the name of a call in its file.
+// ensures { result ≡ offset_of_leaf (slice_get (map leaf tokens.now) name) }
+#[inline]
+fn offset_at(tokens: &[Token<'_>], name: usize) -> usize {
+    match token_at(tokens, name) {
+        Some(token) => token.start,
+        None => 0,
+    }
+}
+
+/// Returns whether a macro with this rule and this name is one of log, tracing or slog, if no path
+/// says otherwise.
+// ensures { result ≡ is_log rule name.now }
+#[inline]
+fn is_log(rule: Rule, name: &[u8]) -> bool {
+    matches!(rule, Rule::FirstLiteral) && is_of_crates(name)
+}
+
+/// Returns the reading of a call whose macro is another one than that of the table, or `None` if it
+/// is that one, as far as the file shows.
+// ensures { result ≡ skipped (scope file.entry) call.now.rule
+//     (slice_get (map leaf tokens.now) call.now.name) }
+#[inline]
+pub fn other_macro<'a>(
+    file: File<'_, 'a>,
+    tokens: &[Token<'a>],
+    call: &Call,
+) -> Option<CallReading> {
+    let name = name_at(tokens, call.name);
+    if is_defined(file.macros, name) {
+        return Some(CallReading::RedefinedMacro);
+    }
+    if is_log(call.rule, name) && is_foreign(file.text, offset_at(tokens, call.name)) {
+        return Some(CallReading::ForeignMacro);
+    }
+    None
 }

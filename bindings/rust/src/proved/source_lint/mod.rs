@@ -7,6 +7,7 @@
 pub(crate) mod asm_findings;
 pub(crate) mod assembly;
 pub(crate) mod attributes;
+pub(crate) mod commas;
 pub(crate) mod findings;
 pub(crate) mod form_words;
 pub(crate) mod forms;
@@ -17,11 +18,10 @@ pub(crate) mod lint;
 pub(crate) mod literals;
 pub(crate) mod macros;
 pub(crate) mod messages;
+pub(crate) mod paths;
 pub(crate) mod readings;
 pub(crate) mod report;
 pub(crate) mod spans;
 
 pub use lint::file_faults;
-#[cfg(feature = "std")]
-pub use report::Help;
-pub use report::{CallReading, Finding, Options, Report};
+pub use report::{CallReading, Finding, Help, Label, Options, Report};

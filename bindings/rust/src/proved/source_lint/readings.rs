@@ -4,9 +4,9 @@
 // That source is proved, and each contract here is its. That this text means the same is tested:
 // by results from outside, and beside what is proved (.ci/bindings) and the original (tools/agree).
 
-use crate::proved::call_faults::{call_faults, FormatString, Given};
+use crate::proved::call_faults::{call_faults, FormatArgument, FormatString};
 use crate::proved::format_calls::{
-    arguments, extent_of, format_string, token_at, word, Argument, Call, Part, Rule,
+    arguments, extent_of, format_string, token_at, Argument, Call, Part, Rule,
 };
 use crate::proved::rust_trees::Token;
 use crate::proved::source_lint::assembly::read_asm;
@@ -15,33 +15,11 @@ use crate::proved::source_lint::form_words::put_form;
 use crate::proved::source_lint::forms::{form_here, have_joined};
 use crate::proved::source_lint::givens::givens;
 use crate::proved::source_lint::literals::{appends_newline, dropped_crs, read_literal};
-use crate::proved::source_lint::macros::is_defined;
+use crate::proved::source_lint::macros::{name_at, other_macro, File};
 use crate::proved::source_lint::report::{CallReading, Finding};
 use crate::proved::source_lint::spans::Site;
 use crate::shim::alloc::{AllocError, Global};
 use crate::shim::prelude::*;
-use alloc::collections::BTreeSet;
-
-/// A file, with what its calls are read by.
-#[derive(Clone, Copy)]
-pub struct File<'s, 'a> {
-    /// The text.
-    pub text: &'a str,
-    /// The names of the macros that it defines.
-    pub macros: &'s BTreeSet<&'a [u8]>,
-    /// Whether its edition is 2021 or a later one.
-    pub is_from_2021: bool,
-}
-
-/// Returns the name of a call, without `r#`.
-// ensures { result.now ≡ name_at (map leaf tokens.now) name }
-#[inline]
-fn name_at<'a>(tokens: &[Token<'a>], name: usize) -> &'a [u8] {
-    match token_at(tokens, name) {
-        Some(token) => word(&token),
-        None => b"",
-    }
-}
 
 /// Returns arguments as placeholders refer to them, or none if their number is not known.
 /// Returns `Err` if an allocation fails.
@@ -53,7 +31,7 @@ fn counted_givens<'a>(
     tokens: &[Token<'a>],
     arguments: &[Argument],
     is_counted: bool,
-) -> Result<Vec<Given<'a>>, AllocError> {
+) -> Result<Vec<FormatArgument<'a>>, AllocError> {
     if !is_counted {
         return Ok(Vec::made_in(alloc));
     }
@@ -75,7 +53,7 @@ fn check_string<'c>(
     findings: &mut Vec<Finding>,
     site: Site<'_, '_>,
     string: FormatString<'c>,
-    given: &'c [Given<'c>],
+    given: &'c [FormatArgument<'c>],
     is_counted: bool,
 ) -> Result<(), AllocError> {
     let checked = call_faults(alloc, string, given)?;
@@ -124,8 +102,8 @@ fn read_string(
 #[inline]
 fn captures(rule: Rule, name: &[u8], is_from_2021: bool) -> bool {
     match rule {
-        Rule::ByEdition(_) => is_from_2021 || name != b"unreachable".as_slice(),
-        Rule::At(_) | Rule::AfterFields | Rule::Templates => true,
+        Rule::IndexByEdition(_) => is_from_2021 || name != b"unreachable".as_slice(),
+        Rule::At(_) | Rule::FirstLiteral | Rule::Templates => true,
     }
 }
 
@@ -145,7 +123,7 @@ fn argument_at(arguments: &[Argument], index: usize) -> Option<Argument> {
 // ensures { result ≡ ends_early rule }
 #[inline]
 fn ends_early(rule: Rule) -> bool {
-    matches!(rule, Rule::AfterFields)
+    matches!(rule, Rule::FirstLiteral)
 }
 
 /// Returns the arguments that start before a token, of which the last ends there at the latest.
@@ -289,7 +267,7 @@ fn read_one<'a>(
             let reading = read_asm(alloc, findings, file.text, part, call, arguments)?;
             Ok(reading)
         }
-        Rule::At(_) | Rule::ByEdition(_) | Rule::AfterFields => {
+        Rule::At(_) | Rule::IndexByEdition(_) | Rule::FirstLiteral => {
             let reading = read_at(alloc, findings, file, part, call, arguments, index)?;
             Ok(reading)
         }
@@ -351,8 +329,7 @@ fn index_or(
 // requires { IsPair part.now (call.now.name + 2) call.now.close }
 // ensures read { IfOk result (λ r. (xs : List FindingValue)
 //     × (findings.new.items ≡ findings.old.items ++ xs)
-//     × Reads (names_in file.entry.macros.now) file.entry.is_from_2021 part.now call.now
-//     r xs) }
+//     × Reads (scope file.entry) file.entry.is_from_2021 part.now call.now r xs) }
 // ensures spans { OnOk result (All (HasSpans file.entry.text.now) findings.old.items
 //     → All (HasSpans file.entry.text.now) findings.new.items) }
 #[inline]
@@ -364,10 +341,10 @@ pub fn read_call<'a>(
     call: &Call,
 ) -> Result<CallReading, AllocError> {
     let tokens = part.tokens();
-    let name = name_at(tokens, call.name);
-    if is_defined(file.macros, name) {
-        return Ok(CallReading::Redefined);
+    if let Some(reading) = other_macro(file, tokens, call) {
+        return Ok(reading);
     }
+    let name = name_at(tokens, call.name);
     let Some(arguments) = arguments(alloc, part.source(), call.close)? else {
         return Ok(CallReading::Whole);
     };

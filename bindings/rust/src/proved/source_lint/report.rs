@@ -5,7 +5,7 @@
 // by results from outside, and beside what is proved (.ci/bindings) and the original (tools/agree).
 
 use crate::proved::format_calls::{Reason, Table};
-use crate::proved::rust_trees::BreakAt;
+use crate::proved::rust_trees::FileBreak;
 use crate::shim::prelude::*;
 use core::ops::Range;
 
@@ -26,7 +26,10 @@ pub enum CallReading {
     /// macro repeats some of them.
     StringAlone,
     /// Nothing, since the file defines a macro of this name by `macro_rules!`.
-    Redefined,
+    RedefinedMacro,
+    /// Nothing, since the macro has the name of one of log, tracing or slog, but the path in front
+    /// of it is one of another crate.
+    ForeignMacro,
     /// Nothing, since no expression stands where one of its arguments should, before a comma.
     NoExpression,
     /// Nothing, since no comma stands between two of its expressions.
@@ -104,5 +107,5 @@ pub struct Report {
     /// The faults of these calls, one call after the other.
     pub findings: Vec<Finding>,
     /// Where the file breaks, or `None` if it does not. Calls before that place are read.
-    pub broken: Option<BreakAt>,
+    pub first_break: Option<FileBreak>,
 }

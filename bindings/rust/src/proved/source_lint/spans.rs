@@ -8,6 +8,7 @@ use crate::proved::call_faults::Spot;
 use crate::proved::format_calls::{token_at, Argument};
 use crate::proved::rust_trees::Token;
 use crate::proved::source_lint::literals::offset_in;
+use crate::proved::source_lint::paths::is_in_path;
 use crate::shim::prelude::*;
 use core::ops::Range;
 
@@ -54,12 +55,6 @@ pub fn tokens_range(tokens: &[Token<'_>], from: usize, to: usize) -> Range<usize
         Some(last) => first.start..last.start.saturating_add(last.text.len()),
         None => first.start..first.start,
     }
-}
-
-/// Returns whether a byte of a text may stand in a path beside `::`.
-#[inline]
-fn is_in_path(byte: u8) -> bool {
-    byte.is_ascii_alphanumeric() || byte == b'_' || byte == b'$' || byte >= 0x80
 }
 
 /// Returns the offset of the word that ends at an offset of a text, or that offset if none does.

@@ -79,7 +79,7 @@ impl<'c, 'a> Parse<'c, 'a> {
         Ok(())
     }
 
-    /// Reads a word behind its `--`. Returns whether its value is to come.
+    /// Reads a word after its `--`. Returns whether its value is to come.
     fn read_long(&mut self, rest: &'a str) -> Result<bool, Error> {
         let (name, value) = match rest.split_once('=') {
             Some((name, value)) => (name, Some(value)),
@@ -107,7 +107,7 @@ impl<'c, 'a> Parse<'c, 'a> {
         }
     }
 
-    /// Reads a word behind its `-`. Returns whether its value is to come.
+    /// Reads a word after its `-`. Returns whether its value is to come.
     fn read_short(&mut self, rest: &'a str) -> Result<bool, Error> {
         let (mut letters, command) = (rest.chars(), self.command);
         while let Some(letter) = letters.next() {

@@ -3,7 +3,7 @@ use super::error::ErrorKind;
 use super::suggestions::similar;
 use super::{Arg, ArgAction, Command, Error};
 
-/// The columns of a line of help, and those behind which a text goes to a line of its own.
+/// The columns of a line of help, and those after which a text goes to a line of its own.
 const LINE: usize = 100;
 const MOST: usize = 40;
 
@@ -53,7 +53,7 @@ impl<'a> Arg<'a> {
         }
     }
 
-    /// Returns what help says behind its text.
+    /// Returns the words of help after its text.
     fn details(&self) -> String {
         let mut parts = Vec::new();
         if let Some(value) = self.default.filter(|_| self.takes_value()) {
@@ -91,7 +91,7 @@ impl<'a> Command<'a> {
         found
     }
 
-    /// Returns ids, each behind those that it needs.
+    /// Returns ids, each after those that it needs.
     pub(super) fn with_needs<'b>(&self, ids: &[&'b str]) -> Vec<&'b str>
     where
         'a: 'b,

@@ -1,0 +1,14 @@
+//! A Rust source file with the suggestions of the compiler applied to the faults of its format
+//! strings ([`fixes`]).
+
+// Extracted from crates/file_fixes/src/lib.rt by tools/extract: not to be edited.
+// That source is proved, and each contract here is its. That this text means the same is tested:
+// by results from outside, and beside what is proved (.ci/bindings) and the original (tools/agree).
+
+pub(crate) mod edited;
+pub(crate) mod rounds;
+pub(crate) mod suggestions;
+
+pub use rounds::{fixes, FileFixes};
+#[cfg(feature = "std")]
+pub use suggestions::{is_applicable, suggestion_of, LabelSuggestion};

@@ -1,0 +1,11 @@
+//! The difference of two texts as a unified diff ([`put_diff`]), which `patch -p0` and
+//! `git apply -p0` take.
+
+// Extracted from crates/unified_diff/src/lib.rt by tools/extract: not to be edited.
+// That source is proved, and each contract here is its. That this text means the same is tested:
+// by results from outside, and beside what is proved (.ci/bindings) and the original (tools/agree).
+
+pub(crate) mod hunks;
+pub(crate) mod rows;
+
+pub use hunks::put_diff;
