@@ -26,7 +26,7 @@ NAMED = {"n": b"\n", "t": b"\t", "r": b"\r", "\\": b"\\", "s": b" ", "e": b""}
 LIMIT = 1048576
 SECONDS = 240
 # How many cases there are: one that is lost is a failure.
-CASES = 1489
+CASES = 1490
 USAGE = "usage: formatread format|asm|diagnostic|diagnostic-named [--literal] [--args N,NAME,..]"
 SAYS = {
     "": "",
@@ -48,7 +48,7 @@ def bytes_of(text):
         if name is None:
             return plain.encode()
         if name not in NAMED:
-            raise ValueError(f"nothing known is behind a backslash: {found[0]!r}")
+            raise ValueError(f"nothing known follows a backslash: {found[0]!r}")
         return NAMED[name]
 
     parts = re.finditer(r"(?s)\\x([0-9a-fA-F]{2})|\\(.?)|([^\\]+)", text)
@@ -72,7 +72,7 @@ def listed_cases():
             if line and not line.startswith("# "):
                 try:
                     if len(columns) != 6:
-                        raise ValueError(f"{len(columns)} columns, and not 6")
+                        raise ValueError(f"{len(columns)} columns instead of 6")
                     yield listed(*columns)
                 except ValueError as why:
                     sys.exit(f"{path}:{number}: {why}")
@@ -103,6 +103,7 @@ def made_cases():
         ("empty-word", [b""], b"a", "Words", b"", 2),
         ("word-twice", [b"format", b"format"], b"a", "Words", b"", 2),
         ("word-longer", [b"formats"], b"a", "Words", b"", 2),
+        ("words-too-many", [b"format", b"--literal", b"--args", b"1", b"2"], b'"{}"', "Words", b"", 2),
         ("word-not-text", [b"\xff"], b"a", "Words", b"", 2),
         ("second-word-not-text", [b"format", b"\xff"], b"a", "Words", b"", 2),
         ("words-judged-before-reading", [b"other"], b"", "Words", b"", 2, "read"),
