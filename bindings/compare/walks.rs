@@ -30,13 +30,17 @@ const KINDS: &[(&str, &str, usize, Option<&str>)] = &[
     ("many-lines", "a line {}\n", 64, Some("a line {}\\n")),
     ("continued-lines", "words {}", 64, Some("words {}\\\n    ")),
     ("escapes", "{:?}\té", 64, Some("{:?}\\t\\u{e9}")),
+    ("switched", "{:?}\té", 64, Some("{:?}\\t\\u{e9}")),
     ("lone-brace", "}", 1, None), ("faults", "{_} ", 64, None),
     ("front-faults", "{a.b} ", 64, None),
 ];
 
-/// What is counted of a walk. With `peeks` there is a `peek` before each call.
-fn walk((text, literal): &(String, Option<String>), peeks: bool) -> usize {
+/// What is counted of a walk. In a walk of the kind `peek` or `switched` there is a `peek` before
+/// each call, and in one of `switched` the field `is_source_literal` is set to `false`.
+fn walk((text, literal): &(String, Option<String>), kind: &str) -> usize {
     let mut parser = Parser::new(text, None, literal.clone(), false, ParseMode::Format);
+    let peeks = matches!(kind, "peek" | "switched");
+    parser.is_source_literal &= kind != "switched";
     let (mut pieces, mut peeked) = (0, 0);
     loop {
         if peeks {
@@ -72,5 +76,5 @@ fn main() {
     let count: usize = words.next().and_then(|it| it.parse().ok()).expect("a count");
     let inputs = inputs(&kind, words.next());
     let walks = (0..count).flat_map(|_| &inputs);
-    println!("{}", walks.map(|it| walk(black_box(it), kind == "peek")).sum::<usize>());
+    println!("{}", walks.map(|it| walk(black_box(it), &kind)).sum::<usize>());
 }

@@ -119,6 +119,20 @@ impl<'input> Parser<'input> {
         self.reader.faults.clear();
     }
 
+    /// Makes a call of a parser whose `is_source_literal` has been changed. It looks for the place
+    /// in the literal where the call ends, which the call itself does only if it is `true`: so
+    /// [`Parser::peek`] reads the literal only from there.
+    #[cold]
+    #[inline(never)]
+    fn next_switched(&mut self) -> Option<Piece<'input>> {
+        let is_literal = self.reader.cursor.source.is_literal;
+        self.reader.cursor.source.is_literal = self.is_source_literal;
+        let piece = self.next();
+        self.reader.cursor.move_anchor();
+        self.reader.cursor.source.is_literal = is_literal;
+        piece
+    }
+
     /// Adds the last line of a source literal, unless it is already in the list.
     fn end_line(&mut self) {
         if self.is_source_literal {
@@ -135,8 +149,10 @@ impl<'input> Iterator for Parser<'input> {
 
     fn next(&mut self) -> Option<Piece<'input>> {
         let reader = &mut self.reader;
+        if reader.cursor.source.is_literal != self.is_source_literal {
+            return self.next_switched();
+        }
         reader.curarg = self.curarg;
-        reader.cursor.source.is_literal = self.is_source_literal;
         if reader.is_at_end() {
             self.end_line();
             return None;
