@@ -9,7 +9,8 @@ use Rattle.rustc_parse_format.specs.Characters.{Text}
 use Rattle.rustc_parse_format.specs.World.{Place}
 use Rattle.drawn_faults.specs.Diagnostics.{Diagnostic, Help, Note, SourceLabel, diagnostic_text}
 use Rattle.drawn_faults.specs.Diagnostics.{drawn_in, each_in_line, first_spot, frame_of, gap_after}
-use Rattle.drawn_faults.specs.Diagnostics.{gutter_of, helps_rows, in_line, indented, label_of}
+use Rattle.drawn_faults.specs.Diagnostics.{SourceEdit, gutter_of, help_by, help_row_word}
+use Rattle.drawn_faults.specs.Diagnostics.{helps_rows, in_line, indented, label_of}
 use Rattle.drawn_faults.specs.Diagnostics.{labels_rows, last_edit_line, last_help_line}
 use Rattle.drawn_faults.specs.Diagnostics.{last_label_line, last_line_of, last_note_line}
 use Rattle.drawn_faults.specs.Diagnostics.{level_word, lower, lowest, marked_lines, next_line}
@@ -27,7 +28,7 @@ use Rattle.drawn_labels.specs.Rows.{Mark}
 use Rattle.drawn_lines.specs.declared.paint.Gutter.{Gutter}
 use Rattle.drawn_lines.specs.declared.paint.Palette.{Palette}
 use Rattle.drawn_lines.specs.declared.paint.Palette.TheVariants.{Colourless}
-use Rattle.drawn_lines.specs.declared.paint.Style.TheVariants.{Bold, Primary}
+use Rattle.drawn_lines.specs.declared.paint.Style.TheVariants.{Bold, Primary, Secondary}
 use Rattle.drawn_lines.proofs.Coloured.{either, join, nothing, of_painted, plain}
 use Rattle.drawn_lines.proofs.Harmless.{glyph-harmless, glyphs-harmless, join as join_harmless}
 use Rattle.drawn_lines.proofs.Harmless.{run-harmless, text as harmless_text, written-harmless}
@@ -153,14 +154,28 @@ of_notes p g (n ∷ ns) =
     (of_notes p g ns)
 
 -- helps
+of_help_row_word : (g : Gutter) → IsColourOf (help_row_word g) (help_row_word (off g))
+of_help_row_word g =
+    join (spaces g.columns) (join (text (codes " ") refl)
+    (join (of_painted g.palette Secondary (harmless_text (codes "= ") refl))
+    (join (of_painted g.palette Bold (harmless_text (codes "help") refl))
+    (text (codes ": ") refl))))
+
+of_help : (f : Frame) (t : List ℕ) (es : List SourceEdit)
+    → IsColourOf (help_by f t es) (help_by (plain_frame f) t es)
+unfolding extent
+of_help f t [] =
+    join (of_help_row_word f.gutter) (join (of_indented f.gutter (chars t)) (text (codes "\n") refl))
+of_help f t (e ∷ es) =
+    join (of_help_word f.gutter.palette) (join (of_glyphs t) (join (text (codes "\n") refl)
+    (of_edits f (map (placed_edit f.picture) (e ∷ es)))))
+
 of_helps : (f : Frame) (hs : List Help)
     → IsColourOf (helps_rows f hs) (helps_rows (plain_frame f) hs)
 unfolding extent
 of_helps f [] = nothing
 of_helps f (h ∷ hs) =
-    join (join (of_help_word f.gutter.palette) (join (of_glyphs h.text)
-    (join (text (codes "\n") refl) (of_edits f (map (placed_edit f.picture) h.edits)))))
-    (of_helps f hs)
+    join (of_help f h.text h.edits) (of_helps f hs)
 
 -- the whole
 labels-signs : (p : Picture) (ls : List SourceLabel) → HaveSigns (map (label_of p) ls)

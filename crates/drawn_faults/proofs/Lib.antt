@@ -1,2 +1,3 @@
 pub mod HarmlessDrawings
 pub mod HarmlessDiagnostics
+pub mod ArrowLaws

@@ -24,7 +24,7 @@ use Rattle.drawn_lines.specs.declared.paint.Gutter.{Gutter}
 use Rattle.drawn_lines.specs.declared.paint.Palette.{Palette}
 use Rattle.drawn_lines.specs.declared.paint.Palette.TheVariants.{Colourless, Error, Warning}
 use Rattle.drawn_lines.specs.declared.paint.Palette.TheVariants.{Note as NotePalette}
-use Rattle.drawn_lines.specs.declared.paint.Style.TheVariants.{Bold, Primary}
+use Rattle.drawn_lines.specs.declared.paint.Style.TheVariants.{Bold, Primary, Secondary}
 
 -- A label: its range, whether the diagnostic is about that range, and its text.
 pub record SourceLabel : Type 0 where
@@ -213,11 +213,21 @@ abbrev pub notes_rows : Picture → Gutter → List Note → List ℕ
 notes_rows p g [] = []
 notes_rows p g (n ∷ ns) = shown_note p g n.text (map (shown_label p) n.spans) ++ notes_rows p g ns
 
--- A help and its edits.
+-- The start of a help without edits.
+abbrev pub help_row_word : Gutter → List ℕ
+help_row_word g =
+    run g.columns 32 ++ (codes " " ++ (painted g.palette Secondary (codes "= ")
+    ++ (painted g.palette Bold (codes "help") ++ codes ": ")))
+
+abbrev pub help_by : Frame → List ℕ → List SourceEdit → List ℕ
+help_by f t [] = help_row_word f.gutter ++ (indented f.gutter (chars t) ++ codes "\n")
+help_by f t (e ∷ es) =
+    help_word f.gutter.palette ++ (glyph_bytes t ++ (codes "\n"
+    ++ edits_rows f (map (placed_edit f.picture) (e ∷ es))))
+
+-- A help and its edits. Without any it is a row, as a note is.
 abbrev pub help_rows : Frame → Help → List ℕ
-help_rows f h =
-    help_word f.gutter.palette ++ (glyph_bytes h.text ++ (codes "\n"
-    ++ edits_rows f (map (placed_edit f.picture) h.edits)))
+help_rows f h = help_by f h.text h.edits
 
 -- The helps.
 abbrev pub helps_rows : Frame → List Help → List ℕ

@@ -8,7 +8,7 @@ use Rattle.rustc_parse_format.specs.Faults.{RemoveRawIdent, ReorderFormatParamet
 use Rattle.rustc_parse_format.specs.Faults.{UseRustDebugPrintingMacro}
 use Rattle.fault_fixes.specs.Edits.{offered}
 use Rattle.drawn_lines.specs.Painting.{palette_of}
-use Rattle.drawn_lines.specs.Places.{Picture, extent, line}
+use Rattle.drawn_lines.specs.Places.{Picture, extent}
 use Rattle.drawn_lines.specs.declared.paint.Gutter.{Gutter}
 use Rattle.drawn_lines.specs.declared.paint.Palette.TheVariants.{Error}
 use Rattle.drawn_edits.specs.Edited.{Edit, placed}

@@ -1,12 +1,14 @@
 //! The text that shows a fault under its source. A function whose name begins with `put_` appends
 //! to `out`, and returns `Err` if an allocation fails.
 
-ghost use Rattle.std.specs.Prelude.{◌≡◌, ◌++◌, ◌<◌, ◌^◌, IfOk, IfSome, None, OnOk, length, codes};
+ghost use Rattle.std.specs.Prelude.{◌≡◌, ◌++◌, ◌<◌, ◌^◌, ◌==◌, false, true, IfOk, IfSome, None};
+ghost use Rattle.std.specs.Prelude.{OnOk, length, codes};
 ghost use Rattle.std.specs.Prelude.{option_map, string_bytes};
 ghost use Rattle.rustc_parse_format.specs.Seen.{seen_error, seen_mode};
 ghost use Rattle.drawn_lines.specs.Painting.{IsColourOf, IsHarmlessWith, opening, painted};
 ghost use Rattle.drawn_lines.specs.Places.{seen_picture, uncoloured};
-ghost use Rattle.drawn_faults.specs.Labels.{primary};
+ghost use Rattle.drawn_faults.specs.Arrows.{PointsAt, ShowsLabel};
+ghost use Rattle.drawn_faults.specs.Labels.{primary, second};
 ghost use Rattle.drawn_edits.specs.Edited.{seen_edit};
 ghost use Rattle.drawn_lines.specs.Frames.{seen_frame};
 ghost use Rattle.drawn_labels.specs.Labels.{seen_label};
@@ -291,6 +293,7 @@ fn least_length(picture: &Picture<'_>, error: &ParseError) -> usize {
 /// A span that does not fit is drawn too: an offset inside a character means the start of that
 /// character, one after the source its end, and a range that ends before it begins is empty.
 /// Returns `Err` if an allocation fails, or if the source has 2^59 bytes or more.
+#[tactic(auto, using(crate::proofs::ArrowLaws::shown_label))]
 pub fn draw(
     alloc: Global,
     mode: ParseMode,
@@ -304,6 +307,17 @@ pub fn draw(
     ensures coloured { IfOk result (λ s. IsColourOf (string_bytes s)
         (drawing (seen_mode mode) (uncoloured (seen_picture picture.now)) (seen_error error.now))) }
     ensures harmless { IfOk result (λ s. IsHarmlessWith picture.now.colours (string_bytes s)) }
+    // The line and the column that it names are those of the span's first character in the source.
+    ensures arrow { IfOk result (λ s. PointsAt (seen_mode mode) (seen_picture picture.now)
+        (seen_error error.now) (string_bytes s)) }
+    // Of a span in one line, with no other label, it shows that line, and under it the span's signs
+    // in the columns of the span, and no sign elsewhere.
+    ensures label { IfOk result (λ s. picture.now.colours ≡ false
+        → second (seen_mode mode) (seen_picture picture.now) (seen_error error.now) ≡ None
+        → (let e = (primary (seen_mode mode) (seen_picture picture.now)
+        (seen_error error.now)).extent in (e.start.line == e.end.line) ≡ true)
+        → ShowsLabel (seen_mode mode) (seen_picture picture.now) (seen_error error.now)
+        (string_bytes s)) }
 {
     let mut out = String::new(alloc);
     put_drawing(&mut out, mode, picture, error)?;

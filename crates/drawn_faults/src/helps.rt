@@ -1,17 +1,19 @@
 //! Helps of a diagnostic. A function whose name begins with `put_` appends to `out`, and returns
 //! `Err` if an allocation fails.
 
-ghost use Rattle.std.specs.Prelude.{◌≡◌, ◌++◌, ◌<◌, ◌^◌, IfOk, OnOk, length, map, string_bytes};
-ghost use Rattle.drawn_faults.specs.Diagnostics.{help_rows, helps_rows, last_help_line};
-ghost use Rattle.drawn_faults.specs.Diagnostics.{placed_edit};
+ghost use Rattle.std.specs.Prelude.{◌≡◌, ◌++◌, ◌<◌, ◌^◌, IfOk, OnOk, chars, codes, length};
+ghost use Rattle.std.specs.Prelude.{map, string_bytes};
+ghost use Rattle.drawn_faults.specs.Diagnostics.{help_row_word, help_rows, helps_rows, indented};
+ghost use Rattle.drawn_faults.specs.Diagnostics.{last_help_line, placed_edit};
 ghost use Rattle.drawn_edits.specs.Edited.{seen_edit};
 ghost use Rattle.drawn_lines.specs.Frames.{seen_frame};
 ghost use Rattle.drawn_lines.specs.Places.{seen_picture};
 ghost use Rattle.drawn_faults.specs.SeenDiagnostics.{seen_help, seen_source_edit};
 
 use crate::marked::last_edit_line;
+use crate::notes::put_indented;
 use drawn_edits::{Edit, placed, put_edits, put_help_word};
-use drawn_lines::{Frame, Picture, put_glyphs};
+use drawn_lines::{Frame, Gutter, Picture, Style, put_glyphs, put_painted, put_run};
 use fault_fixes::Edit as SourceEdit;
 use std::alloc::{AllocError, Global};
 
@@ -63,12 +65,40 @@ pub fn last_help_line(
     Ok(line)
 }
 
+/// Adds the start of a help without edits.
+#[tactic(auto, using(std::proofs::Common::append_assoc))]
+fn put_help_row_word(out: &mut String, gutter: Gutter) -> Result<(), AllocError>
+    ensures { OnOk result (string_bytes out.new ≡ string_bytes out.old ++ help_row_word gutter) }
+{
+    put_run(out, ' ', gutter.columns)?;
+    out.push_str(" ")?;
+    put_painted(out, gutter.palette, Style::Secondary, "= ")?;
+    put_painted(out, gutter.palette, Style::Bold, "help")?;
+    out.push_str(": ")?;
+    Ok(())
+}
+
+/// Adds a help without edits, as a row.
+fn put_help_row(out: &mut String, gutter: Gutter, text: &str) -> Result<(), AllocError>
+    ensures { OnOk result (string_bytes out.new ≡ string_bytes out.old
+        ++ (help_row_word gutter ++ (indented gutter (chars text.now) ++ codes "\n"))) }
+{
+    put_help_row_word(out, gutter)?;
+    put_indented(out, gutter, text)?;
+    out.push_str("\n")?;
+    Ok(())
+}
+
 /// Adds a help and its edits.
 fn put_help(out: &mut String, frame: &Frame<'_>, help: &SourceHelp<'_>) -> Result<(), AllocError>
     requires { length frame.now.picture.now.source.now < 2 ^ 59 }
     ensures { OnOk result (string_bytes out.new ≡ string_bytes out.old
         ++ help_rows (seen_frame frame.now) (seen_help help.now)) }
 {
+    if help.edits.is_empty() {
+        put_help_row(out, frame.gutter, help.text)?;
+        return Ok(());
+    }
     put_help_word(out, frame.gutter.palette)?;
     put_glyphs(out, help.text, 0)?;
     out.push_str("\n")?;

@@ -111,7 +111,7 @@ fn put_margin(out: &mut String, gutter: Gutter, c: char) -> Result<(), AllocErro
 }
 
 /// Adds a text whose lines but the first one begin with a margin.
-fn put_indented(out: &mut String, gutter: Gutter, text: &str) -> Result<(), AllocError>
+pub fn put_indented(out: &mut String, gutter: Gutter, text: &str) -> Result<(), AllocError>
     ensures { OnOk result (string_bytes out.new
         ≡ string_bytes out.old ++ indented gutter (chars text.now)) }
 {

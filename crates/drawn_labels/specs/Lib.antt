@@ -3,3 +3,4 @@ pub mod Labels
 pub mod Margins
 pub mod Long
 pub mod Marks
+pub mod Signs

@@ -1,11 +1,14 @@
 //! Labels of ranges of the source, and lines with one or two of them. A function whose name begins
 //! with `put_` appends to `out`, and returns `Err` if an allocation fails.
 
-ghost use Rattle.std.specs.Prelude.{◌≡◌, ◌++◌, ◌<◌, ◌^◌, OnOk, length, string_bytes};
+ghost use Rattle.std.specs.Prelude.{◌≡◌, ◌++◌, ◌<◌, ◌≤◌, ◌^◌, [], ◌∷◌, OnOk, false, length};
+ghost use Rattle.std.specs.Prelude.{string_bytes};
 ghost use Rattle.drawn_lines.specs.Frames.{seen_frame};
+ghost use Rattle.drawn_lines.specs.Painting.{has_colours};
 ghost use Rattle.drawn_labels.specs.Labels.{apart, labelled, mark, mark_in, seen_label};
 ghost use Rattle.drawn_labels.specs.Labels.{two_labels};
 ghost use Rattle.drawn_labels.specs.Rows.{seen_mark};
+ghost use Rattle.drawn_labels.specs.Signs.{AddsLabels, AddsTwo, IsNarrow};
 
 use crate::mark::Mark;
 use crate::rows::{put_both, put_one};
@@ -62,8 +65,14 @@ pub fn mark_in<'a>(frame: &Frame<'_>, label: &Label<'a>) -> Mark<'a>
 #[tactic(auto, unfolding(crate::specs::Labels::labelled))]
 pub fn put_labelled(out: &mut String, frame: &Frame<'_>, mark: &Mark<'_>) -> Result<(), AllocError>
     requires { mark.now.line < 2 ^ 61 }
-    ensures { OnOk result (string_bytes out.new ≡ string_bytes out.old
+    ensures rows { OnOk result (string_bytes out.new ≡ string_bytes out.old
         ++ labelled (seen_frame frame.now) (seen_mark mark.now)) }
+    // Without colours they are the line of the label, and under it the label's signs in its
+    // columns, and no sign elsewhere.
+    ensures signs { OnOk result (has_colours frame.now.gutter.palette ≡ false
+        → mark.now.from ≤ mark.now.to
+        → AddsLabels (seen_frame frame.now) mark.now.line (seen_mark mark.now ∷ [])
+        (string_bytes out.old) (string_bytes out.new)) }
 {
     put_code(out, frame, mark.line)?;
     put_one(out, frame.gutter, mark)?;
@@ -99,8 +108,15 @@ pub fn put_two_labels(
 ) -> Result<(), AllocError>
     requires number { m.now.line < 2 ^ 60 }
     requires second_number { n.now.line < 2 ^ 60 }
-    ensures { OnOk result (string_bytes out.new ≡ string_bytes out.old
+    ensures rows { OnOk result (string_bytes out.new ≡ string_bytes out.old
         ++ two_labels (seen_frame frame.now) (seen_mark m.now) (seen_mark n.now)) }
+    // Without colours they are the lines of the labels, and under these the signs of the labels in
+    // their columns, and no sign elsewhere.
+    ensures signs { OnOk result (has_colours frame.now.gutter.palette ≡ false
+        → m.now.from ≤ m.now.to → n.now.from ≤ n.now.to
+        → IsNarrow m.now.text.now → IsNarrow n.now.text.now
+        → AddsTwo (seen_frame frame.now) (seen_mark m.now) (seen_mark n.now)
+        (string_bytes out.old) (string_bytes out.new)) }
 {
     if m.line == n.line {
         put_code(out, frame, m.line)?;

@@ -7,6 +7,7 @@ ghost use Rattle.drawn_labels.specs.Marks.{put_from, rows_below, rows_of, seen_h
 ghost use Rattle.drawn_labels.specs.Marks.{sign_row, signs_of, with_bar, with_hung_text};
 ghost use Rattle.drawn_labels.specs.Marks.{with_side_text, with_signs};
 ghost use Rattle.drawn_labels.specs.Rows.{seen_mark, written};
+ghost use Rattle.drawn_labels.specs.Signs.{AddsRows};
 ghost use Rattle.drawn_lines.specs.Lines.{under};
 
 use crate::cells::{
@@ -196,10 +197,13 @@ fn put_rows_of(
 }
 
 /// Adds the rows under a line, of labels in it from right to left.
-#[tactic(auto, unfolding(crate::specs::Marks::mark_rows))]
+#[tactic(auto, using(crate::proofs::SignLaws::adds_rows), unfolding(crate::specs::Marks::mark_rows),)]
 pub fn put_mark_rows(out: &mut String, gutter: Gutter, marks: &[Mark<'_>]) -> Result<(), AllocError>
-    ensures { OnOk result (string_bytes out.new ≡ string_bytes out.old
+    ensures rows { OnOk result (string_bytes out.new ≡ string_bytes out.old
         ++ mark_rows gutter (map seen_mark marks.now)) }
+    // Under the columns of the labels are their signs, and no sign is elsewhere.
+    ensures signs { OnOk result (AddsRows gutter (map seen_mark marks.now)
+        (string_bytes out.old) (string_bytes out.new)) }
 {
     let hung = hang(*out.allocator(), marks)?;
     put_rows_of(out, gutter, marks, &hung)?;

@@ -8,3 +8,4 @@ pub mod Cuts
 pub mod Harmless
 pub mod Coloured
 pub mod HarmlessLines
+pub mod PositionLaws

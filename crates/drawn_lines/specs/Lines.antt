@@ -1,5 +1,6 @@
 -- Lines of the source and gutters of rows, as bytes.
-use Rattle.std.specs.Prelude.{ℕ, ◌+◌, ◌-◌, ◌==◌, ◌&&◌, ◌++◌, if◌then◌else◌, nat_lt, List, []}
+use Rattle.std.specs.Prelude.{◌≡◌, ◌≤◌, ℕ, ◌+◌, ◌-◌, ◌==◌, ◌&&◌, ◌++◌, if◌then◌else◌, nat_lt, List}
+use Rattle.std.specs.Prelude.{[]}
 use Rattle.std.specs.Prelude.{length, chars, codes, decimal}
 use Rattle.std.specs.Str.{encode_utf8_all}
 use Rattle.rustc_parse_format.specs.Characters.{Text}
@@ -7,6 +8,7 @@ use Rattle.drawn_lines.specs.Glyphs.{glyphs, run}
 use Rattle.drawn_lines.specs.Painting.{closing, opening, painted}
 use Rattle.drawn_lines.specs.Places.{line}
 use Rattle.drawn_lines.specs.Frames.{Frame}
+use Rattle.drawn_lines.specs.Positions.{IsLine, line_feeds}
 use Rattle.drawn_lines.specs.Windows.{dots, shown}
 use Rattle.drawn_lines.specs.declared.paint.Palette.{Palette}
 use Rattle.drawn_lines.specs.declared.paint.Style.TheVariants.{Secondary}
@@ -61,3 +63,11 @@ gap f first last =
 -- The row between two parts of the drawing.
 unfoldable pub parting : Frame → List ℕ
 parting f = blank f.gutter ++ codes "\n"
+
+-- A row is added to a text that shows the line of the source with this number, cut to the window:
+-- its number, and after the bar the line, after a text in front of it.
+pub record AddsLine (f : Frame) (front : List ℕ) (n : ℕ) (old new : List ℕ) : Type 0 where
+  pub text : List ℕ
+  pub is_line : n ≤ line_feeds f.picture.source → IsLine n f.picture.source text
+  pub whole : new ≡ old ++ (number_bar f n
+      ++ (after_bar f.gutter.palette front f.window (chars text) ++ codes "\n"))

@@ -5,6 +5,7 @@
 mod extent;
 mod frame;
 mod glyphs;
+pub mod laws;
 mod lines;
 mod paint;
 mod places;

@@ -3,7 +3,8 @@
 
 ghost use Rattle.std.specs.Prelude.{◌≡◌, ◌++◌, ◌<◌, ◌^◌, OnOk, chars, codes, decimal, string_bytes};
 ghost use Rattle.drawn_lines.specs.Frames.{seen_frame};
-ghost use Rattle.drawn_lines.specs.Lines.{after_bar, blank, code_row, gap, number_bar, numbered};
+ghost use Rattle.drawn_lines.specs.Lines.{AddsLine, after_bar, blank, code_row, gap, number_bar};
+ghost use Rattle.drawn_lines.specs.Lines.{numbered};
 ghost use Rattle.drawn_lines.specs.Lines.{parting, source_line, source_row};
 
 use crate::frame::{Frame, digits};
@@ -135,10 +136,14 @@ pub fn put_source(
 }
 
 /// Adds a line of the source.
+#[tactic(auto, using(crate::proofs::PositionLaws::adds_line))]
 pub fn put_code(out: &mut String, frame: &Frame<'_>, number: usize) -> Result<(), AllocError>
     requires { number < 2 ^ 61 }
-    ensures { OnOk result (string_bytes out.new ≡ string_bytes out.old
+    ensures row { OnOk result (string_bytes out.new ≡ string_bytes out.old
         ++ code_row (seen_frame frame.now) number) }
+    // The line that the row shows is that line of the source.
+    ensures line { OnOk result (AddsLine (seen_frame frame.now) (codes " ") number
+        (string_bytes out.old) (string_bytes out.new)) }
 {
     put_source(out, frame, " ", number)?;
     Ok(())

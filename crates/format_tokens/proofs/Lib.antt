@@ -13,6 +13,7 @@ pub mod Ordinary
 pub mod Positions
 pub mod Progress
 pub mod ReadingBack
+pub mod SequenceLaws
 pub mod Skipping
 pub mod Specifications
 pub mod Starts

@@ -1,13 +1,15 @@
 //! Theorems about the definitions alone, each as the contract of a function that does nothing.
 
-ghost use Rattle.std.specs.Prelude.{◌≡◌, ℕ, Bool, List, false};
+ghost use Rattle.std.specs.Prelude.{◌≡◌, ℕ, Bool, List, false, map};
 ghost use Rattle.rustc_parse_format.specs.Characters.{Text};
 ghost use Rattle.rustc_parse_format.specs.Grammar.{Reads, piece_values};
 ghost use Rattle.rustc_parse_format.specs.Source.{unappended};
 ghost use Rattle.rustc_parse_format.specs.Syntax.{PieceText};
 ghost use Rattle.rustc_parse_format.specs.Types.{Mode, Piece, wants_names};
 ghost use Rattle.format_tokens.specs.Culprits.{marked};
+ghost use Rattle.format_tokens.specs.Escapes.{Placed, parts};
 ghost use Rattle.format_tokens.specs.Placed.{shown};
+ghost use Rattle.format_tokens.specs.Sequences.{apart, is_sequence, sequence, sequences};
 ghost use Rattle.format_tokens.specs.Tokens.{joined, pieces_tokens};
 ghost use Rattle.format_tokens.specs.Walk.{IsWritten, tokens_of};
 
@@ -26,4 +28,13 @@ pub fn spelled()
         → tokens_of mode t ≡ marked (wants_names mode) false (pieces_tokens xs) }
     ensures reading { (mode : Mode) (t : Text) (ps : List (Piece (Unit {0}))) → Reads mode 0 t ps
         → (xs : List PieceText) × IsWritten mode t xs × (piece_values 0 xs ≡ ps) }
+{}
+
+/// States that the tokens of kind `EscapeSequence` are the escapes of the literal: a token of
+/// another kind, over this source text, is cut so that each escape in it that is in text or
+/// continues a line is such a token, over the bytes of this escape, and there are no others. Does
+/// nothing.
+pub fn escapes()
+    ensures { (x : Placed) (t : Text) → is_sequence x.0 ≡ false
+        → sequences (parts x t) ≡ map (sequence x.1.1) (apart x.0 t) }
 {}

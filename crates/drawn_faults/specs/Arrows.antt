@@ -1,0 +1,49 @@
+-- What a drawing shows of the source, said by the source: the theorems on drawings are about this.
+use Rattle.std.specs.Prelude.{◌≡◌, ℕ, ◌+◌, ◌++◌, List, ◌∷◌, [], codes, decimal, chars}
+use Rattle.rustc_parse_format.specs.Faults.{Message}
+use Rattle.rustc_parse_format.specs.Types.{Mode}
+use Rattle.rustc_parse_format.specs.World.{Place}
+use Rattle.fault_fixes.specs.Edits.{offered}
+use Rattle.drawn_lines.specs.Frames.{Frame}
+use Rattle.drawn_lines.specs.Glyphs.{glyph_bytes, run}
+use Rattle.drawn_lines.specs.Painting.{painted, palette_of}
+use Rattle.drawn_lines.specs.Places.{Picture, offset}
+use Rattle.drawn_lines.specs.Positions.{IsSpot}
+use Rattle.drawn_lines.specs.declared.extent.Spot.{Spot}
+use Rattle.drawn_lines.specs.declared.paint.Palette.TheVariants.{Error}
+use Rattle.drawn_lines.specs.declared.paint.Style.TheVariants.{Secondary}
+use Rattle.drawn_labels.specs.Labels.{mark_in}
+use Rattle.drawn_labels.specs.Signs.{AddsLabels}
+use Rattle.drawn_faults.specs.Drawing.{below, head, title}
+use Rattle.drawn_faults.specs.Labels.{edit_of, primary}
+
+-- A spot as an arrow names it: the path, the line, and the column, which counts characters from 1.
+abbrev pub named : Picture → Spot → List ℕ
+named p at =
+    glyph_bytes p.path
+    ++ (codes ":" ++ (decimal (p.line_start + at.line)
+    ++ (codes ":" ++ (decimal (at.chars + 1) ++ codes "\n"))))
+
+-- Under the title of an error the arrow names the spot of the first character of its span, which
+-- the source has.
+pub record PointsAt (mode : Mode) (p : Picture) (m : Message Place) (text : List ℕ) : Type 0 where
+  pub at : Spot
+  pub is_spot : IsSpot (offset p m.span.0) (chars p.source) at
+  pub columns : ℕ
+  pub below : List ℕ
+  pub whole : text ≡ title (palette_of p.colours Error) mode m.description
+      ++ (run columns 32 ++ (painted (palette_of p.colours Error) Secondary (codes "--> ")
+      ++ (named p at ++ below)))
+
+-- Between its head and the rows below, a drawing with one label has the line in which the span
+-- begins, and under that the signs of the label.
+pub record ShowsLabel (mode : Mode) (p : Picture) (m : Message Place) (text : List ℕ)
+    : Type 0 where
+  pub layout : Frame
+  pub is_of : layout.picture ≡ p
+  pub mid : List ℕ
+  pub label : AddsLabels layout (primary mode p m).extent.start.line
+      (mark_in layout (primary mode p m) ∷ [])
+      (head mode layout m.description (primary mode p m).extent.start) mid
+  pub whole : text ≡ mid
+      ++ (below layout m.note (edit_of p (offered mode m.suggestion)) ++ codes "\n")
