@@ -1,5 +1,13 @@
-use Rattle.std.proofs.Common.{length, ◌-◌}
+use Rattle.std.proofs.Common.{◌≡◌, ◌++◌, length}
+use Rattle.unified_diff.specs.Rows.{joined, new_text, old_text}
 use Rattle.unified_diff.proofs.rows.push_middle.Given as goal
 
-abbrev pub decreases-loop-at : goal.decreases-loop-at
-decreases-loop-at l = length l.old - l.at
+-- With the lines that are left the texts become what they do with all.
+abbrev pub invariant-loop-pair : goal.invariant-loop-pair
+invariant-loop-pair l = record {
+  old : old_text l.rows.items ++ joined l.olds ≡ old_text l.fn.rows.items ++ joined l.fn.old;
+  new : new_text l.rows.items ++ joined l.news ≡ new_text l.fn.rows.items ++ joined l.fn.new;
+}
+
+abbrev pub decreases-loop-pair : goal.decreases-loop-pair
+decreases-loop-pair l = length l.olds

@@ -1,0 +1,116 @@
+use Rattle.std.proofs.Common.{◌≡◌, ◌++◌, ◌+◌, [], arith, drop, refl, rules, string_bytes}
+use Rattle.std.proofs.Common.{take}
+use Rattle.std.proofs.lemmas.List.{append-nil}
+use Rattle.unified_diff.specs.Diffs.{hunk_text, new_count, old_count, rows_of}
+use Rattle.unified_diff.proofs.Counts.{new_count-none, old_count-none}
+use Rattle.unified_diff.proofs.Parts.{SoFar-more, are_shared-take, hunks_text-none}
+use Rattle.unified_diff.proofs.Parts.{leave_out_shared-none, new_fits, old_fits}
+use Rattle.unified_diff.proofs.Parts.{rows_of-none}
+use Rattle.unified_diff.proofs.hunks.put_hunks.Goals as goal
+
+pub loop-shared-init : goal.loop-shared-init
+loop-shared-init c = record {
+  parts = [];
+  shared = leave_out_shared-none;
+  rows = rw rows_of-none refl;
+  old_is = rw (rows_of-none, old_count-none) refl;
+  new_is = rw (rows_of-none, new_count-none) refl;
+  text = rw (hunks_text-none, append-nil) refl;
+}
+
+pub after-start-requires-clause-old : goal.after-start-requires-clause-old
+after-start-requires-clause-old c =
+    let it = c.loop-shared.invariant in
+    let fits = old_fits (rows_of it.parts) c.loop-shared.rest.now c.args.rows.now
+    c.saturating_sub-left_out.result 0 it.rows in
+    rw (c.front.ensures, it.old_is) (omega arith)
+
+pub after-start-requires-clause-new : goal.after-start-requires-clause-new
+after-start-requires-clause-new c =
+    let it = c.loop-shared.invariant in
+    let fits = new_fits (rows_of it.parts) c.loop-shared.rest.now c.args.rows.now
+    c.saturating_sub-left_out.result 0 it.rows in
+    rw (c.front.ensures, it.new_is) (omega arith)
+
+pub put_hunk-requires-clause-old : goal.put_hunk-requires-clause-old
+put_hunk-requires-clause-old c =
+    let it = c.loop-shared.invariant in
+    let fits = old_fits (rows_of it.parts) c.loop-shared.rest.now c.args.rows.now
+    c.saturating_sub-left_out.result c.hunk_len-length.result it.rows in
+    rw (
+      c.after-start.ensures.old,
+      it.old_is,
+      c.front-hunk.ensures,
+      c.rest_after-others.ensures,
+      c.front.ensures,
+    ) (omega arith)
+
+pub put_hunk-requires-clause-new : goal.put_hunk-requires-clause-new
+put_hunk-requires-clause-new c =
+    let it = c.loop-shared.invariant in
+    let fits = new_fits (rows_of it.parts) c.loop-shared.rest.now c.args.rows.now
+    c.saturating_sub-left_out.result c.hunk_len-length.result it.rows in
+    rw (
+      c.after-start.ensures.new,
+      it.new_is,
+      c.front-hunk.ensures,
+      c.rest_after-others.ensures,
+      c.front.ensures,
+    ) (omega arith)
+
+pub after-before-requires-clause-old : goal.after-before-requires-clause-old
+after-before-requires-clause-old c =
+    let it = c.loop-shared.invariant in
+    let fits = old_fits (rows_of it.parts) c.loop-shared.rest.now c.args.rows.now
+    c.saturating_sub-left_out.result c.hunk_len-length.result it.rows in
+    rw (
+      c.after-start.ensures.old,
+      it.old_is,
+      c.front-hunk.ensures,
+      c.rest_after-others.ensures,
+      c.front.ensures,
+    ) (omega arith)
+
+pub after-before-requires-clause-new : goal.after-before-requires-clause-new
+after-before-requires-clause-new c =
+    let it = c.loop-shared.invariant in
+    let fits = new_fits (rows_of it.parts) c.loop-shared.rest.now c.args.rows.now
+    c.saturating_sub-left_out.result c.hunk_len-length.result it.rows in
+    rw (
+      c.after-start.ensures.new,
+      it.new_is,
+      c.front-hunk.ensures,
+      c.rest_after-others.ensures,
+      c.front.ensures,
+    ) (omega arith)
+
+pub loop-shared-preserved : goal.loop-shared-preserved
+loop-shared-preserved c =
+    let n = c.saturating_sub-left_out.result in
+    let m = c.hunk_len-length.result in
+    let rest = c.loop-shared.rest.now in
+    let text : string_bytes c.put_hunk.new.out ≡ string_bytes c.loop-shared.out
+    ++ hunk_text (c.loop-shared.before.old + old_count (take n rest))
+    (c.loop-shared.before.new + new_count (take n rest)) (take m (drop n rest)) =
+    rw (
+      c.in_ok-put_hunk.ensures,
+      c.after-start.ensures.old,
+      c.after-start.ensures.new,
+      c.front-hunk.ensures,
+      c.rest_after-others.ensures,
+      c.front.ensures,
+    ) refl in
+    rw (
+      c.after-before.ensures.old,
+      c.after-before.ensures.new,
+      c.after-start.ensures.old,
+      c.after-start.ensures.new,
+      c.rest_after-rest.ensures,
+      c.front-hunk.ensures,
+      c.rest_after-others.ensures,
+      c.front.ensures,
+    )
+    (SoFar-more c.args.rows.now rest c.loop-shared.before.old c.loop-shared.before.new n m
+    (string_bytes c.args.out.now) (string_bytes c.loop-shared.out) (string_bytes c.put_hunk.new.out)
+    c.loop-shared.invariant (are_shared-take n c.in-Some.shared rest (search rules) (search rules))
+    text)

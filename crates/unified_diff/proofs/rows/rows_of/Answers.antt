@@ -1,0 +1,31 @@
+use Rattle.std.proofs.Common.{◌∙◌, ap}
+use Rattle.unified_diff.specs.Rows.{new_text, old_text}
+use Rattle.unified_diff.proofs.Texts.{joined-split, new_text-none, old_text-none}
+use Rattle.unified_diff.proofs.rows.rows_of.Goals as goal
+
+pub returns-clause-old : goal.returns-clause-old
+returns-clause-old c =
+    let olds = c.in_ok-olds.olds.items in
+    let start = ap (λ rs. old_text rs) c.new-rows.ensures.items ∙ old_text-none in
+    rw (
+      c.in_ok-push_lines.ensures.old,
+      c.in_ok-push_middle.ensures.old,
+      start,
+      c.front.ensures,
+      c.rest_after.ensures,
+      c.as_slice-lines.ensures.value,
+    ) (joined-split _ olds ∙ c.in_ok-olds.ensures)
+
+pub returns-clause-new : goal.returns-clause-new
+returns-clause-new c =
+    let news = c.in_ok-news.news.items in
+    let start = ap (λ rs. new_text rs) c.new-rows.ensures.items ∙ new_text-none in
+    rw (
+      c.in_ok-push_lines.ensures.new,
+      c.in_ok-push_middle.ensures.new,
+      start,
+      c.front-2.ensures,
+      c.rest_after.ensures,
+      c.common_end-end.ensures.same,
+      c.as_slice-others.ensures.value,
+    ) (joined-split _ news ∙ c.in_ok-news.ensures)
