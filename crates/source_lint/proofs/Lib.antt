@@ -20,5 +20,6 @@ pub mod Operands
 pub mod PathWords
 pub mod Reporting
 pub mod Telling
+pub mod Texts
 pub mod Undefined
 pub mod Widths

@@ -9,7 +9,7 @@ use Rattle.rust_trees.specs.Leaves.{Leaf}
 use Rattle.format_calls.specs.declared.split.Argument.{Argument}
 use Rattle.format_calls.specs.declared.table.Rule.{Rule}
 use Rattle.format_calls.specs.Arguments.{tokens_of}
-use Rattle.source_lint.specs.Forms.{form_here, form_if, lacks_string}
+use Rattle.source_lint.specs.Forms.{ends, form_here, form_if, lacks_string}
 use Rattle.source_lint.proofs.Embedding.{Embeds}
 use Rattle.source_lint.proofs.MovedArguments.{LiesIn, shifted}
 
@@ -70,6 +70,14 @@ lacks-same w g close (a ∷ []) =
     ap (λ t. bytes_eq w (codes "write") && not t) (same-length g a.end close)
 lacks-same w g close (a ∷ b ∷ bs) = refl
 
+ends-same : (g close : ℕ) (bs : List Argument)
+    → ends (g + close) (map (shifted g) bs) ≡ ends close bs
+unfolding ends
+ends-same g close [] = refl
+ends-same g close (b ∷ bs) =
+    ap (λ t. t ∷ ends (g + close) (map (shifted g) bs)) (same-length g b.end close)
+    ∙ ap (λ v. (b.end == close) ∷ v) (ends-same g close bs)
+
 -- The same is wrong.
 pub form-same : (is_new : Bool) (w : List ℕ) (r : Rule) (xs ys : List Leaf) (g from to : ℕ)
     (bs : List Argument) → Embeds xs ys g → to < length xs
@@ -79,4 +87,7 @@ pub form-same : (is_new : Bool) (w : List ℕ) (r : Rule) (xs ys : List Leaf) (g
 form-same is_new w r xs ys g from to bs e h l =
     ap (λ ps. form_here is_new w r (g + to) (map (shifted g) bs) ps)
     (parts-same xs ys g from to bs e h l)
-    ∙ ap (λ b. form_if is_new w r b (map (tokens_of xs) bs)) (lacks-same w g to bs)
+    ∙ (ap (λ b. form_if is_new w r b (ends (g + to) (map (shifted g) bs)) (map (tokens_of xs) bs))
+    (lacks-same w g to bs)
+    ∙ ap (λ v. form_if is_new w r (lacks_string w to bs) v (map (tokens_of xs) bs))
+    (ends-same g to bs))

@@ -20,10 +20,12 @@ use Rattle.source_lint.specs.declared.report.CallReading.{CallReading}
 use Rattle.source_lint.specs.declared.report.Finding.{Finding}
 use Rattle.source_lint.specs.Literals.{appends_newline}
 use Rattle.source_lint.specs.FormWords.{TellsForms}
-use Rattle.source_lint.specs.Forms.{form_here, joined}
+use Rattle.source_lint.specs.Expressions.{joined}
+use Rattle.source_lint.specs.Forms.{form_here}
 use Rattle.source_lint.specs.Readings.{Reads, ReadsAt, ReadsBy, ReadsOne, ReadsUnless, captures}
 use Rattle.source_lint.specs.Readings.{ends_early}
-use Rattle.source_lint.specs.Readings.{has_expressions, index_if, index_or, is_empty, name_at}
+use Rattle.source_lint.specs.Readings.{has_expressions, index_if, index_or, is_empty}
+use Rattle.source_lint.specs.Readings.{lack_expression, name_at}
 use Rattle.source_lint.specs.Readings.{Scope, name_of_leaf, skipped}
 use Rattle.source_lint.proofs.Calling.{reads-by}
 use Rattle.source_lint.proofs.Embedding.{Embeds}
@@ -112,13 +114,14 @@ index-same : (xs ys : List Leaf) (g from to : ℕ) (r : Rule) (bs : List Argumen
     → Embeds xs ys g → to < length xs → AllByRecursion (λ a. LiesIn from to a) bs
     → index_or is_new ys r (map (shifted g) bs) ≡ index_or is_new xs r bs
 index-same xs ys g from to r bs is_new e w l =
-    ap (λ b. index_if b (has_expressions r && list_any (λ p. is_some (joined p))
+    ap (λ b. index_if (b || lack_expression r (map (tokens_of ys) (map (shifted g) bs)))
+    (has_expressions r && list_any (λ p. is_some (joined p))
     (map (tokens_of ys) (map (shifted g) bs)))
     (format_string ys r (map (shifted g) bs) is_new)) (empty-same g bs)
-    ∙ (ap (λ ps. index_if (list_any is_empty bs)
+    ∙ (ap (λ ps. index_if (list_any is_empty bs || lack_expression r ps)
     (has_expressions r && list_any (λ p. is_some (joined p)) ps)
     (format_string ys r (map (shifted g) bs) is_new)) (parts-same xs ys g from to bs e w l)
-    ∙ ap (λ o. index_if (list_any is_empty bs)
+    ∙ ap (λ o. index_if (list_any is_empty bs || lack_expression r (map (tokens_of xs) bs))
     (has_expressions r && list_any (λ p. is_some (joined p)) (map (tokens_of xs) bs)) o)
     (string-same xs ys g from to r bs is_new e w l))
 

@@ -1,43 +1,38 @@
--- The commas that are missing after format strings.
+-- The commas that are missing, and the tokens that rustc expects instead of what stands there.
 use Prim.Native.Char.{code}
-use Rattle.std.specs.Prelude.{Bool, false, ◌&&◌, ◌||◌, List, [], ◌∷◌, Option, Some, None}
-use Rattle.std.specs.Prelude.{slice_get, if◌then◌else◌}
+use Rattle.std.specs.Prelude.{ℕ, Bool, false, ◌&&◌, ◌||◌, ◌-◌, not, List, [], ◌∷◌}
+use Rattle.std.specs.Prelude.{Option, Some, None, codes, slice_get, if◌then◌else◌}
 use Rattle.std.specs.Str.{bytes_eq}
 use Rattle.rust_trees.specs.Leaves.{Leaf}
-use Rattle.rust_trees.specs.Sides.{is_punct}
-use Rattle.format_calls.specs.Marks.{is_mark_of}
-use Rattle.format_calls.specs.Modes.{is_joint}
-use Rattle.format_calls.specs.Strings.{is_text_leaf}
+use Rattle.format_calls.specs.Marks.{is_mark_of, is_word}
+use Rattle.format_calls.specs.Modes.{is_text}
+use Rattle.format_calls.specs.Strings.{is_string}
+use Rattle.source_lint.specs.Keywords.{is_control, is_modifier}
+use Rattle.source_lint.specs.declared.commas.Expected.{Expected}
+use Rattle.source_lint.specs.declared.commas.Expected.TheVariants.{Path, Field, Value}
 
--- A character that makes an operator with another one of its kind.
-abbrev pub doubles : Leaf → Bool
-doubles x = is_mark_of (code "&") (Some x) || (is_mark_of (code "|") (Some x)
-    || (is_mark_of (code "<") (Some x) || (is_mark_of (code ">") (Some x)
-    || (is_mark_of (code ".") (Some x) || is_mark_of (code ":") (Some x)))))
-
--- The second token may go on with an operator that the first one begins.
-abbrev pub is_more_of : Leaf → Leaf → Bool
-is_more_of x y = is_mark_of (code "=") (Some y) || (is_mark_of (code ">") (Some y)
-    || ((doubles x && bytes_eq x.text y.text)
-    || (is_mark_of (code "<") (Some x) && is_mark_of (code "-") (Some y))))
-
--- The two tokens begin an operator of several characters.
-abbrev pub is_glued : Leaf → Leaf → Bool
-is_glued x y = is_punct x.kind && (is_joint x y && is_more_of x y)
-
--- The tokens are a string literal and others after it.
+-- The tokens are a string literal, which may have a suffix, and others after it.
 abbrev pub has_more : List Leaf → Bool
 has_more [] = false
 has_more (x ∷ []) = false
-has_more (x ∷ y ∷ ys) = is_text_leaf x
+has_more (x ∷ y ∷ ys) = is_string x.kind && x.is_ended
 
--- The first of two tokens, if they do not begin an operator of several characters.
-abbrev pub alone : Option Leaf → Option Leaf → Option Leaf
-alone None z = None
-alone (Some y) None = Some y
-alone (Some y) (Some z) = if is_glued y z then None else Some y
+-- What rustc expects after an operand with this token in front depends on more than its last
+-- tokens: on a type, a pattern or a block.
+abbrev pub is_unknown : Leaf → Bool
+is_unknown x = is_control x.text || (is_modifier x.text || (is_mark_of (code "|") (Some x)
+    || (bytes_eq x.text (codes "and") || bytes_eq x.text (codes "or"))))
 
--- The token after the first one, in whose place a comma should be. It is not known where an
--- operator of several characters begins.
-abbrev pub in_place : List Leaf → Option Leaf
-in_place xs = alone (slice_get xs 1) (slice_get xs 2)
+abbrev pub is_period : Option Leaf → Bool
+is_period o = is_mark_of (code ".") o
+
+abbrev pub expected_by : Option Leaf → Option Leaf → Option Leaf → Expected
+expected_by o p None = Value
+expected_by o p (Some z) = if not (is_word z) then Value else
+    (if not (is_period p) || is_period o then Path else
+    (if is_text z (codes "await") then Value else Field))
+
+-- What rustc expects after the operand that ends before the token n.
+abbrev pub expected_at : List Leaf → ℕ → Expected
+expected_at xs n =
+    expected_by (slice_get xs (n - 3)) (slice_get xs (n - 2)) (slice_get xs (n - 1))

@@ -1,56 +1,68 @@
 -- The words of rustc for a fault in the arguments of a call, as bytes.
-use Rattle.std.specs.Prelude.{◌≡◌, ◌++◌, ◌||◌, ℕ, zero, suc, Bool, true, false, List, [], ◌∷◌}
+use Rattle.std.specs.Prelude.{◌≡◌, ◌++◌, ℕ, zero, suc, Bool, true, false, List, [], ◌∷◌}
 use Rattle.std.specs.Prelude.{Option, Some, None, codes, option_map, string_bytes, if◌then◌else◌}
-use Rattle.std.specs.Str.{bytes_eq}
 use Rattle.call_faults.specs.Spots.{Help, edit}
 use Rattle.call_faults.specs.declared.spots.Spot.TheVariants.{Argument as WholeArgument}
 use Rattle.source_lint.specs.declared.report.Finding.{Finding}
 use Rattle.source_lint.specs.declared.report.Label.{Label}
 use Rattle.source_lint.specs.Findings.{TellsHelp}
-use Rattle.source_lint.specs.Forms.{Form, NoString, NoLiteral, NoComma, NoExpression}
-use Rattle.source_lint.specs.Forms.{is_control, is_modifier, is_special}
+use Rattle.source_lint.specs.Keywords.{kind_word}
+use Rattle.source_lint.specs.Forms.{Form, NoString, NoLiteral, NoComma, NoOperand, NoExpression}
+use Rattle.source_lint.specs.Operators.{Operator}
+use Rattle.source_lint.specs.declared.commas.Expected.{Expected}
+use Rattle.source_lint.specs.declared.commas.Expected.TheVariants.{Comma, Path, Field, Value}
 
 -- The id of a fault, the same for all of a kind.
 unfoldable pub form_id : Form → List ℕ
 form_id NoString = codes "missing-format-string"
 form_id (NoLiteral n b) = codes "no-string-literal"
-form_id (NoComma t) = codes "missing-comma"
-form_id (NoExpression k) = codes "missing-expression"
+form_id (NoComma e o) = codes "missing-comma"
+form_id (NoOperand o) = codes "missing-expression"
+form_id (NoExpression k b) = codes "missing-expression"
 
--- A keyword that has no use so far.
-abbrev pub is_reserved : List ℕ → Bool
-is_reserved w = bytes_eq w (codes "abstract") || (bytes_eq w (codes "become")
-    || (bytes_eq w (codes "box") || (bytes_eq w (codes "do") || (bytes_eq w (codes "final")
-    || (bytes_eq w (codes "macro") || (bytes_eq w (codes "override") || (bytes_eq w (codes "priv")
-    || (bytes_eq w (codes "try") || (bytes_eq w (codes "typeof") || (bytes_eq w (codes "unsized")
-    || (bytes_eq w (codes "virtual") || bytes_eq w (codes "yield"))))))))))))
+-- A token that rustc found, in its words.
+unfoldable pub found_text : Operator → List ℕ
+found_text o = kind_word o.first
+    ++ (codes "`" ++ (o.first ++ (o.second ++ (o.third ++ codes "`"))))
 
--- A keyword, if the word is not reserved.
-abbrev pub is_keyword : List ℕ → Bool
-is_keyword w = is_control w || (is_modifier w || (is_special w || (bytes_eq w (codes "await")
-    || (bytes_eq w (codes "enum") || (bytes_eq w (codes "mod") || (bytes_eq w (codes "pub")
-    || (bytes_eq w (codes "struct") || (bytes_eq w (codes "trait") || (bytes_eq w (codes "type")
-    || (bytes_eq w (codes "use") || bytes_eq w (codes "where")))))))))))
+-- The tokens that rustc expects, in its words.
+unfoldable pub expected_words : Expected → List ℕ
+expected_words Comma = codes "expected `,`, found "
+expected_words Path =
+    codes "expected one of `!`, `,`, `.`, `::`, `?`, `{`, or an operator, found "
+expected_words Field = codes "expected one of `(`, `,`, `.`, `::`, `?`, or an operator, found "
+expected_words Value = codes "expected one of `,`, `.`, `?`, or an operator, found "
 
--- The words of rustc before a token in a title, with the space after them.
-unfoldable pub kind_word : List ℕ → List ℕ
-kind_word w = if bytes_eq w (codes "_") then codes "reserved identifier "
-    else if is_reserved w then codes "reserved keyword "
-    else if is_keyword w then codes "keyword " else []
+-- The title where an expression is missing, up to what rustc found.
+unfoldable pub missing_words : List ℕ
+missing_words = codes "expected expression, found "
+
+-- The end of the call or a comma, in the words of rustc.
+unfoldable pub end_words : Bool → List ℕ
+end_words true = codes "expected expression, found end of macro arguments"
+end_words false = codes "expected expression, found `,`"
 
 unfoldable pub form_title : Form → List ℕ
 form_title NoString = codes "requires at least a format string argument"
 form_title (NoLiteral n b) = codes "format argument must be a string literal"
-form_title (NoComma t) =
-    codes "expected `,`, found " ++ (kind_word t ++ (codes "`" ++ (t ++ codes "`")))
-form_title (NoExpression k) = codes "expected expression, found `,`"
+form_title (NoComma e o) = expected_words e ++ found_text o
+form_title (NoOperand o) = missing_words ++ found_text o
+form_title (NoExpression k b) = end_words b
+
+-- More than six tokens are only counted.
+unfoldable pub expected_label : Expected → List ℕ
+expected_label Comma = codes "expected `,`"
+expected_label Path = codes "expected one of 7 possible tokens"
+expected_label Field = codes "expected one of `(`, `,`, `.`, `::`, `?`, or an operator"
+expected_label Value = codes "expected one of `,`, `.`, `?`, or an operator"
 
 -- The text of the primary label.
 unfoldable pub form_label : Form → List ℕ
 form_label NoString = []
 form_label (NoLiteral n b) = []
-form_label (NoComma t) = codes "expected `,`"
-form_label (NoExpression k) = codes "expected expression"
+form_label (NoComma e o) = expected_label e
+form_label (NoOperand o) = codes "expected expression"
+form_label (NoExpression k b) = codes "expected expression"
 
 unfoldable pub bytes_label : List ℕ
 bytes_label = codes "help: consider removing the leading `b`"
@@ -64,8 +76,9 @@ pub record FormLabel : Type 0 where
 abbrev pub has_bytes : Form → Bool
 has_bytes NoString = false
 has_bytes (NoLiteral n b) = b
-has_bytes (NoComma t) = false
-has_bytes (NoExpression k) = false
+has_bytes (NoComma e o) = false
+has_bytes (NoOperand o) = false
+has_bytes (NoExpression k b) = false
 
 -- The second label is that of the `b` of a byte string literal.
 abbrev pub form_labels : Form → List FormLabel
@@ -93,8 +106,9 @@ literal_for n = codes "\"{}" ++ (more_placeholders n ++ codes "\", ")
 abbrev pub lacks_literal : Form → Option ℕ
 lacks_literal NoString = None
 lacks_literal (NoLiteral n b) = if b then None else Some n
-lacks_literal (NoComma t) = None
-lacks_literal (NoExpression k) = None
+lacks_literal (NoComma e o) = None
+lacks_literal (NoOperand o) = None
+lacks_literal (NoExpression k b) = None
 
 abbrev pub literal_help : ℕ → Help
 literal_help n = record {

@@ -3,13 +3,16 @@ pub mod Assembly
 pub mod Attributes
 pub mod Commas
 pub mod Files
+pub mod Expressions
 pub mod Findings
 pub mod FormWords
 pub mod Forms
 pub mod Generics
 pub mod Givens
+pub mod Keywords
 pub mod Literals
 pub mod Macros
+pub mod Operators
 pub mod Paths
 pub mod Readings
 pub mod Reports

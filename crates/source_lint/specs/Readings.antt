@@ -38,10 +38,12 @@ use Rattle.source_lint.specs.declared.report.Finding.{Finding}
 use Rattle.source_lint.specs.Assembly.{ReadsTemplates}
 use Rattle.source_lint.specs.Findings.{AreFindings, reading_of}
 use Rattle.source_lint.specs.FormWords.{TellsForms}
-use Rattle.source_lint.specs.Forms.{form_here, joined}
+use Rattle.source_lint.specs.Expressions.{has_variable, joined}
+use Rattle.source_lint.specs.Forms.{form_here}
 use Rattle.source_lint.specs.Givens.{given}
 use Rattle.source_lint.specs.Literals.{appends_newline, without_crs}
 use Rattle.source_lint.specs.Macros.{names_in}
+use Rattle.source_lint.specs.Operators.{lacks_operand}
 use Rattle.source_lint.specs.Paths.{is_foreign}
 
 -- A parser at the start of a format string that is this literal and stands for the text t, with a
@@ -161,6 +163,20 @@ abbrev pub index_if : Bool → Bool → Result ℕ Reason → Result ℕ CallRea
 index_if lacks joins o =
     if lacks then Err NoExpression else (if joins then Err NoComma else index_by o)
 
+-- The arguments of a macro with this rule are expressions, up to the last one: those of tracing and
+-- of slog have forms of their own.
+abbrev pub are_expressions : Rule → Bool
+are_expressions (At n) = true
+are_expressions (IndexByEdition n) = true
+are_expressions FirstLiteral = false
+are_expressions Templates = false
+
+-- An operator lacks an operand in one of the arguments of a macro with this rule, and no variable
+-- of a macro stands in them.
+abbrev pub lack_expression : Rule → List (List Leaf) → Bool
+lack_expression r ps = are_expressions r
+    && (list_any lacks_operand ps && not (list_any has_variable ps))
+
 -- The arguments of a macro with this rule are expressions: operands are none.
 abbrev pub has_expressions : Rule → Bool
 has_expressions (At n) = true
@@ -169,10 +185,11 @@ has_expressions FirstLiteral = true
 has_expressions Templates = false
 
 -- The index of the argument that is the format string, or the reading if none is read: where no
--- token stands where an argument should, where no comma stands between two expressions, or where no
--- argument is one.
+-- token stands where an argument should, or an operator lacks an operand, where no comma stands
+-- between two expressions, or where no argument is one.
 abbrev pub index_or : Bool → List Leaf → Rule → List Argument → Result ℕ CallReading
-index_or is_new xs r args = index_if (list_any is_empty args)
+index_or is_new xs r args = index_if
+    (list_any is_empty args || lack_expression r (map (tokens_of xs) args))
     (has_expressions r && list_any (λ p. is_some (joined p)) (map (tokens_of xs) args))
     (format_string xs r args is_new)
 

@@ -5,15 +5,21 @@ ghost use Rattle.std.specs.Prelude.{string_bytes};
 ghost use Rattle.std.specs.List.{All};
 ghost use Rattle.source_lint.specs.Findings.{HasSpans, IsSpan, TellsHelp};
 ghost use Rattle.source_lint.specs.FormWords.{TellLabels, TellsForm, TellsForms, bytes_label};
+ghost use Rattle.source_lint.specs.FormWords.{end_words, expected_label, expected_words};
 ghost use Rattle.source_lint.specs.FormWords.{form_help, form_id, form_label, form_labels};
-ghost use Rattle.source_lint.specs.FormWords.{form_title, has_bytes, lacks_literal, literal_for};
-ghost use Rattle.source_lint.specs.FormWords.{is_keyword, is_reserved, kind_word};
+ghost use Rattle.source_lint.specs.FormWords.{form_title, found_text, has_bytes, lacks_literal};
+ghost use Rattle.source_lint.specs.FormWords.{literal_for, missing_words};
 ghost use Rattle.source_lint.specs.FormWords.{more_placeholders};
 ghost use Rattle.source_lint.specs.Forms.{seen_form};
+ghost use Rattle.source_lint.specs.Keywords.{kind_word};
+ghost use Rattle.source_lint.specs.Operators.{seen_operator};
 ghost use Rattle.source_lint.specs.declared.report.Finding.{Finding as FindingValue};
 ghost use Rattle.source_lint.specs.declared.report.Label.{Label as LabelValue};
 
-use crate::forms::{Form, is_control, is_modifier, is_special};
+use crate::commas::Expected;
+use crate::forms::Form;
+use crate::keywords::kind_word;
+use crate::operators::Operator;
 use crate::report::{Edit, Finding, Help, Label};
 use crate::spans::{call_range, range_in, tokens_range};
 use format_calls::{Argument, Call};
@@ -29,66 +35,64 @@ fn form_id(form: Form<'_>) -> &'static str
     match form {
         Form::NoString => "missing-format-string",
         Form::NoLiteral { .. } => "no-string-literal",
-        Form::NoComma(_) => "missing-comma",
-        Form::NoExpression(_) => "missing-expression",
+        Form::NoComma { .. } => "missing-comma",
+        Form::NoOperand(_) | Form::NoExpression { .. } => "missing-expression",
     }
 }
 
-/// Returns whether a word is a keyword that has no use so far.
-fn is_reserved(word: &str) -> bool
-    ensures { result ≡ is_reserved word.now }
+/// Adds a token that rustc found, in its words. Returns `Err` if an allocation fails.
+#[tactic(auto, using(crate::proofs::Texts::assoc), unfolding(crate::specs::FormWords::found_text))]
+fn put_found(out: &mut String, found: Operator<'_>) -> Result<(), AllocError>
+    ensures { OnOk result (string_bytes out.new
+        ≡ string_bytes out.old ++ found_text (seen_operator found.entry)) }
 {
-    word == "abstract"
-        || word == "become"
-        || word == "box"
-        || word == "do"
-        || word == "final"
-        || word == "macro"
-        || word == "override"
-        || word == "priv"
-        || word == "try"
-        || word == "typeof"
-        || word == "unsized"
-        || word == "virtual"
-        || word == "yield"
+    out.push_str(kind_word(found.first.text))?;
+    out.push_str("`")?;
+    out.push_str(found.first.text)?;
+    out.push_str(found.second)?;
+    out.push_str(found.third)?;
+    out.push_str("`")?;
+    Ok(())
 }
 
-/// Returns whether a word that is not reserved is a keyword.
-fn is_keyword(word: &str) -> bool
-    ensures { result ≡ is_keyword word.now }
+/// Returns the tokens that rustc expects, in its words, up to the one that it found.
+#[tactic(auto, unfolding(crate::specs::FormWords::expected_words))]
+fn expected_words(expected: Expected) -> &'static str
+    ensures { result.now ≡ expected_words expected }
 {
-    is_control(word)
-        || is_modifier(word)
-        || is_special(word)
-        || word == "await"
-        || word == "enum"
-        || word == "mod"
-        || word == "pub"
-        || word == "struct"
-        || word == "trait"
-        || word == "type"
-        || word == "use"
-        || word == "where"
+    match expected {
+        Expected::Comma => "expected `,`, found ",
+        Expected::Path => {
+            "expected one of `!`, `,`, `.`, `::`, `?`, `{`, or an operator, found "
+        }
+        Expected::Field => "expected one of `(`, `,`, `.`, `::`, `?`, or an operator, found ",
+        Expected::Value => "expected one of `,`, `.`, `?`, or an operator, found ",
+    }
 }
 
-/// Returns the words of rustc before a token in a title, with the space after them.
-#[tactic(auto, unfolding(crate::specs::FormWords::kind_word))]
-fn kind_word(text: &str) -> &'static str
-    ensures { result.now ≡ kind_word text.now }
+/// Returns the title where an expression is missing, up to what rustc found.
+#[tactic(auto, unfolding(crate::specs::FormWords::missing_words))]
+fn missing_words() -> &'static str
+    ensures { result.now ≡ missing_words }
 {
-    if text == "_" {
-        "reserved identifier "
-    } else if is_reserved(text) {
-        "reserved keyword "
-    } else if is_keyword(text) {
-        "keyword "
+    "expected expression, found "
+}
+
+/// Returns the title where an argument ends without an expression, at the end of the call or at a
+/// comma.
+#[tactic(auto, unfolding(crate::specs::FormWords::end_words))]
+fn end_words(is_last: bool) -> &'static str
+    ensures { result.now ≡ end_words is_last }
+{
+    if is_last {
+        "expected expression, found end of macro arguments"
     } else {
-        ""
+        "expected expression, found `,`"
     }
 }
 
 /// Adds the title. Returns `Err` if an allocation fails.
-#[tactic(auto, unfolding(crate::specs::FormWords::form_title))]
+#[tactic(auto, using(crate::proofs::Texts::assoc), unfolding(crate::specs::FormWords::form_title))]
 fn put_title(out: &mut String, form: Form<'_>) -> Result<(), AllocError>
     ensures { OnOk result (string_bytes out.new
         ≡ string_bytes out.old ++ form_title (seen_form form.entry)) }
@@ -96,16 +100,30 @@ fn put_title(out: &mut String, form: Form<'_>) -> Result<(), AllocError>
     match form {
         Form::NoString => out.push_str("requires at least a format string argument")?,
         Form::NoLiteral { .. } => out.push_str("format argument must be a string literal")?,
-        Form::NoComma(token) => {
-            out.push_str("expected `,`, found ")?;
-            out.push_str(kind_word(token.text))?;
-            out.push_str("`")?;
-            out.push_str(token.text)?;
-            out.push_str("`")?;
+        Form::NoComma { expected, found } => {
+            out.push_str(expected_words(expected))?;
+            put_found(out, found)?;
         }
-        Form::NoExpression(_) => out.push_str("expected expression, found `,`")?,
+        Form::NoOperand(found) => {
+            out.push_str(missing_words())?;
+            put_found(out, found)?;
+        }
+        Form::NoExpression { is_last, .. } => out.push_str(end_words(is_last))?,
     }
     Ok(())
+}
+
+/// Returns the label of a token where rustc expects others.
+#[tactic(auto, unfolding(crate::specs::FormWords::expected_label))]
+fn expected_label(expected: Expected) -> &'static str
+    ensures { result.now ≡ expected_label expected }
+{
+    match expected {
+        Expected::Comma => "expected `,`",
+        Expected::Path => "expected one of 7 possible tokens",
+        Expected::Field => "expected one of `(`, `,`, `.`, `::`, `?`, or an operator",
+        Expected::Value => "expected one of `,`, `.`, `?`, or an operator",
+    }
 }
 
 /// Returns the text of the primary label.
@@ -115,8 +133,8 @@ fn form_label(form: Form<'_>) -> &'static str
 {
     match form {
         Form::NoString | Form::NoLiteral { .. } => "",
-        Form::NoComma(_) => "expected `,`",
-        Form::NoExpression(_) => "expected expression",
+        Form::NoComma { expected, .. } => expected_label(expected),
+        Form::NoOperand(_) | Form::NoExpression { .. } => "expected expression",
     }
 }
 
@@ -128,13 +146,32 @@ fn argument_range(tokens: &[Token<'_>], arguments: &[Argument], index: usize) ->
     }
 }
 
-/// Returns the bytes of the token after the argument with this index, or none if there is no such
-/// argument.
-fn range_after(tokens: &[Token<'_>], arguments: &[Argument], index: usize) -> Range<usize> {
+/// Returns the bytes of the token after the argument with this index, or the end of that argument
+/// if it is the last one. Returns no bytes if there is no such argument.
+fn range_after(
+    tokens: &[Token<'_>],
+    arguments: &[Argument],
+    index: usize,
+    is_last: bool,
+) -> Range<usize> {
     match arguments.get(index) {
-        Some(argument) => tokens_range(tokens, argument.end, argument.end.saturating_add(1)),
+        Some(argument) => {
+            if is_last {
+                let end = tokens_range(tokens, argument.start, argument.end).end;
+                end..end
+            } else {
+                tokens_range(tokens, argument.end, argument.end.saturating_add(1))
+            }
+        }
         None => 0..0,
     }
+}
+
+/// Returns the bytes of a token that rustc found.
+fn found_range(found: Operator<'_>) -> Range<usize> {
+    let first = found.first.start.saturating_add(found.first.text.len());
+    let second = first.saturating_add(found.second.len());
+    found.first.start..second.saturating_add(found.third.len())
 }
 
 /// Returns the bytes that are wrong.
@@ -153,8 +190,9 @@ fn form_range(
             let index = arguments.len().saturating_sub(others).saturating_sub(1);
             argument_range(tokens, arguments, index)
         }
-        Form::NoComma(token) => token.start..token.start.saturating_add(token.text.len()),
-        Form::NoExpression(index) => range_after(tokens, arguments, index),
+        Form::NoComma { found, .. } => found_range(found),
+        Form::NoOperand(found) => found_range(found),
+        Form::NoExpression { index, is_last } => range_after(tokens, arguments, index, is_last),
     };
     range_in(text, range.start, range.end)
 }
@@ -172,8 +210,8 @@ fn has_bytes(form: Form<'_>) -> bool
     ensures { result ≡ has_bytes (seen_form form.entry) }
 {
     match form {
-        Form::NoString | Form::NoComma(_) | Form::NoExpression(_) => false,
         Form::NoLiteral { is_bytes, .. } => is_bytes,
+        _ => false,
     }
 }
 
@@ -183,8 +221,8 @@ fn lacks_literal(form: Form<'_>) -> Option<usize>
     ensures { result ≡ lacks_literal (seen_form form.entry) }
 {
     match form {
-        Form::NoString | Form::NoComma(_) | Form::NoExpression(_) => None,
         Form::NoLiteral { others, is_bytes } => { if is_bytes { None } else { Some(others) } }
+        _ => None,
     }
 }
 

@@ -42,7 +42,7 @@ fn is_dropped(c: char, rest: &str) -> bool
 }
 
 /// Returns a text without the CR before each LF. Returns `Err` if an allocation fails.
-fn without_crs(alloc: Global, text: &str) -> Result<String, AllocError>
+pub fn without_crs(alloc: Global, text: &str) -> Result<String, AllocError>
     ensures { IfOk result (λ s. chars (string_bytes s) ≡ without_crs (chars text.now)) }
 {
     let mut lines = String::new(alloc);

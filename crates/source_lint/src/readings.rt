@@ -6,7 +6,7 @@ ghost use Rattle.std.specs.List.{All, list_any};
 ghost use Rattle.rustc_parse_format.specs.World.{hashes};
 ghost use Rattle.rust_trees.specs.Forests.{IsPair};
 ghost use Rattle.rust_trees.specs.Leaves.{leaf};
-ghost use Rattle.format_calls.specs.Arguments.{AreArguments};
+ghost use Rattle.format_calls.specs.Arguments.{AreArguments, tokens_of};
 ghost use Rattle.format_calls.specs.Strings.{is_string_by};
 ghost use Rattle.format_calls.specs.declared.split.Argument.{Argument as ArgumentValue};
 ghost use Rattle.call_faults.specs.Seen.{seen_given, start};
@@ -14,18 +14,22 @@ ghost use Rattle.source_lint.specs.Findings.{AreFindings, HasSpans};
 ghost use Rattle.source_lint.specs.Givens.{given};
 ghost use Rattle.source_lint.specs.Literals.{appends_newline, without_crs};
 ghost use Rattle.source_lint.specs.Readings.{Reads, ReadsAt, ReadsLiteral, ReadsOne, call_of};
-ghost use Rattle.source_lint.specs.Readings.{arguments_before, captures, counted_givens};
+ghost use Rattle.source_lint.specs.Operators.{lacks_operand};
+ghost use Rattle.source_lint.specs.Readings.{are_expressions, arguments_before, captures};
+ghost use Rattle.source_lint.specs.Readings.{counted_givens, lack_expression};
 ghost use Rattle.source_lint.specs.Readings.{ends_early, has_expressions, index_or, is_empty};
 ghost use Rattle.source_lint.specs.Readings.{name_at, scope};
 ghost use Rattle.source_lint.specs.declared.report.Finding.{Finding as FindingValue};
 
 use crate::assembly::read_asm;
+use crate::expressions::{have_joined, have_variables, tokens_of};
 use crate::findings::{put_findings, reading_of};
 use crate::form_words::put_form;
-use crate::forms::{form_here, have_joined};
+use crate::forms::form_here;
 use crate::givens::givens;
 use crate::literals::{appends_newline, dropped_crs, read_literal};
 use crate::macros::{File, name_at, other_macro};
+use crate::operators::lacks_operand;
 use crate::report::{CallReading, Finding};
 use crate::spans::Site;
 use call_faults::{FormatArgument, FormatString, call_faults};
@@ -110,7 +114,7 @@ fn read_string(
 
 /// Returns whether the format string of a macro captures variables. `unreachable!` of the standard
 /// library puts it into another text before the edition 2021, where it captures none.
-fn captures(rule: Rule, name: &[u8], is_from_2021: bool) -> bool
+pub fn captures(rule: Rule, name: &[u8], is_from_2021: bool) -> bool
     ensures { result ≡ captures is_from_2021 rule name.now }
 {
     match rule {
@@ -120,7 +124,7 @@ fn captures(rule: Rule, name: &[u8], is_from_2021: bool) -> bool
 }
 
 /// Returns the argument of an index, or `None` if there is none.
-fn argument_at(arguments: &[Argument], index: usize) -> Option<Argument>
+pub fn argument_at(arguments: &[Argument], index: usize) -> Option<Argument>
     ensures { result ≡ slice_get arguments.now index }
 {
     if index < arguments.len() {
@@ -132,7 +136,7 @@ fn argument_at(arguments: &[Argument], index: usize) -> Option<Argument>
 
 /// Returns whether `;` ends the arguments of a macro with this rule: key-values follow it in those
 /// of slog.
-fn ends_early(rule: Rule) -> bool
+pub fn ends_early(rule: Rule) -> bool
     ensures { result ≡ ends_early rule }
 {
     matches!(rule, Rule::FirstLiteral)
@@ -140,7 +144,7 @@ fn ends_early(rule: Rule) -> bool
 
 /// Returns the arguments that start before a token, of which the last ends there at the latest.
 /// Returns `Err` if an allocation fails.
-fn arguments_before(
+pub fn arguments_before(
     alloc: Global,
     arguments: &[Argument],
     end: usize,
@@ -305,6 +309,34 @@ fn has_empty(arguments: &[Argument]) -> bool
     false
 }
 
+/// Returns whether the arguments of a macro with this rule are expressions, up to the last one:
+/// those of tracing and of slog have forms of their own.
+fn are_expressions(rule: Rule) -> bool
+    ensures { result ≡ are_expressions rule }
+{
+    matches!(rule, Rule::At(_) | Rule::IndexByEdition(_))
+}
+
+/// Returns whether an operator lacks an operand in one of these arguments.
+fn lack_operand(part: &Part<'_>, arguments: &[Argument]) -> bool
+    ensures { result ≡ list_any lacks_operand (map (tokens_of part.now) arguments.now) }
+{
+    for argument in arguments {
+        if lacks_operand(tokens_of(part.tokens(), argument)) {
+            return true;
+        }
+    }
+    false
+}
+
+/// Returns whether an operator lacks an operand in one of the arguments of a macro with this rule,
+/// and no variable of a macro stands in them.
+fn lack_expression(part: &Part<'_>, rule: Rule, arguments: &[Argument]) -> bool
+    ensures { result ≡ lack_expression rule (map (tokens_of part.now) arguments.now) }
+{
+    are_expressions(rule) && lack_operand(part, arguments) && !have_variables(part, arguments)
+}
+
 /// Returns whether the arguments of a macro with this rule are expressions: operands are none.
 fn has_expressions(rule: Rule) -> bool
     ensures { result ≡ has_expressions rule }
@@ -314,7 +346,7 @@ fn has_expressions(rule: Rule) -> bool
 
 /// Returns the index of the argument that is the format string of a call, or the reading of the
 /// call if none is read.
-fn index_or(
+pub fn index_or(
     file: File<'_, '_>,
     part: &Part<'_>,
     call: &Call,
@@ -325,7 +357,7 @@ fn index_or(
     ensures literal { IfOk result (λ n. (a : ArgumentValue) × (slice_get arguments.now n ≡ Some a)
         × IsTrue (is_string_by call.now.rule part.now a)) }
 {
-    if has_empty(arguments) {
+    if has_empty(arguments) || lack_expression(part, call.rule, arguments) {
         return Err(CallReading::NoExpression);
     }
     if has_expressions(call.rule) && have_joined(part, arguments) {

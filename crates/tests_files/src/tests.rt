@@ -140,15 +140,92 @@ fn commas_that_are_missing(rt: HostRuntime) -> Result<(), Fail> {
             "12 missing-comma expected `,`, found `+`",
         ),
         // (an operator of several characters)
-        ("\"{}\" += a", ""),
-        ("\"{}\" ..= a", ""),
-        ("\"{}\" == a b", ""),
+        ("\"{}\" += a", "12 missing-comma expected `,`, found `+=`"),
+        ("\"{}\" ..= a", "12 missing-comma expected `,`, found `..=`"),
+        ("\"{}\" == a b", "12 missing-comma expected `,`, found `==`"),
+        ("\"{}\" <- a", "12 missing-comma expected `,`, found `<-`"),
+        ("\"{}\" <<= a", "12 missing-comma expected `,`, found `<<=`"),
+        ("\"{}\" &&& a", "12 missing-comma expected `,`, found `&&`"),
+        ("\"{}\" + > a", "12 missing-comma expected `,`, found `+`"),
         // (a variable of a macro may be the comma)
         ("\"{}\" + $a", ""),
-        ("\"{}\"x + a", ""),
+        ("\"{}\"x + a", "13 missing-comma expected `,`, found `+`"),
     ];
     for (list, expected) in rows {
         let text = format!(in alloc; "print!({list});")?;
+        let said = findings(alloc, text.as_str())?;
+        assert_eq!(&rt; said.as_str(), expected, "{}", list);
+    }
+    Ok(())
+}
+
+/// What is wrong after the format string.
+#[test]
+fn arguments_that_are_no_expressions(rt: HostRuntime) -> Result<(), Fail> {
+    let alloc = rt.alloc();
+    // the arguments of `print!` after `"{}"`, and what rustc says of them
+    let rows = [
+        (
+            "a b",
+            "15 missing-comma expected one of `!`, `,`, `.`, `::`, `?`, `{`, or an operator, found `b`",
+        ),
+        (
+            "a..b c",
+            "18 missing-comma expected one of `!`, `,`, `.`, `::`, `?`, `{`, or an operator, found `c`",
+        ),
+        (
+            "a.b c",
+            "17 missing-comma expected one of `(`, `,`, `.`, `::`, `?`, or an operator, found `c`",
+        ),
+        (
+            "a.await b",
+            "21 missing-comma expected one of `,`, `.`, `?`, or an operator, found `b`",
+        ),
+        (
+            "a = f(b) \"c\"",
+            "22 missing-comma expected one of `,`, `.`, `?`, or an operator, found `\"c\"`",
+        ),
+        (
+            "a ==, b c",
+            "17 missing-expression expected expression, found `,`",
+        ),
+        (
+            "a =",
+            "16 missing-expression expected expression, found end of macro arguments",
+        ),
+        (
+            "a[1] >> ",
+            "20 missing-expression expected expression, found end of macro arguments",
+        ),
+        (
+            "*",
+            "14 missing-expression expected expression, found end of macro arguments",
+        ),
+        (
+            ">>= a",
+            "13 missing-expression expected expression, found `>>=`",
+        ),
+        (
+            "!= a b",
+            "13 missing-expression expected expression, found `!=`",
+        ),
+        // (what rustc says depends on more than is looked at)
+        ("a as u8 b", ""),
+        ("|a b| c", ""),
+        ("|a| a +", ""),
+        ("a as u8 <", ""),
+        ("a < b >", ""),
+        // (a variable of a macro may be what is missing)
+        ("$a +", ""),
+        ("$($a),*", ""),
+        // (there is none)
+        ("#[a] b", ""),
+        ("a as Vec<u8>", ""),
+        ("&&*a", ""),
+        ("f(a)(b)", ""),
+    ];
+    for (list, expected) in rows {
+        let text = format!(in alloc; "print!(\"{{}}\", {list});")?;
         let said = findings(alloc, text.as_str())?;
         assert_eq!(&rt; said.as_str(), expected, "{}", list);
     }

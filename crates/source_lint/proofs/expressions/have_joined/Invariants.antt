@@ -2,8 +2,8 @@ use Rattle.std.proofs.Common.{◌≡◌, drop, map}
 use Rattle.std.specs.Prelude.{is_some}
 use Rattle.std.specs.List.{list_any}
 use Rattle.format_calls.specs.Arguments.{tokens_of}
-use Rattle.source_lint.specs.Forms.{joined}
-use Rattle.source_lint.proofs.forms.have_joined.Given as goal
+use Rattle.source_lint.specs.Expressions.{joined}
+use Rattle.source_lint.proofs.expressions.have_joined.Given as goal
 
 -- The answer for what is left is the answer for all.
 abbrev pub invariant-loop-argument : goal.invariant-loop-argument

@@ -1,8 +1,8 @@
 use Rattle.std.proofs.Common.{◌≡◌, drop, map}
 use Rattle.std.specs.List.{list_any}
 use Rattle.format_calls.specs.Arguments.{tokens_of}
-use Rattle.source_lint.specs.Forms.{has_variable}
-use Rattle.source_lint.proofs.forms.have_variables.Given as goal
+use Rattle.source_lint.specs.Expressions.{has_variable}
+use Rattle.source_lint.proofs.expressions.have_variables.Given as goal
 
 -- The answer for what is left is the answer for all.
 abbrev pub invariant-loop-argument : goal.invariant-loop-argument

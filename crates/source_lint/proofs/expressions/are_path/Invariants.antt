@@ -2,8 +2,8 @@ use Rattle.std.proofs.Common.{◌≡◌, drop, map}
 use Rattle.rust_trees.specs.Leaves.{leaf}
 use Rattle.std.specs.Prelude.{not}
 use Rattle.std.specs.List.{list_any}
-use Rattle.source_lint.specs.Forms.{is_path}
-use Rattle.source_lint.proofs.forms.are_path.Given as goal
+use Rattle.source_lint.specs.Expressions.{is_path}
+use Rattle.source_lint.proofs.expressions.are_path.Given as goal
 
 -- The answer for what is left is the answer for all.
 abbrev pub invariant-loop-token : goal.invariant-loop-token
