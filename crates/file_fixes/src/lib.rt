@@ -6,5 +6,5 @@ mod edited;
 mod rounds;
 mod suggestions;
 
-pub use rounds::{FileFixes, fixes};
+pub use rounds::{FileFixes, fixes, is_no_worse};
 pub use suggestions::{LabelSuggestion, is_applicable, suggestion_of};

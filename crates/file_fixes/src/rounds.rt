@@ -37,7 +37,7 @@ struct Round {
 
 /// Returns whether a report on a file is no worse than the old one: the file does not break, has as
 /// many calls, and no more faults.
-fn is_no_worse(old: &Report, new: &Report) -> bool
+pub fn is_no_worse(old: &Report, new: &Report) -> bool
     ensures { result ≡ true → IsNoWorse old.now new.now }
 {
     old.first_break.is_none()

@@ -11,8 +11,9 @@ pub struct Argument<'a> {
     /// Its value as it is written, if that is one word, as `x` or `r#type`. `None` if it is any
     /// other expression.
     pub word: Option<&'a str>,
-    /// The source that goes with it: the comma before it, the argument, and what is between them.
-    pub source: &'a str,
+    /// The bytes of the source that goes with it: the comma before it, the argument, and what is
+    /// between them.
+    pub source: &'a [u8],
 }
 
 /// A call of a macro that takes a format string.

@@ -36,7 +36,7 @@ fn edited_bytes(alloc: Global, bytes: &[u8], edits: &[Edit]) -> Result<Option<Ve
 
 /// Returns a literal with edits, or `None` if these are not one after the other in it, overlap or
 /// cut a character. Returns `Err` if an allocation fails.
-pub(crate) fn edited(
+pub fn apply_edits(
     alloc: Global,
     literal: &str,
     edits: &[Edit],

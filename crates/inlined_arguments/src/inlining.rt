@@ -14,7 +14,7 @@ ghost use Rattle.inlined_arguments.specs.Values.{given as given_of, slots as slo
 
 use crate::call::{Call, Inlined, Left};
 use crate::conditions::condition;
-use crate::edited::edited;
+use crate::edited::apply_edits;
 use crate::edits::edits_of;
 use crate::meaning::{Meant, means_same};
 use crate::reading::read;
@@ -141,7 +141,7 @@ fn inlined_with<'c>(
         values: &values,
     };
     let edits = edits_of(alloc, old)?;
-    let Some(literal) = edited(alloc, snippet, &edits)? else {
+    let Some(literal) = apply_edits(alloc, snippet, &edits)? else {
         return Ok(Err(Left::OtherMeaning));
     };
     if !keeps_meaning(alloc, call, old, &literal)? {

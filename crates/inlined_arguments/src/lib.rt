@@ -14,4 +14,5 @@ mod values;
 mod variables;
 
 pub use call::{Argument, Call, Edit, Inlined, Left};
+pub use edited::apply_edits;
 pub use inlining::inlined;

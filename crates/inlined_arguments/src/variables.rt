@@ -113,7 +113,7 @@ fn has_slash(bytes: &[u8]) -> bool
 pub(crate) fn has_comment(argument: &Argument<'_>) -> bool
     ensures { result ≡ has_comment (seen_argument argument.now) }
 {
-    has_slash(argument.source.as_bytes())
+    has_slash(argument.source)
 }
 
 /// Returns the indices of the arguments that are variables. Returns `Err` if an allocation fails.

@@ -1,6 +1,9 @@
-//! Tests of `inlined_arguments`: what it makes of calls, beside what clippy and rustc 1.95 make.
+//! Tests of `inlined_arguments` and `file_inlines`: what they make of calls and files, beside what
+//! clippy and rustc 1.95 make.
 #![tactic(auto)]
 
+#[cfg(test)]
+mod files;
 mod rows;
 #[cfg(test)]
 mod tests;

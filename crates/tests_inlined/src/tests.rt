@@ -33,7 +33,7 @@ fn arguments<'a>(alloc: Global, list: &'a str) -> Result<Vec<Argument<'a>>, Allo
         found.push(Argument {
             name,
             word: word(value),
-            source,
+            source: source.as_bytes(),
         })?;
     }
     Ok(found)
@@ -61,7 +61,7 @@ fn after(alloc: Global, made: &Inlined, arguments: &[Argument<'_>]) -> Result<St
     for (index, argument) in arguments.iter().enumerate() {
         if !made.gone.contains(&index) {
             out.push_str(", ")?;
-            out.push_str(argument.source)?;
+            out.push_str(str::from_utf8(argument.source).unwrap_or(""))?;
         }
     }
     Ok(out)

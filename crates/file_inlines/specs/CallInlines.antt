@@ -1,0 +1,157 @@
+-- What inlining makes of the calls of a file.
+use Rattle.std.specs.Prelude.{◌≡◌, ◌+◌, ◌++◌, ◌⊎◌, ℕ, Bool, true, false, not, List, [], ◌∷◌}
+use Rattle.std.specs.Prelude.{Option, Some, None, Result, Ok, Err, chars, drop, encode_utf8_all}
+use Rattle.std.specs.Prelude.{is_some, length, map, option_map, slice_get}
+use Rattle.std.specs.List.{filter_map, list_any}
+use Rattle.rustc_parse_format.specs.Characters.{Text}
+use Rattle.rustc_parse_format.specs.Literal.{IsLiteral, newline}
+use Rattle.rust_trees.specs.Leaves.{Leaf}
+use Rattle.format_calls.specs.Arguments.{AreArguments}
+use Rattle.format_calls.specs.Counted.{AreUpTo, is_uncounted}
+use Rattle.format_calls.specs.Rows.{rule_of}
+use Rattle.format_calls.specs.Standard.{standard}
+use Rattle.format_calls.specs.declared.listing.Call.{Call}
+use Rattle.format_calls.specs.declared.split.Argument.{Argument}
+use Rattle.format_calls.specs.declared.table.Rule.{Rule}
+use Rattle.format_calls.specs.declared.table.Rule.TheVariants.{At, IndexByEdition, FirstLiteral}
+use Rattle.format_calls.specs.declared.table.Rule.TheVariants.{Templates}
+use Rattle.source_lint.specs.declared.report.CallReading.{CallReading}
+use Rattle.source_lint.specs.declared.report.CallReading.TheVariants.{Malformed}
+use Rattle.source_lint.specs.Literals.{appends_newline, without_crs}
+use Rattle.source_lint.specs.Readings.{Scope, arguments_before, captures, ends_early, index_or}
+use Rattle.source_lint.specs.Readings.{name_at, skipped}
+use Rattle.inlined_arguments.specs.Conditions.{Call as FormatCall}
+use Rattle.inlined_arguments.specs.Edits.{AreApart, Edit, edited}
+use Rattle.inlined_arguments.specs.Inlining.{Inlined, IsInlined, IsLeft}
+use Rattle.file_inlines.specs.declared.calls.CallInlining.{CallInlining}
+use Rattle.file_inlines.specs.declared.calls.CallInlining.TheVariants.{Inlined as IsIn}
+use Rattle.file_inlines.specs.declared.calls.CallInlining.TheVariants.{Left, Unread, Assembly}
+use Rattle.file_inlines.specs.Sources.{removed, with_source}
+
+-- An edit n bytes further on.
+abbrev pub moved : ℕ → Edit → Edit
+moved n e = record { span = (n + e.span.0, n + e.span.1); text = e.text }
+
+-- The edit that removes an argument with its source.
+abbrev pub removal : List ℕ → List Leaf → Argument → Edit
+removal bs xs a = record { span = removed bs xs a; text = [] }
+
+-- The edits of a literal in its file: edits of the token with the new texts of r, with which it is
+-- the literal of r, up to the CR before each LF.
+pub record AreLiteralEdits (literal : Leaf) (r : Inlined) (es : List Edit) : Type 0 where
+  pub inside : List Edit
+  pub texts : map (λ e. e.text) inside ≡ map (λ e. e.text) r.edits
+  pub are_apart : AreApart 0 inside (length literal.text)
+  pub is_new : without_crs (chars (edited 0 inside literal.text)) ≡ chars r.literal
+  pub edits : es ≡ map (moved literal.start) inside
+
+-- The edits of a call in a file with the bytes bs: those of its literal, and the removal of each
+-- argument that goes.
+pub record AreEdits (bs : List ℕ) (xs : List Leaf) (literal : Leaf) (args : List Argument)
+    (r : Inlined) (es : List Edit) : Type 0 where
+  pub of_literal : List Edit
+  pub are_of_literal : AreLiteralEdits literal r of_literal
+  pub edits : es ≡ of_literal
+      ++ filter_map (λ n. option_map (removal bs xs) (slice_get args n)) r.gone
+
+-- The string of a macro with this rule and this name is known to be a format string if no argument
+-- follows it. Some macros of crates then take any string, as `bail!` of error-chain.
+abbrev pub is_format_alone : Bool → Rule → List ℕ → Bool
+is_format_alone is_new (At n) w = is_some (rule_of standard w)
+is_format_alone is_new (IndexByEdition n) w = is_new
+is_format_alone is_new FirstLiteral w = true
+is_format_alone is_new Templates w = false
+
+-- A `const fn` may call the macro with one argument and the string `{}`.
+abbrev pub has_const_form : Rule → Bool
+has_const_form (At n) = false
+has_const_form (IndexByEdition n) = true
+has_const_form FirstLiteral = false
+has_const_form Templates = false
+
+-- The call of a macro with this rule and the name w, whose string is this literal and stands for
+-- the text t. Its arguments have their sources in a file with the bytes bs.
+abbrev pub call_of : Bool → Rule → List ℕ → List ℕ → List Leaf → Text → Option ℕ → Text
+    → List Argument → Bool → FormatCall
+call_of is_new rule w bs xs literal style t args counted = record {
+  text = t ++ newline (appends_newline w);
+  style = style;
+  literal = Some (encode_utf8_all literal);
+  appended_newline = appends_newline w;
+  captures = captures is_new rule w;
+  arguments = map (with_source bs xs) args;
+  is_counted = counted;
+  is_format_alone = is_format_alone is_new rule w;
+  has_const_form = has_const_form rule;
+}
+
+-- This call is inlined with these edits, or it is left for this reason, and there is no edit.
+abbrev pub Makes : Bool → FormatCall → (Inlined → List Edit → Type 0) → CallInlining → List Edit
+    → Type 0
+Makes mixed c Edits IsIn es = (r : Inlined) × IsInlined mixed c r × Edits r es
+Makes mixed c Edits (Left l) es = IsLeft mixed c l × (es ≡ [])
+Makes mixed c Edits (Unread q) es = ⊥
+Makes mixed c Edits Assembly es = ⊥
+
+-- The same where the format string is the literal of a token, which may stand for no text.
+abbrev pub InlinesLiteral : Bool → Bool → Rule → List ℕ → List ℕ → List Leaf → Leaf
+    → List Argument → Bool → CallInlining → List Edit → Type 0
+InlinesLiteral is_new mixed rule w bs xs x args counted r es =
+    (((style : Option ℕ) (t : Text) → IsLiteral style (without_crs (chars x.text)) t → ⊥)
+    × (r ≡ Unread Malformed) × (es ≡ []))
+    ⊎ ((style : Option ℕ) × (t : Text) × IsLiteral style (without_crs (chars x.text)) t
+    × Makes mixed
+    (call_of is_new rule w bs xs (without_crs (chars x.text)) style t args counted)
+    (AreEdits bs xs x args) r es)
+
+-- The same where the format string begins the argument n of these, and the others after it are
+-- formatted, up to where they end.
+pub record InlinesAt (is_new mixed : Bool) (bs : List ℕ) (xs : List Leaf) (c : Call)
+    (args : List Argument) (n : ℕ) (r : CallInlining) (es : List Edit) : Type 0 where
+  pub string : Argument
+  pub is_string : slice_get args n ≡ Some string
+  pub literal : Leaf
+  pub is_literal : slice_get xs string.start ≡ Some literal
+  pub trees : List ℕ
+  pub end : ℕ
+  pub are_up_to : AreUpTo (ends_early c.rule) xs (string.start + 1) trees end c.close
+  pub inlines : InlinesLiteral is_new mixed c.rule (name_at xs c.name) bs xs literal
+      (arguments_before end (drop (n + 1) args)) (not (list_any (is_uncounted xs) trees)) r es
+
+-- The same where the argument n is the format string by this rule. Templates of assembly stay.
+abbrev pub InlinesOne : Rule → Bool → Bool → List ℕ → List Leaf → Call → List Argument → ℕ
+    → CallInlining → List Edit → Type 0
+InlinesOne (At m) is_new mixed bs xs c args n r es = InlinesAt is_new mixed bs xs c args n r es
+InlinesOne (IndexByEdition m) is_new mixed bs xs c args n r es =
+    InlinesAt is_new mixed bs xs c args n r es
+InlinesOne FirstLiteral is_new mixed bs xs c args n r es =
+    InlinesAt is_new mixed bs xs c args n r es
+InlinesOne Templates is_new mixed bs xs c args n r es = (r ≡ Assembly) × (es ≡ [])
+
+-- The same where the argument n is the format string, or none is read for this reason.
+abbrev pub InlinesBy : Bool → Bool → List ℕ → List Leaf → Call → List Argument
+    → Result ℕ CallReading → CallInlining → List Edit → Type 0
+InlinesBy is_new mixed bs xs c args (Ok n) r es =
+    InlinesOne c.rule is_new mixed bs xs c args n r es
+InlinesBy is_new mixed bs xs c args (Err q) r es = (r ≡ Unread q) × (es ≡ [])
+
+-- The same, unless the macro is another one than that of the table for this reason.
+abbrev pub InlinesUnless : Option CallReading → Bool → Bool → List ℕ → List Leaf → Call
+    → CallInlining → List Edit → Type 0
+InlinesUnless (Some q) is_new mixed bs xs c r es = (r ≡ Unread q) × (es ≡ [])
+InlinesUnless None is_new mixed bs xs c r es = (args : List Argument)
+    × AreArguments xs (c.name + 3) args c.close
+    × InlinesBy is_new mixed bs xs c args (index_or is_new xs c.rule args) r es
+
+-- This becomes of a call in a file with this scope, and it has these edits.
+abbrev pub Inlines : Scope → Bool → Bool → List Leaf → Call → CallInlining → List Edit → Type 0
+Inlines s is_new mixed xs c r es = InlinesUnless (skipped s c.rule (slice_get xs c.name)) is_new
+    mixed s.text xs c r es
+
+-- This becomes of calls, one after the other, and they have these edits.
+abbrev pub InlinesAll : Scope → Bool → Bool → List Leaf → List Call → List CallInlining
+    → List Edit → Type 0
+InlinesAll s is_new mixed xs [] rs es = (rs ≡ []) × (es ≡ [])
+InlinesAll s is_new mixed xs (c ∷ cs) rs es = (r : CallInlining) × (more : List CallInlining)
+    × (first others : List Edit) × (rs ≡ r ∷ more) × (es ≡ first ++ others)
+    × Inlines s is_new mixed xs c r first × InlinesAll s is_new mixed xs cs more others

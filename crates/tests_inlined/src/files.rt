@@ -1,0 +1,95 @@
+//! Files whose calls are inlined, and files that stay.
+
+use file_inlines::{FileInlines, inlines};
+use format_calls::Table;
+use source_lint::Options;
+use std::alloc::{AllocError, Global};
+use std::test::Fail;
+
+/// Returns a file of the edition 2021 with its calls inlined, or an empty text if it stays as it
+/// is.
+fn inlined(alloc: Global, text: &str) -> Result<String, AllocError> {
+    let options = Options {
+        table: Table::standard(alloc)?,
+        is_from_2021: true,
+    };
+    let made = inlines(alloc, text, &options, true)?;
+    let FileInlines { text, .. } = made;
+    match text {
+        Some(text) => Ok(text),
+        None => Ok(String::new(alloc)),
+    }
+}
+
+#[test]
+fn files_with_calls_inlined(rt: HostRuntime) -> Result<(), Fail> {
+    let alloc = rt.alloc();
+    // a file, and the file with its calls inlined
+    let rows = [
+        // CRs stay, but those in what is removed
+        (
+            "print!(\"\r\n{}\\\r\n {}\",\r\n x,\r\n y\r\n);\r\n",
+            "print!(\"\r\n{x}\\\r\n {y}\"\r\n);\r\n",
+        ),
+        ("\u{feff}print!(\"ä{}\", x);", "\u{feff}print!(\"ä{x}\");"),
+        // edits of a call stand between those of another one
+        (
+            "print!(\"{} {} {}\", x, format!(\"{}\", y), z);",
+            "print!(\"{x} {} {z}\", format!(\"{y}\"));",
+        ),
+        (
+            "print!(r#\"{}\"{0}\"#, x,); print!(\"{:1$}\", y, w)",
+            "print!(r#\"{x}\"{x}\"#,); print!(\"{y:w$}\")",
+        ),
+    ];
+    for (text, expected) in rows {
+        let made = inlined(alloc, text)?;
+        assert_eq!(&rt; made.as_str(), expected, "{text}");
+        let again = inlined(alloc, expected)?;
+        assert_eq!(&rt; again.as_str(), "", "{text}");
+    }
+    Ok(())
+}
+
+#[test]
+fn files_that_stay(rt: HostRuntime) -> Result<(), Fail> {
+    let alloc = rt.alloc();
+    let rows = [
+        "",
+        "print!(\"{x}\");",
+        // it breaks
+        "fn f() { print!(\"{}\", x);",
+        "print!(\"{}\", x); }",
+        "print!(\"{}\", x); \"",
+        // the macro may be another one
+        "macro_rules! print { () => {} } print!(\"{}\", x);",
+        // the arguments are not known
+        "macro_rules! m { ($($x:tt)*) => { print!(\"{}\", $($x)*) } }",
+        "macro_rules! m { ($x:expr) => { print!(\"{}\", $x) } }",
+        "quote! { print!(\"{}\", #x) }",
+        // the string is not the literal alone
+        "print!(concat!(\"{}\", \"a\"), x);",
+        "print!(\"{}\"a, x);",
+    ];
+    for text in rows {
+        let made = inlined(alloc, text)?;
+        assert_eq!(&rt; made.as_str(), "", "{text}");
+    }
+    Ok(())
+}
+
+#[test]
+fn a_file_out_of_memory_is_inlined_again(rt: HostRuntime) -> Result<(), Fail> {
+    let alloc = rt.alloc();
+    let text = "print!(\"{}\r\n{} {}\", x, format!(\"{}\", y), z);";
+    let made = match inlined(alloc, text) {
+        Ok(made) => made,
+        Err(_) => {
+            println!(rt; "refused")?;
+            inlined(alloc, text)?
+        }
+    };
+    let expected = "print!(\"{x}\r\n{} {z}\", format!(\"{y}\"));";
+    assert_eq!(rt; made.as_str(), expected);
+    Ok(())
+}
