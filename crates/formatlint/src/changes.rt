@@ -26,15 +26,18 @@ pub enum Change {
 pub struct StepFailure {
     /// The step, as messages name it.
     pub step: &'static str,
-    /// The error of the system.
-    pub error: io::Error,
+    /// The error of the system, or `None` if there was none.
+    pub error: Option<io::Error>,
 }
 
 /// Returns the answer of a step, where a failure has its name.
 fn at_step<T: Drop>(step: &'static str, answer: io::Result<T>) -> Result<T, StepFailure> {
     match answer {
         Ok(value) => Ok(value),
-        Err(error) => Err(StepFailure { step, error }),
+        Err(error) => Err(StepFailure {
+            step,
+            error: Some(error),
+        }),
     }
 }
 
@@ -105,7 +108,7 @@ fn put_in_place(rt: &HostRuntime, path: &str, beside: &str, old: &[u8]) -> Resul
     if !at_step("reading it again", has_bytes(rt, path, old))? {
         return Err(StepFailure {
             step: "another program changed it",
-            error: io::Error::from(ErrorKind::Other),
+            error: None,
         });
     }
     at_step(
@@ -114,21 +117,30 @@ fn put_in_place(rt: &HostRuntime, path: &str, beside: &str, old: &[u8]) -> Resul
     )
 }
 
-/// Returns the path of the file that a path leads to, if it may be written.
-fn target_of(rt: &HostRuntime, path: &str) -> io::Result<String> {
+/// Returns the path of the file that a path leads to, if it may be written, or `None` if that is a
+/// pipe or a device.
+fn target_of(rt: &HostRuntime, path: &str) -> io::Result<Option<String>> {
     let target = fs::canonicalize(rt, path)?;
     let data = fs::metadata(rt, target.as_str())?;
+    if !data.is_file() {
+        return Ok(None);
+    }
     if data.permissions().readonly() {
         return Err(io::Error::from(ErrorKind::PermissionDenied));
     }
     let text = String::from_str(rt.alloc(), target.as_str())?;
-    Ok(text)
+    Ok(Some(text))
 }
 
 /// Replaces the file that a path leads to, which had old bytes when it was read, by one with new
 /// bytes and its permissions. A failure leaves the old file as it is, and no new one beside it.
 pub fn replace(rt: &HostRuntime, path: &str, old: &[u8], new: &[u8]) -> Result<(), StepFailure> {
-    let target = at_step("opening it", target_of(rt, path))?;
+    let Some(target) = at_step("opening it", target_of(rt, path))? else {
+        return Err(StepFailure {
+            step: "it is a pipe or a device",
+            error: None,
+        });
+    };
     let (beside, file) = at_step("a new file beside it", create_beside(rt, target.as_str()))?;
     let (from, to) = (beside.as_str(), target.as_str());
     let answer = match fill(rt, file, to, from, new) {

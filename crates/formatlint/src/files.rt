@@ -7,10 +7,11 @@ use crate::editions::Editions;
 use crate::failure::Failure;
 use crate::forms::{File, Form, put_end, put_finding, put_start};
 use crate::literal::tell_of_terminal;
+use crate::options::is_option;
 use crate::recorder::Recorder;
+use crate::rewrites::{Rewrite, apply_rewrite};
 use crate::totals::Totals;
 use crate::walk::Walk;
-use file_fixes::fixes;
 use piece_listing::run::write_whole;
 use rust_trees::{BreakKind, Places};
 use source_lint::{Options, Report, file_faults};
@@ -37,7 +38,9 @@ pub struct Request<'a> {
     pub form: Form,
     /// The edition, or `None` for that of each package.
     pub edition: Option<&'a str>,
-    /// What is done with files that are fixed, or `None` if none is fixed.
+    /// What is changed in files.
+    pub rewrite: Rewrite,
+    /// What is done with files that change, or `None` if none is to be changed.
     pub change: Option<Change>,
     /// The version of the program.
     pub version: &'a str,
@@ -208,8 +211,8 @@ impl<'a> Run<'a> {
         Ok(())
     }
 
-    /// Writes the fixed text of a file where the request says. Returns whether that was done.
-    fn put_fixed(
+    /// Writes the new text of a file where the request says. Returns whether that was done.
+    fn put_rewritten(
         &mut self,
         rt: &HostRuntime,
         path: &str,
@@ -240,8 +243,8 @@ impl<'a> Run<'a> {
         Ok(true)
     }
 
-    /// Fixes a file that was read whole, and writes what the request wants of it.
-    fn fix(
+    /// Changes a file that was read whole, and writes what the request wants of it.
+    fn change_file(
         &mut self,
         rt: &HostRuntime,
         path: &str,
@@ -249,21 +252,23 @@ impl<'a> Run<'a> {
         origin: Origin,
         change: Change,
     ) -> Result<(), Failure> {
-        let fixed = fixes(rt.alloc(), text, &self.options)?;
+        let made = apply_rewrite(rt.alloc(), text, &self.options, self.request.rewrite)?;
         let is_source = origin == Origin::Stdin && change == Change::Write;
-        let Some(new) = &fixed.text else {
+        let Some(new) = &made.text else {
             if is_source {
                 write(rt, text)?;
             }
-            self.totals.add(&fixed.report);
-            return self.put_report(rt, path, text, Extent::Whole, &fixed.report);
+            self.totals.add(&made.report);
+            self.totals.add_inlinings(&made);
+            return self.put_report(rt, path, text, Extent::Whole, &made.report);
         };
-        if !self.put_fixed(rt, path, origin, change, (text, new.as_str()))? {
+        if !self.put_rewritten(rt, path, origin, change, (text, new.as_str()))? {
             return self.report(rt, path, text, Extent::Whole);
         }
-        self.totals.add(&fixed.report);
-        self.totals.add_fixes(fixed.ids.len());
-        self.put_report(rt, path, new.as_str(), Extent::Whole, &fixed.report)
+        self.totals.add(&made.report);
+        self.totals.add_inlinings(&made);
+        self.totals.add_change(made.fixes);
+        self.put_report(rt, path, new.as_str(), Extent::Whole, &made.report)
     }
 
     /// Reads a text of a file, and writes the messages about it.
@@ -296,7 +301,7 @@ impl<'a> Run<'a> {
             return self.report(rt, path, text, extent);
         };
         match extent {
-            Extent::Whole => self.fix(rt, path, text, origin, change),
+            Extent::Whole => self.change_file(rt, path, text, origin, change),
             Extent::Text if origin == Origin::Stdin && change == Change::Write => {
                 write_bytes(rt, bytes)?;
                 self.report(rt, path, text, extent)
@@ -356,6 +361,9 @@ impl<'a> Run<'a> {
             Ok(_) => self.lint_file(rt, path),
             Err(error) => {
                 self.totals.fail(rt, path, &error);
+                if is_option(path) {
+                    let _ = eprintln!(rt; "  = help: an option begins with two dashes: --{path}");
+                }
                 Ok(())
             }
         }
@@ -381,7 +389,7 @@ impl<'a> Run<'a> {
     }
 }
 
-/// Returns whether standard output has the fixed source of standard input, so that messages are
+/// Returns whether standard output has the new source of standard input, so that messages are
 /// written to standard error.
 fn is_aside(request: &Request<'_>) -> bool {
     let is_stdin_read = request.paths.contains(&"-")

@@ -13,7 +13,7 @@ use piece_listing::run::{read_input, run as list_as_text, write_whole};
 use piece_listing::verdict::RunFault;
 use std::alloc::{AllocError, Global};
 use std::fs;
-use std::io::{IsTerminal, Read, Write};
+use std::io::{ErrorKind, IsTerminal, Read, Write};
 
 /// Reads a stream to its end.
 fn read<R: Read + Drop>(rt: &HostRuntime, stream: R) -> Result<Vec<u8>, Failure> {
@@ -175,9 +175,12 @@ fn put_why(
 /// signal SIGPIPE.
 const GONE: u8 = 141;
 
+/// The advice where the string was given as a path.
+const NO_PATH: &str = "  = help: without a PATH the string is read from standard input";
+
 /// Writes to standard error why there is no answer, and returns the exit status.
 pub fn tell(rt: &HostRuntime, path: &str, input: &[u8], failure: &Failure) -> u8 {
-    if failure.is_of_a_broken_pipe() {
+    if failure.is_of(ErrorKind::BrokenPipe) {
         return GONE;
     }
     let mut out = String::new(rt.alloc());
@@ -211,7 +214,13 @@ pub fn literal_status(rt: &HostRuntime, matches: &ArgMatches<'_>) -> Option<u8> 
     };
     let bytes = match input(rt, matches, file) {
         Ok(bytes) => bytes,
-        Err(failure) => return Some(tell(rt, path, &[], &failure)),
+        Err(failure) => {
+            let status = tell(rt, path, &[], &failure);
+            if failure.is_of(ErrorKind::NotFound) {
+                let _ = rt.eprintln(NO_PATH);
+            }
+            return Some(status);
+        }
     };
     match answer(rt, matches, path, bytes.as_slice()) {
         Ok(count) => {

@@ -8,10 +8,12 @@ mod editions;
 mod failure;
 mod files;
 mod forms;
+mod inlinings;
 mod literal;
 mod options;
 mod progress;
 mod recorder;
+mod rewrites;
 mod totals;
 mod walk;
 
@@ -25,6 +27,7 @@ use files::{Request, lint, write};
 use forms::Form;
 use literal::{literal_status, tell};
 use options::{VERSION, command};
+use rewrites::Rewrite;
 use source_lint::Options;
 use std::alloc::{AllocError, Global};
 use std::env;
@@ -118,7 +121,7 @@ fn read_string(rt: &HostRuntime, matches: &ArgMatches<'_>) -> Result<u8, Error> 
     }
 }
 
-/// Returns whether fixes are shown and not written.
+/// Returns whether changes are shown and not written.
 fn is_preview(change: Option<Change>) -> bool {
     matches!(change, Some(Change::Diff | Change::Check))
 }
@@ -153,6 +156,9 @@ fn read_files(
     }
     if matches.get_flag("stats") {
         totals.show_counts(rt);
+        if request.rewrite.inlines {
+            totals.show_inlinings(rt);
+        }
     }
     if !matches.get_flag("quiet") && !matches!(request.form, Form::Json | Form::Sarif) {
         totals.sum_up(rt, is_preview(request.change));
@@ -188,6 +194,11 @@ fn files_status(rt: &HostRuntime, matches: &ArgMatches<'_>) -> Result<u8, Error>
             has_colours(rt, matches),
         ),
         edition: matches.get_str("edition"),
+        rewrite: Rewrite {
+            fixes: matches.get_flag("fix"),
+            inlines: matches.get_flag("inline"),
+            allows_mixed: matches.get_flag("mixed"),
+        },
         change: change_of(matches),
         version: VERSION,
     };

@@ -1,7 +1,9 @@
 //! The totals of a run over files, and the lines about it on standard error.
 
 use crate::changes::StepFailure;
+use crate::inlinings::{Inlinings, NO_CALLS};
 use crate::progress::Progress;
+use crate::rewrites::Rewritten;
 use format_calls::Reason;
 use lint_words::{put_failure, put_place_failure, system_words};
 use piece_listing::verdict::RunFault;
@@ -39,10 +41,11 @@ pub struct Totals {
     pub faults: usize,
     /// The number of warnings that were found.
     pub warnings: usize,
-    /// The number of files that are fixed.
+    /// The number of files that are changed.
     pub changed: usize,
     /// The number of faults and warnings that are fixed.
     fixed: usize,
+    inlinings: Inlinings,
     /// The number of files and folders, or parts of them, that could not be read.
     pub failures: usize,
     progress: Progress,
@@ -62,11 +65,25 @@ fn ending(number: usize) -> &'static str {
 /// allocation fails.
 fn put_step(out: &mut String, path: &str, failure: &StepFailure) -> Result<(), AllocError> {
     let alloc = *out.allocator();
-    let (step, error) = (failure.step, &failure.error);
-    let words = format!(in alloc; "{error}")?;
-    let why = system_words(words.as_str());
-    let reason = format!(in alloc; "not written: {step}: {why}")?;
+    let step = failure.step;
+    let reason = match &failure.error {
+        Some(error) => {
+            let words = format!(in alloc; "{error}")?;
+            let why = system_words(words.as_str());
+            format!(in alloc; "not written: {step}: {why}")?
+        }
+        None => format!(in alloc; "not written: {step}")?,
+    };
     put_failure(out, path, RunFault::Write, reason.as_str())
+}
+
+/// Writes how many calls there are for each reason, if there is one.
+fn show_rows(rt: &HostRuntime, rows: &[(usize, &'static str)]) {
+    for (number, reason) in rows {
+        if *number > 0 {
+            let _ = eprintln!(rt; "  {reason}: {number}");
+        }
+    }
 }
 
 impl Unread {
@@ -125,6 +142,7 @@ impl Totals {
             warnings: 0,
             changed: 0,
             fixed: 0,
+            inlinings: NO_CALLS,
             failures: 0,
             progress: Progress::new(rt),
         }
@@ -170,8 +188,13 @@ impl Totals {
         }
     }
 
-    /// Counts a fixed file, and how many faults and warnings are fixed in it.
-    pub fn add_fixes(&mut self, fixes: usize) {
+    /// Counts what inlining makes of the calls of a file.
+    pub fn add_inlinings(&mut self, file: &Rewritten) {
+        self.inlinings.add(file);
+    }
+
+    /// Counts a changed file, and how many faults and warnings are fixed in it.
+    pub fn add_change(&mut self, fixes: usize) {
         count(&mut self.changed);
         self.fixed = self.fixed.saturating_add(fixes);
     }
@@ -223,8 +246,26 @@ impl Totals {
         self.whole.saturating_add(self.alone)
     }
 
-    /// Writes how many files and format strings were read, and how many faults were found and
-    /// fixed, or are to be fixed where no file is written.
+    /// Writes how many faults are fixed and calls are inlined, and in how many files.
+    fn show_changes(&self, rt: &HostRuntime, is_preview: bool) {
+        let (fixed, inlined, changed) = (self.fixed, self.inlinings.inlined, self.changed);
+        let mut sign = ",";
+        if fixed > 0 {
+            let word = if is_preview { "to fix" } else { "fixed" };
+            let _ = eprint!(rt; " left, {fixed} {word}");
+            sign = " and";
+        }
+        if inlined > 0 {
+            let of_calls = ending(inlined);
+            let word = if is_preview { "to inline" } else { "inlined" };
+            let _ = eprint!(rt; "{sign} {inlined} call{of_calls} {word}");
+        }
+        let of_changed = ending(changed);
+        let _ = eprint!(rt; " in {changed} file{of_changed}");
+    }
+
+    /// Writes how many files and format strings were read, how many faults were found, and what is
+    /// changed, or is to be changed where no file is written.
     pub fn sum_up(&self, rt: &HostRuntime, is_preview: bool) {
         let (files, strings, faults) = (self.files, self.strings(), self.faults);
         let (of_files, of_strings) = (ending(files), ending(strings));
@@ -237,10 +278,7 @@ impl Totals {
             let _ = eprint!(rt; ", {warnings} warning{of_warnings}");
         }
         if self.changed > 0 {
-            let (fixed, changed) = (self.fixed, self.changed);
-            let of_changed = ending(changed);
-            let word = if is_preview { "to fix" } else { "fixed" };
-            let _ = eprint!(rt; " left, {fixed} {word} in {changed} file{of_changed}");
+            self.show_changes(rt, is_preview);
         }
         let _ = rt.eprintln("");
     }
@@ -257,10 +295,19 @@ impl Totals {
         }
         let unread = calls.saturating_sub(strings);
         let _ = eprintln!(rt; "calls whose format string was not read: {unread}");
-        for (number, reason) in self.unread.rows() {
-            if number > 0 {
-                let _ = eprintln!(rt; "  {reason}: {number}");
-            }
+        show_rows(rt, &self.unread.rows());
+    }
+
+    /// Writes how many calls are inlined, and why the others that were read are left.
+    pub fn show_inlinings(&self, rt: &HostRuntime) {
+        let inlined = self.inlinings.inlined;
+        let rows = self.inlinings.rows();
+        let mut left = 0usize;
+        for (number, _) in rows {
+            left = left.saturating_add(number);
         }
+        let _ = eprintln!(rt; "calls that are inlined: {inlined}");
+        let _ = eprintln!(rt; "calls that are left as they are: {left}");
+        show_rows(rt, &rows);
     }
 }

@@ -69,7 +69,7 @@ const LISTED: Row = Row {
         text 1..4 \"hi \"\n\
         open 4..5 \"{\"\n\
         identifier 5..6 \"a\"\n\
-        white 6..7 \" \"\n\
+        whitespace 6..7 \" \"\n\
         colon 7..8 \":\"\n\
         fill 8..9 \"*\"\n\
         align 9..10 \">\"\n\
@@ -81,7 +81,7 @@ const LISTED: Row = Row {
         dot 15..16 \".\"\n\
         asterisk 16..17 \"*\"\n\
         type 17..19 \"x?\"\n\
-        white 19..20 \" \"\n\
+        whitespace 19..20 \" \"\n\
         close 20..21 \"}\"\n\
         escape 21..23 \"{{\"\n\
         text 23..24 \"b\"\n\
