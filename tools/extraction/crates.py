@@ -14,7 +14,7 @@ CRATES = ("rustc_parse_format", "placeholder_check", "format_tokens", "fault_fix
           "drawn_labels", "drawn_edits", "drawn_faults", "rust_tokens", "rust_trees",
           "format_calls", "call_faults", "asm_faults", "message_faults", "piece_listing",
           "listing_json", "literal_faults", "format_lint", "lint_words", "source_lint",
-          "file_fixes", "unified_diff", "fault_rules", "message_forms", "package_edition", "formatread",
+          "file_fixes", "inlined_arguments", "file_inlines", "unified_diff", "fault_rules", "message_forms", "package_edition", "formatread",
           "formatlint")
 NOTICE = """\
 // Extracted from {place} by tools/extract: not to be edited.

@@ -43,6 +43,7 @@ METHODS = {
     "extend_from_slice": "try_extend_from_slice",
     "reserve": "try_reserve_more",
     "sort": "sort_in",
+    "sort_by_key": "sort_by_key_in",
     "clone": "try_clone",
     "collect": "collect_in",
     # of the standard library for some types, and not yet stable
@@ -76,6 +77,8 @@ ADDED = {("placeholder_check", "Report"): ("Clone", *SHOWN),
             for name in ("Edit", "Finding", "Help", "Label", "Note", "Report")},
          **{("rust_trees", name): SHOWN for name in ("FileBreak", "BreakKind", "Place")},
          **{("format_calls", name): SHOWN for name in ("Reason", "Row", "Rule")},
+         ("inlined_arguments", "Left"): ("Eq",), ("file_inlines", "CallInlining"): SHOWN,
+         ("file_inlines", "FileInlines"): ("Clone", *SHOWN),
          **{(crate, name): ("Hash",) for crate in ("format_tokens", "rust_tokens")
             for name in ("Kind", "Token")}}
 # Members that what calls the crates has to write, for which they have no call.

@@ -19,6 +19,7 @@
 //! ```
 use crate::proved::call_faults::{call_faults as call_faults_in, CallReport as CallReportIn};
 use crate::proved::file_fixes::fixes as fixes_in;
+use crate::proved::file_inlines::inlines as inlines_in;
 use crate::proved::format_calls::{arguments, calls as calls_in, format_string};
 use crate::proved::format_calls::{Argument as ArgumentIn, Table as TableIn};
 use crate::proved::rust_tokens::tokens as tokens_in;
@@ -35,7 +36,9 @@ pub use crate::proved::call_faults::{
     CallFault, FormatArgument, FormatString, Missing, Part, Reference,
 };
 pub use crate::proved::file_fixes::FileFixes;
+pub use crate::proved::file_inlines::{CallInlining, FileInlines};
 pub use crate::proved::format_calls::{Reason, Row, Rule};
+pub use crate::proved::inlined_arguments::Left;
 pub use crate::proved::rust_tokens::{Kind, Token};
 pub use crate::proved::rust_trees::{BreakKind, FileBreak, Place};
 pub use crate::proved::source_lint::{CallReading, Finding, Report};
@@ -295,6 +298,36 @@ pub fn file_faults(text: &str, table: &Table<'_>, is_from_2021: bool) -> Report 
 /// ```
 pub fn file_fixes(text: &str, table: &Table<'_>, is_from_2021: bool) -> FileFixes {
     answer(fixes_in(Global, text, &options(table, is_from_2021)))
+}
+
+/// Reads a file as [`file_faults`] does, and moves the arguments of its calls that are variables into
+/// their format strings. Each call then means what it meant before. `allows_mixed` is whether a call
+/// is changed that has other arguments too: these stay.
+///
+/// The file stays as it is if it breaks, or if with the calls inlined it would break, have another
+/// number of calls or more faults. An allocation failure aborts, as elsewhere in Rust.
+///
+/// ```
+/// use dephungo::source::{file_inlines, CallInlining, Left, Table};
+///
+/// let text = "fn f() { print!(\"{}, {:>w$}\", x, y, w = w); print!(\"{} {}\", x, y + 1); }";
+/// let inlines = file_inlines(text, &Table::standard(), true, false);
+/// let inlined = "fn f() { print!(\"{x}, {y:>w$}\"); print!(\"{} {}\", x, y + 1); }";
+/// assert_eq!(inlines.text.as_deref(), Some(inlined));
+/// assert_eq!(inlines.calls, [CallInlining::Inlined, CallInlining::Left(Left::Mixed)]);
+/// ```
+pub fn file_inlines(
+    text: &str,
+    table: &Table<'_>,
+    is_from_2021: bool,
+    allows_mixed: bool,
+) -> FileInlines {
+    answer(inlines_in(
+        Global,
+        text,
+        &options(table, is_from_2021),
+        allows_mixed,
+    ))
 }
 
 /// Returns the options for reading a file.

@@ -1,6 +1,6 @@
 //! Tokens, places and calls of files. Expected values are worked out by hand from the Rust Reference,
 //! and places are those that rustc 1.95 reports.
-use dephungo::source::{broken_at, calls, file_faults, tokens};
+use dephungo::source::{broken_at, calls, file_faults, file_fixes, tokens};
 use dephungo::source::{BreakKind, CallReading, Kind, Places, Reason, Row, Rule, Table};
 use std::path::{Path, PathBuf};
 
@@ -300,6 +300,7 @@ fn reports() {
         (7, 12, "no-string-literal", false),
         (9, 14, "missing-argument", false),
         (10, 23, "missing-expression", false),
+        (11, 25, "missing-comma", false),
         (13, 19, "missing-comma", false),
         (14, 5, "missing-format-string", false),
     ];
@@ -312,6 +313,7 @@ fn reports() {
         "format argument must be a string literal",
         "2 positional arguments in format string, but there is 1 argument",
         "expected expression, found `,`",
+        "expected one of `!`, `,`, `.`, `::`, `?`, `{`, or an operator, found `x`",
         "expected `,`, found `x`",
         "requires at least a format string argument",
     ];
@@ -379,4 +381,47 @@ fn breaks() {
         assert_eq!((first_break.start, kind), (front.len() + at, wanted));
         assert_eq!(report.findings.len(), 1);
     }
+}
+
+/// The suggestions that rustc 1.95 calls applicable by a machine are applied, those to all faults
+/// in a round; other faults stay as they are.
+#[test]
+fn fixes() {
+    let fixed = |text: &str| {
+        let fixes = file_fixes(text, &Table::standard(), true);
+        (fixes.text, fixes.ids, fixes.report.findings.len())
+    };
+    let whole = |text: &str, ids: &[&'static str]| (Some(text.to_owned()), ids.to_vec(), 0);
+    let of = |calls: &str| format!("fn f() {{ let x = 1; {calls} }}");
+    assert_eq!(
+        fixed(&of(
+            "print!(\"{r#x}\"); print!(\"{x?}\"); print!(\"{x:?#}\");"
+        )),
+        whole(
+            &of("print!(\"{x}\"); print!(\"{x:?}\"); print!(\"{x:#?}\");"),
+            &["raw-identifier", "missing-colon", "flag-after-type"],
+        ),
+    );
+    assert_eq!(
+        fixed(&of(
+            "print!(\"{t.0}\"); print!(\"{x} {a.b}\"); print!(\"a\");"
+        )),
+        whole(
+            &of("print!(\"{0}\", t.0); print!(\"{x} {0}\", a.b); print!(\"a\");"),
+            &["tuple-index", "field-access"],
+        ),
+    );
+    let (text, ids, count) = fixed(&of(&"print!(\"{r#x}\"); ".repeat(20)));
+    assert_eq!(text, Some(of(&"print!(\"{x}\"); ".repeat(20))));
+    assert_eq!((ids, count), (vec!["raw-identifier"; 20], 0));
+    for (calls, count) in [
+        ("print!(\"{x}\", x);", 1),
+        ("print!(\"{_}\");", 1),
+        ("print!(\"{\");", 1),
+        ("print!(x);", 1),
+        ("print!(\"{x:d}\");", 1),
+    ] {
+        assert_eq!(fixed(&of(calls)), (None, vec![], count), "{calls}");
+    }
+    assert_eq!(fixed("fn f() { print!(\"{r#x}\");"), (None, vec![], 1));
 }

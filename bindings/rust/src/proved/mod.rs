@@ -10,6 +10,7 @@ pub mod fault_fixes;
 #[cfg(feature = "std")]
 pub mod fault_rules;
 pub mod file_fixes;
+pub mod file_inlines;
 pub mod format_calls;
 #[cfg(feature = "std")]
 pub mod format_lint;
@@ -18,6 +19,7 @@ pub mod format_tokens;
 pub mod formatlint;
 #[cfg(feature = "std")]
 pub mod formatread;
+pub mod inlined_arguments;
 #[cfg(feature = "std")]
 pub mod lint_words;
 #[cfg(feature = "std")]

@@ -67,6 +67,7 @@ pub trait VecIn<T>: Sized {
     fn sort_in(&mut self) -> Result<(), AllocError>
     where
         T: Ord;
+    fn sort_by_key_in<K: Ord, F: FnMut(&T) -> K>(&mut self, key: F) -> Result<(), AllocError>;
     fn own_allocator(&self) -> &Global;
 }
 
@@ -114,6 +115,12 @@ impl<T> VecIn<T> for Vec<T> {
         T: Ord,
     {
         self.sort();
+        Ok(())
+    }
+
+    #[inline(always)]
+    fn sort_by_key_in<K: Ord, F: FnMut(&T) -> K>(&mut self, key: F) -> Result<(), AllocError> {
+        self.sort_by_key(key);
         Ok(())
     }
 

@@ -180,10 +180,11 @@ impl<'a> Arg<'a> {
     }
 }
 
-/// Arguments of which one at most is used, under a name.
+/// Arguments under a name. One at most is used, unless several may be.
 pub struct ArgGroup<'a> {
     id: &'a str,
     args: Vec<&'a str>,
+    multiple: bool,
 }
 
 impl<'a> ArgGroup<'a> {
@@ -192,7 +193,14 @@ impl<'a> ArgGroup<'a> {
         ArgGroup {
             id,
             args: Vec::new(),
+            multiple: false,
         }
+    }
+
+    /// Lets several of the arguments be used, or one at most.
+    pub fn multiple(mut self, yes: bool) -> ArgGroup<'a> {
+        self.multiple = yes;
+        self
     }
 
     /// Adds an argument.

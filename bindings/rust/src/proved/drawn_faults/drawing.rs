@@ -288,6 +288,17 @@ fn least_length(picture: &Picture<'_>, error: &ParseError) -> usize {
 // ensures coloured { IfOk result (λ s. IsColourOf (string_bytes s)
 //     (drawing (seen_mode mode) (uncoloured (seen_picture picture.now)) (seen_error error.now))) }
 // ensures harmless { IfOk result (λ s. IsHarmlessWith picture.now.colours (string_bytes s)) }
+// The line and the column that it names are those of the span's first character in the source.
+// ensures arrow { IfOk result (λ s. PointsAt (seen_mode mode) (seen_picture picture.now)
+//     (seen_error error.now) (string_bytes s)) }
+// Of a span in one line, with no other label, it shows that line, and under it the span's signs
+// in the columns of the span, and no sign elsewhere.
+// ensures label { IfOk result (λ s. picture.now.colours ≡ false
+//     → second (seen_mode mode) (seen_picture picture.now) (seen_error error.now) ≡ None
+//     → (let e = (primary (seen_mode mode) (seen_picture picture.now)
+//     (seen_error error.now)).extent in (e.start.line == e.end.line) ≡ true)
+//     → ShowsLabel (seen_mode mode) (seen_picture picture.now) (seen_error error.now)
+//     (string_bytes s)) }
 #[inline]
 pub fn draw(
     alloc: Global,

@@ -7,7 +7,8 @@
 
 use crate::proved::drawn_edits::{placed, put_edits, put_help_word, Edit};
 use crate::proved::drawn_faults::marked::last_edit_line;
-use crate::proved::drawn_lines::{put_glyphs, Frame, Picture};
+use crate::proved::drawn_faults::notes::put_indented;
+use crate::proved::drawn_lines::{put_glyphs, put_painted, put_run, Frame, Gutter, Picture, Style};
 use crate::proved::fault_fixes::Edit as SourceEdit;
 use crate::shim::alloc::{AllocError, Global};
 use crate::shim::prelude::*;
@@ -60,12 +61,39 @@ pub fn last_help_line(
     Ok(line)
 }
 
+/// Adds the start of a help without edits.
+// ensures { OnOk result (string_bytes out.new ≡ string_bytes out.old ++ help_row_word gutter) }
+#[inline]
+fn put_help_row_word(out: &mut String, gutter: Gutter) -> Result<(), AllocError> {
+    put_run(out, ' ', gutter.columns)?;
+    out.try_push_str(" ")?;
+    put_painted(out, gutter.palette, Style::Secondary, "= ")?;
+    put_painted(out, gutter.palette, Style::Bold, "help")?;
+    out.try_push_str(": ")?;
+    Ok(())
+}
+
+/// Adds a help without edits, as a row.
+// ensures { OnOk result (string_bytes out.new ≡ string_bytes out.old
+//     ++ (help_row_word gutter ++ (indented gutter (chars text.now) ++ codes "\n"))) }
+#[inline]
+fn put_help_row(out: &mut String, gutter: Gutter, text: &str) -> Result<(), AllocError> {
+    put_help_row_word(out, gutter)?;
+    put_indented(out, gutter, text)?;
+    out.try_push_str("\n")?;
+    Ok(())
+}
+
 /// Adds a help and its edits.
 // requires { length frame.now.picture.now.source.now < 2 ^ 59 }
 // ensures { OnOk result (string_bytes out.new ≡ string_bytes out.old
 //     ++ help_rows (seen_frame frame.now) (seen_help help.now)) }
 #[inline]
 fn put_help(out: &mut String, frame: &Frame<'_>, help: &SourceHelp<'_>) -> Result<(), AllocError> {
+    if help.edits.is_empty() {
+        put_help_row(out, frame.gutter, help.text)?;
+        return Ok(());
+    }
     put_help_word(out, frame.gutter.palette)?;
     put_glyphs(out, help.text, 0)?;
     out.try_push_str("\n")?;

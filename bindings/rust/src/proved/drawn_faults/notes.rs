@@ -108,7 +108,7 @@ fn put_margin(out: &mut String, gutter: Gutter, c: char) -> Result<(), AllocErro
 // ensures { OnOk result (string_bytes out.new
 //     ≡ string_bytes out.old ++ indented gutter (chars text.now)) }
 #[inline]
-fn put_indented(out: &mut String, gutter: Gutter, text: &str) -> Result<(), AllocError> {
+pub fn put_indented(out: &mut String, gutter: Gutter, text: &str) -> Result<(), AllocError> {
     let mut rest = text;
     while let Some((c, tail)) = split_first(rest) {
         put_run(out, glyph(c), glyph_count(c))?;

@@ -58,8 +58,14 @@ pub fn mark_in<'a>(frame: &Frame<'_>, label: &Label<'a>) -> Mark<'a> {
 
 /// Adds a line of the source with a label.
 // requires { mark.now.line < 2 ^ 61 }
-// ensures { OnOk result (string_bytes out.new ≡ string_bytes out.old
+// ensures rows { OnOk result (string_bytes out.new ≡ string_bytes out.old
 //     ++ labelled (seen_frame frame.now) (seen_mark mark.now)) }
+// Without colours they are the line of the label, and under it the label's signs in its
+// columns, and no sign elsewhere.
+// ensures signs { OnOk result (has_colours frame.now.gutter.palette ≡ false
+//     → mark.now.from ≤ mark.now.to
+//     → AddsLabels (seen_frame frame.now) mark.now.line (seen_mark mark.now ∷ [])
+//     (string_bytes out.old) (string_bytes out.new)) }
 #[inline]
 pub fn put_labelled(
     out: &mut String,
@@ -92,8 +98,15 @@ fn put_apart(
 /// Adds the lines with two labels.
 // requires number { m.now.line < 2 ^ 60 }
 // requires second_number { n.now.line < 2 ^ 60 }
-// ensures { OnOk result (string_bytes out.new ≡ string_bytes out.old
+// ensures rows { OnOk result (string_bytes out.new ≡ string_bytes out.old
 //     ++ two_labels (seen_frame frame.now) (seen_mark m.now) (seen_mark n.now)) }
+// Without colours they are the lines of the labels, and under these the signs of the labels in
+// their columns, and no sign elsewhere.
+// ensures signs { OnOk result (has_colours frame.now.gutter.palette ≡ false
+//     → m.now.from ≤ m.now.to → n.now.from ≤ n.now.to
+//     → IsNarrow m.now.text.now → IsNarrow n.now.text.now
+//     → AddsTwo (seen_frame frame.now) (seen_mark m.now) (seen_mark n.now)
+//     (string_bytes out.old) (string_bytes out.new)) }
 #[inline]
 pub fn put_two_labels(
     out: &mut String,

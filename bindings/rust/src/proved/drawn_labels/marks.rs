@@ -191,8 +191,11 @@ fn put_rows_of(
 }
 
 /// Adds the rows under a line, of labels in it from right to left.
-// ensures { OnOk result (string_bytes out.new ≡ string_bytes out.old
+// ensures rows { OnOk result (string_bytes out.new ≡ string_bytes out.old
 //     ++ mark_rows gutter (map seen_mark marks.now)) }
+// Under the columns of the labels are their signs, and no sign is elsewhere.
+// ensures signs { OnOk result (AddsRows gutter (map seen_mark marks.now)
+//     (string_bytes out.old) (string_bytes out.new)) }
 #[inline]
 pub fn put_mark_rows(
     out: &mut String,

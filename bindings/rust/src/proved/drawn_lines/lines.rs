@@ -135,8 +135,11 @@ pub fn put_source(
 
 /// Adds a line of the source.
 // requires { number < 2 ^ 61 }
-// ensures { OnOk result (string_bytes out.new ≡ string_bytes out.old
+// ensures row { OnOk result (string_bytes out.new ≡ string_bytes out.old
 //     ++ code_row (seen_frame frame.now) number) }
+// The line that the row shows is that line of the source.
+// ensures line { OnOk result (AddsLine (seen_frame frame.now) (codes " ") number
+//     (string_bytes out.old) (string_bytes out.new)) }
 #[inline]
 pub fn put_code(out: &mut String, frame: &Frame<'_>, number: usize) -> Result<(), AllocError> {
     put_source(out, frame, " ", number)?;

@@ -234,16 +234,17 @@ pub const RULES: [Rule; COUNT] = [
     },
     Rule {
         id: "missing-comma",
-        summary: "no comma after the format string",
+        summary: "no comma between two arguments",
         explanation: "A comma stands between each two arguments.",
         example: "println!(\"{}\" name);",
         correction: "println!(\"{}\", name);",
     },
     Rule {
         id: "missing-expression",
-        summary: "no argument before a comma",
-        explanation: "An argument stands between each two commas. Only after the last one there \
-            may be a comma that nothing follows.",
+        summary: "no expression where an argument or an operand should stand",
+        explanation: "An argument stands between each two commas, and an operand before and after \
+            an operator between two. Only after the last argument there may be a comma that \
+            nothing follows.",
         example: "println!(\"{}\",, name);",
         correction: "println!(\"{}\", name);",
     },

@@ -9,6 +9,6 @@ pub(crate) mod edited;
 pub(crate) mod rounds;
 pub(crate) mod suggestions;
 
-pub use rounds::{fixes, FileFixes};
+pub use rounds::{fixes, is_no_worse, FileFixes};
 #[cfg(feature = "std")]
 pub use suggestions::{is_applicable, suggestion_of, LabelSuggestion};

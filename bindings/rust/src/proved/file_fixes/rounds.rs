@@ -34,7 +34,7 @@ struct Round {
 /// many calls, and no more faults.
 // ensures { result ≡ true → IsNoWorse old.now new.now }
 #[inline]
-fn is_no_worse(old: &Report, new: &Report) -> bool {
+pub fn is_no_worse(old: &Report, new: &Report) -> bool {
     old.first_break.is_none()
         && new.first_break.is_none()
         && new.calls.len() == old.calls.len()

@@ -23,7 +23,7 @@ fn kind_name(kind: Kind) -> &'static str {
         Kind::Integer => "integer",
         Kind::Identifier => "identifier",
         Kind::RawPrefix => "raw-prefix",
-        Kind::Whitespace => "white",
+        Kind::Whitespace => "whitespace",
         Kind::Colon => "colon",
         Kind::Fill => "fill",
         Kind::Align => "align",

@@ -90,10 +90,10 @@ pub fn form_of(matches: &ArgMatches<'_>, width: usize, colours: bool) -> Form {
     }
 }
 
-/// Returns what is done with files that are fixed, or `None` if none is fixed.
+/// Returns what is done with files that change, or `None` if none is to be changed.
 #[inline]
 pub fn change_of(matches: &ArgMatches<'_>) -> Option<Change> {
-    if !matches.get_flag("fix") {
+    if !matches.get_flag("fix") && !matches.get_flag("inline") {
         None
     } else if matches.get_flag("diff") {
         Some(Change::Diff)

@@ -31,8 +31,8 @@ pub enum Change {
 pub struct StepFailure {
     /// The step, as messages name it.
     pub step: &'static str,
-    /// The error of the system.
-    pub error: io::Error,
+    /// The error of the system, or `None` if there was none.
+    pub error: Option<io::Error>,
 }
 
 /// Returns the answer of a step, where a failure has its name.
@@ -40,7 +40,10 @@ pub struct StepFailure {
 fn at_step<T>(step: &'static str, answer: io::Result<T>) -> Result<T, StepFailure> {
     match answer {
         Ok(value) => Ok(value),
-        Err(error) => Err(StepFailure { step, error }),
+        Err(error) => Err(StepFailure {
+            step,
+            error: Some(error),
+        }),
     }
 }
 
@@ -128,7 +131,7 @@ fn put_in_place(
     if !at_step("reading it again", has_bytes(rt, path, old))? {
         return Err(StepFailure {
             step: "another program changed it",
-            error: io::Error::from(ErrorKind::Other),
+            error: None,
         });
     }
     at_step(
@@ -137,16 +140,20 @@ fn put_in_place(
     )
 }
 
-/// Returns the path of the file that a path leads to, if it may be written.
+/// Returns the path of the file that a path leads to, if it may be written, or `None` if that is a
+/// pipe or a device.
 #[inline]
-fn target_of(rt: &crate::shim::host::HostRuntime, path: &str) -> io::Result<String> {
+fn target_of(rt: &crate::shim::host::HostRuntime, path: &str) -> io::Result<Option<String>> {
     let target = fs::canonicalize(rt, path)?;
     let data = fs::metadata(rt, target.as_str())?;
+    if !data.is_file() {
+        return Ok(None);
+    }
     if data.permissions().readonly() {
         return Err(io::Error::from(ErrorKind::PermissionDenied));
     }
     let text = String::made_from(rt.alloc(), target.as_str())?;
-    Ok(text)
+    Ok(Some(text))
 }
 
 /// Replaces the file that a path leads to, which had old bytes when it was read, by one with new
@@ -158,7 +165,12 @@ pub fn replace(
     old: &[u8],
     new: &[u8],
 ) -> Result<(), StepFailure> {
-    let target = at_step("opening it", target_of(rt, path))?;
+    let Some(target) = at_step("opening it", target_of(rt, path))? else {
+        return Err(StepFailure {
+            step: "it is a pipe or a device",
+            error: None,
+        });
+    };
     let (beside, file) = at_step("a new file beside it", create_beside(rt, target.as_str()))?;
     let (from, to) = (beside.as_str(), target.as_str());
     let answer = match fill(rt, file, to, from, new) {

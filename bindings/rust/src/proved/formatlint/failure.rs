@@ -40,11 +40,11 @@ impl Failure {
         }
     }
 
-    /// Returns whether the reader of the output is gone.
+    /// Returns whether the system's error is of this kind.
     #[inline]
-    pub fn is_of_a_broken_pipe(&self) -> bool {
+    pub fn is_of(&self, kind: io::ErrorKind) -> bool {
         match &self.error {
-            Some(error) => error.kind() == io::ErrorKind::BrokenPipe,
+            Some(error) => error.kind() == kind,
             None => false,
         }
     }

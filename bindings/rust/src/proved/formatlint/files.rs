@@ -4,13 +4,14 @@
 // That source is proved, and each contract here is its. That this text means the same is tested:
 // by results from outside, and beside what is proved (.ci/bindings) and the original (tools/agree).
 
-use crate::proved::file_fixes::fixes;
 use crate::proved::formatlint::changes::{replace, Change};
 use crate::proved::formatlint::editions::Editions;
 use crate::proved::formatlint::failure::Failure;
 use crate::proved::formatlint::forms::{put_end, put_finding, put_start, File, Form};
 use crate::proved::formatlint::literal::tell_of_terminal;
+use crate::proved::formatlint::options::is_option;
 use crate::proved::formatlint::recorder::Recorder;
+use crate::proved::formatlint::rewrites::{apply_rewrite, Rewrite};
 use crate::proved::formatlint::totals::Totals;
 use crate::proved::formatlint::walk::Walk;
 use crate::proved::piece_listing::run::write_whole;
@@ -40,7 +41,9 @@ pub struct Request<'a> {
     pub form: Form,
     /// The edition, or `None` for that of each package.
     pub edition: Option<&'a str>,
-    /// What is done with files that are fixed, or `None` if none is fixed.
+    /// What is changed in files.
+    pub rewrite: Rewrite,
+    /// What is done with files that change, or `None` if none is to be changed.
     pub change: Option<Change>,
     /// The version of the program.
     pub version: &'a str,
@@ -223,9 +226,9 @@ impl<'a> Run<'a> {
         Ok(())
     }
 
-    /// Writes the fixed text of a file where the request says. Returns whether that was done.
+    /// Writes the new text of a file where the request says. Returns whether that was done.
     #[inline]
-    fn put_fixed(
+    fn put_rewritten(
         &mut self,
         rt: &crate::shim::host::HostRuntime,
         path: &str,
@@ -256,9 +259,9 @@ impl<'a> Run<'a> {
         Ok(true)
     }
 
-    /// Fixes a file that was read whole, and writes what the request wants of it.
+    /// Changes a file that was read whole, and writes what the request wants of it.
     #[inline]
-    fn fix(
+    fn change_file(
         &mut self,
         rt: &crate::shim::host::HostRuntime,
         path: &str,
@@ -266,21 +269,23 @@ impl<'a> Run<'a> {
         origin: Origin,
         change: Change,
     ) -> Result<(), Failure> {
-        let fixed = fixes(rt.alloc(), text, &self.options)?;
+        let made = apply_rewrite(rt.alloc(), text, &self.options, self.request.rewrite)?;
         let is_source = origin == Origin::Stdin && change == Change::Write;
-        let Some(new) = &fixed.text else {
+        let Some(new) = &made.text else {
             if is_source {
                 write(rt, text)?;
             }
-            self.totals.add(&fixed.report);
-            return self.put_report(rt, path, text, Extent::Whole, &fixed.report);
+            self.totals.add(&made.report);
+            self.totals.add_inlinings(&made);
+            return self.put_report(rt, path, text, Extent::Whole, &made.report);
         };
-        if !self.put_fixed(rt, path, origin, change, (text, new.as_str()))? {
+        if !self.put_rewritten(rt, path, origin, change, (text, new.as_str()))? {
             return self.report(rt, path, text, Extent::Whole);
         }
-        self.totals.add(&fixed.report);
-        self.totals.add_fixes(fixed.ids.len());
-        self.put_report(rt, path, new.as_str(), Extent::Whole, &fixed.report)
+        self.totals.add(&made.report);
+        self.totals.add_inlinings(&made);
+        self.totals.add_change(made.fixes);
+        self.put_report(rt, path, new.as_str(), Extent::Whole, &made.report)
     }
 
     /// Reads a text of a file, and writes the messages about it.
@@ -315,7 +320,7 @@ impl<'a> Run<'a> {
             return self.report(rt, path, text, extent);
         };
         match extent {
-            Extent::Whole => self.fix(rt, path, text, origin, change),
+            Extent::Whole => self.change_file(rt, path, text, origin, change),
             Extent::Text if origin == Origin::Stdin && change == Change::Write => {
                 write_bytes(rt, bytes)?;
                 self.report(rt, path, text, extent)
@@ -391,6 +396,9 @@ impl<'a> Run<'a> {
             Ok(_) => self.lint_file(rt, path),
             Err(error) => {
                 self.totals.fail(rt, path, &error);
+                if is_option(path) {
+                    let _ = crate::shim::eprintln_in!(rt; "  = help: an option begins with two dashes: --{path}");
+                }
                 Ok(())
             }
         }
@@ -417,7 +425,7 @@ impl<'a> Run<'a> {
     }
 }
 
-/// Returns whether standard output has the fixed source of standard input, so that messages are
+/// Returns whether standard output has the new source of standard input, so that messages are
 /// written to standard error.
 #[inline]
 fn is_aside(request: &Request<'_>) -> bool {

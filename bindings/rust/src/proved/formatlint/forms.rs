@@ -48,6 +48,35 @@ pub struct File<'a> {
     pub places: Places<'a>,
 }
 
+/// How many traits rustc suggests for one that is unknown.
+const TRAITS: usize = 9;
+
+/// Returns a suggestion that is in no drawing: to write a trait that is known, of which this is the
+/// number, where another one stands. Returns `None` for other faults and numbers.
+#[inline]
+fn trait_suggestion(id: &str, number: usize) -> Option<LabelSuggestion> {
+    let (advice, text) = match number {
+        0 => ("use the `Display` trait", ""),
+        1 => ("use the `Debug` trait", "?"),
+        2 => ("use the `LowerExp` trait", "e"),
+        3 => ("use the `UpperExp` trait", "E"),
+        4 => ("use the `Octal` trait", "o"),
+        5 => ("use the `Pointer` trait", "p"),
+        6 => ("use the `Binary` trait", "b"),
+        7 => ("use the `LowerHex` trait", "x"),
+        8 => ("use the `UpperHex` trait", "X"),
+        _ => return None,
+    };
+    if id != "unknown-trait" {
+        return None;
+    }
+    Some(LabelSuggestion {
+        advice,
+        text,
+        is_sure: false,
+    })
+}
+
 /// Returns the lines of a text around a range, without the last LF and a byte order mark at the
 /// start of the text.
 #[inline]
@@ -172,8 +201,8 @@ fn suggestion_spans<'a>(
     Ok(spans)
 }
 
-/// Returns the ranges of the notes of a finding, then those of the suggestions among its labels,
-/// and those of its help. Returns `Err` if an allocation fails.
+/// Returns the ranges of the notes of a finding, then those of its suggestions that are not drawn,
+/// of those among its labels, and of its help. Returns `Err` if an allocation fails.
 // requires { file.now.places ≡ file.now.text.now }
 #[inline]
 fn child_spans<'a>(
@@ -189,6 +218,11 @@ fn child_spans<'a>(
         }
         all.try_push(spans)?;
     }
+    for number in 0..TRAITS {
+        if let Some(suggestion) = trait_suggestion(finding.id, number) {
+            all.try_push(suggestion_spans(alloc, file, &finding.span, suggestion)?)?;
+        }
+    }
     for label in &finding.labels {
         if let Some(suggestion) = suggestion_of(label.text.as_str()) {
             all.try_push(suggestion_spans(alloc, file, &label.range, suggestion)?)?;
@@ -200,8 +234,8 @@ fn child_spans<'a>(
     Ok(all)
 }
 
-/// Returns the notes of a finding, the suggestions among its labels and its help, with these
-/// ranges. Returns `Err` if an allocation fails.
+/// Returns the notes of a finding, its suggestions that are not drawn, those among its labels and
+/// its help, with these ranges. Returns `Err` if an allocation fails.
 #[inline]
 fn children<'a, 's>(
     alloc: Global,
@@ -217,6 +251,18 @@ fn children<'a, 's>(
         })?;
     }
     let mut index = finding.notes.len();
+    for number in 0..TRAITS {
+        if let (Some(suggestion), Some(spans)) =
+            (trait_suggestion(finding.id, number), ranges.get(index))
+        {
+            children.try_push(Child {
+                level: ChildLevel::Help,
+                text: suggestion.advice,
+                spans: spans.as_slice(),
+            })?;
+            index = index.saturating_add(1);
+        }
+    }
     for label in &finding.labels {
         if let (Some(suggestion), Some(spans)) =
             (suggestion_of(label.text.as_str()), ranges.get(index))

@@ -19,7 +19,7 @@ use crate::shim::clap::ArgMatches;
 use crate::shim::host::fs;
 use crate::shim::host::IsTerminal;
 use crate::shim::prelude::*;
-use std::io::{Read, Write};
+use std::io::{ErrorKind, Read, Write};
 
 /// Reads a stream to its end.
 #[inline]
@@ -191,6 +191,9 @@ fn put_why(
 /// signal SIGPIPE.
 const GONE: u8 = 141;
 
+/// The advice where the string was given as a path.
+const NO_PATH: &str = "  = help: without a PATH the string is read from standard input";
+
 /// Writes to standard error why there is no answer, and returns the exit status.
 #[inline]
 pub fn tell(
@@ -199,7 +202,7 @@ pub fn tell(
     input: &[u8],
     failure: &Failure,
 ) -> u8 {
-    if failure.is_of_a_broken_pipe() {
+    if failure.is_of(ErrorKind::BrokenPipe) {
         return GONE;
     }
     let mut out = String::made_in(rt.alloc());
@@ -235,7 +238,13 @@ pub fn literal_status(rt: &crate::shim::host::HostRuntime, matches: &ArgMatches<
     };
     let bytes = match input(rt, matches, file) {
         Ok(bytes) => bytes,
-        Err(failure) => return Some(tell(rt, path, &[], &failure)),
+        Err(failure) => {
+            let status = tell(rt, path, &[], &failure);
+            if failure.is_of(ErrorKind::NotFound) {
+                let _ = rt.eprintln(NO_PATH);
+            }
+            return Some(status);
+        }
     };
     match answer(rt, matches, path, bytes.as_slice()) {
         Ok(count) => {

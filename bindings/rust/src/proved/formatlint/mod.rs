@@ -12,10 +12,12 @@ pub(crate) mod editions;
 pub(crate) mod failure;
 pub(crate) mod files;
 pub(crate) mod forms;
+pub(crate) mod inlinings;
 pub(crate) mod literal;
 pub(crate) mod options;
 pub(crate) mod progress;
 pub(crate) mod recorder;
+pub(crate) mod rewrites;
 pub(crate) mod totals;
 pub(crate) mod walk;
 
@@ -33,6 +35,7 @@ use files::{lint, write, Request};
 use forms::Form;
 use literal::{literal_status, tell};
 use options::{command, VERSION};
+use rewrites::Rewrite;
 use std::process::ExitCode;
 use totals::Totals;
 
@@ -132,7 +135,7 @@ fn read_string(rt: &crate::shim::host::HostRuntime, matches: &ArgMatches<'_>) ->
     }
 }
 
-/// Returns whether fixes are shown and not written.
+/// Returns whether changes are shown and not written.
 #[inline]
 fn is_preview(change: Option<Change>) -> bool {
     matches!(change, Some(Change::Diff | Change::Check))
@@ -170,6 +173,9 @@ fn read_files(
     }
     if matches.get_flag("stats") {
         totals.show_counts(rt);
+        if request.rewrite.inlines {
+            totals.show_inlinings(rt);
+        }
     }
     if !matches.get_flag("quiet") && !matches!(request.form, Form::Json | Form::Sarif) {
         totals.sum_up(rt, is_preview(request.change));
@@ -209,6 +215,11 @@ fn files_status(
             has_colours(rt, matches),
         ),
         edition: matches.get_str("edition"),
+        rewrite: Rewrite {
+            fixes: matches.get_flag("fix"),
+            inlines: matches.get_flag("inline"),
+            allows_mixed: matches.get_flag("mixed"),
+        },
         change: change_of(matches),
         version: VERSION,
     };

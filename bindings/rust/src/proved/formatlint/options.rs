@@ -26,7 +26,15 @@ const LISTINGS: [&str; 2] = ["text", "json"];
 const EDITIONS: [&str; 4] = ["2015", "2018", "2021", "2024"];
 
 /// The options about files, which are not given with those about a string.
-const FILES: [&str; 5] = ["exclude", "edition", "macro", "message-format", "stats"];
+const FILES: [&str; 7] = [
+    "exclude",
+    "edition",
+    "macro",
+    "message-format",
+    "stats",
+    "inline",
+    "mixed",
+];
 
 /// The options with which no diff is printed.
 const NO_PREVIEW: [&str; 3] = ["message-format", "literal", "text"];
@@ -69,7 +77,7 @@ const FLAG: Row = Row {
 };
 
 /// The options, in the order of the help.
-static OPTIONS: [Row; 22] = [
+static OPTIONS: [Row; 24] = [
     Row {
         name: "exclude",
         value: Some("NAME"),
@@ -135,16 +143,28 @@ static OPTIONS: [Row; 22] = [
         ..FLAG
     },
     Row {
+        name: "inline",
+        help: "Move arguments that are variables into format strings, in the files in place, or print standard input with them",
+        conflicts: &["literal", "text"],
+        ..FLAG
+    },
+    Row {
+        name: "mixed",
+        help: "With --inline: also in calls with other arguments, which stay",
+        needs: &["inline"],
+        ..FLAG
+    },
+    Row {
         name: "diff",
-        help: "With --fix: print what would change in files as a unified diff, and write no file",
-        needs: &["fix"],
+        help: "With --fix or --inline: print what would change in files as a unified diff, and write no file",
+        needs: &["change"],
         conflicts: &NO_PREVIEW,
         ..FLAG
     },
     Row {
         name: "check",
-        help: "With --fix: print the paths of the files that would change, and write no file",
-        needs: &["fix"],
+        help: "With --fix or --inline: print the paths of the files that would change, and write no file",
+        needs: &["change"],
         conflicts: &NO_CHECK,
         ..FLAG
     },
@@ -268,6 +288,19 @@ pub fn command<'a>(alloc: Global) -> Result<Command<'a>, AllocError> {
         .action(ArgAction::Append)
         .help("The files and folders to read; - is standard input; without one, this folder");
     let with_all = with_options(alloc, named.arg(path)?)?;
-    let group = ArgGroup::new(alloc, "string").arg("literal")?;
-    with_all.group(group.arg("text")?)
+    let string = ArgGroup::new(alloc, "string").arg("literal")?;
+    let change = ArgGroup::new(alloc, "change").arg("fix")?;
+    let with_string = with_all.group(string.arg("text")?)?;
+    with_string.group(change.arg("inline")?.multiple(true))
+}
+
+/// Returns whether an option has this name.
+#[inline]
+pub fn is_option(name: &str) -> bool {
+    for row in &OPTIONS {
+        if row.name == name {
+            return true;
+        }
+    }
+    name == "help" || name == "version"
 }

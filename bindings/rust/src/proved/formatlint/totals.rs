@@ -6,7 +6,9 @@
 
 use crate::proved::format_calls::Reason;
 use crate::proved::formatlint::changes::StepFailure;
+use crate::proved::formatlint::inlinings::{Inlinings, NO_CALLS};
 use crate::proved::formatlint::progress::Progress;
+use crate::proved::formatlint::rewrites::Rewritten;
 use crate::proved::lint_words::{put_failure, put_place_failure, system_words};
 use crate::proved::piece_listing::verdict::RunFault;
 use crate::proved::rust_trees::Place;
@@ -42,10 +44,11 @@ pub struct Totals {
     pub faults: usize,
     /// The number of warnings that were found.
     pub warnings: usize,
-    /// The number of files that are fixed.
+    /// The number of files that are changed.
     pub changed: usize,
     /// The number of faults and warnings that are fixed.
     fixed: usize,
+    inlinings: Inlinings,
     /// The number of files and folders, or parts of them, that could not be read.
     pub failures: usize,
     progress: Progress,
@@ -72,11 +75,26 @@ fn ending(number: usize) -> &'static str {
 #[inline]
 fn put_step(out: &mut String, path: &str, failure: &StepFailure) -> Result<(), AllocError> {
     let alloc = *out.own_allocator();
-    let (step, error) = (failure.step, &failure.error);
-    let words = crate::shim::format_in!(alloc; "{error}")?;
-    let why = system_words(words.as_str());
-    let reason = crate::shim::format_in!(alloc; "not written: {step}: {why}")?;
+    let step = failure.step;
+    let reason = match &failure.error {
+        Some(error) => {
+            let words = crate::shim::format_in!(alloc; "{error}")?;
+            let why = system_words(words.as_str());
+            crate::shim::format_in!(alloc; "not written: {step}: {why}")?
+        }
+        None => crate::shim::format_in!(alloc; "not written: {step}")?,
+    };
     put_failure(out, path, RunFault::Write, reason.as_str())
+}
+
+/// Writes how many calls there are for each reason, if there is one.
+#[inline]
+fn show_rows(rt: &crate::shim::host::HostRuntime, rows: &[(usize, &'static str)]) {
+    for (number, reason) in rows {
+        if *number > 0 {
+            let _ = crate::shim::eprintln_in!(rt; "  {reason}: {number}");
+        }
+    }
 }
 
 impl Unread {
@@ -138,6 +156,7 @@ impl Totals {
             warnings: 0,
             changed: 0,
             fixed: 0,
+            inlinings: NO_CALLS,
             failures: 0,
             progress: Progress::new(rt),
         }
@@ -187,9 +206,15 @@ impl Totals {
         }
     }
 
-    /// Counts a fixed file, and how many faults and warnings are fixed in it.
+    /// Counts what inlining makes of the calls of a file.
     #[inline]
-    pub fn add_fixes(&mut self, fixes: usize) {
+    pub fn add_inlinings(&mut self, file: &Rewritten) {
+        self.inlinings.add(file);
+    }
+
+    /// Counts a changed file, and how many faults and warnings are fixed in it.
+    #[inline]
+    pub fn add_change(&mut self, fixes: usize) {
         count(&mut self.changed);
         self.fixed = self.fixed.saturating_add(fixes);
     }
@@ -256,8 +281,27 @@ impl Totals {
         self.whole.saturating_add(self.alone)
     }
 
-    /// Writes how many files and format strings were read, and how many faults were found and
-    /// fixed, or are to be fixed where no file is written.
+    /// Writes how many faults are fixed and calls are inlined, and in how many files.
+    #[inline]
+    fn show_changes(&self, rt: &crate::shim::host::HostRuntime, is_preview: bool) {
+        let (fixed, inlined, changed) = (self.fixed, self.inlinings.inlined, self.changed);
+        let mut sign = ",";
+        if fixed > 0 {
+            let word = if is_preview { "to fix" } else { "fixed" };
+            let _ = crate::shim::eprint_in!(rt; " left, {fixed} {word}");
+            sign = " and";
+        }
+        if inlined > 0 {
+            let of_calls = ending(inlined);
+            let word = if is_preview { "to inline" } else { "inlined" };
+            let _ = crate::shim::eprint_in!(rt; "{sign} {inlined} call{of_calls} {word}");
+        }
+        let of_changed = ending(changed);
+        let _ = crate::shim::eprint_in!(rt; " in {changed} file{of_changed}");
+    }
+
+    /// Writes how many files and format strings were read, how many faults were found, and what is
+    /// changed, or is to be changed where no file is written.
     #[inline]
     pub fn sum_up(&self, rt: &crate::shim::host::HostRuntime, is_preview: bool) {
         let (files, strings, faults) = (self.files, self.strings(), self.faults);
@@ -271,11 +315,7 @@ impl Totals {
             let _ = crate::shim::eprint_in!(rt; ", {warnings} warning{of_warnings}");
         }
         if self.changed > 0 {
-            let (fixed, changed) = (self.fixed, self.changed);
-            let of_changed = ending(changed);
-            let word = if is_preview { "to fix" } else { "fixed" };
-            let _ =
-                crate::shim::eprint_in!(rt; " left, {fixed} {word} in {changed} file{of_changed}");
+            self.show_changes(rt, is_preview);
         }
         let _ = rt.eprintln("");
     }
@@ -293,10 +333,20 @@ impl Totals {
         }
         let unread = calls.saturating_sub(strings);
         let _ = crate::shim::eprintln_in!(rt; "calls whose format string was not read: {unread}");
-        for (number, reason) in self.unread.rows() {
-            if number > 0 {
-                let _ = crate::shim::eprintln_in!(rt; "  {reason}: {number}");
-            }
+        show_rows(rt, &self.unread.rows());
+    }
+
+    /// Writes how many calls are inlined, and why the others that were read are left.
+    #[inline]
+    pub fn show_inlinings(&self, rt: &crate::shim::host::HostRuntime) {
+        let inlined = self.inlinings.inlined;
+        let rows = self.inlinings.rows();
+        let mut left = 0usize;
+        for (number, _) in rows {
+            left = left.saturating_add(number);
         }
+        let _ = crate::shim::eprintln_in!(rt; "calls that are inlined: {inlined}");
+        let _ = crate::shim::eprintln_in!(rt; "calls that are left as they are: {left}");
+        show_rows(rt, &rows);
     }
 }

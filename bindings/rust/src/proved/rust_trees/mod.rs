@@ -18,5 +18,5 @@ pub use matching::DelimiterBreak;
 #[cfg(feature = "std")]
 pub use places::place_at;
 pub use places::{Place, Places};
-pub use sides::{is_opening, Side};
+pub use sides::{is_opening, Delimiter, Side};
 pub use source::Source;

@@ -9,7 +9,28 @@
 // That source is proved, and each contract here is its. That this text means the same is tested:
 // by results from outside, and beside what is proved (.ci/bindings) and the original (tools/agree).
 
-use crate::proved::rustc_parse_format::types::{Count, FormatSpec};
+use crate::proved::rustc_parse_format::types::{Alignment, Count, DebugHex, FormatSpec, Sign};
+
+/// Returns whether two alignments are equal, by `==`.
+// ensures { IsTrue result ↔ AreSame seen_alignment a.now b.now }
+#[inline]
+pub fn alignments_are_equal(a: &Alignment, b: &Alignment) -> bool {
+    a == b
+}
+
+/// Returns whether two signs are equal, by `==`.
+// ensures { IsTrue result ↔ AreSame seen_sign a.now b.now }
+#[inline]
+pub fn signs_are_equal(a: &Sign, b: &Sign) -> bool {
+    a == b
+}
+
+/// Returns whether two cases of hexadecimal digits are equal, by `==`.
+// ensures { IsTrue result ↔ AreSame seen_debug_hex a.now b.now }
+#[inline]
+pub fn debug_hexes_are_equal(a: &DebugHex, b: &DebugHex) -> bool {
+    a == b
+}
 
 /// Proves that a text is UTF-8.
 // ensures { IsUtf8 _text.now }

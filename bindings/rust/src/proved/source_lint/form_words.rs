@@ -6,7 +6,10 @@
 
 use crate::proved::format_calls::{Argument, Call};
 use crate::proved::rust_trees::Token;
-use crate::proved::source_lint::forms::{is_control, is_modifier, is_special, Form};
+use crate::proved::source_lint::commas::Expected;
+use crate::proved::source_lint::forms::Form;
+use crate::proved::source_lint::keywords::kind_word;
+use crate::proved::source_lint::operators::Operator;
 use crate::proved::source_lint::report::{Edit, Finding, Help, Label};
 use crate::proved::source_lint::spans::{call_range, range_in, tokens_range};
 use crate::shim::alloc::{AllocError, Global};
@@ -20,60 +23,53 @@ fn form_id(form: Form<'_>) -> &'static str {
     match form {
         Form::NoString => "missing-format-string",
         Form::NoLiteral { .. } => "no-string-literal",
-        Form::NoComma(_) => "missing-comma",
-        Form::NoExpression(_) => "missing-expression",
+        Form::NoComma { .. } => "missing-comma",
+        Form::NoOperand(_) | Form::NoExpression { .. } => "missing-expression",
     }
 }
 
-/// Returns whether a word is a keyword that has no use so far.
-// ensures { result ≡ is_reserved word.now }
+/// Adds a token that rustc found, in its words. Returns `Err` if an allocation fails.
+// ensures { OnOk result (string_bytes out.new
+//     ≡ string_bytes out.old ++ found_text (seen_operator found.entry)) }
 #[inline]
-fn is_reserved(word: &str) -> bool {
-    word == "abstract"
-        || word == "become"
-        || word == "box"
-        || word == "do"
-        || word == "final"
-        || word == "macro"
-        || word == "override"
-        || word == "priv"
-        || word == "try"
-        || word == "typeof"
-        || word == "unsized"
-        || word == "virtual"
-        || word == "yield"
+fn put_found(out: &mut String, found: Operator<'_>) -> Result<(), AllocError> {
+    out.try_push_str(kind_word(found.first.text))?;
+    out.try_push_str("`")?;
+    out.try_push_str(found.first.text)?;
+    out.try_push_str(found.second)?;
+    out.try_push_str(found.third)?;
+    out.try_push_str("`")?;
+    Ok(())
 }
 
-/// Returns whether a word that is not reserved is a keyword.
-// ensures { result ≡ is_keyword word.now }
+/// Returns the tokens that rustc expects, in its words, up to the one that it found.
+// ensures { result.now ≡ expected_words expected }
 #[inline]
-fn is_keyword(word: &str) -> bool {
-    is_control(word)
-        || is_modifier(word)
-        || is_special(word)
-        || word == "await"
-        || word == "enum"
-        || word == "mod"
-        || word == "pub"
-        || word == "struct"
-        || word == "trait"
-        || word == "type"
-        || word == "use"
-        || word == "where"
+fn expected_words(expected: Expected) -> &'static str {
+    match expected {
+        Expected::Comma => "expected `,`, found ",
+        Expected::Path => "expected one of `!`, `,`, `.`, `::`, `?`, `{`, or an operator, found ",
+        Expected::Field => "expected one of `(`, `,`, `.`, `::`, `?`, or an operator, found ",
+        Expected::Value => "expected one of `,`, `.`, `?`, or an operator, found ",
+    }
 }
 
-/// Returns the words of rustc before a token in a title, with the space after them.
-// ensures { result.now ≡ kind_word text.now }
+/// Returns the title where an expression is missing, up to what rustc found.
+// ensures { result.now ≡ missing_words }
 #[inline]
-fn kind_word(text: &str) -> &'static str {
-    if text == "_" {
-        "reserved identifier "
-    } else if is_reserved(text) {
-        "reserved keyword "
-    } else if is_keyword(text) {
-        "keyword "
+fn missing_words() -> &'static str {
+    "expected expression, found "
+}
+
+/// Returns the title where an argument ends without an expression, at the end of the call or at a
+/// comma.
+// ensures { result.now ≡ end_words is_last }
+#[inline]
+fn end_words(is_last: bool) -> &'static str {
+    if is_last {
+        "expected expression, found end of macro arguments"
     } else {
-        ""
+        "expected expression, found `,`"
     }
 }
 
@@ -85,16 +81,29 @@ fn put_title(out: &mut String, form: Form<'_>) -> Result<(), AllocError> {
     match form {
         Form::NoString => out.try_push_str("requires at least a format string argument")?,
         Form::NoLiteral { .. } => out.try_push_str("format argument must be a string literal")?,
-        Form::NoComma(token) => {
-            out.try_push_str("expected `,`, found ")?;
-            out.try_push_str(kind_word(token.text))?;
-            out.try_push_str("`")?;
-            out.try_push_str(token.text)?;
-            out.try_push_str("`")?;
+        Form::NoComma { expected, found } => {
+            out.try_push_str(expected_words(expected))?;
+            put_found(out, found)?;
         }
-        Form::NoExpression(_) => out.try_push_str("expected expression, found `,`")?,
+        Form::NoOperand(found) => {
+            out.try_push_str(missing_words())?;
+            put_found(out, found)?;
+        }
+        Form::NoExpression { is_last, .. } => out.try_push_str(end_words(is_last))?,
     }
     Ok(())
+}
+
+/// Returns the label of a token where rustc expects others.
+// ensures { result.now ≡ expected_label expected }
+#[inline]
+fn expected_label(expected: Expected) -> &'static str {
+    match expected {
+        Expected::Comma => "expected `,`",
+        Expected::Path => "expected one of 7 possible tokens",
+        Expected::Field => "expected one of `(`, `,`, `.`, `::`, `?`, or an operator",
+        Expected::Value => "expected one of `,`, `.`, `?`, or an operator",
+    }
 }
 
 /// Returns the text of the primary label.
@@ -103,8 +112,8 @@ fn put_title(out: &mut String, form: Form<'_>) -> Result<(), AllocError> {
 fn form_label(form: Form<'_>) -> &'static str {
     match form {
         Form::NoString | Form::NoLiteral { .. } => "",
-        Form::NoComma(_) => "expected `,`",
-        Form::NoExpression(_) => "expected expression",
+        Form::NoComma { expected, .. } => expected_label(expected),
+        Form::NoOperand(_) | Form::NoExpression { .. } => "expected expression",
     }
 }
 
@@ -117,14 +126,34 @@ fn argument_range(tokens: &[Token<'_>], arguments: &[Argument], index: usize) ->
     }
 }
 
-/// Returns the bytes of the token after the argument with this index, or none if there is no such
-/// argument.
+/// Returns the bytes of the token after the argument with this index, or the end of that argument
+/// if it is the last one. Returns no bytes if there is no such argument.
 #[inline]
-fn range_after(tokens: &[Token<'_>], arguments: &[Argument], index: usize) -> Range<usize> {
+fn range_after(
+    tokens: &[Token<'_>],
+    arguments: &[Argument],
+    index: usize,
+    is_last: bool,
+) -> Range<usize> {
     match arguments.get(index) {
-        Some(argument) => tokens_range(tokens, argument.end, argument.end.saturating_add(1)),
+        Some(argument) => {
+            if is_last {
+                let end = tokens_range(tokens, argument.start, argument.end).end;
+                end..end
+            } else {
+                tokens_range(tokens, argument.end, argument.end.saturating_add(1))
+            }
+        }
         None => 0..0,
     }
+}
+
+/// Returns the bytes of a token that rustc found.
+#[inline]
+fn found_range(found: Operator<'_>) -> Range<usize> {
+    let first = found.first.start.saturating_add(found.first.text.len());
+    let second = first.saturating_add(found.second.len());
+    found.first.start..second.saturating_add(found.third.len())
 }
 
 /// Returns the bytes that are wrong.
@@ -143,8 +172,9 @@ fn form_range(
             let index = arguments.len().saturating_sub(others).saturating_sub(1);
             argument_range(tokens, arguments, index)
         }
-        Form::NoComma(token) => token.start..token.start.saturating_add(token.text.len()),
-        Form::NoExpression(index) => range_after(tokens, arguments, index),
+        Form::NoComma { found, .. } => found_range(found),
+        Form::NoOperand(found) => found_range(found),
+        Form::NoExpression { index, is_last } => range_after(tokens, arguments, index, is_last),
     };
     range_in(text, range.start, range.end)
 }
@@ -161,8 +191,8 @@ fn bytes_label() -> &'static str {
 #[inline]
 fn has_bytes(form: Form<'_>) -> bool {
     match form {
-        Form::NoString | Form::NoComma(_) | Form::NoExpression(_) => false,
         Form::NoLiteral { is_bytes, .. } => is_bytes,
+        _ => false,
     }
 }
 
@@ -172,7 +202,6 @@ fn has_bytes(form: Form<'_>) -> bool {
 #[inline]
 fn lacks_literal(form: Form<'_>) -> Option<usize> {
     match form {
-        Form::NoString | Form::NoComma(_) | Form::NoExpression(_) => None,
         Form::NoLiteral { others, is_bytes } => {
             if is_bytes {
                 None
@@ -180,6 +209,7 @@ fn lacks_literal(form: Form<'_>) -> Option<usize> {
                 Some(others)
             }
         }
+        _ => None,
     }
 }
 

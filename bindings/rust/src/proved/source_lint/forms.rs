@@ -4,12 +4,14 @@
 // That source is proved, and each contract here is its. That this text means the same is tested:
 // by results from outside, and beside what is proved (.ci/bindings) and the original (tools/agree).
 
-use crate::proved::format_calls::{
-    closing, is_mark_of, is_standard, token_at, Argument, Part, Rule,
-};
+use crate::proved::format_calls::{is_standard, Argument, Part, Rule};
 use crate::proved::rust_tokens::Kind;
-use crate::proved::rust_trees::{Side, Source, Token};
-use crate::proved::source_lint::commas::{has_more, in_place};
+use crate::proved::rust_trees::Token;
+use crate::proved::source_lint::commas::{are_unknown, expected_at, has_more, Expected};
+use crate::proved::source_lint::expressions::{
+    are_path, have_variables, is_operand, joined, tokens_of,
+};
+use crate::proved::source_lint::operators::{lacks_left, lacks_operand, operator_at, Operator};
 
 /// A fault in the arguments of a call.
 #[derive(Clone, Copy)]
@@ -23,219 +25,22 @@ pub enum Form<'a> {
         /// Whether it is a byte string literal.
         is_bytes: bool,
     },
-    /// No comma stands after the format string, before this token.
-    NoComma(Token<'a>),
-    /// No expression stands where the argument with this index should.
-    NoExpression(usize),
-}
-
-/// Returns the tokens of an argument.
-// ensures { map leaf result.now ≡ tokens_of (map leaf tokens.now) argument.now }
-#[inline]
-fn tokens_of<'s, 'a>(tokens: &'s [Token<'a>], argument: &Argument) -> &'s [Token<'a>] {
-    let rest = &tokens[argument.start.min(tokens.len())..];
-    let count = argument.end.saturating_sub(argument.start);
-    &rest[..count.min(rest.len())]
-}
-
-/// Returns whether a word is a keyword around which expressions may stand.
-// ensures { result ≡ is_control word.now }
-#[inline]
-pub fn is_control(word: &str) -> bool {
-    word == "as"
-        || word == "break"
-        || word == "continue"
-        || word == "else"
-        || word == "for"
-        || word == "if"
-        || word == "in"
-        || word == "let"
-        || word == "loop"
-        || word == "match"
-        || word == "return"
-        || word == "while"
-        || word == "yield"
-}
-
-/// Returns whether a word is a keyword in front of an expression, a pattern or a type.
-// ensures { result ≡ is_modifier word.now }
-#[inline]
-pub fn is_modifier(word: &str) -> bool {
-    word == "async"
-        || word == "const"
-        || word == "dyn"
-        || word == "extern"
-        || word == "fn"
-        || word == "impl"
-        || word == "move"
-        || word == "mut"
-        || word == "ref"
-        || word == "static"
-        || word == "unsafe"
-}
-
-/// Returns whether a word is a keyword that is an expression or begins a path.
-// ensures { result ≡ is_special word.now }
-#[inline]
-pub fn is_special(word: &str) -> bool {
-    word == "_"
-        || word == "crate"
-        || word == "false"
-        || word == "self"
-        || word == "Self"
-        || word == "super"
-        || word == "true"
-}
-
-/// Returns whether tokens of this kind are literals.
-// ensures { result ≡ is_literal kind }
-#[inline]
-fn is_literal(kind: Kind) -> bool {
-    matches!(
-        kind,
-        Kind::BinaryInt
-            | Kind::OctalInt
-            | Kind::DecimalInt
-            | Kind::HexadecimalInt
-            | Kind::Float
-            | Kind::Char
-            | Kind::Byte
-            | Kind::Str
-            | Kind::ByteStr
-            | Kind::CStr
-            | Kind::RawStr
-            | Kind::RawByteStr
-            | Kind::RawCStr
-    )
-}
-
-/// Returns whether a token is an operand: a word that is no keyword, or a literal.
-// ensures { result ≡ is_operand (leaf token.now) }
-#[inline]
-fn is_operand(token: &Token<'_>) -> bool {
-    match token.kind {
-        Kind::RawIdent => true,
-        Kind::Ident => {
-            !is_control(token.text) && !is_modifier(token.text) && !is_special(token.text)
-        }
-        kind => token.is_ended && is_literal(kind),
-    }
-}
-
-/// Returns the number of delimiters that are open after a token, of which there are `depth` before
-/// it.
-// requires { depth + 1 < 2 ^ 64 }
-// ensures { result ≡ depth_after depth (leaf token.now) }
-#[inline]
-fn depth_after(depth: usize, token: &Token<'_>) -> usize {
-    match token.side() {
-        Side::Opens(_) => depth + 1,
-        Side::Closes(_) => depth.saturating_sub(1),
-        Side::Neither => depth,
-    }
-}
-
-/// Returns whether a token is an operand after another one.
-// ensures { result ≡ (is_after && is_operand (leaf token.now)) }
-#[inline]
-fn is_second(is_after: bool, token: &Token<'_>) -> bool {
-    is_after && is_operand(token)
-}
-
-/// Returns whether a token is an operand outside delimiters, of which `depth` are open.
-// ensures { result ≡ (depth == 0 && is_operand (leaf token.now)) }
-#[inline]
-fn is_outside(depth: usize, token: &Token<'_>) -> bool {
-    depth == 0 && is_operand(token)
-}
-
-/// Returns the token before another one that closes the pair that a token opens, or `None` if it
-/// opens none.
-// ensures { IfSome result (λ j. IsPair source.now index j × (j < end)
-//     × (is_operand (leaf token.now) ≡ false)) }
-#[inline]
-fn closing_before(
-    source: &Source<'_>,
-    index: usize,
-    token: &Token<'_>,
-    end: usize,
-) -> Option<usize> {
-    if is_operand(token) {
-        return None;
-    }
-    match closing(source, index) {
-        Some(close) if close < end => Some(close),
-        _ => None,
-    }
-}
-
-/// Returns the first operand of an argument outside delimiters that stands right after another one,
-/// or `None` if there is none. Pairs of delimiters are passed at once.
-// ensures { option_map leaf result ≡ next_operand false 0 (tokens_of source.now argument.now) }
-#[inline]
-fn next_operand<'a>(source: &Source<'a>, argument: &Argument) -> Option<Token<'a>> {
-    let tokens = source.tokens();
-    let mut index = argument.start;
-    let mut is_after = false;
-    let mut depth = 0;
-    while index < argument.end {
-        let Some(token) = token_at(tokens, index) else {
-            return None;
-        };
-        if is_second(is_after, &token) {
-            return Some(token);
-        }
-        match closing_before(source, index, &token, argument.end) {
-            Some(close) => {
-                is_after = false;
-                index = close + 1;
-            }
-            None => {
-                is_after = is_outside(depth, &token);
-                depth = depth_after(depth, &token);
-                index += 1;
-            }
-        }
-    }
-    None
-}
-
-/// Returns the first operand of an argument that stands right after another one, or `None` if there
-/// is none or a variable of a macro stands there.
-// ensures { option_map leaf result ≡ joined (tokens_of part.now argument.now) }
-#[inline]
-fn joined<'a>(part: &Part<'a>, argument: &Argument) -> Option<Token<'a>> {
-    if part.has_variable(argument) {
-        return None;
-    }
-    next_operand(part.source(), argument)
-}
-
-/// Returns whether an argument is no expression, as far as its tokens show: it has none, or two
-/// operands stand next to each other.
-// ensures { result ≡ is_bad (tokens_of part.now argument.now) }
-#[inline]
-fn is_bad(part: &Part<'_>, argument: &Argument) -> bool {
-    tokens_of(part.tokens(), argument).is_empty() || joined(part, argument).is_some()
-}
-
-/// Returns whether a token may stand in a path or in the access to a field.
-// ensures { result ≡ is_path (leaf token.now) }
-#[inline]
-fn is_path(token: &Token<'_>) -> bool {
-    is_operand(token) || is_mark_of(token, b'.') || is_mark_of(token, b':')
-}
-
-/// Returns whether all tokens may stand in a path or in the access to a field.
-// ensures { result ≡ not (list_any (λ x. not (is_path x)) (map leaf tokens.now)) }
-#[inline]
-fn are_path(tokens: &[Token<'_>]) -> bool {
-    for token in tokens {
-        if !is_path(token) {
-            return false;
-        }
-    }
-    true
+    /// No comma stands before a token.
+    NoComma {
+        /// The tokens that rustc expects.
+        expected: Expected,
+        /// The token that stands there.
+        found: Operator<'a>,
+    },
+    /// No operand stands before this operator, with which an argument begins.
+    NoOperand(Operator<'a>),
+    /// No expression stands where an argument ends.
+    NoExpression {
+        /// The index of the argument.
+        index: usize,
+        /// Whether the end of the call follows it. A comma does otherwise.
+        is_last: bool,
+    },
 }
 
 /// Returns whether an argument is a byte string literal.
@@ -280,16 +85,19 @@ fn part_at<'s, 'a>(
     }
 }
 
-/// Returns whether a variable of a macro stands in one of these arguments.
-// ensures { result ≡ list_any has_variable (map (tokens_of part.now) arguments.now) }
+/// Returns whether an argument has no token, or an operator lacks an operand.
+// ensures { result ≡ lacks_expression (map leaf tokens.now) }
 #[inline]
-fn have_variables(part: &Part<'_>, arguments: &[Argument]) -> bool {
-    for argument in arguments {
-        if part.has_variable(argument) {
-            return true;
-        }
-    }
-    false
+fn lacks_expression(tokens: &[Token<'_>]) -> bool {
+    tokens.is_empty() || lacks_operand(tokens)
+}
+
+/// Returns whether an argument is no expression, as far as its tokens show: it has none, an
+/// operator lacks an operand, or two operands stand next to each other.
+// ensures { result ≡ is_bad (tokens_of part.now argument.now) }
+#[inline]
+fn is_bad(part: &Part<'_>, argument: &Argument) -> bool {
+    lacks_expression(tokens_of(part.tokens(), argument)) || joined(part, argument).is_some()
 }
 
 /// Returns the index of the first argument that is no expression, or `None` if there is none.
@@ -304,42 +112,91 @@ fn first_bad(part: &Part<'_>, arguments: &[Argument]) -> Option<usize> {
     None
 }
 
-/// Returns what is wrong with an argument that is no expression. `is_string` is whether it should
-/// be the format string.
+/// Returns the fault that no comma stands before a token, where rustc expects these tokens.
+// ensures { seen_form result ≡ NoComma expected (seen_operator found.entry) }
+#[inline]
+fn no_comma(expected: Expected, found: Operator<'_>) -> Form<'_> {
+    Form::NoComma { expected, found }
+}
+
+/// Returns what is wrong with an argument in which the operand with an index stands right after
+/// another one. `is_string` is whether it should be the format string.
 // ensures { option_map seen_form result
-//     ≡ bad_form index is_string (tokens_of part.now argument.now) }
+//     ≡ joined_form is_string (map leaf tokens.now) (Some index) }
+#[inline]
+fn joined_form<'a>(tokens: &[Token<'a>], index: usize, is_string: bool) -> Option<Form<'a>> {
+    if !is_string && are_unknown(tokens) {
+        return None;
+    }
+    let Some(found) = operator_at(tokens, index) else {
+        return None;
+    };
+    if is_string {
+        Some(no_comma(Expected::Comma, found))
+    } else {
+        Some(no_comma(expected_at(tokens, index), found))
+    }
+}
+
+/// Returns what is wrong with an argument that begins with an operator which needs an operand
+/// before it, or `None` if there is no token.
+// ensures { option_map seen_form result
+//     ≡ option_map (λ o. NoOperand o) (operator_at (map leaf tokens.now) 0) }
+#[inline]
+fn operand_form<'a>(tokens: &[Token<'a>]) -> Option<Form<'a>> {
+    match operator_at(tokens, 0) {
+        Some(found) => Some(Form::NoOperand(found)),
+        None => None,
+    }
+}
+
+/// Returns what is wrong with the argument with an index, which is no expression. `is_string` is
+/// whether it should be the format string, and `is_last` whether the end of the call follows it.
+// ensures { option_map seen_form result
+//     ≡ bad_form index is_string is_last (tokens_of part.now argument.now) }
 #[inline]
 fn bad_form<'a>(
     part: &Part<'a>,
     argument: &Argument,
     index: usize,
     is_string: bool,
+    is_last: bool,
 ) -> Option<Form<'a>> {
-    if tokens_of(part.tokens(), argument).is_empty() {
-        return Some(Form::NoExpression(index));
-    }
-    if !is_string {
-        return None;
+    let tokens = tokens_of(part.tokens(), argument);
+    if lacks_left(tokens) {
+        return operand_form(tokens);
     }
     match joined(part, argument) {
-        Some(token) => Some(Form::NoComma(token)),
-        None => None,
+        Some(operand) => joined_form(tokens, operand, is_string),
+        None => Some(Form::NoExpression { index, is_last }),
+    }
+}
+
+/// Returns whether the end of the call follows the argument with an index.
+// ensures { result ≡ flag (slice_get (ends close arguments.now) index) }
+#[inline]
+fn is_last(arguments: &[Argument], index: usize, close: usize) -> bool {
+    match arguments.get(index) {
+        Some(argument) => argument.end == close,
+        None => false,
     }
 }
 
 /// Returns what is wrong with arguments of which the one with the index `bad` is no expression, and
-/// the one with the index `string` should be the format string.
-// ensures { option_map seen_form result
-//     ≡ form_at string bad (slice_get (map (tokens_of part.now) arguments.now) bad) }
+/// the one with the index `string` should be the format string. `is_last` is whether the end of the
+/// call follows the one that is no expression.
+// ensures { option_map seen_form result ≡ form_at is_last string bad
+//     (slice_get (map (tokens_of part.now) arguments.now) bad) }
 #[inline]
 fn form_at<'a>(
     part: &Part<'a>,
     arguments: &[Argument],
     string: usize,
     bad: usize,
+    is_last: bool,
 ) -> Option<Form<'a>> {
     match arguments.get(bad) {
-        Some(argument) if bad >= string => bad_form(part, argument, bad, bad == string),
+        Some(argument) if bad >= string => bad_form(part, argument, bad, bad == string, is_last),
         _ => None,
     }
 }
@@ -360,8 +217,8 @@ fn starts_well(bad: Option<usize>, index: usize) -> bool {
 // ensures { option_map seen_form result ≡ comma_form (map leaf tokens.now) }
 #[inline]
 fn comma_form<'a>(tokens: &[Token<'a>]) -> Option<Form<'a>> {
-    match in_place(tokens) {
-        Some(token) => Some(Form::NoComma(token)),
+    match operator_at(tokens, 1) {
+        Some(found) => Some(no_comma(Expected::Comma, found)),
         None => None,
     }
 }
@@ -375,15 +232,16 @@ fn others_after(arguments: &[Argument], index: usize) -> usize {
 
 /// Returns what is wrong with the arguments of a call of which the one with this index should be
 /// the format string, or `None` if nothing is known to be. `lacks_string` is whether it is a fault
-/// that there is none.
-// ensures { option_map seen_form result
-//     ≡ form_of lacks_string index (map (tokens_of part.now) arguments.now) }
+/// that there is none, and the list of arguments ends at a token.
+// ensures { option_map seen_form result ≡ form_of lacks_string (ends close arguments.now) index
+//     (map (tokens_of part.now) arguments.now) }
 #[inline]
 fn form_of<'a>(
     part: &Part<'a>,
     arguments: &[Argument],
     index: usize,
     lacks_string: bool,
+    close: usize,
 ) -> Option<Form<'a>> {
     if have_variables(part, arguments) {
         return None;
@@ -395,7 +253,7 @@ fn form_of<'a>(
         }
     }
     match bad {
-        Some(bad) => form_at(part, arguments, index, bad),
+        Some(bad) => form_at(part, arguments, index, bad, is_last(arguments, bad, close)),
         None => match part_at(part.tokens(), arguments, index) {
             Some(string) => literal_form(string, others_after(arguments, index)),
             None => {
@@ -467,19 +325,13 @@ pub fn form_here<'a>(
         return None;
     }
     match index_of(rule, is_from_2021) {
-        Some(index) => form_of(part, arguments, index, lacks_string(name, arguments, close)),
+        Some(index) => form_of(
+            part,
+            arguments,
+            index,
+            lacks_string(name, arguments, close),
+            close,
+        ),
         None => None,
     }
-}
-
-/// Returns whether an argument that has tokens is no expression.
-// ensures { result ≡ list_any (λ p. is_some (joined p)) (map (tokens_of part.now) arguments.now) }
-#[inline]
-pub fn have_joined(part: &Part<'_>, arguments: &[Argument]) -> bool {
-    for argument in arguments {
-        if joined(part, argument).is_some() {
-            return true;
-        }
-    }
-    false
 }

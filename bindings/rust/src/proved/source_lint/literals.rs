@@ -39,7 +39,7 @@ fn is_dropped(c: char, rest: &str) -> bool {
 /// Returns a text without the CR before each LF. Returns `Err` if an allocation fails.
 // ensures { IfOk result (λ s. chars (string_bytes s) ≡ without_crs (chars text.now)) }
 #[inline]
-fn without_crs(alloc: Global, text: &str) -> Result<String, AllocError> {
+pub fn without_crs(alloc: Global, text: &str) -> Result<String, AllocError> {
     let mut lines = String::made_in(alloc);
     let mut rest = text;
     while let Some((c, more)) = split_first(rest) {

@@ -10,12 +10,14 @@ use crate::proved::format_calls::{
 };
 use crate::proved::rust_trees::Token;
 use crate::proved::source_lint::assembly::read_asm;
+use crate::proved::source_lint::expressions::{have_joined, have_variables, tokens_of};
 use crate::proved::source_lint::findings::{put_findings, reading_of};
 use crate::proved::source_lint::form_words::put_form;
-use crate::proved::source_lint::forms::{form_here, have_joined};
+use crate::proved::source_lint::forms::form_here;
 use crate::proved::source_lint::givens::givens;
 use crate::proved::source_lint::literals::{appends_newline, dropped_crs, read_literal};
 use crate::proved::source_lint::macros::{name_at, other_macro, File};
+use crate::proved::source_lint::operators::lacks_operand;
 use crate::proved::source_lint::report::{CallReading, Finding};
 use crate::proved::source_lint::spans::Site;
 use crate::shim::alloc::{AllocError, Global};
@@ -100,7 +102,7 @@ fn read_string(
 /// library puts it into another text before the edition 2021, where it captures none.
 // ensures { result ≡ captures is_from_2021 rule name.now }
 #[inline]
-fn captures(rule: Rule, name: &[u8], is_from_2021: bool) -> bool {
+pub fn captures(rule: Rule, name: &[u8], is_from_2021: bool) -> bool {
     match rule {
         Rule::IndexByEdition(_) => is_from_2021 || name != b"unreachable".as_slice(),
         Rule::At(_) | Rule::FirstLiteral | Rule::Templates => true,
@@ -110,7 +112,7 @@ fn captures(rule: Rule, name: &[u8], is_from_2021: bool) -> bool {
 /// Returns the argument of an index, or `None` if there is none.
 // ensures { result ≡ slice_get arguments.now index }
 #[inline]
-fn argument_at(arguments: &[Argument], index: usize) -> Option<Argument> {
+pub fn argument_at(arguments: &[Argument], index: usize) -> Option<Argument> {
     if index < arguments.len() {
         Some(arguments[index])
     } else {
@@ -122,7 +124,7 @@ fn argument_at(arguments: &[Argument], index: usize) -> Option<Argument> {
 /// of slog.
 // ensures { result ≡ ends_early rule }
 #[inline]
-fn ends_early(rule: Rule) -> bool {
+pub fn ends_early(rule: Rule) -> bool {
     matches!(rule, Rule::FirstLiteral)
 }
 
@@ -130,7 +132,7 @@ fn ends_early(rule: Rule) -> bool {
 /// Returns `Err` if an allocation fails.
 // ensures { IfOk result (λ v. v.items ≡ arguments_before end arguments.now) }
 #[inline]
-fn arguments_before(
+pub fn arguments_before(
     alloc: Global,
     arguments: &[Argument],
     end: usize,
@@ -293,6 +295,34 @@ fn has_empty(arguments: &[Argument]) -> bool {
     false
 }
 
+/// Returns whether the arguments of a macro with this rule are expressions, up to the last one:
+/// those of tracing and of slog have forms of their own.
+// ensures { result ≡ are_expressions rule }
+#[inline]
+fn are_expressions(rule: Rule) -> bool {
+    matches!(rule, Rule::At(_) | Rule::IndexByEdition(_))
+}
+
+/// Returns whether an operator lacks an operand in one of these arguments.
+// ensures { result ≡ list_any lacks_operand (map (tokens_of part.now) arguments.now) }
+#[inline]
+fn lack_operand(part: &Part<'_>, arguments: &[Argument]) -> bool {
+    for argument in arguments {
+        if lacks_operand(tokens_of(part.tokens(), argument)) {
+            return true;
+        }
+    }
+    false
+}
+
+/// Returns whether an operator lacks an operand in one of the arguments of a macro with this rule,
+/// and no variable of a macro stands in them.
+// ensures { result ≡ lack_expression rule (map (tokens_of part.now) arguments.now) }
+#[inline]
+fn lack_expression(part: &Part<'_>, rule: Rule, arguments: &[Argument]) -> bool {
+    are_expressions(rule) && lack_operand(part, arguments) && !have_variables(part, arguments)
+}
+
 /// Returns whether the arguments of a macro with this rule are expressions: operands are none.
 // ensures { result ≡ has_expressions rule }
 #[inline]
@@ -307,13 +337,13 @@ fn has_expressions(rule: Rule) -> bool {
 // ensures literal { IfOk result (λ n. (a : ArgumentValue) × (slice_get arguments.now n ≡ Some a)
 //     × IsTrue (is_string_by call.now.rule part.now a)) }
 #[inline]
-fn index_or(
+pub fn index_or(
     file: File<'_, '_>,
     part: &Part<'_>,
     call: &Call,
     arguments: &[Argument],
 ) -> Result<usize, CallReading> {
-    if has_empty(arguments) {
+    if has_empty(arguments) || lack_expression(part, call.rule, arguments) {
         return Err(CallReading::NoExpression);
     }
     if has_expressions(call.rule) && have_joined(part, arguments) {

@@ -30,7 +30,8 @@ pub enum CallReading {
     /// Nothing, since the macro has the name of one of log, tracing or slog, but the path in front
     /// of it is one of another crate.
     ForeignMacro,
-    /// Nothing, since no expression stands where one of its arguments should, before a comma.
+    /// Nothing, since no expression stands where one should: one of its arguments is empty, or an
+    /// operator lacks an operand.
     NoExpression,
     /// Nothing, since no comma stands between two of its expressions.
     NoComma,

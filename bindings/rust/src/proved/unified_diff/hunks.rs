@@ -4,7 +4,7 @@
 // That source is proved, and each contract here is its. That this text means the same is tested:
 // by results from outside, and beside what is proved (.ci/bindings) and the original (tools/agree).
 
-use crate::proved::unified_diff::rows::{rows_of, Row, Side};
+use crate::proved::unified_diff::rows::{front, rest_after, rows_of, Row, Side};
 use crate::shim::alloc::AllocError;
 use crate::shim::itoa::Buffer;
 use crate::shim::prelude::*;
@@ -20,89 +20,127 @@ struct Numbers {
 }
 
 /// Returns how many of these rows are in the old text, and how many in the new one.
+// ensures old { result.old ≡ old_count rows.now }
+// ensures new { result.new ≡ new_count rows.now }
 #[inline]
 fn count(rows: &[Row<'_>]) -> Numbers {
     let mut numbers = Numbers { old: 0, new: 0 };
     for row in rows {
         if row.side != Side::New {
-            numbers.old = numbers.old.saturating_add(1);
+            numbers.old += 1;
         }
         if row.side != Side::Old {
-            numbers.new = numbers.new.saturating_add(1);
+            numbers.new += 1;
         }
     }
     numbers
 }
 
+/// Returns whether a line is in both texts.
+// ensures { result ≡ is_shared side }
+#[inline]
+fn is_shared(side: Side) -> bool {
+    matches!(side, Side::Both)
+}
+
 /// Returns how many rows are before the first one that is in one text alone, or `None` if all are
 /// in both.
+// ensures { MatchOption result (are_shared rows.now ≡ true)
+//     (λ n. (n < length rows.now) × (are_shared (take n rows.now) ≡ true)) }
 #[inline]
 fn unchanged(rows: &[Row<'_>]) -> Option<usize> {
-    let mut found = 0usize;
-    for row in rows {
-        if row.side != Side::Both {
-            return Some(found);
+    for (index, row) in rows.iter().enumerate() {
+        if !is_shared(row.side) {
+            return Some(index);
         }
-        found = found.saturating_add(1);
     }
     None
 }
 
-/// Returns how many of these rows, which start with a change, belong to one hunk.
+/// Returns how many of these rows, of which one of the first is a change, belong to one hunk.
+// ensures { 0 < length rows.now → 0 < result }
 #[inline]
 fn hunk_len(rows: &[Row<'_>]) -> usize {
     let mut seen = 0usize;
     let mut changed = 0usize;
     for row in rows {
         seen = seen.saturating_add(1);
-        if row.side != Side::Both {
+        if !is_shared(row.side) {
             changed = seen;
         } else if seen.saturating_sub(changed) > 2 * CONTEXT {
             break;
         }
     }
-    changed.saturating_add(CONTEXT).min(rows.len())
+    changed.saturating_add(CONTEXT)
 }
 
 /// Appends a number in decimal digits. Returns `Err` if an allocation fails.
+// ensures { OnOk result (string_bytes out.new ≡ string_bytes out.old ++ decimal number) }
 #[inline]
 fn put_number(out: &mut String, number: usize) -> Result<(), AllocError> {
-    let mut buffer = Buffer::new();
-    out.try_push_str(buffer.format(number))
+    out.try_push_str(Buffer::new().format(number))
 }
 
 /// Appends where the lines of a hunk are in a text: the number of the first line, and how many
 /// there are. Without a line the number is that of the line before. Returns `Err` if an allocation
 /// fails.
+// requires { before + count < 2 ^ 64 }
+// ensures { OnOk result (string_bytes out.new ≡ string_bytes out.old ++ extent before count) }
 #[inline]
 fn put_extent(out: &mut String, before: usize, count: usize) -> Result<(), AllocError> {
-    let first = if count == 0 {
-        before
-    } else {
-        before.saturating_add(1)
-    };
+    let first = if count == 0 { before } else { before + 1 };
     put_number(out, first)?;
     out.try_push_str(",")?;
     put_number(out, count)
 }
 
-/// Appends a row. Returns `Err` if an allocation fails.
+/// Returns the first byte of a line of the diff.
+// ensures { result.now ≡ sign side }
 #[inline]
-fn put_row(out: &mut String, row: &Row<'_>) -> Result<(), AllocError> {
-    out.try_push_str(match row.side {
+fn sign(side: Side) -> &'static str {
+    match side {
         Side::Both => " ",
         Side::Old => "-",
         Side::New => "+",
-    })?;
+    }
+}
+
+/// Appends what follows a line without an LF, and nothing after one with it. Returns `Err` if an
+/// allocation fails.
+// ensures { OnOk result (string_bytes out.new ≡ string_bytes out.old ++ line_end line.now) }
+#[inline]
+fn put_line_end(out: &mut String, line: &str) -> Result<(), AllocError> {
+    if line.as_bytes().ends_with(b"\n") {
+        return Ok(());
+    }
+    out.try_push_str("\n\\ No newline at end of file\n")
+}
+
+/// Appends a row. Returns `Err` if an allocation fails.
+// ensures { OnOk result (string_bytes out.new ≡ string_bytes out.old ++ row_text row.now) }
+#[inline]
+fn put_row(out: &mut String, row: &Row<'_>) -> Result<(), AllocError> {
+    out.try_push_str(sign(row.side))?;
     out.try_push_str(row.line)?;
-    if !row.line.ends_with('\n') {
-        out.try_push_str("\n\\ No newline at end of file\n")?;
+    put_line_end(out, row.line)
+}
+
+/// Appends rows. Returns `Err` if an allocation fails.
+// ensures { OnOk result (string_bytes out.new ≡ string_bytes out.old ++ rows_text rows.now) }
+#[inline]
+fn put_rows(out: &mut String, rows: &[Row<'_>]) -> Result<(), AllocError> {
+    for row in rows {
+        put_row(out, row)?;
     }
     Ok(())
 }
 
 /// Appends a hunk of rows, with these numbers of lines before it. Returns `Err` if an allocation
 /// fails.
+// requires old { before.old + old_count rows.now < 2 ^ 64 }
+// requires new { before.new + new_count rows.now < 2 ^ 64 }
+// ensures { OnOk result (string_bytes out.new
+//     ≡ string_bytes out.old ++ hunk_text before.old before.new rows.now) }
 #[inline]
 fn put_hunk(out: &mut String, before: Numbers, rows: &[Row<'_>]) -> Result<(), AllocError> {
     let inside = count(rows);
@@ -111,33 +149,39 @@ fn put_hunk(out: &mut String, before: Numbers, rows: &[Row<'_>]) -> Result<(), A
     out.try_push_str(" +")?;
     put_extent(out, before.new, inside.new)?;
     out.try_push_str(" @@\n")?;
-    for row in rows {
-        put_row(out, row)?;
+    put_rows(out, rows)
+}
+
+/// Returns the numbers of lines after rows.
+// requires old { before.old + old_count rows.now < 2 ^ 64 }
+// requires new { before.new + new_count rows.now < 2 ^ 64 }
+// ensures old { result.old ≡ before.old + old_count rows.now }
+// ensures new { result.new ≡ before.new + new_count rows.now }
+#[inline]
+fn after(before: Numbers, rows: &[Row<'_>]) -> Numbers {
+    let inside = count(rows);
+    Numbers {
+        old: before.old + inside.old,
+        new: before.new + inside.new,
     }
-    Ok(())
 }
 
 /// Appends all hunks of rows. Returns `Err` if an allocation fails.
+// ensures { OnOk result ((t : List ℕ) × (string_bytes out.new ≡ string_bytes out.old ++ t)
+//     × AreHunks rows.now t) }
 #[inline]
 fn put_hunks(out: &mut String, rows: &[Row<'_>]) -> Result<(), AllocError> {
-    let mut at = 0usize;
+    let mut rest = rows;
     let mut before = Numbers { old: 0, new: 0 };
-    while at < rows.len() {
-        let rest = &rows[at..];
-        let Some(shared) = unchanged(rest) else {
-            break;
-        };
+    while let Some(shared) = unchanged(rest) {
         let left_out = shared.saturating_sub(CONTEXT);
-        before.old = before.old.saturating_add(left_out);
-        before.new = before.new.saturating_add(left_out);
-        let length = hunk_len(rest.get(shared..).unwrap_or(&[]));
-        let end = shared.saturating_add(length.max(1));
-        let hunk = rest.get(left_out..end).unwrap_or(&[]);
-        put_hunk(out, before, hunk)?;
-        let inside = count(hunk);
-        before.old = before.old.saturating_add(inside.old);
-        before.new = before.new.saturating_add(inside.new);
-        at = at.saturating_add(end);
+        let others = rest_after(rest, left_out);
+        let length = hunk_len(others);
+        let hunk = front(others, length);
+        let start = after(before, front(rest, left_out));
+        put_hunk(out, start, hunk)?;
+        before = after(start, hunk);
+        rest = rest_after(others, length);
     }
     Ok(())
 }
@@ -190,20 +234,40 @@ fn put_path(out: &mut String, path: &str) -> Result<(), AllocError> {
     out.try_push('"')
 }
 
+/// Appends the first two lines of a diff of the file with this path. Returns `Err` if an allocation
+/// fails.
+// ensures { OnOk result ((p : List ℕ)
+//     × (string_bytes out.new ≡ string_bytes out.old ++ head p)) }
+#[inline]
+fn put_head(out: &mut String, path: &str) -> Result<(), AllocError> {
+    let mut name = String::made_in(*out.own_allocator());
+    put_path(&mut name, path)?;
+    out.try_push_str("--- ")?;
+    out.try_push_str(name.as_str())?;
+    out.try_push_str("\n+++ ")?;
+    out.try_push_str(name.as_str())?;
+    out.try_push_str("\n")?;
+    Ok(())
+}
+
 /// Appends the difference of an old and a new text of the file with this path as a unified diff,
 /// with three lines of context, and nothing if they are the same. A line ends at an LF. The time
 /// grows with both lengths. Returns `Err` if an allocation fails, and a part of the diff may then
 /// be appended.
+// Nothing is appended if the texts are the same. Otherwise the lines of the diff that begin
+// with a space or `-`, and those that it leaves out, make the old text, and those that begin
+// with a space or `+`, and those that it leaves out, the new one.
+// ensures same { old.now ≡ new.now → OnOk result (string_bytes out.new ≡ string_bytes out.old) }
+// ensures diff { (old.now ≡ new.now → ⊥) → OnOk result ((t : List ℕ)
+//     × (string_bytes out.new ≡ string_bytes out.old ++ t)
+//     × IsWholeDiff old.now new.now t) }
 #[inline]
 pub fn put_diff(out: &mut String, path: &str, old: &str, new: &str) -> Result<(), AllocError> {
     if old == new {
         return Ok(());
     }
     let rows = rows_of(*out.own_allocator(), old, new)?;
-    out.try_push_str("--- ")?;
-    put_path(out, path)?;
-    out.try_push_str("\n+++ ")?;
-    put_path(out, path)?;
-    out.try_push_str("\n")?;
-    put_hunks(out, rows.as_slice())
+    put_head(out, path)?;
+    put_hunks(out, rows.as_slice())?;
+    Ok(())
 }

@@ -32,6 +32,7 @@ pub struct Row<'a> {
 
 /// Returns the lines of a text, each with its LF; the last one may have none. Returns `Err` if an
 /// allocation fails.
+// ensures { IfOk result (λ v. joined v.items ≡ text.now) }
 #[inline]
 fn lines_of<'a>(alloc: Global, text: &'a str) -> Result<Vec<&'a str>, AllocError> {
     let mut lines = Vec::made_in(alloc);
@@ -42,38 +43,79 @@ fn lines_of<'a>(alloc: Global, text: &'a str) -> Result<Vec<&'a str>, AllocError
 }
 
 /// Returns how many lines at the ends of two texts are the same.
+// ensures old { result ≤ length old.now }
+// ensures new { result ≤ length new.now }
+// ensures same { joined (drop (length old.now - result) old.now)
+//     ≡ joined (drop (length new.now - result) new.now) }
 #[inline]
 fn common_end(old: &[&str], new: &[&str]) -> usize {
-    let mut count = 0usize;
-    for (line, other) in old.iter().rev().zip(new.iter().rev()) {
-        if *line != *other {
+    let mut count = 0;
+    while count < old.len() && count < new.len() {
+        if *old[old.len() - 1 - count] != *new[new.len() - 1 - count] {
             return count;
         }
-        count = count.saturating_add(1);
+        count += 1;
     }
     count
 }
 
-/// Returns how far behind the starts of two texts a line is that both have: the first one in order
-/// of the sum of both distances, up to eight lines each.
+/// A line of each of two texts, by its number from 1.
+#[derive(Clone, Copy)]
+struct Pair {
+    old: usize,
+    new: usize,
+}
+
+/// Returns whether two texts have these lines, and they are the same.
+// requires old { 0 < pair.old }
+// requires new { 0 < pair.new }
+// ensures { IsTrue result → IsCommon old.now new.now pair }
 #[inline]
-fn next_common(old: &[&str], new: &[&str]) -> Option<(usize, usize)> {
-    for sum in 0..WINDOW + WINDOW {
-        for skipped in 0..WINDOW {
-            if skipped > sum {
+fn is_common(old: &[&str], new: &[&str], pair: Pair) -> bool {
+    match (old.get(pair.old - 1), new.get(pair.new - 1)) {
+        (Some(line), Some(other)) => *line == *other,
+        _ => false,
+    }
+}
+
+/// Returns the first line that the starts of two texts have in common, in order of the sum of its
+/// numbers, which are at most eight.
+// ensures { IfSome result (λ p. IsCommon old.now new.now p) }
+#[inline]
+fn next_common(old: &[&str], new: &[&str]) -> Option<Pair> {
+    for sum in 2..=WINDOW + WINDOW {
+        for number in 1..=WINDOW {
+            if number >= sum {
                 break;
             }
-            if let (Some(line), Some(other)) = (old.get(skipped), new.get(sum - skipped)) {
-                if sum - skipped < WINDOW && *line == *other {
-                    return Some((skipped, sum - skipped));
-                }
+            let pair = Pair {
+                old: number,
+                new: sum - number,
+            };
+            if pair.new <= WINDOW && is_common(old, new, pair) {
+                return Some(pair);
             }
         }
     }
     None
 }
 
+/// Appends a line that is on this side. Returns `Err` if an allocation fails.
+// ensures old { OnOk result (old_text rows.new.items
+//     ≡ old_text rows.old.items ++ in_old side line.now) }
+// ensures new { OnOk result (new_text rows.new.items
+//     ≡ new_text rows.old.items ++ in_new side line.now) }
+#[inline]
+fn push_line<'a>(rows: &mut Vec<Row<'a>>, side: Side, line: &'a str) -> Result<(), AllocError> {
+    rows.try_push(Row { side, line })?;
+    Ok(())
+}
+
 /// Appends lines that are on this side. Returns `Err` if an allocation fails.
+// ensures old { OnOk result (old_text rows.new.items
+//     ≡ old_text rows.old.items ++ in_old side (joined lines.now)) }
+// ensures new { OnOk result (new_text rows.new.items
+//     ≡ new_text rows.old.items ++ in_new side (joined lines.now)) }
 #[inline]
 fn push_lines<'a>(
     rows: &mut Vec<Row<'a>>,
@@ -81,48 +123,86 @@ fn push_lines<'a>(
     lines: &[&'a str],
 ) -> Result<(), AllocError> {
     for line in lines {
-        rows.try_push(Row { side, line: *line })?;
+        push_line(rows, side, *line)?;
+    }
+    Ok(())
+}
+
+/// Returns the first n items, or all if there are no more.
+// ensures { result.now ≡ take n items.now }
+#[inline]
+pub fn front<T>(items: &[T], n: usize) -> &[T] {
+    items.get(..n).unwrap_or(items)
+}
+
+/// Returns the items after the first n, or none if there are no more.
+// ensures { result.now ≡ drop n items.now }
+#[inline]
+pub fn rest_after<T>(items: &[T], n: usize) -> &[T] {
+    items.get(n..).unwrap_or(&items[items.len()..])
+}
+
+/// Appends the lines of two texts up to one that they have in common. Returns `Err` if an
+/// allocation fails.
+// requires { IsCommon old.now new.now pair }
+// ensures old { OnOk result (old_text rows.new.items
+//     ≡ old_text rows.old.items ++ joined (take pair.old old.now)) }
+// ensures new { OnOk result (new_text rows.new.items
+//     ≡ new_text rows.old.items ++ joined (take pair.new new.now)) }
+#[inline]
+fn push_pair<'a>(
+    rows: &mut Vec<Row<'a>>,
+    old: &[&'a str],
+    new: &[&'a str],
+    pair: Pair,
+) -> Result<(), AllocError> {
+    push_lines(rows, Side::Old, front(old, pair.old - 1))?;
+    push_lines(rows, Side::New, front(new, pair.new - 1))?;
+    if let Some(line) = old.get(pair.old - 1) {
+        push_line(rows, Side::Both, *line)?;
     }
     Ok(())
 }
 
 /// Appends the lines of two texts without a common end beside each other. Returns `Err` if an
 /// allocation fails.
+// ensures old { OnOk result (old_text rows.new.items
+//     ≡ old_text rows.old.items ++ joined old.now) }
+// ensures new { OnOk result (new_text rows.new.items
+//     ≡ new_text rows.old.items ++ joined new.now) }
 #[inline]
 fn push_middle<'a>(
     rows: &mut Vec<Row<'a>>,
     old: &[&'a str],
     new: &[&'a str],
 ) -> Result<(), AllocError> {
-    let mut at = 0usize;
-    let mut beside = 0usize;
-    while at < old.len() && beside < new.len() {
-        let (olds, news) = (&old[at..], &new[beside..]);
-        let Some((fewer, more)) = next_common(olds, news) else {
-            break;
-        };
-        push_lines(rows, Side::Old, olds.get(..fewer).unwrap_or(&[]))?;
-        push_lines(rows, Side::New, news.get(..more).unwrap_or(&[]))?;
-        push_lines(rows, Side::Both, olds.get(fewer..=fewer).unwrap_or(&[]))?;
-        at = at.saturating_add(fewer).saturating_add(1);
-        beside = beside.saturating_add(more).saturating_add(1);
+    let mut olds = old;
+    let mut news = new;
+    while let Some(pair) = next_common(olds, news) {
+        push_pair(rows, olds, news, pair)?;
+        olds = rest_after(olds, pair.old);
+        news = rest_after(news, pair.new);
     }
-    push_lines(rows, Side::Old, old.get(at..).unwrap_or(&[]))?;
-    push_lines(rows, Side::New, new.get(beside..).unwrap_or(&[]))
+    push_lines(rows, Side::Old, olds)?;
+    push_lines(rows, Side::New, news)?;
+    Ok(())
 }
 
 /// Returns the lines of two texts beside each other: those that are not in the new one alone are
 /// the old text, and those that are not in the old one alone the new text. Returns `Err` if an
 /// allocation fails.
+// ensures old { IfOk result (λ v. old_text v.items ≡ old.now) }
+// ensures new { IfOk result (λ v. new_text v.items ≡ new.now) }
 #[inline]
 pub fn rows_of<'a>(alloc: Global, old: &'a str, new: &'a str) -> Result<Vec<Row<'a>>, AllocError> {
     let olds = lines_of(alloc, old)?;
     let news = lines_of(alloc, new)?;
-    let end = common_end(olds.as_slice(), news.as_slice());
-    let (front, back) = olds.split_at(olds.len().saturating_sub(end));
-    let (others, _) = news.split_at(news.len().saturating_sub(end));
+    let lines = olds.as_slice();
+    let others = news.as_slice();
+    let end = common_end(lines, others);
     let mut rows = Vec::made_in(alloc);
-    push_middle(&mut rows, front, others)?;
-    push_lines(&mut rows, Side::Both, back)?;
+    let (fewer, more) = (lines.len() - end, others.len() - end);
+    push_middle(&mut rows, front(lines, fewer), front(others, more))?;
+    push_lines(&mut rows, Side::Both, rest_after(lines, fewer))?;
     Ok(rows)
 }

@@ -261,7 +261,7 @@ impl<'c, 'a> Parse<'c, 'a> {
                     .command
                     .groups
                     .iter()
-                    .any(|group| are_in(&group.args, id, other))
+                    .any(|group| !group.multiple && are_in(&group.args, id, other))
         };
         let mut others = self.used();
         others.retain(|other| *other != id && (declares(id, other) || declares(other, id)));

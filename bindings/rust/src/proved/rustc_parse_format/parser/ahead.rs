@@ -124,36 +124,36 @@ impl<'input> Spot<'input> {
 
 /// Returns the byte range in the source of the text from `from` up to `to`. It is not inlined,
 /// since few words are a fault.
-// requires from { IsAnchored source.now from.now anchor.now }
-// requires to { IsAnchored source.now to.now anchor.now }
-// ensures { pair result
-//     ≡ place_of (seen_world source.now) (up_to (chars from.now) (chars to.now)) }
+// requires from { IsAnchored source.now from.now.text.now anchor.now }
+// requires to { IsAnchored source.now to.now.text.now anchor.now }
+// ensures { let text = chars from.now.text.now in
+//     pair result ≡ place_of (seen_world source.now) (up_to text (chars to.now.text.now)) }
 #[cold]
 #[inline(never)]
 fn place_between<'input>(
-    from: &'input str,
-    to: &'input str,
+    from: &Spot<'input>,
+    to: &Spot<'input>,
     source: &Source<'input>,
     anchor: &Anchor<'input>,
 ) -> Range<usize> {
-    source.start(from, anchor)..source.start(to, anchor)
+    from.start(source, anchor)..to.start(source, anchor)
 }
 
 /// Returns the byte range in the source of the text from `from` up to `to`, with the character at
 /// `to`. It is not inlined, since few numbers are a fault.
-// requires from { IsAnchored source.now from.now anchor.now }
-// requires to { IsAnchored source.now to.now anchor.now }
-// ensures { pair result
-//     ≡ place_of (seen_world source.now) (through (chars from.now) (chars to.now)) }
+// requires from { IsAnchored source.now from.now.text.now anchor.now }
+// requires to { IsAnchored source.now to.now.text.now anchor.now }
+// ensures { let text = chars from.now.text.now in
+//     pair result ≡ place_of (seen_world source.now) (through text (chars to.now.text.now)) }
 #[cold]
 #[inline(never)]
 fn place_through<'input>(
-    from: &'input str,
-    to: &'input str,
+    from: &Spot<'input>,
+    to: &Spot<'input>,
     source: &Source<'input>,
     anchor: &Anchor<'input>,
 ) -> Range<usize> {
-    source.start(from, anchor)..source.stop(to, anchor)
+    from.start(source, anchor)..to.stop(source, anchor)
 }
 
 impl<'input> Ahead<'input> {
@@ -266,7 +266,12 @@ impl<'input> Ahead<'input> {
     ) -> (&'input str, Option<Range<usize>>) {
         let (word, rest) = split_word(self.rest.text);
         let underscore = if is_underscore(word) {
-            Some(place_between(self.rest.text, rest, source, anchor))
+            Some(place_between(
+                &self.rest,
+                &Spot { text: rest },
+                source,
+                anchor,
+            ))
         } else {
             None
         };
@@ -300,7 +305,7 @@ impl<'input> Ahead<'input> {
             rest,
         } = leading_number(self.rest.text);
         let over = if is_over {
-            let place = place_through(self.rest.text, rest, source, anchor);
+            let place = place_through(&self.rest, &Spot { text: rest }, source, anchor);
             Some((before(self.rest.text, rest), place))
         } else {
             None

@@ -1,0 +1,306 @@
+//! What inlining makes of a call.
+
+// Extracted from crates/file_inlines/src/calls.rt by tools/extract: not to be edited.
+// That source is proved, and each contract here is its. That this text means the same is tested:
+// by results from outside, and beside what is proved (.ci/bindings) and the original (tools/agree).
+
+use crate::proved::call_faults::FormatString;
+use crate::proved::file_inlines::edits::edits_of;
+use crate::proved::file_inlines::sources::with_sources;
+use crate::proved::format_calls::{
+    arguments, extent_of, is_standard, token_at, Argument, Call, Part, Rule,
+};
+use crate::proved::inlined_arguments::{inlined, Call as FormatCall, Edit, Left};
+use crate::proved::rust_trees::Token;
+use crate::proved::source_lint::{
+    appends_newline, argument_at, arguments_before, captures, ends_early, index_or, name_at,
+    other_macro, read_literal, CallReading, File,
+};
+use crate::shim::alloc::{AllocError, Global};
+use crate::shim::prelude::*;
+
+/// What inlining makes of a call.
+#[derive(Clone, Copy, Debug, Eq, PartialEq)]
+pub enum CallInlining {
+    /// Its format string has the variables that were arguments.
+    Inlined,
+    /// It is left as it is, for this reason.
+    Left(Left),
+    /// It is left as it is, since its format string is not read for this reason.
+    Unread(CallReading),
+    /// It is left as it is, since it is one of assembly, whose templates capture no variables.
+    Assembly,
+}
+
+/// A call with what inlining makes of it.
+pub(crate) struct InlinedCall {
+    /// What becomes of it.
+    pub inlining: CallInlining,
+    /// The edits that inline it, or none if it is left as it is.
+    pub edits: Vec<Edit>,
+}
+
+/// Calls with what inlining makes of them.
+pub(crate) struct InlinedCalls {
+    /// What becomes of each.
+    pub inlinings: Vec<CallInlining>,
+    /// The edits of all, one call after the other.
+    pub edits: Vec<Edit>,
+}
+
+/// Returns whether the string of a macro with this rule and this name is known to be a format
+/// string if no argument follows it.
+// ensures { result ≡ is_format_alone is_from_2021 rule name.now }
+#[inline]
+fn is_format_alone(rule: Rule, name: &[u8], is_from_2021: bool) -> bool {
+    match rule {
+        Rule::At(_) => is_standard(name),
+        Rule::IndexByEdition(_) => is_from_2021,
+        Rule::FirstLiteral => true,
+        Rule::Templates => false,
+    }
+}
+
+/// Returns whether a `const fn` may call a macro with this rule, with one argument and the string
+/// `{}`.
+// ensures { result ≡ has_const_form rule }
+#[inline]
+fn has_const_form(rule: Rule) -> bool {
+    matches!(rule, Rule::IndexByEdition(_))
+}
+
+/// A call whose format string was found.
+#[derive(Clone, Copy)]
+struct Found<'s, 'a> {
+    /// The text of the file.
+    text: &'a str,
+    /// The tokens of the file.
+    tokens: &'s [Token<'a>],
+    /// The literal of the format string.
+    literal: Token<'a>,
+    /// The arguments after it.
+    arguments: &'s [Argument],
+}
+
+/// Returns what inlining makes of this call, which `found` is in its file. Returns `Err` if an
+/// allocation fails.
+// requires { hashes call.string.style + length call.string.text.now + 2 < 2 ^ 64 }
+// ensures { IfOk result (λ x. Makes allows_mixed (seen_call call.entry)
+//     (AreEdits found.entry.text.now (map leaf found.entry.tokens.now) (leaf found.entry.literal)
+//     found.entry.arguments.now) x.inlining (map seen_edit x.edits.items)) }
+#[inline]
+fn inlined_as(
+    alloc: Global,
+    found: Found<'_, '_>,
+    call: FormatCall<'_>,
+    allows_mixed: bool,
+) -> Result<InlinedCall, AllocError> {
+    let made = match inlined(alloc, call, allows_mixed)? {
+        Ok(made) => made,
+        Err(left) => return Ok(left_for(alloc, CallInlining::Left(left))),
+    };
+    let edits = edits_of(
+        alloc,
+        found.text,
+        found.tokens,
+        found.literal,
+        found.arguments,
+        &made,
+    )?;
+    match edits {
+        Some(edits) => Ok(InlinedCall {
+            inlining: CallInlining::Inlined,
+            edits,
+        }),
+        None => Ok(left_for(alloc, CallInlining::Left(Left::OtherMeaning))),
+    }
+}
+
+/// Returns a call that is left as it is, for this reason.
+// ensures reason { result.inlining ≡ reason }
+// ensures none { result.edits.items ≡ [] }
+#[inline]
+fn left_for(alloc: Global, reason: CallInlining) -> InlinedCall {
+    InlinedCall {
+        inlining: reason,
+        edits: Vec::made_in(alloc),
+    }
+}
+
+/// Returns what inlining makes of a call of a macro with this rule and this name, whose arguments
+/// are all or not. Returns `Err` if an allocation fails.
+// ensures { IfOk result (λ x. InlinesLiteral is_from_2021 allows_mixed rule name.now
+//     found.entry.text.now (map leaf found.entry.tokens.now) (leaf found.entry.literal)
+//     found.entry.arguments.now is_counted x.inlining (map seen_edit x.edits.items)) }
+#[inline]
+fn inline_found(
+    alloc: Global,
+    found: Found<'_, '_>,
+    rule: Rule,
+    name: &[u8],
+    is_counted: bool,
+    is_from_2021: bool,
+    allows_mixed: bool,
+) -> Result<InlinedCall, AllocError> {
+    let appended_newline = appends_newline(name);
+    let Some(literal) = read_literal(alloc, found.literal.text, appended_newline)? else {
+        return Ok(left_for(
+            alloc,
+            CallInlining::Unread(CallReading::Malformed),
+        ));
+    };
+    let arguments = with_sources(alloc, found.text, found.tokens, found.arguments)?;
+    let text = literal.text.as_str();
+    let snippet = literal.snippet.as_str();
+    let list = arguments.as_slice();
+    let string = FormatString {
+        text,
+        style: literal.style,
+        snippet: Some(snippet),
+        appended_newline,
+        captures: captures(rule, name, is_from_2021),
+    };
+    let call = FormatCall {
+        string,
+        arguments: list,
+        is_counted,
+        is_format_alone: is_format_alone(rule, name, is_from_2021),
+        has_const_form: has_const_form(rule),
+    };
+    let made = inlined_as(alloc, found, call, allows_mixed)?;
+    Ok(made)
+}
+
+/// Returns what inlining makes of a call whose format string begins the argument of this index.
+/// Returns `Err` if an allocation fails.
+// requires pair { IsPair part.now (call.now.name + 2) call.now.close }
+// requires split { AreArguments part.now (call.now.name + 3) arguments.now call.now.close }
+// requires literal { (a : ArgumentValue) × (slice_get arguments.now index ≡ Some a)
+//     × IsTrue (is_string_by call.now.rule part.now a) }
+// ensures { IfOk result (λ x. InlinesAt file.entry.is_from_2021 allows_mixed file.entry.text.now
+//     part.now call.now arguments.now index x.inlining (map seen_edit x.edits.items)) }
+#[inline]
+fn inline_at(
+    alloc: Global,
+    file: File<'_, '_>,
+    part: &Part<'_>,
+    call: &Call,
+    arguments: &[Argument],
+    index: usize,
+    allows_mixed: bool,
+) -> Result<InlinedCall, AllocError> {
+    let unread = CallInlining::Unread(CallReading::Malformed);
+    let Some(string) = argument_at(arguments, index) else {
+        return Ok(left_for(alloc, unread));
+    };
+    let tokens = part.tokens();
+    let Some(literal) = token_at(tokens, string.start) else {
+        return Ok(left_for(alloc, unread));
+    };
+    let extent = extent_of(
+        part.source(),
+        ends_early(call.rule),
+        call.name + 2,
+        string.start + 1,
+        call.close,
+    );
+    let before = arguments_before(alloc, &arguments[index + 1..], extent.end)?;
+    let found = Found {
+        text: file.text,
+        tokens,
+        literal,
+        arguments: &before,
+    };
+    let made = inline_found(
+        alloc,
+        found,
+        call.rule,
+        name_at(tokens, call.name),
+        extent.is_counted,
+        file.is_from_2021,
+        allows_mixed,
+    )?;
+    Ok(made)
+}
+
+/// Returns what inlining makes of a call whose format string is the argument of this index, or
+/// whose templates begin with it. Returns `Err` if an allocation fails.
+// requires pair { IsPair part.now (call.now.name + 2) call.now.close }
+// requires split { AreArguments part.now (call.now.name + 3) arguments.now call.now.close }
+// requires literal { (a : ArgumentValue) × (slice_get arguments.now index ≡ Some a)
+//     × IsTrue (is_string_by call.now.rule part.now a) }
+// ensures { IfOk result (λ x. InlinesOne call.now.rule file.entry.is_from_2021 allows_mixed
+//     file.entry.text.now part.now call.now arguments.now index x.inlining
+//     (map seen_edit x.edits.items)) }
+#[inline]
+fn inline_one(
+    alloc: Global,
+    file: File<'_, '_>,
+    part: &Part<'_>,
+    call: &Call,
+    arguments: &[Argument],
+    index: usize,
+    allows_mixed: bool,
+) -> Result<InlinedCall, AllocError> {
+    match call.rule {
+        Rule::Templates => Ok(left_for(alloc, CallInlining::Assembly)),
+        Rule::At(_) | Rule::IndexByEdition(_) | Rule::FirstLiteral => {
+            let made = inline_at(alloc, file, part, call, arguments, index, allows_mixed)?;
+            Ok(made)
+        }
+    }
+}
+
+/// Returns what inlining makes of a call. Returns `Err` if an allocation fails.
+// requires { IsPair part.now (call.now.name + 2) call.now.close }
+// ensures { IfOk result (λ x. Inlines (scope file.entry) file.entry.is_from_2021 allows_mixed
+//     part.now call.now x.inlining (map seen_edit x.edits.items)) }
+#[inline]
+fn inline_call<'a>(
+    alloc: Global,
+    file: File<'_, 'a>,
+    part: &Part<'a>,
+    call: &Call,
+    allows_mixed: bool,
+) -> Result<InlinedCall, AllocError> {
+    if let Some(reading) = other_macro(file, part.tokens(), call) {
+        return Ok(left_for(alloc, CallInlining::Unread(reading)));
+    }
+    let Some(arguments) = arguments(alloc, part.source(), call.close)? else {
+        return Ok(left_for(alloc, CallInlining::Unread(CallReading::Whole)));
+    };
+    let list = arguments.as_slice();
+    match index_or(file, part, call, list) {
+        Ok(index) => {
+            let made = inline_one(alloc, file, part, call, list, index, allows_mixed)?;
+            Ok(made)
+        }
+        Err(reading) => Ok(left_for(alloc, CallInlining::Unread(reading))),
+    }
+}
+
+/// Returns what inlining makes of calls of a file. Returns `Err` if an allocation fails.
+// requires { (c : CallValue) → Contains calls.now c → IsPair part.now (c.name + 2) c.close }
+// ensures { IfOk result (λ x. InlinesAll (scope file.entry) file.entry.is_from_2021 allows_mixed
+//     part.now calls.now x.inlinings.items (map seen_edit x.edits.items)) }
+#[inline]
+pub(crate) fn inline_each<'a>(
+    alloc: Global,
+    file: File<'_, 'a>,
+    part: &Part<'a>,
+    calls: &[Call],
+    allows_mixed: bool,
+) -> Result<InlinedCalls, AllocError> {
+    let mut made = InlinedCalls {
+        inlinings: Vec::made_in(alloc),
+        edits: Vec::made_in(alloc),
+    };
+    let mut rest = calls;
+    while let Some((call, others)) = rest.split_first() {
+        let mut one = inline_call(alloc, file, part, call, allows_mixed)?;
+        made.inlinings.try_push(one.inlining)?;
+        made.edits.try_append(&mut one.edits)?;
+        rest = others;
+    }
+    Ok(made)
+}

@@ -1,0 +1,109 @@
+//! The numbers of calls that are inlined, and of those that are left.
+
+// Extracted from crates/formatlint/src/inlinings.rt by tools/extract: not to be edited.
+// That source is proved, and each contract here is its. That this text means the same is tested:
+// by results from outside, and beside what is proved (.ci/bindings) and the original (tools/agree).
+
+use crate::proved::file_inlines::CallInlining;
+use crate::proved::formatlint::rewrites::Rewritten;
+use crate::proved::inlined_arguments::Left;
+
+/// The numbers of calls that are inlined, and of those that are left, by the reason.
+#[derive(Clone, Copy)]
+pub struct Inlinings {
+    /// The number of calls that are inlined.
+    pub inlined: usize,
+    uncounted: usize,
+    no_variable: usize,
+    mixed: usize,
+    captures_none: usize,
+    alone: usize,
+    const_form: usize,
+    comment: usize,
+    faulty: usize,
+    no_literal: usize,
+    other_meaning: usize,
+    assembly: usize,
+    spoiled: usize,
+}
+
+/// The numbers before the first call.
+pub const NO_CALLS: Inlinings = Inlinings {
+    inlined: 0,
+    uncounted: 0,
+    no_variable: 0,
+    mixed: 0,
+    captures_none: 0,
+    alone: 0,
+    const_form: 0,
+    comment: 0,
+    faulty: 0,
+    no_literal: 0,
+    other_meaning: 0,
+    assembly: 0,
+    spoiled: 0,
+};
+
+/// Adds one.
+#[inline]
+fn count(number: &mut usize) {
+    *number = number.saturating_add(1);
+}
+
+impl Inlinings {
+    /// Counts a call that is left.
+    #[inline]
+    fn add_left(&mut self, left: Left) {
+        match left {
+            Left::Uncounted => count(&mut self.uncounted),
+            Left::NoVariable => count(&mut self.no_variable),
+            Left::Mixed => count(&mut self.mixed),
+            Left::CapturesNone => count(&mut self.captures_none),
+            Left::Alone => count(&mut self.alone),
+            Left::ConstForm => count(&mut self.const_form),
+            Left::Comment => count(&mut self.comment),
+            Left::Faulty => count(&mut self.faulty),
+            Left::NoLiteral => count(&mut self.no_literal),
+            Left::OtherMeaning => count(&mut self.other_meaning),
+        }
+    }
+
+    /// Counts the calls of a file.
+    #[inline]
+    pub fn add(&mut self, file: &Rewritten) {
+        for call in &file.calls {
+            match *call {
+                CallInlining::Inlined if file.has_inlines => count(&mut self.inlined),
+                CallInlining::Inlined => count(&mut self.spoiled),
+                CallInlining::Left(left) => self.add_left(left),
+                CallInlining::Assembly => count(&mut self.assembly),
+                CallInlining::Unread(_) => {}
+            }
+        }
+    }
+
+    /// Returns how many calls are left for each reason, with the reason.
+    #[inline]
+    pub fn rows(&self) -> [(usize, &'static str); 12] {
+        [
+            (self.no_variable, "no argument is a variable"),
+            (self.mixed, "another argument is no variable"),
+            (self.uncounted, "the number of arguments is not known"),
+            (self.captures_none, "the macro captures no variables"),
+            (self.alone, "the string alone may be no format string"),
+            (
+                self.const_form,
+                "a const fn may make the call only as it is",
+            ),
+            (self.comment, "a comment would go with an argument"),
+            (self.faulty, "the call is not clean"),
+            (self.no_literal, "the literal is not known"),
+            (self.other_meaning, "it would mean something else"),
+            (self.assembly, "a template of assembly"),
+            (
+                self.spoiled,
+                "the file has other faults with them, or breaks",
+            ),
+        ]
+    }
+}

@@ -1,0 +1,94 @@
+//! The text of a file with what a request changes in it.
+
+// Extracted from crates/formatlint/src/rewrites.rt by tools/extract: not to be edited.
+// That source is proved, and each contract here is its. That this text means the same is tested:
+// by results from outside, and beside what is proved (.ci/bindings) and the original (tools/agree).
+
+use crate::proved::file_fixes::fixes;
+use crate::proved::file_inlines::{inlines, CallInlining};
+use crate::proved::source_lint::{Options, Report};
+use crate::shim::alloc::{AllocError, Global};
+use crate::shim::prelude::*;
+
+/// What a request changes in files.
+#[derive(Clone, Copy)]
+pub struct Rewrite {
+    /// Whether suggestions are applied.
+    pub fixes: bool,
+    /// Whether arguments that are variables are moved into format strings.
+    pub inlines: bool,
+    /// Whether they are in calls with other arguments too.
+    pub allows_mixed: bool,
+}
+
+/// A file with what a request changes in it.
+pub struct Rewritten {
+    /// The new text, or `None` if it is the old one.
+    pub text: Option<String>,
+    /// The number of faults and warnings that are fixed.
+    pub fixes: usize,
+    /// What inlining makes of each call, or nothing if it was not asked for.
+    pub calls: Vec<CallInlining>,
+    /// Whether the calls that can be inlined are.
+    pub has_inlines: bool,
+    /// The report on the new text.
+    pub report: Report,
+}
+
+/// Returns a text with suggestions applied. Returns `Err` if an allocation fails.
+#[inline]
+fn fixed(alloc: Global, text: &str, options: &Options<'_>) -> Result<Rewritten, AllocError> {
+    let fixed = fixes(alloc, text, options)?;
+    Ok(Rewritten {
+        text: fixed.text,
+        fixes: fixed.ids.len(),
+        calls: Vec::made_in(alloc),
+        has_inlines: false,
+        report: fixed.report,
+    })
+}
+
+/// Returns a text with calls inlined. Returns `Err` if an allocation fails.
+#[inline]
+fn inlined(
+    alloc: Global,
+    text: &str,
+    options: &Options<'_>,
+    rewrite: Rewrite,
+) -> Result<Rewritten, AllocError> {
+    let inlined = inlines(alloc, text, options, rewrite.allows_mixed)?;
+    Ok(Rewritten {
+        has_inlines: inlined.text.is_some(),
+        text: inlined.text,
+        fixes: 0,
+        calls: inlined.calls,
+        report: inlined.report,
+    })
+}
+
+/// Returns a text with what a request changes in it: first its suggestions are applied, and then
+/// calls are inlined. Returns `Err` if an allocation fails.
+#[inline]
+pub fn apply_rewrite(
+    alloc: Global,
+    text: &str,
+    options: &Options<'_>,
+    rewrite: Rewrite,
+) -> Result<Rewritten, AllocError> {
+    if !rewrite.fixes {
+        return inlined(alloc, text, options, rewrite);
+    }
+    let fixed = fixed(alloc, text, options)?;
+    if !rewrite.inlines {
+        return Ok(fixed);
+    }
+    let mut made = match &fixed.text {
+        Some(text) => inlined(alloc, text.as_str(), options, rewrite)?,
+        None => inlined(alloc, text, options, rewrite)?,
+    };
+    made.fixes = fixed.fixes;
+    if made.text.is_none() {
+        made.text = fixed.text;
+    }
+    Ok(made)
+}

@@ -1,0 +1,103 @@
+//! The conditions that can be seen without reading the format string.
+
+// Extracted from crates/inlined_arguments/src/conditions.rt by tools/extract: not to be edited.
+// That source is proved, and each contract here is its. That this text means the same is tested:
+// by results from outside, and beside what is proved (.ci/bindings) and the original (tools/agree).
+
+use crate::proved::inlined_arguments::call::{Argument, Call, Left};
+use crate::proved::inlined_arguments::variables::{has_comment, is_variable, split_first};
+
+/// Returns whether one of arguments is a variable.
+// ensures { result ≡ list_any is_variable (map seen_argument arguments.now) }
+#[inline]
+fn has_variable(arguments: &[Argument<'_>]) -> bool {
+    for argument in arguments {
+        if is_variable(argument) {
+            return true;
+        }
+    }
+    false
+}
+
+/// Returns whether one of arguments is no variable.
+// ensures { result ≡ list_any (λ a. not (is_variable a)) (map seen_argument arguments.now) }
+#[inline]
+fn has_other(arguments: &[Argument<'_>]) -> bool {
+    for argument in arguments {
+        if !is_variable(argument) {
+            return true;
+        }
+    }
+    false
+}
+
+/// Returns whether a comment would go with one of arguments.
+// ensures { result ≡ list_any goes_with_comment (map seen_argument arguments.now) }
+#[inline]
+fn have_comment(arguments: &[Argument<'_>]) -> bool {
+    for argument in arguments {
+        if is_variable(argument) && has_comment(argument) {
+            return true;
+        }
+    }
+    false
+}
+
+/// Returns the reason in its list of arguments why a call is left, or `None` if there is none.
+// ensures { result ≡ list_condition allows_mixed (seen_call call.now) }
+#[inline]
+fn list_condition(call: &Call<'_>, allows_mixed: bool) -> Option<Left> {
+    if !call.is_counted {
+        return Some(Left::Uncounted);
+    }
+    if !has_variable(call.arguments) {
+        return Some(Left::NoVariable);
+    }
+    if !allows_mixed && has_other(call.arguments) {
+        return Some(Left::Mixed);
+    }
+    if have_comment(call.arguments) {
+        return Some(Left::Comment);
+    }
+    None
+}
+
+/// Returns whether a text is `{}`.
+// ensures { result ≡ is_bare (chars text.now) }
+#[inline]
+fn is_bare(text: &str) -> bool {
+    let Some(('{', rest)) = split_first(text) else {
+        return false;
+    };
+    match split_first(rest) {
+        Some(('}', tail)) => split_first(tail).is_none(),
+        _ => false,
+    }
+}
+
+/// Returns the reason in its macro and its string why a call is left, or `None` if there is none.
+// ensures { result ≡ string_condition (seen_call call.now) }
+#[inline]
+fn string_condition(call: &Call<'_>) -> Option<Left> {
+    if !call.string.captures {
+        return Some(Left::CapturesNone);
+    }
+    if !call.is_format_alone && !has_other(call.arguments) {
+        return Some(Left::Alone);
+    }
+    if call.has_const_form && is_bare(call.string.text) {
+        return Some(Left::ConstForm);
+    }
+    None
+}
+
+/// Returns the reason why a call is left that can be seen without reading its string, or `None` if
+/// there is none.
+// ensures { result ≡ condition allows_mixed (seen_call call.now) }
+#[inline]
+pub(crate) fn condition(call: &Call<'_>, allows_mixed: bool) -> Option<Left> {
+    match list_condition(call, allows_mixed) {
+        Some(left) => Some(left),
+        None => string_condition(call),
+    }
+}

@@ -1,0 +1,57 @@
+//! A literal with edits.
+
+// Extracted from crates/inlined_arguments/src/edited.rt by tools/extract: not to be edited.
+// That source is proved, and each contract here is its. That this text means the same is tested:
+// by results from outside, and beside what is proved (.ci/bindings) and the original (tools/agree).
+
+use crate::proved::inlined_arguments::call::Edit;
+use crate::shim::alloc::{AllocError, Global};
+use crate::shim::prelude::*;
+
+/// Returns bytes with edits, or `None` if these are not one after the other in the bytes, or
+/// overlap. Returns `Err` if an allocation fails.
+// ensures { IfOk result (λ o. IfSome o (λ v.
+//     AreApart 0 (map seen_edit edits.now) (length bytes.now)
+//     × (v.items ≡ edited 0 (map seen_edit edits.now) bytes.now))) }
+#[inline]
+fn edited_bytes(
+    alloc: Global,
+    bytes: &[u8],
+    edits: &[Edit],
+) -> Result<Option<Vec<u8>>, AllocError> {
+    let mut out = Vec::made_in(alloc);
+    let mut at = 0;
+    for edit in edits {
+        if edit.span.end < edit.span.start {
+            return Ok(None);
+        }
+        let Some(front) = bytes.get(at..edit.span.start) else {
+            return Ok(None);
+        };
+        out.try_extend_from_slice(front)?;
+        out.try_extend_from_slice(edit.text.as_bytes())?;
+        at = edit.span.end;
+    }
+    let Some(rest) = bytes.get(at..) else {
+        return Ok(None);
+    };
+    out.try_extend_from_slice(rest)?;
+    Ok(Some(out))
+}
+
+/// Returns a literal with edits, or `None` if these are not one after the other in it, overlap or
+/// cut a character. Returns `Err` if an allocation fails.
+// ensures { IfOk result (λ o. IfSome o (λ s.
+//     AreApart 0 (map seen_edit edits.now) (length literal.now)
+//     × (string_bytes s ≡ edited 0 (map seen_edit edits.now) literal.now))) }
+#[inline]
+pub fn apply_edits(
+    alloc: Global,
+    literal: &str,
+    edits: &[Edit],
+) -> Result<Option<String>, AllocError> {
+    match edited_bytes(alloc, literal.as_bytes(), edits)? {
+        Some(bytes) => Ok(String::from_utf8(bytes).ok()),
+        None => Ok(None),
+    }
+}

@@ -1,0 +1,174 @@
+//! Inlining, and the check of its result.
+
+// Extracted from crates/inlined_arguments/src/inlining.rt by tools/extract: not to be edited.
+// That source is proved, and each contract here is its. That this text means the same is tested:
+// by results from outside, and beside what is proved (.ci/bindings) and the original (tools/agree).
+
+use crate::proved::call_faults::{FormatArgument, FormatString};
+use crate::proved::inlined_arguments::call::{Call, Inlined, Left};
+use crate::proved::inlined_arguments::conditions::condition;
+use crate::proved::inlined_arguments::edited::apply_edits;
+use crate::proved::inlined_arguments::edits::edits_of;
+use crate::proved::inlined_arguments::meaning::{means_same, Meant};
+use crate::proved::inlined_arguments::reading::read;
+use crate::proved::inlined_arguments::slots::{givens, kept, slots, Slot};
+use crate::proved::inlined_arguments::values::values_of;
+use crate::proved::inlined_arguments::variables::gone;
+use crate::proved::piece_listing::literal::literal_text;
+use crate::shim::alloc::{AllocError, Global};
+use crate::shim::prelude::*;
+
+/// Adds the newline that a macro appends, if it does. Returns `Err` if an allocation fails.
+// ensures text { OnOk result (chars (string_bytes text.new)
+//     ≡ chars (string_bytes text.old) ++ newline appended) }
+// ensures short { OnOk result (length (string_bytes text.new)
+//     ≤ length (string_bytes text.old) + 1) }
+#[inline]
+fn put_newline(text: &mut String, appended: bool) -> Result<(), AllocError> {
+    if appended {
+        text.try_push('\n')?;
+        return Ok(());
+    }
+    Ok(())
+}
+
+/// Returns whether two styles of literals are the same.
+// ensures { IsTrue result → left ≡ right }
+#[inline]
+fn is_same_style(left: Option<usize>, right: Option<usize>) -> bool {
+    match (left, right) {
+        (None, None) => true,
+        (Some(left), Some(right)) => left == right,
+        _ => false,
+    }
+}
+
+/// Returns whether nothing is wrong with a call with this string and these slots, and it means what
+/// the old one does. The given arguments are those of the slots. Returns `Err` if an allocation
+/// fails.
+// requires { hashes string.style + length string.text.now + 2 < 2 ^ 64 }
+// ensures { IfOk result (λ b. Knows old.entry.values.now
+//     → map seen_given given.now ≡ map given_of (map seen_slot slots.now) → IsTrue b
+//     → IsCleanAs string.entry.captures (seen_slots old.entry.values.now)
+//     (map seen old.entry.pieces.now) (map seen_slot slots.now) (chars string.entry.text.now)) }
+#[inline]
+fn means_same_with<'c>(
+    alloc: Global,
+    old: Meant<'_, '_>,
+    string: FormatString<'c>,
+    slots: &[Slot<'c>],
+    given: &'c [FormatArgument<'c>],
+) -> Result<bool, AllocError> {
+    let Some(pieces) = read(alloc, string, given)? else {
+        return Ok(false);
+    };
+    let values = values_of(alloc, slots)?;
+    let new = Meant {
+        pieces: &pieces,
+        values: &values,
+    };
+    Ok(means_same(old, new))
+}
+
+/// Returns whether a call with this literal in place of its own, and without the arguments that are
+/// variables, means what the old one does. Returns `Err` if an allocation fails.
+// ensures { IfOk result (λ b. Knows old.entry.values.now
+//     → seen_slots old.entry.values.now ≡ slots_of (map seen_argument call.entry.arguments.now)
+//     → IsTrue b
+//     → MeansSame (seen_call call.entry) (map seen old.entry.pieces.now) (chars literal.now)) }
+#[inline]
+fn keeps_meaning(
+    alloc: Global,
+    call: Call<'_>,
+    old: Meant<'_, '_>,
+    literal: &str,
+) -> Result<bool, AllocError> {
+    let Some((mut text, style)) = literal_text(alloc, literal)? else {
+        return Ok(false);
+    };
+    if !is_same_style(style, call.string.style) {
+        return Ok(false);
+    }
+    put_newline(&mut text, call.string.appended_newline)?;
+    let string = FormatString {
+        text: text.as_str(),
+        style,
+        snippet: Some(literal),
+        appended_newline: call.string.appended_newline,
+        captures: call.string.captures,
+    };
+    let kept = kept(alloc, old.values.slots)?;
+    let given = givens(alloc, &kept)?;
+    let is_same = means_same_with(alloc, old, string, &kept, given.as_slice())?;
+    Ok(is_same)
+}
+
+/// Returns a call with its arguments that are variables in its format string, or why it is left as
+/// it is, if it is not for a reason that is seen without reading its string. The slots and the
+/// given arguments are those of the call. Returns `Err` if an allocation fails.
+// requires fits { hashes call.string.style + length call.string.text.now + 2 < 2 ^ 64 }
+// requires slots { map seen_slot slots.now ≡ slots_of (map seen_argument call.arguments.now) }
+// requires given { map seen_given given.now ≡ map given_of (map seen_slot slots.now) }
+// ensures inlined { IfOk result (λ r. IfOk r (λ x. (mixed : Bool)
+//     → condition mixed (seen_call call.entry) ≡ None
+//     → IsInlined mixed (seen_call call.entry) (seen_inlined x))) }
+// ensures left { IfOk result (λ r. IfErr r (λ l. (mixed : Bool)
+//     → condition mixed (seen_call call.entry) ≡ None
+//     → IsLeft mixed (seen_call call.entry) l)) }
+#[inline]
+fn inlined_with<'c>(
+    alloc: Global,
+    call: Call<'c>,
+    slots: &[Slot<'c>],
+    given: &'c [FormatArgument<'c>],
+) -> Result<Result<Inlined, Left>, AllocError> {
+    let Some(snippet) = call.string.snippet else {
+        return Ok(Err(Left::NoLiteral));
+    };
+    let Some(pieces) = read(alloc, call.string, given)? else {
+        return Ok(Err(Left::Faulty));
+    };
+    let values = values_of(alloc, slots)?;
+    let old = Meant {
+        pieces: &pieces,
+        values: &values,
+    };
+    let edits = edits_of(alloc, old)?;
+    let Some(literal) = apply_edits(alloc, snippet, &edits)? else {
+        return Ok(Err(Left::OtherMeaning));
+    };
+    if !keeps_meaning(alloc, call, old, &literal)? {
+        return Ok(Err(Left::OtherMeaning));
+    }
+    let gone = gone(alloc, call.arguments)?;
+    Ok(Ok(Inlined {
+        edits,
+        literal,
+        gone,
+    }))
+}
+
+/// Returns a call with its arguments that are variables in its format string, or why it is left as
+/// it is. `allows_mixed` is whether a call is changed that has other arguments too: these stay.
+/// Returns `Err` if an allocation fails.
+///
+/// The number of hashes, the length of the text in bytes, and 2 must together fit into a `usize`.
+// requires { hashes call.string.style + length call.string.text.now + 2 < 2 ^ 64 }
+// A call that is inlined has the old meaning. One that is left has a reason that holds.
+// ensures inlined { IfOk result (λ r. IfOk r (λ x.
+//     IsInlined allows_mixed (seen_call call.entry) (seen_inlined x))) }
+// ensures left { IfOk result (λ r. IfErr r (λ l. IsLeft allows_mixed (seen_call call.entry) l)) }
+#[inline]
+pub fn inlined(
+    alloc: Global,
+    call: Call<'_>,
+    allows_mixed: bool,
+) -> Result<Result<Inlined, Left>, AllocError> {
+    if let Some(left) = condition(&call, allows_mixed) {
+        return Ok(Err(left));
+    }
+    let slots = slots(alloc, call.arguments)?;
+    let given = givens(alloc, &slots)?;
+    let made = inlined_with(alloc, call, &slots, given.as_slice())?;
+    Ok(made)
+}

@@ -1,0 +1,168 @@
+//! The comparison of the meanings of two calls.
+
+// Extracted from crates/inlined_arguments/src/meaning.rt by tools/extract: not to be edited.
+// That source is proved, and each contract here is its. That this text means the same is tested:
+// by results from outside, and beside what is proved (.ci/bindings) and the original (tools/agree).
+
+use crate::proved::inlined_arguments::slots::Value;
+use crate::proved::inlined_arguments::values::{amount_of, position_value, Amount, Values};
+use crate::proved::rustc_parse_format::laws::{
+    alignments_are_equal, debug_hexes_are_equal, signs_are_equal,
+};
+use crate::proved::rustc_parse_format::{Argument, DebugHex, FormatSpec, Piece, Sign};
+
+/// Returns whether two values are the same.
+// ensures { IsTrue result → seen_value left.entry ≡ seen_value right.entry }
+#[inline]
+fn is_same_value(left: Value<'_>, right: Value<'_>) -> bool {
+    match (left, right) {
+        (Value::Variable(left), Value::Variable(right)) => left == right,
+        (Value::Expression { index: left, .. }, Value::Expression { index: right, .. }) => {
+            left == right
+        }
+        _ => false,
+    }
+}
+
+/// Returns whether two values are there and the same.
+// ensures { IsTrue result → option_map seen_value left.entry ≡ option_map seen_value right.entry }
+#[inline]
+fn are_same_values(left: Option<Value<'_>>, right: Option<Value<'_>>) -> bool {
+    match (left, right) {
+        (Some(left), Some(right)) => is_same_value(left, right),
+        _ => false,
+    }
+}
+
+/// Returns whether two widths or precisions are the same.
+// ensures { IsTrue result → seen_amount left.entry ≡ seen_amount right.entry }
+#[inline]
+fn are_same_amounts(left: Amount<'_>, right: Amount<'_>) -> bool {
+    match (left, right) {
+        (Amount::Number(left), Amount::Number(right)) => left == right,
+        (Amount::ValueOf(left), Amount::ValueOf(right)) => are_same_values(left, right),
+        (Amount::Absent, Amount::Absent) => true,
+        _ => false,
+    }
+}
+
+/// Returns whether two fill characters are the same.
+// ensures { IsTrue result → left ≡ right }
+#[inline]
+fn are_same_fills(left: Option<char>, right: Option<char>) -> bool {
+    match (left, right) {
+        (None, None) => true,
+        (Some(left), Some(right)) => left == right,
+        _ => false,
+    }
+}
+
+/// Returns whether two signs are the same.
+// ensures { IsTrue result → option_map seen_sign left ≡ option_map seen_sign right }
+#[inline]
+fn are_same_signs(left: Option<Sign>, right: Option<Sign>) -> bool {
+    match (left, right) {
+        (None, None) => true,
+        (Some(left), Some(right)) => signs_are_equal(&left, &right),
+        _ => false,
+    }
+}
+
+/// Returns whether two flags of the type `?` are the same.
+// ensures { IsTrue result → option_map seen_debug_hex left ≡ option_map seen_debug_hex right }
+#[inline]
+fn are_same_hexes(left: Option<DebugHex>, right: Option<DebugHex>) -> bool {
+    match (left, right) {
+        (None, None) => true,
+        (Some(left), Some(right)) => debug_hexes_are_equal(&left, &right),
+        _ => false,
+    }
+}
+
+/// Returns whether two specifications are the same but for their width, their precision and their
+/// places.
+// ensures { IsTrue result → flags (seen_spec left.now) ≡ flags (seen_spec right.now) }
+#[inline]
+fn are_same_flags(left: &FormatSpec<'_>, right: &FormatSpec<'_>) -> bool {
+    are_same_fills(left.fill, right.fill)
+        && alignments_are_equal(&left.align, &right.align)
+        && are_same_signs(left.sign, right.sign)
+        && left.alternate == right.alternate
+        && left.zero_pad == right.zero_pad
+        && are_same_hexes(left.debug_hex, right.debug_hex)
+        && left.ty == right.ty
+}
+
+/// A format string and the values that it refers to.
+#[derive(Clone, Copy)]
+pub(crate) struct Meant<'s, 'a> {
+    /// Its pieces.
+    pub pieces: &'s [Piece<'a>],
+    /// The values of its arguments.
+    pub values: &'s Values<'s, 'a>,
+}
+
+/// Returns whether two placeholders mean the same.
+// ensures { Knows left_values.now → Knows right_values.now → IsTrue result
+//     → use_part (seen_slots left_values.now) (seen_argument left.now)
+//     ≡ use_part (seen_slots right_values.now) (seen_argument right.now) }
+#[inline]
+fn are_same_uses<'a, 'b>(
+    left_values: &Values<'_, 'a>,
+    left: &Argument<'a>,
+    right_values: &Values<'_, 'b>,
+    right: &Argument<'b>,
+) -> bool {
+    are_same_values(
+        position_value(left_values, &left.position),
+        position_value(right_values, &right.position),
+    ) && are_same_amounts(
+        amount_of(left_values, &left.format.width),
+        amount_of(right_values, &right.format.width),
+    ) && are_same_amounts(
+        amount_of(left_values, &left.format.precision),
+        amount_of(right_values, &right.format.precision),
+    ) && are_same_flags(&left.format, &right.format)
+}
+
+/// Returns whether two pieces mean the same.
+// ensures { Knows left_values.now → Knows right_values.now → IsTrue result
+//     → part (seen_slots left_values.now) (seen left.now)
+//     ≡ part (seen_slots right_values.now) (seen right.now) }
+#[inline]
+fn are_same_parts<'a, 'b>(
+    left_values: &Values<'_, 'a>,
+    left: &Piece<'a>,
+    right_values: &Values<'_, 'b>,
+    right: &Piece<'b>,
+) -> bool {
+    match (left, right) {
+        (Piece::Lit(left), Piece::Lit(right)) => left == right,
+        (Piece::NextArgument(left), Piece::NextArgument(right)) => {
+            are_same_uses(left_values, left, right_values, right)
+        }
+        _ => false,
+    }
+}
+
+/// Returns whether two calls mean the same.
+// ensures { Knows left.entry.values.now → Knows right.entry.values.now → IsTrue result
+//     → meaning (seen_slots left.entry.values.now) (map seen left.entry.pieces.now)
+//     ≡ meaning (seen_slots right.entry.values.now) (map seen right.entry.pieces.now) }
+#[inline]
+pub(crate) fn means_same<'a, 'b>(left: Meant<'_, 'a>, right: Meant<'_, 'b>) -> bool {
+    if left.pieces.len() != right.pieces.len() {
+        return false;
+    }
+    for (index, piece) in left.pieces.iter().enumerate() {
+        match right.pieces.get(index) {
+            Some(other) => {
+                if !are_same_parts(left.values, piece, right.values, other) {
+                    return false;
+                }
+            }
+            None => return false,
+        }
+    }
+    true
+}

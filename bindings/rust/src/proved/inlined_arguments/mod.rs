@@ -1,0 +1,21 @@
+//! Arguments of a call that are variables, moved into its format string ([`inlined`]).
+
+// Extracted from crates/inlined_arguments/src/lib.rt by tools/extract: not to be edited.
+// That source is proved, and each contract here is its. That this text means the same is tested:
+// by results from outside, and beside what is proved (.ci/bindings) and the original (tools/agree).
+
+pub(crate) mod call;
+pub(crate) mod conditions;
+pub(crate) mod edited;
+pub(crate) mod edits;
+pub(crate) mod inlining;
+pub(crate) mod keywords;
+pub(crate) mod meaning;
+pub(crate) mod reading;
+pub(crate) mod slots;
+pub(crate) mod values;
+pub(crate) mod variables;
+
+pub use call::{Argument, Call, Edit, Inlined, Left};
+pub use edited::apply_edits;
+pub use inlining::inlined;

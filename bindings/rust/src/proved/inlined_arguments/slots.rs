@@ -1,0 +1,104 @@
+//! Arguments as places for values.
+
+// Extracted from crates/inlined_arguments/src/slots.rt by tools/extract: not to be edited.
+// That source is proved, and each contract here is its. That this text means the same is tested:
+// by results from outside, and beside what is proved (.ci/bindings) and the original (tools/agree).
+
+use crate::proved::call_faults::FormatArgument;
+use crate::proved::inlined_arguments::call::Argument;
+use crate::proved::inlined_arguments::variables::variable;
+use crate::shim::alloc::{AllocError, Global};
+use crate::shim::prelude::*;
+
+/// The value that a part of a placeholder refers to.
+#[derive(Clone, Copy)]
+pub(crate) enum Value<'a> {
+    /// The variable of this name.
+    Variable(&'a str),
+    /// An argument that is no variable.
+    Expression {
+        /// Its index among all arguments.
+        index: usize,
+        /// Its index among those that are no variables.
+        number: usize,
+    },
+}
+
+/// An argument as a place for a value.
+#[derive(Clone, Copy)]
+pub(crate) struct Slot<'a> {
+    /// Its name.
+    pub name: Option<&'a str>,
+    /// Its value.
+    pub value: Value<'a>,
+}
+
+/// Returns the value of an argument with these indices.
+// ensures { seen_value result ≡ slot_value index (seen_argument argument.now) }
+#[inline]
+fn slot_value<'a>(argument: &Argument<'a>, index: usize, number: usize) -> Value<'a> {
+    match variable(argument) {
+        Some(name) => Value::Variable(name),
+        None => Value::Expression { index, number },
+    }
+}
+
+/// Returns whether a value is no variable.
+// ensures { result ≡ is_expression (seen_value value.entry) }
+#[inline]
+fn is_expression(value: Value<'_>) -> bool {
+    matches!(value, Value::Expression { .. })
+}
+
+/// Returns the slots of arguments. Returns `Err` if an allocation fails.
+// ensures { IfOk result (λ v. map seen_slot v.items ≡ slots (map seen_argument arguments.now)) }
+#[inline]
+pub(crate) fn slots<'a>(
+    alloc: Global,
+    arguments: &[Argument<'a>],
+) -> Result<Vec<Slot<'a>>, AllocError> {
+    let mut slots = Vec::made_in(alloc);
+    let mut number = 0;
+    for (index, argument) in arguments.iter().enumerate() {
+        let value = slot_value(argument, index, number);
+        slots.try_push(Slot {
+            name: argument.name,
+            value,
+        })?;
+        if is_expression(value) {
+            number += 1;
+        }
+    }
+    Ok(slots)
+}
+
+/// Returns the slots that stay: those of arguments that are no variables. Returns `Err` if an
+/// allocation fails.
+// ensures { IfOk result (λ v. map seen_slot v.items ≡ kept (map seen_slot slots.now)) }
+#[inline]
+pub(crate) fn kept<'a>(alloc: Global, slots: &[Slot<'a>]) -> Result<Vec<Slot<'a>>, AllocError> {
+    let mut kept = Vec::made_in(alloc);
+    for slot in slots {
+        if is_expression(slot.value) {
+            kept.try_push(*slot)?;
+        }
+    }
+    Ok(kept)
+}
+
+/// Returns slots as the arguments of a call. Returns `Err` if an allocation fails.
+// ensures { IfOk result (λ v. map seen_given v.items ≡ map given (map seen_slot slots.now)) }
+#[inline]
+pub(crate) fn givens<'a>(
+    alloc: Global,
+    slots: &[Slot<'a>],
+) -> Result<Vec<FormatArgument<'a>>, AllocError> {
+    let mut found = Vec::made_in(alloc);
+    for slot in slots {
+        found.try_push(FormatArgument {
+            name: slot.name,
+            variable: None,
+        })?;
+    }
+    Ok(found)
+}

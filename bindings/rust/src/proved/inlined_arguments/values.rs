@@ -1,0 +1,115 @@
+//! The values that placeholders refer to.
+
+// Extracted from crates/inlined_arguments/src/values.rt by tools/extract: not to be edited.
+// That source is proved, and each contract here is its. That this text means the same is tested:
+// by results from outside, and beside what is proved (.ci/bindings) and the original (tools/agree).
+
+use crate::proved::inlined_arguments::slots::{Slot, Value};
+use crate::proved::rustc_parse_format::{Count, Position};
+use crate::shim::alloc::{AllocError, Global};
+use crate::shim::prelude::*;
+use alloc::collections::BTreeMap;
+
+/// A width or a precision.
+#[derive(Clone, Copy)]
+pub(crate) enum Amount<'a> {
+    /// This number.
+    Number(u16),
+    /// A value, or `None` if it is an index that no argument has.
+    ValueOf(Option<Value<'a>>),
+    /// None.
+    Absent,
+}
+
+/// The values of arguments.
+pub(crate) struct Values<'s, 'a> {
+    /// The slots of these.
+    pub slots: &'s [Slot<'a>],
+    /// The value of the last one with each name.
+    pub named: BTreeMap<&'a str, Value<'a>>,
+}
+
+/// Returns the value that a map has for a name, or `None` if it has none.
+// ensures { option_map seen_value result ≡ found_in named.now (chars name.now) }
+#[inline]
+fn found_in<'a>(named: &BTreeMap<&'a str, Value<'a>>, name: &'a str) -> Option<Value<'a>> {
+    named.get(&name).copied()
+}
+
+/// Puts the value of a name into a map. Returns `Err` if an allocation fails.
+// ensures { OnOk result ((w : Text) → found_in named.new w ≡ (if bytes_eq w (chars name.now) then
+//     Some (seen_value value.entry) else found_in named.old w)) }
+#[inline]
+fn insert<'a>(
+    named: &mut BTreeMap<&'a str, Value<'a>>,
+    name: &'a str,
+    value: Value<'a>,
+) -> Result<(), AllocError> {
+    named.insert_in(name, value)?;
+    Ok(())
+}
+
+/// Returns the values of slots. Returns `Err` if an allocation fails.
+// ensures knows { IfOk result Knows }
+// ensures slots { IfOk result (λ v. seen_slots v ≡ map seen_slot slots.now) }
+#[inline]
+pub(crate) fn values_of<'s, 'a>(
+    alloc: Global,
+    slots: &'s [Slot<'a>],
+) -> Result<Values<'s, 'a>, AllocError> {
+    let mut named = BTreeMap::made_in(alloc);
+    for slot in slots {
+        if let Some(name) = slot.name {
+            insert(&mut named, name, slot.value)?;
+        }
+    }
+    Ok(Values { slots, named })
+}
+
+/// Returns the value of an index, or `None` if no argument has it.
+// ensures { option_map seen_value result ≡ value_at (seen_slots values.now) index }
+#[inline]
+fn value_at<'a>(values: &Values<'_, 'a>, index: usize) -> Option<Value<'a>> {
+    match values.slots.get(index) {
+        Some(slot) => Some(slot.value),
+        None => None,
+    }
+}
+
+/// Returns the value of a name: that of the argument with this name, or else the variable.
+// ensures { Knows values.now
+//     → seen_value result ≡ value_named (seen_slots values.now) (chars name.now) }
+#[inline]
+fn value_named<'a>(values: &Values<'_, 'a>, name: &'a str) -> Value<'a> {
+    match found_in(&values.named, name) {
+        Some(value) => value,
+        None => Value::Variable(name),
+    }
+}
+
+/// Returns the value of a position, or `None` if it is an index that no argument has.
+// ensures { Knows values.now → option_map seen_value result
+//     ≡ value_of (seen_slots values.now) (position_use (seen_position position.now)) }
+#[inline]
+pub(crate) fn position_value<'a>(
+    values: &Values<'_, 'a>,
+    position: &Position<'a>,
+) -> Option<Value<'a>> {
+    match position {
+        Position::ArgumentImplicitlyIs(n) | Position::ArgumentIs(n) => value_at(values, *n),
+        Position::ArgumentNamed(name) => Some(value_named(values, name)),
+    }
+}
+
+/// Returns the amount that a width or a precision is.
+// ensures { Knows values.now
+//     → seen_amount result ≡ amount_of (seen_slots values.now) (seen_count count.now) }
+#[inline]
+pub(crate) fn amount_of<'a>(values: &Values<'_, 'a>, count: &Count<'a>) -> Amount<'a> {
+    match count {
+        Count::CountIs(n) => Amount::Number(*n),
+        Count::CountIsParam(n) | Count::CountIsStar(n) => Amount::ValueOf(value_at(values, *n)),
+        Count::CountIsName(name, _) => Amount::ValueOf(Some(value_named(values, name))),
+        Count::CountImplied => Amount::Absent,
+    }
+}

@@ -1,0 +1,129 @@
+//! The variables that arguments are.
+
+// Extracted from crates/inlined_arguments/src/variables.rt by tools/extract: not to be edited.
+// That source is proved, and each contract here is its. That this text means the same is tested:
+// by results from outside, and beside what is proved (.ci/bindings) and the original (tools/agree).
+
+use crate::proved::inlined_arguments::call::Argument;
+use crate::proved::inlined_arguments::keywords::is_keyword;
+use crate::shim::alloc::{AllocError, Global};
+use crate::shim::prelude::*;
+
+/// The first character that normalization may change or join with the one before it.
+const FIRST_MARK: char = '\u{300}';
+
+/// Returns the first character and what is after it, or `None` if the text is empty.
+// ensures parts { MatchOption result (chars text.now ≡ [])
+//     (λ x. chars text.now ≡ x.0 ∷ chars x.1.now) }
+// ensures shorter { IfSome result (λ x. length x.1.now < length text.now) }
+#[inline]
+pub(crate) fn split_first(text: &str) -> Option<(char, &str)> {
+    let mut rest = text.chars();
+    let c = rest.next()?;
+    Some((c, rest.as_str()))
+}
+
+/// Returns whether a name is written in a format string as it is in other source.
+// ensures { result ≡ not (list_any is_late_character (chars name.now)) }
+#[inline]
+fn is_plain(name: &str) -> bool {
+    let mut rest = name;
+    while let Some((c, tail)) = split_first(rest) {
+        if c >= FIRST_MARK {
+            return false;
+        }
+        rest = tail;
+    }
+    true
+}
+
+/// Returns the variable of this name, or `None` if it cannot be in a format string.
+// ensures { option_map seen_text result ≡ named_in (chars name.now) }
+#[inline]
+fn named_in(name: &str) -> Option<&str> {
+    if is_plain(name) {
+        Some(name)
+    } else {
+        None
+    }
+}
+
+/// Returns the name of a raw identifier, or `None` if a word is none.
+// ensures { option_map seen_text result ≡ raw_name (chars word.now) }
+#[inline]
+fn raw_name(word: &str) -> Option<&str> {
+    let Some(('r', rest)) = split_first(word) else {
+        return None;
+    };
+    match split_first(rest) {
+        Some(('#', name)) => Some(name),
+        _ => None,
+    }
+}
+
+/// Returns the name of the variable that a word is, or `None` if it is none that can be in a format
+/// string.
+// ensures { option_map seen_text result ≡ variable_of word.now }
+#[inline]
+fn variable_of(word: &str) -> Option<&str> {
+    match raw_name(word) {
+        Some(name) => named_in(name),
+        None => {
+            if is_keyword(word) {
+                None
+            } else {
+                named_in(word)
+            }
+        }
+    }
+}
+
+/// Returns the name of the variable that an argument is, or `None` if it is none that can be in a
+/// format string.
+// ensures { option_map seen_text result ≡ variable (seen_argument argument.now) }
+#[inline]
+pub(crate) fn variable<'a>(argument: &Argument<'a>) -> Option<&'a str> {
+    match argument.word {
+        None => None,
+        Some(word) => variable_of(word),
+    }
+}
+
+/// Returns whether an argument is a variable that can be in a format string.
+// ensures { result ≡ is_variable (seen_argument argument.now) }
+#[inline]
+pub(crate) fn is_variable(argument: &Argument<'_>) -> bool {
+    variable(argument).is_some()
+}
+
+/// Returns whether one of bytes is a slash.
+// ensures { result ≡ list_any is_slash bytes.now }
+#[inline]
+fn has_slash(bytes: &[u8]) -> bool {
+    for byte in bytes {
+        if *byte == b'/' {
+            return true;
+        }
+    }
+    false
+}
+
+/// Returns whether a comment would go with an argument that is a variable.
+// ensures { result ≡ has_comment (seen_argument argument.now) }
+#[inline]
+pub(crate) fn has_comment(argument: &Argument<'_>) -> bool {
+    has_slash(argument.source)
+}
+
+/// Returns the indices of the arguments that are variables. Returns `Err` if an allocation fails.
+// ensures { IfOk result (λ v. v.items ≡ gone_from 0 (map seen_argument arguments.now)) }
+#[inline]
+pub(crate) fn gone(alloc: Global, arguments: &[Argument<'_>]) -> Result<Vec<usize>, AllocError> {
+    let mut gone = Vec::made_in(alloc);
+    for (index, argument) in arguments.iter().enumerate() {
+        if is_variable(argument) {
+            gone.try_push(index)?;
+        }
+    }
+    Ok(gone)
+}
