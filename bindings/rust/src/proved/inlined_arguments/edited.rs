@@ -10,9 +10,11 @@ use crate::shim::prelude::*;
 
 /// Returns bytes with edits, or `None` if these are not one after the other in the bytes, or
 /// overlap. Returns `Err` if an allocation fails.
-// ensures { IfOk result (λ o. IfSome o (λ v.
+// ensures some { IfOk result (λ o. IfSome o (λ v.
 //     AreApart 0 (map seen_edit edits.now) (length bytes.now)
 //     × (v.items ≡ edited 0 (map seen_edit edits.now) bytes.now))) }
+// ensures none { IfOk result (λ o. IsNone o
+//     → AreApart 0 (map seen_edit edits.now) (length bytes.now) → ⊥) }
 #[inline]
 fn edited_bytes(
     alloc: Global,
@@ -22,28 +24,27 @@ fn edited_bytes(
     let mut out = Vec::made_in(alloc);
     let mut at = 0;
     for edit in edits {
-        if edit.span.end < edit.span.start {
+        if edit.span.start < at || edit.span.end < edit.span.start {
             return Ok(None);
         }
-        let Some(front) = bytes.get(at..edit.span.start) else {
+        if bytes.len() < edit.span.end {
             return Ok(None);
-        };
-        out.try_extend_from_slice(front)?;
+        }
+        out.try_extend_from_slice(&bytes[at..edit.span.start])?;
         out.try_extend_from_slice(edit.text.as_bytes())?;
         at = edit.span.end;
     }
-    let Some(rest) = bytes.get(at..) else {
-        return Ok(None);
-    };
-    out.try_extend_from_slice(rest)?;
+    out.try_extend_from_slice(&bytes[at..])?;
     Ok(Some(out))
 }
 
 /// Returns a literal with edits, or `None` if these are not one after the other in it, overlap or
 /// cut a character. Returns `Err` if an allocation fails.
-// ensures { IfOk result (λ o. IfSome o (λ s.
+// ensures some { IfOk result (λ o. IfSome o (λ s.
 //     AreApart 0 (map seen_edit edits.now) (length literal.now)
 //     × (string_bytes s ≡ edited 0 (map seen_edit edits.now) literal.now))) }
+// ensures none { IfOk result (λ o. IsNone o
+//     → MakeNoText literal.now (map seen_edit edits.now)) }
 #[inline]
 pub fn apply_edits(
     alloc: Global,
