@@ -4,6 +4,7 @@ pub mod Escapes
 pub mod Midway
 pub mod Placed
 pub mod Seen
+pub mod Sections
 pub mod Sequences
 pub mod Starts
 pub mod Tokens

@@ -1,6 +1,7 @@
 //! Theorems about the definitions alone, each as the contract of a function that does nothing.
 
-ghost use Rattle.std.specs.Prelude.{◌≡◌, ℕ, Bool, List, false, map};
+ghost use Rattle.std.specs.Prelude.{◌≡◌, ℕ, Bool, List, false, flat_map, map};
+ghost use Rattle.std.specs.List.{AllByRecursion};
 ghost use Rattle.rustc_parse_format.specs.Characters.{Text};
 ghost use Rattle.rustc_parse_format.specs.Grammar.{Reads, piece_values};
 ghost use Rattle.rustc_parse_format.specs.Source.{unappended};
@@ -9,6 +10,7 @@ ghost use Rattle.rustc_parse_format.specs.Types.{Mode, Piece, wants_names};
 ghost use Rattle.format_tokens.specs.Culprits.{marked};
 ghost use Rattle.format_tokens.specs.Escapes.{Placed, parts};
 ghost use Rattle.format_tokens.specs.Placed.{shown};
+ghost use Rattle.format_tokens.specs.Sections.{Section, faults_of, has_fault, has_mark, sections};
 ghost use Rattle.format_tokens.specs.Sequences.{apart, is_sequence, sequence, sequences};
 ghost use Rattle.format_tokens.specs.Tokens.{joined, pieces_tokens};
 ghost use Rattle.format_tokens.specs.Walk.{IsWritten, tokens_of};
@@ -37,4 +39,18 @@ pub fn spelled()
 pub fn escapes()
     ensures { (x : Placed) (t : Text) → is_sequence x.0 ≡ false
         → sequences (parts x t) ≡ map (sequence x.1.1) (apart x.0 t) }
+{}
+
+/// States that each fault of a text has a mark, and each mark a fault, between the same two
+/// placeholders: a section of the text, from an opening brace that stands alone up to the next one,
+/// has a token that is `Unexpected` or a `RawPrefix` exactly if calls find a fault in it. The
+/// sections have the tokens and the faults of the text, in order. Does nothing.
+pub fn marks()
+    ensures tokens { (mode : Mode) (t : Text)
+        → tokens_of mode t ≡ flat_map (λ (s : Section). s.tokens) (sections mode t) }
+    ensures faults { (mode : Mode) (t : Text)
+        → faults_of mode t ≡ flat_map (λ (s : Section). s.faults) (sections mode t) }
+    ensures marks { (mode : Mode) (t : Text)
+        → AllByRecursion (λ (s : Section). has_mark s.tokens ≡ has_fault s.faults)
+        (sections mode t) }
 {}
