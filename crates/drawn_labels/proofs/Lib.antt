@@ -4,6 +4,7 @@ pub mod HarmlessRows
 pub mod HarmlessMarks
 pub mod SignLaws
 pub mod LabelLaws
+pub mod LongLaws
 pub mod BarLaws
 pub mod PairLaws
 pub mod TwoLaws

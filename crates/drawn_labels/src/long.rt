@@ -1,8 +1,8 @@
 //! A label over several lines. A function whose name begins with `put_` appends to `out`, and
 //! returns `Err` if an allocation fails.
 
-ghost use Rattle.std.specs.Prelude.{◌≡◌, ◌+◌, ◌-◌, ◌++◌, ◌<◌, ◌≤◌, ◌^◌, OnOk, chars, codes, max};
-ghost use Rattle.std.specs.Prelude.{length, string_bytes};
+ghost use Rattle.std.specs.Prelude.{◌≡◌, ◌+◌, ◌-◌, ◌++◌, ◌<◌, ◌≤◌, ◌^◌, OnOk, chars, codes, false};
+ghost use Rattle.std.specs.Prelude.{length, max, string_bytes};
 ghost use Rattle.std.specs.Char.{is_whitespace};
 ghost use Rattle.std.specs.List.{list_all};
 ghost use Rattle.drawn_lines.specs.Glyphs.{glyph_bytes};
@@ -12,7 +12,8 @@ ghost use Rattle.drawn_labels.specs.Labels.{seen_label};
 ghost use Rattle.drawn_labels.specs.Long.{bar_gap, bar_row, bar_rows, between, first_rows, is_bare};
 ghost use Rattle.drawn_labels.specs.Long.{is_bare_line, is_bracket, is_comment, is_plain_comment};
 ghost use Rattle.drawn_labels.specs.Long.{last_rows, lead, long_rows, signed_row, without_bare};
-ghost use Rattle.drawn_lines.specs.Painting.{painted};
+ghost use Rattle.drawn_labels.specs.LongSigns.{AddsLong};
+ghost use Rattle.drawn_lines.specs.Painting.{has_colours, painted};
 ghost use Rattle.drawn_lines.specs.declared.paint.Style.TheVariants.{PrimaryText};
 
 use crate::labels::Label;
@@ -279,8 +280,14 @@ pub fn put_long(out: &mut String, frame: &Frame<'_>, label: &Label<'_>) -> Resul
     requires number { label.now.extent.start.line < 2 ^ 59 }
     requires last { label.now.extent.end.line < 2 ^ 59 }
     requires column { label.now.extent.start.column < 2 ^ 62 }
-    ensures { OnOk result (string_bytes out.new ≡ string_bytes out.old
+    ensures rows { OnOk result (string_bytes out.new ≡ string_bytes out.old
         ++ long_rows (seen_frame frame.now) (seen_label label.now)) }
+    // Without colours a sign is under the first and the last character of the label, a bar is in
+    // the margin of each row between them, and no sign is elsewhere.
+    ensures signs { OnOk result (has_colours frame.now.gutter.palette ≡ false
+        → label.now.extent.start.line < label.now.extent.end.line
+        → AddsLong (seen_frame frame.now) (seen_label label.now)
+        (string_bytes out.old) (string_bytes out.new)) }
 {
     put_first_rows(out, frame, label)?;
     put_between(out, frame, label.extent.start.line, label.extent.end.line)?;

@@ -174,7 +174,8 @@ word-argument : (w : Text) (ts : List Label) {t r : Text} → IsPart t (identifi
     → has_argument (token (word_kind Identifier w) w ++ ts) ≡ true
 unfolding role_of
 word-argument [] ts p = absurd (false≢true p.formed)
-word-argument (c ∷ w) ts p = cond_both {A = Kind} (bytes_eq (c ∷ w) (codes "_")) Unexpected Identifier
+word-argument (c ∷ w) ts p =
+    cond_both {A = Kind} (bytes_eq (c ∷ w) (codes "_")) Unexpected Identifier
     (λ k. is_argument (role_of k) ≡ true) (λ e. refl) (λ e. refl)
 
 position-clean : (names : Bool) (p : PositionText) {t r : Text} → IsPart t (position_part p) r

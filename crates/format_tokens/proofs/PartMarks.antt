@@ -315,8 +315,8 @@ letter_named c h e = by_letter c (one_letter c 95 e) h
     by_letter : (d : ℕ) → d ≡ 95 → is_type_character d ≡ true → ⊥
     by_letter d e h = false≢true (sym (ap is_type_character e) ∙ h)
 
-pub type-clean : (names : Bool) (y : TypeText) {t r : Text} → IsPart t (type_part y) r → IsCleanType y
-    → type_mark names y ≡ false
+pub type-clean : (names : Bool) (y : TypeText) {t r : Text} → IsPart t (type_part y) r
+    → IsCleanType y → type_mark names y ≡ false
 unfolding is_mark role_of
 type-clean names (DebugHexType Lower) p h = refl
 type-clean names (DebugHexType Upper) p h = refl
