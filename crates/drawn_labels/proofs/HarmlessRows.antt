@@ -199,8 +199,8 @@ of_last f l =
     (of_under f.gutter (join (of_lead f.gutter.palette
     (max (l.extent.end.column - shift f l.extent.end.line) 1)
     (harmless_text (codes "|") refl))
-    (join (text (codes " ") refl)
-    (of_painted f.gutter.palette PrimaryText (glyphs-harmless (chars l.text))))))
+    (either (length l.text == 0) nothing (join (text (codes " ") refl)
+    (of_painted f.gutter.palette PrimaryText (glyphs-harmless (chars l.text)))))))
 
 -- the bare lines of the frame without colours are the same
 without-same : (f : Frame) (first n : ℕ)

@@ -2,7 +2,7 @@
 -- in their margins, and no other signs.
 use Rattle.std.proofs.Common.{◌≡◌, ◌⊎◌, inl, inr, ℕ, ◌+◌, ◌-◌, ◌<◌, ◌≤◌, ◌==◌, zero, suc, Bool}
 use Rattle.std.proofs.Common.{true, false, cond, List, [], ◌∷◌, ◌++◌, ◌∙◌, ap, arith, append-nil}
-use Rattle.std.proofs.Common.{append_assoc, chars, codes, encode_utf8_all, max, min, nat_lt}
+use Rattle.std.proofs.Common.{append_assoc, chars, codes, encode_utf8_all, length, max, min, nat_lt}
 use Rattle.std.proofs.Common.{not, refl, replicate, sym}
 use Rattle.std.proofs.Math.Path.{subst}
 use Rattle.std.proofs.Math.Utf8.{encode}
@@ -22,7 +22,8 @@ use Rattle.drawn_lines.specs.declared.paint.Style.TheVariants.{Primary, PrimaryT
 use Rattle.drawn_lines.proofs.Joining.{painted-plain}
 use Rattle.drawn_lines.proofs.PositionLaws.{line-is, row-adds}
 use Rattle.drawn_labels.specs.Labels.{Label}
-use Rattle.drawn_labels.specs.Long.{bar_gap, bar_row, bar_rows, between, first_rows, is_bare_line}
+use Rattle.drawn_labels.specs.Long.{bar_gap, bar_row, bar_rows, between, end_text, first_rows}
+use Rattle.drawn_labels.specs.Long.{is_bare_line}
 use Rattle.drawn_labels.specs.Long.{last_rows, lead, long_rows, signed_row, without_bare}
 use Rattle.drawn_labels.specs.LongSigns.{AddsBars, AddsFirst, AddsLead, AddsLong, AddsSigned}
 use Rattle.drawn_labels.specs.LongSigns.{Between, Dots, IsInLead, Next, character_in, dots_row}
@@ -90,6 +91,14 @@ lead-in margin to text rest h (suc n) = record {
       ];
 }
 
+line-length : (n : ℕ) (rest : Text) → length (replicate n 95 ++ rest) ≡ n + length rest
+line-length zero rest = omega arith
+line-length (suc n) rest = omega (arith, line-length n rest)
+
+lead-length : (margin n : ℕ) (rest : Text) → length (lead_row margin n rest) ≡ n + length rest + 2
+unfolding lead_row
+lead-length margin n rest = omega (arith, line-length n (94 ∷ rest))
+
 lead-bytes : (p : Palette) (margin : ℕ) (front : List ℕ) (n : ℕ) → has_colours p ≡ false
     → front ≡ encode_utf8 margin → codes "^" ≡ encode_utf8 94
     → lead p front n ≡ encode_utf8_all (lead_row margin n [])
@@ -128,6 +137,7 @@ start-adds f to old h = record {
   whole = ap (λ t. old ++ under f.gutter t)
       (lead-bytes f.gutter.palette 32 (codes " ") (to + 1) h space-bytes sign-bytes);
   is_lead = lead-in 32 to [] [] (λ k. inl refl);
+  ends = λ q. omega (arith, lead-length 32 (to + 1) []);
 }
 
 -- and under the last one.
@@ -135,22 +145,37 @@ text-beside : (text : List ℕ) → Beside text (32 ∷ glyphs (chars text))
 text-beside text zero = inl refl
 text-beside text (suc k) = inr (k, omega arith, refl)
 
+end-row : (f : Frame) (n to : ℕ) (text : List ℕ) (rest : Text) (old : List ℕ)
+    → has_colours f.gutter.palette ≡ false → n ≡ to + 1
+    → end_text f.gutter.palette text ≡ encode_utf8_all rest → Beside text rest
+    → (text ≡ [] → length rest ≡ 0)
+    → AddsLead f 124 to text old (old ++ under f.gutter (lead f.gutter.palette (codes "|") n
+    ++ end_text f.gutter.palette text))
+end-row f n to text rest old h e same beside none = record {
+  row = lead_row 124 (to + 1) rest;
+  whole = ap (λ t. old ++ under f.gutter t)
+      (ap (λ t. t ++ end_text f.gutter.palette text)
+      (lead-bytes f.gutter.palette 124 (codes "|") n h bar-bytes sign-bytes
+      ∙ ap (λ k. encode_utf8_all (lead_row 124 k [])) e)
+      ∙ ap (λ t. encode_utf8_all (lead_row 124 (to + 1) []) ++ t) same
+      ∙ row-append 124 (to + 1) rest);
+  is_lead = lead-in 124 to text rest beside;
+  ends = λ q. omega (arith, lead-length 124 (to + 1) rest, none q);
+}
+
 end-adds : (f : Frame) (n to : ℕ) (text old : List ℕ) → has_colours f.gutter.palette ≡ false
     → n ≡ to + 1
     → AddsLead f 124 to text old (old ++ under f.gutter (lead f.gutter.palette (codes "|") n
-    ++ (codes " " ++ painted f.gutter.palette PrimaryText (glyph_bytes text))))
-end-adds f n to text old h e = record {
-  row = lead_row 124 (to + 1) (32 ∷ glyphs (chars text));
-  whole = ap (λ t. old ++ under f.gutter t)
-      (ap (λ t. t ++ (codes " " ++ painted f.gutter.palette PrimaryText (glyph_bytes text)))
-      (lead-bytes f.gutter.palette 124 (codes "|") n h bar-bytes sign-bytes
-      ∙ ap (λ k. encode_utf8_all (lead_row 124 k [])) e)
-      ∙ ap (λ t. encode_utf8_all (lead_row 124 (to + 1) []) ++ (codes " " ++ t))
-      (painted-plain f.gutter.palette PrimaryText (glyph_bytes text) h)
-      ∙ ap (λ t. encode_utf8_all (lead_row 124 (to + 1) []) ++ (t ++ glyph_bytes text)) space-bytes
-      ∙ row-append 124 (to + 1) (32 ∷ glyphs (chars text)));
-  is_lead = lead-in 124 to text (32 ∷ glyphs (chars text)) (text-beside text);
-}
+    ++ end_text f.gutter.palette text))
+end-adds f n to [] old h e =
+    end-row f n to [] [] old h e refl (λ k. inl refl) (λ q. refl)
+end-adds f n to (c ∷ t) old h e =
+    let some : (length (c ∷ t) == 0) ≡ false = grind (arith, nat_tests) in
+    end-row f n to (c ∷ t) (32 ∷ glyphs (chars (c ∷ t))) old h e
+    (ap (λ b. cond b [] (codes " " ++ painted f.gutter.palette PrimaryText (glyph_bytes (c ∷ t))))
+    some ∙ ap (λ u. codes " " ++ u) (painted-plain f.gutter.palette PrimaryText
+    (glyph_bytes (c ∷ t)) h) ∙ ap (λ u. u ++ glyph_bytes (c ∷ t)) space-bytes)
+    (text-beside (c ∷ t)) (λ q. absurd (cc q))
 
 -- The first line.
 first-adds : (f : Frame) (l : Label) (old : List ℕ) → has_colours f.gutter.palette ≡ false
@@ -336,7 +361,7 @@ long-adds f l old new h lines e =
     let rows = between-adds f l.extent.start.line l.extent.end.line mid h lines in
     let last = under f.gutter (lead f.gutter.palette (codes "|")
     (max (l.extent.end.column - shift f l.extent.end.line) 1)
-    ++ (codes " " ++ painted f.gutter.palette PrimaryText (glyph_bytes l.text))) in
+    ++ end_text f.gutter.palette l.text) in
     let whole : end ++ last ≡ new =
     append_assoc low (bar_row f l.extent.end.line) last
     ∙ append_assoc mid (between f l.extent.start.line l.extent.end.line)

@@ -1,7 +1,7 @@
 -- A label over several lines, as bytes: the lines that it has are joined by a bar at their left.
 use Rattle.std.specs.Prelude.{ℕ, ◌+◌, ◌-◌, Bool, true, false, not, ◌&&◌, ◌||◌, ◌==◌, ◌++◌}
 use Rattle.std.specs.Prelude.{if◌then◌else◌, nat_lt, min, max, zero, suc, List, [], ◌∷◌, chars}
-use Rattle.std.specs.Prelude.{codes}
+use Rattle.std.specs.Prelude.{codes, length}
 use Rattle.std.specs.List.{list_all}
 use Rattle.std.specs.Char.{is_whitespace}
 use Rattle.rustc_parse_format.specs.Characters.{Text}
@@ -90,6 +90,11 @@ first_rows f l =
     ++ under f.gutter
     (lead f.gutter.palette (codes " ") (l.extent.start.column - shift f l.extent.start.line + 1))
 
+-- The text of a label right of its sign. Without a text there is no space.
+abbrev pub end_text : Palette → List ℕ → List ℕ
+end_text p text =
+    if length text == 0 then [] else codes " " ++ painted p PrimaryText (glyph_bytes text)
+
 -- The last line, and the row under it that leads to where the label ends, with its text.
 unfoldable pub last_rows : Frame → Label → List ℕ
 last_rows f l =
@@ -97,7 +102,7 @@ last_rows f l =
     ++ under f.gutter
     (lead f.gutter.palette (codes "|")
     (max (l.extent.end.column - shift f l.extent.end.line) 1)
-    ++ (codes " " ++ painted f.gutter.palette PrimaryText (glyph_bytes l.text)))
+    ++ end_text f.gutter.palette l.text)
 
 -- The rows between the first and the last line: at most three lines after the first one, without
 -- bare ones at their end, and the line before the last one if it is far from these and not bare.

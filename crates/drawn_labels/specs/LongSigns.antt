@@ -3,7 +3,7 @@
 -- of a line begins in the column 2.
 use Prim.Native.Char.{code}
 use Rattle.std.specs.Prelude.{◌≡◌, ◌<◌, ◌≤◌, ◌⊎◌, ℕ, ◌+◌, ◌-◌, ◌++◌, true, false, zero, suc, List}
-use Rattle.std.specs.Prelude.{[], ◌∷◌, chars, codes, encode_utf8_all}
+use Rattle.std.specs.Prelude.{[], ◌∷◌, chars, codes, encode_utf8_all, length}
 use Rattle.rustc_parse_format.specs.Characters.{Text}
 use Rattle.drawn_lines.specs.Frames.{Frame}
 use Rattle.drawn_lines.specs.Glyphs.{glyphs, run}
@@ -27,11 +27,12 @@ pub record IsInLead (margin to : ℕ) (text : List ℕ) (n c : ℕ) : Type 0 whe
   pub others : to + 2 < n
       → (c ≡ code " ") ⊎ ((k : ℕ) × (n ≡ to + 4 + k) × (c ≡ character_in k (glyphs (chars text))))
 
--- Such a row is added to a text.
+-- Such a row is added to a text. Without a text it ends with its sign.
 pub record AddsLead (f : Frame) (margin to : ℕ) (text old new : List ℕ) : Type 0 where
   pub row : Text
   pub whole : new ≡ old ++ under f.gutter (encode_utf8_all row)
   pub is_lead : (n : ℕ) → IsInLead margin to text n (character_in n row)
+  pub ends : text ≡ [] → length row ≡ to + 3
 
 -- A row is added to a text that shows the line of the source with this number, with a sign in its
 -- margin.

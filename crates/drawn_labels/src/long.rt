@@ -9,7 +9,8 @@ ghost use Rattle.drawn_lines.specs.Glyphs.{glyph_bytes};
 ghost use Rattle.drawn_lines.specs.Lines.{under};
 ghost use Rattle.drawn_lines.specs.Frames.{seen_frame};
 ghost use Rattle.drawn_labels.specs.Labels.{seen_label};
-ghost use Rattle.drawn_labels.specs.Long.{bar_gap, bar_row, bar_rows, between, first_rows, is_bare};
+ghost use Rattle.drawn_labels.specs.Long.{bar_gap, bar_row, bar_rows, between, end_text};
+ghost use Rattle.drawn_labels.specs.Long.{first_rows, is_bare};
 ghost use Rattle.drawn_labels.specs.Long.{is_bare_line, is_bracket, is_comment, is_plain_comment};
 ghost use Rattle.drawn_labels.specs.Long.{last_rows, lead, long_rows, signed_row, without_bare};
 ghost use Rattle.drawn_labels.specs.LongSigns.{AddsLong};
@@ -219,16 +220,28 @@ fn put_first_rows(out: &mut String, frame: &Frame<'_>, label: &Label<'_>) -> Res
     Ok(())
 }
 
+/// Adds the text of a label right of its sign, if it has one.
+fn put_end_text(out: &mut String, palette: Palette, text: &str) -> Result<(), AllocError>
+    ensures { OnOk result (string_bytes out.new
+        ≡ string_bytes out.old ++ end_text palette text.now) }
+{
+    if text.is_empty() {
+        return Ok(());
+    }
+    out.push_str(" ")?;
+    put_painted_glyphs(out, palette, Style::PrimaryText, text)?;
+    Ok(())
+}
+
 /// Adds the row under the last line of a label.
 fn put_end(out: &mut String, gutter: Gutter, columns: usize, text: &str) -> Result<(), AllocError>
     ensures { OnOk result (string_bytes out.new ≡ string_bytes out.old
         ++ under gutter (lead gutter.palette (codes "|") columns
-        ++ (codes " " ++ painted gutter.palette PrimaryText (glyph_bytes text.now)))) }
+        ++ end_text gutter.palette text.now)) }
 {
     put_gutter(out, gutter)?;
     put_lead(out, gutter.palette, "|", columns)?;
-    out.push_str(" ")?;
-    put_painted_glyphs(out, gutter.palette, Style::PrimaryText, text)?;
+    put_end_text(out, gutter.palette, text)?;
     out.push_str("\n")?;
     Ok(())
 }

@@ -377,3 +377,35 @@ fn labels_of_one_place(rt: HostRuntime) -> Result<(), Fail> {
     assert_eq!(rt; text.as_str(), expected);
     Ok(())
 }
+
+/// A label over several lines that has no text.
+#[test]
+fn a_label_of_two_lines_without_a_text(rt: HostRuntime) -> Result<(), Fail> {
+    let source = "fn main() {\n\
+        \x20   println!(\"a {\n\
+        \x20   }\");\n\
+        }\n";
+    let labels = [SourceLabel {
+        span: 28..35,
+        is_primary: true,
+        text: "",
+    }];
+    let diagnostic = Diagnostic {
+        level: Level::Error,
+        title: "1 positional argument in format string, but no arguments were given",
+        labels: &labels,
+        notes: &[],
+        helps: &[],
+    };
+    let text = drawn(rt.alloc(), source, &diagnostic)?;
+    let expected = "error: 1 positional argument in format string, but no arguments were given\n\
+        \x20--> t.rs:2:17\n\
+        \x20 |\n\
+        2 |       println!(\"a {\n\
+        \x20 |  _________________^\n\
+        3 | |     }\");\n\
+        \x20 | |_____^\n\
+        \n";
+    assert_eq!(rt; text.as_str(), expected);
+    Ok(())
+}
