@@ -257,7 +257,7 @@ left-open true true s h = refl
 left-open true false s h = h refl
 left-open false m s h = refl
 
-and-left : (a b : Bool) → (a && b) ≡ true → a ≡ true
+pub and-left : (a b : Bool) → (a && b) ≡ true → a ≡ true
 and-left true b e = refl
 and-left false b e = e
 

@@ -242,7 +242,7 @@ all-splits (suc n) mode c (b ∷ t) h =
     also (call-splits mode c (b ∷ t)) (all-splits n mode k.next k.rest
     (omega (arith, h, call-lt mode c (b ∷ t) (λ e. cc e))))
 
-read-joined : (mode : Mode) (t : Text) → joined (read_tokens mode t) ≡ t
+pub read-joined : (mode : Mode) (t : Text) → joined (read_tokens mode t) ≡ t
 unfolding read_tokens
 read-joined mode t =
     sym ((all-splits (length t) mode 0 t (omega arith)).whole

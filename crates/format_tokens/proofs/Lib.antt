@@ -8,6 +8,7 @@ pub mod Cutting
 pub mod FieldMarks
 pub mod InText
 pub mod Joining
+pub mod LastMarks
 pub mod Lexing
 pub mod Marking
 pub mod Numbers
@@ -20,6 +21,7 @@ pub mod SectionLaws
 pub mod Sectioning
 pub mod SequenceLaws
 pub mod Skipping
+pub mod SomeTokens
 pub mod Specifications
 pub mod Starts
 pub mod Taking

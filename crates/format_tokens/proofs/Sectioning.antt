@@ -21,7 +21,7 @@ use Rattle.format_tokens.specs.Sections.{sections_within}
 use Rattle.format_tokens.specs.Tokens.{Label}
 use Rattle.format_tokens.specs.Walk.{call_tokens, read_tokens, tokens_of, tokens_within}
 use Rattle.format_tokens.proofs.CallMarks.{Opened, fault-append}
-use Rattle.format_tokens.proofs.SectionLaws.{tail, within-opened}
+use Rattle.format_tokens.proofs.SectionLaws.{section-marks, tail, within-opened}
 
 -- Tokens that begin with an opening brace: those before them are marked without a look at them.
 record IsCut (names : Bool) (y : List Label) : Type 0 where
@@ -167,3 +167,8 @@ all-agree (s ∷ ss) h =
     ∙ (ap (λ b. b || has_mark (all_tokens ss)) h.0
     ∙ (ap (λ b. has_fault s.faults || b) (all-agree ss h.1)
     ∙ sym (fault-append s.faults (all_faults ss))))
+
+pub text-marks : (mode : Mode) (t : Text) → has_mark (tokens_of mode t) ≡ has_fault (faults_of mode t)
+text-marks mode t =
+    ap has_mark (sections-tokens mode t) ∙ all-agree (sections mode t) (section-marks mode t)
+    ∙ sym (ap has_fault (sections-faults mode t))

@@ -3,7 +3,7 @@
 -- brace. The law on marks is about these.
 use Prim.Native.Char.{code}
 use Rattle.std.specs.Prelude.{ℕ, suc, zero, ◌++◌, ◌&&◌, not, Bool, true, false, if◌then◌else◌, List}
-use Rattle.std.specs.Prelude.{[], ◌∷◌, length, map}
+use Rattle.std.specs.Prelude.{◌≡◌, [], ◌∷◌, codes, length, map}
 use Rattle.std.specs.List.{list_any}
 use Rattle.rustc_parse_format.specs.Call.{call}
 use Rattle.rustc_parse_format.specs.Characters.{Text, after_first, begins_with}
@@ -108,3 +108,8 @@ faults_within (suc n) mode c (b ∷ t) =
 -- The faults of a text: those of all calls, up to its end.
 unfoldable pub faults_of : Mode → Text → List (Fault Span)
 faults_of mode t = faults_within (length t) mode 0 t
+
+-- If a newline was appended, it is the last character.
+abbrev pub HasAppended : Bool → Text → Type 0
+HasAppended false t = Unit {0}
+HasAppended true t = (u : Text) × (t ≡ u ++ codes "\n")

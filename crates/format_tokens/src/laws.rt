@@ -10,7 +10,8 @@ ghost use Rattle.rustc_parse_format.specs.Types.{Mode, Piece, wants_names};
 ghost use Rattle.format_tokens.specs.Culprits.{marked};
 ghost use Rattle.format_tokens.specs.Escapes.{Placed, parts};
 ghost use Rattle.format_tokens.specs.Placed.{shown};
-ghost use Rattle.format_tokens.specs.Sections.{Section, faults_of, has_fault, has_mark, sections};
+ghost use Rattle.format_tokens.specs.Sections.{HasAppended, Section, faults_of, has_fault};
+ghost use Rattle.format_tokens.specs.Sections.{has_mark, sections};
 ghost use Rattle.format_tokens.specs.Sequences.{apart, is_sequence, sequence, sequences};
 ghost use Rattle.format_tokens.specs.Tokens.{joined, pieces_tokens};
 ghost use Rattle.format_tokens.specs.Walk.{IsWritten, tokens_of};
@@ -53,4 +54,6 @@ pub fn marks()
     ensures marks { (mode : Mode) (t : Text)
         → AllByRecursion (λ (s : Section). has_mark s.tokens ≡ has_fault s.faults)
         (sections mode t) }
+    ensures shown { (mode : Mode) (input : Text) (appended : Bool) → HasAppended appended input
+        → has_mark (shown mode input appended) ≡ has_fault (faults_of mode input) }
 {}

@@ -1,3 +1,4 @@
+use Rattle.format_tokens.proofs.LastMarks.{shown-marks}
 use Rattle.format_tokens.proofs.SectionLaws.{section-marks}
 use Rattle.format_tokens.proofs.Sectioning.{sections-faults, sections-tokens}
 use Rattle.format_tokens.proofs.laws.marks.Goals as goal
@@ -10,3 +11,6 @@ returns-clause-faults c = sections-faults
 
 pub returns-clause-marks : goal.returns-clause-marks
 returns-clause-marks c = section-marks
+
+pub returns-clause-shown : goal.returns-clause-shown
+returns-clause-shown c = shown-marks
