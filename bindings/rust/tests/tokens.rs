@@ -1,4 +1,5 @@
 //! The tokens of source literals, and of inputs without one.
+use dephungo::faults::errors_of;
 use dephungo::tokens::tokens;
 use dephungo::tokens::Kind::{self, *};
 use dephungo::ParseMode::{self, *};
@@ -181,4 +182,33 @@ fn without_a_source_literal() {
         assert_eq!(found, wanted);
     }
     assert_eq!(tokens("{", None, None, false, Format)[0].span, 0..1);
+}
+
+/// A text has a mark exactly if it has a fault, also in a literal that is cut at a continued line
+/// in front of each character.
+#[test]
+fn faults_and_marks() {
+    let parts = [
+        "{", "}", "a", "_", ":", "?", "r#", "65536", "0", "$", ".", "<", ",", "#", "{}",
+    ];
+    let mut texts = vec![String::new()];
+    for _ in 0..4 {
+        let longer = |text: &String| parts.map(|part| format!("{text}{part}"));
+        texts.extend(texts.iter().flat_map(longer).collect::<Vec<_>>());
+        texts.sort();
+        texts.dedup();
+    }
+    for (text, mode) in texts
+        .iter()
+        .flat_map(|text| [Format, InlineAsm, Diagnostic, DiagnosticNamed].map(|mode| (text, mode)))
+    {
+        let wanted = !errors_of(text, None, None, false, mode).is_empty();
+        let continued: String = text.chars().map(|c| format!("\\\n{c}")).collect();
+        for snippet in [None, Some(format!("\"{continued}\""))] {
+            let found = tokens(text, None, snippet, false, mode)
+                .iter()
+                .any(|token| matches!(token.kind, Unexpected | RawPrefix));
+            assert_eq!(found, wanted, "{text} {mode:?}");
+        }
+    }
 }

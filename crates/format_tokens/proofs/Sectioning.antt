@@ -168,7 +168,8 @@ all-agree (s ∷ ss) h =
     ∙ (ap (λ b. has_fault s.faults || b) (all-agree ss h.1)
     ∙ sym (fault-append s.faults (all_faults ss))))
 
-pub text-marks : (mode : Mode) (t : Text) → has_mark (tokens_of mode t) ≡ has_fault (faults_of mode t)
+pub text-marks : (mode : Mode) (t : Text)
+    → has_mark (tokens_of mode t) ≡ has_fault (faults_of mode t)
 text-marks mode t =
     ap has_mark (sections-tokens mode t) ∙ all-agree (sections mode t) (section-marks mode t)
     ∙ sym (ap has_fault (sections-faults mode t))

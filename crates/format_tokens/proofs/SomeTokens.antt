@@ -27,7 +27,8 @@ use Rattle.format_tokens.specs.declared.kinds.Kind.TheVariants.{«Type» as Type
 use Rattle.format_tokens.specs.declared.kinds.Kind.TheVariants.{Whitespace, Zero}
 use Rattle.format_tokens.specs.Tokens.{Label, count_tokens, format_tokens}
 use Rattle.format_tokens.specs.Tokens.{integer_kind, opened_tokens, position_tokens}
-use Rattle.format_tokens.specs.Tokens.{precision_tokens, spec_tokens, token, width_tokens, word_kind}
+use Rattle.format_tokens.specs.Tokens.{precision_tokens, spec_tokens, token, width_tokens}
+use Rattle.format_tokens.specs.Tokens.{word_kind}
 use Rattle.format_tokens.specs.Walk.{call_tokens, is_closed, placeholder_tokens, skipped_tokens}
 use Rattle.format_tokens.specs.Walk.{tokens_within, up_to_rest}
 use Rattle.format_tokens.proofs.Covering.{AreSome}

@@ -211,16 +211,28 @@ fn put_first_rows(
     Ok(())
 }
 
+/// Adds the text of a label right of its sign, if it has one.
+// ensures { OnOk result (string_bytes out.new
+//     ≡ string_bytes out.old ++ end_text palette text.now) }
+#[inline]
+fn put_end_text(out: &mut String, palette: Palette, text: &str) -> Result<(), AllocError> {
+    if text.is_empty() {
+        return Ok(());
+    }
+    out.try_push_str(" ")?;
+    put_painted_glyphs(out, palette, Style::PrimaryText, text)?;
+    Ok(())
+}
+
 /// Adds the row under the last line of a label.
 // ensures { OnOk result (string_bytes out.new ≡ string_bytes out.old
 //     ++ under gutter (lead gutter.palette (codes "|") columns
-//     ++ (codes " " ++ painted gutter.palette PrimaryText (glyph_bytes text.now)))) }
+//     ++ end_text gutter.palette text.now)) }
 #[inline]
 fn put_end(out: &mut String, gutter: Gutter, columns: usize, text: &str) -> Result<(), AllocError> {
     put_gutter(out, gutter)?;
     put_lead(out, gutter.palette, "|", columns)?;
-    out.try_push_str(" ")?;
-    put_painted_glyphs(out, gutter.palette, Style::PrimaryText, text)?;
+    put_end_text(out, gutter.palette, text)?;
     out.try_push_str("\n")?;
     Ok(())
 }
@@ -268,8 +280,14 @@ fn put_between(
 // requires number { label.now.extent.start.line < 2 ^ 59 }
 // requires last { label.now.extent.end.line < 2 ^ 59 }
 // requires column { label.now.extent.start.column < 2 ^ 62 }
-// ensures { OnOk result (string_bytes out.new ≡ string_bytes out.old
+// ensures rows { OnOk result (string_bytes out.new ≡ string_bytes out.old
 //     ++ long_rows (seen_frame frame.now) (seen_label label.now)) }
+// Without colours a sign is under the first and the last character of the label, a bar is in
+// the margin of each row between them, and no sign is elsewhere.
+// ensures signs { OnOk result (has_colours frame.now.gutter.palette ≡ false
+//     → label.now.extent.start.line < label.now.extent.end.line
+//     → AddsLong (seen_frame frame.now) (seen_label label.now)
+//     (string_bytes out.old) (string_bytes out.new)) }
 #[inline]
 pub fn put_long(out: &mut String, frame: &Frame<'_>, label: &Label<'_>) -> Result<(), AllocError> {
     put_first_rows(out, frame, label)?;
