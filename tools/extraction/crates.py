@@ -348,6 +348,10 @@ def item_rewritten(source, item, crates, empty, cloned):
     rules.known_traits(source, item)
     for part in [part for part in item.parts if part.is_kept] or [item]:
         uses_shim |= rules.rewrite(source, part, source.crate, crates)
+        if item.kind == "impl" and part.is_public and takes_allocator(source, part):
+            # no user of the crate for Rust can call it
+            public = source.tokens[source.prev(part.head)]
+            public.text = "pub(crate)" if public.text == "pub" else public.text
         head_of(source, part)
         if part.derive:
             derives(source, part, cloned)

@@ -6,7 +6,7 @@ use crate::proved::rustc_parse_format::literal::read_content as read_content_in;
 use crate::shim::alloc::{answer, Global};
 use crate::tokens::{tokens, Token};
 use crate::{check, ParseError, ParseMode, Parser, Piece, Report};
-use alloc::string::{String, ToString};
+use alloc::string::ToString;
 use alloc::vec::Vec;
 use core::ops::Range;
 

@@ -36,7 +36,7 @@ impl<'a> Literal<'a> {
     //     ((style : Option ℕ) (t : Text) → IsWritten style (chars source.now) t → ⊥)
     //     (λ l. IsRead source.now (seen_mode mode) l)) }
     #[inline]
-    pub fn read(
+    pub(crate) fn read(
         alloc: Global,
         source: &'a str,
         mode: ParseMode,
