@@ -13,7 +13,7 @@ RUST = TOP / "bindings/rust/src"
 CRATES = ("rustc_parse_format", "placeholder_check", "format_tokens", "fault_fixes", "drawn_lines",
           "drawn_labels", "drawn_edits", "drawn_faults", "rust_tokens", "rust_trees",
           "format_calls", "call_faults", "asm_faults", "message_faults", "piece_listing",
-          "listing_json", "literal_faults", "format_lint", "lint_words", "source_lint",
+          "listing_json", "literal_faults", "format_literal", "format_lint", "lint_words", "source_lint",
           "file_fixes", "inlined_arguments", "file_inlines", "unified_diff", "fault_rules", "message_forms", "package_edition", "formatread",
           "formatlint")
 NOTICE = """\
@@ -171,7 +171,7 @@ class Needs:
     def add_caller(self, caller):
         """Adds what a file in Rust names: what it imports of what is extracted, and each method
         that it calls. What it exports is shown: all public methods of that are needed that take no
-        allocator."""
+        allocator and never say that an allocation failed."""
         end = len(caller.tokens) - 1
         methods = {it for it in caller.names_in(0, end) if isinstance(it, tuple)}
         for at in (it for it in caller.places(0, end) if caller.tokens[it].is_word("use")):
@@ -292,8 +292,9 @@ def clones_in(source, item):
 
 
 def takes_allocator(source, item):
-    """Whether a function has an argument `alloc`."""
-    return "alloc" in source.texts(item.head, item.open)
+    """Whether a function has an argument `alloc`, or says that an allocation failed."""
+    words = source.texts(item.head, item.open)
+    return "alloc" in words or "AllocError" in words
 
 
 def rust_of(source, needs, crates, empty, cloned):
@@ -347,6 +348,10 @@ def item_rewritten(source, item, crates, empty, cloned):
     rules.known_traits(source, item)
     for part in [part for part in item.parts if part.is_kept] or [item]:
         uses_shim |= rules.rewrite(source, part, source.crate, crates)
+        if item.kind == "impl" and part.is_public and takes_allocator(source, part):
+            # no user of the crate for Rust can call it
+            public = source.tokens[source.prev(part.head)]
+            public.text = "pub(crate)" if public.text == "pub" else public.text
         head_of(source, part)
         if part.derive:
             derives(source, part, cloned)

@@ -72,6 +72,7 @@ SHOWN = ("Debug", "Eq", "PartialEq")
 ADDED = {("placeholder_check", "Report"): ("Clone", *SHOWN),
          ("rustc_parse_format", "Fault"): ("Clone", *SHOWN),
          ("fault_fixes", "Fixed"): ("Clone",),
+         ("format_literal", "Literal"): ("Clone", *SHOWN),
          ("call_faults", "FormatArgument"): SHOWN, ("source_lint", "CallReading"): SHOWN,
          **{("source_lint", name): ("Clone", *SHOWN)
             for name in ("Edit", "Finding", "Help", "Label", "Note", "Report")},

@@ -58,6 +58,7 @@ pub use crate::proved::rustc_parse_format::Fault;
 ///
 /// If the source has 2^59 bytes or more, or on 32 bits 2^27 or more. There the numbers of its lines
 /// also have to fit `usize`. An allocation failure aborts, as elsewhere in Rust.
+#[must_use]
 pub fn draw(mode: ParseMode, picture: &Picture<'_>, error: &ParseError) -> String {
     answer(draw_in(Global, mode, picture, error))
 }
@@ -81,6 +82,7 @@ pub fn draw(mode: ParseMode, picture: &Picture<'_>, error: &ParseError) -> Strin
 /// assert_eq!((found[0].span.clone(), found[0].text), (2..4, ""));
 /// assert_eq!((found[1].span.clone(), found[1].text), (8..8, ":"));
 /// ```
+#[must_use]
 pub fn edits(mode: ParseMode, errors: &[ParseError]) -> Vec<Edit<'_>> {
     answer(edits_in(Global, mode, errors))
 }
@@ -96,6 +98,7 @@ pub fn edits(mode: ParseMode, errors: &[ParseError]) -> Vec<Edit<'_>> {
 /// let errors = errors_of("{}}", None, None, false, ParseMode::Format);
 /// assert_eq!(errors[0].description, "unmatched `}` found");
 /// ```
+#[must_use]
 pub fn errors_of(
     input: &str,
     style: Option<usize>,
@@ -128,6 +131,7 @@ pub fn errors_of(
 /// let ids: Vec<&str> = faults.iter().map(|fault| fault.id()).collect();
 /// assert_eq!(ids, ["raw-identifier", "missing-closing-brace"]);
 /// ```
+#[must_use]
 pub fn faults_of(
     input: &str,
     style: Option<usize>,
@@ -154,6 +158,7 @@ pub fn faults_of(
 /// let faults = faults_of("{}}", None, None, false, ParseMode::Format);
 /// assert_eq!(error_of(&faults[0]).description, "unmatched `}` found");
 /// ```
+#[must_use]
 pub fn error_of(fault: &Fault<'_>) -> ParseError {
     let mut error = empty_error(Global);
     answer(set_error(Global, &mut error, fault));
@@ -182,6 +187,7 @@ pub fn error_of(fault: &Fault<'_>) -> ParseError {
 /// assert_eq!(fixed.snippet, r#""{\x61:?}""#);
 /// assert_eq!(fixed.text, "{a:?}");
 /// ```
+#[must_use]
 pub fn fix(
     input: &str,
     style: Option<usize>,

@@ -2,81 +2,50 @@
 //! characters that they stand for, with byte ranges, and whether a snippet is the source literal of
 //! an input.
 use crate::faults::{errors_of, faults_of, fix, Fault, Fixed};
-use crate::proved::piece_listing::literal::literal_text;
-use crate::proved::rust_tokens::{first_token, Kind};
 use crate::proved::rustc_parse_format::literal::read_content as read_content_in;
 use crate::shim::alloc::{answer, Global};
 use crate::tokens::{tokens, Token};
 use crate::{check, ParseError, ParseMode, Parser, Piece, Report};
-use alloc::string::{String, ToString};
+use alloc::string::ToString;
 use alloc::vec::Vec;
 use core::ops::Range;
 
+pub use crate::proved::format_literal::Literal;
 pub use crate::proved::rustc_parse_format::literal::{is_source_literal, quoted_content};
-
-/// A string literal that is read as a format string: the five arguments that the calls of this
-/// crate take, in one value, and these calls. An allocation failure aborts, as elsewhere in Rust.
-///
-/// All spans are byte ranges of the literal, with its quotes and escapes.
-///
-/// ```
-/// use dephungo::literal::Literal;
-/// use dephungo::ParseMode::Format;
-///
-/// let literal = Literal::new(r##"r#"{r#a} {}"#"##, Format).unwrap();
-/// assert_eq!((literal.text.as_str(), literal.style), ("{r#a} {}", Some(1)));
-/// assert_eq!(literal.faults()[0].id(), "raw-identifier");
-/// assert_eq!(literal.errors()[0].span, 4..7);
-/// assert_eq!(literal.fix().unwrap().snippet, r##"r#"{a} {}"#"##);
-///
-/// let literal = Literal::new(r#""{\x61} {0} {2}""#, Format).unwrap();
-/// assert_eq!(literal.pieces().len(), 5);
-/// assert_eq!(literal.tokens()[2].span, 2..6);
-/// let report = literal.check(2, &[]);
-/// assert_eq!((report.missing_name, report.missing_index), (vec!["a"], vec![2]));
-/// assert_eq!(report.unused_index, [1]);
-///
-/// assert!(Literal::new("b\"{}\"", Format).is_none());
-/// ```
-#[derive(Clone, Debug, Eq, PartialEq)]
-pub struct Literal<'a> {
-    /// The text that the literal stands for, with the appended newline if there is one.
-    pub text: String,
-    /// The number of hashes of a raw literal, or `None` for an ordinary one.
-    pub style: Option<usize>,
-    /// The literal as it is in the source.
-    pub snippet: &'a str,
-    /// Whether the text ends in a newline that is not in the literal.
-    pub appended_newline: bool,
-    /// As what the text is read.
-    pub mode: ParseMode,
-}
 
 impl<'a> Literal<'a> {
     /// Reads a string literal by the rules of the Rust Reference, `"..."` or `r#"..."#` with any
     /// number of hashes. Its lines end with LF. Returns `None` if it is no such literal: for
-    /// example with a prefix `b` or `c`, a suffix, or white space around it.
+    /// example with a prefix `b` or `c`, a suffix, or white space around it. An allocation failure
+    /// aborts, as elsewhere in Rust, here and in the other calls.
+    ///
+    /// ```
+    /// use dephungo::literal::Literal;
+    /// use dephungo::ParseMode::Format;
+    ///
+    /// let literal = Literal::new(r##"r#"{r#a} {}"#"##, Format).unwrap();
+    /// assert_eq!((literal.text.as_str(), literal.style), ("{r#a} {}", Some(1)));
+    /// assert_eq!(literal.faults()[0].id(), "raw-identifier");
+    /// assert_eq!(literal.errors()[0].span, 4..7);
+    /// assert_eq!(literal.fix().unwrap().snippet, r##"r#"{a} {}"#"##);
+    ///
+    /// let literal = Literal::new(r#""{\x61} {0} {2}""#, Format).unwrap();
+    /// assert_eq!(literal.pieces().len(), 5);
+    /// assert_eq!(literal.tokens()[2].span, 2..6);
+    /// let report = literal.check(2, &[]);
+    /// assert_eq!((report.missing_name, report.missing_index), (vec!["a"], vec![2]));
+    /// assert_eq!(report.unused_index, [1]);
+    ///
+    /// assert!(Literal::new("b\"{}\"", Format).is_none());
+    /// ```
+    #[must_use]
     pub fn new(snippet: &'a str, mode: ParseMode) -> Option<Literal<'a>> {
-        let token = first_token(snippet)?;
-        let is_whole = token.is_ended && token.suffix_start == snippet.len();
-        if !is_whole || !matches!(token.kind, Kind::Str | Kind::RawStr) {
-            return None;
-        }
-        let (text, style) = answer(literal_text(Global, snippet))?;
-        if style.is_some() && text.contains('\r') {
-            return None;
-        }
-        Some(Literal {
-            text,
-            style,
-            snippet,
-            appended_newline: false,
-            mode,
-        })
+        answer(Literal::read(Global, snippet, mode))
     }
 
     /// Returns the literal with a newline appended to its text, as `println!` appends one. One more
     /// is never appended.
+    #[must_use]
     pub fn with_newline(mut self) -> Literal<'a> {
         if !self.appended_newline {
             self.text.push('\n');
@@ -86,6 +55,7 @@ impl<'a> Literal<'a> {
     }
 
     /// Returns a parser at the start of the text.
+    #[must_use]
     pub fn parser(&self) -> Parser<'_> {
         let snippet = Some(self.snippet.to_string());
         Parser::new(
@@ -98,11 +68,13 @@ impl<'a> Literal<'a> {
     }
 
     /// Returns the pieces up to the end of the text, or to a `}` that closes nothing.
+    #[must_use]
     pub fn pieces(&self) -> Vec<Piece<'_>> {
         self.parser().collect()
     }
 
     /// Returns the tokens, as [`tokens`] does.
+    #[must_use]
     pub fn tokens(&self) -> Vec<Token> {
         let snippet = Some(self.snippet.to_string());
         tokens(
@@ -115,6 +87,7 @@ impl<'a> Literal<'a> {
     }
 
     /// Returns the faults up to the end of the text, in the order in which they are found.
+    #[must_use]
     pub fn faults(&self) -> Vec<Fault<'_>> {
         let snippet = Some(self.snippet.to_string());
         faults_of(
@@ -127,6 +100,7 @@ impl<'a> Literal<'a> {
     }
 
     /// Returns the errors up to the end of the text, in the order of a parser.
+    #[must_use]
     pub fn errors(&self) -> Vec<ParseError> {
         let snippet = Some(self.snippet.to_string());
         errors_of(
@@ -140,6 +114,7 @@ impl<'a> Literal<'a> {
 
     /// Returns the literal with the edits that its faults suggest, as [`fix`] does. Returns `None`
     /// if there is no such literal.
+    #[must_use]
     pub fn fix(&self) -> Option<Fixed> {
         fix(
             &self.text,
@@ -151,6 +126,7 @@ impl<'a> Literal<'a> {
     }
 
     /// Compares the pieces with the arguments that are given, as [`check`] does.
+    #[must_use]
     pub fn check<'b>(&'b self, positional: usize, names: &[&'b str]) -> Report<'b> {
         check(&self.pieces(), positional, names)
     }
@@ -163,6 +139,7 @@ impl<'a> Literal<'a> {
 /// The rules are those of string literals in the Rust Reference. A backslash before a newline
 /// stands for nothing, together with the newline and all tabs, newlines, carriage returns and
 /// spaces after it. An allocation failure aborts, as elsewhere in Rust.
+#[must_use]
 pub fn read_content(content: &str) -> Option<Vec<(Range<usize>, char)>> {
     answer(read_content_in(Global, content))
 }

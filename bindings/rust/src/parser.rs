@@ -22,6 +22,17 @@ use core::ops::Range;
 ///
 /// A span is a byte range in the source: in the snippet, if that is the source literal of the
 /// input, and otherwise in a literal that has the input, as it is, after its opening quote.
+///
+/// ```
+/// use dephungo::{ArgumentNamed, ParseMode, Parser, Piece};
+///
+/// let mut parser = Parser::new("{x} {", None, None, false, ParseMode::Format);
+/// let Some(Piece::NextArgument(argument)) = parser.next() else { panic!() };
+/// assert_eq!((argument.position, argument.position_span), (ArgumentNamed("x"), 2..3));
+/// assert_eq!(parser.next(), Some(Piece::Lit(" ")));
+/// parser.next();
+/// assert_eq!(parser.errors[0].description, "expected `}` but string was terminated");
+/// ```
 pub struct Parser<'input> {
     mode: ParseMode,
     /// The proved reader. Between two calls it holds nothing that it found. Its `curarg` and

@@ -8,12 +8,14 @@ use std::process::ExitCode;
 
 /// Runs the program that lists the pieces and the faults of a format string, and returns its exit
 /// status.
+#[must_use]
 pub fn formatread() -> ExitCode {
     formatread_in(HostRuntime)
 }
 
 /// Runs the program that reports and draws the faults of format strings, and returns its exit
 /// status.
+#[must_use]
 pub fn formatlint() -> ExitCode {
     formatlint_in(HostRuntime)
 }

@@ -14,6 +14,16 @@ pub use crate::proved::placeholder_check::Report;
 /// name. A name that a call would capture from around it is missing here too, so `missing_name` is
 /// the list of the variables that a call with these arguments captures. An allocation failure
 /// aborts, as elsewhere in Rust.
+///
+/// ```
+/// use dephungo::{check, ParseMode, Parser, Piece};
+///
+/// let pieces: Vec<Piece> = Parser::new("{1} {x:w$}", None, None, false, ParseMode::Format).collect();
+/// let report = check(&pieces, 2, &["w", "z"]);
+/// assert_eq!((report.missing_name, report.unused_name), (vec!["x"], vec!["z"]));
+/// assert_eq!((report.missing_index, report.unused_index), (vec![], vec![0]));
+/// ```
+#[must_use]
 pub fn check<'a>(pieces: &[Piece<'a>], positional: usize, names: &[&'a str]) -> Report<'a> {
     answer(check_in(Global, pieces, positional, names))
 }

@@ -66,6 +66,7 @@ pub use crate::proved::source_lint::{CallReading, Finding, Report};
 /// ];
 /// assert_eq!(found, wanted);
 /// ```
+#[must_use]
 pub fn tokens(text: &str) -> Vec<Token> {
     answer(tokens_in(Global, text))
 }
@@ -78,6 +79,7 @@ pub struct Places<'a> {
 
 impl<'a> Places<'a> {
     /// Reads a text. An allocation failure aborts, as elsewhere in Rust.
+    #[must_use]
     pub fn new(text: &'a str) -> Places<'a> {
         Places {
             places: answer(PlacesIn::new(Global, text)),
@@ -96,6 +98,7 @@ impl<'a> Places<'a> {
     /// # Panics
     ///
     /// If no character of the text starts there, and it is not its end.
+    #[must_use]
     pub fn at(&self, offset: usize) -> Place {
         self.places.at(offset)
     }
@@ -109,6 +112,7 @@ pub struct Table<'a> {
 impl<'a> Table<'a> {
     /// Returns the macros of the standard library. An allocation failure aborts, as elsewhere in
     /// Rust.
+    #[must_use]
     pub fn standard() -> Table<'a> {
         Table {
             table: answer(TableIn::standard(Global)),
@@ -117,6 +121,7 @@ impl<'a> Table<'a> {
 
     /// Returns macros of the crates log, tracing, slog, anyhow and eyre. An allocation failure
     /// aborts, as elsewhere in Rust.
+    #[must_use]
     pub fn with_crates() -> Table<'a> {
         Table {
             table: answer(TableIn::with_crates(Global)),
@@ -124,6 +129,7 @@ impl<'a> Table<'a> {
     }
 
     /// Returns the macros, the first one first.
+    #[must_use]
     pub fn rows(&self) -> &[Row<'a>] {
         &self.table.rows
     }
@@ -176,6 +182,7 @@ pub struct CallArgument<'a> {
 impl<'a> Call<'a> {
     /// Returns the literal that is the format string or the first template, with its quotes, or
     /// `None` if none is read.
+    #[must_use]
     pub fn literal(&self) -> Option<&'a str> {
         let index = self.string.ok()?;
         self.arguments.get(index).map(|argument| argument.text)
@@ -183,6 +190,7 @@ impl<'a> Call<'a> {
 
     /// Returns the arguments after the format string, which its placeholders may show, or none if
     /// no format string is read.
+    #[must_use]
     pub fn formatted(&self) -> &[CallArgument<'a>] {
         match self.string {
             Ok(index) => self.arguments.get(index + 1..).unwrap_or_default(),
@@ -219,6 +227,7 @@ fn argument_of<'a>(
 ///
 /// A call is a word of the table, `!` and a pair of delimiters, with no `$` in front. An allocation
 /// failure aborts, as elsewhere in Rust.
+#[must_use]
 pub fn calls<'a>(text: &'a str, table: &Table<'_>, is_from_2021: bool) -> Vec<Call<'a>> {
     let source = answer(SourceIn::new(Global, text));
     let mut found = Vec::new();
@@ -251,6 +260,7 @@ pub fn calls<'a>(text: &'a str, table: &Table<'_>, is_from_2021: bool) -> Vec<Ca
 /// assert_eq!(broken_at("f(a[1)"), Some(5));
 /// assert_eq!(broken_at("f(a"), Some(1));
 /// ```
+#[must_use]
 pub fn broken_at(text: &str) -> Option<usize> {
     let source = answer(SourceIn::new(Global, text));
     let (DelimiterBreak::Unclosed(index) | DelimiterBreak::Unexpected(index)) =
@@ -274,6 +284,7 @@ pub fn broken_at(text: &str) -> Option<usize> {
 /// let finding = &report.findings[0];
 /// assert_eq!((finding.id, &text[finding.span.clone()]), ("missing-colon", "?"));
 /// ```
+#[must_use]
 pub fn file_faults(text: &str, table: &Table<'_>, is_from_2021: bool) -> Report {
     answer(file_faults_in(Global, text, &options(table, is_from_2021)))
 }
@@ -296,6 +307,7 @@ pub fn file_faults(text: &str, table: &Table<'_>, is_from_2021: bool) -> Report 
 /// assert_eq!(fixes.ids, ["missing-colon", "field-access", "raw-identifier"]);
 /// assert!(fixes.report.findings.is_empty());
 /// ```
+#[must_use]
 pub fn file_fixes(text: &str, table: &Table<'_>, is_from_2021: bool) -> FileFixes {
     answer(fixes_in(Global, text, &options(table, is_from_2021)))
 }
@@ -316,6 +328,7 @@ pub fn file_fixes(text: &str, table: &Table<'_>, is_from_2021: bool) -> FileFixe
 /// assert_eq!(inlines.text.as_deref(), Some(inlined));
 /// assert_eq!(inlines.calls, [CallInlining::Inlined, CallInlining::Left(Left::Mixed)]);
 /// ```
+#[must_use]
 pub fn file_inlines(
     text: &str,
     table: &Table<'_>,
@@ -371,6 +384,7 @@ pub struct CheckedCall<'a> {
 ///     "2 positional arguments in format string, but there is 1 argument"
 /// );
 /// ```
+#[must_use]
 pub fn call_faults<'a>(
     string: FormatString<'a>,
     given: &'a [FormatArgument<'a>],
@@ -382,23 +396,27 @@ pub fn call_faults<'a>(
 
 impl<'a> CheckedCall<'a> {
     /// Returns the faults, in the order in which rustc reports them.
+    #[must_use]
     pub fn faults(&self) -> &[CallFault<'a>] {
         &self.checked.faults
     }
 
     /// Returns the pieces of the format string.
+    #[must_use]
     pub fn pieces(&self) -> &[Piece<'a>] {
         &self.checked.pieces
     }
 
     /// Returns the places of the placeholders that a brace closed, as byte ranges of the snippet, if
     /// that is the source literal of the text.
+    #[must_use]
     pub fn arg_places(&self) -> &[Range<usize>] {
         self.checked.parser.arg_places()
     }
 
     /// Returns the title of one of the faults, as rustc has it. An allocation failure aborts, as
     /// elsewhere in Rust.
+    #[must_use]
     pub fn title(&self, fault: &CallFault<'a>) -> String {
         let mut title = String::new();
         answer(self.checked.put_title(&mut title, fault));

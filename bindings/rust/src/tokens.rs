@@ -34,6 +34,7 @@ pub use crate::proved::format_tokens::{Kind, Token};
 /// ];
 /// assert_eq!(starts, wanted);
 /// ```
+#[must_use]
 pub fn tokens(
     input: &str,
     style: Option<usize>,

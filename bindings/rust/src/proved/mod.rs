@@ -14,6 +14,7 @@ pub mod file_inlines;
 pub mod format_calls;
 #[cfg(feature = "std")]
 pub mod format_lint;
+pub mod format_literal;
 pub mod format_tokens;
 #[cfg(feature = "std")]
 pub mod formatlint;

@@ -206,7 +206,11 @@ impl<'a> AsmCall<'a> {
     // ensures { IfOk result (λ v. map seen_label v.items
     //     ≡ labels (map seen_operand self.now.operands.items) (seen_fault fault.now)) }
     #[inline]
-    pub fn labels(&self, alloc: Global, fault: &AsmFault<'a>) -> Result<Vec<AsmLabel>, AllocError> {
+    pub(crate) fn labels(
+        &self,
+        alloc: Global,
+        fault: &AsmFault<'a>,
+    ) -> Result<Vec<AsmLabel>, AllocError> {
         let mut labels = Vec::made_in(alloc);
         match fault {
             AsmFault::PositionalAfter { operand, others } => {

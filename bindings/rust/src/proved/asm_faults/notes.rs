@@ -226,7 +226,11 @@ impl<'a> AsmCall<'a> {
     // ensures { IfOk result (λ v. map seen_note v.items
     //     ≡ notes (map seen_operand self.now.operands.items) (seen_fault fault.now)) }
     #[inline]
-    pub fn notes(&self, alloc: Global, fault: &AsmFault<'a>) -> Result<Vec<AsmNote>, AllocError> {
+    pub(crate) fn notes(
+        &self,
+        alloc: Global,
+        fault: &AsmFault<'a>,
+    ) -> Result<Vec<AsmNote>, AllocError> {
         let mut notes = Vec::made_in(alloc);
         match fault {
             AsmFault::WrongIndex {
@@ -252,7 +256,11 @@ impl<'a> AsmCall<'a> {
     // ensures { IfOk result (λ o. option_map seen_note o
     //     ≡ help (map seen_operand self.now.operands.items) (seen_fault fault.now)) }
     #[inline]
-    pub fn help(&self, alloc: Global, fault: &AsmFault<'a>) -> Result<Option<AsmNote>, AllocError> {
+    pub(crate) fn help(
+        &self,
+        alloc: Global,
+        fault: &AsmFault<'a>,
+    ) -> Result<Option<AsmNote>, AllocError> {
         match fault {
             AsmFault::WrongIndex { index, .. } => wrong_help(alloc, &self.operands, *index),
             AsmFault::UnusedOperands(unused) => {

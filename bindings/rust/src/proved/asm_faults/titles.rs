@@ -122,7 +122,11 @@ impl<'a> AsmCall<'a> {
     // ensures { OnOk result (string_bytes out.new ≡ string_bytes out.old
     //     ++ title (map seen_operand self.now.operands.items) (seen_fault fault.now)) }
     #[inline]
-    pub fn put_title(&self, out: &mut String, fault: &AsmFault<'a>) -> Result<(), AllocError> {
+    pub(crate) fn put_title(
+        &self,
+        out: &mut String,
+        fault: &AsmFault<'a>,
+    ) -> Result<(), AllocError> {
         match fault {
             AsmFault::PositionalAfter { .. } => {
                 out.try_push_str(

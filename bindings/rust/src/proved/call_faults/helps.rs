@@ -280,7 +280,7 @@ impl<'a> CallReport<'a> {
     // ensures { IfOk result (λ o. option_map seen_help o
     //     ≡ help (seen_call self.now) (seen_fault fault.now)) }
     #[inline]
-    pub fn help(
+    pub(crate) fn help(
         &self,
         alloc: Global,
         fault: &CallFault<'a>,

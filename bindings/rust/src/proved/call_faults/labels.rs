@@ -309,7 +309,7 @@ impl<'a> CallReport<'a> {
     // ensures { IfOk result (λ v. map seen_label v.items
     //     ≡ labels (seen_call self.now) (seen_fault fault.now)) }
     #[inline]
-    pub fn labels(
+    pub(crate) fn labels(
         &self,
         alloc: Global,
         fault: &CallFault<'a>,

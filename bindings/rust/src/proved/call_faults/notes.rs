@@ -344,7 +344,11 @@ impl<'a> CallReport<'a> {
     // ensures { IfOk result (λ v. map seen_note v.items
     //     ≡ notes (seen_call self.now) (seen_fault fault.now)) }
     #[inline]
-    pub fn notes(&self, alloc: Global, fault: &CallFault<'a>) -> Result<Vec<CallNote>, AllocError> {
+    pub(crate) fn notes(
+        &self,
+        alloc: Global,
+        fault: &CallFault<'a>,
+    ) -> Result<Vec<CallNote>, AllocError> {
         let mut notes = Vec::made_in(alloc);
         match fault {
             CallFault::PositionalAfterNamed { .. }

@@ -279,7 +279,11 @@ impl<'a> CallReport<'a> {
     //     (length self.now.kept.items) [] r → string_bytes out.new ≡ string_bytes out.old
     //     ++ title (title_parts self.now r.missing_index) (seen_fault fault.now)) }
     #[inline]
-    pub fn put_title(&self, out: &mut String, fault: &CallFault<'a>) -> Result<(), AllocError> {
+    pub(crate) fn put_title(
+        &self,
+        out: &mut String,
+        fault: &CallFault<'a>,
+    ) -> Result<(), AllocError> {
         match fault {
             CallFault::PositionalAfterNamed { .. } => {
                 out.try_push_str("positional arguments cannot follow named arguments")?;

@@ -91,7 +91,7 @@ impl<'a> Part<'a> {
     /// Reads the tokens of a part. Returns `Err` if an allocation fails.
     // ensures { IfOk result (λ p. p ≡ source.entry) }
     #[inline]
-    pub fn new(alloc: Global, source: Source<'a>) -> Result<Self, AllocError> {
+    pub(crate) fn new(alloc: Global, source: Source<'a>) -> Result<Self, AllocError> {
         let variables = last_ones(alloc, source.tokens(), Wanted::Variable)?;
         let raws = last_ones(alloc, source.tokens(), Wanted::Raw)?;
         Ok(Part {

@@ -204,7 +204,7 @@ impl<'a> Table<'a> {
     /// Returns the macros of the standard library. Returns `Err` if an allocation fails.
     // ensures { IfOk result (λ t. map entry t.rows.items ≡ standard) }
     #[inline]
-    pub fn standard(alloc: Global) -> Result<Self, AllocError> {
+    pub(crate) fn standard(alloc: Global) -> Result<Self, AllocError> {
         let mut rows = Vec::made_in(alloc);
         push_rows(&mut rows, STANDARD.as_slice())?;
         Ok(Table { rows })
@@ -214,7 +214,7 @@ impl<'a> Table<'a> {
     /// allocation fails.
     // ensures { IfOk result (λ t. map entry t.rows.items ≡ with_crates) }
     #[inline]
-    pub fn with_crates(alloc: Global) -> Result<Self, AllocError> {
+    pub(crate) fn with_crates(alloc: Global) -> Result<Self, AllocError> {
         let mut rows = Vec::made_in(alloc);
         push_rows(&mut rows, CRATES.as_slice())?;
         Ok(Table { rows })
@@ -227,7 +227,7 @@ impl<'a> Table<'a> {
     // ensures err { OnErr result (map entry self.new.rows.items
     //     ≡ map entry self.old.rows.items) }
     #[inline]
-    pub fn add(&mut self, row: Row<'a>) -> Result<(), AllocError> {
+    pub(crate) fn add(&mut self, row: Row<'a>) -> Result<(), AllocError> {
         self.rows.insert_in(0, row)?;
         Ok(())
     }

@@ -49,7 +49,7 @@ impl<'a> Walk<'a> {
     /// Returns the files below a folder. An empty path is that of the current folder. Returns
     /// `Err` if an allocation fails.
     #[inline]
-    pub fn new(
+    pub(crate) fn new(
         alloc: Global,
         folder: &str,
         excluded: &'a [&'a str],
@@ -117,7 +117,7 @@ impl<'a> Walk<'a> {
     /// Returns the path of the next file, or `None` if there is none. The failure of
     /// a folder that cannot be read is added to the totals. Returns `Err` if an allocation fails.
     #[inline]
-    pub fn next(
+    pub(crate) fn next(
         &mut self,
         rt: &crate::shim::host::HostRuntime,
         totals: &mut Totals,

@@ -94,7 +94,7 @@ impl FaultKind {
     /// appended.
     // ensures { OnOk result (string_bytes out.new ≡ string_bytes out.old ++ message self.now) }
     #[inline]
-    pub fn put_message(&self, out: &mut String) -> Result<(), AllocError> {
+    pub(crate) fn put_message(&self, out: &mut String) -> Result<(), AllocError> {
         out.try_push_str(title(*self))?;
         if let Some(c) = named_character(*self) {
             out.try_push_str(": `")?;

@@ -109,7 +109,7 @@ impl<'a> MessageFault<'a> {
     // ensures { OnOk result (string_bytes out.new ≡ string_bytes out.old
     //     ++ title (chars trait_name.now) (seen_fault self.now)) }
     #[inline]
-    pub fn put_title(
+    pub(crate) fn put_title(
         &self,
         alloc: Global,
         out: &mut String,
@@ -131,7 +131,7 @@ impl<'a> MessageFault<'a> {
     /// Returns the labels of the fault, in rustc's order. Returns `Err` if an allocation fails.
     // ensures { IfOk result (λ v. map seen_label v.items ≡ labels (seen_fault self.now)) }
     #[inline]
-    pub fn labels(&self, alloc: Global) -> Result<Vec<CallLabel>, AllocError> {
+    pub(crate) fn labels(&self, alloc: Global) -> Result<Vec<CallLabel>, AllocError> {
         let mut labels = Vec::made_in(alloc);
         match self {
             MessageFault::Text(fault) => push_text(alloc, &mut labels, fault)?,

@@ -22,7 +22,7 @@ impl<'a> Uses<'a> {
     // ensures holds { Holds [] result }
     // ensures none { IsNew result }
     #[inline]
-    pub fn new(alloc: Global) -> Uses<'a> {
+    pub(crate) fn new(alloc: Global) -> Uses<'a> {
         Uses {
             indices: no_indices(alloc),
             names: no_names(alloc),
@@ -34,7 +34,7 @@ impl<'a> Uses<'a> {
     // ensures { OnOk result ((us : List Use) → Holds us self.old
     //     → Holds (us ++ argument_uses (seen_argument argument.now)) self.new) }
     #[inline]
-    pub fn add(&mut self, argument: &Argument<'a>) -> Result<(), AllocError> {
+    pub(crate) fn add(&mut self, argument: &Argument<'a>) -> Result<(), AllocError> {
         add_argument(self, argument)?;
         Ok(())
     }

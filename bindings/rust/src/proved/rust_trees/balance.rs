@@ -42,7 +42,7 @@ impl Balance {
     /// Returns that of no tokens. Does not allocate.
     // ensures { IsBalanced [] result }
     #[inline]
-    pub fn new(alloc: Global) -> Balance {
+    pub(crate) fn new(alloc: Global) -> Balance {
         Balance {
             openings: Vec::made_in(alloc),
             first_break: None,
@@ -70,7 +70,7 @@ impl Balance {
     // ensures { OnOk result ((w : List Leaf) → IsBalanced w self.old
     //     → IsBalanced (w ++ leaf token.now ∷ []) self.new) }
     #[inline]
-    pub fn add(&mut self, token: &Token<'_>) -> Result<(), AllocError> {
+    pub(crate) fn add(&mut self, token: &Token<'_>) -> Result<(), AllocError> {
         if self.first_break.is_some() {
             return Ok(());
         }
@@ -96,7 +96,7 @@ impl Balance {
     // ensures { OnOk result ((w : List Leaf) → IsBalanced w self.old
     //     → IsBalanced (w ++ map leaf tokens.now) self.new) }
     #[inline]
-    pub fn add_all(&mut self, tokens: &[Token<'_>]) -> Result<(), AllocError> {
+    pub(crate) fn add_all(&mut self, tokens: &[Token<'_>]) -> Result<(), AllocError> {
         for token in tokens {
             self.add(token)?;
         }

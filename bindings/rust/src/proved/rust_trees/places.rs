@@ -138,7 +138,7 @@ impl<'a> Places<'a> {
     /// Reads a text. Returns `Err` if an allocation fails.
     // ensures { IfOk result (λ p. p ≡ text.now) }
     #[inline]
-    pub fn new(alloc: Global, text: &'a str) -> Result<Self, AllocError> {
+    pub(crate) fn new(alloc: Global, text: &'a str) -> Result<Self, AllocError> {
         let mut known = Vec::made_in(alloc);
         for step in 1..=text.len() / STEP {
             add_known(&mut known, text, text.boundary_at_most(step * STEP))?;

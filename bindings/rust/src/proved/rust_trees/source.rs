@@ -37,7 +37,7 @@ impl<'a> Source<'a> {
     // ensures { IfOk result (λ s. (xs : List Lexeme) × ReadsFile (chars text.now) xs
     //     × (s ≡ leaves 0 xs)) }
     #[inline]
-    pub fn new(alloc: Global, text: &'a str) -> Result<Self, AllocError> {
+    pub(crate) fn new(alloc: Global, text: &'a str) -> Result<Self, AllocError> {
         let tokens = leaves(alloc, text)?;
         let found = match_delimiters(alloc, &tokens)?;
         Ok(source_of(tokens, found))
@@ -52,7 +52,7 @@ impl<'a> Source<'a> {
     //     × ((ls : List Leaf) → AreLeft rest.new ls → AreLeft rest.old (more ++ ls))) }
     // ensures whole { IfOk result (λ s. AreLeft rest.new [] ⊎ IsGroup s) }
     #[inline]
-    pub fn read_group(
+    pub(crate) fn read_group(
         alloc: Global,
         front: &[Token<'a>],
         rest: &mut Tokens<'a>,

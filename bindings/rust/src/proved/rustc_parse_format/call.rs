@@ -92,7 +92,7 @@ impl<'input> Reader<'input> {
     //     Reaches self.old result self.new (read_call self.old k)
     //     (FindsNothing self.old k.faults k.texts) }
     #[inline]
-    pub fn placeholder(
+    pub(crate) fn placeholder(
         &mut self,
         mode: ParseMode,
         into: &mut Argument<'input>,
@@ -115,7 +115,7 @@ impl<'input> Reader<'input> {
     //     FindsNothing self.old k.faults k.texts → IsOk result) }
     // ensures source { self.new.source ≡ self.old.source }
     #[inline]
-    pub fn text(&mut self) -> Result<Option<&'input str>, AllocError> {
+    pub(crate) fn text(&mut self) -> Result<Option<&'input str>, AllocError> {
         let Some(c) = self.cursor.peek() else {
             return Ok(None);
         };
@@ -144,7 +144,7 @@ impl<'input> Reader<'input> {
     //     Reaches self.old result self.new (read_call self.old k)
     //     (FindsNothing self.old k.faults k.texts × (opens_placeholder self.old.rest ≡ false)) }
     #[inline(always)]
-    pub fn piece(
+    pub(crate) fn piece(
         &mut self,
         alloc: Global,
         mode: ParseMode,

@@ -18,7 +18,7 @@ impl<'input> Reader<'input> {
     // ensures reads { ReadsTo self.old result self.new (after_digits self.old.rest) self.old.next
     //     (number_faults self.old.rest) [] }
     #[inline(always)]
-    pub fn integer(&mut self) -> Result<u16, AllocError> {
+    pub(crate) fn integer(&mut self) -> Result<u16, AllocError> {
         let (number, over) = self.cursor.number();
         if let Some((digits, span)) = over {
             self.note(Fault::TooLarge(digits, span))?;
@@ -33,7 +33,7 @@ impl<'input> Reader<'input> {
     // ensures reads { ReadsTo self.old result self.new (after_word self.old.rest) self.old.next
     //     (word_faults self.old.rest) [] }
     #[inline(always)]
-    pub fn word(&mut self) -> Result<&'input str, AllocError> {
+    pub(crate) fn word(&mut self) -> Result<&'input str, AllocError> {
         let (word, underscore) = self.cursor.word();
         if let Some(span) = underscore {
             self.note(Fault::Underscore(span))?;
@@ -78,7 +78,7 @@ impl<'input> Reader<'input> {
     //     ReadsTo self.old result self.new k.1 self.old.next (argument_faults self.old.rest)
     //     (count_tries self.old.rest k.0)) }
     #[inline(always)]
-    pub fn count(&mut self, into: &mut Count<'input>) -> Result<(), AllocError> {
+    pub(crate) fn count(&mut self, into: &mut Count<'input>) -> Result<(), AllocError> {
         if self.cursor.is_digit_next() {
             let number = self.integer()?;
             if self.cursor.consume('$') {
@@ -137,7 +137,7 @@ impl<'input> Reader<'input> {
     //     ReadsTo self.old result self.new w.1 self.old.next (width_faults self.old.rest w.0)
     //     (width_tries self.old.rest w.0)) }
     #[inline(always)]
-    pub fn width(&mut self, format: &mut FormatSpec<'input>) -> Result<(), AllocError> {
+    pub(crate) fn width(&mut self, format: &mut FormatSpec<'input>) -> Result<(), AllocError> {
         if !self.cursor.is_next('0') {
             return self.width_count(format);
         }
@@ -170,7 +170,7 @@ impl<'input> Reader<'input> {
     //     ReadsTo self.old result self.new p.1 (number_after_precision self.old.next p.0)
     //     (precision_faults self.old.rest p.0) (precision_tries self.old.rest p.0)) }
     #[inline(always)]
-    pub fn precision(&mut self, format: &mut FormatSpec<'input>) -> Result<(), AllocError> {
+    pub(crate) fn precision(&mut self, format: &mut FormatSpec<'input>) -> Result<(), AllocError> {
         self.cursor.steps_are_few();
         if !self.cursor.is_next('.') {
             return Ok(());

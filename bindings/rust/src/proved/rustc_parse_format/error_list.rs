@@ -29,7 +29,7 @@ impl Fault<'_> {
     /// allocation fails.
     // ensures { IfOk result (λ e. seen_error e ≡ message (seen_fault self.now)) }
     #[inline]
-    pub fn error(&self, alloc: Global) -> Result<ParseError, AllocError> {
+    pub(crate) fn error(&self, alloc: Global) -> Result<ParseError, AllocError> {
         let mut error = empty_error(alloc);
         set_error(alloc, &mut error, self)?;
         Ok(error)

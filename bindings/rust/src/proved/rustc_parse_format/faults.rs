@@ -92,7 +92,7 @@ impl<'input> Faults<'input> {
     /// Returns an empty list. Does not allocate.
     // ensures { result ≡ [] }
     #[inline]
-    pub fn new(alloc: Global) -> Faults<'input> {
+    pub(crate) fn new(alloc: Global) -> Faults<'input> {
         Faults {
             first: None,
             second: None,
@@ -114,7 +114,7 @@ impl<'input> Faults<'input> {
     // ensures err { OnErr result (self.new ≡ self.old) }
     // ensures spare { self.old ≡ [] → IsOk result }
     #[inline]
-    pub fn try_push(&mut self, fault: Fault<'input>) -> Result<(), AllocError> {
+    pub(crate) fn try_push(&mut self, fault: Fault<'input>) -> Result<(), AllocError> {
         if self.first.is_none() {
             self.first = Some(fault);
         } else if self.second.is_none() {
@@ -147,7 +147,7 @@ impl<'input> Faults<'input> {
     // ensures kept { take (length list.old.items) list.new.items ≡ list.old.items }
     // ensures spare { self.old ≡ [] → IsOk result }
     #[inline]
-    pub fn move_to(&mut self, list: &mut Vec<Fault<'input>>) -> Result<(), AllocError> {
+    pub(crate) fn move_to(&mut self, list: &mut Vec<Fault<'input>>) -> Result<(), AllocError> {
         if self.is_empty() {
             return Ok(());
         }

@@ -170,7 +170,7 @@ impl Fault<'_> {
     // ensures { IfOk result (λ s. seen_suggestion s
     //     ≡ (message (seen_fault self.now)).suggestion) }
     #[inline(always)]
-    pub fn suggestion(&self, alloc: Global) -> Result<Suggestion, AllocError> {
+    pub(crate) fn suggestion(&self, alloc: Global) -> Result<Suggestion, AllocError> {
         let suggestion = match self {
             Fault::RawIdentifier(_, prefix) => Suggestion::RemoveRawIdent(prefix.start..prefix.end),
             Fault::LateFlag(flag, _, both) => Suggestion::ReorderFormatParameter(

@@ -133,7 +133,7 @@ impl<'input> Reader<'input> {
     //     (read_texts (read_tries read (spec_tries a.field.spec a.rest)) texts)
     //     (FindsNothing self.old fs texts) }
     #[inline(always)]
-    pub fn argument(
+    pub(crate) fn argument(
         &mut self,
         mode: ParseMode,
         into: &mut Argument<'input>,

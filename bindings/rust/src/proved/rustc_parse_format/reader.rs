@@ -34,7 +34,7 @@ impl<'input> Reader<'input> {
     /// line starts at the byte offset `line_start`. Does not allocate.
     // ensures { result ≡ midway cursor.entry 0 line_start }
     #[inline]
-    pub fn new(alloc: Global, cursor: Cursor<'input>, line_start: usize) -> Reader<'input> {
+    pub(crate) fn new(alloc: Global, cursor: Cursor<'input>, line_start: usize) -> Reader<'input> {
         Reader {
             cursor,
             curarg: 0,
@@ -51,7 +51,7 @@ impl<'input> Reader<'input> {
     // ensures source { self.new.source ≡ self.old.source }
     // ensures spare { self.old.faults ≡ [] → IsOk result }
     #[inline]
-    pub fn note(&mut self, fault: Fault<'input>) -> Result<(), AllocError> {
+    pub(crate) fn note(&mut self, fault: Fault<'input>) -> Result<(), AllocError> {
         self.faults.try_push(fault)?;
         Ok(())
     }
@@ -88,7 +88,7 @@ impl<'input> Reader<'input> {
     // ensures reads { Reaches self.old result self.new (read_run self.old)
     //     (IsInOneLine self.old) }
     #[inline]
-    pub fn string(&mut self) -> Result<&'input str, AllocError> {
+    pub(crate) fn string(&mut self) -> Result<&'input str, AllocError> {
         let from = self.cursor.checkpoint();
         self.skip_string()?;
         Ok(self.cursor.since(&from))
@@ -102,7 +102,7 @@ impl<'input> Reader<'input> {
     // ensures reads { let s = record self.old { rest = after_first self.old.rest } in
     //     Reaches self.old result self.new (read_run s) (IsInOneLine s) }
     #[inline]
-    pub fn string_past_brace(&mut self) -> Result<&'input str, AllocError> {
+    pub(crate) fn string_past_brace(&mut self) -> Result<&'input str, AllocError> {
         let from = self.cursor.checkpoint();
         self.cursor.skip_char();
         self.skip_string()?;

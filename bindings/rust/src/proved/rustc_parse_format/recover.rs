@@ -124,7 +124,7 @@ impl<'input> Reader<'input> {
     //     ≡ recovered self.old (recovery (seen_mode mode) self.old.next o a self.old.rest)) }
     // ensures source { self.new.source ≡ self.old.source }
     #[inline(never)]
-    pub fn recover(
+    pub(crate) fn recover(
         &mut self,
         mode: ParseMode,
         argument: &Argument<'input>,

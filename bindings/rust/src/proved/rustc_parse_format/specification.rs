@@ -222,7 +222,7 @@ impl<'input> Reader<'input> {
     //     (read_texts (read_tries read (spec_tries s.0 s.1)) (spec_texts s.0 s.1))
     //     (FindsNothing self.old fs (spec_texts s.0 s.1)) }
     #[inline(always)]
-    pub fn specification(
+    pub(crate) fn specification(
         &mut self,
         mode: ParseMode,
         format: &mut FormatSpec<'input>,

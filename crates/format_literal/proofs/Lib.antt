@@ -1,0 +1,4 @@
+mod Fixes
+mod Hashes
+mod RawTokens
+mod Reading
