@@ -231,7 +231,9 @@ def gather(tree, folder):
 
 
 if __name__ == "__main__":
-    if sys.argv[1:2] == ["gather"]:
+    if sys.argv[1:] == ["--help"]:
+        print(__doc__)
+    elif sys.argv[1:2] == ["gather"]:
         gather(Path(sys.argv[2]), Path(sys.argv[3]))
     else:
         sys.exit(main(*sys.argv[1:]))

@@ -157,6 +157,8 @@ def rewrite(source, item, crate, crates):
             macro(source, source.prev(at))
         elif text == "unsafe":
             checked_text(source, at)
+        elif text.isdigit() and int(text) >= 32 and (before, source.text(source.prev(at, 2))) == ("<", "<"):
+            shift(source, at, int(text))
         elif text == "HostRuntime" and behind != "::":
             source.tokens[at].text = "crate::shim::host::HostRuntime"
         elif text != "static" or at != item.head:
@@ -246,6 +248,22 @@ def refusal(source, at):
     source.tokens[source.prev(at, 5)].text = f"(usize::BITS - {64 - 59})"
     source.tokens[source.prev(at, 2)].text = "crate::shim::alloc::refuse"
     source.tokens[at].text = ""
+
+
+def shift(source, at, bits):
+    """Writes a power of two anew that a `usize` of 32 bits does not hold: as the value of a constant, or
+    as a bound at which a `u32` begins to be too small."""
+    before = [source.text(source.prev(at, count)) for count in range(8, 0, -1)]
+    behind = " ".join(source.text(source.next(at, count)) for count in range(1, 9))
+    if "{ return Err" in behind:
+        return  # (a bound of `refusal`, which writes it anew or refuses it)
+    if before[0] == "const" and before[2:] == [":", "usize", "=", "1", "<", "<"]:
+        source.tokens[at].text = f"(usize::BITS - {64 - bits})"
+    elif bits == 32 and before[4:] == ["<", "1", "<", "<"] and source.text(source.next(at)) == "{":
+        for count, text in zip(range(4, -1, -1), ("<=", "u32::MAX", "as", "", "usize")):
+            source.tokens[source.prev(at, count) if count else at].text = text
+    else:
+        source.refuse(at, "a number that a `usize` of 32 bits does not hold")
 
 
 def told_again(source, at):

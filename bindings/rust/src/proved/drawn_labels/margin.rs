@@ -22,7 +22,7 @@ pub struct Reach {
 }
 
 /// The most columns that the text of a label is counted for.
-const MOST: usize = 1 << 60;
+const MOST: usize = 1 << (usize::BITS - 4);
 
 /// Returns how many columns the text of a label is counted for, with the space in front of it.
 // ensures value { result ≡ text_columns text.now }

@@ -119,7 +119,7 @@ fn excerpt_of<'a>(
         source.try_push_str(line.strip_suffix('\r').unwrap_or(line))?;
         source.try_push('\n')?;
     }
-    let number = if place.line < 1 << 32 {
+    let number = if place.line <= u32::MAX as usize {
         place.line as u32
     } else {
         u32::MAX
