@@ -1,6 +1,6 @@
 -- A file with the suggestions to its faults applied.
 use Rattle.std.specs.Prelude.{◌≡◌, ◌⊎◌, ◌++◌, ◌≤◌, ℕ, zero, suc, Bool, List, [], Option, Some, None}
-use Rattle.std.specs.Prelude.{length, map, string_bytes}
+use Rattle.std.specs.Prelude.{IsUtf8, length, map, string_bytes}
 use Rattle.std.specs.declared.alloc.Global.{Global}
 use Rattle.std.specs.declared.string.String.{String}
 use Rattle.fault_fixes.specs.Edits.{applied}
@@ -21,19 +21,32 @@ pub record IsNoWorse (r q : Report) : Type 0 where
   pub calls : length q.calls.items ≡ length r.calls.items
   pub findings : length q.findings.items ≤ length r.findings.items
 
+-- The bytes bs with the edits of the faults of the report r that are mended in one round.
+abbrev pub mended_bytes : List ℕ → Report → List ℕ
+mended_bytes bs r = applied 0 (all_edits (mended 0 r.findings.items)) bs
+
 -- In a round the file with the bytes bs and the report r, of which faults are mended, becomes the
 -- bytes cs with the report q. The mended faults have the ids ws.
 pub record IsRound (es : List Entry) (is_new : Bool) (bs : List ℕ) (r : Report) (cs : List ℕ)
     (q : Report) (ws : List (List ℕ)) : Type 0 where
-  pub text : cs ≡ applied 0 (all_edits (mended 0 r.findings.items)) bs
+  pub text : cs ≡ mended_bytes bs r
   pub ids : ws ≡ map (λ x. x.id.now) (mended 0 r.findings.items)
   pub report : IsReport es is_new cs q
   pub no_worse : IsNoWorse r q
 
--- The same after at most n rounds, in which faults with the ids ws are mended.
+-- No round follows on the file with the bytes bs and the report r: no fault is to be mended, or the
+-- file with the edits is no text, or is worse.
+abbrev pub IsLast : List Entry → Bool → List ℕ → Report → Type 0
+IsLast es is_new bs r = (mended 0 r.findings.items ≡ [])
+    ⊎ ((IsUtf8 (mended_bytes bs r) → ⊥)
+    ⊎ ((q : Report) × IsReport es is_new (mended_bytes bs r) q × (IsNoWorse r q → ⊥)))
+
+-- The same after rounds in which faults with the ids ws are mended: at most n rounds, and fewer
+-- only if no further one follows.
 unfoldable pub AreRounds : List Entry → Bool → ℕ → List ℕ → Report → List ℕ → Report
     → List (List ℕ) → Type 0
 AreRounds es is_new zero bs r cs q ws = (cs ≡ bs) × (q ≡ r) × (ws ≡ [])
-AreRounds es is_new (suc n) bs r cs q ws = ((cs ≡ bs) × (q ≡ r) × (ws ≡ []))
+AreRounds es is_new (suc n) bs r cs q ws =
+    ((cs ≡ bs) × (q ≡ r) × (ws ≡ []) × IsLast es is_new bs r)
     ⊎ ((ds : List ℕ) × (p : Report) × (us vs : List (List ℕ)) × (ws ≡ us ++ vs)
     × IsRound es is_new bs r ds p us × AreRounds es is_new n ds p cs q vs)

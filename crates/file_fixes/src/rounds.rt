@@ -1,12 +1,13 @@
 //! A file with the suggestions to its faults applied, round after round.
 
-ghost use Rattle.std.specs.Prelude.{◌≡◌, ◌++◌, IfOk, IfSome, Some, map, string_bytes, true};
+ghost use Rattle.std.specs.Prelude.{◌≡◌, ◌++◌, ◌↔◌, IfOk, IfSome, IsNone, IsTrue, Some, map};
+ghost use Rattle.std.specs.Prelude.{string_bytes};
 ghost use Rattle.std.specs.List.{All};
 ghost use Rattle.format_calls.specs.Rows.{entry};
 ghost use Rattle.source_lint.specs.Findings.{HasSpans};
 ghost use Rattle.source_lint.specs.Reports.{IsReport};
 ghost use Rattle.source_lint.specs.declared.report.Report.{Report as ReportValue};
-ghost use Rattle.file_fixes.specs.FileFixes.{AreRounds, IsNoWorse, IsRound, bytes_or};
+ghost use Rattle.file_fixes.specs.FileFixes.{AreRounds, IsLast, IsNoWorse, IsRound, bytes_or};
 
 use crate::edited::mend_each;
 use source_lint::{Options, Report, file_faults};
@@ -38,7 +39,7 @@ struct Round {
 /// Returns whether a report on a file is no worse than the old one: the file does not break, has as
 /// many calls, and no more faults.
 pub fn is_no_worse(old: &Report, new: &Report) -> bool
-    ensures { result ≡ true → IsNoWorse old.now new.now }
+    ensures { IsTrue result ↔ IsNoWorse old.now new.now }
 {
     old.first_break.is_none()
         && new.first_break.is_none()
@@ -58,6 +59,8 @@ fn next_round(
         (map entry options.now.table.rows.items) options.now.is_from_2021
         (bytes_or fixed.now.text text.now) fixed.now.report (string_bytes x.text) x.report
         (map (λ w. w.now) x.ids.items))) }
+    ensures last { IfOk result (λ o. IsNone o → IsLast (map entry options.now.table.rows.items)
+        options.now.is_from_2021 (bytes_or fixed.now.text text.now) fixed.now.report) }
     ensures spans { IfOk result (λ o. IfSome o (λ x. All (HasSpans (string_bytes x.text))
         x.report.findings.items)) }
 {

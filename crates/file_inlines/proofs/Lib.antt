@@ -1,3 +1,4 @@
-pub mod Going
-pub mod NoCalls
 pub mod Calling
+pub mod MovedCalls
+pub mod Naming
+pub mod Sorting

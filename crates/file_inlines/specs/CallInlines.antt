@@ -1,5 +1,5 @@
--- What inlining makes of the calls of a file.
-use Rattle.std.specs.Prelude.{◌≡◌, ◌+◌, ◌++◌, ◌⊎◌, ℕ, Bool, true, false, not, List, [], ◌∷◌}
+-- What inlining makes of a call of a file.
+use Rattle.std.specs.Prelude.{◌≡◌, ◌+◌, ◌++◌, ◌⊎◌, ℕ, Bool, true, false, not, List, []}
 use Rattle.std.specs.Prelude.{Option, Some, None, Result, Ok, Err, chars, drop, encode_utf8_all}
 use Rattle.std.specs.Prelude.{is_some, length, map, option_map, slice_get}
 use Rattle.std.specs.List.{filter_map, list_any}
@@ -147,11 +147,3 @@ InlinesUnless None is_new mixed bs xs c r es = (args : List Argument)
 abbrev pub Inlines : Scope → Bool → Bool → List Leaf → Call → CallInlining → List Edit → Type 0
 Inlines s is_new mixed xs c r es = InlinesUnless (skipped s c.rule (slice_get xs c.name)) is_new
     mixed s.text xs c r es
-
--- This becomes of calls, one after the other, and they have these edits.
-abbrev pub InlinesAll : Scope → Bool → Bool → List Leaf → List Call → List CallInlining
-    → List Edit → Type 0
-InlinesAll s is_new mixed xs [] rs es = (rs ≡ []) × (es ≡ [])
-InlinesAll s is_new mixed xs (c ∷ cs) rs es = (r : CallInlining) × (more : List CallInlining)
-    × (first others : List Edit) × (rs ≡ r ∷ more) × (es ≡ first ++ others)
-    × Inlines s is_new mixed xs c r first × InlinesAll s is_new mixed xs cs more others

@@ -1,26 +1,42 @@
 -- A file with its calls inlined.
-use Rattle.std.specs.Prelude.{◌≡◌, ℕ, Bool, List, IfSome, IsPermutation, length, string_bytes}
-use Rattle.std.specs.List.{list_any}
-use Rattle.std.specs.Str.{bytes_eq}
+use Rattle.std.specs.Prelude.{◌≡◌, ◌⊎◌, ℕ, Bool, List, [], IfSome, IsNone, IsPermutation, length}
+use Rattle.std.specs.Prelude.{string_bytes}
+use Rattle.std.specs.List.Sorted.{IsNonDecreasingBy}
 use Rattle.rust_trees.specs.Leaves.{Leaf}
 use Rattle.format_calls.specs.Rows.{Entry}
-use Rattle.format_calls.specs.declared.listing.Call.{Call}
+use Rattle.source_lint.specs.CallLists.{OfCalls}
 use Rattle.source_lint.specs.Files.{AreLeaves}
 use Rattle.source_lint.specs.Macros.{macro_names}
-use Rattle.source_lint.specs.Reports.{AreCalls, IsReport}
+use Rattle.source_lint.specs.Reports.{IsReport}
 use Rattle.source_lint.specs.declared.report.Report.{Report}
 use Rattle.file_fixes.specs.FileFixes.{IsNoWorse, bytes_or}
-use Rattle.inlined_arguments.specs.Edits.{AreApart, Edit, edited}
-use Rattle.file_inlines.specs.CallInlines.{InlinesAll}
+use Rattle.inlined_arguments.specs.Edits.{AreApart, Edit, MakeNoText, edited}
+use Rattle.file_inlines.specs.CallInlines.{Inlines}
 use Rattle.file_inlines.specs.declared.calls.CallInlining.{CallInlining}
 use Rattle.file_inlines.specs.declared.file.FileInlines.{FileInlines}
 
--- The bytes cs are bs with these edits, in the order of their places.
+-- The edits fs are es in the order of their places.
+pub record AreSorted (es fs : List Edit) : Type 0 where
+  pub are_same : IsPermutation es fs
+  pub rise : IsNonDecreasingBy (λ e. e.span.0) fs
+
+-- The bytes cs are bs with these edits.
 pub record IsEdited (bs : List ℕ) (es : List Edit) (cs : List ℕ) : Type 0 where
   pub in_order : List Edit
-  pub are_same : IsPermutation es in_order
+  pub are_sorted : AreSorted es in_order
   pub are_apart : AreApart 0 in_order (length bs)
   pub text : cs ≡ edited 0 in_order bs
+
+-- There is no edit, or with the edits the bytes bs are no text.
+abbrev pub GiveNoText : List ℕ → List Edit → Type 0
+GiveNoText bs es = (es ≡ [])
+    ⊎ ((fs : List Edit) × AreSorted es fs × MakeNoText bs fs)
+
+-- With the edits the bytes bs have a report that is worse.
+abbrev pub MakeWorse : List Entry → Bool → List ℕ → List Edit → Type 0
+MakeWorse es is_new bs edits = (cs : List ℕ) × IsEdited bs edits cs
+    × ((old new : Report) × IsReport es is_new bs old × IsReport es is_new cs new
+    × (IsNoWorse old new → ⊥))
 
 -- This becomes of the calls of a file with the bytes bs, in the order of their names, and they
 -- have these edits.
@@ -28,17 +44,12 @@ pub record InlinesFile (es : List Entry) (is_new mixed : Bool) (bs : List ℕ)
     (rs : List CallInlining) (edits : List Edit) : Type 0 where
   pub leaves : List Leaf
   pub are_leaves : AreLeaves bs leaves
-  -- The names of the macros that the file defines.
-  pub names : List (List ℕ)
-  pub are_names : (w : List ℕ) → list_any (bytes_eq w) names
-      ≡ list_any (bytes_eq w) (macro_names leaves)
-  pub calls : List Call
-  pub are_calls : AreCalls es leaves calls
-  pub inlines : InlinesAll (record { text = bs; defined = names }) is_new mixed leaves calls rs
-      edits
+  pub inlines : OfCalls (Inlines (record { text = bs; defined = macro_names leaves }) is_new mixed)
+      es leaves rs edits
 
 -- A file with the bytes bs and its calls inlined, where the report is that on the new text. If the
--- file is changed, it has the edits of all its calls, and is no worse.
+-- file is changed, it has the edits of all its calls, and is no worse. If it stays as it is, there
+-- is no edit, or with the edits it is no text, or is worse.
 pub record AreInlines (es : List Entry) (is_new mixed : Bool) (bs : List ℕ) (x : FileInlines)
     : Type 0 where
   pub edits : List Edit
@@ -47,3 +58,4 @@ pub record AreInlines (es : List Entry) (is_new mixed : Bool) (bs : List ℕ) (x
   pub report : IsReport es is_new (bytes_or x.text bs) x.report
   pub no_worse : IfSome x.text (λ s. (old : Report) × IsReport es is_new bs old
       × IsNoWorse old x.report)
+  pub stays : IsNone x.text → GiveNoText bs edits ⊎ MakeWorse es is_new bs edits

@@ -1,7 +1,7 @@
 //! What inlining makes of a call.
 
-ghost use Rattle.std.specs.Prelude.{◌≡◌, ◌+◌, ◌<◌, ◌^◌, [], IfOk, IsTrue, Some, length, map};
-ghost use Rattle.std.specs.Prelude.{Contains, slice_get};
+ghost use Rattle.std.specs.Prelude.{◌≡◌, ◌+◌, ◌<◌, ◌^◌, ◌++◌, List, [], IfOk, IsTrue, OnOk, Some};
+ghost use Rattle.std.specs.Prelude.{Contains, length, map, slice_get};
 ghost use Rattle.rustc_parse_format.specs.World.{hashes};
 ghost use Rattle.rust_trees.specs.Forests.{IsPair};
 ghost use Rattle.rust_trees.specs.Leaves.{leaf};
@@ -9,11 +9,14 @@ ghost use Rattle.format_calls.specs.Arguments.{AreArguments};
 ghost use Rattle.format_calls.specs.Strings.{is_string_by};
 ghost use Rattle.format_calls.specs.declared.listing.Call.{Call as CallValue};
 ghost use Rattle.format_calls.specs.declared.split.Argument.{Argument as ArgumentValue};
+ghost use Rattle.source_lint.specs.CallLists.{Gives};
 ghost use Rattle.source_lint.specs.Readings.{name_at, scope};
+ghost use Rattle.inlined_arguments.specs.Edits.{Edit as EditValue};
 ghost use Rattle.inlined_arguments.specs.Seen.{seen_call, seen_edit};
-ghost use Rattle.file_inlines.specs.CallInlines.{AreEdits, Inlines, InlinesAll, InlinesAt};
+ghost use Rattle.file_inlines.specs.CallInlines.{AreEdits, Inlines, InlinesAt};
 ghost use Rattle.file_inlines.specs.CallInlines.{InlinesLiteral, InlinesOne, Makes};
 ghost use Rattle.file_inlines.specs.CallInlines.{has_const_form, is_format_alone};
+ghost use Rattle.file_inlines.specs.declared.calls.CallInlining.{CallInlining as InliningValue};
 
 use crate::edits::edits_of;
 use crate::sources::with_sources;
@@ -286,22 +289,23 @@ fn inline_call<'a>(
     }
 }
 
-/// Returns what inlining makes of calls of a file. Returns `Err` if an allocation fails.
-pub(crate) fn inline_each<'a>(
+/// Adds what inlining makes of calls of a part of a file, one after the other. Returns `Err` if an
+/// allocation fails.
+pub(crate) fn inline_calls<'a>(
     alloc: Global,
+    made: &mut InlinedCalls,
     file: File<'_, 'a>,
     part: &Part<'a>,
     calls: &[Call],
     allows_mixed: bool,
-) -> Result<InlinedCalls, AllocError>
+) -> Result<(), AllocError>
     requires { (c : CallValue) → Contains calls.now c → IsPair part.now (c.name + 2) c.close }
-    ensures { IfOk result (λ x. InlinesAll (scope file.entry) file.entry.is_from_2021 allows_mixed
-        part.now calls.now x.inlinings.items (map seen_edit x.edits.items)) }
+    ensures { OnOk result ((rs : List InliningValue) × (es : List EditValue)
+        × (made.new.inlinings.items ≡ made.old.inlinings.items ++ rs)
+        × (map seen_edit made.new.edits.items ≡ map seen_edit made.old.edits.items ++ es)
+        × Gives (Inlines (scope file.entry) file.entry.is_from_2021 allows_mixed part.now)
+        calls.now rs es) }
 {
-    let mut made = InlinedCalls {
-        inlinings: Vec::new(alloc),
-        edits: Vec::new(alloc),
-    };
     let mut rest = calls;
     while let Some((call, others)) = rest.split_first() {
         let mut one = inline_call(alloc, file, part, call, allows_mixed)?;
@@ -309,5 +313,5 @@ pub(crate) fn inline_each<'a>(
         made.edits.append(&mut one.edits)?;
         rest = others;
     }
-    Ok(made)
+    Ok(())
 }

@@ -59,10 +59,24 @@ pub fn has_colours(rt: &HostRuntime, matches: &ArgMatches<'_>) -> bool {
     )
 }
 
+/// Returns how many columns the terminal that standard output is has, as the environment variable
+/// `COLUMNS` says, or `None` if it is no terminal or the variable is no positive number.
+fn terminal_width(rt: &HostRuntime) -> Option<usize> {
+    if !rt.stdout().is_terminal() {
+        return None;
+    }
+    let columns = env::var(rt, "COLUMNS").ok();
+    match columns.as_deref().unwrap_or("").parse::<usize>() {
+        Ok(width) if width > 0 => Some(width),
+        _ => None,
+    }
+}
+
 /// Returns how many columns a row of a drawing has, or `None` if the word for it is no number.
-pub fn width_of(matches: &ArgMatches<'_>) -> Option<usize> {
+/// Without a word it has as many as the terminal, or [`WIDTH`].
+pub fn width_of(rt: &HostRuntime, matches: &ArgMatches<'_>) -> Option<usize> {
     match matches.get_str("width") {
-        None => Some(WIDTH),
+        None => Some(terminal_width(rt).unwrap_or(WIDTH)),
         Some(word) => word.parse::<usize>().ok(),
     }
 }

@@ -136,7 +136,7 @@ fn answer(
     let result = if matches.get_flag("list") {
         answer_listing(rt, &mut writer, matches, input)
     } else {
-        let width = width_of(matches).unwrap_or(WIDTH);
+        let width = width_of(rt, matches).unwrap_or(WIDTH);
         let task = task_of(matches, path, width, has_colours(rt, matches));
         let mut reader = input;
         run(alloc, &mut reader, &mut writer, &mut error_writer, task)

@@ -190,7 +190,7 @@ fn files_status(rt: &HostRuntime, matches: &ArgMatches<'_>) -> Result<u8, Error>
         stdin_path,
         form: form_of(
             matches,
-            width_of(matches).unwrap_or(WIDTH),
+            width_of(rt, matches).unwrap_or(WIDTH),
             has_colours(rt, matches),
         ),
         edition: matches.get_str("edition"),
@@ -221,7 +221,7 @@ fn status(rt: &HostRuntime, words: &[String]) -> Result<u8, Error> {
     if let Some(id) = matches.get_str("explain") {
         return explain(rt, id);
     }
-    if width_of(&matches).is_none() {
+    if width_of(rt, &matches).is_none() {
         return value_error(rt, WRONG_WIDTH);
     }
     if matches.get_flag("literal") || matches.get_flag("text") {

@@ -221,8 +221,8 @@ static OPTIONS: [Row; 24] = [
     Row {
         name: "width",
         value: Some("N"),
-        help: "How many columns a row of a drawing has; longer lines are cut as rustc cuts them",
-        default: Some("140"),
+        help: "How many columns a row of a drawing has; longer lines are cut as rustc cuts them \
+            [default: those of the terminal if COLUMNS says how many, otherwise 140]",
         ..FLAG
     },
     Row {

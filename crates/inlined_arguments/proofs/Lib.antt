@@ -1,3 +1,4 @@
+pub mod Apart
 pub mod CleanPieces
 pub mod Comparing
 pub mod Naming

@@ -1,5 +1,6 @@
 -- Edits of a literal.
-use Rattle.std.specs.Prelude.{ℕ, ◌-◌, ◌++◌, ◌≤◌, List, [], ◌∷◌, take, drop, flat_map}
+use Rattle.std.specs.Prelude.{ℕ, ◌-◌, ◌++◌, ◌≤◌, List, [], ◌∷◌, IsUtf8, length, take, drop}
+use Rattle.std.specs.Prelude.{flat_map}
 use Rattle.std.specs.List.{All, Contains}
 use Rattle.std.specs.Option.{option_to_list}
 use Rattle.rustc_parse_format.specs.Types.{Piece, Lit, NextArgument}
@@ -21,6 +22,10 @@ abbrev pub edited : ℕ → List Edit → List ℕ → List ℕ
 edited at [] bs = drop at bs
 edited at (e ∷ es) bs =
     take (e.span.0 - at) (drop at bs) ++ (e.text ++ edited e.span.1 es bs)
+
+-- The bytes bs are no text with these edits: they are not one after the other, or cut a character.
+abbrev pub MakeNoText : List ℕ → List Edit → Type 0
+MakeNoText bs es = AreApart 0 es (length bs) → IsUtf8 (edited 0 es bs) → ⊥
 
 -- Where a piece refers to arguments: at its position, and at its width and its precision, if it has
 -- these.

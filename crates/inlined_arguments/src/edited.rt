@@ -1,7 +1,7 @@
 //! A literal with edits.
 
-ghost use Rattle.std.specs.Prelude.{◌≡◌, IfOk, IfSome, length, map, string_bytes};
-ghost use Rattle.inlined_arguments.specs.Edits.{AreApart, edited};
+ghost use Rattle.std.specs.Prelude.{◌≡◌, IfOk, IfSome, IsNone, length, map, string_bytes};
+ghost use Rattle.inlined_arguments.specs.Edits.{AreApart, MakeNoText, edited};
 ghost use Rattle.inlined_arguments.specs.Seen.{seen_edit};
 
 use crate::call::Edit;
@@ -10,27 +10,26 @@ use std::alloc::{AllocError, Global};
 /// Returns bytes with edits, or `None` if these are not one after the other in the bytes, or
 /// overlap. Returns `Err` if an allocation fails.
 fn edited_bytes(alloc: Global, bytes: &[u8], edits: &[Edit]) -> Result<Option<Vec<u8>>, AllocError>
-    ensures { IfOk result (λ o. IfSome o (λ v.
+    ensures some { IfOk result (λ o. IfSome o (λ v.
         AreApart 0 (map seen_edit edits.now) (length bytes.now)
         × (v.items ≡ edited 0 (map seen_edit edits.now) bytes.now))) }
+    ensures none { IfOk result (λ o. IsNone o
+        → AreApart 0 (map seen_edit edits.now) (length bytes.now) → ⊥) }
 {
     let mut out = Vec::new(alloc);
     let mut at = 0;
     for edit in edits {
-        if edit.span.end < edit.span.start {
+        if edit.span.start < at || edit.span.end < edit.span.start {
             return Ok(None);
         }
-        let Some(front) = bytes.get(at..edit.span.start) else {
+        if bytes.len() < edit.span.end {
             return Ok(None);
-        };
-        out.extend_from_slice(front)?;
+        }
+        out.extend_from_slice(&bytes[at..edit.span.start])?;
         out.extend_from_slice(edit.text.as_bytes())?;
         at = edit.span.end;
     }
-    let Some(rest) = bytes.get(at..) else {
-        return Ok(None);
-    };
-    out.extend_from_slice(rest)?;
+    out.extend_from_slice(&bytes[at..])?;
     Ok(Some(out))
 }
 
@@ -41,9 +40,11 @@ pub fn apply_edits(
     literal: &str,
     edits: &[Edit],
 ) -> Result<Option<String>, AllocError>
-    ensures { IfOk result (λ o. IfSome o (λ s.
+    ensures some { IfOk result (λ o. IfSome o (λ s.
         AreApart 0 (map seen_edit edits.now) (length literal.now)
         × (string_bytes s ≡ edited 0 (map seen_edit edits.now) literal.now))) }
+    ensures none { IfOk result (λ o. IsNone o
+        → MakeNoText literal.now (map seen_edit edits.now)) }
 {
     match edited_bytes(alloc, literal.as_bytes(), edits)? {
         Some(bytes) => Ok(String::from_utf8(bytes).ok()),

@@ -21,9 +21,12 @@ use Rattle.source_lint.specs.Macros.{begins_definition, definition, macro_names,
 use Rattle.source_lint.specs.Macros.{names_in}
 use Rattle.format_calls.specs.Marks.{is_word, word}
 use Rattle.source_lint.specs.Paths.{is_foreign}
-use Rattle.source_lint.specs.Readings.{ReadsAll, ReadsUnless, Scope, is_log, name_of_leaf}
+use Rattle.source_lint.specs.CallLists.{Gives}
+use Rattle.source_lint.specs.Readings.{Reads, ReadsUnless, Scope, is_log, name_of_leaf}
 use Rattle.source_lint.specs.Readings.{offset_of_leaf, skipped, skipped_if}
+use Rattle.source_lint.specs.Files.{AreLeaves}
 use Rattle.source_lint.specs.Reports.{ReadsCalls}
+use Rattle.source_lint.proofs.Reporting.{same-leaves}
 use Rattle.format_calls.specs.Rows.{Entry}
 
 -- These names are those that a set has.
@@ -106,7 +109,7 @@ pub defines-all : (start u : Unread) (found : List (List ℕ)) (w m : Option Lea
 defines-all start u found w m h l =
     let t = h [] l in (t.0, t.1, λ n. sym (t.2 n ∙ or-none (has found n)))
 
-skipped-same : (s t : Scope) (r : Rule) (o : Option Leaf) → s.text ≡ t.text
+pub skipped-same : (s t : Scope) (r : Rule) (o : Option Leaf) → s.text ≡ t.text
     → ((n : List ℕ) → has s.defined n ≡ has t.defined n) → skipped s r o ≡ skipped t r o
 skipped-same s t r o w e =
     ap (λ b. skipped_if b (is_log r (name_of_leaf o) && is_foreign s.text (offset_of_leaf o)))
@@ -117,8 +120,8 @@ skipped-same s t r o w e =
 -- the calls of a file are read in the same way by names that are the same
 all-same : (s t : Scope) (is_new : Bool) (xs : List Leaf) → s.text ≡ t.text
     → ((n : List ℕ) → has s.defined n ≡ has t.defined n) → (cs : List Call)
-    (rs : List CallReading) (fs : List Finding) → ReadsAll s is_new xs cs rs fs
-    → ReadsAll t is_new xs cs rs fs
+    (rs : List CallReading) (fs : List Finding) → Gives (Reads s is_new xs) cs rs fs
+    → Gives (Reads t is_new xs) cs rs fs
 all-same s t is_new xs w e [] rs fs h = h
 all-same s t is_new xs w e (c ∷ cs) rs fs h = (
   h.0,
@@ -132,12 +135,31 @@ all-same s t is_new xs w e (c ∷ cs) rs fs h = (
   all-same s t is_new xs w e cs h.1 h.3 h.7,
 )
 
-pub calls-same : (entries : List Entry) (s t : Scope) (is_new : Bool) (xs : List Leaf)
+calls-same : (entries : List Entry) (s t : Scope) (is_new : Bool) (xs : List Leaf)
     (rs : List CallReading) (fs : List Finding) → s.text ≡ t.text
     → ((n : List ℕ) → has s.defined n ≡ has t.defined n)
     → ReadsCalls entries s is_new xs rs fs → ReadsCalls entries t is_new xs rs fs
 calls-same entries s t is_new xs rs fs w e h = record {
   calls = h.calls;
   are_calls = h.are_calls;
-  reads = all-same s t is_new xs w e h.calls rs fs h.reads;
+  gives = all-same s t is_new xs w e h.calls rs fs h.gives;
 }
+
+-- The names that a file defines are those of its tokens.
+abbrev pub NamesOf : List ℕ → List (List ℕ) → Type 0
+NamesOf bs ds = (ls : List Leaf) × AreLeaves bs ls
+    × ((n : List ℕ) → has ds n ≡ has (macro_names ls) n)
+
+pub names-there : (bs : List ℕ) (ds : List (List ℕ)) (ls : List Leaf) → NamesOf bs ds
+    → AreLeaves bs ls → (n : List ℕ) → has ds n ≡ has (macro_names ls) n
+names-there bs ds ls d l n =
+    d.2 n ∙ ap (λ v. has (macro_names v) n) (same-leaves bs d.0 ls d.1 l)
+
+pub calls-of-file : (entries : List Entry) (bs : List ℕ) (ds : List (List ℕ)) (is_new : Bool)
+    (ls : List Leaf) (rs : List CallReading) (fs : List Finding) → NamesOf bs ds → AreLeaves bs ls
+    → ReadsCalls entries (record { text = bs; defined = ds }) is_new ls rs fs
+    → ReadsCalls entries (record { text = bs; defined = macro_names ls }) is_new ls rs fs
+calls-of-file entries bs ds is_new ls rs fs d l h =
+    calls-same entries (record { text = bs; defined = ds })
+    (record { text = bs; defined = macro_names ls }) is_new ls rs fs refl
+    (names-there bs ds ls d l) h

@@ -1,97 +1,109 @@
--- The readings of calls, one after the other, and of parts of a file.
-use Rattle.std.proofs.Common.{◌≡◌, ◌++◌, Bool, List, [], ◌∷◌, refl, ap, sym, subst, ◌∙◌}
+-- What comes from calls, one after the other, and from parts of a file.
+use Rattle.std.proofs.Common.{◌≡◌, ◌++◌, List, [], ◌∷◌, refl, ap, sym, subst, ◌∙◌, length}
+use Rattle.std.specs.Prelude.{◌↔◌, Contains}
 use Rattle.std.proofs.lemmas.List.{append_assoc, append-nil}
 use Rattle.rust_trees.specs.Balances.{IsBalanced}
 use Rattle.rust_trees.specs.Leaves.{AreLeft, Leaf, Unread}
 use Rattle.rust_trees.specs.declared.balance.Balance.{Balance}
-use Rattle.format_calls.specs.Calls.{IsCall}
+use Rattle.format_calls.specs.Calls.{IsCall, Rises}
 use Rattle.format_calls.specs.Parts.{IsPart}
 use Rattle.format_calls.specs.Rows.{Entry}
 use Rattle.format_calls.specs.declared.listing.Call.{Call}
-use Rattle.source_lint.specs.declared.report.CallReading.{CallReading}
-use Rattle.source_lint.specs.declared.report.Finding.{Finding}
-use Rattle.source_lint.specs.Readings.{Reads, ReadsAll, Scope}
-use Rattle.source_lint.specs.Reports.{ReadsCalls, ReadsParts}
-use Rattle.source_lint.proofs.Merging.{merged}
+use Rattle.source_lint.specs.CallLists.{Gives, OfCalls}
+use Rattle.source_lint.proofs.Merging.{Moves, OfParts, merged}
 
--- The readings so far, where all are the calls and the last ones are left.
-pub record Reading (s : Scope) (is_new : Bool) (xs : List Leaf) (all left : List Call)
-    (rs ss : List CallReading) (fs gs : List Finding) : Type 0 where
-  pub readings : List CallReading
-  pub findings : List Finding
-  pub read : ss ≡ rs ++ readings
-  pub found : gs ≡ fs ++ findings
-  pub goes_on : (more : List CallReading) (others : List Finding)
-      → ReadsAll s is_new xs left more others
-      → ReadsAll s is_new xs all (readings ++ more) (findings ++ others)
+-- What came from calls so far, where all are the calls and the last ones are left.
+pub record Giving {R F : Type 0} (P : Call → R → List F → Type 0) (all left : List Call)
+    (rs ss : List R) (fs gs : List F) : Type 0 where
+  pub values : List R
+  pub items : List F
+  pub are_values : ss ≡ rs ++ values
+  pub are_items : gs ≡ fs ++ items
+  pub goes_on : (more : List R) (others : List F) → Gives P left more others
+      → Gives P all (values ++ more) (items ++ others)
 
-pub reading-none : (s : Scope) (is_new : Bool) (xs : List Leaf) (all : List Call)
-    (rs : List CallReading) (fs : List Finding) → Reading s is_new xs all all rs rs fs fs
-reading-none s is_new xs all rs fs = record {
-  readings = [];
-  findings = [];
-  read = sym (append-nil rs);
-  found = sym (append-nil fs);
+pub giving-none : {R F : Type 0} (P : Call → R → List F → Type 0) (all : List Call) (rs : List R)
+    (fs : List F) → Giving P all all rs rs fs fs
+giving-none P all rs fs = record {
+  values = [];
+  items = [];
+  are_values = sym (append-nil rs);
+  are_items = sym (append-nil fs);
   goes_on = λ more others h. h;
 }
 
-pub reading-more : (s : Scope) (is_new : Bool) (xs : List Leaf) (all left rest : List Call)
-    (c : Call) (r : CallReading) (rs ss ts : List CallReading) (fs gs hs : List Finding)
-    → left ≡ c ∷ rest → Reading s is_new xs all left rs ss fs gs
-    → (ts ≡ ss ++ r ∷ []) → (zs : List Finding) × (hs ≡ gs ++ zs) × Reads s is_new xs c r zs
-    → Reading s is_new xs all rest rs ts fs hs
-reading-more s is_new xs all left rest c r rs ss ts fs gs hs e w f z = record {
-  readings = w.readings ++ r ∷ [];
-  findings = w.findings ++ z.0;
-  read = f ∙ (ap (λ v. v ++ r ∷ []) w.read ∙ append_assoc rs w.readings (r ∷ []));
-  found = z.1 ∙ (ap (λ v. v ++ z.0) w.found ∙ append_assoc fs w.findings z.0);
+pub giving-more : {R F : Type 0} (P : Call → R → List F → Type 0) (all left rest : List Call)
+    (c : Call) (r : R) (rs ss ts : List R) (fs gs hs : List F) → left ≡ c ∷ rest
+    → Giving P all left rs ss fs gs → ts ≡ ss ++ r ∷ []
+    → (zs : List F) × (hs ≡ gs ++ zs) × P c r zs → Giving P all rest rs ts fs hs
+giving-more P all left rest c r rs ss ts fs gs hs e w f z = record {
+  values = w.values ++ r ∷ [];
+  items = w.items ++ z.0;
+  are_values = f ∙ (ap (λ v. v ++ r ∷ []) w.are_values ∙ append_assoc rs w.values (r ∷ []));
+  are_items = z.1 ∙ (ap (λ v. v ++ z.0) w.are_items ∙ append_assoc fs w.items z.0);
   goes_on = λ more others h.
-      subst (λ v. ReadsAll s is_new xs all v ((w.findings ++ z.0) ++ others))
-      (sym (append_assoc w.readings (r ∷ []) more))
-      (subst (λ v. ReadsAll s is_new xs all (w.readings ++ r ∷ more) v)
-      (sym (append_assoc w.findings z.0 others))
+      subst (λ v. Gives P all v ((w.items ++ z.0) ++ others))
+      (sym (append_assoc w.values (r ∷ []) more))
+      (subst (λ v. Gives P all (w.values ++ r ∷ more) v) (sym (append_assoc w.items z.0 others))
       (w.goes_on (r ∷ more) (z.0 ++ others)
-      (subst (λ v. ReadsAll s is_new xs v (r ∷ more) (z.0 ++ others)) (sym e)
+      (subst (λ v. Gives P v (r ∷ more) (z.0 ++ others)) (sym e)
       (r, more, z.0, others, refl, refl, z.2, h))));
 }
 
-pub reading-all : (s : Scope) (is_new : Bool) (xs : List Leaf) (all left : List Call)
-    (rs ss : List CallReading) (fs gs : List Finding) → left ≡ []
-    → Reading s is_new xs all left rs ss fs gs
-    → (us : List CallReading) × (zs : List Finding) × (ss ≡ rs ++ us) × (gs ≡ fs ++ zs)
-    × ReadsAll s is_new xs all us zs
-reading-all s is_new xs all left rs ss fs gs e w = (
-  w.readings,
-  w.findings,
-  w.read,
-  w.found,
-  subst (λ v. ReadsAll s is_new xs all v w.findings) (append-nil w.readings)
-      (subst (λ v. ReadsAll s is_new xs all (w.readings ++ []) v) (append-nil w.findings)
-      (w.goes_on [] [] (subst (λ v. ReadsAll s is_new xs v [] []) (sym e) (refl, refl)))),
+pub giving-all : {R F : Type 0} (P : Call → R → List F → Type 0) (all left : List Call)
+    (rs ss : List R) (fs gs : List F) → left ≡ [] → Giving P all left rs ss fs gs
+    → (us : List R) × (zs : List F) × (ss ≡ rs ++ us) × (gs ≡ fs ++ zs) × Gives P all us zs
+giving-all P all left rs ss fs gs e w = (
+  w.values,
+  w.items,
+  w.are_values,
+  w.are_items,
+  subst (λ v. Gives P all v w.items) (append-nil w.values)
+      (subst (λ v. Gives P all (w.values ++ []) v) (append-nil w.items)
+      (w.goes_on [] [] (subst (λ v. Gives P v [] []) (sym e) (refl, refl)))),
 )
 
--- The readings of a file so far, where the tokens of u are left: the tokens of the front were read.
-pub record ReadingFile (es : List Entry) (s : Scope) (is_new : Bool) (start u : Unread)
-    (rs : List CallReading) (fs : List Finding) (old now : Balance) : Type 0 where
+-- What comes from calls comes from those among these tokens.
+pub of-calls : {R F : Type 0} (P : List Leaf → Call → R → List F → Type 0) (es : List Entry)
+    (xs : List Leaf) (cs : List Call) (rs ss : List R) (fs gs : List F)
+    → ((c : Call) → Contains cs c ↔ IsCall es xs c) → Rises 0 cs (length xs)
+    → (us : List R) × (zs : List F) × (ss ≡ rs ++ us) × (gs ≡ fs ++ zs) × Gives (P xs) cs us zs
+    → (us : List R) × (zs : List F) × (ss ≡ rs ++ us) × (gs ≡ fs ++ zs) × OfCalls P es xs us zs
+of-calls P es xs cs rs ss fs gs e o h = (
+  h.0,
+  h.1,
+  h.2,
+  h.3,
+  record {
+    calls = cs;
+    are_calls = record { each = e; in_order = o };
+    gives = h.4;
+  },
+)
+
+-- What came from the calls of a file so far, where the tokens of u are left: those of the front were
+-- read.
+pub record FileGiving {R F : Type 0} (P : List Leaf → Call → R → List F → Type 0)
+    (es : List Entry) (start u : Unread) (rs : List R) (fs : List F) (old now : Balance)
+    : Type 0 where
   pub front : List Leaf
   pub follows : (left : List Leaf) → AreLeft u left → AreLeft start (front ++ left)
   pub balanced : (w : List Leaf) → IsBalanced w old → IsBalanced (w ++ front) now
-  pub goes_on : (left : List Leaf) (ps : List (List Leaf)) (more : List CallReading)
-      (others : List Finding) → AreLeft u left → ReadsParts es s is_new left ps more others
-      → (qs : List (List Leaf))
-      × ReadsParts es s is_new (front ++ left) qs (rs ++ more) (fs ++ others)
+  pub goes_on : (left : List Leaf) (ps : List (List Leaf)) (more : List R) (others : List F)
+      → AreLeft u left → OfParts P es left ps more others → (qs : List (List Leaf))
+      × OfParts P es (front ++ left) qs (rs ++ more) (fs ++ others)
 
-pub file-none : (es : List Entry) (s : Scope) (is_new : Bool) (u : Unread)
-    (rs : List CallReading) (fs : List Finding) (b : Balance) → rs ≡ [] → fs ≡ []
-    → ReadingFile es s is_new u u rs fs b b
-file-none es s is_new u rs fs b e f = record {
+pub file-none : {R F : Type 0} (P : List Leaf → Call → R → List F → Type 0) (es : List Entry)
+    (u : Unread) (rs : List R) (fs : List F) (b : Balance) → rs ≡ [] → fs ≡ []
+    → FileGiving P es u u rs fs b b
+file-none P es u rs fs b e f = record {
   front = [];
   follows = λ left l. l;
   balanced = λ w h. subst (λ v. IsBalanced v b) (sym (append-nil w)) h;
   goes_on = λ left ps more others l h. (
     ps,
-    subst (λ v. ReadsParts es s is_new left ps v (fs ++ others)) (sym (ap (λ v. v ++ more) e))
-        (subst (λ v. ReadsParts es s is_new left ps more v) (sym (ap (λ v. v ++ others) f)) h),
+    subst (λ v. OfParts P es left ps v (fs ++ others)) (sym (ap (λ v. v ++ more) e))
+        (subst (λ v. OfParts P es left ps more v) (sym (ap (λ v. v ++ others) f)) h),
   );
 }
 
@@ -101,13 +113,13 @@ NextPart es u next part old now = (gap : List Leaf) × ((left : List Leaf) → A
     → AreLeft u (gap ++ (part ++ left)) × IsPart es gap part left)
     × ((w : List Leaf) → IsBalanced w old → IsBalanced (w ++ (gap ++ part)) now)
 
-pub file-more : (es : List Entry) (s : Scope) (is_new : Bool) (start u next : Unread)
-    (part : List Leaf) (rs ss : List CallReading) (fs gs : List Finding) (old now after : Balance)
-    → ReadingFile es s is_new start u rs fs old now → NextPart es u next part now after
-    → (us : List CallReading) × (zs : List Finding) × (ss ≡ rs ++ us) × (gs ≡ fs ++ zs)
-    × ReadsCalls es s is_new part us zs
-    → ReadingFile es s is_new start next ss gs old after
-file-more es s is_new start u next part rs ss fs gs old now after w p r = record {
+pub file-more : {R F : Type 0} (P : List Leaf → Call → R → List F → Type 0) (es : List Entry)
+    (start u next : Unread) (part : List Leaf) (rs ss : List R) (fs gs : List F)
+    (old now after : Balance) → FileGiving P es start u rs fs old now
+    → NextPart es u next part now after
+    → (us : List R) × (zs : List F) × (ss ≡ rs ++ us) × (gs ≡ fs ++ zs) × OfCalls P es part us zs
+    → FileGiving P es start next ss gs old after
+file-more P es start u next part rs ss fs gs old now after w p r = record {
   front = w.front ++ (p.0 ++ part);
   follows = λ left l. subst (λ v. AreLeft start v) (sym (joined left))
       (w.follows (p.0 ++ (part ++ left)) (p.1 left l).0);
@@ -118,10 +130,10 @@ file-more es s is_new start u next part rs ss fs gs old now after w p r = record
       let z = w.goes_on (p.0 ++ (part ++ left)) (part ∷ ps) (r.0 ++ more) (r.1 ++ others) k.0
       (p.0, left, r.0, more, r.1, others, refl, k.1, refl, refl, r.4, h) in (
         z.0,
-        subst (λ v. ReadsParts es s is_new v z.0 (ss ++ more) (gs ++ others)) (sym (joined left))
-            (subst (λ v. ReadsParts es s is_new (w.front ++ (p.0 ++ (part ++ left))) z.0 v
-            (gs ++ others)) (sym (ap (λ v. v ++ more) r.2 ∙ append_assoc rs r.0 more))
-            (subst (λ v. ReadsParts es s is_new (w.front ++ (p.0 ++ (part ++ left))) z.0
+        subst (λ v. OfParts P es v z.0 (ss ++ more) (gs ++ others)) (sym (joined left))
+            (subst (λ v. OfParts P es (w.front ++ (p.0 ++ (part ++ left))) z.0 v (gs ++ others))
+            (sym (ap (λ v. v ++ more) r.2 ∙ append_assoc rs r.0 more))
+            (subst (λ v. OfParts P es (w.front ++ (p.0 ++ (part ++ left))) z.0
             (rs ++ (r.0 ++ more)) v)
             (sym (ap (λ v. v ++ others) r.3 ∙ append_assoc fs r.1 others)) z.1)),
       );
@@ -137,19 +149,18 @@ abbrev pub NoPart : List Entry → Unread → Balance → Balance → Type 0
 NoPart es u old now = (left : List Leaf) × AreLeft u left × ((c : Call) → IsCall es left c → ⊥)
     × ((w : List Leaf) → IsBalanced w old → IsBalanced (w ++ left) now)
 
-pub file-all : (es : List Entry) (s : Scope) (is_new : Bool) (start u : Unread)
-    (rs : List CallReading) (fs : List Finding) (old now after : Balance)
-    → ReadingFile es s is_new start u rs fs old now → NoPart es u now after
-    → (all : List Leaf) × AreLeft start all × ReadsCalls es s is_new all rs fs
+pub file-all : {R F : Type 0} (P : List Leaf → Call → R → List F → Type 0) (es : List Entry)
+    (start u : Unread) (rs : List R) (fs : List F) (old now after : Balance) → Moves P
+    → FileGiving P es start u rs fs old now → NoPart es u now after
+    → (all : List Leaf) × AreLeft start all × OfCalls P es all rs fs
     × ((w : List Leaf) → IsBalanced w old → IsBalanced (w ++ all) after)
-file-all es s is_new start u rs fs old now after w n =
+file-all P es start u rs fs old now after m w n =
     let z = w.goes_on n.0 [] [] [] n.1 (n.2, refl, refl) in (
       w.front ++ n.0,
       w.follows n.0 n.1,
-      merged es s is_new (w.front ++ n.0) z.0 rs fs
-          (subst (λ v. ReadsParts es s is_new (w.front ++ n.0) z.0 v fs) (append-nil rs)
-          (subst (λ v. ReadsParts es s is_new (w.front ++ n.0) z.0 (rs ++ []) v) (append-nil fs)
-          z.1)),
+      merged P es (w.front ++ n.0) z.0 rs fs m
+          (subst (λ v. OfParts P es (w.front ++ n.0) z.0 v fs) (append-nil rs)
+          (subst (λ v. OfParts P es (w.front ++ n.0) z.0 (rs ++ []) v) (append-nil fs) z.1)),
       λ v h. subst (λ t. IsBalanced t after) (append_assoc v w.front n.0)
           (n.3 (v ++ w.front) (w.balanced v h)),
     )

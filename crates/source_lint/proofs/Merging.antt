@@ -1,25 +1,21 @@
--- The readings of the parts of a file are those of the file.
-use Rattle.std.proofs.Common.{◌≡◌, ◌<◌, ◌≤◌, ◌+◌, ◌-◌, ◌++◌, ◌⊎◌, ℕ, Bool, List, [], ◌∷◌, inl, inr}
-use Rattle.std.proofs.Common.{refl}
-use Rattle.std.proofs.Common.{ap, sym, subst, ◌∙◌, length, length-append, arith, map}
+-- What comes from the calls of the parts of a file is what comes from those of the file.
+use Rattle.std.proofs.Common.{◌≡◌, ◌<◌, ◌≤◌, ◌+◌, ◌-◌, ◌++◌, ◌⊎◌, ℕ, List, [], ◌∷◌, inl, inr}
+use Rattle.std.proofs.Common.{ap, sym, subst, ◌∙◌, length, length-append, arith, map, refl}
 use Rattle.std.specs.Prelude.{Contains}
 use Rattle.std.proofs.lemmas.Bool.{cases_lt}
 use Rattle.std.proofs.lemmas.List.{append_assoc, append-nil}
 use Rattle.std.proofs.lemmas.List.Elements.{Contains-append_cases, Contains-append_left}
 use Rattle.std.proofs.lemmas.List.Elements.{Contains-append_right}
+use Rattle.rust_trees.specs.Forests.{IsPair}
 use Rattle.rust_trees.specs.Leaves.{Leaf}
 use Rattle.format_calls.specs.Calls.{IsCall, Rises}
 use Rattle.format_calls.specs.Parts.{IsPart, moved}
 use Rattle.format_calls.specs.Rows.{Entry}
 use Rattle.format_calls.specs.declared.listing.Call.{Call}
 use Rattle.format_calls.proofs.CallSteps.{call-within}
-use Rattle.source_lint.specs.declared.report.CallReading.{CallReading}
-use Rattle.source_lint.specs.declared.report.Finding.{Finding}
-use Rattle.source_lint.specs.Readings.{ReadsAll, Scope}
-use Rattle.source_lint.specs.Reports.{AreCalls, ReadsCalls, ReadsParts}
+use Rattle.source_lint.specs.CallLists.{AreCalls, Gives, OfCalls}
 use Rattle.source_lint.proofs.Elements.{here, in-mapped, mapped-in, nothing-in}
 use Rattle.source_lint.proofs.Embedding.{Embeds, embeds}
-use Rattle.source_lint.proofs.MovedReadings.{reads-same}
 
 -- Calls in order stay so further on, and after others.
 rises-moved : (g from to : ℕ) (cs : List Call) → Rises from cs to
@@ -141,32 +137,37 @@ left-embeds gap part left =
     (append_assoc gap part (left ++ []) ∙ ap (λ v. gap ++ (part ++ v)) (append-nil left))
     (embeds (gap ++ part) left []))
 
--- The readings of calls among other tokens.
-reads-moved : (es : List Entry) (s : Scope) (is_new : Bool) (xs ys : List Leaf) (g : ℕ)
-    (cs : List Call) (rs : List CallReading) (fs : List Finding) → Embeds xs ys g
-    → ((c : Call) → Contains cs c → IsCall es xs c) → ReadsAll s is_new xs cs rs fs
-    → ReadsAll s is_new ys (map (moved g) cs) rs fs
-reads-moved es s is_new xs ys g [] rs fs e k h = h
-reads-moved es s is_new xs ys g (c ∷ cs) rs fs e k h = (
+-- P holds of a call among other tokens too.
+pub record Moves {R F : Type 0} (P : List Leaf → Call → R → List F → Type 0) : Type 0 where
+  pub moves : (xs ys : List Leaf) (g : ℕ) (c : Call) (r : R) (fs : List F) → Embeds xs ys g
+      → IsPair xs (c.name + 2) c.close → P xs c r fs → P ys (moved g c) r fs
+
+-- The calls give the same among other tokens.
+gives-moved : {R F : Type 0} (P : List Leaf → Call → R → List F → Type 0) (es : List Entry)
+    (xs ys : List Leaf) (g : ℕ) (cs : List Call) (rs : List R) (fs : List F) → Moves P
+    → Embeds xs ys g → ((c : Call) → Contains cs c → IsCall es xs c) → Gives (P xs) cs rs fs
+    → Gives (P ys) (map (moved g) cs) rs fs
+gives-moved P es xs ys g [] rs fs m e k h = h
+gives-moved P es xs ys g (c ∷ cs) rs fs m e k h = (
   h.0,
   h.1,
   h.2,
   h.3,
   h.4,
   h.5,
-  reads-same s is_new xs ys g c h.0 h.2 e (k c (here c cs)).is_pair h.6,
-  reads-moved es s is_new xs ys g cs h.1 h.3 e
-      (λ d m. k d (Contains-append_right (c ∷ []) cs d m)) h.7,
+  m.moves xs ys g c h.0 h.2 e (k c (here c cs)).is_pair h.6,
+  gives-moved P es xs ys g cs h.1 h.3 m e
+      (λ d i. k d (Contains-append_right (c ∷ []) cs d i)) h.7,
 )
 
-reads-join : (s : Scope) (is_new : Bool) (xs : List Leaf) (cs ds : List Call)
-    (rs ss : List CallReading) (fs gs : List Finding) → ReadsAll s is_new xs cs rs fs
-    → ReadsAll s is_new xs ds ss gs
-    → ReadsAll s is_new xs (cs ++ ds) (rs ++ ss) (fs ++ gs)
-reads-join s is_new xs [] ds rs ss fs gs h k =
-    subst (λ v. ReadsAll s is_new xs ds v (fs ++ gs)) (sym (ap (λ v. v ++ ss) h.0))
-    (subst (λ v. ReadsAll s is_new xs ds ss v) (sym (ap (λ v. v ++ gs) h.1)) k)
-reads-join s is_new xs (c ∷ cs) ds rs ss fs gs h k = (
+-- Calls and those after them give what both give.
+gives-join : {R F : Type 0} (P : Call → R → List F → Type 0) (cs ds : List Call) (rs ss : List R)
+    (fs gs : List F) → Gives P cs rs fs → Gives P ds ss gs
+    → Gives P (cs ++ ds) (rs ++ ss) (fs ++ gs)
+gives-join P [] ds rs ss fs gs h k =
+    subst (λ v. Gives P ds v (fs ++ gs)) (sym (ap (λ v. v ++ ss) h.0))
+    (subst (λ v. Gives P ds ss v) (sym (ap (λ v. v ++ gs) h.1)) k)
+gives-join P (c ∷ cs) ds rs ss fs gs h k = (
   h.0,
   h.1 ++ ss,
   h.2,
@@ -174,36 +175,46 @@ reads-join s is_new xs (c ∷ cs) ds rs ss fs gs h k = (
   ap (λ v. v ++ ss) h.4,
   ap (λ v. v ++ gs) h.5 ∙ append_assoc h.2 h.3 gs,
   h.6,
-  reads-join s is_new xs cs ds h.1 ss h.3 gs h.7 k,
+  gives-join P cs ds h.1 ss h.3 gs h.7 k,
 )
 
--- The readings of the parts are those of all tokens.
-pub merged : (es : List Entry) (s : Scope) (is_new : Bool) (xs : List Leaf)
-    (ps : List (List Leaf)) (rs : List CallReading) (fs : List Finding)
-    → ReadsParts es s is_new xs ps rs fs → ReadsCalls es s is_new xs rs fs
-merged es s is_new xs [] rs fs h = record {
+-- What comes from the calls part by part: before each part there is a gap, and after the last one
+-- there is no call.
+abbrev pub OfParts : {R F : Type 0} → (List Leaf → Call → R → List F → Type 0) → List Entry
+    → List Leaf → List (List Leaf) → List R → List F → Type 0
+OfParts {R} {F} P es xs [] rs fs = ((c : Call) → IsCall es xs c → ⊥) × (rs ≡ []) × (fs ≡ [])
+OfParts {R} {F} P es xs (p ∷ ps) rs fs = (gap left : List Leaf) × (first more : List R)
+    × (found others : List F) × (xs ≡ gap ++ (p ++ left)) × IsPart es gap p left
+    × (rs ≡ first ++ more) × (fs ≡ found ++ others) × OfCalls P es p first found
+    × OfParts P es left ps more others
+
+-- It is what comes from the calls among all tokens.
+pub merged : {R F : Type 0} (P : List Leaf → Call → R → List F → Type 0) (es : List Entry)
+    (xs : List Leaf) (ps : List (List Leaf)) (rs : List R) (fs : List F) → Moves P
+    → OfParts P es xs ps rs fs → OfCalls P es xs rs fs
+merged P es xs [] rs fs m h = record {
   calls = [];
   are_calls = record {
     each = λ c. (λ k. nothing-in c k, λ k. absurd (h.0 c k));
     in_order = omega arith;
   };
-  reads = (h.1, h.2);
+  gives = (h.1, h.2);
 }
-merged es s is_new xs (p ∷ ps) rs fs h =
+merged P es xs (p ∷ ps) rs fs m h =
     let gap = h.0 in
     let left = h.1 in
     let a = h.10 in
-    let b = merged es s is_new left ps h.3 h.5 h.11 in
-    let first = reads-moved es s is_new p (gap ++ (p ++ left)) (length gap) a.calls h.2 h.4
-    (embeds gap p left) (λ c k. (a.are_calls.each c).0 k) a.reads in
-    let second = reads-moved es s is_new left (gap ++ (p ++ left)) (length gap + length p)
-    b.calls h.3 h.5 (left-embeds gap p left) (λ c k. (b.are_calls.each c).0 k) b.reads in
-    let all : ReadsCalls es s is_new (gap ++ (p ++ left)) (h.2 ++ h.3) (h.4 ++ h.5) =
+    let b = merged P es left ps h.3 h.5 m h.11 in
+    let first = gives-moved P es p (gap ++ (p ++ left)) (length gap) a.calls h.2 h.4 m
+    (embeds gap p left) (λ c k. (a.are_calls.each c).0 k) a.gives in
+    let second = gives-moved P es left (gap ++ (p ++ left)) (length gap + length p) b.calls h.3
+    h.5 m (left-embeds gap p left) (λ c k. (b.are_calls.each c).0 k) b.gives in
+    let all : OfCalls P es (gap ++ (p ++ left)) (h.2 ++ h.3) (h.4 ++ h.5) =
     record {
       calls = map (moved (length gap)) a.calls ++ map (moved (length gap + length p)) b.calls;
       are_calls = calls-join es gap p left a.calls b.calls h.7 a.are_calls b.are_calls;
-      reads = reads-join s is_new (gap ++ (p ++ left)) _ _ h.2 h.3 h.4 h.5 first second;
+      gives = gives-join (P (gap ++ (p ++ left))) _ _ h.2 h.3 h.4 h.5 first second;
     } in
-    subst (λ v. ReadsCalls es s is_new v rs fs) (sym h.6)
-    (subst (λ v. ReadsCalls es s is_new (gap ++ (p ++ left)) v fs) (sym h.8)
-    (subst (λ v. ReadsCalls es s is_new (gap ++ (p ++ left)) (h.2 ++ h.3) v) (sym h.9) all))
+    subst (λ v. OfCalls P es v rs fs) (sym h.6)
+    (subst (λ v. OfCalls P es (gap ++ (p ++ left)) v fs) (sym h.8)
+    (subst (λ v. OfCalls P es (gap ++ (p ++ left)) (h.2 ++ h.3) v) (sym h.9) all))

@@ -29,13 +29,15 @@ use Rattle.source_lint.specs.Readings.{lack_expression, name_at}
 use Rattle.source_lint.specs.Readings.{Scope, name_of_leaf, skipped}
 use Rattle.source_lint.proofs.Calling.{reads-by}
 use Rattle.source_lint.proofs.Embedding.{Embeds}
+use Rattle.source_lint.proofs.Merging.{Moves}
 use Rattle.source_lint.proofs.MovedAssembly.{asm-same}
 use Rattle.source_lint.proofs.MovedArguments.{LiesIn, arguments-at, arguments-lie, counted-at}
 use Rattle.source_lint.proofs.MovedArguments.{shifted, up-to-at}
 use Rattle.source_lint.proofs.MovedForms.{form-same, parts-same, same-length}
 use Rattle.source_lint.proofs.MovedStrings.{lies-get, others-same, string-same}
 
-name-same : (xs ys : List Leaf) (g i : ℕ) → Embeds xs ys g → i < length xs
+-- The name of the macro is the same.
+pub name-same : (xs ys : List Leaf) (g i : ℕ) → Embeds xs ys g → i < length xs
     → name_at ys (g + i) ≡ name_at xs i
 name-same xs ys g i e h = ap (λ o. name_of_leaf o) (e.same i h)
 
@@ -109,8 +111,8 @@ empty-same g (b ∷ bs) =
     ap (λ t. t || list_any is_empty (map (shifted g) bs)) (same-length g b.start b.end)
     ∙ ap (λ t. is_empty b || t) (empty-same g bs)
 
--- the same argument is the format string
-index-same : (xs ys : List Leaf) (g from to : ℕ) (r : Rule) (bs : List Argument) (is_new : Bool)
+-- The same argument is the format string.
+pub index-same : (xs ys : List Leaf) (g from to : ℕ) (r : Rule) (bs : List Argument) (is_new : Bool)
     → Embeds xs ys g → to < length xs → AllByRecursion (λ a. LiesIn from to a) bs
     → index_or is_new ys r (map (shifted g) bs) ≡ index_or is_new xs r bs
 index-same xs ys g from to r bs is_new e w l =
@@ -142,7 +144,7 @@ unless-same None is_new xs ys g c r fs e p h =
     )
 
 -- The same is read, and the same is found.
-pub reads-same : (s : Scope) (is_new : Bool) (xs ys : List Leaf) (g : ℕ) (c : Call)
+reads-same : (s : Scope) (is_new : Bool) (xs ys : List Leaf) (g : ℕ) (c : Call)
     (r : CallReading) (fs : List Finding) → Embeds xs ys g → IsPair xs (c.name + 2) c.close
     → Reads s is_new xs c r fs → Reads s is_new ys (moved g c) r fs
 reads-same s is_new xs ys g c r fs e p h =
@@ -151,3 +153,8 @@ reads-same s is_new xs ys g c r fs e p h =
     subst (λ o. ReadsUnless (skipped s c.rule o) is_new ys (moved g c) r fs)
     (sym (e.same c.name (omega (arith, w, q))))
     (unless-same (skipped s c.rule (slice_get xs c.name)) is_new xs ys g c r fs e p h)
+
+pub reads-move : (s : Scope) (is_new : Bool) → Moves (Reads s is_new)
+reads-move s is_new = record {
+  moves = λ xs ys g c r fs e p h. reads-same s is_new xs ys g c r fs e p h;
+}

@@ -1,6 +1,7 @@
 pub mod AsmFindings
 pub mod Assembly
 pub mod Attributes
+pub mod CallLists
 pub mod Commas
 pub mod Files
 pub mod Expressions

@@ -240,11 +240,3 @@ ReadsUnless None is_new xs c r fs = (args : List Argument)
 abbrev pub Reads : Scope → Bool → List Leaf → Call → CallReading → List Finding → Type 0
 Reads s is_new xs c r fs =
     ReadsUnless (skipped s c.rule (slice_get xs c.name)) is_new xs c r fs
-
--- These are the readings of calls and the findings in them, one call after the other.
-abbrev pub ReadsAll : Scope → Bool → List Leaf → List Call → List CallReading → List Finding
-    → Type 0
-ReadsAll s is_new xs [] rs fs = (rs ≡ []) × (fs ≡ [])
-ReadsAll s is_new xs (c ∷ cs) rs fs = (r : CallReading) × (more : List CallReading)
-    × (first others : List Finding) × (rs ≡ r ∷ more) × (fs ≡ first ++ others)
-    × Reads s is_new xs c r first × ReadsAll s is_new xs cs more others

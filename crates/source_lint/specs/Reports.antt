@@ -1,41 +1,22 @@
 -- The report on a file.
-use Rattle.std.specs.Prelude.{◌≡◌, ◌++◌, ◌↔◌, ◌⊎◌, ℕ, Bool, List, [], ◌∷◌, Contains, codes, length}
+use Rattle.std.specs.Prelude.{◌≡◌, ◌++◌, ◌⊎◌, ℕ, Bool, List, [], codes}
 use Rattle.std.specs.Str.Iter.{HasSubslice}
 use Rattle.rust_trees.specs.Balances.{BreaksAt}
 use Rattle.rust_trees.specs.Leaves.{Leaf}
-use Rattle.format_calls.specs.Calls.{IsCall, Rises}
-use Rattle.format_calls.specs.Parts.{IsPart}
 use Rattle.format_calls.specs.Rows.{Entry}
-use Rattle.format_calls.specs.declared.listing.Call.{Call}
 use Rattle.source_lint.specs.declared.report.CallReading.{CallReading}
 use Rattle.source_lint.specs.declared.report.Finding.{Finding}
 use Rattle.source_lint.specs.declared.report.Report.{Report}
 use Rattle.source_lint.specs.Attributes.{ReadsItems}
+use Rattle.source_lint.specs.CallLists.{OfCalls}
 use Rattle.source_lint.specs.Macros.{macro_names}
 use Rattle.source_lint.specs.Files.{AreLeaves}
-use Rattle.source_lint.specs.Readings.{ReadsAll, Scope}
-
--- These are the calls of macros of the table, in the order of their names.
-pub record AreCalls (es : List Entry) (xs : List Leaf) (cs : List Call) : Type 0 where
-  pub each : (c : Call) → Contains cs c ↔ IsCall es xs c
-  pub in_order : Rises 0 cs (length xs)
+use Rattle.source_lint.specs.Readings.{Reads, Scope}
 
 -- These are the readings of the calls among these tokens, and the findings in them.
-pub record ReadsCalls (es : List Entry) (s : Scope) (is_new : Bool) (xs : List Leaf)
-    (rs : List CallReading) (fs : List Finding) : Type 0 where
-  pub calls : List Call
-  pub are_calls : AreCalls es xs calls
-  pub reads : ReadsAll s is_new xs calls rs fs
-
--- The same part by part: before each part there is a gap, and after the last one there is no call.
-abbrev pub ReadsParts : List Entry → Scope → Bool → List Leaf → List (List Leaf)
-    → List CallReading → List Finding → Type 0
-ReadsParts es s is_new xs [] rs fs = ((c : Call) → IsCall es xs c → ⊥) × (rs ≡ []) × (fs ≡ [])
-ReadsParts es s is_new xs (p ∷ ps) rs fs = (gap left : List Leaf)
-    × (first more : List CallReading) × (found others : List Finding)
-    × (xs ≡ gap ++ (p ++ left)) × IsPart es gap p left × (rs ≡ first ++ more)
-    × (fs ≡ found ++ others) × ReadsCalls es s is_new p first found
-    × ReadsParts es s is_new left ps more others
+abbrev pub ReadsCalls : List Entry → Scope → Bool → List Leaf → List CallReading → List Finding
+    → Type 0
+ReadsCalls es s is_new xs rs fs = OfCalls (Reads s is_new) es xs rs fs
 
 -- These are the findings in the texts of attributes of a file, in bytes, with these tokens. There
 -- are none where the name of the attribute does not stand in the file.

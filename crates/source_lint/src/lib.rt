@@ -24,7 +24,7 @@ mod report;
 mod spans;
 
 pub use givens::name_of;
-pub use lint::file_faults;
+pub use lint::{Readings, file_faults, read_calls, report_on};
 pub use literals::{Literal, appends_newline, dropped_crs, offset_in, read_literal, without_crs};
 pub use macros::{File, macro_names, name_at, other_macro};
 pub use readings::{argument_at, arguments_before, captures, ends_early, index_or};

@@ -1,13 +1,17 @@
 //! The faults of the format strings of a file.
 
-ghost use Rattle.std.specs.Prelude.{◌≡◌, ◌++◌, List, IfOk, OnOk, map};
+ghost use Rattle.std.specs.Prelude.{◌≡◌, ◌++◌, ◌+◌, Bool, List, Contains, IfOk, OnOk, map};
 ghost use Rattle.std.specs.List.{All};
 ghost use Rattle.rust_trees.specs.Balances.{IsBalanced};
+ghost use Rattle.rust_trees.specs.Forests.{IsPair};
 ghost use Rattle.rust_trees.specs.Leaves.{Leaf};
-ghost use Rattle.format_calls.specs.Rows.{entry};
+ghost use Rattle.format_calls.specs.Rows.{Entry, entry};
+ghost use Rattle.format_calls.specs.declared.listing.Call.{Call as CallValue};
+ghost use Rattle.source_lint.specs.CallLists.{Gives};
 ghost use Rattle.source_lint.specs.Files.{AreLeaves};
 ghost use Rattle.source_lint.specs.Findings.{HasSpans};
-ghost use Rattle.source_lint.specs.Readings.{scope};
+ghost use Rattle.source_lint.specs.Macros.{macro_names};
+ghost use Rattle.source_lint.specs.Readings.{Reads, scope};
 ghost use Rattle.source_lint.specs.Reports.{IsReport, ReadsAttributes, ReadsCalls};
 ghost use Rattle.source_lint.specs.declared.report.CallReading.{CallReading as ReadingValue};
 ghost use Rattle.source_lint.specs.declared.report.Finding.{Finding as FindingValue};
@@ -16,37 +20,38 @@ use crate::attributes::read_attributes;
 use crate::macros::{File, macro_names};
 use crate::readings::read_call;
 use crate::report::{CallReading, Finding, Options, Report};
-use format_calls::{Part, Table, calls, next_part};
+use format_calls::{Call, Part, Table, calls, next_part};
 use rust_trees::{Balance, Source, Tokens};
 use std::alloc::{AllocError, Global};
 
 /// The readings of the calls of a file so far, and the findings in these calls.
 #[derive(Drop)]
-struct Readings {
-    calls: Vec<CallReading>,
-    findings: Vec<Finding>,
+pub struct Readings {
+    /// How much of each call was read.
+    pub calls: Vec<CallReading>,
+    /// The faults of these calls, one call after the other.
+    pub findings: Vec<Finding>,
 }
 
-/// Reads the calls of a part of a file, one after the other, and adds how much of each is read and
-/// its findings. Returns `Err` if an allocation fails.
-fn read_part<'a>(
+/// Reads calls of a part of a file, one after the other, and adds how much of each is read and its
+/// findings. Returns `Err` if an allocation fails.
+pub fn read_calls<'a>(
     alloc: Global,
     found: &mut Readings,
     file: File<'_, 'a>,
     part: &Part<'a>,
-    table: &Table<'_>,
+    calls: &[Call],
 ) -> Result<(), AllocError>
+    requires { (c : CallValue) → Contains calls.now c → IsPair part.now (c.name + 2) c.close }
     ensures read { OnOk result ((rs : List ReadingValue) × (xs : List FindingValue)
         × (found.new.calls.items ≡ found.old.calls.items ++ rs)
         × (found.new.findings.items ≡ found.old.findings.items ++ xs)
-        × ReadsCalls (map entry table.now.rows.items) (scope file.entry) file.entry.is_from_2021
-        part.now rs xs) }
+        × Gives (Reads (scope file.entry) file.entry.is_from_2021 part.now) calls.now rs xs) }
     ensures spans { OnOk result (All (HasSpans file.entry.text.now)
         found.old.findings.items
         → All (HasSpans file.entry.text.now) found.new.findings.items) }
 {
-    let calls = calls(alloc, part.source(), table)?;
-    let mut rest = calls.as_slice();
+    let mut rest = calls;
     while let Some((call, others)) = rest.split_first() {
         let reading = read_call(alloc, &mut found.findings, file, part, call)?;
         found.calls.push(reading)?;
@@ -77,7 +82,8 @@ fn read_file(
     let mut rest = Tokens::new(file.text);
     while let Some(source) = next_part(alloc, &mut rest, table, balance)? {
         let part = Part::new(alloc, source)?;
-        read_part(alloc, &mut found, file, &part, table)?;
+        let calls = calls(alloc, part.source(), table)?;
+        read_calls(alloc, &mut found, file, &part, &calls)?;
     }
     Ok(found)
 }
@@ -98,6 +104,32 @@ fn put_attributes(alloc: Global, findings: &mut Vec<Finding>, text: &str) -> Res
     Ok(())
 }
 
+/// Returns the report on a file whose calls have these readings, and whose tokens were all added to
+/// `balance`: the findings in its attributes follow those in its calls. Returns `Err` if an
+/// allocation fails.
+pub fn report_on(
+    alloc: Global,
+    text: &str,
+    readings: Readings,
+    balance: Balance,
+) -> Result<Report, AllocError>
+    ensures report { IfOk result (λ r. (es : List Entry) (is_new : Bool) (ls : List Leaf)
+        → AreLeaves text.now ls
+        → ReadsCalls es (record { text = text.now; defined = macro_names ls }) is_new ls
+        readings.calls.items readings.findings.items → IsBalanced ls balance
+        → IsReport es is_new text.now r) }
+    ensures spans { IfOk result (λ r. All (HasSpans text.now) readings.findings.items
+        → All (HasSpans text.now) r.findings.items) }
+{
+    let mut found = readings;
+    put_attributes(alloc, &mut found.findings, text)?;
+    Ok(Report {
+        calls: found.calls,
+        findings: found.findings,
+        first_break: balance.first_break(),
+    })
+}
+
 /// Reads a source file, and returns the faults of its calls of macros that take a format string or
 /// templates of assembly, and then those of the texts of its attributes.
 /// Lines may end with LF or CRLF, and a byte order mark may stand at the start. Returns `Err` if an
@@ -114,11 +146,7 @@ pub fn file_faults(alloc: Global, text: &str, options: &Options<'_>) -> Result<R
         is_from_2021: options.is_from_2021,
     };
     let mut balance = Balance::new(alloc);
-    let mut found = read_file(alloc, file, &options.table, &mut balance)?;
-    put_attributes(alloc, &mut found.findings, text)?;
-    Ok(Report {
-        calls: found.calls,
-        findings: found.findings,
-        first_break: balance.first_break(),
-    })
+    let found = read_file(alloc, file, &options.table, &mut balance)?;
+    let report = report_on(alloc, text, found, balance)?;
+    Ok(report)
 }

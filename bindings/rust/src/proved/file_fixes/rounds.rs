@@ -32,7 +32,7 @@ struct Round {
 
 /// Returns whether a report on a file is no worse than the old one: the file does not break, has as
 /// many calls, and no more faults.
-// ensures { result ≡ true → IsNoWorse old.now new.now }
+// ensures { IsTrue result ↔ IsNoWorse old.now new.now }
 #[inline]
 pub fn is_no_worse(old: &Report, new: &Report) -> bool {
     old.first_break.is_none()
@@ -47,6 +47,8 @@ pub fn is_no_worse(old: &Report, new: &Report) -> bool {
 //     (map entry options.now.table.rows.items) options.now.is_from_2021
 //     (bytes_or fixed.now.text text.now) fixed.now.report (string_bytes x.text) x.report
 //     (map (λ w. w.now) x.ids.items))) }
+// ensures last { IfOk result (λ o. IsNone o → IsLast (map entry options.now.table.rows.items)
+//     options.now.is_from_2021 (bytes_or fixed.now.text text.now) fixed.now.report) }
 // ensures spans { IfOk result (λ o. IfSome o (λ x. All (HasSpans (string_bytes x.text))
 //     x.report.findings.items)) }
 #[inline]

@@ -279,22 +279,23 @@ fn inline_call<'a>(
     }
 }
 
-/// Returns what inlining makes of calls of a file. Returns `Err` if an allocation fails.
+/// Adds what inlining makes of calls of a part of a file, one after the other. Returns `Err` if an
+/// allocation fails.
 // requires { (c : CallValue) → Contains calls.now c → IsPair part.now (c.name + 2) c.close }
-// ensures { IfOk result (λ x. InlinesAll (scope file.entry) file.entry.is_from_2021 allows_mixed
-//     part.now calls.now x.inlinings.items (map seen_edit x.edits.items)) }
+// ensures { OnOk result ((rs : List InliningValue) × (es : List EditValue)
+//     × (made.new.inlinings.items ≡ made.old.inlinings.items ++ rs)
+//     × (map seen_edit made.new.edits.items ≡ map seen_edit made.old.edits.items ++ es)
+//     × Gives (Inlines (scope file.entry) file.entry.is_from_2021 allows_mixed part.now)
+//     calls.now rs es) }
 #[inline]
-pub(crate) fn inline_each<'a>(
+pub(crate) fn inline_calls<'a>(
     alloc: Global,
+    made: &mut InlinedCalls,
     file: File<'_, 'a>,
     part: &Part<'a>,
     calls: &[Call],
     allows_mixed: bool,
-) -> Result<InlinedCalls, AllocError> {
-    let mut made = InlinedCalls {
-        inlinings: Vec::made_in(alloc),
-        edits: Vec::made_in(alloc),
-    };
+) -> Result<(), AllocError> {
     let mut rest = calls;
     while let Some((call, others)) = rest.split_first() {
         let mut one = inline_call(alloc, file, part, call, allows_mixed)?;
@@ -302,5 +303,5 @@ pub(crate) fn inline_each<'a>(
         made.edits.try_append(&mut one.edits)?;
         rest = others;
     }
-    Ok(made)
+    Ok(())
 }

@@ -69,11 +69,26 @@ pub fn has_colours(rt: &crate::shim::host::HostRuntime, matches: &ArgMatches<'_>
     )
 }
 
-/// Returns how many columns a row of a drawing has, or `None` if the word for it is no number.
+/// Returns how many columns the terminal that standard output is has, as the environment variable
+/// `COLUMNS` says, or `None` if it is no terminal or the variable is no positive number.
 #[inline]
-pub fn width_of(matches: &ArgMatches<'_>) -> Option<usize> {
+fn terminal_width(rt: &crate::shim::host::HostRuntime) -> Option<usize> {
+    if !rt.stdout().is_terminal() {
+        return None;
+    }
+    let columns = env::var(rt, "COLUMNS").ok();
+    match columns.as_deref().unwrap_or("").parse::<usize>() {
+        Ok(width) if width > 0 => Some(width),
+        _ => None,
+    }
+}
+
+/// Returns how many columns a row of a drawing has, or `None` if the word for it is no number.
+/// Without a word it has as many as the terminal, or [`WIDTH`].
+#[inline]
+pub fn width_of(rt: &crate::shim::host::HostRuntime, matches: &ArgMatches<'_>) -> Option<usize> {
     match matches.get_str("width") {
-        None => Some(WIDTH),
+        None => Some(terminal_width(rt).unwrap_or(WIDTH)),
         Some(word) => word.parse::<usize>().ok(),
     }
 }

@@ -10,9 +10,11 @@ use crate::shim::prelude::*;
 
 /// Returns bytes with edits, or `None` if these are not one after the other in the bytes, or
 /// overlap. Returns `Err` if an allocation fails.
-// ensures { IfOk result (λ o. IfSome o (λ v.
+// ensures some { IfOk result (λ o. IfSome o (λ v.
 //     AreApart 0 (map seen_edit edits.now) (length bytes.now)
 //     × (v.items ≡ edited 0 (map seen_edit edits.now) bytes.now))) }
+// ensures none { IfOk result (λ o. IsNone o
+//     → AreApart 0 (map seen_edit edits.now) (length bytes.now) → ⊥) }
 #[inline]
 fn edited_bytes(
     alloc: Global,
@@ -41,9 +43,11 @@ fn edited_bytes(
 
 /// Returns a literal with edits, or `None` if these are not one after the other in it, overlap or
 /// cut a character. Returns `Err` if an allocation fails.
-// ensures { IfOk result (λ o. IfSome o (λ s.
+// ensures some { IfOk result (λ o. IfSome o (λ s.
 //     AreApart 0 (map seen_edit edits.now) (length literal.now)
 //     × (string_bytes s ≡ edited 0 (map seen_edit edits.now) literal.now))) }
+// ensures none { IfOk result (λ o. IsNone o
+//     → MakeNoText literal.now (map seen_edit edits.now)) }
 #[inline]
 pub fn apply_edits(
     alloc: Global,

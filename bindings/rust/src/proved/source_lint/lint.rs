@@ -4,7 +4,7 @@
 // That source is proved, and each contract here is its. That this text means the same is tested:
 // by results from outside, and beside what is proved (.ci/bindings) and the original (tools/agree).
 
-use crate::proved::format_calls::{calls, next_part, Part, Table};
+use crate::proved::format_calls::{calls, next_part, Call, Part, Table};
 use crate::proved::rust_trees::{Balance, Source, Tokens};
 use crate::proved::source_lint::attributes::read_attributes;
 use crate::proved::source_lint::macros::{macro_names, File};
@@ -14,31 +14,32 @@ use crate::shim::alloc::{AllocError, Global};
 use crate::shim::prelude::*;
 
 /// The readings of the calls of a file so far, and the findings in these calls.
-struct Readings {
-    calls: Vec<CallReading>,
-    findings: Vec<Finding>,
+pub struct Readings {
+    /// How much of each call was read.
+    pub calls: Vec<CallReading>,
+    /// The faults of these calls, one call after the other.
+    pub findings: Vec<Finding>,
 }
 
-/// Reads the calls of a part of a file, one after the other, and adds how much of each is read and
-/// its findings. Returns `Err` if an allocation fails.
+/// Reads calls of a part of a file, one after the other, and adds how much of each is read and its
+/// findings. Returns `Err` if an allocation fails.
+// requires { (c : CallValue) → Contains calls.now c → IsPair part.now (c.name + 2) c.close }
 // ensures read { OnOk result ((rs : List ReadingValue) × (xs : List FindingValue)
 //     × (found.new.calls.items ≡ found.old.calls.items ++ rs)
 //     × (found.new.findings.items ≡ found.old.findings.items ++ xs)
-//     × ReadsCalls (map entry table.now.rows.items) (scope file.entry) file.entry.is_from_2021
-//     part.now rs xs) }
+//     × Gives (Reads (scope file.entry) file.entry.is_from_2021 part.now) calls.now rs xs) }
 // ensures spans { OnOk result (All (HasSpans file.entry.text.now)
 //     found.old.findings.items
 //     → All (HasSpans file.entry.text.now) found.new.findings.items) }
 #[inline]
-fn read_part<'a>(
+pub fn read_calls<'a>(
     alloc: Global,
     found: &mut Readings,
     file: File<'_, 'a>,
     part: &Part<'a>,
-    table: &Table<'_>,
+    calls: &[Call],
 ) -> Result<(), AllocError> {
-    let calls = calls(alloc, part.source(), table)?;
-    let mut rest = calls.as_slice();
+    let mut rest = calls;
     while let Some((call, others)) = rest.split_first() {
         let reading = read_call(alloc, &mut found.findings, file, part, call)?;
         found.calls.try_push(reading)?;
@@ -69,7 +70,8 @@ fn read_file(
     let mut rest = Tokens::new(file.text);
     while let Some(source) = next_part(alloc, &mut rest, table, balance)? {
         let part = Part::new(alloc, source)?;
-        read_part(alloc, &mut found, file, &part, table)?;
+        let calls = calls(alloc, part.source(), table)?;
+        read_calls(alloc, &mut found, file, &part, &calls)?;
     }
     Ok(found)
 }
@@ -94,6 +96,32 @@ fn put_attributes(
     Ok(())
 }
 
+/// Returns the report on a file whose calls have these readings, and whose tokens were all added to
+/// `balance`: the findings in its attributes follow those in its calls. Returns `Err` if an
+/// allocation fails.
+// ensures report { IfOk result (λ r. (es : List Entry) (is_new : Bool) (ls : List Leaf)
+//     → AreLeaves text.now ls
+//     → ReadsCalls es (record { text = text.now; defined = macro_names ls }) is_new ls
+//     readings.calls.items readings.findings.items → IsBalanced ls balance
+//     → IsReport es is_new text.now r) }
+// ensures spans { IfOk result (λ r. All (HasSpans text.now) readings.findings.items
+//     → All (HasSpans text.now) r.findings.items) }
+#[inline]
+pub fn report_on(
+    alloc: Global,
+    text: &str,
+    readings: Readings,
+    balance: Balance,
+) -> Result<Report, AllocError> {
+    let mut found = readings;
+    put_attributes(alloc, &mut found.findings, text)?;
+    Ok(Report {
+        calls: found.calls,
+        findings: found.findings,
+        first_break: balance.first_break(),
+    })
+}
+
 /// Reads a source file, and returns the faults of its calls of macros that take a format string or
 /// templates of assembly, and then those of the texts of its attributes.
 /// Lines may end with LF or CRLF, and a byte order mark may stand at the start. Returns `Err` if an
@@ -110,11 +138,7 @@ pub fn file_faults(alloc: Global, text: &str, options: &Options<'_>) -> Result<R
         is_from_2021: options.is_from_2021,
     };
     let mut balance = Balance::new(alloc);
-    let mut found = read_file(alloc, file, &options.table, &mut balance)?;
-    put_attributes(alloc, &mut found.findings, text)?;
-    Ok(Report {
-        calls: found.calls,
-        findings: found.findings,
-        first_break: balance.first_break(),
-    })
+    let found = read_file(alloc, file, &options.table, &mut balance)?;
+    let report = report_on(alloc, text, found, balance)?;
+    Ok(report)
 }

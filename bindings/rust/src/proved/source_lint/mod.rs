@@ -27,7 +27,7 @@ pub(crate) mod report;
 pub(crate) mod spans;
 
 pub use givens::name_of;
-pub use lint::file_faults;
+pub use lint::{file_faults, read_calls, report_on, Readings};
 pub use literals::{appends_newline, dropped_crs, offset_in, read_literal, without_crs};
 pub use macros::{macro_names, name_at, other_macro, File};
 pub use readings::{argument_at, arguments_before, captures, ends_early, index_or};

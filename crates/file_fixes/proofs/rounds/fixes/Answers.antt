@@ -1,12 +1,12 @@
 use Rattle.std.proofs.Common.{◌≡◌, ◌-◌, ◌++◌, [], IfSome, ap, append-nil}
-use Rattle.std.proofs.Common.{◌∙◌, arith, map, string_bytes, subst, sym}
+use Rattle.std.proofs.Common.{◌∙◌, arith, map, refl, string_bytes, subst, sym}
 use Rattle.std.proofs.lemmas.Grind.{common_steps}
 use Rattle.std.proofs.lemmas.List.{map-append}
 use Rattle.std.specs.List.{All}
 use Rattle.format_calls.specs.Rows.{entry}
 use Rattle.source_lint.specs.Findings.{HasSpans}
 use Rattle.file_fixes.specs.FileFixes.{AreRounds, IsRound, bytes_or}
-use Rattle.file_fixes.proofs.RoundLaws.{one-more, stay}
+use Rattle.file_fixes.proofs.RoundLaws.{one-more, stay, stop}
 use Rattle.file_fixes.proofs.rounds.fixes.Goals as goal
 
 pub loop-rounds-init : goal.loop-rounds-init
@@ -37,7 +37,8 @@ returns-in_default-clause-rounds c =
       i.0,
       i.1,
       subst (λ ws. AreRounds es new 16 text i.0 cs l.fixed.report ws) (append-nil _)
-          (i.2 cs l.fixed.report [] (stay es new (16 - l.rounds) cs l.fixed.report)),
+          (i.2 cs l.fixed.report [] (stay es new (16 - l.rounds) cs l.fixed.report
+          ((rw c.in_default.is at c.in_ok-round.ensures.last) refl))),
     )
 
 pub loop-rounds-preserved : goal.loop-rounds-preserved
@@ -87,5 +88,6 @@ returns-clause-rounds c =
       i.0,
       i.1,
       subst (λ ws. AreRounds es new 16 text i.0 cs l.fixed.report ws) (append-nil _)
-          (i.2 cs l.fixed.report [] (stay es new (16 - l.rounds) cs l.fixed.report)),
+          (i.2 cs l.fixed.report [] (stop es new (16 - l.rounds) cs l.fixed.report
+          (omega (arith, c.loop-rounds-test.false)))),
     )

@@ -1,4 +1,4 @@
-use Rattle.std.proofs.Common.{◌≡◌, ◌∙◌, ◌+◌, ap, arith, map, refl, sym}
+use Rattle.std.proofs.Common.{◌≡◌, ◌∙◌, ◌+◌, ap, arith, map, sym}
 use Rattle.rust_trees.specs.Leaves.{leaf}
 use Rattle.source_lint.specs.Readings.{arguments_before}
 use Rattle.source_lint.proofs.Calling.{after-one, string-there}

@@ -17,7 +17,7 @@ returns-clause-inlined c = λ mixed none.
     let are_read = subst (λ (gs : List FormatArgument). ReadsClean call.captures gs call.text
     (map bare (map seen c.in-Some-2.pieces.items)))
     (c.requires.given ∙ ap (λ ss. map given_of ss) c.requires.slots) read.1 in
-    let made = rw (c.in-Some-3.is, c.deref-2.ensures.value) at c.in_ok-literal.ensures in
+    let made = rw (c.in-Some-3.is, c.deref-2.ensures.value) at c.in_ok-literal.ensures.some in
     let same = rw (c.deref.ensures.value, c.deref-3.ensures)
     at (c.in_ok-keeps_meaning.ensures c.in_ok-values.ensures.knows
     (c.in_ok-values.ensures.slots ∙ c.requires.slots) c.if-not-branch.false) in

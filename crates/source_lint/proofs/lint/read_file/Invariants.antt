@@ -2,13 +2,13 @@ use Rattle.std.proofs.Common.{length, map}
 use Rattle.std.specs.List.{All}
 use Rattle.format_calls.specs.Rows.{entry}
 use Rattle.source_lint.specs.Findings.{HasSpans}
-use Rattle.source_lint.specs.Readings.{scope}
-use Rattle.source_lint.proofs.Joining.{ReadingFile}
+use Rattle.source_lint.specs.Readings.{Reads, scope}
+use Rattle.source_lint.proofs.Joining.{FileGiving}
 use Rattle.source_lint.proofs.lint.read_file.Given as goal
 
 abbrev pub invariant-loop-found : goal.invariant-loop-found
 invariant-loop-found l = record {
-  read : ReadingFile (map entry l.table.rows.items) (scope l.file) l.file.is_from_2021
+  read : FileGiving (Reads (scope l.file) l.file.is_from_2021) (map entry l.table.rows.items)
       l.initial.rest l.rest l.found.calls.items l.found.findings.items l.initial.balance
       l.balance;
   spans : All (HasSpans l.file.text.now) l.found.findings.items;

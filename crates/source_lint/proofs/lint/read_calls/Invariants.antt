@@ -1,20 +1,19 @@
-use Rattle.std.proofs.Common.{length, map}
+use Rattle.std.proofs.Common.{◌+◌, length}
 use Rattle.std.specs.Prelude.{Contains}
 use Rattle.std.specs.List.{All}
-use Rattle.format_calls.specs.Calls.{IsCall}
-use Rattle.format_calls.specs.Rows.{entry}
+use Rattle.rust_trees.specs.Forests.{IsPair}
 use Rattle.format_calls.specs.declared.listing.Call.{Call}
 use Rattle.source_lint.specs.Findings.{HasSpans}
-use Rattle.source_lint.specs.Readings.{scope}
-use Rattle.source_lint.proofs.Joining.{Reading}
-use Rattle.source_lint.proofs.lint.read_part.Given as goal
+use Rattle.source_lint.specs.Readings.{Reads, scope}
+use Rattle.source_lint.proofs.Joining.{Giving}
+use Rattle.source_lint.proofs.lint.read_calls.Given as goal
 
 abbrev pub invariant-loop-call : goal.invariant-loop-call
 invariant-loop-call l = record {
-  read : Reading (scope l.file) l.file.is_from_2021 l.part l.initial.rest l.rest
+  read : Giving (Reads (scope l.file) l.file.is_from_2021 l.part) l.calls l.rest
       l.initial.found.calls.items l.found.calls.items l.initial.found.findings.items
       l.found.findings.items;
-  are_calls : (c : Call) → Contains l.rest c → IsCall (map entry l.table.rows.items) l.part c;
+  are_calls : (c : Call) → Contains l.rest c → IsPair l.part (c.name + 2) c.close;
   spans : All (HasSpans l.file.text.now) l.initial.found.findings.items
       → All (HasSpans l.file.text.now) l.found.findings.items;
 }

@@ -2,13 +2,13 @@ use Rattle.std.proofs.Common.{◌≡◌, ◌∙◌, ◌∷◌, ap, map, rules, s
 use Rattle.std.specs.Prelude.{Contains}
 use Rattle.std.proofs.lemmas.List.{map-append, nil_from_length}
 use Rattle.source_lint.proofs.Elements.{after-here, here}
+use Rattle.source_lint.proofs.Joining.{giving-all, giving-more, giving-none}
 use Rattle.inlined_arguments.specs.Seen.{seen_edit}
-use Rattle.file_inlines.proofs.Going.{going-all, going-more, going-none}
-use Rattle.file_inlines.proofs.calls.inline_each.Goals as goal
+use Rattle.file_inlines.proofs.calls.inline_calls.Goals as goal
 
 pub loop-call-init : goal.loop-call-init
 loop-call-init c = record {
-  going = going-none _ _ _ _ _ _ _ c.new.ensures.items (ap (map seen_edit) c.new-2.ensures.items);
+  inlines = giving-none _ _ _ _;
   are_calls = λ d h. c.requires d h;
 }
 
@@ -23,10 +23,12 @@ pub loop-call-preserved : goal.loop-call-preserved
 loop-call-preserved c =
     let e : c.loop-call.rest.now ≡ c.in-Some.call.now ∷ c.in-Some.others.now = search rules in
     record {
-      going = going-more _ _ _ _ _ _ _ c.in-Some.call.now _ _ _ _ _ _ e c.in_ok-one.ensures
-          c.in_ok-push.ensures.items
-          (ap (map seen_edit) c.in_ok-append.ensures.items ∙ map-append seen_edit _ _)
-          c.loop-call.invariant.going;
+      inlines = giving-more _ _ _ _ c.in-Some.call.now _ _ _ _ _ _ _ e
+          c.loop-call.invariant.inlines c.in_ok-push.ensures.items (
+            map seen_edit c.in_ok-one.one.edits.items,
+            ap (map seen_edit) c.in_ok-append.ensures.items ∙ map-append seen_edit _ _,
+            c.in_ok-one.ensures,
+          );
       are_calls = λ d h. c.loop-call.invariant.are_calls d
           (subst (λ v. Contains v d) (sym e) (after-here c.in-Some.call.now
           c.in-Some.others.now d h));
@@ -34,5 +36,5 @@ loop-call-preserved c =
 
 pub returns : goal.returns
 returns c =
-    going-all _ _ _ _ _ _ _ _ (nil_from_length c.loop-call.rest.now c.in_default.ensures.cases)
-    c.loop-call.invariant.going
+    giving-all _ _ _ _ _ _ _ (nil_from_length c.loop-call.rest.now c.in_default.ensures.cases)
+    c.loop-call.invariant.inlines
