@@ -7,7 +7,7 @@ use Rattle.std.proofs.lemmas.Bool.{cases_lt, cond-false, le-ltb}
 use Rattle.std.specs.Prelude.{◌||◌, not, slice_get, if◌then◌else◌}
 use Rattle.std.specs.List.{AllByRecursion, cons_option, list_any}
 use Rattle.std.proofs.lemmas.List.{drop-map}
-use Rattle.call_faults.proofs.Collecting.{map-take}
+use Rattle.text_faults.proofs.Collecting.{map-take}
 use Rattle.rust_trees.specs.Leaves.{Leaf}
 use Rattle.rust_trees.specs.Forests.{IsPair}
 use Rattle.rust_trees.proofs.Growing.{pair-within}

@@ -13,7 +13,7 @@ use Rattle.call_faults.specs.CallFaults.{UnusedArguments, RedundantArguments, Na
 use Rattle.call_faults.specs.Labels.{Call, labels}
 use Rattle.call_faults.specs.Notes.{help, notes}
 use Rattle.call_faults.specs.Spots.{Edit, Help}
-use Rattle.call_faults.specs.declared.spots.Spot.{Spot}
+use Rattle.text_faults.specs.declared.spots.Spot.{Spot}
 use Rattle.call_faults.specs.Words.{TitleParts, call_id, title}
 use Rattle.std.specs.declared.ops.Range.{Range}
 use Rattle.source_lint.specs.declared.report.CallReading.{CallReading}

@@ -28,7 +28,7 @@ use Rattle.call_faults.specs.Arguments.{FormatArgument}
 use Rattle.call_faults.specs.Calls.{call_faults, kept_indices}
 use Rattle.call_faults.specs.Labels.{Call as CheckedCall}
 use Rattle.call_faults.specs.Spots.{counts_before}
-use Rattle.call_faults.specs.Texts.{text_fault}
+use Rattle.text_faults.specs.Texts.{text_fault}
 use Rattle.source_lint.specs.declared.macros.File.{File}
 use Rattle.source_lint.specs.declared.report.CallReading.{CallReading}
 use Rattle.source_lint.specs.declared.report.CallReading.TheVariants.{RedefinedMacro, ForeignMacro}

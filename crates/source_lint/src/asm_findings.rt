@@ -14,7 +14,7 @@ use crate::literals::Literal;
 use crate::report::{Finding, Help, Label, Note};
 use crate::spans::{Site, range_in, spot_range};
 use asm_faults::{AsmCall, AsmFault, AsmLabel, AsmNote, AsmSpot};
-use call_faults::Spot;
+use text_faults::Spot;
 use format_calls::Argument;
 use rust_trees::Token;
 use std::alloc::{AllocError, Global};

@@ -76,7 +76,7 @@ fn literal_form<'a>(tokens: &[Token<'a>], others: usize) -> Option<Form<'a>>
 }
 
 /// Returns the tokens of the argument with an index, or `None` if there is none.
-#[tactic(auto, using(call_faults::proofs::Collecting::at_index))]
+#[tactic(auto, using(text_faults::proofs::Collecting::at_index))]
 fn part_at<'s, 'a>(
     tokens: &'s [Token<'a>],
     arguments: &[Argument],
@@ -193,7 +193,7 @@ fn is_last(arguments: &[Argument], index: usize, close: usize) -> bool
 /// Returns what is wrong with arguments of which the one with the index `bad` is no expression, and
 /// the one with the index `string` should be the format string. `is_last` is whether the end of the
 /// call follows the one that is no expression.
-#[tactic(auto, using(call_faults::proofs::Collecting::at_index))]
+#[tactic(auto, using(text_faults::proofs::Collecting::at_index))]
 fn form_at<'a>(
     part: &Part<'a>,
     arguments: &[Argument],

@@ -3,12 +3,14 @@
 ghost use Rattle.std.specs.Prelude.{◌≡◌, ◌++◌, ℕ, List, IfOk, IfSome, OnOk, length, map};
 ghost use Rattle.std.specs.Prelude.{option_map, string_bytes};
 ghost use Rattle.std.specs.List.{All};
-ghost use Rattle.call_faults.specs.Seen.{seen_edit, seen_help, seen_label, seen_note};
+ghost use Rattle.call_faults.specs.Seen.{seen_edit, seen_help, seen_note};
+ghost use Rattle.text_faults.specs.Seen.{seen_label};
 ghost use Rattle.source_lint.specs.Findings.{Copies, HasText, IsSpan, TellEdits, TellsHelp};
 
 use crate::report::{Edit, Help, Label, Note};
 use crate::spans::{Site, range_in, spot_range};
-use call_faults::{CallEdit, CallHelp, CallLabel, CallNote, Spot};
+use call_faults::{CallEdit, CallHelp, CallNote};
+use text_faults::{CallLabel, Spot};
 use std::alloc::{AllocError, Global};
 use std::ops::Range;
 

@@ -1,7 +1,7 @@
 //! Texts of attributes that are checked, and the words for their faults.
 
 use crate::text_rows::TEXT_ROWS;
-use call_faults::{CallLabel, Spot};
+use text_faults::{CallLabel, Spot};
 use message_faults::{Message, MessageFault, message_faults, names_of};
 use std::alloc::{AllocError, Global};
 use std::collections::BTreeSet;

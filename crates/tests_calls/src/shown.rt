@@ -5,7 +5,8 @@ use crate::name_rows::NAMES;
 use crate::string_rows::STRINGS;
 use crate::tests::{arguments, plain};
 use crate::unused_rows::UNUSED;
-use call_faults::{CallHelp, CallLabel, CallNote, Spot, call_faults};
+use call_faults::{CallHelp, CallNote, call_faults};
+use text_faults::{CallLabel, Spot};
 use std::alloc::{AllocError, Global};
 use std::test::Fail;
 

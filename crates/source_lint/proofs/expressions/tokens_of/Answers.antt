@@ -1,7 +1,7 @@
 use Rattle.std.proofs.Common.{◌≡◌, ◌∙◌, ◌-◌, ap, arith, drop, length, length-drop, map, sym, take}
 use Rattle.std.proofs.lemmas.List.{drop-map, drop_min, take_all, take_min}
 use Rattle.rust_trees.specs.Leaves.{leaf}
-use Rattle.call_faults.proofs.Collecting.{map-take}
+use Rattle.text_faults.proofs.Collecting.{map-take}
 use Rattle.source_lint.proofs.expressions.tokens_of.Goals as goal
 
 pub returns : goal.returns

@@ -1,5 +1,5 @@
 use Rattle.std.proofs.Common.{refl, string_bytes}
-use Rattle.call_faults.specs.Seen.{seen_label}
+use Rattle.text_faults.specs.Seen.{seen_label}
 use Rattle.source_lint.specs.Findings.{IsSpan}
 use Rattle.source_lint.proofs.Elements.{all-more, mapped-more}
 use Rattle.source_lint.proofs.labels.labels.Goals as goal

@@ -1,7 +1,7 @@
 use Rattle.std.proofs.Common.{◌≡◌, map}
 use Rattle.std.specs.Prelude.{string_bytes}
 use Rattle.std.specs.List.{All}
-use Rattle.call_faults.specs.Seen.{seen_label}
+use Rattle.text_faults.specs.Seen.{seen_label}
 use Rattle.source_lint.specs.Findings.{IsSpan}
 use Rattle.source_lint.proofs.labels.labels.Given as goal
 

@@ -4,7 +4,7 @@ use Rattle.std.proofs.lemmas.Bool.Decides.{nat_tests}
 use Rattle.std.proofs.lemmas.List.{length-map}
 use Rattle.std.specs.List.{list_any}
 use Rattle.rust_trees.specs.Leaves.{leaf}
-use Rattle.call_faults.proofs.Collecting.{map-take}
+use Rattle.text_faults.proofs.Collecting.{map-take}
 use Rattle.source_lint.specs.Operators.{is_unclear}
 use Rattle.source_lint.proofs.operators.ends_by.Goals as goal
 

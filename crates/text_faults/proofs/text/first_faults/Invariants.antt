@@ -2,8 +2,8 @@ use Rattle.std.proofs.Common.{◌≡◌, length, map}
 use Rattle.rustc_parse_format.specs.SeenFaults.{seen_fault}
 use Rattle.rustc_parse_format.specs.State.{calls}
 use Rattle.rustc_parse_format.specs.World.{faults_in}
-use Rattle.call_faults.specs.Texts.{first_faults, or_else}
-use Rattle.call_faults.proofs.text.first_faults.Given as goal
+use Rattle.text_faults.specs.Texts.{first_faults, or_else}
+use Rattle.text_faults.proofs.text.first_faults.Given as goal
 
 -- The faults that were found, or else those of the calls that are left, are all.
 abbrev pub invariant-loop-parser : goal.invariant-loop-parser

@@ -2,10 +2,10 @@ use Rattle.std.proofs.Common.{◌≡◌, ◌<◌, ◌++◌, ◌∙◌, [], ap, a
 use Rattle.std.proofs.lemmas.Grind.{common_steps}
 use Rattle.rustc_parse_format.specs.Characters.{is_nil}
 use Rattle.rustc_parse_format.specs.SeenFaults.{seen_fault}
-use Rattle.call_faults.proofs.TextFaults.{first-found, first-last, first-preserved, first-shorter}
-use Rattle.call_faults.proofs.text.first_faults.Goals.{then-loop-parser-test+else-not-is_at_end}
-use Rattle.call_faults.proofs.text.first_faults.Goals.{else-loop-parser-test}
-use Rattle.call_faults.proofs.text.first_faults.Goals as goal
+use Rattle.text_faults.proofs.TextFaults.{first-found, first-last, first-preserved, first-shorter}
+use Rattle.text_faults.proofs.text.first_faults.Goals.{then-loop-parser-test+else-not-is_at_end}
+use Rattle.text_faults.proofs.text.first_faults.Goals.{else-loop-parser-test}
+use Rattle.text_faults.proofs.text.first_faults.Goals as goal
 
 pub loop-parser-smaller : goal.loop-parser-smaller
 loop-parser-smaller c =

@@ -19,7 +19,7 @@ use Rattle.rustc_parse_format.proofs.Walking.FaultlessStates.{no_errors-after_al
 use Rattle.rustc_parse_format.proofs.Walking.Progress.{call-lt}
 use Rattle.rustc_parse_format.proofs.Walking.StateWalks.{calls-none, calls-some}
 use Rattle.rustc_parse_format.proofs.Walking.Walks.{Faultless}
-use Rattle.call_faults.specs.Texts.{first_faults, or_else, shown, shown_of, text_fault}
+use Rattle.text_faults.specs.Texts.{first_faults, or_else, shown, shown_of, text_fault}
 
 -- one fault more of a call
 shown-last : {A : Type 0} (f : Fault A) (fs : List (Fault A)) (g : Fault A)

@@ -1,10 +1,10 @@
 use Rattle.std.proofs.Common.{◌∙◌, sym}
 use Rattle.std.specs.Prelude.{option_map}
 use Rattle.rustc_parse_format.specs.SeenFaults.{seen_fault}
-use Rattle.call_faults.proofs.TextFaults.{shown-first, shown-front, shown-kept, some-map}
-use Rattle.call_faults.proofs.text.chosen.Goals.{else-is_some-via-then-is_some+else-not-is_front}
-use Rattle.call_faults.proofs.text.chosen.Goals.{else-is_some-via-else-is_some}
-use Rattle.call_faults.proofs.text.chosen.Goals as goal
+use Rattle.text_faults.proofs.TextFaults.{shown-first, shown-front, shown-kept, some-map}
+use Rattle.text_faults.proofs.text.chosen.Goals.{else-is_some-via-then-is_some+else-not-is_front}
+use Rattle.text_faults.proofs.text.chosen.Goals.{else-is_some-via-else-is_some}
+use Rattle.text_faults.proofs.text.chosen.Goals as goal
 
 pub returns-then-not-is_front : goal.returns-then-not-is_front
 returns-then-not-is_front c = λ fs h. shown-kept fs (seen_fault c.args.fault)
