@@ -14,7 +14,7 @@ use Rattle.format_calls.specs.Counted.{AreTrees, AreUpTo, is_stop}
 use Rattle.format_calls.specs.declared.split.Argument.{Argument}
 use Rattle.asm_faults.specs.Operands.{Operand}
 use Rattle.source_lint.specs.Assembly.{operand_of, operands}
-use Rattle.source_lint.proofs.MovedArguments.{LiesIn}
+use Rattle.call_forms.proofs.MovedArguments.{LiesIn}
 
 -- The token of an index is there.
 pub leaf-there : {A B : Type 0} (f : A → B) (xs : List A) (i : ℕ) (d : A) → i < length xs

@@ -20,7 +20,7 @@ use Rattle.source_lint.specs.declared.report.Finding.{Finding}
 use Rattle.source_lint.specs.Macros.{begins_definition, definition, macro_names, names_after}
 use Rattle.source_lint.specs.Macros.{names_in}
 use Rattle.format_calls.specs.Marks.{is_word, word}
-use Rattle.source_lint.specs.Paths.{is_foreign}
+use Rattle.call_forms.specs.Paths.{is_foreign}
 use Rattle.source_lint.specs.Readings.{ReadsAll, ReadsUnless, Scope, is_log, name_of_leaf}
 use Rattle.source_lint.specs.Readings.{offset_of_leaf, skipped, skipped_if}
 use Rattle.source_lint.specs.Reports.{ReadsCalls}

@@ -1,4 +1,4 @@
-pub mod Angles
+pub mod ArgumentsBefore
 pub mod AsmSteps
 pub mod AsmTelling
 pub mod Calling
@@ -6,18 +6,13 @@ pub mod CheckedCalls
 pub mod Crs
 pub mod Defining
 pub mod Elements
-pub mod Embedding
 pub mod FrontSteps
 pub mod Gathering
 pub mod Joining
 pub mod Merging
-pub mod MovedArguments
 pub mod MovedAssembly
-pub mod MovedForms
 pub mod MovedReadings
 pub mod MovedStrings
-pub mod Operands
-pub mod PathWords
 pub mod Reporting
 pub mod Telling
 pub mod Texts

@@ -18,7 +18,7 @@ use Rattle.source_lint.specs.declared.report.Finding.{Finding}
 use Rattle.source_lint.specs.Readings.{ReadsAll, Scope}
 use Rattle.source_lint.specs.Reports.{AreCalls, ReadsCalls, ReadsParts}
 use Rattle.source_lint.proofs.Elements.{here, in-mapped, mapped-in, nothing-in}
-use Rattle.source_lint.proofs.Embedding.{Embeds, embeds}
+use Rattle.call_forms.proofs.Embedding.{Embeds, embeds}
 use Rattle.source_lint.proofs.MovedReadings.{reads-same}
 
 -- Calls in order stay so further on, and after others.

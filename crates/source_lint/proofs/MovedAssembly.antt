@@ -6,8 +6,7 @@ use Rattle.std.specs.Prelude.{nat_lt}
 use Rattle.std.proofs.lemmas.Bool.{cases_lt, cond-false, le-ltb}
 use Rattle.std.specs.Prelude.{◌||◌, not, slice_get, if◌then◌else◌}
 use Rattle.std.specs.List.{AllByRecursion, cons_option, list_any}
-use Rattle.std.proofs.lemmas.List.{drop-map}
-use Rattle.text_faults.proofs.Collecting.{map-take}
+use Rattle.std.proofs.lemmas.List.{drop-map, take-map}
 use Rattle.rust_trees.specs.Leaves.{Leaf}
 use Rattle.rust_trees.specs.Forests.{IsPair}
 use Rattle.rust_trees.proofs.Growing.{pair-within}
@@ -31,10 +30,10 @@ use Rattle.source_lint.specs.Assembly.{is_raw_part, is_unknown, is_unknown_part,
 use Rattle.source_lint.specs.Assembly.{named, operands}
 use Rattle.source_lint.specs.declared.report.CallReading.{CallReading}
 use Rattle.source_lint.specs.declared.report.Finding.{Finding}
-use Rattle.source_lint.proofs.Embedding.{Embeds}
-use Rattle.source_lint.proofs.MovedArguments.{LiesIn, arguments-lie, counted-at, less-same}
-use Rattle.source_lint.proofs.MovedArguments.{shifted, trees-at}
-use Rattle.source_lint.proofs.MovedForms.{tokens-same}
+use Rattle.call_forms.proofs.Embedding.{Embeds}
+use Rattle.call_forms.proofs.MovedArguments.{LiesIn, arguments-lie, counted-at, less-same}
+use Rattle.call_forms.proofs.MovedArguments.{shifted, trees-at}
+use Rattle.call_forms.proofs.MovedForms.{tokens-same}
 use Rattle.source_lint.proofs.MovedStrings.{name-same, text-same}
 
 token-same : (xs ys : List Leaf) (g i n from to : ℕ) (a : Argument) → Embeds xs ys g
@@ -195,7 +194,7 @@ asm-same xs ys g c bs r fs e p k h =
     let count = count-same xs ys g (c.name + 3) c.close bs e w all in
     let first : map (shifted g) (take n bs)
     ≡ take (template_count ys (map (shifted g) bs)) (map (shifted g) bs)
-    = map-take (shifted g) n bs ∙ ap (λ m. take m (map (shifted g) bs)) (sym count) in
+    = sym (take-map (shifted g) n bs) ∙ ap (λ m. take m (map (shifted g) bs)) (sym count) in
     let others : map (shifted g) (drop n bs)
     ≡ drop (template_count ys (map (shifted g) bs)) (map (shifted g) bs)
     = sym (drop-map (shifted g) n bs) ∙ ap (λ m. drop m (map (shifted g) bs)) (sym count) in

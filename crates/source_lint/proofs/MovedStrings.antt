@@ -22,9 +22,10 @@ use Rattle.format_calls.specs.Strings.{argument_or, begins_text, begins_text_at,
 use Rattle.format_calls.specs.Strings.{format_string, is_string, is_text, is_text_at, is_text_leaf}
 use Rattle.format_calls.specs.Strings.{reason_at, reason_of, text_or}
 use Rattle.source_lint.specs.Givens.{given, name_of, variable, variable_of, without_raw}
-use Rattle.source_lint.proofs.Embedding.{Embeds, mark-at}
+use Rattle.call_forms.proofs.Embedding.{Embeds, mark-at}
 use Rattle.source_lint.specs.Readings.{arguments_before}
-use Rattle.source_lint.proofs.MovedArguments.{LiesIn, before-at, before-lie, less-same, shifted}
+use Rattle.call_forms.proofs.MovedArguments.{LiesIn, less-same, shifted}
+use Rattle.source_lint.proofs.ArgumentsBefore.{before-at, before-lie}
 
 size-same : (g s e : ℕ) → ((g + e) - (g + s)) == 1 ≡ ((e - s) == 1)
 size-same g s e = let d : (g + e) - (g + s) ≡ e - s = omega arith in ap (λ n. n == 1) d

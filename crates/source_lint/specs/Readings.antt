@@ -38,13 +38,13 @@ use Rattle.source_lint.specs.declared.report.Finding.{Finding}
 use Rattle.source_lint.specs.Assembly.{ReadsTemplates}
 use Rattle.source_lint.specs.Findings.{AreFindings, reading_of}
 use Rattle.source_lint.specs.FormWords.{TellsForms}
-use Rattle.source_lint.specs.Expressions.{has_variable, joined}
-use Rattle.source_lint.specs.Forms.{form_here}
+use Rattle.call_forms.specs.Expressions.{has_variable, joined}
+use Rattle.call_forms.specs.Forms.{form_here}
 use Rattle.source_lint.specs.Givens.{given}
 use Rattle.source_lint.specs.Literals.{appends_newline, without_crs}
 use Rattle.source_lint.specs.Macros.{names_in}
-use Rattle.source_lint.specs.Operators.{lacks_operand}
-use Rattle.source_lint.specs.Paths.{is_foreign}
+use Rattle.call_forms.specs.Operators.{lacks_operand}
+use Rattle.call_forms.specs.Paths.{is_foreign}
 
 -- A parser at the start of a format string that is this literal and stands for the text t, with a
 -- newline appended or not.

@@ -15,7 +15,7 @@ ghost use Rattle.source_lint.specs.Attributes.{opens_front, sets, texts_from};
 ghost use Rattle.source_lint.specs.Findings.{HasSpans};
 ghost use Rattle.source_lint.specs.declared.report.Finding.{Finding as FindingValue};
 
-use crate::generics::parameters;
+use call_forms::parameters;
 use crate::messages::{Item, read_text};
 use crate::report::Finding;
 use format_calls::{Argument, arguments, closing, is_mark, is_text, is_text_leaf, token_at};

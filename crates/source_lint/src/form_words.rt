@@ -10,16 +10,16 @@ ghost use Rattle.source_lint.specs.FormWords.{form_help, form_id, form_label, fo
 ghost use Rattle.source_lint.specs.FormWords.{form_title, found_text, has_bytes, lacks_literal};
 ghost use Rattle.source_lint.specs.FormWords.{literal_for, missing_words};
 ghost use Rattle.source_lint.specs.FormWords.{more_placeholders};
-ghost use Rattle.source_lint.specs.Forms.{seen_form};
-ghost use Rattle.source_lint.specs.Keywords.{kind_word};
-ghost use Rattle.source_lint.specs.Operators.{seen_operator};
+ghost use Rattle.call_forms.specs.Forms.{seen_form};
+ghost use Rattle.call_forms.specs.Keywords.{kind_word};
+ghost use Rattle.call_forms.specs.Operators.{seen_operator};
 ghost use Rattle.source_lint.specs.declared.report.Finding.{Finding as FindingValue};
 ghost use Rattle.source_lint.specs.declared.report.Label.{Label as LabelValue};
 
-use crate::commas::Expected;
-use crate::forms::Form;
-use crate::keywords::kind_word;
-use crate::operators::Operator;
+use call_forms::Expected;
+use call_forms::Form;
+use call_forms::kind_word;
+use call_forms::Operator;
 use crate::report::{Edit, Finding, Help, Label};
 use crate::spans::{call_range, range_in, tokens_range};
 use format_calls::{Argument, Call};

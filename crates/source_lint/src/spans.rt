@@ -4,7 +4,7 @@ ghost use Rattle.std.specs.Prelude.{◌≤◌, length};
 ghost use Rattle.source_lint.specs.Findings.{IsSpan};
 
 use crate::literals::offset_in;
-use crate::paths::is_in_path;
+use call_forms::is_in_path;
 use text_faults::Spot;
 use format_calls::{Argument, token_at};
 use rust_trees::Token;

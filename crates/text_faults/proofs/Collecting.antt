@@ -65,11 +65,4 @@ gathered-rest_after f g h xs i d before old new o l e k m =
     ∙ ap (λ p. before ++ (filter_map h (map f (take i xs)) ++ cons_option p [])) k
     ∙ ap (λ ys. before ++ ys) (sym (filter_map-next f h xs i d l))
 
--- the first elements
-pub map-take : {A X : Type 0} (f : A → X) (n : ℕ) (xs : List A)
-    → map f (take n xs) ≡ take n (map f xs)
-map-take f zero xs = refl
-map-take f (suc n) [] = refl
-map-take f (suc n) (x ∷ xs) = ap (λ ys. f x ∷ ys) (map-take f n xs)
-
 pub ruleset at_index = (slice_get-map)

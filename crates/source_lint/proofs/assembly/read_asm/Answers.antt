@@ -5,7 +5,7 @@ use Rattle.rust_trees.proofs.Growing.{pair-within}
 use Rattle.format_calls.specs.Assembly.{template_count}
 use Rattle.source_lint.specs.Assembly.{are_raw, is_unknown, operands}
 use Rattle.source_lint.proofs.AsmSteps.{all-after, starts-in, starts-there, whole-trees}
-use Rattle.source_lint.proofs.MovedArguments.{arguments-lie}
+use Rattle.call_forms.proofs.MovedArguments.{arguments-lie}
 use Rattle.source_lint.proofs.MovedAssembly.{all-front, all-rest, reads-as}
 use Rattle.source_lint.proofs.assembly.read_asm.Goals as goal
 

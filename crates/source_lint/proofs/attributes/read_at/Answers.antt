@@ -9,7 +9,7 @@ use Rattle.format_calls.specs.declared.split.Argument.{Argument}
 use Rattle.source_lint.specs.Attributes.{ReadsTexts, texts_from}
 use Rattle.source_lint.proofs.AsmSteps.{starts-there}
 use Rattle.source_lint.proofs.Calling.{opening-once}
-use Rattle.source_lint.proofs.MovedArguments.{arguments-lie}
+use Rattle.call_forms.proofs.MovedArguments.{arguments-lie}
 use Rattle.source_lint.proofs.attributes.read_at.Goals as goal
 
 pub returns-in_default-clause-read : goal.returns-in_default-clause-read

@@ -3,7 +3,8 @@ use Rattle.rust_trees.specs.Leaves.{leaf}
 use Rattle.source_lint.specs.Givens.{given}
 use Rattle.source_lint.specs.Readings.{arguments_before}
 use Rattle.source_lint.proofs.Calling.{after-one, reads-by, string-there}
-use Rattle.source_lint.proofs.MovedArguments.{LiesIn, arguments-lie, before-all}
+use Rattle.call_forms.proofs.MovedArguments.{LiesIn, arguments-lie}
+use Rattle.source_lint.proofs.ArgumentsBefore.{before-all}
 use Rattle.source_lint.proofs.MovedStrings.{lies-drop, lies-get}
 use Rattle.source_lint.proofs.readings.read_at.Goals as goal
 
