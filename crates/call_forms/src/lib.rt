@@ -1,5 +1,5 @@
-//! The faults in the arguments of a call whose format string is not read ([`form_here`]), the paths of
-//! macros, and the generic parameters of traits, from tokens.
+//! The faults in the arguments of a call whose format string is not read ([`form_here`]), the paths
+//! of macros, and the generic parameters of traits.
 #![tactic(auto)]
 
 mod commas;

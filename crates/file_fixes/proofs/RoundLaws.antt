@@ -2,7 +2,7 @@
 use Rattle.std.proofs.Common.{◌≡◌, ◌++◌, ◌+◌, ◌-◌, ◌<◌, ℕ, zero, suc, Bool, List, []}
 use Rattle.std.proofs.Common.{append_assoc, arith, inl, inr, refl, subst, sym}
 use Rattle.format_calls.specs.Rows.{Entry}
-use Rattle.source_lint.specs.declared.report.Report.{Report}
+use Rattle.source_report.specs.declared.report.Report.{Report}
 use Rattle.file_fixes.specs.FileFixes.{AreRounds, IsRound}
 
 -- Without a round nothing changes.

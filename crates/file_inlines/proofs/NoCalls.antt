@@ -7,9 +7,9 @@ use Rattle.format_calls.specs.declared.listing.Call.{Call}
 use Rattle.source_lint.specs.Macros.{macro_names}
 use Rattle.source_lint.specs.Readings.{ReadsAll, Scope}
 use Rattle.source_lint.specs.Reports.{IsReport}
-use Rattle.source_lint.specs.declared.report.CallReading.{CallReading}
-use Rattle.source_lint.specs.declared.report.Finding.{Finding}
-use Rattle.source_lint.specs.declared.report.Report.{Report}
+use Rattle.source_report.specs.declared.report.CallReading.{CallReading}
+use Rattle.source_report.specs.declared.report.Finding.{Finding}
+use Rattle.source_report.specs.declared.report.Report.{Report}
 use Rattle.file_inlines.specs.CallInlines.{InlinesAll}
 use Rattle.file_inlines.specs.FileInlines.{InlinesFile}
 

@@ -8,7 +8,7 @@ use Rattle.format_calls.specs.declared.listing.Call.{Call}
 use Rattle.source_lint.specs.Files.{AreLeaves}
 use Rattle.source_lint.specs.Macros.{macro_names}
 use Rattle.source_lint.specs.Reports.{AreCalls, IsReport}
-use Rattle.source_lint.specs.declared.report.Report.{Report}
+use Rattle.source_report.specs.declared.report.Report.{Report}
 use Rattle.file_fixes.specs.FileFixes.{IsNoWorse, bytes_or}
 use Rattle.inlined_arguments.specs.Edits.{AreApart, Edit, edited}
 use Rattle.file_inlines.specs.CallInlines.{InlinesAll}

@@ -22,9 +22,10 @@ use format_calls::{Argument, Call, Part, Rule, arguments, extent_of, is_standard
 use inlined_arguments::{Call as FormatCall, Edit, Left, inlined};
 use rust_trees::Token;
 use source_lint::{
-    CallReading, File, appends_newline, argument_at, arguments_before, captures, ends_early,
-    index_or, name_at, other_macro, read_literal,
+    File, appends_newline, argument_at, arguments_before, captures, ends_early, index_or, name_at,
+    other_macro, read_literal,
 };
+use source_report::CallReading;
 use std::alloc::{AllocError, Global};
 
 /// What inlining makes of a call.

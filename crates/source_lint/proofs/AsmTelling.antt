@@ -5,7 +5,7 @@ use Rattle.std.proofs.lemmas.List.{append_assoc, append-nil}
 use Rattle.std.proofs.lemmas.List.Elements.{filter-append}
 use Rattle.asm_faults.specs.AsmFaults.{AsmFault}
 use Rattle.asm_faults.specs.Operands.{Operand}
-use Rattle.source_lint.specs.declared.report.Finding.{Finding}
+use Rattle.source_report.specs.declared.report.Finding.{Finding}
 use Rattle.source_lint.specs.AsmFindings.{TellAllAsm, counted_asm, is_template_fault}
 
 tell-join : (ss : List Operand) (fs gs : List AsmFault) (xs ys : List Finding)

@@ -14,8 +14,8 @@ use Rattle.format_calls.specs.Arguments.{AreArguments}
 use Rattle.format_calls.specs.declared.listing.Call.{Call}
 use Rattle.format_calls.specs.declared.split.Argument.{Argument}
 use Rattle.call_faults.specs.Arguments.{FormatArgument}
-use Rattle.source_lint.specs.declared.report.CallReading.{CallReading}
-use Rattle.source_lint.specs.declared.report.Finding.{Finding}
+use Rattle.source_report.specs.declared.report.CallReading.{CallReading}
+use Rattle.source_report.specs.declared.report.Finding.{Finding}
 use Rattle.source_lint.specs.Readings.{ReadsBy, ReadsLiteral, ReadsUnless, index_or}
 
 -- One token opens the pair that a token closes.

@@ -15,8 +15,8 @@ use Rattle.std.proofs.lemmas.Map.Text.{is_eq-slice_cmp}
 use Rattle.rust_trees.specs.Leaves.{AreLeft, Leaf, Unread}
 use Rattle.format_calls.specs.declared.listing.Call.{Call}
 use Rattle.format_calls.specs.declared.table.Rule.{Rule}
-use Rattle.source_lint.specs.declared.report.CallReading.{CallReading}
-use Rattle.source_lint.specs.declared.report.Finding.{Finding}
+use Rattle.source_report.specs.declared.report.CallReading.{CallReading}
+use Rattle.source_report.specs.declared.report.Finding.{Finding}
 use Rattle.source_lint.specs.Macros.{begins_definition, definition, macro_names, names_after}
 use Rattle.source_lint.specs.Macros.{names_in}
 use Rattle.format_calls.specs.Marks.{is_word, word}

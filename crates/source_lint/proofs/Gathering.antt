@@ -2,7 +2,7 @@
 use Rattle.std.proofs.Common.{◌≡◌, ◌<◌, ◌+◌, ◌++◌, ◌∷◌, ℕ, List, [], ap, drop, get_or, length, map}
 use Rattle.std.proofs.Common.{subst, sym, ◌∙◌}
 use Rattle.std.proofs.lemmas.List.{append_assoc, append-nil, drop_more}
-use Rattle.source_lint.specs.declared.report.Finding.{Finding}
+use Rattle.source_report.specs.declared.report.Finding.{Finding}
 
 -- The findings so far, where R says which are those in elements: these are all, and those are left.
 pub record Gathered {A : Type 0} (R : List A → List Finding → Type 0) (all left : List A)

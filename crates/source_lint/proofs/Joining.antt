@@ -8,8 +8,8 @@ use Rattle.format_calls.specs.Calls.{IsCall}
 use Rattle.format_calls.specs.Parts.{IsPart}
 use Rattle.format_calls.specs.Rows.{Entry}
 use Rattle.format_calls.specs.declared.listing.Call.{Call}
-use Rattle.source_lint.specs.declared.report.CallReading.{CallReading}
-use Rattle.source_lint.specs.declared.report.Finding.{Finding}
+use Rattle.source_report.specs.declared.report.CallReading.{CallReading}
+use Rattle.source_report.specs.declared.report.Finding.{Finding}
 use Rattle.source_lint.specs.Readings.{Reads, ReadsAll, Scope}
 use Rattle.source_lint.specs.Reports.{ReadsCalls, ReadsParts}
 use Rattle.source_lint.proofs.Merging.{merged}

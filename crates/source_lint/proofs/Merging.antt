@@ -13,8 +13,8 @@ use Rattle.format_calls.specs.Parts.{IsPart, moved}
 use Rattle.format_calls.specs.Rows.{Entry}
 use Rattle.format_calls.specs.declared.listing.Call.{Call}
 use Rattle.format_calls.proofs.CallSteps.{call-within}
-use Rattle.source_lint.specs.declared.report.CallReading.{CallReading}
-use Rattle.source_lint.specs.declared.report.Finding.{Finding}
+use Rattle.source_report.specs.declared.report.CallReading.{CallReading}
+use Rattle.source_report.specs.declared.report.Finding.{Finding}
 use Rattle.source_lint.specs.Readings.{ReadsAll, Scope}
 use Rattle.source_lint.specs.Reports.{AreCalls, ReadsCalls, ReadsParts}
 use Rattle.source_lint.proofs.Elements.{here, in-mapped, mapped-in, nothing-in}

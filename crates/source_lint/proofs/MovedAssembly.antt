@@ -28,8 +28,8 @@ use Rattle.source_lint.specs.Assembly.{AreTemplates, HaveNoText}
 use Rattle.source_lint.specs.Assembly.{ReadsLiterals, ReadsTemplates, are_operands, are_raw}
 use Rattle.source_lint.specs.Assembly.{is_raw_part, is_unknown, is_unknown_part, operand_of}
 use Rattle.source_lint.specs.Assembly.{named, operands}
-use Rattle.source_lint.specs.declared.report.CallReading.{CallReading}
-use Rattle.source_lint.specs.declared.report.Finding.{Finding}
+use Rattle.source_report.specs.declared.report.CallReading.{CallReading}
+use Rattle.source_report.specs.declared.report.Finding.{Finding}
 use Rattle.call_forms.proofs.Embedding.{Embeds}
 use Rattle.call_forms.proofs.MovedArguments.{LiesIn, arguments-lie, counted-at, less-same}
 use Rattle.call_forms.proofs.MovedArguments.{shifted, trees-at}

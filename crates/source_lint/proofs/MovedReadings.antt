@@ -16,8 +16,8 @@ use Rattle.format_calls.specs.declared.split.Argument.{Argument}
 use Rattle.format_calls.specs.declared.table.Rule.{Rule}
 use Rattle.format_calls.specs.declared.table.Rule.TheVariants.{At, IndexByEdition, FirstLiteral}
 use Rattle.format_calls.specs.declared.table.Rule.TheVariants.{Templates}
-use Rattle.source_lint.specs.declared.report.CallReading.{CallReading}
-use Rattle.source_lint.specs.declared.report.Finding.{Finding}
+use Rattle.source_report.specs.declared.report.CallReading.{CallReading}
+use Rattle.source_report.specs.declared.report.Finding.{Finding}
 use Rattle.source_lint.specs.Literals.{appends_newline}
 use Rattle.source_lint.specs.FormWords.{TellsForms}
 use Rattle.call_forms.specs.Expressions.{joined}

@@ -9,7 +9,7 @@ use Rattle.asm_faults.specs.Notes.{help, notes}
 use Rattle.asm_faults.specs.Operands.{Operand}
 use Rattle.asm_faults.specs.Words.{asm_id, title}
 use Rattle.asm_faults.specs.declared.faults.AsmSpot.{AsmSpot}
-use Rattle.source_lint.specs.declared.report.Finding.{Finding}
+use Rattle.source_report.specs.declared.report.Finding.{Finding}
 
 -- How many places a note shows.
 abbrev pub shown_count : Option AsmSpot → ℕ

@@ -17,9 +17,9 @@ use Rattle.asm_faults.specs.Calls.{asm_faults}
 use Rattle.asm_faults.specs.Operands.{Operand, Named, Register, Unnamed, slots_after}
 use Rattle.asm_faults.specs.Templates.{Template}
 use Rattle.source_lint.specs.declared.asm_findings.Read.{Read}
-use Rattle.source_lint.specs.declared.report.CallReading.{CallReading}
-use Rattle.source_lint.specs.declared.report.CallReading.TheVariants.{Malformed}
-use Rattle.source_lint.specs.declared.report.Finding.{Finding}
+use Rattle.source_report.specs.declared.report.CallReading.{CallReading}
+use Rattle.source_report.specs.declared.report.CallReading.TheVariants.{Malformed}
+use Rattle.source_report.specs.declared.report.Finding.{Finding}
 use Rattle.source_lint.specs.AsmFindings.{TellAllAsm, counted_asm}
 use Rattle.source_lint.specs.Findings.{reading_of}
 use Rattle.source_lint.specs.Givens.{name_of}

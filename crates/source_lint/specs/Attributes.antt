@@ -18,7 +18,7 @@ use Rattle.format_calls.specs.Strings.{is_text_leaf}
 use Rattle.format_calls.specs.declared.split.Argument.{Argument}
 use Rattle.message_faults.specs.Messages.{MessageFault, message_faults}
 use Rattle.message_faults.specs.Words.{help, labels, message_id, title}
-use Rattle.source_lint.specs.declared.report.Finding.{Finding}
+use Rattle.source_report.specs.declared.report.Finding.{Finding}
 use Rattle.call_forms.specs.Generics.{parameters}
 use Rattle.source_lint.specs.Literals.{without_crs}
 

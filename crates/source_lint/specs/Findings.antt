@@ -16,11 +16,11 @@ use Rattle.call_faults.specs.Spots.{Edit, Help}
 use Rattle.text_faults.specs.declared.spots.Spot.{Spot}
 use Rattle.call_faults.specs.Words.{TitleParts, call_id, title}
 use Rattle.std.specs.declared.ops.Range.{Range}
-use Rattle.source_lint.specs.declared.report.CallReading.{CallReading}
-use Rattle.source_lint.specs.declared.report.CallReading.TheVariants.{Whole, StringAlone}
-use Rattle.source_lint.specs.declared.report.Edit.{Edit as FileEdit}
-use Rattle.source_lint.specs.declared.report.Finding.{Finding}
-use Rattle.source_lint.specs.declared.report.Help.{Help as FileHelp}
+use Rattle.source_report.specs.declared.report.CallReading.{CallReading}
+use Rattle.source_report.specs.declared.report.CallReading.TheVariants.{Whole, StringAlone}
+use Rattle.source_report.specs.declared.report.Edit.{Edit as FileEdit}
+use Rattle.source_report.specs.declared.report.Finding.{Finding}
+use Rattle.source_report.specs.declared.report.Help.{Help as FileHelp}
 
 -- The parts of a call that titles tell, with the numbers that are too large.
 abbrev pub report_in : Call → List ℕ → TitleParts Place

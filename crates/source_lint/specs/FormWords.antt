@@ -3,8 +3,8 @@ use Rattle.std.specs.Prelude.{◌≡◌, ◌++◌, ℕ, zero, suc, Bool, true, f
 use Rattle.std.specs.Prelude.{Option, Some, None, codes, option_map, string_bytes, if◌then◌else◌}
 use Rattle.call_faults.specs.Spots.{Help, edit}
 use Rattle.text_faults.specs.declared.spots.Spot.TheVariants.{Argument as WholeArgument}
-use Rattle.source_lint.specs.declared.report.Finding.{Finding}
-use Rattle.source_lint.specs.declared.report.Label.{Label}
+use Rattle.source_report.specs.declared.report.Finding.{Finding}
+use Rattle.source_report.specs.declared.report.Label.{Label}
 use Rattle.source_lint.specs.Findings.{TellsHelp}
 use Rattle.call_forms.specs.Keywords.{kind_word}
 use Rattle.call_forms.specs.Forms.{Form, NoString, NoLiteral, NoComma, NoOperand, NoExpression}

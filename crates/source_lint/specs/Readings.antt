@@ -30,11 +30,12 @@ use Rattle.call_faults.specs.Labels.{Call as CheckedCall}
 use Rattle.call_faults.specs.Spots.{counts_before}
 use Rattle.text_faults.specs.Texts.{text_fault}
 use Rattle.source_lint.specs.declared.macros.File.{File}
-use Rattle.source_lint.specs.declared.report.CallReading.{CallReading}
-use Rattle.source_lint.specs.declared.report.CallReading.TheVariants.{RedefinedMacro, ForeignMacro}
-use Rattle.source_lint.specs.declared.report.CallReading.TheVariants.{NoExpression}
-use Rattle.source_lint.specs.declared.report.CallReading.TheVariants.{NoComma, Unread, Malformed}
-use Rattle.source_lint.specs.declared.report.Finding.{Finding}
+use Rattle.source_report.specs.declared.report.CallReading.{CallReading}
+use Rattle.source_report.specs.declared.report.CallReading.TheVariants.{RedefinedMacro}
+use Rattle.source_report.specs.declared.report.CallReading.TheVariants.{ForeignMacro}
+use Rattle.source_report.specs.declared.report.CallReading.TheVariants.{NoExpression}
+use Rattle.source_report.specs.declared.report.CallReading.TheVariants.{NoComma, Unread, Malformed}
+use Rattle.source_report.specs.declared.report.Finding.{Finding}
 use Rattle.source_lint.specs.Assembly.{ReadsTemplates}
 use Rattle.source_lint.specs.Findings.{AreFindings, reading_of}
 use Rattle.source_lint.specs.FormWords.{TellsForms}

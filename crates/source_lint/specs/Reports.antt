@@ -7,9 +7,9 @@ use Rattle.format_calls.specs.Calls.{IsCall, Rises}
 use Rattle.format_calls.specs.Parts.{IsPart}
 use Rattle.format_calls.specs.Rows.{Entry}
 use Rattle.format_calls.specs.declared.listing.Call.{Call}
-use Rattle.source_lint.specs.declared.report.CallReading.{CallReading}
-use Rattle.source_lint.specs.declared.report.Finding.{Finding}
-use Rattle.source_lint.specs.declared.report.Report.{Report}
+use Rattle.source_report.specs.declared.report.CallReading.{CallReading}
+use Rattle.source_report.specs.declared.report.Finding.{Finding}
+use Rattle.source_report.specs.declared.report.Report.{Report}
 use Rattle.source_lint.specs.Attributes.{ReadsItems}
 use Rattle.source_lint.specs.Macros.{macro_names}
 use Rattle.source_lint.specs.Files.{AreLeaves}

@@ -8,17 +8,17 @@ ghost use Rattle.asm_faults.specs.Seen.{seen_fault, seen_label, seen_note, seen_
 ghost use Rattle.source_lint.specs.AsmFindings.{TellAllAsm, TellsAsm, counted_asm};
 ghost use Rattle.source_lint.specs.AsmFindings.{is_template_fault, shown_count};
 ghost use Rattle.source_lint.specs.Findings.{HasSpans, IsSpan};
-ghost use Rattle.source_lint.specs.declared.report.Finding.{Finding as FindingValue};
+ghost use Rattle.source_report.specs.declared.report.Finding.{Finding as FindingValue};
 
 use crate::literals::Literal;
-use crate::report::{Finding, Help, Label, Note};
 use crate::spans::{Site, range_in, spot_range};
 use asm_faults::{AsmCall, AsmFault, AsmLabel, AsmNote, AsmSpot};
-use text_faults::Spot;
 use format_calls::Argument;
 use rust_trees::Token;
+use source_report::{Finding, Help, Label, Note};
 use std::alloc::{AllocError, Global};
 use std::ops::Range;
+use text_faults::Spot;
 
 /// A template of a call.
 #[derive(Drop)]

@@ -19,16 +19,16 @@ ghost use Rattle.source_lint.specs.Assembly.{ReadsLiterals, ReadsTemplates, are_
 ghost use Rattle.source_lint.specs.Assembly.{is_raw_part, is_unknown, is_unknown_part, operand_of};
 ghost use Rattle.source_lint.specs.Assembly.{operands, read_templates, seen_read};
 ghost use Rattle.source_lint.specs.Findings.{HasSpans};
-ghost use Rattle.source_lint.specs.declared.report.Finding.{Finding as FindingValue};
+ghost use Rattle.source_report.specs.declared.report.Finding.{Finding as FindingValue};
 
 use crate::asm_findings::{AsmSite, Read, put_findings};
 use crate::findings::reading_of;
 use crate::givens::name_of;
 use crate::literals::{dropped_crs, read_literal};
-use crate::report::{CallReading, Finding};
 use asm_faults::{Operand, Template, asm_faults};
 use format_calls::{Argument, AsmPart, Call, Part, asm_part, extent_of, template_count};
 use rust_trees::Token;
+use source_report::{CallReading, Finding};
 use std::alloc::{AllocError, Global};
 
 /// Returns the operand that an argument is, or `None` if it is none.

@@ -13,14 +13,14 @@ ghost use Rattle.source_lint.specs.Attributes.{begins_attribute, counts, is_modi
 ghost use Rattle.source_lint.specs.Attributes.{is_word_there, literal_list, literal_of, name_text};
 ghost use Rattle.source_lint.specs.Attributes.{opens_front, sets, texts_from};
 ghost use Rattle.source_lint.specs.Findings.{HasSpans};
-ghost use Rattle.source_lint.specs.declared.report.Finding.{Finding as FindingValue};
+ghost use Rattle.source_report.specs.declared.report.Finding.{Finding as FindingValue};
 
-use call_forms::parameters;
 use crate::messages::{Item, read_text};
-use crate::report::Finding;
+use call_forms::parameters;
 use format_calls::{Argument, arguments, closing, is_mark, is_text, is_text_leaf, token_at};
 use message_faults::names_of;
 use rust_trees::{Source, Token};
+use source_report::Finding;
 use std::alloc::{AllocError, Global};
 
 /// Returns whether the token of an index is this word.

@@ -7,12 +7,12 @@ ghost use Rattle.call_faults.specs.Seen.{seen_call, seen_edit, seen_fault, seen_
 ghost use Rattle.source_lint.specs.Findings.{AreFindings, HasSpans, TellAll, Tells};
 ghost use Rattle.source_lint.specs.Findings.{copies, counted_faults, counted_help, is_text_fault};
 ghost use Rattle.source_lint.specs.Findings.{reading_of};
-ghost use Rattle.source_lint.specs.declared.report.Finding.{Finding as FindingValue};
+ghost use Rattle.source_report.specs.declared.report.Finding.{Finding as FindingValue};
 
 use crate::labels::{help, labels, notes, primary_span};
-use crate::report::{CallReading, Finding};
 use crate::spans::Site;
 use call_faults::{CallEdit, CallFault, CallHelp, CallReport};
+use source_report::{CallReading, Finding};
 use std::alloc::{AllocError, Global};
 
 /// Returns how much of a call is read where the number of its arguments is known, and where not.

@@ -13,17 +13,14 @@ ghost use Rattle.source_lint.specs.FormWords.{more_placeholders};
 ghost use Rattle.call_forms.specs.Forms.{seen_form};
 ghost use Rattle.call_forms.specs.Keywords.{kind_word};
 ghost use Rattle.call_forms.specs.Operators.{seen_operator};
-ghost use Rattle.source_lint.specs.declared.report.Finding.{Finding as FindingValue};
-ghost use Rattle.source_lint.specs.declared.report.Label.{Label as LabelValue};
+ghost use Rattle.source_report.specs.declared.report.Finding.{Finding as FindingValue};
+ghost use Rattle.source_report.specs.declared.report.Label.{Label as LabelValue};
 
-use call_forms::Expected;
-use call_forms::Form;
-use call_forms::kind_word;
-use call_forms::Operator;
-use crate::report::{Edit, Finding, Help, Label};
 use crate::spans::{call_range, range_in, tokens_range};
+use call_forms::{Expected, Form, Operator, kind_word};
 use format_calls::{Argument, Call};
 use rust_trees::Token;
+use source_report::{Edit, Finding, Help, Label};
 use std::alloc::{AllocError, Global};
 use std::ops::Range;
 

@@ -7,12 +7,12 @@ ghost use Rattle.call_faults.specs.Seen.{seen_edit, seen_help, seen_note};
 ghost use Rattle.text_faults.specs.Seen.{seen_label};
 ghost use Rattle.source_lint.specs.Findings.{Copies, HasText, IsSpan, TellEdits, TellsHelp};
 
-use crate::report::{Edit, Help, Label, Note};
 use crate::spans::{Site, range_in, spot_range};
 use call_faults::{CallEdit, CallHelp, CallNote};
-use text_faults::{CallLabel, Spot};
+use source_report::{Edit, Help, Label, Note};
 use std::alloc::{AllocError, Global};
 use std::ops::Range;
+use text_faults::{CallLabel, Spot};
 
 /// Returns labels of a call with their ranges. Returns `Err` if an allocation fails.
 pub fn labels(

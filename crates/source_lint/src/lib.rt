@@ -13,7 +13,6 @@ mod literals;
 mod macros;
 mod messages;
 mod readings;
-mod report;
 mod spans;
 
 pub use givens::name_of;
@@ -21,4 +20,3 @@ pub use lint::file_faults;
 pub use literals::{Literal, appends_newline, dropped_crs, offset_in, read_literal, without_crs};
 pub use macros::{File, macro_names, name_at, other_macro};
 pub use readings::{argument_at, arguments_before, captures, ends_early, index_or};
-pub use report::{CallReading, Edit, Finding, Help, Label, Note, Options, Report};

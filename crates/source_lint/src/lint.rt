@@ -9,15 +9,15 @@ ghost use Rattle.source_lint.specs.Files.{AreLeaves};
 ghost use Rattle.source_lint.specs.Findings.{HasSpans};
 ghost use Rattle.source_lint.specs.Readings.{scope};
 ghost use Rattle.source_lint.specs.Reports.{IsReport, ReadsAttributes, ReadsCalls};
-ghost use Rattle.source_lint.specs.declared.report.CallReading.{CallReading as ReadingValue};
-ghost use Rattle.source_lint.specs.declared.report.Finding.{Finding as FindingValue};
+ghost use Rattle.source_report.specs.declared.report.CallReading.{CallReading as ReadingValue};
+ghost use Rattle.source_report.specs.declared.report.Finding.{Finding as FindingValue};
 
 use crate::attributes::read_attributes;
 use crate::macros::{File, macro_names};
 use crate::readings::read_call;
-use crate::report::{CallReading, Finding, Options, Report};
 use format_calls::{Part, Table, calls, next_part};
 use rust_trees::{Balance, Source, Tokens};
+use source_report::{CallReading, Finding, Options, Report};
 use std::alloc::{AllocError, Global};
 
 /// The readings of the calls of a file so far, and the findings in these calls.

@@ -9,14 +9,14 @@ ghost use Rattle.message_faults.specs.Seen.{HasNames, seen_fault, start};
 ghost use Rattle.source_lint.specs.Attributes.{ReadsText, TellMessages, TellsMessage};
 ghost use Rattle.source_lint.specs.Findings.{HasSpans};
 ghost use Rattle.source_lint.specs.Literals.{without_crs};
-ghost use Rattle.source_lint.specs.declared.report.Finding.{Finding as FindingValue};
+ghost use Rattle.source_report.specs.declared.report.Finding.{Finding as FindingValue};
 
 use crate::labels::{labels, primary_span};
 use crate::literals::{dropped_crs, read_literal};
-use crate::report::{Finding, Help};
 use crate::spans::Site;
 use message_faults::{Message, MessageFault, message_faults};
 use rust_trees::Token;
+use source_report::{Finding, Help};
 use std::alloc::{AllocError, Global};
 use std::collections::BTreeSet;
 

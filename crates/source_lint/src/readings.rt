@@ -19,22 +19,20 @@ ghost use Rattle.source_lint.specs.Readings.{are_expressions, arguments_before, 
 ghost use Rattle.source_lint.specs.Readings.{counted_givens, lack_expression};
 ghost use Rattle.source_lint.specs.Readings.{ends_early, has_expressions, index_or, is_empty};
 ghost use Rattle.source_lint.specs.Readings.{name_at, scope};
-ghost use Rattle.source_lint.specs.declared.report.Finding.{Finding as FindingValue};
+ghost use Rattle.source_report.specs.declared.report.Finding.{Finding as FindingValue};
 
 use crate::assembly::read_asm;
-use call_forms::{have_joined, have_variables, tokens_of};
 use crate::findings::{put_findings, reading_of};
 use crate::form_words::put_form;
-use call_forms::form_here;
 use crate::givens::givens;
 use crate::literals::{appends_newline, dropped_crs, read_literal};
 use crate::macros::{File, name_at, other_macro};
-use call_forms::lacks_operand;
-use crate::report::{CallReading, Finding};
 use crate::spans::Site;
 use call_faults::{FormatArgument, FormatString, call_faults};
+use call_forms::{form_here, have_joined, have_variables, lacks_operand, tokens_of};
 use format_calls::{Argument, Call, Part, Rule, arguments, extent_of, format_string, token_at};
 use rust_trees::Token;
+use source_report::{CallReading, Finding};
 use std::alloc::{AllocError, Global};
 
 /// Returns arguments as placeholders refer to them, or none if their number is not known.

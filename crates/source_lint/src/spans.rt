@@ -5,10 +5,10 @@ ghost use Rattle.source_lint.specs.Findings.{IsSpan};
 
 use crate::literals::offset_in;
 use call_forms::is_in_path;
-use text_faults::Spot;
 use format_calls::{Argument, token_at};
 use rust_trees::Token;
 use std::ops::Range;
+use text_faults::Spot;
 
 /// A call and its parts in the file.
 #[derive(Clone, Copy)]

@@ -6,9 +6,9 @@ use crate::string_rows::STRINGS;
 use crate::tests::{arguments, plain};
 use crate::unused_rows::UNUSED;
 use call_faults::{CallHelp, CallNote, call_faults};
-use text_faults::{CallLabel, Spot};
 use std::alloc::{AllocError, Global};
 use std::test::Fail;
+use text_faults::{CallLabel, Spot};
 
 /// Where an argument is, in bytes from the start of the literal.
 #[derive(Clone, Copy)]

@@ -1,4 +1,4 @@
-//! The fault of a text that rustc shows ([`text_fault`]), and the places and labels of its messages.
+//! The fault of a text that rustc shows ([`text_fault`]), and places and labels of messages.
 #![tactic(auto)]
 
 mod spots;

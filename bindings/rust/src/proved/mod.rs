@@ -2,6 +2,7 @@
 
 pub mod asm_faults;
 pub mod call_faults;
+pub mod call_forms;
 pub mod drawn_edits;
 pub mod drawn_faults;
 pub mod drawn_labels;
@@ -11,6 +12,8 @@ pub mod fault_fixes;
 pub mod fault_rules;
 pub mod file_fixes;
 pub mod file_inlines;
+#[cfg(feature = "std")]
+pub mod finding_forms;
 pub mod format_calls;
 #[cfg(feature = "std")]
 pub mod format_lint;
@@ -20,6 +23,8 @@ pub mod formatlint;
 #[cfg(feature = "std")]
 pub mod formatread;
 pub mod inlined_arguments;
+#[cfg(feature = "std")]
+pub mod lint_program;
 #[cfg(feature = "std")]
 pub mod lint_words;
 #[cfg(feature = "std")]
@@ -37,5 +42,7 @@ pub mod rust_tokens;
 pub mod rust_trees;
 pub mod rustc_parse_format;
 pub mod source_lint;
+pub mod source_report;
+pub mod text_faults;
 #[cfg(feature = "std")]
 pub mod unified_diff;

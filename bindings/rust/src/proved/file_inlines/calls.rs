@@ -14,8 +14,9 @@ use crate::proved::inlined_arguments::{inlined, Call as FormatCall, Edit, Left};
 use crate::proved::rust_trees::Token;
 use crate::proved::source_lint::{
     appends_newline, argument_at, arguments_before, captures, ends_early, index_or, name_at,
-    other_macro, read_literal, CallReading, File,
+    other_macro, read_literal, File,
 };
+use crate::proved::source_report::CallReading;
 use crate::shim::alloc::{AllocError, Global};
 use crate::shim::prelude::*;
 

@@ -6,12 +6,12 @@
 // by results from outside, and beside what is proved (.ci/bindings) and the original (tools/agree).
 
 use crate::proved::asm_faults::{AsmCall, AsmFault, AsmLabel, AsmNote, AsmSpot};
-use crate::proved::call_faults::Spot;
 use crate::proved::format_calls::Argument;
 use crate::proved::rust_trees::Token;
 use crate::proved::source_lint::literals::Literal;
-use crate::proved::source_lint::report::{Finding, Help, Label, Note};
 use crate::proved::source_lint::spans::{range_in, spot_range, Site};
+use crate::proved::source_report::{Finding, Help, Label, Note};
+use crate::proved::text_faults::Spot;
 use crate::shim::alloc::{AllocError, Global};
 use crate::shim::prelude::*;
 use core::ops::Range;

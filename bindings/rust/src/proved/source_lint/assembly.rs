@@ -13,7 +13,7 @@ use crate::proved::source_lint::asm_findings::{put_findings, AsmSite, Read};
 use crate::proved::source_lint::findings::reading_of;
 use crate::proved::source_lint::givens::name_of;
 use crate::proved::source_lint::literals::{dropped_crs, read_literal};
-use crate::proved::source_lint::report::{CallReading, Finding};
+use crate::proved::source_report::{CallReading, Finding};
 use crate::shim::alloc::{AllocError, Global};
 use crate::shim::prelude::*;
 

@@ -4,14 +4,14 @@
 // That source is proved, and each contract here is its. That this text means the same is tested:
 // by results from outside, and beside what is proved (.ci/bindings) and the original (tools/agree).
 
+use crate::proved::call_forms::parameters;
 use crate::proved::format_calls::{
     arguments, closing, is_mark, is_text, is_text_leaf, token_at, Argument,
 };
 use crate::proved::message_faults::names_of;
 use crate::proved::rust_trees::{Source, Token};
-use crate::proved::source_lint::generics::parameters;
 use crate::proved::source_lint::messages::{read_text, Item};
-use crate::proved::source_lint::report::Finding;
+use crate::proved::source_report::Finding;
 use crate::shim::alloc::{AllocError, Global};
 use crate::shim::prelude::*;
 

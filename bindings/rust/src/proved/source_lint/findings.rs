@@ -6,8 +6,8 @@
 
 use crate::proved::call_faults::{CallEdit, CallFault, CallHelp, CallReport};
 use crate::proved::source_lint::labels::{help, labels, notes, primary_span};
-use crate::proved::source_lint::report::{CallReading, Finding};
 use crate::proved::source_lint::spans::Site;
+use crate::proved::source_report::{CallReading, Finding};
 use crate::shim::alloc::{AllocError, Global};
 use crate::shim::prelude::*;
 

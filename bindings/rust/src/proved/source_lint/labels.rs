@@ -4,9 +4,10 @@
 // That source is proved, and each contract here is its. That this text means the same is tested:
 // by results from outside, and beside what is proved (.ci/bindings) and the original (tools/agree).
 
-use crate::proved::call_faults::{CallEdit, CallHelp, CallLabel, CallNote, Spot};
-use crate::proved::source_lint::report::{Edit, Help, Label, Note};
+use crate::proved::call_faults::{CallEdit, CallHelp, CallNote};
 use crate::proved::source_lint::spans::{range_in, spot_range, Site};
+use crate::proved::source_report::{Edit, Help, Label, Note};
+use crate::proved::text_faults::{CallLabel, Spot};
 use crate::shim::alloc::{AllocError, Global};
 use crate::shim::prelude::*;
 use core::ops::Range;

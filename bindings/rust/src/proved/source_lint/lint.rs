@@ -9,7 +9,7 @@ use crate::proved::rust_trees::{Balance, Source, Tokens};
 use crate::proved::source_lint::attributes::read_attributes;
 use crate::proved::source_lint::macros::{macro_names, File};
 use crate::proved::source_lint::readings::read_call;
-use crate::proved::source_lint::report::{CallReading, Finding, Options, Report};
+use crate::proved::source_report::{CallReading, Finding, Options, Report};
 use crate::shim::alloc::{AllocError, Global};
 use crate::shim::prelude::*;
 

@@ -4,11 +4,11 @@
 // That source is proved, and each contract here is its. That this text means the same is tested:
 // by results from outside, and beside what is proved (.ci/bindings) and the original (tools/agree).
 
-use crate::proved::call_faults::Spot;
+use crate::proved::call_forms::is_in_path;
 use crate::proved::format_calls::{token_at, Argument};
 use crate::proved::rust_trees::Token;
 use crate::proved::source_lint::literals::offset_in;
-use crate::proved::source_lint::paths::is_in_path;
+use crate::proved::text_faults::Spot;
 use crate::shim::prelude::*;
 use core::ops::Range;
 

@@ -3,7 +3,7 @@ use Rattle.std.specs.List.{All}
 use Rattle.format_calls.specs.Rows.{entry}
 use Rattle.source_lint.specs.Findings.{HasSpans}
 use Rattle.source_lint.specs.Reports.{IsReport}
-use Rattle.source_lint.specs.declared.report.Report.{Report}
+use Rattle.source_report.specs.declared.report.Report.{Report}
 use Rattle.file_fixes.specs.FileFixes.{AreRounds, bytes_or}
 use Rattle.file_fixes.proofs.rounds.fixes.Given as goal
 

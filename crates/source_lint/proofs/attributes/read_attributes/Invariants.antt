@@ -2,7 +2,7 @@ use Rattle.std.proofs.Common.{◌-◌, ◌++◌, ◌≡◌, ℕ, List}
 use Rattle.std.specs.List.{All}
 use Rattle.source_lint.specs.Attributes.{ReadsItems}
 use Rattle.source_lint.specs.Findings.{HasSpans}
-use Rattle.source_lint.specs.declared.report.Finding.{Finding}
+use Rattle.source_report.specs.declared.report.Finding.{Finding}
 use Rattle.source_lint.proofs.attributes.read_attributes.Given as goal
 
 -- The findings so far, and then those from this token on, are all.

@@ -3,7 +3,7 @@ use Rattle.std.proofs.lemmas.List.{drop_all}
 use Rattle.message_faults.specs.Seen.{seen_fault}
 use Rattle.source_lint.specs.Attributes.{TellMessages, TellsMessage}
 use Rattle.source_lint.specs.Findings.{HasSpans}
-use Rattle.source_lint.specs.declared.report.Finding.{Finding}
+use Rattle.source_report.specs.declared.report.Finding.{Finding}
 use Rattle.source_lint.proofs.Elements.{all-more}
 use Rattle.source_lint.proofs.Gathering.{gathered-all, gathered-none, slice-step}
 use Rattle.source_lint.proofs.messages.put_findings.Goals as goal
