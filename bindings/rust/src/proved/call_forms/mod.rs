@@ -1,5 +1,5 @@
-//! The faults in the arguments of a call whose format string is not read ([`form_here`]), the paths of
-//! macros, and the generic parameters of traits, from tokens.
+//! The faults in the arguments of a call whose format string is not read ([`form_here`]), the paths
+//! of macros, and the generic parameters of traits.
 
 // Extracted from crates/call_forms/src/lib.rt by tools/extract: not to be edited.
 // That source is proved, and each contract here is its. That this text means the same is tested:

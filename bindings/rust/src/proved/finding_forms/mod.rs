@@ -1,5 +1,5 @@
-//! The findings of a file in the forms of messages ([`put_finding`]), drawn under its lines in one of
-//! them.
+//! The findings of a file in the forms of messages ([`put_finding`]), of which one draws them under
+//! the lines of the file.
 
 // Extracted from crates/finding_forms/src/lib.rt by tools/extract: not to be edited.
 // That source is proved, and each contract here is its. That this text means the same is tested:

@@ -1,6 +1,6 @@
 //! The words of the program `formatlint`: its lines where it has no answer ([`put_failure`],
-//! [`put_not_literal`], [`put_place_failure`]), whether it uses colours ([`wants_colours`]), and the
-//! form of its messages ([`Form`]).
+//! [`put_not_literal`], [`put_place_failure`]), whether it uses colours ([`wants_colours`]),
+//! and the [`Form`] of its messages.
 
 // Extracted from crates/lint_words/src/lib.rt by tools/extract: not to be edited.
 // That source is proved, and each contract here is its. That this text means the same is tested:

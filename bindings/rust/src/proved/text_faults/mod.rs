@@ -1,4 +1,4 @@
-//! The fault of a text that rustc shows ([`text_fault`]), and the places and labels of its messages.
+//! The fault of a text that rustc shows ([`text_fault`]), and places and labels of messages.
 
 // Extracted from crates/text_faults/src/lib.rt by tools/extract: not to be edited.
 // That source is proved, and each contract here is its. That this text means the same is tested:
