@@ -14,7 +14,7 @@ CRATES = ("rustc_parse_format", "placeholder_check", "format_tokens", "fault_fix
           "drawn_labels", "drawn_edits", "drawn_faults", "rust_tokens", "rust_trees",
           "format_calls", "call_forms", "source_report", "text_faults", "call_faults", "asm_faults",
           "message_faults", "piece_listing", "listing_json", "literal_faults", "format_lint",
-          "lint_words", "source_lint", "file_fixes", "inlined_arguments", "file_inlines",
+          "lint_words", "asm_lint", "source_lint", "file_fixes", "inlined_arguments", "file_inlines",
           "unified_diff", "fault_rules", "message_forms", "package_edition", "finding_forms",
           "lint_program", "formatread", "formatlint")
 NOTICE = """\

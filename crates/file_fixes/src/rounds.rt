@@ -3,7 +3,7 @@
 ghost use Rattle.std.specs.Prelude.{◌≡◌, ◌++◌, IfOk, IfSome, Some, map, string_bytes, true};
 ghost use Rattle.std.specs.List.{All};
 ghost use Rattle.format_calls.specs.Rows.{entry};
-ghost use Rattle.source_lint.specs.Findings.{HasSpans};
+ghost use Rattle.asm_lint.specs.Spans.{HasSpans};
 ghost use Rattle.source_lint.specs.Reports.{IsReport};
 ghost use Rattle.source_report.specs.declared.report.Report.{Report as ReportValue};
 ghost use Rattle.file_fixes.specs.FileFixes.{AreRounds, IsNoWorse, IsRound, bytes_or};

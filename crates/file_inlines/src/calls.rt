@@ -17,13 +17,13 @@ ghost use Rattle.file_inlines.specs.CallInlines.{has_const_form, is_format_alone
 
 use crate::edits::edits_of;
 use crate::sources::with_sources;
+use asm_lint::{appends_newline, read_literal};
 use call_faults::FormatString;
 use format_calls::{Argument, Call, Part, Rule, arguments, extent_of, is_standard, token_at};
 use inlined_arguments::{Call as FormatCall, Edit, Left, inlined};
 use rust_trees::Token;
 use source_lint::{
-    File, appends_newline, argument_at, arguments_before, captures, ends_early, index_or, name_at,
-    other_macro, read_literal,
+    File, argument_at, arguments_before, captures, ends_early, index_or, name_at, other_macro,
 };
 use source_report::CallReading;
 use std::alloc::{AllocError, Global};

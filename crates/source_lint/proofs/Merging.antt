@@ -17,7 +17,7 @@ use Rattle.source_report.specs.declared.report.CallReading.{CallReading}
 use Rattle.source_report.specs.declared.report.Finding.{Finding}
 use Rattle.source_lint.specs.Readings.{ReadsAll, Scope}
 use Rattle.source_lint.specs.Reports.{AreCalls, ReadsCalls, ReadsParts}
-use Rattle.source_lint.proofs.Elements.{here, in-mapped, mapped-in, nothing-in}
+use Rattle.asm_lint.proofs.Elements.{here, in-mapped, mapped-in, nothing-in}
 use Rattle.call_forms.proofs.Embedding.{Embeds, embeds}
 use Rattle.source_lint.proofs.MovedReadings.{reads-same}
 

@@ -18,7 +18,7 @@ use Rattle.format_calls.specs.declared.table.Rule.TheVariants.{At, IndexByEditio
 use Rattle.format_calls.specs.declared.table.Rule.TheVariants.{Templates}
 use Rattle.source_report.specs.declared.report.CallReading.{CallReading}
 use Rattle.source_report.specs.declared.report.Finding.{Finding}
-use Rattle.source_lint.specs.Literals.{appends_newline}
+use Rattle.asm_lint.specs.Literals.{appends_newline}
 use Rattle.source_lint.specs.FormWords.{TellsForms}
 use Rattle.call_forms.specs.Expressions.{joined}
 use Rattle.call_forms.specs.Forms.{form_here}
@@ -29,11 +29,12 @@ use Rattle.source_lint.specs.Readings.{lack_expression, name_at}
 use Rattle.source_lint.specs.Readings.{Scope, name_of_leaf, skipped}
 use Rattle.source_lint.proofs.Calling.{reads-by}
 use Rattle.call_forms.proofs.Embedding.{Embeds}
-use Rattle.source_lint.proofs.MovedAssembly.{asm-same}
+use Rattle.asm_lint.proofs.MovedAssembly.{asm-same}
 use Rattle.call_forms.proofs.MovedArguments.{LiesIn, arguments-at, arguments-lie, counted-at}
 use Rattle.call_forms.proofs.MovedArguments.{shifted, up-to-at}
 use Rattle.call_forms.proofs.MovedForms.{form-same, parts-same, same-length}
-use Rattle.source_lint.proofs.MovedStrings.{lies-get, others-same, string-same}
+use Rattle.asm_lint.proofs.MovedStrings.{lies-get, string-same}
+use Rattle.source_lint.proofs.MovedGivens.{others-same}
 
 name-same : (xs ys : List Leaf) (g i : ℕ) → Embeds xs ys g → i < length xs
     → name_at ys (g + i) ≡ name_at xs i

@@ -106,21 +106,3 @@ counted_faults false fs = filter is_text_fault fs
 -- These are the findings of the faults of a call that count.
 abbrev pub AreFindings : Bool → Call → List Finding → Type 0
 AreFindings b c xs = TellAll b c (counted_faults b c.faults) xs
-
--- How much of a call is read where the number of its arguments is known, and where it is not.
-abbrev pub reading_of : Bool → CallReading
-reading_of true = Whole
-reading_of false = StringAlone
-
--- A byte range of a text whose ends are at characters.
-pub record IsSpan (bs : List ℕ) (r : Range ℕ) : Type 0 where
-  pub starts : IsCharBoundary bs r.start
-  pub ends : IsCharBoundary bs r.end
-  pub in_order : r.start ≤ r.end
-
--- All ranges of a finding are byte ranges of a text whose ends are at characters.
-pub record HasSpans (bs : List ℕ) (x : Finding) : Type 0 where
-  pub span : IsSpan bs x.span
-  pub labels : All (λ l. IsSpan bs l.range) x.labels.items
-  pub notes : All (λ n. All (λ r. IsSpan bs r) n.ranges.items) x.notes.items
-  pub help : IfSome x.help (λ h. All (λ e. IsSpan bs e.range) h.edits.items)

@@ -1,11 +1,7 @@
-pub mod AsmFindings
-pub mod Assembly
-pub mod Attributes
 pub mod Files
 pub mod Findings
 pub mod FormWords
 pub mod Givens
-pub mod Literals
 pub mod Macros
 pub mod Readings
 pub mod Reports

@@ -36,13 +36,14 @@ use Rattle.source_report.specs.declared.report.CallReading.TheVariants.{ForeignM
 use Rattle.source_report.specs.declared.report.CallReading.TheVariants.{NoExpression}
 use Rattle.source_report.specs.declared.report.CallReading.TheVariants.{NoComma, Unread, Malformed}
 use Rattle.source_report.specs.declared.report.Finding.{Finding}
-use Rattle.source_lint.specs.Assembly.{ReadsTemplates}
-use Rattle.source_lint.specs.Findings.{AreFindings, reading_of}
+use Rattle.asm_lint.specs.Assembly.{ReadsTemplates}
+use Rattle.source_lint.specs.Findings.{AreFindings}
+use Rattle.asm_lint.specs.Assembly.{reading_of}
 use Rattle.source_lint.specs.FormWords.{TellsForms}
 use Rattle.call_forms.specs.Expressions.{has_variable, joined}
 use Rattle.call_forms.specs.Forms.{form_here}
 use Rattle.source_lint.specs.Givens.{given}
-use Rattle.source_lint.specs.Literals.{appends_newline, without_crs}
+use Rattle.asm_lint.specs.Literals.{appends_newline, without_crs}
 use Rattle.source_lint.specs.Macros.{names_in}
 use Rattle.call_forms.specs.Operators.{lacks_operand}
 use Rattle.call_forms.specs.Paths.{is_foreign}

@@ -10,7 +10,7 @@ use Rattle.format_calls.specs.declared.listing.Call.{Call}
 use Rattle.source_report.specs.declared.report.CallReading.{CallReading}
 use Rattle.source_report.specs.declared.report.Finding.{Finding}
 use Rattle.source_report.specs.declared.report.Report.{Report}
-use Rattle.source_lint.specs.Attributes.{ReadsItems}
+use Rattle.asm_lint.specs.Attributes.{ReadsItems}
 use Rattle.source_lint.specs.Macros.{macro_names}
 use Rattle.source_lint.specs.Files.{AreLeaves}
 use Rattle.source_lint.specs.Readings.{ReadsAll, Scope}

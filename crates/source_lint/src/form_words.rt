@@ -3,7 +3,8 @@
 ghost use Rattle.std.specs.Prelude.{◌≡◌, ◌++◌, ◌∷◌, [], List, IfOk, IfSome, OnOk, option_map};
 ghost use Rattle.std.specs.Prelude.{string_bytes};
 ghost use Rattle.std.specs.List.{All};
-ghost use Rattle.source_lint.specs.Findings.{HasSpans, IsSpan, TellsHelp};
+ghost use Rattle.asm_lint.specs.Spans.{HasSpans, IsSpan};
+ghost use Rattle.source_lint.specs.Findings.{TellsHelp};
 ghost use Rattle.source_lint.specs.FormWords.{TellLabels, TellsForm, TellsForms, bytes_label};
 ghost use Rattle.source_lint.specs.FormWords.{end_words, expected_label, expected_words};
 ghost use Rattle.source_lint.specs.FormWords.{form_help, form_id, form_label, form_labels};
@@ -16,7 +17,7 @@ ghost use Rattle.call_forms.specs.Operators.{seen_operator};
 ghost use Rattle.source_report.specs.declared.report.Finding.{Finding as FindingValue};
 ghost use Rattle.source_report.specs.declared.report.Label.{Label as LabelValue};
 
-use crate::spans::{call_range, range_in, tokens_range};
+use asm_lint::{call_range, range_in, tokens_range};
 use call_forms::{Expected, Form, Operator, kind_word};
 use format_calls::{Argument, Call};
 use rust_trees::Token;

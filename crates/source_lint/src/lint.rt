@@ -6,15 +6,15 @@ ghost use Rattle.rust_trees.specs.Balances.{IsBalanced};
 ghost use Rattle.rust_trees.specs.Leaves.{Leaf};
 ghost use Rattle.format_calls.specs.Rows.{entry};
 ghost use Rattle.source_lint.specs.Files.{AreLeaves};
-ghost use Rattle.source_lint.specs.Findings.{HasSpans};
+ghost use Rattle.asm_lint.specs.Spans.{HasSpans};
 ghost use Rattle.source_lint.specs.Readings.{scope};
 ghost use Rattle.source_lint.specs.Reports.{IsReport, ReadsAttributes, ReadsCalls};
 ghost use Rattle.source_report.specs.declared.report.CallReading.{CallReading as ReadingValue};
 ghost use Rattle.source_report.specs.declared.report.Finding.{Finding as FindingValue};
 
-use crate::attributes::read_attributes;
 use crate::macros::{File, macro_names};
 use crate::readings::read_call;
+use asm_lint::read_attributes;
 use format_calls::{Part, Table, calls, next_part};
 use rust_trees::{Balance, Source, Tokens};
 use source_report::{CallReading, Finding, Options, Report};

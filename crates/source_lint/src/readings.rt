@@ -10,9 +10,10 @@ ghost use Rattle.format_calls.specs.Arguments.{AreArguments, tokens_of};
 ghost use Rattle.format_calls.specs.Strings.{is_string_by};
 ghost use Rattle.format_calls.specs.declared.split.Argument.{Argument as ArgumentValue};
 ghost use Rattle.call_faults.specs.Seen.{seen_given, start};
-ghost use Rattle.source_lint.specs.Findings.{AreFindings, HasSpans};
+ghost use Rattle.source_lint.specs.Findings.{AreFindings};
+ghost use Rattle.asm_lint.specs.Spans.{HasSpans};
 ghost use Rattle.source_lint.specs.Givens.{given};
-ghost use Rattle.source_lint.specs.Literals.{appends_newline, without_crs};
+ghost use Rattle.asm_lint.specs.Literals.{appends_newline, without_crs};
 ghost use Rattle.source_lint.specs.Readings.{Reads, ReadsAt, ReadsLiteral, ReadsOne, call_of};
 ghost use Rattle.call_forms.specs.Operators.{lacks_operand};
 ghost use Rattle.source_lint.specs.Readings.{are_expressions, arguments_before, captures};
@@ -21,13 +22,11 @@ ghost use Rattle.source_lint.specs.Readings.{ends_early, has_expressions, index_
 ghost use Rattle.source_lint.specs.Readings.{name_at, scope};
 ghost use Rattle.source_report.specs.declared.report.Finding.{Finding as FindingValue};
 
-use crate::assembly::read_asm;
-use crate::findings::{put_findings, reading_of};
+use crate::findings::put_findings;
 use crate::form_words::put_form;
 use crate::givens::givens;
-use crate::literals::{appends_newline, dropped_crs, read_literal};
 use crate::macros::{File, name_at, other_macro};
-use crate::spans::Site;
+use asm_lint::{Site, appends_newline, dropped_crs, read_asm, read_literal, reading_of};
 use call_faults::{FormatArgument, FormatString, call_faults};
 use call_forms::{form_here, have_joined, have_variables, lacks_operand, tokens_of};
 use format_calls::{Argument, Call, Part, Rule, arguments, extent_of, format_string, token_at};

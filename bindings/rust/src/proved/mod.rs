@@ -1,6 +1,7 @@
 // The crates that are extracted. Made by tools/extract: not to be edited.
 
 pub mod asm_faults;
+pub mod asm_lint;
 pub mod call_faults;
 pub mod call_forms;
 pub mod drawn_edits;

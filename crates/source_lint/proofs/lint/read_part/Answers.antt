@@ -1,6 +1,6 @@
 use Rattle.std.proofs.Common.{◌≡◌, ◌∷◌, rules, subst, sym}
 use Rattle.std.specs.Prelude.{Contains}
-use Rattle.source_lint.proofs.Elements.{after-here, here}
+use Rattle.asm_lint.proofs.Elements.{after-here, here}
 use Rattle.std.proofs.lemmas.List.{nil_from_length}
 use Rattle.source_lint.specs.Readings.{ReadsAll, scope}
 use Rattle.source_lint.proofs.Joining.{reading-all, reading-more, reading-none}

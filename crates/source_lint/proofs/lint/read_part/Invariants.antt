@@ -4,7 +4,7 @@ use Rattle.std.specs.List.{All}
 use Rattle.format_calls.specs.Calls.{IsCall}
 use Rattle.format_calls.specs.Rows.{entry}
 use Rattle.format_calls.specs.declared.listing.Call.{Call}
-use Rattle.source_lint.specs.Findings.{HasSpans}
+use Rattle.asm_lint.specs.Spans.{HasSpans}
 use Rattle.source_lint.specs.Readings.{scope}
 use Rattle.source_lint.proofs.Joining.{Reading}
 use Rattle.source_lint.proofs.lint.read_part.Given as goal

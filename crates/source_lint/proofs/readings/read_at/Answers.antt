@@ -5,7 +5,8 @@ use Rattle.source_lint.specs.Readings.{arguments_before}
 use Rattle.source_lint.proofs.Calling.{after-one, reads-by, string-there}
 use Rattle.call_forms.proofs.MovedArguments.{LiesIn, arguments-lie}
 use Rattle.source_lint.proofs.ArgumentsBefore.{before-all}
-use Rattle.source_lint.proofs.MovedStrings.{lies-drop, lies-get}
+use Rattle.source_lint.proofs.MovedGivens.{lies-drop}
+use Rattle.asm_lint.proofs.MovedStrings.{lies-get}
 use Rattle.source_lint.proofs.readings.read_at.Goals as goal
 
 pub returns-in_default-clause-read : goal.returns-in_default-clause-read
