@@ -1,5 +1,5 @@
-//! The findings of calls for inline assembly ([`read_asm`]) and of attributes ([`read_attributes`]),
-//! with the literals and the places of a file.
+//! The findings of calls for inline assembly ([`read_asm`]) and of attributes
+//! ([`read_attributes`]), with the literals and the places of a file.
 #![tactic(auto)]
 
 mod asm_findings;
