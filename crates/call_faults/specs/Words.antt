@@ -66,10 +66,6 @@ abbrev pub listed : List ℕ → List ℕ
 listed [] = []
 listed (n ∷ ns) = decimal n ++ (separator ns ++ listed ns)
 
--- A name between backquotes.
-abbrev pub quoted : Text → List ℕ
-quoted w = codes "`" ++ (encode_utf8_all w ++ codes "`")
-
 -- The name of an argument, or nothing if it has none.
 abbrev pub name_of : Option FormatArgument → Text
 name_of None = []

@@ -11,12 +11,6 @@ use Rattle.rust_trees.specs.Leaves.{Leaf}
 use Rattle.format_calls.specs.declared.split.Argument.{Argument}
 use Rattle.call_faults.specs.Arguments.{FormatArgument}
 
--- A text without `r#` at its start.
-abbrev pub without_raw : Text → Text
-without_raw [] = []
-without_raw (c ∷ []) = c ∷ []
-without_raw (c ∷ d ∷ t) = if c == code "r" && d == code "#" then t else c ∷ d ∷ t
-
 -- A word that is an expression by itself, and no variable.
 abbrev pub is_keyword : List ℕ → Bool
 is_keyword w = bytes_eq w (codes "_") || (bytes_eq w (codes "break")
@@ -31,11 +25,6 @@ variable_text k w = None
 -- The variable that a token is: a word that is no keyword, or `self`, `Self`, `super` or `crate`.
 abbrev pub variable : Leaf → Option Text
 variable x = variable_text x.kind x.text
-
--- The name of an argument.
-abbrev pub name_of : List Leaf → Argument → Option Text
-name_of xs a =
-    if a.is_named then option_map (λ x. without_raw (chars x.text)) (slice_get xs a.start) else None
 
 -- The variable that an argument without a name is, if it is nothing else.
 abbrev pub variable_of : List Leaf → Argument → Option Text
