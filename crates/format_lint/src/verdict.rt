@@ -3,12 +3,12 @@
 ghost use Rattle.std.specs.Prelude.{◌≡◌};
 ghost use Rattle.format_lint.specs.Lint.{verdict};
 
-use piece_listing::verdict::{RunFault, Verdict};
+use piece_listing::verdict::{Exit, RunFault};
 
 /// Returns the message and the exit status of the program for a result of `run`. The status is 0 if
 /// no mistake is left, 1 if one is, 2 if the arguments are invalid or the input is not a string
 /// literal, and 3 after any other error. Does not allocate.
-pub fn verdict(answer: &Result<usize, RunFault>) -> Verdict
+pub fn verdict(answer: &Result<usize, RunFault>) -> Exit
     ensures { (result.message.now, result.status) ≡ verdict answer.now }
 {
     let (message, status) = match answer {
@@ -22,5 +22,5 @@ pub fn verdict(answer: &Result<usize, RunFault>) -> Verdict
         Err(RunFault::Memory) => ("formatlint: out of memory", 3),
         Err(RunFault::Write) => ("formatlint: writing failed", 3),
     };
-    Verdict { message, status }
+    Exit { message, status }
 }

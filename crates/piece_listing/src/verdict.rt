@@ -33,9 +33,9 @@ impl From<AllocError> for RunFault {
     }
 }
 
-/// The end of a program.
+/// The exit of a program.
 #[derive(Copy, Clone, Debug, Eq, PartialEq)]
-pub struct Verdict {
+pub struct Exit {
     /// The message for standard error, without a line end. It is empty if there is no error.
     pub message: &'static str,
     /// The exit status.
@@ -45,7 +45,7 @@ pub struct Verdict {
 /// Returns the message and the exit status of the program for a result of `run`. The status is 0 if
 /// each line of the listing is of a piece, 1 if not, 2 if the command-line arguments are invalid or
 /// the input is not a string literal, and 3 after any other error. Does not allocate.
-pub fn verdict(answer: &Result<bool, RunFault>) -> Verdict
+pub fn verdict(answer: &Result<bool, RunFault>) -> Exit
     ensures { (result.message.now, result.status) ≡ verdict answer.now }
 {
     let (message, status) = match answer {
@@ -62,5 +62,5 @@ pub fn verdict(answer: &Result<bool, RunFault>) -> Verdict
         Err(RunFault::Memory) => ("formatread: out of memory", 3),
         Err(RunFault::Write) => ("formatread: writing failed", 3),
     };
-    Verdict { message, status }
+    Exit { message, status }
 }
