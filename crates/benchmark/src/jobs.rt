@@ -122,16 +122,7 @@ fn check(alloc: Global, literal: String, digest: &mut Digest) -> Result<(), Allo
         return Ok(());
     }
     let names = ["name", "value", "err", "path"];
-    let read = read_and_check(
-        alloc,
-        input,
-        style,
-        Some(literal),
-        false,
-        mode,
-        2,
-        &names,
-    )?;
+    let read = read_and_check(alloc, input, style, Some(literal), false, mode, 2, &names)?;
     for piece in &read.pieces {
         add_piece(digest, piece);
     }

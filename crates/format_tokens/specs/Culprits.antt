@@ -77,8 +77,8 @@ abbrev pub has_argument : List Kind → Bool
 has_argument [] = false
 has_argument (k ∷ ks) = is_argument (role_of k)
 
--- A token of this role is in place before tokens of these kinds. The first flag says that only names are
--- accepted, the second that the token is inside a pair of braces.
+-- A token of this role is in place before tokens of these kinds. The first flag says that only
+-- names are accepted, the second that the token is inside a pair of braces.
 abbrev pub fits : Bool → Bool → List Kind → Role → Bool
 fits names inside ks Open = closes ks && (not names || has_argument ks)
 fits names inside ks Close = inside

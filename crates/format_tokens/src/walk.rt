@@ -42,11 +42,7 @@ fn is_closed(bytes: usize, text: &str) -> bool
 
 /// Adds the tokens of the first `bytes` bytes of a text, which the call reads in place of a closing
 /// brace, and returns the rest of the text.
-fn skipped<'a>(
-    labels: &mut Vec<Label>,
-    bytes: usize,
-    text: &'a str,
-) -> Result<&'a str, AllocError>
+fn skipped<'a>(labels: &mut Vec<Label>, bytes: usize, text: &'a str) -> Result<&'a str, AllocError>
     ensures { IfOk result (λ left. (u r : Text) → chars text.now ≡ u ++ r → bytes ≡ byte_length u
         → Took (skipped_tokens u) r labels.old.items labels.new.items left.now) }
 {
@@ -107,11 +103,7 @@ fn escape_width(text: &str) -> usize
 
 /// Adds the tokens of a piece of literal text at the start of a text, and returns the rest of the
 /// text after it: `left` bytes.
-fn literal<'a>(
-    labels: &mut Vec<Label>,
-    left: usize,
-    text: &'a str,
-) -> Result<&'a str, AllocError>
+fn literal<'a>(labels: &mut Vec<Label>, left: usize, text: &'a str) -> Result<&'a str, AllocError>
     ensures { IfOk result (λ after. (mode : Mode) (n : ℕ) (l : Text) →
         (let k = call mode n (chars text.now) in
         k.piece ≡ Some (LitPiece l) → left ≡ byte_length k.rest

@@ -1,6 +1,6 @@
 -- The answer to an empty input.
 use Rattle.std.proofs.Common.{◌≡◌, ◌≤◌, ℕ, ◌++◌, Bool, true, false, List, [], ◌∷◌, Option, None}
-use Rattle.std.proofs.Common.{Some, Result, Ok, Err, String, Global, string_bytes, replicate}
+use Rattle.std.proofs.Common.{Some, Result, Ok, Err, string_bytes, replicate}
 use Rattle.std.proofs.Common.{refl, sym, ap, ◌∙◌, option_map, map, chars, length, arith}
 use Rattle.std.specs.Prelude.{IfSome, MatchOption}
 use Rattle.std.proofs.lemmas.Option.{same_Some, none-some}
@@ -88,24 +88,22 @@ nothing_found (Some y) x bs literal e short found is =
     (chars (string_bytes y.text)) found
 
 -- the result of the program
-pub empty-listed : (t : DeclaredTask) (lines : String Global) (has_ends : Bool) (bs : List ℕ)
+pub empty-listed : (t : DeclaredTask) (x : Listing) (bs : List ℕ)
     → bs ≡ []
     → t.given ≡ None
     → (bs ≡ [] → t.is_literal ≡ true
-    → ◌≡◌ {A = Result Listing RunFault}
-    (Ok (record { lines = lines; has_ends = has_ends })) (Err NotLiteral))
+    → ◌≡◌ {A = Result Listing RunFault} (Ok x) (Err NotLiteral))
     → (s : Source) × IsSourceOf t.is_literal (chars bs) s
-    × IsListed (seen_task t) s (string_bytes lines, has_ends)
-    → (t.is_literal ≡ false) × (string_bytes lines ≡ []) × (has_ends ≡ false)
-empty-listed t lines has_ends bs e bare refused found = by_literal t.is_literal refused found
+    × IsListed (seen_task t) s (string_bytes x.lines, x.has_ends)
+    → (t.is_literal ≡ false) × (string_bytes x.lines ≡ []) × (x.has_ends ≡ false)
+empty-listed t x bs e bare refused found = by_literal t.is_literal refused found
   where
     by_literal : (literal : Bool)
         → (bs ≡ [] → literal ≡ true
-        → ◌≡◌ {A = Result Listing RunFault}
-        (Ok (record { lines = lines; has_ends = has_ends })) (Err NotLiteral))
+        → ◌≡◌ {A = Result Listing RunFault} (Ok x) (Err NotLiteral))
         → (s : Source) × IsSourceOf literal (chars bs) s
-        × IsListed (seen_task t) s (string_bytes lines, has_ends)
-        → (literal ≡ false) × (string_bytes lines ≡ []) × (has_ends ≡ false)
+        × IsListed (seen_task t) s (string_bytes x.lines, x.has_ends)
+        → (literal ≡ false) × (string_bytes x.lines ≡ []) × (x.has_ends ≡ false)
     by_literal true refused found = absurd (let no_listing = refused e refl in cc)
     by_literal false refused (s, is, (r, report, given)) =
         let none : r ≡ no_entries = rw bare at report in

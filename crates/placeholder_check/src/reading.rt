@@ -38,8 +38,8 @@ pub struct CheckedReading<'a> {
 /// `names` by name. The number of hashes, the length of the input in bytes, and 2 must together fit
 /// into a `usize`.
 ///
-/// The grammar is that of the documentation of `std::fmt`, as rustc's parser reads it. Returns `Err`
-/// if an allocation fails.
+/// The grammar is that of the documentation of `std::fmt`, as rustc's parser reads it. Returns
+/// `Err` if an allocation fails.
 pub fn read_and_check<'a>(
     alloc: Global,
     input: &'a str,
@@ -59,8 +59,8 @@ pub fn read_and_check<'a>(
         (seen_snippet snippet) appended_newline in
         (map seen x.pieces.items ≡ pieces_in s.world (pieces_of (calls s)))
         × (x.parser ≡ after_all s (calls s))) }
-    ensures report { IfOk result
-        (λ x. IsReport (uses (map seen x.pieces.items)) positional (texts names.now) (seen_report x.report)) }
+    ensures report { IfOk result (λ x. IsReport (uses (map seen x.pieces.items)) positional
+        (texts names.now) (seen_report x.report)) }
 
     // The parser has no error exactly if the input is in the grammar, and then the report is on its
     // only reading.
@@ -72,7 +72,8 @@ pub fn read_and_check<'a>(
 
     // In the mode `DiagnosticNamed`, if the parser has no error, no index is missing and each index
     // that is given is unused.
-    ensures uses_are_by_name { IfOk result (λ x. seen_mode mode ≡ DiagnosticNamed → x.parser.errors ≡ []
+    ensures uses_are_by_name { IfOk result (λ x. seen_mode mode ≡ DiagnosticNamed
+        → x.parser.errors ≡ []
         → ((seen_report x.report).missing_index ≡ [])
         × Lists (λ n. n < positional) (seen_report x.report).unused_index) }
 

@@ -9,7 +9,8 @@ invariant-loop-label l = record {
   kept : l.at ≤ l.kept;
   so_far : (w : World) → l.starts ≡ starts_of w
       → map seen_token l.tokens.items
-      ++ placed_sizes w (length w.places - l.at) (l.kept - l.at) (marked_sizes l.names l.inside l.rest)
+      ++ placed_sizes w (length w.places - l.at) (l.kept - l.at)
+      (marked_sizes l.names l.inside l.rest)
       ≡ map seen_token l.fn.tokens.items
       ++ placed_sizes w (length w.places) l.kept (marked_sizes l.names false l.labels);
 }
