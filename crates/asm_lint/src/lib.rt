@@ -5,7 +5,7 @@
 mod asm_findings;
 mod assembly;
 mod attributes;
-mod labels;
+mod finding_labels;
 mod literals;
 mod messages;
 mod names;
@@ -13,7 +13,7 @@ mod spans;
 
 pub use assembly::{read_asm, reading_of};
 pub use attributes::read_attributes;
-pub use labels::{labels, primary_span};
+pub use finding_labels::{labels, primary_span};
 pub use literals::{Literal, appends_newline, dropped_crs, offset_in, read_literal, without_crs};
 pub use names::{name_of, without_raw};
 pub use spans::{Site, call_range, range_in, spot_range, tokens_range};

@@ -11,7 +11,7 @@ ghost use Rattle.asm_lint.specs.Spans.{HasSpans};
 ghost use Rattle.asm_lint.specs.Literals.{without_crs};
 ghost use Rattle.source_report.specs.declared.report.Finding.{Finding as FindingValue};
 
-use crate::labels::{labels, primary_span};
+use crate::finding_labels::{labels, primary_span};
 use crate::literals::{dropped_crs, read_literal};
 use crate::spans::Site;
 use message_faults::{Message, MessageFault, message_faults};

@@ -1,21 +1,20 @@
 -- A call that is read.
-use Rattle.std.proofs.Common.{◌≡◌, ◌<◌, ◌≤◌, ◌+◌, ◌-◌, ◌⊎◌, ℕ, Bool, List, Option, None}
-use Rattle.std.proofs.Common.{Some, inl, inr, sym, subst, ◌∙◌, length, length-drop, arith, drop}
+use Rattle.std.proofs.Common.{◌≡◌, ◌+◌, ◌-◌, ℕ, Bool, List, Option, None}
+use Rattle.std.proofs.Common.{Some, sym, subst, ◌∙◌, length, length-drop, arith, drop}
 use Rattle.std.proofs.Common.{take}
 use Rattle.std.specs.Prelude.{Result, slice_get}
-use Rattle.std.proofs.lemmas.Bool.{cases_lt}
 use Rattle.std.proofs.lemmas.List.{take_all}
 use Rattle.std.proofs.lemmas.Option.{none-some}
 use Rattle.rustc_parse_format.specs.Characters.{Text}
 use Rattle.rust_trees.specs.Forests.{IsPair}
 use Rattle.rust_trees.specs.Leaves.{Leaf}
-use Rattle.rust_trees.proofs.Nested.{nested}
 use Rattle.format_calls.specs.Arguments.{AreArguments}
 use Rattle.format_calls.specs.declared.listing.Call.{Call}
 use Rattle.format_calls.specs.declared.split.Argument.{Argument}
 use Rattle.call_faults.specs.Arguments.{FormatArgument}
 use Rattle.source_report.specs.declared.report.CallReading.{CallReading}
 use Rattle.source_report.specs.declared.report.Finding.{Finding}
+use Rattle.asm_lint.proofs.Openings.{opening-once}
 use Rattle.source_lint.specs.Readings.{ReadsBy, ReadsLiteral, ReadsUnless, index_or}
 
 -- The format string is there.

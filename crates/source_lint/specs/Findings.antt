@@ -1,9 +1,8 @@
 -- The findings of the faults of a call.
-use Rattle.std.specs.Prelude.{◌≡◌, ◌≤◌, ℕ, Bool, true, false, List, [], ◌∷◌, IfSome, filter}
+use Rattle.std.specs.Prelude.{◌≡◌, ℕ, Bool, true, false, List, [], ◌∷◌, filter}
 use Rattle.std.specs.Prelude.{◌++◌, ◌||◌, Option, Some, None, is_some, length, map, not}
 use Rattle.std.specs.Prelude.{if◌then◌else◌, string_bytes}
-use Rattle.std.specs.List.{All, list_any}
-use Rattle.std.specs.Str.{IsCharBoundary}
+use Rattle.std.specs.List.{list_any}
 use Rattle.rustc_parse_format.specs.World.{Place}
 use Rattle.placeholder_check.specs.Report.{IsReport, Report}
 use Rattle.placeholder_check.specs.Uses.{uses}
@@ -15,9 +14,6 @@ use Rattle.call_faults.specs.Notes.{help, notes}
 use Rattle.call_faults.specs.Spots.{Edit, Help}
 use Rattle.text_faults.specs.declared.spots.Spot.{Spot}
 use Rattle.call_faults.specs.Words.{TitleParts, call_id, title}
-use Rattle.std.specs.declared.ops.Range.{Range}
-use Rattle.source_report.specs.declared.report.CallReading.{CallReading}
-use Rattle.source_report.specs.declared.report.CallReading.TheVariants.{Whole, StringAlone}
 use Rattle.source_report.specs.declared.report.Edit.{Edit as FileEdit}
 use Rattle.source_report.specs.declared.report.Finding.{Finding}
 use Rattle.source_report.specs.declared.report.Help.{Help as FileHelp}

@@ -1,8 +1,7 @@
 -- The arguments of a call, as placeholders refer to them.
-use Prim.Native.Char.{code}
-use Rattle.std.specs.Prelude.{ℕ, Bool, not, ◌&&◌, ◌||◌, ◌==◌, ◌-◌, List, [], ◌∷◌}
+use Rattle.std.specs.Prelude.{ℕ, Bool, not, ◌&&◌, ◌||◌, ◌==◌, ◌-◌, List}
 use Rattle.std.specs.Prelude.{Option, Some, None, chars, codes, nat_lt, option_and_then}
-use Rattle.std.specs.Prelude.{option_map, slice_get, if◌then◌else◌}
+use Rattle.std.specs.Prelude.{slice_get, if◌then◌else◌}
 use Rattle.std.specs.Str.{bytes_eq}
 use Rattle.rustc_parse_format.specs.Characters.{Text}
 use Rattle.rust_tokens.specs.declared.kinds.Kind.{Kind}
@@ -10,6 +9,7 @@ use Rattle.rust_tokens.specs.declared.kinds.Kind.TheVariants.{Ident, RawIdent}
 use Rattle.rust_trees.specs.Leaves.{Leaf}
 use Rattle.format_calls.specs.declared.split.Argument.{Argument}
 use Rattle.call_faults.specs.Arguments.{FormatArgument}
+use Rattle.asm_lint.specs.Names.{name_of, without_raw}
 
 -- A word that is an expression by itself, and no variable.
 abbrev pub is_keyword : List ℕ → Bool

@@ -7,13 +7,12 @@ ghost use Rattle.call_faults.specs.Seen.{seen_call, seen_edit, seen_fault, seen_
 ghost use Rattle.source_lint.specs.Findings.{AreFindings, TellAll, Tells};
 ghost use Rattle.asm_lint.specs.Spans.{HasSpans};
 ghost use Rattle.source_lint.specs.Findings.{copies, counted_faults, counted_help, is_text_fault};
-ghost use Rattle.asm_lint.specs.Assembly.{reading_of};
 ghost use Rattle.source_report.specs.declared.report.Finding.{Finding as FindingValue};
 
 use crate::labels::{help, notes};
 use asm_lint::{Site, labels, primary_span};
 use call_faults::{CallEdit, CallFault, CallHelp, CallReport};
-use source_report::{CallReading, Finding};
+use source_report::Finding;
 use std::alloc::{AllocError, Global};
 
 /// Returns whether a fault is only a warning.

@@ -1,6 +1,6 @@
 //! The arguments of a call, as its placeholders refer to them.
 
-ghost use Rattle.std.specs.Prelude.{◌≡◌, IfOk, chars, map, option_map};
+ghost use Rattle.std.specs.Prelude.{◌≡◌, IfOk, map, option_map};
 ghost use Rattle.placeholder_check.specs.Seen.{text};
 ghost use Rattle.rust_trees.specs.Leaves.{leaf};
 ghost use Rattle.call_faults.specs.Seen.{seen_given};

@@ -4,16 +4,15 @@ ghost use Rattle.std.specs.Prelude.{◌≡◌, ◌++◌, ℕ, List, IfOk, IfSome
 ghost use Rattle.std.specs.Prelude.{option_map, string_bytes};
 ghost use Rattle.std.specs.List.{All};
 ghost use Rattle.call_faults.specs.Seen.{seen_edit, seen_help, seen_note};
-ghost use Rattle.text_faults.specs.Seen.{seen_label};
 ghost use Rattle.source_lint.specs.Findings.{Copies, HasText, TellEdits, TellsHelp};
 ghost use Rattle.asm_lint.specs.Spans.{IsSpan};
 
-use asm_lint::{Site, range_in, spot_range};
+use asm_lint::{Site, spot_range};
 use call_faults::{CallEdit, CallHelp, CallNote};
-use source_report::{Edit, Help, Label, Note};
+use source_report::{Edit, Help, Note};
 use std::alloc::{AllocError, Global};
 use std::ops::Range;
-use text_faults::{CallLabel, Spot};
+use text_faults::Spot;
 
 /// Returns the ranges of places of a call. Returns `Err` if an allocation fails.
 fn ranges(

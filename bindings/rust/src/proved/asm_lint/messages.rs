@@ -5,7 +5,7 @@
 // That source is proved, and each contract here is its. That this text means the same is tested:
 // by results from outside, and beside what is proved (.ci/bindings) and the original (tools/agree).
 
-use crate::proved::asm_lint::labels::{labels, primary_span};
+use crate::proved::asm_lint::finding_labels::{labels, primary_span};
 use crate::proved::asm_lint::literals::{dropped_crs, read_literal};
 use crate::proved::asm_lint::spans::Site;
 use crate::proved::message_faults::{message_faults, Message, MessageFault};

@@ -8,7 +8,7 @@
 pub(crate) mod asm_findings;
 pub(crate) mod assembly;
 pub(crate) mod attributes;
-pub(crate) mod labels;
+pub(crate) mod finding_labels;
 pub(crate) mod literals;
 pub(crate) mod messages;
 pub(crate) mod names;
@@ -16,7 +16,7 @@ pub(crate) mod spans;
 
 pub use assembly::{read_asm, reading_of};
 pub use attributes::read_attributes;
-pub use labels::{labels, primary_span};
+pub use finding_labels::{labels, primary_span};
 pub use literals::{appends_newline, dropped_crs, offset_in, read_literal, without_crs};
 pub use names::{name_of, without_raw};
 pub use spans::{call_range, range_in, spot_range, tokens_range, Site};

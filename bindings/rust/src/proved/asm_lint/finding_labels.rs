@@ -1,6 +1,6 @@
 //! The labels of findings, with their ranges in the file.
 
-// Extracted from crates/asm_lint/src/labels.rt by tools/extract: not to be edited.
+// Extracted from crates/asm_lint/src/finding_labels.rt by tools/extract: not to be edited.
 // That source is proved, and each contract here is its. That this text means the same is tested:
 // by results from outside, and beside what is proved (.ci/bindings) and the original (tools/agree).
 

@@ -2,7 +2,7 @@ use Rattle.std.proofs.Common.{refl, string_bytes}
 use Rattle.text_faults.specs.Seen.{seen_label}
 use Rattle.asm_lint.specs.Spans.{IsSpan}
 use Rattle.asm_lint.proofs.Elements.{all-more, mapped-more}
-use Rattle.asm_lint.proofs.labels.labels.Goals as goal
+use Rattle.asm_lint.proofs.finding_labels.labels.Goals as goal
 
 pub loop-label-preserved : goal.loop-label-preserved
 loop-label-preserved c = record {

@@ -3,7 +3,7 @@ use Rattle.std.specs.Prelude.{string_bytes}
 use Rattle.std.specs.List.{All}
 use Rattle.text_faults.specs.Seen.{seen_label}
 use Rattle.asm_lint.specs.Spans.{IsSpan}
-use Rattle.asm_lint.proofs.labels.labels.Given as goal
+use Rattle.asm_lint.proofs.finding_labels.labels.Given as goal
 
 abbrev pub invariant-loop-label : goal.invariant-loop-label
 invariant-loop-label l = record {
