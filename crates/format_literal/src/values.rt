@@ -6,7 +6,7 @@ ghost use Rattle.rustc_parse_format.specs.World.{hashes};
 use crate::written::is_written;
 use fault_fixes::{Fixed, fix};
 use format_tokens::{Token, tokens};
-use piece_listing::literal::{LiteralText, literal_text};
+use piece_listing::literal::literal_text;
 use placeholder_check::{Report, check};
 use rustc_parse_format::{ParseMode, Parser, Piece, read_all};
 use std::alloc::{AllocError, Global};
@@ -61,7 +61,7 @@ impl<'a> Literal<'a> {
             ((style : Option ℕ) (t : Text) → IsWritten style (chars source.now) t → ⊥)
             (λ l. IsRead source.now (seen_mode mode) l)) }
     {
-        let Some(LiteralText { text, style }) = literal_text(alloc, source)? else {
+        let Some((text, style)) = literal_text(alloc, source)? else {
             return Ok(None);
         };
         if !is_written(source, style, &text) {
