@@ -9,6 +9,7 @@ use Rattle.rustc_parse_format.specs.World.{Place}
 use Rattle.call_faults.specs.declared.faults.Part.{Part}
 use Rattle.call_faults.specs.declared.faults.Part.TheVariants.{Position, Precision, Width}
 use Rattle.call_faults.specs.declared.faults.Reference.{Reference}
+use Rattle.text_faults.specs.Spots.{bytes_at}
 use Rattle.text_faults.specs.declared.spots.Spot.{Spot}
 use Rattle.text_faults.specs.declared.spots.Spot.TheVariants.{Literal, Bytes}
 

@@ -8,6 +8,7 @@ use Rattle.rustc_parse_format.specs.FaultIds.{fault_id}
 use Rattle.rustc_parse_format.specs.Faults.{message}
 use Rattle.rustc_parse_format.specs.Types.{Argument, Count, Implied, Index, Implicit, Is, Lit, Name}
 use Rattle.rustc_parse_format.specs.Types.{Named, NextArgument, Param, Piece, Position, Star}
+use Rattle.text_faults.specs.Words.{quoted}
 use Rattle.call_faults.specs.Arguments.{FormatArgument}
 use Rattle.call_faults.specs.CallFaults.{CallFault, PositionalAfterNamed, RepeatedName, TextFault}
 use Rattle.call_faults.specs.CallFaults.{MissingName, UnknownTrait, MissingArguments}

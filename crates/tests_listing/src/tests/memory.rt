@@ -133,9 +133,7 @@ fn words_again(rt: &impl Print, alloc: Global, row: Row) -> Result<Vec<String>, 
 /// Nothing was written where memory was refused.
 fn check_refused(rt: &impl Abort, answer: &Result<bool, RunFault>, sheet: &Sheet) {
     assert_eq!(rt; *answer, Err(RunFault::Memory));
-    let verdict = verdict(answer);
-    assert_eq!(rt; verdict.message, "formatread: out of memory");
-    assert_eq!(rt; verdict.status, 3);
+    assert_eq!(rt; verdict(answer), ("formatread: out of memory", 3));
     assert!(rt; sheet.text().is_empty());
 }
 

@@ -6,7 +6,7 @@
 // That source is proved, and each contract here is its. That this text means the same is tested:
 // by results from outside, and beside what is proved (.ci/bindings) and the original (tools/agree).
 
-use crate::proved::format_tokens::kinds::{Kind, Label};
+use crate::proved::format_tokens::kinds::Kind;
 use crate::proved::rustc_parse_format::{
     Alignment, Count, DebugHex, FormatSpec, ParseMode, Position, Sign,
 };
@@ -26,7 +26,7 @@ pub fn length_of(text: &str) -> usize {
 //     → Took (token kind u) r labels.old.items labels.new.items left.now) }
 #[inline]
 pub fn take<'a>(
-    labels: &mut Vec<Label>,
+    labels: &mut Vec<(Kind, usize)>,
     kind: Kind,
     bytes: usize,
     text: &'a str,
@@ -36,10 +36,7 @@ pub fn take<'a>(
     }
     match text.parts_at(bytes) {
         Some((front, left)) => {
-            labels.try_push(Label {
-                kind,
-                width: length_of(front),
-            })?;
+            labels.try_push((kind, length_of(front)))?;
             Ok(left)
         }
         None => Ok(""),
@@ -179,7 +176,7 @@ fn is_raw(text: &str, name: &str) -> bool {
 //     → Took (position_tokens p) r labels.old.items labels.new.items left.now) }
 #[inline]
 pub fn position<'a>(
-    labels: &mut Vec<Label>,
+    labels: &mut Vec<(Kind, usize)>,
     position: &Position<'_>,
     text: &'a str,
 ) -> Result<&'a str, AllocError> {
@@ -216,7 +213,7 @@ pub fn position<'a>(
 //     → Took [] (chars text.now) labels.old.items labels.new.items left.now) }
 #[inline]
 fn count<'a>(
-    labels: &mut Vec<Label>,
+    labels: &mut Vec<(Kind, usize)>,
     count: &Count<'_>,
     text: &'a str,
 ) -> Result<&'a str, AllocError> {
@@ -261,7 +258,7 @@ fn count<'a>(
 //     → Took (width_tokens k) r labels.old.items labels.new.items left.now) }
 #[inline]
 fn width<'a>(
-    labels: &mut Vec<Label>,
+    labels: &mut Vec<(Kind, usize)>,
     zero_pad: bool,
     width: &Count<'_>,
     text: &'a str,
@@ -278,7 +275,7 @@ fn width<'a>(
 //     → Took (precision_tokens k) r labels.old.items labels.new.items left.now) }
 #[inline]
 fn precision<'a>(
-    labels: &mut Vec<Label>,
+    labels: &mut Vec<(Kind, usize)>,
     precision: &Count<'_>,
     text: &'a str,
 ) -> Result<&'a str, AllocError> {
@@ -335,7 +332,7 @@ fn type_width(debug_hex: Option<DebugHex>, ty: &str) -> usize {
 //     → Took (format_tokens p) r labels.old.items labels.new.items left.now) }
 #[inline]
 fn format<'a>(
-    labels: &mut Vec<Label>,
+    labels: &mut Vec<(Kind, usize)>,
     format: &FormatSpec<'_>,
     text: &'a str,
 ) -> Result<&'a str, AllocError> {
@@ -366,7 +363,7 @@ fn format<'a>(
 //     → Took (spec_tokens k) r labels.old.items labels.new.items left.now) }
 #[inline]
 pub fn specification<'a>(
-    labels: &mut Vec<Label>,
+    labels: &mut Vec<(Kind, usize)>,
     mode: ParseMode,
     spec: &FormatSpec<'_>,
     text: &'a str,
