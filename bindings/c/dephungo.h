@@ -204,8 +204,8 @@ enum {
 
 /* dephungo_read reads a whole input and returns one of the codes above, such as DEPHUNGO_DONE.
  * input:    the input in UTF-8, unescaped and without quotes
- * snippet:  the source text in UTF-8; ignored unless has_snippet is set: then pass any pointer that
- *           is not null, such as that of the input, and the length 0
+ * snippet:  the source text in UTF-8; ignored if has_snippet is 0: then pass any pointer but NULL,
+ *           such as that of the input, and the length 0
  * options:  how to read the input
  * steps:    the calls of the parser, in order
  * specs:    the specifications that the steps refer to

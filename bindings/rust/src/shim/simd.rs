@@ -2,6 +2,7 @@
 use core::ops::BitOr;
 
 /// A vector of sixteen bytes. The first lane is the lowest byte of the first word.
+// (the name is that of the standard library)
 #[allow(non_camel_case_types)]
 #[derive(Clone, Copy)]
 pub struct u8x16([u64; 2]);
