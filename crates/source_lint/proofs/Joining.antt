@@ -81,8 +81,8 @@ of-calls P es xs cs rs ss fs gs e o h = (
   },
 )
 
--- What came from the calls of a file so far, where the tokens of u are left: those of the front were
--- read.
+-- What came from the calls of a file so far, where the tokens of u are left. Those of the front
+-- were read.
 pub record FileGiving {R F : Type 0} (P : List Leaf → Call → R → List F → Type 0)
     (es : List Entry) (start u : Unread) (rs : List R) (fs : List F) (old now : Balance)
     : Type 0 where

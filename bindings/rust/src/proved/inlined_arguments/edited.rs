@@ -24,20 +24,17 @@ fn edited_bytes(
     let mut out = Vec::made_in(alloc);
     let mut at = 0;
     for edit in edits {
-        if edit.span.end < edit.span.start {
+        if edit.span.start < at || edit.span.end < edit.span.start {
             return Ok(None);
         }
-        let Some(front) = bytes.get(at..edit.span.start) else {
+        if bytes.len() < edit.span.end {
             return Ok(None);
-        };
-        out.try_extend_from_slice(front)?;
+        }
+        out.try_extend_from_slice(&bytes[at..edit.span.start])?;
         out.try_extend_from_slice(edit.text.as_bytes())?;
         at = edit.span.end;
     }
-    let Some(rest) = bytes.get(at..) else {
-        return Ok(None);
-    };
-    out.try_extend_from_slice(rest)?;
+    out.try_extend_from_slice(&bytes[at..])?;
     Ok(Some(out))
 }
 
