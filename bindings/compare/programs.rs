@@ -34,7 +34,7 @@ const FILE_WORDS: &[&str] = &[
     "FOLDER/link.rs", "FOLDER/linked", "FOLDER/linked/c.rs", "FOLDER/target", ".", "sub/../a.rs",
     "--stats", "--quiet", "--message-format=short", "--message-format=json", "--edition=2018",
     "--message-format=github", "--message-format=sarif", "--exclude=sub", "--exclude=a.rs",
-    "--macro=say:0", "--macro=say:1", "--stdin-path=b.rs",
+    "--macro=say:0", "--macro=say:1", "--stdin-path=b.rs", "--width=24",
 ];
 
 /// Words of formatlint with which it reads one string.
@@ -58,6 +58,7 @@ const FILE_PARTS: &[&str] = &[
     "print!(\"{}\", $($a),*)", "print!(\"\\\r\n   }\")", "{", "}", "(", ")", "\"", "/*", "\u{feff}", "\n",
     "print!(\"{}\", x = 1);", "format!(\"a {r#b} {c?}\")", "print!(\"\", a);\n", "print!(\"{a:?#}\")",
     "fn f() ", "/* } */", "'a'", "a < b, c > d", "\t", "\r\n", "format!(\"{\u{7}}\")",
+    "print!(\"a {\n    }\");\n", "print!(\"a longer text in front, {\n\n and one after it {a\", b);\n",
 ];
 
 /// Some of the words, most often few. FOLDER is a path.
