@@ -2,7 +2,7 @@
 //! characters that they stand for, with byte ranges, and whether a snippet is the source literal of
 //! an input.
 use crate::faults::{errors_of, faults_of, fix, Fault, Fixed};
-use crate::proved::piece_listing::literal::literal_text;
+use crate::proved::piece_listing::literal::{literal_text, LiteralText};
 use crate::proved::rust_tokens::{first_token, Kind};
 use crate::proved::rustc_parse_format::literal::read_content as read_content_in;
 use crate::shim::alloc::{answer, Global};
@@ -62,7 +62,7 @@ impl<'a> Literal<'a> {
         if !is_whole || !matches!(token.kind, Kind::Str | Kind::RawStr) {
             return None;
         }
-        let (text, style) = answer(literal_text(Global, snippet))?;
+        let LiteralText { text, style } = answer(literal_text(Global, snippet))?;
         if style.is_some() && text.contains('\r') {
             return None;
         }

@@ -6,7 +6,7 @@
 
 use super::calls::put_calls;
 use super::report::put_report;
-use crate::proved::piece_listing::literal::{literal_text, strip_newline};
+use crate::proved::piece_listing::literal::{literal_text, strip_newline, LiteralText};
 use crate::proved::piece_listing::verdict::RunFault;
 use crate::proved::piece_listing::{has_entries, report_for, task_of, Task};
 use crate::proved::placeholder_check::{uses_of, Report, Uses};
@@ -135,7 +135,7 @@ fn list_source(
 #[inline]
 fn list_literal(alloc: Global, input: &str, task: Task<'_>) -> Result<Listing, RunFault> {
     let literal = strip_newline(input);
-    let Some((text, style)) = literal_text(alloc, literal)? else {
+    let Some(LiteralText { text, style }) = literal_text(alloc, literal)? else {
         return Err(RunFault::NotLiteral);
     };
     Ok(list_source(
