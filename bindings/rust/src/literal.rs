@@ -10,9 +10,10 @@ use crate::tokens::{tokens, Token};
 use crate::{check, ParseError, ParseMode, Parser, Piece, Report};
 use alloc::string::{String, ToString};
 use alloc::vec::Vec;
-use core::ops::Range;
 
-pub use crate::proved::rustc_parse_format::literal::{is_source_literal, quoted_content};
+pub use crate::proved::rustc_parse_format::literal::{
+    is_source_literal, quoted_content, ContentCharacter,
+};
 
 /// A string literal that is read as a format string: the five arguments that the calls of this
 /// crate take, in one value, and these calls. An allocation failure aborts, as elsewhere in Rust.
@@ -157,12 +158,11 @@ impl<'a> Literal<'a> {
 }
 
 /// Returns the characters that the content of an ordinary string literal, which is what is between
-/// its quotes, stands for. Each comes with the byte range of the content that it is written as.
-/// Returns `None` if the text is not such a content.
+/// its quotes, stands for, in order. Returns `None` if the text is not such a content.
 ///
 /// The rules are those of string literals in the Rust Reference. A backslash before a newline
 /// stands for nothing, together with the newline and all tabs, newlines, carriage returns and
 /// spaces after it. An allocation failure aborts, as elsewhere in Rust.
-pub fn read_content(content: &str) -> Option<Vec<(Range<usize>, char)>> {
+pub fn read_content(content: &str) -> Option<Vec<ContentCharacter>> {
     answer(read_content_in(Global, content))
 }

@@ -22,7 +22,7 @@ use crate::faults::CallFault;
 use crate::lookups::lookups_of;
 use crate::spots::counts_before;
 use crate::text::text_fault;
-use rustc_parse_format::{Fault, ParseMode, Parser, Piece, read_all};
+use rustc_parse_format::{Fault, ParseMode, Parser, Piece, Reading, read_all};
 use std::alloc::{AllocError, Global};
 
 /// The format string of a call.
@@ -159,7 +159,7 @@ pub fn call_faults<'a>(
         ↔ IsClean string.entry.captures (map seen_given given.now) (chars string.entry.text.now)) }
 {
     let snippet = owned(alloc, string.snippet)?;
-    let (pieces, parser) = read_all(
+    let Reading { pieces, parser } = read_all(
         alloc,
         string.text,
         string.style,

@@ -59,8 +59,8 @@ pub fn ordinary_starts(
     let mut starts = Vec::with_capacity(alloc, characters.len().saturating_add(2))?;
     let mut end = 1;
     for character in &characters {
-        starts.push(character.0.start + 1)?;
-        end = character.0.end + 1;
+        starts.push(character.span.start + 1)?;
+        end = character.span.end + 1;
     }
     if appended_newline {
         starts.push(end)?;

@@ -17,7 +17,7 @@ ghost use Rattle.format_tokens.specs.Walk.{read_tokens, skipped_tokens};
 
 use crate::kinds::{Kind, Label};
 use crate::parts::{Run, begins, position, run_width, specification, take, width_of};
-use rustc_parse_format::{Argument, ParseMode, Parser, PieceKind};
+use rustc_parse_format::{Argument, NextPiece, ParseMode, Parser, PieceKind};
 use std::alloc::{AllocError, Global};
 
 /// Returns the text before the closing brace at its end, or `None` if it does not end with one.
@@ -175,11 +175,14 @@ fn labels_by<'a>(
     let mut argument = Argument::default();
     let mut rest = input;
     while !rest.is_empty() {
-        let (taken, _) = parser.next_into(&mut argument)?;
+        let NextPiece {
+            piece,
+            front_errors: _,
+        } = parser.next_into(&mut argument)?;
         // (the errors are not needed, and are freed while they are in the caches)
         parser.take_errors();
         let left = width_of(input).saturating_sub(parser.position());
-        rest = label(&mut labels, mode, taken, &argument, left, rest)?;
+        rest = label(&mut labels, mode, piece, &argument, left, rest)?;
     }
     Ok(labels)
 }

@@ -25,7 +25,7 @@ use piece_listing::literal::{LiteralText, literal_text, strip_newline};
 use piece_listing::verdict::RunFault;
 use piece_listing::{Task, has_entries, report_for, task_of};
 use placeholder_check::{Report, Uses, uses_of};
-use rustc_parse_format::{Parser, read_all};
+use rustc_parse_format::{Parser, Reading, read_all};
 use std::alloc::{AllocError, Global};
 
 /// The most bytes that an input may have.
@@ -70,7 +70,7 @@ fn used_by<'a>(
     if task.given.is_none() {
         return Ok(Uses::new(alloc));
     }
-    let (pieces, _) = read_all(alloc, text, style, snippet, false, task.mode)?;
+    let Reading { pieces, parser: _ } = read_all(alloc, text, style, snippet, false, task.mode)?;
     let used = uses_of(alloc, pieces.as_slice())?;
     Ok(used)
 }

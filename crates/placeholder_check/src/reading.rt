@@ -15,7 +15,7 @@ ghost use Rattle.placeholder_check.specs.Reading.{IsReportOf};
 ghost use Rattle.placeholder_check.specs.Seen.{seen_report, texts};
 
 use crate::checker::{Report, check};
-use rustc_parse_format::{ParseMode, Parser, Piece, read_all};
+use rustc_parse_format::{ParseMode, Parser, Piece, Reading, read_all};
 use std::alloc::{AllocError, Global};
 
 /// An input that was read up to its end and compared with its arguments.
@@ -83,7 +83,7 @@ pub fn read_and_check<'a>(
         → (HasSource (chars input.now) style (seen_snippet snippet) appended_newline → ⊥)
         → positional ≡ 0 → names.now ≡ [] → IsOk result }
 {
-    let (pieces, parser) = read_all(alloc, input, style, snippet, appended_newline, mode)?;
+    let Reading { pieces, parser } = read_all(alloc, input, style, snippet, appended_newline, mode)?;
     let report = check(alloc, pieces.as_slice(), positional, names)?;
     Ok(CheckedReading {
         pieces,

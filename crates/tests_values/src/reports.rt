@@ -1,7 +1,7 @@
 //! Reports on texts: worked cases, allocation failures, and many uses.
 
 use placeholder_check::{CheckedReading, Report, Uses, check, check_uses, read_and_check};
-use rustc_parse_format::{ParseMode, Piece, read_all};
+use rustc_parse_format::{ParseMode, Piece, Reading, read_all};
 use std::alloc::{AllocError, Global};
 use std::io::Print;
 use std::process::Abort;
@@ -52,8 +52,8 @@ fn check_report(rt: &impl Abort, report: &Report<'_>, row: Row) {
 
 /// The pieces of a text.
 fn pieces_of(alloc: Global, input: &'static str) -> Result<Vec<Piece<'static>>, AllocError> {
-    let (pieces, _parser) = read_all(alloc, input, None, None, false, ParseMode::Format)?;
-    Ok(pieces)
+    let read = read_all(alloc, input, None, None, false, ParseMode::Format)?;
+    Ok(read.pieces)
 }
 
 /// The uses of pieces, added placeholder by placeholder.
