@@ -54,8 +54,8 @@ pub fn ordinary_starts(
     let mut starts = Vec::made_for(alloc, characters.len().saturating_add(2))?;
     let mut end = 1;
     for character in &characters {
-        starts.try_push(character.0.start + 1)?;
-        end = character.0.end + 1;
+        starts.try_push(character.span.start + 1)?;
+        end = character.span.end + 1;
     }
     if appended_newline {
         starts.try_push(end)?;

@@ -8,7 +8,7 @@ use crate::proved::format_tokens::kinds::{Kind, Label};
 use crate::proved::format_tokens::parts::{
     begins, position, run_width, specification, take, width_of, Run,
 };
-use crate::proved::rustc_parse_format::{Argument, ParseMode, PieceKind};
+use crate::proved::rustc_parse_format::{Argument, NextPiece, ParseMode, PieceKind};
 use crate::shim::alloc::{AllocError, Global};
 use crate::shim::parser::Parser;
 use crate::shim::prelude::*;
@@ -172,11 +172,14 @@ fn labels_by<'a>(
     let mut argument = Argument::default();
     let mut rest = input;
     while !rest.is_empty() {
-        let (taken, _) = parser.next_into(&mut argument)?;
+        let NextPiece {
+            piece,
+            front_errors: _,
+        } = parser.next_into(&mut argument)?;
         // (the errors are not needed, and are freed while they are in the caches)
         parser.take_errors();
         let left = width_of(input).saturating_sub(parser.position());
-        rest = label(&mut labels, mode, taken, &argument, left, rest)?;
+        rest = label(&mut labels, mode, piece, &argument, left, rest)?;
     }
     Ok(labels)
 }

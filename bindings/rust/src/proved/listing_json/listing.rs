@@ -11,7 +11,7 @@ use crate::proved::piece_listing::verdict::RunFault;
 use crate::proved::piece_listing::{has_entries, report_for, task_of, Task};
 use crate::proved::placeholder_check::{uses_of, Report, Uses};
 use crate::shim::alloc::{AllocError, Global};
-use crate::shim::parser::{read_all, Parser};
+use crate::shim::parser::{read_all, Parser, Reading};
 use crate::shim::prelude::*;
 
 /// The most bytes that an input may have.
@@ -55,7 +55,7 @@ fn used_by<'a>(
     if task.given.is_none() {
         return Ok(Uses::new(alloc));
     }
-    let (pieces, _) = read_all(alloc, text, style, snippet, false, task.mode)?;
+    let Reading { pieces, parser: _ } = read_all(alloc, text, style, snippet, false, task.mode)?;
     let used = uses_of(alloc, pieces.as_slice())?;
     Ok(used)
 }
