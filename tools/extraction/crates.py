@@ -12,10 +12,11 @@ TOP = Path(__file__).resolve().parent.parent.parent
 RUST = TOP / "bindings/rust/src"
 CRATES = ("rustc_parse_format", "placeholder_check", "format_tokens", "fault_fixes", "drawn_lines",
           "drawn_labels", "drawn_edits", "drawn_faults", "rust_tokens", "rust_trees",
-          "format_calls", "call_faults", "asm_faults", "message_faults", "piece_listing",
-          "listing_json", "literal_faults", "format_literal", "format_lint", "lint_words", "source_lint",
-          "file_fixes", "inlined_arguments", "file_inlines", "unified_diff", "fault_rules", "message_forms", "package_edition", "formatread",
-          "formatlint")
+          "format_calls", "call_forms", "source_report", "text_faults", "call_faults", "asm_faults",
+          "message_faults", "piece_listing", "listing_json", "literal_faults", "format_literal",
+          "format_lint", "lint_words", "asm_lint", "source_lint", "file_fixes", "inlined_arguments", "file_inlines",
+          "unified_diff", "fault_rules", "message_forms", "package_edition", "finding_forms",
+          "lint_program", "formatread", "formatlint")
 NOTICE = """\
 // Extracted from {place} by tools/extract: not to be edited.
 // That source is proved, and each contract here is its. That this text means the same is tested:

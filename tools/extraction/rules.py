@@ -73,8 +73,8 @@ ADDED = {("placeholder_check", "Report"): ("Clone", *SHOWN),
          ("rustc_parse_format", "Fault"): ("Clone", *SHOWN),
          ("fault_fixes", "Fixed"): ("Clone",),
          ("format_literal", "Literal"): ("Clone", *SHOWN),
-         ("call_faults", "FormatArgument"): SHOWN, ("source_lint", "CallReading"): SHOWN,
-         **{("source_lint", name): ("Clone", *SHOWN)
+         ("call_faults", "FormatArgument"): SHOWN, ("source_report", "CallReading"): SHOWN,
+         **{("source_report", name): ("Clone", *SHOWN)
             for name in ("Edit", "Finding", "Help", "Label", "Note", "Report")},
          **{("rust_trees", name): SHOWN for name in ("FileBreak", "BreakKind", "Place")},
          **{("format_calls", name): SHOWN for name in ("Reason", "Row", "Rule")},

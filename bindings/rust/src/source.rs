@@ -25,7 +25,8 @@ use crate::proved::format_calls::{Argument as ArgumentIn, Table as TableIn};
 use crate::proved::rust_tokens::tokens as tokens_in;
 use crate::proved::rust_trees::{DelimiterBreak, Places as PlacesIn, Source as SourceIn};
 use crate::proved::source_lint::givens::givens;
-use crate::proved::source_lint::{file_faults as file_faults_in, Options};
+use crate::proved::source_lint::file_faults as file_faults_in;
+use crate::proved::source_report::Options;
 use crate::shim::alloc::{answer, Global};
 use crate::Piece;
 use alloc::string::String;
@@ -41,7 +42,7 @@ pub use crate::proved::format_calls::{Reason, Row, Rule};
 pub use crate::proved::inlined_arguments::Left;
 pub use crate::proved::rust_tokens::{Kind, Token};
 pub use crate::proved::rust_trees::{BreakKind, FileBreak, Place};
-pub use crate::proved::source_lint::{CallReading, Finding, Report};
+pub use crate::proved::source_report::{CallReading, Finding, Report};
 
 /// Returns the tokens of a file, with white space and comments, one after the other from its start
 /// to its end. An allocation failure aborts, as elsewhere in Rust.

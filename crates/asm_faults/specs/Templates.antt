@@ -8,7 +8,7 @@ use Rattle.rustc_parse_format.specs.Faults.{Fault}
 use Rattle.rustc_parse_format.specs.State.{State, after_all, calls, first_state}
 use Rattle.rustc_parse_format.specs.Types.{Piece, InlineAsm}
 use Rattle.rustc_parse_format.specs.World.{Place, pieces_in}
-use Rattle.call_faults.specs.Texts.{text_fault}
+use Rattle.text_faults.specs.Texts.{text_fault}
 use Rattle.asm_faults.specs.AsmFaults.{AsmFault, TemplateFault}
 use Rattle.asm_faults.specs.Lookups.{Lookup, next_after_pieces, piece_lookups}
 

@@ -5,7 +5,7 @@ use Rattle.std.specs.List.{slice_get}
 use Rattle.rustc_parse_format.specs.Characters.{Text}
 use Rattle.rustc_parse_format.specs.FaultIds.{fault_id}
 use Rattle.rustc_parse_format.specs.Faults.{message}
-use Rattle.call_faults.specs.Words.{quoted}
+use Rattle.text_faults.specs.Words.{quoted}
 use Rattle.asm_faults.specs.AsmFaults.{AsmFault, PositionalAfter, RepeatedName, RegisterName}
 use Rattle.asm_faults.specs.AsmFaults.{WrongIndex, MissingName, LongModifier, TemplateFault}
 use Rattle.asm_faults.specs.AsmFaults.{UnusedOperands}

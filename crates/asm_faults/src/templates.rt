@@ -7,16 +7,16 @@ ghost use Rattle.rustc_parse_format.specs.Seen.{seen_snippet};
 ghost use Rattle.rustc_parse_format.specs.SeenFaults.{seen_fault as seen_text_fault};
 ghost use Rattle.rustc_parse_format.specs.World.{hashes};
 ghost use Rattle.placeholder_check.specs.Seen.{text as seen_text};
-ghost use Rattle.call_faults.specs.Texts.{text_fault};
+ghost use Rattle.text_faults.specs.Texts.{text_fault};
 ghost use Rattle.asm_faults.specs.Seen.{seen_fault, seen_lookup, seen_template};
 ghost use Rattle.asm_faults.specs.Templates.{lookups_from, next_after_template, start};
 ghost use Rattle.asm_faults.specs.Templates.{template_fault, template_lookups};
 
 use crate::faults::AsmFault;
 use crate::lookups::{Walk, push_pieces};
-use call_faults::text_fault;
 use rustc_parse_format::{Fault, ParseMode, Parser, read_all};
 use std::alloc::{AllocError, Global};
+use text_faults::text_fault;
 
 /// A template of a call.
 #[derive(Clone, Copy)]

@@ -4,7 +4,8 @@ use crate::digest::Digest;
 use crate::random::Random;
 use format_calls::Table;
 use rust_tokens::tokens;
-use source_lint::{CallReading, Options, file_faults};
+use source_lint::file_faults;
+use source_report::{CallReading, Options};
 use std::alloc::{AllocError, Global};
 
 /// The number of bytes of a file.

@@ -17,9 +17,9 @@ use Rattle.call_faults.specs.Calls.{call_faults, is_last}
 use Rattle.call_faults.specs.Clean.{IsClean}
 use Rattle.call_faults.specs.Comparison.{compared}
 use Rattle.call_faults.specs.Lookups.{lookups_from}
-use Rattle.call_faults.specs.Texts.{text_fault}
+use Rattle.text_faults.specs.Texts.{text_fault}
 use Rattle.call_faults.proofs.Cleaning.{clean-of, warnings-clean}
-use Rattle.call_faults.proofs.TextFaults.{fault-none, no-fault}
+use Rattle.text_faults.proofs.TextFaults.{fault-none, no-fault}
 
 none-is : {A : Type 0} (o : Option A) → is_none o ≡ true → o ≡ None
 none-is None e = refl

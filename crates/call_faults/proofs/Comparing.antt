@@ -27,7 +27,7 @@ use Rattle.call_faults.specs.Comparison.{by_index, compared, indices, is_missing
 use Rattle.call_faults.specs.Comparison.{is_position, left_faults, lookup_faults, meant, means}
 use Rattle.call_faults.specs.Comparison.{is_settled, missing, missing_faults, names, unused}
 use Rattle.call_faults.specs.Lookups.{Lookup, NoTrait, Refer}
-use Rattle.call_faults.proofs.Collecting.{list_any-next, map-next}
+use Rattle.text_faults.proofs.Collecting.{list_any-next, map-next}
 
 -- a name that is reported
 pub outcome-name : (old : List CallFault) (captures : Bool) (known : List Text) (r : Reference)
@@ -92,29 +92,6 @@ marked-next f ks ls j d i old new b l e g m = m ∙ ap (λ c. c || b) e
     or-false true = refl
     or-false false = refl
 
-or-true : (b : Bool) → (b || true) ≡ true
-or-true true = refl
-or-true false = refl
-
-pub or-none : (b c : Bool) → c ≡ false → (b || c) ≡ b
-or-none true c e = refl
-or-none false c e = e
-
-same-suc : (i n : ℕ) → (i == n) ≡ (suc i == suc n)
-same-suc i n = same_from_decides {P = i ≡ n} (i == n) (suc i == suc n) (Decides-eqb i n)
-    (Decides-like (suc i == suc n) (λ e. omega arith) (λ e. ap suc e) (Decides-eqb (suc i) (suc n)))
-
-pub set-marks : (xs : List Bool) (n i : ℕ) → n < length xs
-    → get_or (set xs n true) i false ≡ (get_or xs i false || (i == n))
-set-marks [] n i h = absurd (omega arith)
-set-marks (x ∷ xs) zero zero h = sym (or-true x)
-set-marks (x ∷ xs) zero (suc i) h = sym (or-none (get_or xs i false) (suc i == 0) (ne_eqb (suc i) 0
-    (λ e. absurd (omega arith))))
-set-marks (x ∷ xs) (suc n) zero h = sym (or-none x (0 == suc n) (ne_eqb 0 (suc n) (λ e. absurd
-    (omega arith))))
-set-marks (x ∷ xs) (suc n) (suc i) h = set-marks xs n i (omega arith)
-    ∙ ap (λ b. get_or xs i false || b) (same-suc i n)
-
 -- the redundant ones of arguments
 pub kept-next : {A : Type 0} (f : A → Kept) (p : Kept → Bool) (xs : List A) (i : ℕ) (d : A)
     (old new : List ℕ) (b : Bool) → i < length xs → old ≡ indices (filter p (map f (take i xs)))
@@ -141,11 +118,6 @@ pub redundant-is : (ls : List Lookup) (n v : Option Text) (found : Text → Bool
     ≡ (is_none n && option_map_or (λ w. list_any (is_position w) ls) v false)
 redundant-is ls n None found h = refl
 redundant-is ls n (Some w) found h = ap (λ b. is_none n && b) (h w)
-
-pub set-length : (xs : List Bool) (n : ℕ) → length (set xs n true) ≡ length xs
-set-length [] n = refl
-set-length (x ∷ xs) zero = refl
-set-length (x ∷ xs) (suc n) = ap suc (set-length xs n)
 
 -- the arguments that are not marked
 pub left-is : (marks : List Bool) (ks : List Kept) (ls : List Lookup)

@@ -4,8 +4,6 @@ pub mod Looked
 pub mod Meant
 pub mod Cleaning
 pub mod Holding
-pub mod TextFaults
-pub mod Collecting
 pub mod Traits
 pub mod Comparing
 pub mod Checking

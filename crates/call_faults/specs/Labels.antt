@@ -14,20 +14,16 @@ use Rattle.call_faults.specs.Arguments.{FormatArgument}
 use Rattle.call_faults.specs.CallFaults.{CallFault, PositionalAfterNamed, RepeatedName, TextFault}
 use Rattle.call_faults.specs.CallFaults.{MissingName, UnknownTrait, MissingArguments}
 use Rattle.call_faults.specs.CallFaults.{UnusedArguments, RedundantArguments, NameUsedByIndex}
-use Rattle.call_faults.specs.Spots.{
-  Label,
-  rest_after,
-  bytes_at,
-  named_spot,
-  primary,
-  reference_spot,
-}
-use Rattle.call_faults.specs.Spots.{secondary, spot_of, type_spot, use_spot}
-use Rattle.call_faults.specs.Words.{has_number, name_of, never_used, quoted}
+use Rattle.text_faults.specs.Spots.{Label, bytes_at, primary}
+use Rattle.call_faults.specs.Spots.{rest_after, named_spot, reference_spot}
+use Rattle.text_faults.specs.Spots.{secondary}
+use Rattle.call_faults.specs.Spots.{spot_of, type_spot, use_spot}
+use Rattle.call_faults.specs.Words.{has_number, name_of, never_used}
+use Rattle.text_faults.specs.Words.{quoted}
 use Rattle.call_faults.specs.declared.faults.Reference.{Reference}
-use Rattle.call_faults.specs.declared.spots.Spot.TheVariants.{Argument as WholeArgument}
-use Rattle.call_faults.specs.declared.spots.Spot.TheVariants.{Name as NameOf}
-use Rattle.call_faults.specs.declared.spots.Spot.TheVariants.{Value, ValueUpToNext, Literal}
+use Rattle.text_faults.specs.declared.spots.Spot.TheVariants.{Argument as WholeArgument}
+use Rattle.text_faults.specs.declared.spots.Spot.TheVariants.{Name as NameOf}
+use Rattle.text_faults.specs.declared.spots.Spot.TheVariants.{Value, ValueUpToNext, Literal}
 
 -- A call as the messages of its faults need it: the arguments that are given, and the indices of
 -- those that count; the pieces, and of each how many placeholders stand before it; the places of

@@ -18,17 +18,19 @@ use Rattle.call_faults.specs.CallFaults.{CallFault, PositionalAfterNamed, Repeat
 use Rattle.call_faults.specs.CallFaults.{MissingName, UnknownTrait, MissingArguments}
 use Rattle.call_faults.specs.CallFaults.{UnusedArguments, RedundantArguments, NameUsedByIndex}
 use Rattle.call_faults.specs.Labels.{Call, have_names, is_last, star_of}
-use Rattle.call_faults.specs.Spots.{Edit, Help, Note, bytes_at, edit, index_spot, plain}
-use Rattle.call_faults.specs.Words.{has_number, name_of, plural, quoted}
+use Rattle.call_faults.specs.Spots.{Edit, Help, Note, edit, index_spot, plain}
+use Rattle.text_faults.specs.Spots.{bytes_at}
+use Rattle.call_faults.specs.Words.{has_number, name_of, plural}
+use Rattle.text_faults.specs.Words.{quoted}
 use Rattle.call_faults.specs.declared.faults.Part.{Part}
 use Rattle.call_faults.specs.declared.faults.Part.TheVariants.{Position as PositionPart}
 use Rattle.call_faults.specs.declared.faults.Part.TheVariants.{Precision as PrecisionPart}
 use Rattle.call_faults.specs.declared.faults.Part.TheVariants.{Width as WidthPart}
 use Rattle.call_faults.specs.declared.faults.Reference.{Reference}
-use Rattle.call_faults.specs.declared.spots.Spot.{Spot}
-use Rattle.call_faults.specs.declared.spots.Spot.TheVariants.{Value, ValueUpToNext, Literal}
-use Rattle.call_faults.specs.declared.spots.Spot.TheVariants.{LiteralEnd, AfterLiteral, ValueEnd}
-use Rattle.call_faults.specs.declared.spots.Spot.TheVariants.{Call as WholeCall}
+use Rattle.text_faults.specs.declared.spots.Spot.{Spot}
+use Rattle.text_faults.specs.declared.spots.Spot.TheVariants.{Value, ValueUpToNext, Literal}
+use Rattle.text_faults.specs.declared.spots.Spot.TheVariants.{LiteralEnd, AfterLiteral, ValueEnd}
+use Rattle.text_faults.specs.declared.spots.Spot.TheVariants.{Call as WholeCall}
 
 -- The note of an error of the string.
 abbrev pub text_notes : Option (List ℕ) → List Note

@@ -32,7 +32,7 @@ use Rattle.call_faults.specs.declared.arguments.Kept.{Kept as DeclaredKept}
 use Rattle.call_faults.specs.declared.arguments.Arguments.{Arguments}
 use Rattle.call_faults.specs.declared.spots.CallEdit.{CallEdit}
 use Rattle.call_faults.specs.declared.spots.CallHelp.{CallHelp}
-use Rattle.call_faults.specs.declared.spots.CallLabel.{CallLabel}
+use Rattle.text_faults.specs.declared.spots.CallLabel.{CallLabel}
 use Rattle.call_faults.specs.declared.spots.CallNote.{CallNote}
 use Rattle.call_faults.specs.declared.lookups.Lookup.{Lookup as DeclaredLookup}
 use Rattle.call_faults.specs.declared.lookups.Lookup.TheVariants.{Refer as ReferIn}
@@ -45,7 +45,8 @@ use Rattle.call_faults.specs.CallFaults.{MissingName, UnknownTrait, MissingArgum
 use Rattle.call_faults.specs.CallFaults.{UnusedArguments, RedundantArguments, NameUsedByIndex}
 use Rattle.call_faults.specs.Lookups.{Lookup, Refer, NoTrait}
 use Rattle.call_faults.specs.Labels.{Call}
-use Rattle.call_faults.specs.Spots.{Edit, Help, Label, Note}
+use Rattle.call_faults.specs.Spots.{Edit, Help, Note}
+use Rattle.text_faults.specs.Spots.{Label}
 use Rattle.call_faults.specs.Words.{TitleParts}
 
 -- An argument as a contract sees it.
@@ -105,10 +106,6 @@ title_parts c numbers = record {
   total = c.parser.next;
   numbers = numbers;
 }
-
--- A label as a contract sees it.
-abbrev pub seen_label : CallLabel → Label
-seen_label l = record { spot = l.spot; is_primary = l.is_primary; text = string_bytes l.text }
 
 -- A note as a contract sees it.
 abbrev pub seen_note : CallNote → Note

@@ -9,22 +9,9 @@ use Rattle.rustc_parse_format.specs.World.{Place}
 use Rattle.call_faults.specs.declared.faults.Part.{Part}
 use Rattle.call_faults.specs.declared.faults.Part.TheVariants.{Position, Precision, Width}
 use Rattle.call_faults.specs.declared.faults.Reference.{Reference}
-use Rattle.call_faults.specs.declared.spots.Spot.{Spot}
-use Rattle.call_faults.specs.declared.spots.Spot.TheVariants.{Literal, Bytes}
-
--- A label: where it is, whether the fault is about that place, and its text.
-pub record Label : Type 0 where
-  pub spot : Spot
-  pub is_primary : Bool
-  pub text : List ℕ
-
--- A label of a place that the fault is about.
-abbrev pub primary : Spot → List ℕ → Label
-primary s t = record { spot = s; is_primary = true; text = t }
-
--- A label of another place.
-abbrev pub secondary : Spot → List ℕ → Label
-secondary s t = record { spot = s; is_primary = false; text = t }
+use Rattle.text_faults.specs.Spots.{bytes_at}
+use Rattle.text_faults.specs.declared.spots.Spot.{Spot}
+use Rattle.text_faults.specs.declared.spots.Spot.TheVariants.{Literal, Bytes}
 
 -- A note, and the places that it shows.
 pub record Note : Type 0 where
@@ -51,10 +38,6 @@ edit s t = record { spot = s; text = t; copied = None; rest = [] }
 pub record Help : Type 0 where
   pub text : List ℕ
   pub edits : List Edit
-
--- A range of the literal.
-abbrev pub bytes_at : Place → Spot
-bytes_at p = Bytes p.0 p.1
 
 -- A range of the literal, or the whole literal if there is none.
 abbrev pub spot_of : Option Place → Spot

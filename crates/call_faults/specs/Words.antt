@@ -8,6 +8,7 @@ use Rattle.rustc_parse_format.specs.FaultIds.{fault_id}
 use Rattle.rustc_parse_format.specs.Faults.{message}
 use Rattle.rustc_parse_format.specs.Types.{Argument, Count, Implied, Index, Implicit, Is, Lit, Name}
 use Rattle.rustc_parse_format.specs.Types.{Named, NextArgument, Param, Piece, Position, Star}
+use Rattle.text_faults.specs.Words.{quoted}
 use Rattle.call_faults.specs.Arguments.{FormatArgument}
 use Rattle.call_faults.specs.CallFaults.{CallFault, PositionalAfterNamed, RepeatedName, TextFault}
 use Rattle.call_faults.specs.CallFaults.{MissingName, UnknownTrait, MissingArguments}
@@ -65,10 +66,6 @@ separator (m ∷ n ∷ ns) = codes ", "
 abbrev pub listed : List ℕ → List ℕ
 listed [] = []
 listed (n ∷ ns) = decimal n ++ (separator ns ++ listed ns)
-
--- A name between backquotes.
-abbrev pub quoted : Text → List ℕ
-quoted w = codes "`" ++ (encode_utf8_all w ++ codes "`")
 
 -- The name of an argument, or nothing if it has none.
 abbrev pub name_of : Option FormatArgument → Text

@@ -14,16 +14,16 @@ ghost use Rattle.placeholder_check.specs.Seen.{text as seen_text};
 ghost use Rattle.rustc_parse_format.specs.SeenFaults.{seen_fault as seen_text_fault};
 ghost use Rattle.call_faults.specs.Seen.{seen_fault, seen_given, start};
 ghost use Rattle.call_faults.specs.Spots.{counts_before};
-ghost use Rattle.call_faults.specs.Texts.{text_fault};
+ghost use Rattle.text_faults.specs.Texts.{text_fault};
 
 use crate::arguments::{FormatArgument, arguments_of};
 use crate::compared::{compare, indices_of};
 use crate::faults::CallFault;
 use crate::lookups::lookups_of;
 use crate::spots::counts_before;
-use crate::text::text_fault;
 use rustc_parse_format::{Fault, ParseMode, Parser, Piece, read_all};
 use std::alloc::{AllocError, Global};
+use text_faults::text_fault;
 
 /// The format string of a call.
 #[derive(Clone, Copy)]

@@ -18,11 +18,12 @@ use crate::checker::CallReport;
 use crate::faults::{CallFault, Part, Reference};
 use crate::labels::{have_names, is_last};
 use crate::notes::{are_missing, put_specifiers};
-use crate::spots::{CallEdit, CallHelp, Spot, bytes_at, index_spot};
+use crate::spots::{CallEdit, CallHelp, bytes_at, index_spot};
 use crate::titles::{name_of, put_number};
 use rustc_parse_format::{Fault, Suggestion};
 use std::alloc::{AllocError, Global};
 use std::ops::Range;
+use text_faults::Spot;
 
 /// Returns an edit that copies no source.
 fn plain_edit(spot: Spot, text: String) -> CallEdit

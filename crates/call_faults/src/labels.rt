@@ -13,23 +13,24 @@ ghost use Rattle.call_faults.specs.Labels.{removal_up_to_next, second_label, sec
 ghost use Rattle.call_faults.specs.Labels.{several_text, single_text, text_labels};
 ghost use Rattle.call_faults.specs.Labels.{unused_and_literal};
 ghost use Rattle.call_faults.specs.Labels.{unused_labels, use_text};
-ghost use Rattle.call_faults.specs.Seen.{seen_call, seen_given, seen_label};
-ghost use Rattle.call_faults.specs.Spots.{primary, secondary};
-ghost use Rattle.call_faults.specs.declared.spots.Spot.TheVariants.{Argument as WholeArgument};
-ghost use Rattle.call_faults.specs.declared.spots.Spot.TheVariants.{Value};
+ghost use Rattle.call_faults.specs.Seen.{seen_call, seen_given};
+ghost use Rattle.text_faults.specs.Seen.{seen_label};
+ghost use Rattle.text_faults.specs.Spots.{primary, secondary};
+ghost use Rattle.text_faults.specs.declared.spots.Spot.TheVariants.{Argument as WholeArgument};
+ghost use Rattle.text_faults.specs.declared.spots.Spot.TheVariants.{Value};
 
 use crate::arguments::FormatArgument;
 use crate::checker::CallReport;
 use crate::faults::{CallFault, Reference};
 use crate::missing_labels::{few_labels, push_missing};
 use crate::spots::{
-    CallLabel, Spot, bytes_at, named_spot, push_plain, push_primary, push_secondary, type_spot,
-    use_spot,
+    bytes_at, named_spot, push_plain, push_primary, push_secondary, type_spot, use_spot,
 };
 use crate::titles::{have_numbers, name_of, never_used, put_name_between};
 use rustc_parse_format::{Fault, ParseError, Suggestion};
 use std::alloc::{AllocError, Global};
 use std::ops::Range;
+use text_faults::{CallLabel, Spot};
 
 /// Returns the label of an argument with a name in front of one without.
 #[tactic(auto, unfolding(crate::specs::Labels::named_text))]
@@ -329,7 +330,8 @@ fn push_by_index(
 impl<'a> CallReport<'a> {
     ghost use Rattle.std.specs.Prelude.{◌≡◌, IfOk, map};
     ghost use Rattle.call_faults.specs.Labels.{labels};
-    ghost use Rattle.call_faults.specs.Seen.{seen_call, seen_fault, seen_label};
+    ghost use Rattle.call_faults.specs.Seen.{seen_call, seen_fault};
+    ghost use Rattle.text_faults.specs.Seen.{seen_label};
 
     /// Returns the labels of one of the faults, as rustc has them. The primary label that begins
     /// first in the source is where rustc says that the fault is. A fault of the string has the

@@ -11,11 +11,9 @@ mod lookups;
 mod missing_labels;
 mod notes;
 mod spots;
-mod text;
 mod titles;
 
 pub use arguments::FormatArgument;
 pub use checker::{CallReport, FormatString, call_faults};
 pub use faults::{CallFault, Missing, Part, Reference};
-pub use spots::{CallEdit, CallHelp, CallLabel, CallNote, Spot};
-pub use text::text_fault;
+pub use spots::{CallEdit, CallHelp, CallNote};

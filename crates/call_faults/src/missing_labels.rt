@@ -6,19 +6,20 @@ ghost use Rattle.rustc_parse_format.specs.Seen.{pair, seen, seen_count, seen_pos
 ghost use Rattle.call_faults.specs.Labels.{expected_count, few_labels, is_next, next_label};
 ghost use Rattle.call_faults.specs.Labels.{next_labels, star_label, star_labels, star_of};
 ghost use Rattle.call_faults.specs.Labels.{star_text};
-ghost use Rattle.call_faults.specs.Seen.{seen_call, seen_label};
-ghost use Rattle.call_faults.specs.Spots.{primary, reference_spot, secondary};
-ghost use Rattle.call_faults.specs.declared.spots.Spot.TheVariants.{Value};
+ghost use Rattle.call_faults.specs.Seen.{seen_call};
+ghost use Rattle.text_faults.specs.Seen.{seen_label};
+ghost use Rattle.text_faults.specs.Spots.{primary, secondary};
+ghost use Rattle.call_faults.specs.Spots.{reference_spot};
+ghost use Rattle.text_faults.specs.declared.spots.Spot.TheVariants.{Value};
 
 use crate::checker::CallReport;
 use crate::faults::Missing;
-use crate::spots::{
-    CallLabel, Spot, first_spot, push_plain, push_secondary, reference_spot, rest_after, spot_of,
-};
+use crate::spots::{first_spot, push_plain, push_secondary, reference_spot, rest_after, spot_of};
 use crate::titles::put_number;
 use rustc_parse_format::{Count, Piece, Position};
 use std::alloc::{AllocError, Global};
 use std::ops::Range;
+use text_faults::{CallLabel, Spot};
 
 /// Adds the labels of references by an index that is too large.
 pub(crate) fn push_missing(

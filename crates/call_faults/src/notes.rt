@@ -24,11 +24,12 @@ use crate::arguments::{FormatArgument, index_of, insert};
 use crate::checker::CallReport;
 use crate::faults::CallFault;
 use crate::missing_labels::star_of;
-use crate::spots::{CallNote, Spot, bytes_at};
+use crate::spots::{CallNote, bytes_at};
 use crate::titles::{have_numbers, put_name_between, put_number};
 use rustc_parse_format::{Alignment, Count, Fault, FormatSpec, Piece, Position};
 use std::alloc::{AllocError, Global};
 use std::collections::BTreeMap;
+use text_faults::Spot;
 
 /// Adds a note that shows no place.
 fn push_plain(notes: &mut Vec<CallNote>, text: &str) -> Result<(), AllocError>

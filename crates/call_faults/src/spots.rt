@@ -1,61 +1,22 @@
-//! The places of a call that messages show, and their labels, notes and helps, as plain data.
+//! The notes and helps of a call, as plain data, and the places that messages show.
 
 ghost use Rattle.std.specs.Prelude.{◌≡◌, ◌+◌, ◌<◌, ◌^◌, ◌++◌, ◌∷◌, [], IfOk, OnOk, map, option_map};
 ghost use Rattle.std.specs.List.{slice_get};
 ghost use Rattle.rustc_parse_format.specs.Seen.{pair, seen, seen_argument, seen_count};
-ghost use Rattle.call_faults.specs.Spots.{rest_after, after_dot, bytes_at, count_spot, count_with};
+ghost use Rattle.call_faults.specs.Spots.{rest_after, after_dot, count_spot, count_with};
+ghost use Rattle.text_faults.specs.Spots.{bytes_at};
 ghost use Rattle.call_faults.specs.Spots.{counts_before, index_spot};
 ghost use Rattle.call_faults.specs.Spots.{name_spot, named_spot, part_spot, place_of};
-ghost use Rattle.call_faults.specs.Spots.{placeholder_at, primary, reference_spot, secondary};
+ghost use Rattle.call_faults.specs.Spots.{placeholder_at, reference_spot};
+ghost use Rattle.text_faults.specs.Spots.{primary, secondary};
 ghost use Rattle.call_faults.specs.Spots.{spot_of, type_spot, use_spot};
-ghost use Rattle.call_faults.specs.Seen.{seen_label};
+ghost use Rattle.text_faults.specs.Seen.{seen_label};
 
 use crate::faults::{Part, Reference};
 use rustc_parse_format::{Argument, Count, Piece};
 use std::alloc::{AllocError, Global};
 use std::ops::Range;
-
-/// A place in the source of a call, which is a byte range there. An argument is named by its index
-/// among all that are given.
-#[derive(Clone, Copy, Debug, PartialEq)]
-pub enum Spot {
-    /// An argument, from its name on if it has one.
-    Argument(usize),
-    /// The name of an argument, as it is written.
-    Name(usize),
-    /// The value of an argument: its expression.
-    Value(usize),
-    /// The value of an argument, and what is after it up to the value of the next one.
-    ValueUpToNext(usize),
-    /// The empty range after the value of an argument.
-    ValueEnd(usize),
-    /// The literal of the format string.
-    Literal,
-    /// The empty range in front of the closing quote of that literal.
-    LiteralEnd,
-    /// The empty range after that literal.
-    AfterLiteral,
-    /// The call, from the path of its macro to the delimiter that closes it.
-    Call,
-    /// These bytes of that literal, as the spans of the parser count them.
-    Bytes {
-        /// The offset of the first byte.
-        start: usize,
-        /// The offset after the last byte.
-        end: usize,
-    },
-}
-
-/// A label under the source of a call.
-#[derive(Debug, PartialEq, Drop)]
-pub struct CallLabel {
-    /// Where it is.
-    pub spot: Spot,
-    /// Whether the fault is about this place: it has the sign `^`, and the others have `-`.
-    pub is_primary: bool,
-    /// Its text, in rustc's words, or an empty one.
-    pub text: String,
-}
+use text_faults::{CallLabel, Spot};
 
 /// A note of a fault.
 #[derive(Debug, PartialEq, Drop)]
@@ -279,7 +240,7 @@ pub(crate) fn first_spot(places: &[Range<usize>]) -> Spot
 
 /// Returns the place of the placeholder with an index among pieces, before each of which so many
 /// stand, or the whole literal if it has none.
-#[tactic(auto, using(crate::proofs::Collecting::at_index))]
+#[tactic(auto, using(text_faults::proofs::Collecting::at_index))]
 fn place_spot(counts: &[usize], places: &[Range<usize>], index: usize) -> Spot
     ensures { result ≡ spot_of (place_of counts.now (map pair places.now) index) }
 {

@@ -12,7 +12,8 @@ ghost use Rattle.placeholder_check.specs.Uses.{uses};
 ghost use Rattle.call_faults.specs.Seen.{seen_fault, seen_given, title_parts};
 ghost use Rattle.call_faults.specs.Words.{call_id, count_text, few_title, has_number, is_counted};
 ghost use Rattle.call_faults.specs.Words.{is_named, is_number, listed, name_of, never_used};
-ghost use Rattle.call_faults.specs.Words.{numbers_title, plural, quoted, separator};
+ghost use Rattle.call_faults.specs.Words.{numbers_title, plural, separator};
+ghost use Rattle.text_faults.specs.Words.{quoted};
 ghost use Rattle.call_faults.specs.Words.{title, unused_title};
 
 use crate::arguments::FormatArgument;

@@ -2,8 +2,8 @@
 use Rattle.std.proofs.Common.{◌≡◌, ◌++◌, ◌+◌, ◌-◌, ◌<◌, ℕ, zero, suc, Bool, List, []}
 use Rattle.std.proofs.Common.{◌∷◌, append_assoc, arith, inl, inr, map, refl, subst, sym}
 use Rattle.format_calls.specs.Rows.{Entry}
-use Rattle.source_lint.specs.declared.report.Finding.{Finding}
-use Rattle.source_lint.specs.declared.report.Report.{Report}
+use Rattle.source_report.specs.declared.report.Finding.{Finding}
+use Rattle.source_report.specs.declared.report.Report.{Report}
 use Rattle.file_fixes.specs.FileFixes.{AreRounds, IsLast, IsRound}
 
 -- Where no round follows, nothing changes.

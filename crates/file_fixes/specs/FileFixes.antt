@@ -6,8 +6,8 @@ use Rattle.std.specs.declared.string.String.{String}
 use Rattle.fault_fixes.specs.Edits.{applied}
 use Rattle.format_calls.specs.Rows.{Entry}
 use Rattle.source_lint.specs.Reports.{IsReport}
-use Rattle.source_lint.specs.declared.report.Report.{Report}
-use Rattle.file_fixes.specs.Suggestions.{all_edits, mended}
+use Rattle.source_report.specs.declared.report.Report.{Report}
+use Rattle.source_report.specs.Suggestions.{all_edits, mended}
 
 -- The bytes of a text.
 abbrev pub bytes_or : Option (String Global) → List ℕ → List ℕ

@@ -1,3 +1,1 @@
 pub mod FileFixes
-pub mod SeenEdited
-pub mod Suggestions

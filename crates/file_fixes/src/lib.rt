@@ -2,9 +2,6 @@
 //! strings ([`fixes`]).
 #![tactic(auto)]
 
-mod edited;
 mod rounds;
-mod suggestions;
 
 pub use rounds::{FileFixes, fixes, is_no_worse};
-pub use suggestions::{LabelSuggestion, is_applicable, suggestion_of};

@@ -4,13 +4,13 @@ ghost use Rattle.std.specs.Prelude.{◌≡◌, ◌++◌, ◌↔◌, IfOk, IfSome
 ghost use Rattle.std.specs.Prelude.{string_bytes};
 ghost use Rattle.std.specs.List.{All};
 ghost use Rattle.format_calls.specs.Rows.{entry};
-ghost use Rattle.source_lint.specs.Findings.{HasSpans};
+ghost use Rattle.asm_lint.specs.Spans.{HasSpans};
 ghost use Rattle.source_lint.specs.Reports.{IsReport};
-ghost use Rattle.source_lint.specs.declared.report.Report.{Report as ReportValue};
+ghost use Rattle.source_report.specs.declared.report.Report.{Report as ReportValue};
 ghost use Rattle.file_fixes.specs.FileFixes.{AreRounds, IsLast, IsNoWorse, IsRound, bytes_or};
 
-use crate::edited::mend_each;
-use source_lint::{Options, Report, file_faults};
+use source_lint::file_faults;
+use source_report::{Options, Report, mend_each};
 use std::alloc::{AllocError, Global};
 
 /// The most rounds.

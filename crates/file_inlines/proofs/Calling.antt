@@ -8,9 +8,9 @@ use Rattle.format_calls.specs.Arguments.{AreArguments}
 use Rattle.format_calls.specs.declared.listing.Call.{Call}
 use Rattle.format_calls.specs.declared.split.Argument.{Argument}
 use Rattle.format_calls.specs.declared.table.Rule.{Rule}
-use Rattle.source_lint.specs.Literals.{appends_newline}
+use Rattle.asm_lint.specs.Literals.{appends_newline}
 use Rattle.source_lint.specs.Readings.{captures, index_or}
-use Rattle.source_lint.specs.declared.report.CallReading.{CallReading}
+use Rattle.source_report.specs.declared.report.CallReading.{CallReading}
 use Rattle.inlined_arguments.specs.Conditions.{Call as FormatCall}
 use Rattle.inlined_arguments.specs.Edits.{Edit}
 use Rattle.inlined_arguments.specs.Variables.{Argument as FormatArgument}

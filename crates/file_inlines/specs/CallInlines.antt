@@ -15,9 +15,9 @@ use Rattle.format_calls.specs.declared.split.Argument.{Argument}
 use Rattle.format_calls.specs.declared.table.Rule.{Rule}
 use Rattle.format_calls.specs.declared.table.Rule.TheVariants.{At, IndexByEdition, FirstLiteral}
 use Rattle.format_calls.specs.declared.table.Rule.TheVariants.{Templates}
-use Rattle.source_lint.specs.declared.report.CallReading.{CallReading}
-use Rattle.source_lint.specs.declared.report.CallReading.TheVariants.{Malformed}
-use Rattle.source_lint.specs.Literals.{appends_newline, without_crs}
+use Rattle.source_report.specs.declared.report.CallReading.{CallReading}
+use Rattle.source_report.specs.declared.report.CallReading.TheVariants.{Malformed}
+use Rattle.asm_lint.specs.Literals.{appends_newline, without_crs}
 use Rattle.source_lint.specs.Readings.{Scope, arguments_before, captures, ends_early, index_or}
 use Rattle.source_lint.specs.Readings.{name_at, skipped}
 use Rattle.inlined_arguments.specs.Conditions.{Call as FormatCall}

@@ -8,7 +8,7 @@ use Rattle.source_lint.specs.CallLists.{OfCalls}
 use Rattle.source_lint.specs.Files.{AreLeaves}
 use Rattle.source_lint.specs.Macros.{macro_names}
 use Rattle.source_lint.specs.Reports.{IsReport}
-use Rattle.source_lint.specs.declared.report.Report.{Report}
+use Rattle.source_report.specs.declared.report.Report.{Report}
 use Rattle.file_fixes.specs.FileFixes.{IsNoWorse, bytes_or}
 use Rattle.inlined_arguments.specs.Edits.{AreApart, Edit, MakeNoText, edited}
 use Rattle.file_inlines.specs.CallInlines.{Inlines}

@@ -5,7 +5,7 @@ use Rattle.rustc_parse_format.specs.World.{Place}
 use Rattle.rust_trees.specs.Leaves.{Leaf}
 use Rattle.format_calls.specs.Marks.{is_word}
 use Rattle.format_calls.specs.declared.split.Argument.{Argument}
-use Rattle.source_lint.specs.Givens.{name_of}
+use Rattle.asm_lint.specs.Names.{name_of}
 use Rattle.inlined_arguments.specs.Variables.{Argument as FormatArgument}
 
 abbrev pub end_of : List ℕ → Option Leaf → ℕ

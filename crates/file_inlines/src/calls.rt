@@ -20,14 +20,15 @@ ghost use Rattle.file_inlines.specs.declared.calls.CallInlining.{CallInlining as
 
 use crate::edits::edits_of;
 use crate::sources::with_sources;
+use asm_lint::{appends_newline, read_literal};
 use call_faults::FormatString;
 use format_calls::{Argument, Call, Part, Rule, arguments, extent_of, is_standard, token_at};
 use inlined_arguments::{Call as FormatCall, Edit, Left, inlined};
 use rust_trees::Token;
 use source_lint::{
-    CallReading, File, appends_newline, argument_at, arguments_before, captures, ends_early,
-    index_or, name_at, other_macro, read_literal,
+    File, argument_at, arguments_before, captures, ends_early, index_or, name_at, other_macro,
 };
+use source_report::CallReading;
 use std::alloc::{AllocError, Global};
 
 /// What inlining makes of a call.

@@ -4,15 +4,16 @@ ghost use Rattle.std.specs.Prelude.{◌≡◌, ◌++◌, IfOk, IfSome, IsTrue, O
 ghost use Rattle.std.specs.Prelude.{slice_get};
 ghost use Rattle.std.specs.List.{filter_map};
 ghost use Rattle.rust_trees.specs.Leaves.{leaf};
-ghost use Rattle.source_lint.specs.Literals.{without_crs};
+ghost use Rattle.asm_lint.specs.Literals.{without_crs};
 ghost use Rattle.inlined_arguments.specs.Seen.{seen_edit, seen_inlined};
 ghost use Rattle.file_inlines.specs.CallInlines.{AreEdits, AreLiteralEdits, moved, removal};
 
 use crate::sources::removed;
+use asm_lint::{dropped_crs, offset_in, without_crs};
 use format_calls::Argument;
 use inlined_arguments::{Edit, Inlined, apply_edits};
 use rust_trees::Token;
-use source_lint::{argument_at, dropped_crs, offset_in, without_crs};
+use source_lint::argument_at;
 use std::alloc::{AllocError, Global};
 
 /// Returns the edits of a literal with lines that end with LF as edits of its token, which has

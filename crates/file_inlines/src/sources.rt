@@ -6,10 +6,10 @@ ghost use Rattle.rust_trees.specs.Leaves.{leaf};
 ghost use Rattle.inlined_arguments.specs.Seen.{seen_argument};
 ghost use Rattle.file_inlines.specs.Sources.{end_at, removed, with_source, word_of};
 
+use asm_lint::name_of;
 use format_calls::{Argument, is_word, token_at};
 use inlined_arguments::Argument as FormatArgument;
 use rust_trees::Token;
-use source_lint::name_of;
 use std::alloc::{AllocError, Global};
 use std::ops::Range;
 

@@ -2,19 +2,16 @@
 
 ghost use Rattle.std.specs.Prelude.{◌≡◌};
 
-use crate::changes::{Change, replace};
-use crate::editions::Editions;
-use crate::failure::Failure;
-use crate::forms::{File, Form, put_end, put_finding, put_start};
-use crate::literal::tell_of_terminal;
-use crate::options::is_option;
-use crate::recorder::Recorder;
 use crate::rewrites::{Rewrite, apply_rewrite};
 use crate::totals::Totals;
 use crate::walk::Walk;
+use finding_forms::{File, put_end, put_finding, put_start};
+use lint_program::{Change, Editions, Failure, Recorder, is_option, replace, tell_of_terminal};
+use lint_words::Form;
 use piece_listing::run::write_whole;
 use rust_trees::{BreakKind, Places};
-use source_lint::{Options, Report, file_faults};
+use source_lint::file_faults;
+use source_report::{Options, Report};
 use std::io::Read;
 use std::{fs, io};
 use unified_diff::put_diff;

@@ -1,34 +1,24 @@
 //! Finds the faults of format strings in Rust sources, or in one string, as the Rust compiler does.
 #![tactic(auto)]
 
-mod arguments;
-mod changes;
-mod drawings;
-mod editions;
-mod failure;
 mod files;
-mod forms;
 mod inlinings;
-mod literal;
-mod options;
-mod progress;
-mod recorder;
 mod rewrites;
 mod totals;
 mod walk;
 
-use arguments::{change_of, form_of, has_colours, table_of, width_of};
-use changes::Change;
 use clap::error::ErrorKind;
 use clap::{ArgMatches, Error};
 use drawn_lines::WIDTH;
 use fault_rules::{RULES, put_explanation, rule_of};
 use files::{Request, lint, write};
-use forms::Form;
-use literal::{literal_status, tell};
-use options::{VERSION, command};
+use lint_program::{
+    Change, VERSION, change_of, command, form_of, has_colours, literal_status, table_of, tell,
+    width_of,
+};
+use lint_words::Form;
 use rewrites::Rewrite;
-use source_lint::Options;
+use source_report::Options;
 use std::alloc::{AllocError, Global};
 use std::env;
 use std::process::ExitCode;

@@ -2,7 +2,7 @@
 
 use file_fixes::fixes;
 use file_inlines::{CallInlining, inlines};
-use source_lint::{Options, Report};
+use source_report::{Options, Report};
 use std::alloc::{AllocError, Global};
 
 /// What a request changes in files.

@@ -1,14 +1,13 @@
 //! The totals of a run over files, and the lines about it on standard error.
 
-use crate::changes::StepFailure;
 use crate::inlinings::{Inlinings, NO_CALLS};
-use crate::progress::Progress;
 use crate::rewrites::Rewritten;
 use format_calls::Reason;
+use lint_program::{Progress, StepFailure};
 use lint_words::{put_failure, put_place_failure, system_words};
 use piece_listing::verdict::RunFault;
 use rust_trees::Place;
-use source_lint::{CallReading, Report};
+use source_report::{CallReading, Report};
 use std::alloc::AllocError;
 use std::io;
 

@@ -18,7 +18,7 @@ use Rattle.rustc_parse_format.specs.Types.{Piece, Lit, NextArgument}
 use Rattle.rustc_parse_format.specs.Types.{Position, Implicit, Index, Named}
 use Rattle.rustc_parse_format.specs.World.{Place}
 use Rattle.placeholder_check.specs.Noted.{has_text}
-use Rattle.call_faults.specs.declared.spots.Spot.{Spot}
+use Rattle.text_faults.specs.declared.spots.Spot.{Spot}
 use Rattle.message_faults.specs.Messages.{MessageFault, MissingParameter, faults_of, faults_or}
 use Rattle.message_faults.specs.Messages.{is_parameter, piece_faults, pieces, position_faults}
 use Rattle.message_faults.specs.Messages.{specifier_faults, spot_of}

@@ -4,9 +4,9 @@ use Rattle.rustc_parse_format.specs.Characters.{Text}
 use Rattle.rustc_parse_format.specs.FaultIds.{fault_id}
 use Rattle.rustc_parse_format.specs.Faults.{Message, message}
 use Rattle.rustc_parse_format.specs.World.{Place}
-use Rattle.call_faults.specs.Spots.{Label, bytes_at, primary, secondary}
-use Rattle.call_faults.specs.Words.{quoted}
-use Rattle.call_faults.specs.declared.spots.Spot.TheVariants.{Literal}
+use Rattle.text_faults.specs.Spots.{Label, bytes_at, primary, secondary}
+use Rattle.text_faults.specs.Words.{quoted}
+use Rattle.text_faults.specs.declared.spots.Spot.TheVariants.{Literal}
 use Rattle.message_faults.specs.Messages.{MessageFault, TextFault, Specifier, Positional}
 use Rattle.message_faults.specs.Messages.{MissingParameter}
 

@@ -8,7 +8,7 @@ ghost use Rattle.rustc_parse_format.specs.Seen.{pair, seen, seen_argument, seen_
 ghost use Rattle.rustc_parse_format.specs.SeenFaults.{seen_fault as seen_text_fault};
 ghost use Rattle.placeholder_check.specs.Noted.{has_text};
 ghost use Rattle.placeholder_check.specs.Seen.{text as seen_text};
-ghost use Rattle.call_faults.specs.Texts.{text_fault};
+ghost use Rattle.text_faults.specs.Texts.{text_fault};
 ghost use Rattle.message_faults.specs.Messages.{faults_of, faults_or, message_faults, name_faults};
 ghost use Rattle.message_faults.specs.Messages.{piece_faults, placeholder_faults};
 ghost use Rattle.message_faults.specs.Messages.{specifier_faults, spot_of};
@@ -16,11 +16,11 @@ ghost use Rattle.message_faults.specs.Seen.{HasNames, HasParameters, known_names
 ghost use Rattle.message_faults.specs.Seen.{start};
 
 use crate::faults::MessageFault;
-use call_faults::{Spot, text_fault};
 use rustc_parse_format::{Argument, Fault, ParseMode, Parser, Piece, Position, read_all};
 use std::alloc::{AllocError, Global};
 use std::collections::BTreeSet;
 use std::ops::Range;
+use text_faults::{Spot, text_fault};
 
 /// A text of an attribute.
 #[derive(Clone, Copy)]

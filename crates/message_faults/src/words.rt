@@ -4,15 +4,15 @@
 ghost use Rattle.std.specs.Prelude.{◌≡◌, ◌++◌, ◌∷◌, [], OnOk, chars, map, string_bytes};
 ghost use Rattle.rustc_parse_format.specs.Faults.{message};
 ghost use Rattle.rustc_parse_format.specs.SeenFaults.{seen_fault as seen_text_fault};
-ghost use Rattle.call_faults.specs.Seen.{seen_label};
-ghost use Rattle.call_faults.specs.Spots.{primary, secondary};
-ghost use Rattle.call_faults.specs.Words.{quoted};
+ghost use Rattle.text_faults.specs.Seen.{seen_label};
+ghost use Rattle.text_faults.specs.Spots.{primary, secondary};
+ghost use Rattle.text_faults.specs.Words.{quoted};
 ghost use Rattle.message_faults.specs.Words.{parameter_title, text_labels};
 
 use crate::faults::MessageFault;
-use call_faults::{CallLabel, Spot};
 use rustc_parse_format::Fault;
 use std::alloc::{AllocError, Global};
+use text_faults::{CallLabel, Spot};
 
 /// Adds a name between backquotes.
 fn put_quoted(out: &mut String, name: &str) -> Result<(), AllocError>
@@ -97,7 +97,7 @@ fn push_text(
 impl<'a> MessageFault<'a> {
     ghost use Rattle.std.specs.Prelude.{◌≡◌, ◌++◌, IfOk, OnOk, chars, map, option_map};
     ghost use Rattle.std.specs.Prelude.{string_bytes};
-    ghost use Rattle.call_faults.specs.Seen.{seen_label};
+    ghost use Rattle.text_faults.specs.Seen.{seen_label};
     ghost use Rattle.message_faults.specs.Seen.{seen_fault};
     ghost use Rattle.message_faults.specs.Words.{help, labels, message_id, title};
 

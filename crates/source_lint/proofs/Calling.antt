@@ -1,35 +1,21 @@
 -- A call that is read.
-use Rattle.std.proofs.Common.{◌≡◌, ◌<◌, ◌≤◌, ◌+◌, ◌-◌, ◌⊎◌, ℕ, Bool, List, Option, None}
-use Rattle.std.proofs.Common.{Some, inl, inr, sym, subst, ◌∙◌, length, length-drop, arith, drop}
+use Rattle.std.proofs.Common.{◌≡◌, ◌+◌, ◌-◌, ℕ, Bool, List, Option, None}
+use Rattle.std.proofs.Common.{Some, sym, subst, ◌∙◌, length, length-drop, arith, drop}
 use Rattle.std.proofs.Common.{take}
 use Rattle.std.specs.Prelude.{Result, slice_get}
-use Rattle.std.proofs.lemmas.Bool.{cases_lt}
 use Rattle.std.proofs.lemmas.List.{take_all}
 use Rattle.std.proofs.lemmas.Option.{none-some}
 use Rattle.rustc_parse_format.specs.Characters.{Text}
 use Rattle.rust_trees.specs.Forests.{IsPair}
 use Rattle.rust_trees.specs.Leaves.{Leaf}
-use Rattle.rust_trees.proofs.Nested.{nested}
 use Rattle.format_calls.specs.Arguments.{AreArguments}
 use Rattle.format_calls.specs.declared.listing.Call.{Call}
 use Rattle.format_calls.specs.declared.split.Argument.{Argument}
 use Rattle.call_faults.specs.Arguments.{FormatArgument}
-use Rattle.source_lint.specs.declared.report.CallReading.{CallReading}
-use Rattle.source_lint.specs.declared.report.Finding.{Finding}
+use Rattle.source_report.specs.declared.report.CallReading.{CallReading}
+use Rattle.source_report.specs.declared.report.Finding.{Finding}
+use Rattle.asm_lint.proofs.Openings.{opening-once}
 use Rattle.source_lint.specs.Readings.{ReadsBy, ReadsLiteral, ReadsUnless, index_or}
-
--- One token opens the pair that a token closes.
-pub opening-once : (xs : List Leaf) (m n c : ℕ) → IsPair xs m c → IsPair xs n c → m ≡ n
-opening-once xs m n c p q = by_order (cases_lt m n) (cases_lt n m)
-  where
-    by_order : (m < n) ⊎ (n ≤ m) → (n < m) ⊎ (m ≤ n) → m ≡ n
-    by_order (inl h) k =
-        let e = q.ends in
-        let l = nested xs m c n c p q h (omega (arith, e)) in absurd (omega (arith, l))
-    by_order (inr h) (inl k) =
-        let e = p.ends in
-        let l = nested xs n c m c q p k (omega (arith, e)) in absurd (omega (arith, l))
-    by_order (inr h) (inr k) = omega (arith, h, k)
 
 -- The format string is there.
 pub string-there : {B : Type 0} (args : List Argument) (n : ℕ) (a : Argument)

@@ -11,7 +11,7 @@ use Rattle.call_faults.specs.Calls.{call_faults, kept_indices}
 use Rattle.call_faults.specs.Labels.{Call}
 use Rattle.call_faults.specs.Seen.{seen_call, seen_fault, seen_given}
 use Rattle.call_faults.specs.Spots.{counts_before}
-use Rattle.call_faults.specs.Texts.{text_fault}
+use Rattle.text_faults.specs.Texts.{text_fault}
 use Rattle.call_faults.specs.declared.checker.CallReport.{CallReport}
 use Rattle.source_lint.specs.Readings.{call_of, pieces, start_of}
 

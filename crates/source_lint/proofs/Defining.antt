@@ -15,12 +15,12 @@ use Rattle.std.proofs.lemmas.Map.Text.{is_eq-slice_cmp}
 use Rattle.rust_trees.specs.Leaves.{AreLeft, Leaf, Unread}
 use Rattle.format_calls.specs.declared.listing.Call.{Call}
 use Rattle.format_calls.specs.declared.table.Rule.{Rule}
-use Rattle.source_lint.specs.declared.report.CallReading.{CallReading}
-use Rattle.source_lint.specs.declared.report.Finding.{Finding}
+use Rattle.source_report.specs.declared.report.CallReading.{CallReading}
+use Rattle.source_report.specs.declared.report.Finding.{Finding}
 use Rattle.source_lint.specs.Macros.{begins_definition, definition, macro_names, names_after}
 use Rattle.source_lint.specs.Macros.{names_in}
 use Rattle.format_calls.specs.Marks.{is_word, word}
-use Rattle.source_lint.specs.Paths.{is_foreign}
+use Rattle.call_forms.specs.Paths.{is_foreign}
 use Rattle.source_lint.specs.CallLists.{Gives}
 use Rattle.source_lint.specs.Readings.{Reads, ReadsUnless, Scope, is_log, name_of_leaf}
 use Rattle.source_lint.specs.Readings.{offset_of_leaf, skipped, skipped_if}

@@ -14,8 +14,8 @@ use Rattle.format_calls.specs.Rows.{Entry}
 use Rattle.format_calls.specs.declared.listing.Call.{Call}
 use Rattle.format_calls.proofs.CallSteps.{call-within}
 use Rattle.source_lint.specs.CallLists.{AreCalls, Gives, OfCalls}
-use Rattle.source_lint.proofs.Elements.{here, in-mapped, mapped-in, nothing-in}
-use Rattle.source_lint.proofs.Embedding.{Embeds, embeds}
+use Rattle.asm_lint.proofs.Elements.{here, in-mapped, mapped-in, nothing-in}
+use Rattle.call_forms.proofs.Embedding.{Embeds, embeds}
 
 -- Calls in order stay so further on, and after others.
 rises-moved : (g from to : ℕ) (cs : List Call) → Rises from cs to

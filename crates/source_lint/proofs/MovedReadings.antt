@@ -16,25 +16,26 @@ use Rattle.format_calls.specs.declared.split.Argument.{Argument}
 use Rattle.format_calls.specs.declared.table.Rule.{Rule}
 use Rattle.format_calls.specs.declared.table.Rule.TheVariants.{At, IndexByEdition, FirstLiteral}
 use Rattle.format_calls.specs.declared.table.Rule.TheVariants.{Templates}
-use Rattle.source_lint.specs.declared.report.CallReading.{CallReading}
-use Rattle.source_lint.specs.declared.report.Finding.{Finding}
-use Rattle.source_lint.specs.Literals.{appends_newline}
+use Rattle.source_report.specs.declared.report.CallReading.{CallReading}
+use Rattle.source_report.specs.declared.report.Finding.{Finding}
+use Rattle.asm_lint.specs.Literals.{appends_newline}
 use Rattle.source_lint.specs.FormWords.{TellsForms}
-use Rattle.source_lint.specs.Expressions.{joined}
-use Rattle.source_lint.specs.Forms.{form_here}
+use Rattle.call_forms.specs.Expressions.{joined}
+use Rattle.call_forms.specs.Forms.{form_here}
 use Rattle.source_lint.specs.Readings.{Reads, ReadsAt, ReadsBy, ReadsOne, ReadsUnless, captures}
 use Rattle.source_lint.specs.Readings.{ends_early}
 use Rattle.source_lint.specs.Readings.{has_expressions, index_if, index_or, is_empty}
 use Rattle.source_lint.specs.Readings.{lack_expression, name_at}
 use Rattle.source_lint.specs.Readings.{Scope, name_of_leaf, skipped}
 use Rattle.source_lint.proofs.Calling.{reads-by}
-use Rattle.source_lint.proofs.Embedding.{Embeds}
+use Rattle.call_forms.proofs.Embedding.{Embeds}
 use Rattle.source_lint.proofs.Merging.{Moves}
-use Rattle.source_lint.proofs.MovedAssembly.{asm-same}
-use Rattle.source_lint.proofs.MovedArguments.{LiesIn, arguments-at, arguments-lie, counted-at}
-use Rattle.source_lint.proofs.MovedArguments.{shifted, up-to-at}
-use Rattle.source_lint.proofs.MovedForms.{form-same, parts-same, same-length}
-use Rattle.source_lint.proofs.MovedStrings.{lies-get, others-same, string-same}
+use Rattle.asm_lint.proofs.MovedAssembly.{asm-same}
+use Rattle.call_forms.proofs.MovedArguments.{LiesIn, arguments-at, arguments-lie, counted-at}
+use Rattle.call_forms.proofs.MovedArguments.{shifted, up-to-at}
+use Rattle.call_forms.proofs.MovedForms.{form-same, parts-same, same-length}
+use Rattle.asm_lint.proofs.MovedStrings.{lies-get, string-same}
+use Rattle.source_lint.proofs.MovedGivens.{others-same}
 
 -- The name of the macro is the same.
 pub name-same : (xs ys : List Leaf) (g i : ℕ) → Embeds xs ys g → i < length xs

@@ -6,8 +6,8 @@ use Rattle.std.proofs.lemmas.List.Elements.{filter-append}
 use Rattle.call_faults.specs.CallFaults.{CallFault}
 use Rattle.call_faults.specs.Labels.{Call}
 use Rattle.call_faults.specs.Spots.{Edit}
-use Rattle.source_lint.specs.declared.report.Edit.{Edit as FileEdit}
-use Rattle.source_lint.specs.declared.report.Finding.{Finding}
+use Rattle.source_report.specs.declared.report.Edit.{Edit as FileEdit}
+use Rattle.source_report.specs.declared.report.Finding.{Finding}
 use Rattle.source_lint.specs.Findings.{HasText, TellAll, TellEdits, counted_faults, is_text_fault}
 
 tell-join : (b : Bool) (c : Call) (fs gs : List CallFault) (xs ys : List Finding)

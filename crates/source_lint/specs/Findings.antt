@@ -1,9 +1,8 @@
 -- The findings of the faults of a call.
-use Rattle.std.specs.Prelude.{◌≡◌, ◌≤◌, ℕ, Bool, true, false, List, [], ◌∷◌, IfSome, filter}
+use Rattle.std.specs.Prelude.{◌≡◌, ℕ, Bool, true, false, List, [], ◌∷◌, filter}
 use Rattle.std.specs.Prelude.{◌++◌, ◌||◌, Option, Some, None, is_some, length, map, not}
 use Rattle.std.specs.Prelude.{if◌then◌else◌, string_bytes}
-use Rattle.std.specs.List.{All, list_any}
-use Rattle.std.specs.Str.{IsCharBoundary}
+use Rattle.std.specs.List.{list_any}
 use Rattle.rustc_parse_format.specs.World.{Place}
 use Rattle.placeholder_check.specs.Report.{IsReport, Report}
 use Rattle.placeholder_check.specs.Uses.{uses}
@@ -13,14 +12,11 @@ use Rattle.call_faults.specs.CallFaults.{UnusedArguments, RedundantArguments, Na
 use Rattle.call_faults.specs.Labels.{Call, labels}
 use Rattle.call_faults.specs.Notes.{help, notes}
 use Rattle.call_faults.specs.Spots.{Edit, Help}
-use Rattle.call_faults.specs.declared.spots.Spot.{Spot}
+use Rattle.text_faults.specs.declared.spots.Spot.{Spot}
 use Rattle.call_faults.specs.Words.{TitleParts, call_id, title}
-use Rattle.std.specs.declared.ops.Range.{Range}
-use Rattle.source_lint.specs.declared.report.CallReading.{CallReading}
-use Rattle.source_lint.specs.declared.report.CallReading.TheVariants.{Whole, StringAlone}
-use Rattle.source_lint.specs.declared.report.Edit.{Edit as FileEdit}
-use Rattle.source_lint.specs.declared.report.Finding.{Finding}
-use Rattle.source_lint.specs.declared.report.Help.{Help as FileHelp}
+use Rattle.source_report.specs.declared.report.Edit.{Edit as FileEdit}
+use Rattle.source_report.specs.declared.report.Finding.{Finding}
+use Rattle.source_report.specs.declared.report.Help.{Help as FileHelp}
 
 -- The parts of a call that titles tell, with the numbers that are too large.
 abbrev pub report_in : Call → List ℕ → TitleParts Place
@@ -106,21 +102,3 @@ counted_faults false fs = filter is_text_fault fs
 -- These are the findings of the faults of a call that count.
 abbrev pub AreFindings : Bool → Call → List Finding → Type 0
 AreFindings b c xs = TellAll b c (counted_faults b c.faults) xs
-
--- How much of a call is read where the number of its arguments is known, and where it is not.
-abbrev pub reading_of : Bool → CallReading
-reading_of true = Whole
-reading_of false = StringAlone
-
--- A byte range of a text whose ends are at characters.
-pub record IsSpan (bs : List ℕ) (r : Range ℕ) : Type 0 where
-  pub starts : IsCharBoundary bs r.start
-  pub ends : IsCharBoundary bs r.end
-  pub in_order : r.start ≤ r.end
-
--- All ranges of a finding are byte ranges of a text whose ends are at characters.
-pub record HasSpans (bs : List ℕ) (x : Finding) : Type 0 where
-  pub span : IsSpan bs x.span
-  pub labels : All (λ l. IsSpan bs l.range) x.labels.items
-  pub notes : All (λ n. All (λ r. IsSpan bs r) n.ranges.items) x.notes.items
-  pub help : IfSome x.help (λ h. All (λ e. IsSpan bs e.range) h.edits.items)

@@ -2,15 +2,15 @@
 use Rattle.std.specs.Prelude.{◌≡◌, ◌++◌, ℕ, zero, suc, Bool, true, false, List, [], ◌∷◌}
 use Rattle.std.specs.Prelude.{Option, Some, None, codes, option_map, string_bytes, if◌then◌else◌}
 use Rattle.call_faults.specs.Spots.{Help, edit}
-use Rattle.call_faults.specs.declared.spots.Spot.TheVariants.{Argument as WholeArgument}
-use Rattle.source_lint.specs.declared.report.Finding.{Finding}
-use Rattle.source_lint.specs.declared.report.Label.{Label}
+use Rattle.text_faults.specs.declared.spots.Spot.TheVariants.{Argument as WholeArgument}
+use Rattle.source_report.specs.declared.report.Finding.{Finding}
+use Rattle.source_report.specs.declared.report.Label.{Label}
 use Rattle.source_lint.specs.Findings.{TellsHelp}
-use Rattle.source_lint.specs.Keywords.{kind_word}
-use Rattle.source_lint.specs.Forms.{Form, NoString, NoLiteral, NoComma, NoOperand, NoExpression}
-use Rattle.source_lint.specs.Operators.{Operator}
-use Rattle.source_lint.specs.declared.commas.Expected.{Expected}
-use Rattle.source_lint.specs.declared.commas.Expected.TheVariants.{Comma, Path, Field, Value}
+use Rattle.call_forms.specs.Keywords.{kind_word}
+use Rattle.call_forms.specs.Forms.{Form, NoString, NoLiteral, NoComma, NoOperand, NoExpression}
+use Rattle.call_forms.specs.Operators.{Operator}
+use Rattle.call_forms.specs.declared.commas.Expected.{Expected}
+use Rattle.call_forms.specs.declared.commas.Expected.TheVariants.{Comma, Path, Field, Value}
 
 -- The id of a fault, the same for all of a kind.
 unfoldable pub form_id : Form → List ℕ

@@ -1,8 +1,7 @@
 -- The arguments of a call, as placeholders refer to them.
-use Prim.Native.Char.{code}
-use Rattle.std.specs.Prelude.{ℕ, Bool, not, ◌&&◌, ◌||◌, ◌==◌, ◌-◌, List, [], ◌∷◌}
+use Rattle.std.specs.Prelude.{ℕ, Bool, not, ◌&&◌, ◌||◌, ◌==◌, ◌-◌, List}
 use Rattle.std.specs.Prelude.{Option, Some, None, chars, codes, nat_lt, option_and_then}
-use Rattle.std.specs.Prelude.{option_map, slice_get, if◌then◌else◌}
+use Rattle.std.specs.Prelude.{slice_get, if◌then◌else◌}
 use Rattle.std.specs.Str.{bytes_eq}
 use Rattle.rustc_parse_format.specs.Characters.{Text}
 use Rattle.rust_tokens.specs.declared.kinds.Kind.{Kind}
@@ -10,12 +9,7 @@ use Rattle.rust_tokens.specs.declared.kinds.Kind.TheVariants.{Ident, RawIdent}
 use Rattle.rust_trees.specs.Leaves.{Leaf}
 use Rattle.format_calls.specs.declared.split.Argument.{Argument}
 use Rattle.call_faults.specs.Arguments.{FormatArgument}
-
--- A text without `r#` at its start.
-abbrev pub without_raw : Text → Text
-without_raw [] = []
-without_raw (c ∷ []) = c ∷ []
-without_raw (c ∷ d ∷ t) = if c == code "r" && d == code "#" then t else c ∷ d ∷ t
+use Rattle.asm_lint.specs.Names.{name_of, without_raw}
 
 -- A word that is an expression by itself, and no variable.
 abbrev pub is_keyword : List ℕ → Bool
@@ -31,11 +25,6 @@ variable_text k w = None
 -- The variable that a token is: a word that is no keyword, or `self`, `Self`, `super` or `crate`.
 abbrev pub variable : Leaf → Option Text
 variable x = variable_text x.kind x.text
-
--- The name of an argument.
-abbrev pub name_of : List Leaf → Argument → Option Text
-name_of xs a =
-    if a.is_named then option_map (λ x. without_raw (chars x.text)) (slice_get xs a.start) else None
 
 -- The variable that an argument without a name is, if it is nothing else.
 abbrev pub variable_of : List Leaf → Argument → Option Text

@@ -28,23 +28,25 @@ use Rattle.call_faults.specs.Arguments.{FormatArgument}
 use Rattle.call_faults.specs.Calls.{call_faults, kept_indices}
 use Rattle.call_faults.specs.Labels.{Call as CheckedCall}
 use Rattle.call_faults.specs.Spots.{counts_before}
-use Rattle.call_faults.specs.Texts.{text_fault}
+use Rattle.text_faults.specs.Texts.{text_fault}
 use Rattle.source_lint.specs.declared.macros.File.{File}
-use Rattle.source_lint.specs.declared.report.CallReading.{CallReading}
-use Rattle.source_lint.specs.declared.report.CallReading.TheVariants.{RedefinedMacro, ForeignMacro}
-use Rattle.source_lint.specs.declared.report.CallReading.TheVariants.{NoExpression}
-use Rattle.source_lint.specs.declared.report.CallReading.TheVariants.{NoComma, Unread, Malformed}
-use Rattle.source_lint.specs.declared.report.Finding.{Finding}
-use Rattle.source_lint.specs.Assembly.{ReadsTemplates}
-use Rattle.source_lint.specs.Findings.{AreFindings, reading_of}
+use Rattle.source_report.specs.declared.report.CallReading.{CallReading}
+use Rattle.source_report.specs.declared.report.CallReading.TheVariants.{RedefinedMacro}
+use Rattle.source_report.specs.declared.report.CallReading.TheVariants.{ForeignMacro}
+use Rattle.source_report.specs.declared.report.CallReading.TheVariants.{NoExpression}
+use Rattle.source_report.specs.declared.report.CallReading.TheVariants.{NoComma, Unread, Malformed}
+use Rattle.source_report.specs.declared.report.Finding.{Finding}
+use Rattle.asm_lint.specs.Assembly.{ReadsTemplates}
+use Rattle.source_lint.specs.Findings.{AreFindings}
+use Rattle.asm_lint.specs.Assembly.{reading_of}
 use Rattle.source_lint.specs.FormWords.{TellsForms}
-use Rattle.source_lint.specs.Expressions.{has_variable, joined}
-use Rattle.source_lint.specs.Forms.{form_here}
+use Rattle.call_forms.specs.Expressions.{has_variable, joined}
+use Rattle.call_forms.specs.Forms.{form_here}
 use Rattle.source_lint.specs.Givens.{given}
-use Rattle.source_lint.specs.Literals.{appends_newline, without_crs}
+use Rattle.asm_lint.specs.Literals.{appends_newline, without_crs}
 use Rattle.source_lint.specs.Macros.{names_in}
-use Rattle.source_lint.specs.Operators.{lacks_operand}
-use Rattle.source_lint.specs.Paths.{is_foreign}
+use Rattle.call_forms.specs.Operators.{lacks_operand}
+use Rattle.call_forms.specs.Paths.{is_foreign}
 
 -- A parser at the start of a format string that is this literal and stands for the text t, with a
 -- newline appended or not.

@@ -4,10 +4,10 @@ use Rattle.std.specs.Str.Iter.{HasSubslice}
 use Rattle.rust_trees.specs.Balances.{BreaksAt}
 use Rattle.rust_trees.specs.Leaves.{Leaf}
 use Rattle.format_calls.specs.Rows.{Entry}
-use Rattle.source_lint.specs.declared.report.CallReading.{CallReading}
-use Rattle.source_lint.specs.declared.report.Finding.{Finding}
-use Rattle.source_lint.specs.declared.report.Report.{Report}
-use Rattle.source_lint.specs.Attributes.{ReadsItems}
+use Rattle.source_report.specs.declared.report.CallReading.{CallReading}
+use Rattle.source_report.specs.declared.report.Finding.{Finding}
+use Rattle.source_report.specs.declared.report.Report.{Report}
+use Rattle.asm_lint.specs.Attributes.{ReadsItems}
 use Rattle.source_lint.specs.CallLists.{OfCalls}
 use Rattle.source_lint.specs.Macros.{macro_names}
 use Rattle.source_lint.specs.Files.{AreLeaves}

@@ -4,27 +4,16 @@ ghost use Rattle.std.specs.Prelude.{◌≡◌, ◌++◌, ◌∷◌, [], List, If
 ghost use Rattle.std.specs.List.{All};
 ghost use Rattle.call_faults.specs.CallFaults.{is_warning};
 ghost use Rattle.call_faults.specs.Seen.{seen_call, seen_edit, seen_fault, seen_help};
-ghost use Rattle.source_lint.specs.Findings.{AreFindings, HasSpans, TellAll, Tells};
+ghost use Rattle.source_lint.specs.Findings.{AreFindings, TellAll, Tells};
+ghost use Rattle.asm_lint.specs.Spans.{HasSpans};
 ghost use Rattle.source_lint.specs.Findings.{copies, counted_faults, counted_help, is_text_fault};
-ghost use Rattle.source_lint.specs.Findings.{reading_of};
-ghost use Rattle.source_lint.specs.declared.report.Finding.{Finding as FindingValue};
+ghost use Rattle.source_report.specs.declared.report.Finding.{Finding as FindingValue};
 
-use crate::labels::{help, labels, notes, primary_span};
-use crate::report::{CallReading, Finding};
-use crate::spans::Site;
+use crate::labels::{help, notes};
+use asm_lint::{Site, labels, primary_span};
 use call_faults::{CallEdit, CallFault, CallHelp, CallReport};
+use source_report::Finding;
 use std::alloc::{AllocError, Global};
-
-/// Returns how much of a call is read where the number of its arguments is known, and where not.
-pub fn reading_of(is_counted: bool) -> CallReading
-    ensures { result ≡ reading_of is_counted }
-{
-    if is_counted {
-        CallReading::Whole
-    } else {
-        CallReading::StringAlone
-    }
-}
 
 /// Returns whether a fault is only a warning.
 fn is_warning(fault: &CallFault<'_>) -> bool

@@ -3,27 +3,25 @@
 ghost use Rattle.std.specs.Prelude.{◌≡◌, ◌++◌, ◌∷◌, [], List, IfOk, IfSome, OnOk, option_map};
 ghost use Rattle.std.specs.Prelude.{string_bytes};
 ghost use Rattle.std.specs.List.{All};
-ghost use Rattle.source_lint.specs.Findings.{HasSpans, IsSpan, TellsHelp};
+ghost use Rattle.asm_lint.specs.Spans.{HasSpans, IsSpan};
+ghost use Rattle.source_lint.specs.Findings.{TellsHelp};
 ghost use Rattle.source_lint.specs.FormWords.{TellLabels, TellsForm, TellsForms, bytes_label};
 ghost use Rattle.source_lint.specs.FormWords.{end_words, expected_label, expected_words};
 ghost use Rattle.source_lint.specs.FormWords.{form_help, form_id, form_label, form_labels};
 ghost use Rattle.source_lint.specs.FormWords.{form_title, found_text, has_bytes, lacks_literal};
 ghost use Rattle.source_lint.specs.FormWords.{literal_for, missing_words};
 ghost use Rattle.source_lint.specs.FormWords.{more_placeholders};
-ghost use Rattle.source_lint.specs.Forms.{seen_form};
-ghost use Rattle.source_lint.specs.Keywords.{kind_word};
-ghost use Rattle.source_lint.specs.Operators.{seen_operator};
-ghost use Rattle.source_lint.specs.declared.report.Finding.{Finding as FindingValue};
-ghost use Rattle.source_lint.specs.declared.report.Label.{Label as LabelValue};
+ghost use Rattle.call_forms.specs.Forms.{seen_form};
+ghost use Rattle.call_forms.specs.Keywords.{kind_word};
+ghost use Rattle.call_forms.specs.Operators.{seen_operator};
+ghost use Rattle.source_report.specs.declared.report.Finding.{Finding as FindingValue};
+ghost use Rattle.source_report.specs.declared.report.Label.{Label as LabelValue};
 
-use crate::commas::Expected;
-use crate::forms::Form;
-use crate::keywords::kind_word;
-use crate::operators::Operator;
-use crate::report::{Edit, Finding, Help, Label};
-use crate::spans::{call_range, range_in, tokens_range};
+use asm_lint::{call_range, range_in, tokens_range};
+use call_forms::{Expected, Form, Operator, kind_word};
 use format_calls::{Argument, Call};
 use rust_trees::Token;
+use source_report::{Edit, Finding, Help, Label};
 use std::alloc::{AllocError, Global};
 use std::ops::Range;
 

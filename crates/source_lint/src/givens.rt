@@ -1,30 +1,19 @@
 //! The arguments of a call, as its placeholders refer to them.
 
-ghost use Rattle.std.specs.Prelude.{◌≡◌, IfOk, chars, map, option_map};
+ghost use Rattle.std.specs.Prelude.{◌≡◌, IfOk, map, option_map};
 ghost use Rattle.placeholder_check.specs.Seen.{text};
 ghost use Rattle.rust_trees.specs.Leaves.{leaf};
 ghost use Rattle.call_faults.specs.Seen.{seen_given};
-ghost use Rattle.source_lint.specs.Givens.{given, is_keyword, name_of, variable, variable_of};
-ghost use Rattle.source_lint.specs.Givens.{without_raw};
+ghost use Rattle.source_lint.specs.Givens.{given, is_keyword, variable, variable_of};
+ghost use Rattle.asm_lint.specs.Names.{name_of};
+ghost use Rattle.asm_lint.specs.Names.{without_raw};
 
+use asm_lint::{name_of, without_raw};
 use call_faults::FormatArgument;
 use format_calls::{Argument, token_at};
-use rust_tokens::{Kind, split_first};
+use rust_tokens::Kind;
 use rust_trees::Token;
 use std::alloc::{AllocError, Global};
-
-/// Returns a text without `r#` at its start.
-fn without_raw(text: &str) -> &str
-    ensures { chars result.now ≡ without_raw (chars text.now) }
-{
-    let Some(('r', rest)) = split_first(text) else {
-        return text;
-    };
-    match split_first(rest) {
-        Some(('#', name)) => name,
-        _ => text,
-    }
-}
 
 /// Returns whether a word is an expression by itself, and no variable.
 fn is_keyword(word: &str) -> bool
@@ -53,19 +42,6 @@ fn variable<'a>(token: &Token<'a>) -> Option<&'a str>
         }
         Kind::RawIdent => Some(without_raw(token.text)),
         _ => None,
-    }
-}
-
-/// Returns the name of an argument, without `r#`, or `None` if it has none.
-pub fn name_of<'a>(tokens: &[Token<'a>], argument: &Argument) -> Option<&'a str>
-    ensures { option_map text result ≡ name_of (map leaf tokens.now) argument.now }
-{
-    if !argument.is_named {
-        return None;
-    }
-    match token_at(tokens, argument.start) {
-        Some(token) => Some(without_raw(token.text)),
-        None => None,
     }
 }
 

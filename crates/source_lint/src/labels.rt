@@ -1,39 +1,18 @@
-//! The labels, notes and helps of findings, with their ranges in the file.
+//! The notes and helps of findings, with their ranges in the file.
 
 ghost use Rattle.std.specs.Prelude.{◌≡◌, ◌++◌, ℕ, List, IfOk, IfSome, OnOk, length, map};
 ghost use Rattle.std.specs.Prelude.{option_map, string_bytes};
 ghost use Rattle.std.specs.List.{All};
-ghost use Rattle.call_faults.specs.Seen.{seen_edit, seen_help, seen_label, seen_note};
-ghost use Rattle.source_lint.specs.Findings.{Copies, HasText, IsSpan, TellEdits, TellsHelp};
+ghost use Rattle.call_faults.specs.Seen.{seen_edit, seen_help, seen_note};
+ghost use Rattle.source_lint.specs.Findings.{Copies, HasText, TellEdits, TellsHelp};
+ghost use Rattle.asm_lint.specs.Spans.{IsSpan};
 
-use crate::report::{Edit, Help, Label, Note};
-use crate::spans::{Site, range_in, spot_range};
-use call_faults::{CallEdit, CallHelp, CallLabel, CallNote, Spot};
+use asm_lint::{Site, spot_range};
+use call_faults::{CallEdit, CallHelp, CallNote};
+use source_report::{Edit, Help, Note};
 use std::alloc::{AllocError, Global};
 use std::ops::Range;
-
-/// Returns labels of a call with their ranges. Returns `Err` if an allocation fails.
-pub fn labels(
-    alloc: Global,
-    site: Site<'_, '_>,
-    labels: Vec<CallLabel>,
-) -> Result<Vec<Label>, AllocError>
-    ensures primary { IfOk result (λ v. map (λ x. x.is_primary) v.items
-        ≡ map (λ l. l.is_primary) (map seen_label labels.items)) }
-    ensures texts { IfOk result (λ v. map (λ x. string_bytes x.text) v.items
-        ≡ map (λ l. l.text) (map seen_label labels.items)) }
-    ensures spans { IfOk result (λ v. All (λ x. IsSpan site.entry.text.now x.range) v.items) }
-{
-    let mut found = Vec::new(alloc);
-    for label in labels {
-        found.push(Label {
-            range: spot_range(site, label.spot),
-            is_primary: label.is_primary,
-            text: label.text,
-        })?;
-    }
-    Ok(found)
-}
+use text_faults::Spot;
 
 /// Returns the ranges of places of a call. Returns `Err` if an allocation fails.
 fn ranges(
@@ -132,22 +111,4 @@ pub fn help(
             }))
         }
     }
-}
-
-/// Returns the range of the primary label that comes first in the file, or an empty one if there is
-/// none.
-pub fn primary_span(site: Site<'_, '_>, labels: &[Label]) -> Range<usize>
-    ensures { IsSpan site.entry.text.now result }
-{
-    let mut start = 0;
-    let mut end = 0;
-    let mut is_found = false;
-    for label in labels {
-        if label.is_primary && (!is_found || label.range.start < start) {
-            start = label.range.start;
-            end = label.range.end;
-            is_found = true;
-        }
-    }
-    range_in(site.text, start, end)
 }

@@ -1,31 +1,14 @@
 //! The faults of the format strings of a Rust source file, from its text ([`file_faults`]).
 #![tactic(auto)]
 
-mod asm_findings;
-mod assembly;
-mod attributes;
-mod commas;
-mod expressions;
 mod findings;
 mod form_words;
-mod forms;
-mod generics;
 mod givens;
-mod keywords;
 mod labels;
 mod lint;
-mod literals;
 mod macros;
-mod messages;
-mod operators;
-mod paths;
 mod readings;
-mod report;
-mod spans;
 
-pub use givens::name_of;
 pub use lint::{Readings, file_faults, read_calls, report_on};
-pub use literals::{Literal, appends_newline, dropped_crs, offset_in, read_literal, without_crs};
 pub use macros::{File, macro_names, name_at, other_macro};
 pub use readings::{argument_at, arguments_before, captures, ends_early, index_or};
-pub use report::{CallReading, Edit, Finding, Help, Label, Note, Options, Report};

@@ -9,19 +9,19 @@ ghost use Rattle.format_calls.specs.Rows.{Entry, entry};
 ghost use Rattle.format_calls.specs.declared.listing.Call.{Call as CallValue};
 ghost use Rattle.source_lint.specs.CallLists.{Gives};
 ghost use Rattle.source_lint.specs.Files.{AreLeaves};
-ghost use Rattle.source_lint.specs.Findings.{HasSpans};
+ghost use Rattle.asm_lint.specs.Spans.{HasSpans};
 ghost use Rattle.source_lint.specs.Macros.{macro_names};
 ghost use Rattle.source_lint.specs.Readings.{Reads, scope};
 ghost use Rattle.source_lint.specs.Reports.{IsReport, ReadsAttributes, ReadsCalls};
-ghost use Rattle.source_lint.specs.declared.report.CallReading.{CallReading as ReadingValue};
-ghost use Rattle.source_lint.specs.declared.report.Finding.{Finding as FindingValue};
+ghost use Rattle.source_report.specs.declared.report.CallReading.{CallReading as ReadingValue};
+ghost use Rattle.source_report.specs.declared.report.Finding.{Finding as FindingValue};
 
-use crate::attributes::read_attributes;
 use crate::macros::{File, macro_names};
 use crate::readings::read_call;
-use crate::report::{CallReading, Finding, Options, Report};
+use asm_lint::read_attributes;
 use format_calls::{Call, Part, Table, calls, next_part};
 use rust_trees::{Balance, Source, Tokens};
+use source_report::{CallReading, Finding, Options, Report};
 use std::alloc::{AllocError, Global};
 
 /// The readings of the calls of a file so far, and the findings in these calls.

@@ -9,11 +9,11 @@ ghost use Rattle.source_lint.specs.Readings.{is_log, name_at, offset_of_leaf, sc
 ghost use Rattle.source_lint.specs.Files.{AreLeaves};
 ghost use Rattle.rust_trees.specs.Leaves.{Leaf, leaf};
 
-use crate::paths::is_foreign;
-use crate::report::CallReading;
+use call_forms::is_foreign;
 use format_calls::{Call, Rule, is_mark_of, is_of_crates, is_word, token_at, word};
 use rust_tokens::Kind;
 use rust_trees::{Token, Tokens};
+use source_report::CallReading;
 use std::alloc::{AllocError, Global};
 use std::collections::BTreeSet;
 

@@ -1,11 +1,11 @@
 //! Texts of attributes that are checked, and the words for their faults.
 
 use crate::text_rows::TEXT_ROWS;
-use call_faults::{CallLabel, Spot};
 use message_faults::{Message, MessageFault, message_faults, names_of};
 use std::alloc::{AllocError, Global};
 use std::collections::BTreeSet;
 use std::test::Fail;
+use text_faults::{CallLabel, Spot};
 
 /// Adds the lines of labels in a literal of this length, sorted.
 fn put_labels(out: &mut String, length: usize, labels: &[CallLabel]) -> Result<(), AllocError> {

@@ -5,9 +5,10 @@ use crate::name_rows::NAMES;
 use crate::string_rows::STRINGS;
 use crate::tests::{arguments, plain};
 use crate::unused_rows::UNUSED;
-use call_faults::{CallHelp, CallLabel, CallNote, Spot, call_faults};
+use call_faults::{CallHelp, CallNote, call_faults};
 use std::alloc::{AllocError, Global};
 use std::test::Fail;
+use text_faults::{CallLabel, Spot};
 
 /// Where an argument is, in bytes from the start of the literal.
 #[derive(Clone, Copy)]

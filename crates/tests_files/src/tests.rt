@@ -1,7 +1,8 @@
 //! The findings in small files, and how much of their calls is read.
 
 use format_calls::Table;
-use source_lint::{CallReading, Options, Report, file_faults};
+use source_lint::file_faults;
+use source_report::{CallReading, Options, Report};
 use std::alloc::{AllocError, Global};
 use std::io::Print;
 use std::process::Abort;

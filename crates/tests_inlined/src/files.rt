@@ -2,7 +2,7 @@
 
 use file_inlines::{FileInlines, inlines};
 use format_calls::Table;
-use source_lint::Options;
+use source_report::Options;
 use std::alloc::{AllocError, Global};
 use std::test::Fail;
 

@@ -1,7 +1,9 @@
 // The crates that are extracted. Made by tools/extract: not to be edited.
 
 pub mod asm_faults;
+pub mod asm_lint;
 pub mod call_faults;
+pub mod call_forms;
 pub mod drawn_edits;
 pub mod drawn_faults;
 pub mod drawn_labels;
@@ -11,6 +13,8 @@ pub mod fault_fixes;
 pub mod fault_rules;
 pub mod file_fixes;
 pub mod file_inlines;
+#[cfg(feature = "std")]
+pub mod finding_forms;
 pub mod format_calls;
 #[cfg(feature = "std")]
 pub mod format_lint;
@@ -21,6 +25,8 @@ pub mod formatlint;
 #[cfg(feature = "std")]
 pub mod formatread;
 pub mod inlined_arguments;
+#[cfg(feature = "std")]
+pub mod lint_program;
 #[cfg(feature = "std")]
 pub mod lint_words;
 #[cfg(feature = "std")]
@@ -38,5 +44,7 @@ pub mod rust_tokens;
 pub mod rust_trees;
 pub mod rustc_parse_format;
 pub mod source_lint;
+pub mod source_report;
+pub mod text_faults;
 #[cfg(feature = "std")]
 pub mod unified_diff;

@@ -6,8 +6,8 @@
 
 use crate::proved::asm_faults::faults::AsmFault;
 use crate::proved::asm_faults::lookups::{push_pieces, Walk};
-use crate::proved::call_faults::text_fault;
 use crate::proved::rustc_parse_format::{Fault, ParseMode};
+use crate::proved::text_faults::text_fault;
 use crate::shim::alloc::{AllocError, Global};
 use crate::shim::parser::{read_all, Parser};
 use crate::shim::prelude::*;

@@ -10,11 +10,11 @@ use crate::proved::call_faults::checker::CallReport;
 use crate::proved::call_faults::faults::{CallFault, Reference};
 use crate::proved::call_faults::missing_labels::{few_labels, push_missing};
 use crate::proved::call_faults::spots::{
-    bytes_at, named_spot, push_plain, push_primary, push_secondary, type_spot, use_spot, CallLabel,
-    Spot,
+    bytes_at, named_spot, push_plain, push_primary, push_secondary, type_spot, use_spot,
 };
 use crate::proved::call_faults::titles::{have_numbers, name_of, never_used, put_name_between};
 use crate::proved::rustc_parse_format::{Fault, ParseError, Suggestion};
+use crate::proved::text_faults::{CallLabel, Spot};
 use crate::shim::alloc::{AllocError, Global};
 use crate::shim::prelude::*;
 use core::ops::Range;

@@ -8,10 +8,11 @@
 use crate::proved::call_faults::checker::CallReport;
 use crate::proved::call_faults::faults::Missing;
 use crate::proved::call_faults::spots::{
-    first_spot, push_plain, push_secondary, reference_spot, rest_after, spot_of, CallLabel, Spot,
+    first_spot, push_plain, push_secondary, reference_spot, rest_after, spot_of,
 };
 use crate::proved::call_faults::titles::put_number;
 use crate::proved::rustc_parse_format::{Count, Piece, Position};
+use crate::proved::text_faults::{CallLabel, Spot};
 use crate::shim::alloc::{AllocError, Global};
 use crate::shim::prelude::*;
 use core::ops::Range;

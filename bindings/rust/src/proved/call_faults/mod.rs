@@ -14,11 +14,9 @@ pub(crate) mod lookups;
 pub(crate) mod missing_labels;
 pub(crate) mod notes;
 pub(crate) mod spots;
-pub(crate) mod text;
 pub(crate) mod titles;
 
 pub use arguments::FormatArgument;
 pub use checker::{call_faults, CallReport, FormatString};
 pub use faults::{CallFault, Missing, Part, Reference};
-pub use spots::{CallEdit, CallHelp, CallLabel, CallNote, Spot};
-pub use text::text_fault;
+pub use spots::{CallEdit, CallHelp, CallNote};

@@ -1,4 +1,4 @@
-//! The places of a call that messages show, and their labels, notes and helps, as plain data.
+//! The notes and helps of a call, as plain data, and the places that messages show.
 
 // Extracted from crates/call_faults/src/spots.rt by tools/extract: not to be edited.
 // That source is proved, and each contract here is its. That this text means the same is tested:
@@ -6,51 +6,10 @@
 
 use crate::proved::call_faults::faults::{Part, Reference};
 use crate::proved::rustc_parse_format::{Argument, Count, Piece};
+use crate::proved::text_faults::{CallLabel, Spot};
 use crate::shim::alloc::{AllocError, Global};
 use crate::shim::prelude::*;
 use core::ops::Range;
-
-/// A place in the source of a call, which is a byte range there. An argument is named by its index
-/// among all that are given.
-#[derive(Clone, Copy, Debug, PartialEq)]
-pub enum Spot {
-    /// An argument, from its name on if it has one.
-    Argument(usize),
-    /// The name of an argument, as it is written.
-    Name(usize),
-    /// The value of an argument: its expression.
-    Value(usize),
-    /// The value of an argument, and what is after it up to the value of the next one.
-    ValueUpToNext(usize),
-    /// The empty range after the value of an argument.
-    ValueEnd(usize),
-    /// The literal of the format string.
-    Literal,
-    /// The empty range in front of the closing quote of that literal.
-    LiteralEnd,
-    /// The empty range after that literal.
-    AfterLiteral,
-    /// The call, from the path of its macro to the delimiter that closes it.
-    Call,
-    /// These bytes of that literal, as the spans of the parser count them.
-    Bytes {
-        /// The offset of the first byte.
-        start: usize,
-        /// The offset after the last byte.
-        end: usize,
-    },
-}
-
-/// A label under the source of a call.
-#[derive(Debug, PartialEq)]
-pub struct CallLabel {
-    /// Where it is.
-    pub spot: Spot,
-    /// Whether the fault is about this place: it has the sign `^`, and the others have `-`.
-    pub is_primary: bool,
-    /// Its text, in rustc's words, or an empty one.
-    pub text: String,
-}
 
 /// A note of a fault.
 #[derive(Debug, PartialEq)]

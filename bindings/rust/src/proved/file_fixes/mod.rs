@@ -5,10 +5,6 @@
 // That source is proved, and each contract here is its. That this text means the same is tested:
 // by results from outside, and beside what is proved (.ci/bindings) and the original (tools/agree).
 
-pub(crate) mod edited;
 pub(crate) mod rounds;
-pub(crate) mod suggestions;
 
 pub use rounds::{fixes, is_no_worse, FileFixes};
-#[cfg(feature = "std")]
-pub use suggestions::{is_applicable, suggestion_of, LabelSuggestion};

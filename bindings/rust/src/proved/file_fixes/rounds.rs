@@ -4,8 +4,8 @@
 // That source is proved, and each contract here is its. That this text means the same is tested:
 // by results from outside, and beside what is proved (.ci/bindings) and the original (tools/agree).
 
-use crate::proved::file_fixes::edited::mend_each;
-use crate::proved::source_lint::{file_faults, Options, Report};
+use crate::proved::source_lint::file_faults;
+use crate::proved::source_report::{mend_each, Options, Report};
 use crate::shim::alloc::{AllocError, Global};
 use crate::shim::prelude::*;
 

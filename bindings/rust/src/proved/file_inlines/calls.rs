@@ -4,6 +4,7 @@
 // That source is proved, and each contract here is its. That this text means the same is tested:
 // by results from outside, and beside what is proved (.ci/bindings) and the original (tools/agree).
 
+use crate::proved::asm_lint::{appends_newline, read_literal};
 use crate::proved::call_faults::FormatString;
 use crate::proved::file_inlines::edits::edits_of;
 use crate::proved::file_inlines::sources::with_sources;
@@ -13,9 +14,9 @@ use crate::proved::format_calls::{
 use crate::proved::inlined_arguments::{inlined, Call as FormatCall, Edit, Left};
 use crate::proved::rust_trees::Token;
 use crate::proved::source_lint::{
-    appends_newline, argument_at, arguments_before, captures, ends_early, index_or, name_at,
-    other_macro, read_literal, CallReading, File,
+    argument_at, arguments_before, captures, ends_early, index_or, name_at, other_macro, File,
 };
+use crate::proved::source_report::CallReading;
 use crate::shim::alloc::{AllocError, Global};
 use crate::shim::prelude::*;
 

@@ -4,11 +4,12 @@
 // That source is proved, and each contract here is its. That this text means the same is tested:
 // by results from outside, and beside what is proved (.ci/bindings) and the original (tools/agree).
 
+use crate::proved::asm_lint::{dropped_crs, offset_in, without_crs};
 use crate::proved::file_inlines::sources::removed;
 use crate::proved::format_calls::Argument;
 use crate::proved::inlined_arguments::{apply_edits, Edit, Inlined};
 use crate::proved::rust_trees::Token;
-use crate::proved::source_lint::{argument_at, dropped_crs, offset_in, without_crs};
+use crate::proved::source_lint::argument_at;
 use crate::shim::alloc::{AllocError, Global};
 use crate::shim::prelude::*;
 

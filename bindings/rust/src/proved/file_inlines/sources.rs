@@ -4,10 +4,10 @@
 // That source is proved, and each contract here is its. That this text means the same is tested:
 // by results from outside, and beside what is proved (.ci/bindings) and the original (tools/agree).
 
+use crate::proved::asm_lint::name_of;
 use crate::proved::format_calls::{is_word, token_at, Argument};
 use crate::proved::inlined_arguments::Argument as FormatArgument;
 use crate::proved::rust_trees::Token;
-use crate::proved::source_lint::name_of;
 use crate::shim::alloc::{AllocError, Global};
 use crate::shim::prelude::*;
 use core::ops::Range;

@@ -4,19 +4,18 @@
 // That source is proved, and each contract here is its. That this text means the same is tested:
 // by results from outside, and beside what is proved (.ci/bindings) and the original (tools/agree).
 
-use crate::proved::formatlint::changes::{replace, Change};
-use crate::proved::formatlint::editions::Editions;
-use crate::proved::formatlint::failure::Failure;
-use crate::proved::formatlint::forms::{put_end, put_finding, put_start, File, Form};
-use crate::proved::formatlint::literal::tell_of_terminal;
-use crate::proved::formatlint::options::is_option;
-use crate::proved::formatlint::recorder::Recorder;
+use crate::proved::finding_forms::{put_end, put_finding, put_start, File};
 use crate::proved::formatlint::rewrites::{apply_rewrite, Rewrite};
 use crate::proved::formatlint::totals::Totals;
 use crate::proved::formatlint::walk::Walk;
+use crate::proved::lint_program::{
+    is_option, replace, tell_of_terminal, Change, Editions, Failure, Recorder,
+};
+use crate::proved::lint_words::Form;
 use crate::proved::piece_listing::run::write_whole;
 use crate::proved::rust_trees::{BreakKind, Places};
-use crate::proved::source_lint::{file_faults, Options, Report};
+use crate::proved::source_lint::file_faults;
+use crate::proved::source_report::{Options, Report};
 use crate::proved::unified_diff::put_diff;
 use crate::shim::host::fs;
 use crate::shim::prelude::*;

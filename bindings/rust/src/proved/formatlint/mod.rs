@@ -5,36 +5,26 @@
 // by results from outside, and beside what is proved (.ci/bindings) and the original (tools/agree).
 
 use crate::shim::prelude::*;
-pub(crate) mod arguments;
-pub(crate) mod changes;
-pub(crate) mod drawings;
-pub(crate) mod editions;
-pub(crate) mod failure;
 pub(crate) mod files;
-pub(crate) mod forms;
 pub(crate) mod inlinings;
-pub(crate) mod literal;
-pub(crate) mod options;
-pub(crate) mod progress;
-pub(crate) mod recorder;
 pub(crate) mod rewrites;
 pub(crate) mod totals;
 pub(crate) mod walk;
 
 use crate::proved::drawn_lines::WIDTH;
 use crate::proved::fault_rules::{put_explanation, rule_of, RULES};
-use crate::proved::source_lint::Options;
+use crate::proved::lint_program::{
+    change_of, command, form_of, has_colours, literal_status, table_of, tell, width_of, Change,
+    VERSION,
+};
+use crate::proved::lint_words::Form;
+use crate::proved::source_report::Options;
 use crate::shim::alloc::{AllocError, Global};
 use crate::shim::clap::error::ErrorKind;
 use crate::shim::clap::{ArgMatches, Error};
 use crate::shim::host::env;
 use crate::shim::strsim::levenshtein;
-use arguments::{change_of, form_of, has_colours, table_of, width_of};
-use changes::Change;
 use files::{lint, write, Request};
-use forms::Form;
-use literal::{literal_status, tell};
-use options::{command, VERSION};
 use rewrites::Rewrite;
 use std::process::ExitCode;
 use totals::Totals;

@@ -6,7 +6,7 @@
 
 use crate::proved::file_fixes::fixes;
 use crate::proved::file_inlines::{inlines, CallInlining};
-use crate::proved::source_lint::{Options, Report};
+use crate::proved::source_report::{Options, Report};
 use crate::shim::alloc::{AllocError, Global};
 use crate::shim::prelude::*;
 

@@ -5,14 +5,13 @@
 // by results from outside, and beside what is proved (.ci/bindings) and the original (tools/agree).
 
 use crate::proved::format_calls::Reason;
-use crate::proved::formatlint::changes::StepFailure;
 use crate::proved::formatlint::inlinings::{Inlinings, NO_CALLS};
-use crate::proved::formatlint::progress::Progress;
 use crate::proved::formatlint::rewrites::Rewritten;
+use crate::proved::lint_program::{Progress, StepFailure};
 use crate::proved::lint_words::{put_failure, put_place_failure, system_words};
 use crate::proved::piece_listing::verdict::RunFault;
 use crate::proved::rust_trees::Place;
-use crate::proved::source_lint::{CallReading, Report};
+use crate::proved::source_report::{CallReading, Report};
 use crate::shim::alloc::AllocError;
 use crate::shim::prelude::*;
 use std::io;

@@ -4,9 +4,9 @@
 // That source is proved, and each contract here is its. That this text means the same is tested:
 // by results from outside, and beside what is proved (.ci/bindings) and the original (tools/agree).
 
-use crate::proved::call_faults::{text_fault, Spot};
 use crate::proved::message_faults::faults::MessageFault;
 use crate::proved::rustc_parse_format::{Argument, Fault, ParseMode, Piece, Position};
+use crate::proved::text_faults::{text_fault, Spot};
 use crate::shim::alloc::{AllocError, Global};
 use crate::shim::parser::{read_all, Parser};
 use crate::shim::prelude::*;

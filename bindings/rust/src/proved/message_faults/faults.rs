@@ -4,8 +4,8 @@
 // That source is proved, and each contract here is its. That this text means the same is tested:
 // by results from outside, and beside what is proved (.ci/bindings) and the original (tools/agree).
 
-use crate::proved::call_faults::Spot;
 use crate::proved::rustc_parse_format::Fault;
+use crate::proved::text_faults::Spot;
 
 /// A fault of a text of an attribute. All are warnings.
 pub enum MessageFault<'a> {

@@ -5,9 +5,9 @@
 // That source is proved, and each contract here is its. That this text means the same is tested:
 // by results from outside, and beside what is proved (.ci/bindings) and the original (tools/agree).
 
-use crate::proved::call_faults::{CallLabel, Spot};
 use crate::proved::message_faults::faults::MessageFault;
 use crate::proved::rustc_parse_format::Fault;
+use crate::proved::text_faults::{CallLabel, Spot};
 use crate::shim::alloc::{AllocError, Global};
 use crate::shim::prelude::*;
 

@@ -4,23 +4,12 @@
 // That source is proved, and each contract here is its. That this text means the same is tested:
 // by results from outside, and beside what is proved (.ci/bindings) and the original (tools/agree).
 
+use crate::proved::asm_lint::{labels, primary_span, Site};
 use crate::proved::call_faults::{CallEdit, CallFault, CallHelp, CallReport};
-use crate::proved::source_lint::labels::{help, labels, notes, primary_span};
-use crate::proved::source_lint::report::{CallReading, Finding};
-use crate::proved::source_lint::spans::Site;
+use crate::proved::source_lint::labels::{help, notes};
+use crate::proved::source_report::Finding;
 use crate::shim::alloc::{AllocError, Global};
 use crate::shim::prelude::*;
-
-/// Returns how much of a call is read where the number of its arguments is known, and where not.
-// ensures { result ≡ reading_of is_counted }
-#[inline]
-pub fn reading_of(is_counted: bool) -> CallReading {
-    if is_counted {
-        CallReading::Whole
-    } else {
-        CallReading::StringAlone
-    }
-}
 
 /// Returns whether a fault is only a warning.
 // ensures { result ≡ is_warning (seen_fault fault.now) }

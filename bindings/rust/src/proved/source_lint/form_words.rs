@@ -4,14 +4,11 @@
 // That source is proved, and each contract here is its. That this text means the same is tested:
 // by results from outside, and beside what is proved (.ci/bindings) and the original (tools/agree).
 
+use crate::proved::asm_lint::{call_range, range_in, tokens_range};
+use crate::proved::call_forms::{kind_word, Expected, Form, Operator};
 use crate::proved::format_calls::{Argument, Call};
 use crate::proved::rust_trees::Token;
-use crate::proved::source_lint::commas::Expected;
-use crate::proved::source_lint::forms::Form;
-use crate::proved::source_lint::keywords::kind_word;
-use crate::proved::source_lint::operators::Operator;
-use crate::proved::source_lint::report::{Edit, Finding, Help, Label};
-use crate::proved::source_lint::spans::{call_range, range_in, tokens_range};
+use crate::proved::source_report::{Edit, Finding, Help, Label};
 use crate::shim::alloc::{AllocError, Global};
 use crate::shim::prelude::*;
 use core::ops::Range;

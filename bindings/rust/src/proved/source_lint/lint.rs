@@ -4,12 +4,12 @@
 // That source is proved, and each contract here is its. That this text means the same is tested:
 // by results from outside, and beside what is proved (.ci/bindings) and the original (tools/agree).
 
+use crate::proved::asm_lint::read_attributes;
 use crate::proved::format_calls::{calls, next_part, Call, Part, Table};
 use crate::proved::rust_trees::{Balance, Source, Tokens};
-use crate::proved::source_lint::attributes::read_attributes;
 use crate::proved::source_lint::macros::{macro_names, File};
 use crate::proved::source_lint::readings::read_call;
-use crate::proved::source_lint::report::{CallReading, Finding, Options, Report};
+use crate::proved::source_report::{CallReading, Finding, Options, Report};
 use crate::shim::alloc::{AllocError, Global};
 use crate::shim::prelude::*;
 

@@ -4,11 +4,11 @@
 // That source is proved, and each contract here is its. That this text means the same is tested:
 // by results from outside, and beside what is proved (.ci/bindings) and the original (tools/agree).
 
+use crate::proved::call_forms::is_foreign;
 use crate::proved::format_calls::{is_mark_of, is_of_crates, is_word, token_at, word, Call, Rule};
 use crate::proved::rust_tokens::Kind;
 use crate::proved::rust_trees::{Token, Tokens};
-use crate::proved::source_lint::paths::is_foreign;
-use crate::proved::source_lint::report::CallReading;
+use crate::proved::source_report::CallReading;
 use crate::shim::alloc::{AllocError, Global};
 use crate::shim::prelude::*;
 use alloc::collections::BTreeSet;

@@ -4,31 +4,14 @@
 // That source is proved, and each contract here is its. That this text means the same is tested:
 // by results from outside, and beside what is proved (.ci/bindings) and the original (tools/agree).
 
-pub(crate) mod asm_findings;
-pub(crate) mod assembly;
-pub(crate) mod attributes;
-pub(crate) mod commas;
-pub(crate) mod expressions;
 pub(crate) mod findings;
 pub(crate) mod form_words;
-pub(crate) mod forms;
-pub(crate) mod generics;
 pub(crate) mod givens;
-pub(crate) mod keywords;
 pub(crate) mod labels;
 pub(crate) mod lint;
-pub(crate) mod literals;
 pub(crate) mod macros;
-pub(crate) mod messages;
-pub(crate) mod operators;
-pub(crate) mod paths;
 pub(crate) mod readings;
-pub(crate) mod report;
-pub(crate) mod spans;
 
-pub use givens::name_of;
 pub use lint::{file_faults, read_calls, report_on, Readings};
-pub use literals::{appends_newline, dropped_crs, offset_in, read_literal, without_crs};
 pub use macros::{macro_names, name_at, other_macro, File};
 pub use readings::{argument_at, arguments_before, captures, ends_early, index_or};
-pub use report::{CallReading, Finding, Help, Label, Options, Report};

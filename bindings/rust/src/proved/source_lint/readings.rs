@@ -4,22 +4,20 @@
 // That source is proved, and each contract here is its. That this text means the same is tested:
 // by results from outside, and beside what is proved (.ci/bindings) and the original (tools/agree).
 
+use crate::proved::asm_lint::{
+    appends_newline, dropped_crs, read_asm, read_literal, reading_of, Site,
+};
 use crate::proved::call_faults::{call_faults, FormatArgument, FormatString};
+use crate::proved::call_forms::{form_here, have_joined, have_variables, lacks_operand, tokens_of};
 use crate::proved::format_calls::{
     arguments, extent_of, format_string, token_at, Argument, Call, Part, Rule,
 };
 use crate::proved::rust_trees::Token;
-use crate::proved::source_lint::assembly::read_asm;
-use crate::proved::source_lint::expressions::{have_joined, have_variables, tokens_of};
-use crate::proved::source_lint::findings::{put_findings, reading_of};
+use crate::proved::source_lint::findings::put_findings;
 use crate::proved::source_lint::form_words::put_form;
-use crate::proved::source_lint::forms::form_here;
 use crate::proved::source_lint::givens::givens;
-use crate::proved::source_lint::literals::{appends_newline, dropped_crs, read_literal};
 use crate::proved::source_lint::macros::{name_at, other_macro, File};
-use crate::proved::source_lint::operators::lacks_operand;
-use crate::proved::source_lint::report::{CallReading, Finding};
-use crate::proved::source_lint::spans::Site;
+use crate::proved::source_report::{CallReading, Finding};
 use crate::shim::alloc::{AllocError, Global};
 use crate::shim::prelude::*;
 

@@ -1,7 +1,7 @@
 use Rattle.std.proofs.Common.{◌≡◌, ◌<◌, ◌∙◌, ◌≤◌, ◌==◌, arith, rules, false, get_or, refl, sym, ap}
 use Rattle.std.proofs.Common.{length, eq-eqb, List}
 use Rattle.std.proofs.lemmas.List.{length-map}
-use Rattle.call_faults.proofs.Comparing.{or-none, set-length, set-marks}
+use Rattle.text_faults.proofs.Marks.{or-none, set-length, set-marks}
 use Rattle.asm_faults.specs.Operands.{Operand}
 use Rattle.asm_faults.specs.Seen.{seen_lookup, seen_operand}
 use Rattle.asm_faults.proofs.Marking.{marked-next, means-below}

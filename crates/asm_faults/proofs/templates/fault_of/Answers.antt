@@ -1,7 +1,7 @@
 use Rattle.std.proofs.Common.{◌∙◌, ap, chars, false}
 use Rattle.rustc_parse_format.specs.State.{first_state}
 use Rattle.rustc_parse_format.specs.Types.{InlineAsm}
-use Rattle.call_faults.specs.Texts.{text_fault}
+use Rattle.text_faults.specs.Texts.{text_fault}
 use Rattle.asm_faults.proofs.templates.fault_of.Goals as goal
 
 pub returns : goal.returns

@@ -8,9 +8,9 @@ use Rattle.rustc_parse_format.specs.World.{pieces_in}
 use Rattle.call_faults.specs.Calls.{call_faults}
 use Rattle.call_faults.specs.Seen.{seen_fault, seen_given, start}
 use Rattle.call_faults.specs.Spots.{counts_before}
-use Rattle.call_faults.specs.Texts.{text_fault}
+use Rattle.text_faults.specs.Texts.{text_fault}
 use Rattle.call_faults.proofs.Checking.{clean-is, map-nil}
-use Rattle.call_faults.proofs.TextFaults.{read-is}
+use Rattle.text_faults.proofs.TextFaults.{read-is}
 use Rattle.call_faults.proofs.checker.call_faults.Goals as goal
 
 pub returns : goal.returns

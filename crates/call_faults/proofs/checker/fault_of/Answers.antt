@@ -1,7 +1,7 @@
 use Rattle.std.proofs.Common.{◌∙◌, ap, chars}
 use Rattle.rustc_parse_format.specs.State.{first_state}
 use Rattle.rustc_parse_format.specs.Types.{Format}
-use Rattle.call_faults.specs.Texts.{text_fault}
+use Rattle.text_faults.specs.Texts.{text_fault}
 use Rattle.call_faults.proofs.checker.fault_of.Goals as goal
 
 pub returns : goal.returns

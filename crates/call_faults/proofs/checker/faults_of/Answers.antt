@@ -9,7 +9,7 @@ use Rattle.call_faults.specs.CallFaults.{CallFault}
 use Rattle.call_faults.specs.Comparison.{compared}
 use Rattle.call_faults.specs.Lookups.{lookups_from}
 use Rattle.call_faults.specs.Seen.{Holds, seen_fault, seen_given, seen_lookup, start}
-use Rattle.call_faults.specs.Texts.{text_fault}
+use Rattle.text_faults.specs.Texts.{text_fault}
 use Rattle.call_faults.proofs.Checking.{read-total}
 use Rattle.call_faults.proofs.Comparing.{kept-below}
 use Rattle.call_faults.proofs.checker.faults_of.Goals as goal

@@ -1,7 +1,7 @@
 use Rattle.std.proofs.Common.{refl, sym}
 use Rattle.call_faults.specs.Comparison.{is_missing_name}
 use Rattle.call_faults.specs.Seen.{seen_fault}
-use Rattle.call_faults.proofs.Collecting.{list_any-here}
+use Rattle.text_faults.proofs.Collecting.{list_any-here}
 use Rattle.call_faults.proofs.compared.misses_name.Goals as goal
 
 pub returns-in-MissingName : goal.returns-in-MissingName

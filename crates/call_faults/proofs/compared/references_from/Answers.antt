@@ -1,7 +1,7 @@
 use Rattle.std.proofs.Common.{sym, ◌∙◌}
 use Rattle.call_faults.specs.Comparison.{beyond}
 use Rattle.call_faults.specs.Seen.{seen_lookup}
-use Rattle.call_faults.proofs.Collecting.{gathered}
+use Rattle.text_faults.proofs.Collecting.{gathered}
 use Rattle.std.proofs.lemmas.List.{append-nil}
 use Rattle.call_faults.proofs.compared.references_from.Goals.{in-Some+in_ok-push, in_default}
 use Rattle.call_faults.proofs.compared.references_from.Goals as goal

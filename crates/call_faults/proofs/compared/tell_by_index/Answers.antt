@@ -4,7 +4,7 @@ use Rattle.std.proofs.lemmas.List.{append-nil}
 use Rattle.call_faults.specs.CallFaults.{CallFault}
 use Rattle.call_faults.specs.Comparison.{by_index}
 use Rattle.call_faults.specs.Seen.{seen_fault, seen_kept, seen_lookup}
-use Rattle.call_faults.proofs.Collecting.{gathered-rest_after}
+use Rattle.text_faults.proofs.Collecting.{gathered-rest_after}
 use Rattle.call_faults.proofs.compared.tell_by_index.Goals.{in-Some+in_ok-push, in_default}
 use Rattle.call_faults.proofs.compared.tell_by_index.Goals as goal
 

@@ -1,8 +1,8 @@
 use Rattle.std.proofs.Common.{◌≡◌, ◌++◌, length, map}
 use Rattle.call_faults.specs.Labels.{named_text}
-use Rattle.call_faults.specs.Seen.{seen_label}
-use Rattle.call_faults.specs.Spots.{secondary}
-use Rattle.call_faults.specs.declared.spots.Spot.TheVariants.{Argument as WholeArgument}
+use Rattle.text_faults.specs.Seen.{seen_label}
+use Rattle.text_faults.specs.Spots.{secondary}
+use Rattle.text_faults.specs.declared.spots.Spot.TheVariants.{Argument as WholeArgument}
 use Rattle.call_faults.proofs.labels.push_named.Given as goal
 
 -- What is added, and then the labels of what is left, is all.

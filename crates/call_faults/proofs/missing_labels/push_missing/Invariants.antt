@@ -1,7 +1,8 @@
 use Rattle.std.proofs.Common.{◌≡◌, ◌++◌, [], length, map}
 use Rattle.rustc_parse_format.specs.Seen.{seen}
-use Rattle.call_faults.specs.Seen.{seen_label}
-use Rattle.call_faults.specs.Spots.{primary, reference_spot}
+use Rattle.text_faults.specs.Seen.{seen_label}
+use Rattle.text_faults.specs.Spots.{primary}
+use Rattle.call_faults.specs.Spots.{reference_spot}
 use Rattle.call_faults.proofs.missing_labels.push_missing.Given as goal
 
 -- What is added, and then the labels of what is left, is all.

@@ -1,7 +1,7 @@
 use Rattle.std.proofs.Common.{◌≡◌, ◌++◌, [], length, map}
-use Rattle.call_faults.specs.Seen.{seen_label}
-use Rattle.call_faults.specs.Spots.{secondary}
-use Rattle.call_faults.specs.declared.spots.Spot.TheVariants.{Value}
+use Rattle.text_faults.specs.Seen.{seen_label}
+use Rattle.text_faults.specs.Spots.{secondary}
+use Rattle.text_faults.specs.declared.spots.Spot.TheVariants.{Value}
 use Rattle.call_faults.proofs.missing_labels.push_values.Given as goal
 
 -- What is added, and then the labels of what is left, is all.

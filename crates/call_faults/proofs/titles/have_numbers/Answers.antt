@@ -2,7 +2,7 @@ use Rattle.std.proofs.Common.{◌∙◌, ap, sym}
 use Rattle.rustc_parse_format.specs.declared.types.Piece.{Piece}
 use Rattle.rustc_parse_format.specs.Seen.{seen}
 use Rattle.call_faults.specs.Words.{has_number}
-use Rattle.call_faults.proofs.Collecting.{list_any-here}
+use Rattle.text_faults.proofs.Collecting.{list_any-here}
 use Rattle.call_faults.proofs.titles.have_numbers.Goals as goal
 
 pub returns-then-has_number : goal.returns-then-has_number

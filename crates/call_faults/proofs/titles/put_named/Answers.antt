@@ -1,5 +1,5 @@
 use Rattle.std.proofs.Common.{append_assoc, chars, string_bytes}
-use Rattle.call_faults.specs.Words.{quoted}
+use Rattle.text_faults.specs.Words.{quoted}
 use Rattle.call_faults.proofs.titles.put_named.Goals as goal
 
 pub returns : goal.returns

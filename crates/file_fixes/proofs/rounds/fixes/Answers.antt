@@ -4,7 +4,7 @@ use Rattle.std.proofs.lemmas.Grind.{common_steps}
 use Rattle.std.proofs.lemmas.List.{map-append}
 use Rattle.std.specs.List.{All}
 use Rattle.format_calls.specs.Rows.{entry}
-use Rattle.source_lint.specs.Findings.{HasSpans}
+use Rattle.asm_lint.specs.Spans.{HasSpans}
 use Rattle.file_fixes.specs.FileFixes.{AreRounds, IsRound, bytes_or}
 use Rattle.file_fixes.proofs.RoundLaws.{one-more, stay, stop}
 use Rattle.file_fixes.proofs.rounds.fixes.Goals as goal

@@ -1,9 +1,9 @@
 use Rattle.std.proofs.Common.{◌++◌, ◌-◌, ◌≤◌, ℕ, List, map}
 use Rattle.std.specs.List.{All}
 use Rattle.format_calls.specs.Rows.{entry}
-use Rattle.source_lint.specs.Findings.{HasSpans}
+use Rattle.asm_lint.specs.Spans.{HasSpans}
 use Rattle.source_lint.specs.Reports.{IsReport}
-use Rattle.source_lint.specs.declared.report.Report.{Report}
+use Rattle.source_report.specs.declared.report.Report.{Report}
 use Rattle.file_fixes.specs.FileFixes.{AreRounds, bytes_or}
 use Rattle.file_fixes.proofs.rounds.fixes.Given as goal
 

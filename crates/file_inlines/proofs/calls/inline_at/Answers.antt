@@ -2,8 +2,8 @@ use Rattle.std.proofs.Common.{◌≡◌, ◌∙◌, ◌+◌, ap, arith, map, sym
 use Rattle.rust_trees.specs.Leaves.{leaf}
 use Rattle.source_lint.specs.Readings.{arguments_before}
 use Rattle.source_lint.proofs.Calling.{after-one, string-there}
-use Rattle.source_lint.proofs.MovedArguments.{LiesIn, arguments-lie}
-use Rattle.source_lint.proofs.MovedStrings.{lies-get}
+use Rattle.call_forms.proofs.MovedArguments.{LiesIn, arguments-lie}
+use Rattle.asm_lint.proofs.MovedStrings.{lies-get}
 use Rattle.file_inlines.proofs.Calling.{inlines-by}
 use Rattle.file_inlines.proofs.calls.inline_at.Goals as goal
 

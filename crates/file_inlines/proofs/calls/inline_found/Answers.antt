@@ -2,7 +2,7 @@ use Rattle.std.proofs.Common.{◌≡◌, ◌∙◌, ap, chars, inl, inr, map, su
 use Rattle.std.specs.Prelude.{encode_utf8_all}
 use Rattle.std.proofs.lemmas.Str.{encodes-chars}
 use Rattle.rust_trees.specs.Leaves.{leaf}
-use Rattle.source_lint.specs.Literals.{without_crs}
+use Rattle.asm_lint.specs.Literals.{without_crs}
 use Rattle.inlined_arguments.specs.Conditions.{Call as FormatCall}
 use Rattle.inlined_arguments.specs.Seen.{seen_argument, seen_edit}
 use Rattle.file_inlines.specs.CallInlines.{AreEdits, Makes}

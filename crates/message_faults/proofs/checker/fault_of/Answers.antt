@@ -1,7 +1,7 @@
 use Rattle.std.proofs.Common.{◌∙◌, None, ap, chars, false}
 use Rattle.rustc_parse_format.specs.State.{first_state}
 use Rattle.rustc_parse_format.specs.Types.{Diagnostic}
-use Rattle.call_faults.specs.Texts.{text_fault}
+use Rattle.text_faults.specs.Texts.{text_fault}
 use Rattle.message_faults.proofs.checker.fault_of.Goals as goal
 
 pub returns : goal.returns

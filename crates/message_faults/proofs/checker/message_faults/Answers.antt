@@ -1,5 +1,5 @@
 use Rattle.std.proofs.Common.{◌∙◌}
-use Rattle.call_faults.specs.Texts.{text_fault}
+use Rattle.text_faults.specs.Texts.{text_fault}
 use Rattle.message_faults.specs.Seen.{start}
 use Rattle.message_faults.proofs.Knowing.{same_faults}
 use Rattle.message_faults.proofs.checker.message_faults.Goals as goal

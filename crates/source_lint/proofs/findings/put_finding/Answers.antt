@@ -1,5 +1,5 @@
-use Rattle.source_lint.specs.Findings.{HasSpans}
-use Rattle.source_lint.proofs.Elements.{all-more}
+use Rattle.asm_lint.specs.Spans.{HasSpans}
+use Rattle.asm_lint.proofs.Elements.{all-more}
 use Rattle.source_lint.proofs.findings.put_finding.Goals as goal
 
 pub returns-in_ok-push-clause-spans : goal.returns-in_ok-push-clause-spans

@@ -1,6 +1,6 @@
 use Rattle.std.proofs.Common.{◌∷◌, [], refl}
-use Rattle.source_lint.specs.Findings.{HasSpans}
-use Rattle.source_lint.proofs.Elements.{all-more}
+use Rattle.asm_lint.specs.Spans.{HasSpans}
+use Rattle.asm_lint.proofs.Elements.{all-more}
 use Rattle.source_lint.proofs.form_words.put_form.Goals as goal
 
 pub returns-in_ok-push-clause-outcome : goal.returns-in_ok-push-clause-outcome

@@ -2,9 +2,10 @@ use Rattle.std.proofs.Common.{◌∷◌, ◌++◌, [], List, map, subst, sym}
 use Rattle.std.proofs.lemmas.List.{map-append}
 use Rattle.call_faults.specs.Seen.{seen_edit}
 use Rattle.call_faults.specs.Spots.{Edit}
-use Rattle.source_lint.specs.declared.report.Edit.{Edit as FileEdit}
-use Rattle.source_lint.specs.Findings.{IsSpan, TellEdits}
-use Rattle.source_lint.proofs.Elements.{all-more}
+use Rattle.source_report.specs.declared.report.Edit.{Edit as FileEdit}
+use Rattle.asm_lint.specs.Spans.{IsSpan}
+use Rattle.source_lint.specs.Findings.{TellEdits}
+use Rattle.asm_lint.proofs.Elements.{all-more}
 use Rattle.source_lint.proofs.Telling.{edits-more}
 use Rattle.source_lint.proofs.labels.edits.Goals as goal
 

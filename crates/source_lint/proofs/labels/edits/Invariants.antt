@@ -1,7 +1,8 @@
 use Rattle.std.proofs.Common.{map}
 use Rattle.std.specs.List.{All}
 use Rattle.call_faults.specs.Seen.{seen_edit}
-use Rattle.source_lint.specs.Findings.{IsSpan, TellEdits}
+use Rattle.asm_lint.specs.Spans.{IsSpan}
+use Rattle.source_lint.specs.Findings.{TellEdits}
 use Rattle.source_lint.proofs.labels.edits.Given as goal
 
 abbrev pub invariant-loop-edit : goal.invariant-loop-edit

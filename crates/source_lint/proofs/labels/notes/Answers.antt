@@ -1,8 +1,8 @@
 use Rattle.std.proofs.Common.{◌∙◌, ap, length, refl, string_bytes}
 use Rattle.std.specs.List.{All}
 use Rattle.call_faults.specs.Seen.{seen_note}
-use Rattle.source_lint.specs.Findings.{IsSpan}
-use Rattle.source_lint.proofs.Elements.{all-more, mapped-more}
+use Rattle.asm_lint.specs.Spans.{IsSpan}
+use Rattle.asm_lint.proofs.Elements.{all-more, mapped-more}
 use Rattle.source_lint.proofs.labels.notes.Goals as goal
 
 pub loop-note-preserved : goal.loop-note-preserved

@@ -2,7 +2,7 @@ use Rattle.std.proofs.Common.{◌≡◌, length, map}
 use Rattle.std.specs.Prelude.{string_bytes}
 use Rattle.std.specs.List.{All}
 use Rattle.call_faults.specs.Seen.{seen_note}
-use Rattle.source_lint.specs.Findings.{IsSpan}
+use Rattle.asm_lint.specs.Spans.{IsSpan}
 use Rattle.source_lint.proofs.labels.notes.Given as goal
 
 abbrev pub invariant-loop-note : goal.invariant-loop-note

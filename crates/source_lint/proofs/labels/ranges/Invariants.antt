@@ -1,6 +1,6 @@
 use Rattle.std.proofs.Common.{◌≡◌, length}
 use Rattle.std.specs.List.{All}
-use Rattle.source_lint.specs.Findings.{IsSpan}
+use Rattle.asm_lint.specs.Spans.{IsSpan}
 use Rattle.source_lint.proofs.labels.ranges.Given as goal
 
 abbrev pub invariant-loop-spot : goal.invariant-loop-spot

@@ -1,7 +1,7 @@
 use Rattle.std.proofs.Common.{[], codes, inl, inr, refl, subst, sym, true≢false}
 use Rattle.std.proofs.lemmas.List.{append-nil}
 use Rattle.std.proofs.lemmas.Str.Pattern.{contains_text}
-use Rattle.source_lint.specs.Attributes.{ReadsItems}
+use Rattle.asm_lint.specs.Attributes.{ReadsItems}
 use Rattle.source_lint.proofs.Reporting.{same-leaves}
 use Rattle.source_lint.proofs.lint.put_attributes.Goals as goal
 

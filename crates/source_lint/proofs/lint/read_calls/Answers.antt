@@ -1,6 +1,6 @@
 use Rattle.std.proofs.Common.{◌≡◌, ◌∷◌, rules, subst, sym}
 use Rattle.std.specs.Prelude.{Contains}
-use Rattle.source_lint.proofs.Elements.{after-here, here}
+use Rattle.asm_lint.proofs.Elements.{after-here, here}
 use Rattle.std.proofs.lemmas.List.{nil_from_length}
 use Rattle.source_lint.proofs.Joining.{giving-all, giving-more, giving-none}
 use Rattle.source_lint.proofs.lint.read_calls.Goals as goal

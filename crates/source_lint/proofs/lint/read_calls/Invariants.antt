@@ -3,7 +3,7 @@ use Rattle.std.specs.Prelude.{Contains}
 use Rattle.std.specs.List.{All}
 use Rattle.rust_trees.specs.Forests.{IsPair}
 use Rattle.format_calls.specs.declared.listing.Call.{Call}
-use Rattle.source_lint.specs.Findings.{HasSpans}
+use Rattle.asm_lint.specs.Spans.{HasSpans}
 use Rattle.source_lint.specs.Readings.{Reads, scope}
 use Rattle.source_lint.proofs.Joining.{Giving}
 use Rattle.source_lint.proofs.lint.read_calls.Given as goal

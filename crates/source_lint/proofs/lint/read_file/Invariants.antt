@@ -1,7 +1,7 @@
 use Rattle.std.proofs.Common.{length, map}
 use Rattle.std.specs.List.{All}
 use Rattle.format_calls.specs.Rows.{entry}
-use Rattle.source_lint.specs.Findings.{HasSpans}
+use Rattle.asm_lint.specs.Spans.{HasSpans}
 use Rattle.source_lint.specs.Readings.{Reads, scope}
 use Rattle.source_lint.proofs.Joining.{FileGiving}
 use Rattle.source_lint.proofs.lint.read_file.Given as goal

@@ -1,7 +1,7 @@
 use Rattle.std.proofs.Common.{◌≡◌, drop, map}
 use Rattle.std.specs.List.{list_any}
 use Rattle.format_calls.specs.Arguments.{tokens_of}
-use Rattle.source_lint.specs.Operators.{lacks_operand}
+use Rattle.call_forms.specs.Operators.{lacks_operand}
 use Rattle.source_lint.proofs.readings.lack_operand.Given as goal
 
 -- The answer for what is left is the answer for all.

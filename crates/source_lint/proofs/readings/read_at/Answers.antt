@@ -3,8 +3,10 @@ use Rattle.rust_trees.specs.Leaves.{leaf}
 use Rattle.source_lint.specs.Givens.{given}
 use Rattle.source_lint.specs.Readings.{arguments_before}
 use Rattle.source_lint.proofs.Calling.{after-one, reads-by, string-there}
-use Rattle.source_lint.proofs.MovedArguments.{LiesIn, arguments-lie, before-all}
-use Rattle.source_lint.proofs.MovedStrings.{lies-drop, lies-get}
+use Rattle.call_forms.proofs.MovedArguments.{LiesIn, arguments-lie}
+use Rattle.source_lint.proofs.ArgumentsBefore.{before-all}
+use Rattle.source_lint.proofs.MovedGivens.{lies-drop}
+use Rattle.asm_lint.proofs.MovedStrings.{lies-get}
 use Rattle.source_lint.proofs.readings.read_at.Goals as goal
 
 pub returns-in_default-clause-read : goal.returns-in_default-clause-read

@@ -3,7 +3,7 @@ use Rattle.std.specs.Prelude.{slice_get}
 use Rattle.std.proofs.lemmas.List.{append-nil}
 use Rattle.format_calls.specs.Arguments.{tokens_of}
 use Rattle.source_lint.specs.FormWords.{TellsForms}
-use Rattle.source_lint.specs.Forms.{form_here}
+use Rattle.call_forms.specs.Forms.{form_here}
 use Rattle.source_lint.specs.Readings.{ReadsUnless, scope, skipped}
 use Rattle.source_lint.proofs.Calling.{arguments-here, reads-here}
 use Rattle.source_lint.proofs.readings.read_call.Goals as goal

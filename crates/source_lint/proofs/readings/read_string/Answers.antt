@@ -5,7 +5,7 @@ use Rattle.call_faults.specs.Arguments.{FormatArgument}
 use Rattle.call_faults.specs.Seen.{seen_given}
 use Rattle.source_lint.specs.Findings.{AreFindings}
 use Rattle.source_lint.specs.Givens.{given}
-use Rattle.source_lint.specs.Literals.{without_crs}
+use Rattle.asm_lint.specs.Literals.{without_crs}
 use Rattle.source_lint.specs.Readings.{call_of, counted_givens, start_of}
 use Rattle.source_lint.proofs.CheckedCalls.{start-same}
 use Rattle.source_lint.proofs.readings.read_string.Goals as goal

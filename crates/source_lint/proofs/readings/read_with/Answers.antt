@@ -1,5 +1,5 @@
 use Rattle.std.proofs.Common.{◌∙◌, ap, refl}
-use Rattle.source_lint.specs.Literals.{appends_newline}
+use Rattle.asm_lint.specs.Literals.{appends_newline}
 use Rattle.source_lint.specs.Readings.{captures}
 use Rattle.source_lint.proofs.Calling.{reads-by}
 use Rattle.source_lint.proofs.readings.read_with.Goals as goal

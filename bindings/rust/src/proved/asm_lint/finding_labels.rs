@@ -1,0 +1,53 @@
+//! The labels of findings, with their ranges in the file.
+
+// Extracted from crates/asm_lint/src/finding_labels.rt by tools/extract: not to be edited.
+// That source is proved, and each contract here is its. That this text means the same is tested:
+// by results from outside, and beside what is proved (.ci/bindings) and the original (tools/agree).
+
+use crate::proved::asm_lint::spans::{range_in, spot_range, Site};
+use crate::proved::source_report::Label;
+use crate::proved::text_faults::CallLabel;
+use crate::shim::alloc::{AllocError, Global};
+use crate::shim::prelude::*;
+use core::ops::Range;
+
+/// Returns labels of a call with their ranges. Returns `Err` if an allocation fails.
+// ensures primary { IfOk result (λ v. map (λ x. x.is_primary) v.items
+//     ≡ map (λ l. l.is_primary) (map seen_label labels.items)) }
+// ensures texts { IfOk result (λ v. map (λ x. string_bytes x.text) v.items
+//     ≡ map (λ l. l.text) (map seen_label labels.items)) }
+// ensures spans { IfOk result (λ v. All (λ x. IsSpan site.entry.text.now x.range) v.items) }
+#[inline]
+pub fn labels(
+    alloc: Global,
+    site: Site<'_, '_>,
+    labels: Vec<CallLabel>,
+) -> Result<Vec<Label>, AllocError> {
+    let mut found = Vec::made_in(alloc);
+    for label in labels {
+        found.try_push(Label {
+            range: spot_range(site, label.spot),
+            is_primary: label.is_primary,
+            text: label.text,
+        })?;
+    }
+    Ok(found)
+}
+
+/// Returns the range of the primary label that comes first in the file, or an empty one if there is
+/// none.
+// ensures { IsSpan site.entry.text.now result }
+#[inline]
+pub fn primary_span(site: Site<'_, '_>, labels: &[Label]) -> Range<usize> {
+    let mut start = 0;
+    let mut end = 0;
+    let mut is_found = false;
+    for label in labels {
+        if label.is_primary && (!is_found || label.range.start < start) {
+            start = label.range.start;
+            end = label.range.end;
+            is_found = true;
+        }
+    }
+    range_in(site.text, start, end)
+}

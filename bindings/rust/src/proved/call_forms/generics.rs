@@ -1,0 +1,159 @@
+//! The parameters of a trait that are types or constants.
+
+// Extracted from crates/call_forms/src/generics.rt by tools/extract: not to be edited.
+// That source is proved, and each contract here is its. That this text means the same is tested:
+// by results from outside, and beside what is proved (.ci/bindings) and the original (tools/agree).
+
+use crate::proved::format_calls::{is_mark, is_mark_of, is_text, is_word};
+use crate::proved::rust_trees::{is_opening, Side, Token};
+use crate::shim::alloc::{AllocError, Global};
+use crate::shim::prelude::*;
+
+/// Where a token of a list of parameters is.
+#[derive(Clone, Copy)]
+pub struct Place {
+    /// How many angles are open.
+    pub angles: usize,
+    /// How many delimiters are open.
+    pub opens: usize,
+    /// Whether a parameter may begin.
+    pub is_first: bool,
+    /// Whether `-` stands before it.
+    pub is_arrow: bool,
+}
+
+/// Returns whether a token is the name of a parameter, where one may stand.
+// ensures { result ≡ names place (leaf token.now) }
+#[inline]
+fn names(place: Place, token: &Token<'_>) -> bool {
+    place.opens == 0 && place.is_first && is_word(token) && !is_text(token, "const")
+}
+
+/// Returns how many angles are open after a token outside of delimiters.
+// requires { place.angles + 1 < 2 ^ 64 }
+// ensures { result ≡ angles_after place (leaf token.now) }
+#[inline]
+fn angles_after(place: Place, token: &Token<'_>) -> usize {
+    if is_mark_of(token, b'<') {
+        place.angles + 1
+    } else if is_mark_of(token, b'>') && !place.is_arrow {
+        place.angles.saturating_sub(1)
+    } else {
+        place.angles
+    }
+}
+
+/// Returns whether a parameter may begin after a token outside of delimiters.
+// ensures { result ≡ first_after place (leaf token.now) }
+#[inline]
+fn first_after(place: Place, token: &Token<'_>) -> bool {
+    place.angles == 1 && is_mark_of(token, b',') || place.is_first && !names(place, token)
+}
+
+/// Returns the place after a token outside of delimiters, which is none itself.
+// requires { place.angles + 1 < 2 ^ 64 }
+// ensures { result ≡ plain_after place (leaf token.now) }
+#[inline]
+fn plain_after(place: Place, token: &Token<'_>) -> Place {
+    Place {
+        angles: angles_after(place, token),
+        opens: 0,
+        is_first: first_after(place, token),
+        is_arrow: is_mark_of(token, b'-'),
+    }
+}
+
+/// Returns a place with this many open delimiters.
+// ensures { result ≡ with_opens place opens }
+#[inline]
+fn with_opens(place: Place, opens: usize) -> Place {
+    Place {
+        angles: place.angles,
+        opens,
+        is_first: place.is_first,
+        is_arrow: false,
+    }
+}
+
+/// Returns the place where a list has ended.
+// ensures { result ≡ ended }
+#[inline]
+fn ended() -> Place {
+    Place {
+        angles: 0,
+        opens: 0,
+        is_first: false,
+        is_arrow: false,
+    }
+}
+
+/// Returns the place after a token of a list, which ends at the latest before another trait.
+// requires angles { place.angles + 1 < 2 ^ 64 }
+// requires opens { place.opens + 1 < 2 ^ 64 }
+// ensures { result ≡ place_after place (leaf token.now) }
+#[inline]
+fn place_after(place: Place, token: &Token<'_>) -> Place {
+    if is_text(token, "trait") {
+        return ended();
+    }
+    if is_opening(token.side()) {
+        return with_opens(place, place.opens + 1);
+    }
+    if matches!(token.side(), Side::Closes(_)) {
+        if place.opens == 0 {
+            return ended();
+        }
+        return with_opens(place, place.opens - 1);
+    }
+    if place.opens == 0 {
+        plain_after(place, token)
+    } else {
+        with_opens(place, place.opens)
+    }
+}
+
+/// Adds the name of the parameter that a token is, if it is one. Returns `Err` if an allocation
+/// fails.
+// ensures { OnOk result (map (λ w. w.now) found.new.items ≡ map (λ w. w.now) found.old.items
+//     ++ parameter place (leaf token.now)) }
+#[inline]
+fn put_parameter<'a>(
+    found: &mut Vec<&'a str>,
+    place: Place,
+    token: &Token<'a>,
+) -> Result<(), AllocError> {
+    if names(place, token) {
+        found.try_push(token.text)?;
+    }
+    Ok(())
+}
+
+/// Returns the names of the parameters whose list opens with the token of an index, or none if no
+/// list does. Returns `Err` if an allocation fails.
+// ensures { IfOk result (λ v. map (λ w. w.now) v.items
+//     ≡ parameters (map leaf tokens.now) index) }
+#[inline]
+pub fn parameters<'a>(
+    alloc: Global,
+    tokens: &[Token<'a>],
+    index: usize,
+) -> Result<Vec<&'a str>, AllocError> {
+    let mut found = Vec::made_in(alloc);
+    if !is_mark(tokens, index, b'<') {
+        return Ok(found);
+    }
+    let mut place = Place {
+        angles: 1,
+        opens: 0,
+        is_first: true,
+        is_arrow: false,
+    };
+    for token in &tokens[index + 1..] {
+        if place.angles == 0 {
+            return Ok(found);
+        }
+        put_parameter(&mut found, place, token)?;
+        place = place_after(place, token);
+    }
+    Ok(found)
+}

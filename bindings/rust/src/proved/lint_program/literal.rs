@@ -1,0 +1,257 @@
+//! The run over one string: a literal, or a text.
+
+// Extracted from crates/lint_program/src/literal.rt by tools/extract: not to be edited.
+// That source is proved, and each contract here is its. That this text means the same is tested:
+// by results from outside, and beside what is proved (.ci/bindings) and the original (tools/agree).
+
+use crate::proved::drawn_lines::{put_glyphs, WIDTH};
+use crate::proved::format_lint::run::run;
+use crate::proved::lint_program::arguments::{file_of, has_colours, list_words, task_of, width_of};
+use crate::proved::lint_program::failure::Failure;
+use crate::proved::lint_program::recorder::Recorder;
+use crate::proved::lint_words::{put_failure, put_not_literal, system_words};
+use crate::proved::listing_json::{list, Listing};
+use crate::proved::literal_faults::{file_fault, snippet_of};
+use crate::proved::piece_listing::run::{read_input, run as list_as_text, write_whole};
+use crate::proved::piece_listing::verdict::RunFault;
+use crate::shim::alloc::{AllocError, Global};
+use crate::shim::clap::ArgMatches;
+use crate::shim::host::fs;
+use crate::shim::host::IsTerminal;
+use crate::shim::prelude::*;
+use std::io::{ErrorKind, Read, Write};
+
+/// Reads a stream to its end.
+#[inline]
+fn read<R: Read>(rt: &crate::shim::host::HostRuntime, stream: R) -> Result<Vec<u8>, Failure> {
+    let mut reader = Recorder::new(stream);
+    match read_input(rt.alloc(), &mut reader) {
+        Ok(bytes) => Ok(bytes),
+        Err(fault) => Err(Failure {
+            fault,
+            error: reader.error,
+        }),
+    }
+}
+
+/// Reads a file, or standard input.
+#[inline]
+fn read_file(rt: &crate::shim::host::HostRuntime, file: Option<&str>) -> Result<Vec<u8>, Failure> {
+    let Some(path) = file else {
+        tell_of_terminal(rt);
+        return read(rt, rt.stdin());
+    };
+    match fs::open(rt, path) {
+        Ok(file) => read(rt, file),
+        Err(error) => Err(Failure::of(error)),
+    }
+}
+
+/// Returns the bytes of a file with each CRLF as the line feed that the compiler reads it as. A
+/// text that is no literal stays as it is.
+#[inline]
+fn without_returns(
+    alloc: Global,
+    matches: &ArgMatches<'_>,
+    file: Vec<u8>,
+) -> Result<Vec<u8>, AllocError> {
+    if matches.get_flag("text") || !file.contains(&b'\r') {
+        return Ok(file);
+    }
+    let mut bytes = Vec::made_in(alloc);
+    for (index, byte) in file.iter().enumerate() {
+        if *byte != b'\r' || file.get(index.saturating_add(1)) != Some(&b'\n') {
+            bytes.try_push(*byte)?;
+        }
+    }
+    Ok(bytes)
+}
+
+/// Writes to standard error that standard input is read, if it is a terminal.
+#[inline]
+pub fn tell_of_terminal(rt: &crate::shim::host::HostRuntime) {
+    if rt.stdin().is_terminal() {
+        let _ = rt.eprintln("formatlint: reads what is typed here, up to Ctrl-D; --help says more");
+    }
+}
+
+/// Reads the input: a file, or standard input.
+#[inline]
+fn input(
+    rt: &crate::shim::host::HostRuntime,
+    matches: &ArgMatches<'_>,
+    file: Option<&str>,
+) -> Result<Vec<u8>, Failure> {
+    let bytes = read_file(rt, file)?;
+    Ok(without_returns(rt.alloc(), matches, bytes)?)
+}
+
+/// Returns the bytes of an input that are listed: all of a text, or the literal in a file.
+#[inline]
+fn listing_input<'a>(matches: &ArgMatches<'_>, input: &'a [u8]) -> &'a [u8] {
+    if matches.get_flag("text") {
+        return input;
+    }
+    match core::str::from_utf8(input) {
+        Ok(file) => snippet_of(file).text.as_bytes(),
+        Err(_) => input,
+    }
+}
+
+/// Returns the listing of an input, in the form that the arguments name.
+#[inline]
+fn listing_of(alloc: Global, matches: &ArgMatches<'_>, input: &[u8]) -> Result<Listing, RunFault> {
+    let words = list_words(alloc, matches)?;
+    let bytes = listing_input(matches, input);
+    if matches.get_str("format") == Some("json") {
+        return list(alloc, bytes, words.as_slice());
+    }
+    let mut reader = bytes;
+    let mut lines = Vec::made_in(alloc);
+    let has_ends = list_as_text(alloc, &mut reader, &mut lines, words.as_slice())?;
+    Ok(Listing {
+        bytes: lines,
+        has_ends,
+    })
+}
+
+/// Writes the listing of an input. On a terminal its characters are those of a drawing, so that the
+/// terminal obeys none. Returns 1 if a line is not of a piece.
+#[inline]
+fn answer_listing<W: Write>(
+    rt: &crate::shim::host::HostRuntime,
+    writer: &mut W,
+    matches: &ArgMatches<'_>,
+    input: &[u8],
+) -> Result<usize, RunFault> {
+    let listing = listing_of(rt.alloc(), matches, input)?;
+    match core::str::from_utf8(listing.bytes.as_slice()) {
+        Ok(text) if rt.stdout().is_terminal() => {
+            let mut drawn = String::made_in(rt.alloc());
+            put_glyphs(&mut drawn, text, 0)?;
+            write_whole(writer, drawn.as_bytes())?;
+        }
+        _ => write_whole(writer, listing.bytes.as_slice())?,
+    }
+    Ok(usize::from(listing.has_ends))
+}
+
+/// Writes the answer for an input. Returns how many mistakes are left, and of a list 1 if a line is
+/// not of a piece.
+#[inline]
+fn answer(
+    rt: &crate::shim::host::HostRuntime,
+    matches: &ArgMatches<'_>,
+    path: &str,
+    input: &[u8],
+) -> Result<usize, Failure> {
+    let alloc = rt.alloc();
+    let mut writer = Recorder::new(rt.stdout());
+    let mut error_writer = Recorder::new(rt.stderr());
+    let result = if matches.get_flag("list") {
+        answer_listing(rt, &mut writer, matches, input)
+    } else {
+        let width = width_of(rt, matches).unwrap_or(WIDTH);
+        let task = task_of(matches, path, width, has_colours(rt, matches));
+        let mut reader = input;
+        run(alloc, &mut reader, &mut writer, &mut error_writer, task)
+    };
+    match result {
+        Ok(count) => Ok(count),
+        Err(fault) => Err(Failure {
+            fault,
+            error: writer.error.or(error_writer.error),
+        }),
+    }
+}
+
+/// Appends the lines with the reason why there is no answer.
+#[inline]
+fn put_why(
+    out: &mut String,
+    path: &str,
+    input: &[u8],
+    failure: &Failure,
+) -> Result<(), AllocError> {
+    if failure.fault == RunFault::NotLiteral {
+        if let Ok(file) = core::str::from_utf8(input) {
+            if let Some(fault) = file_fault(file) {
+                return put_not_literal(out, path, file, &fault);
+            }
+        }
+    }
+    let words = match &failure.error {
+        Some(error) => crate::shim::format_in!(*out.own_allocator(); "{error}")?,
+        None => String::made_in(*out.own_allocator()),
+    };
+    put_failure(out, path, failure.fault, system_words(words.as_str()))
+}
+
+/// The exit status where the reader of the output is gone: that of a program that ends by the
+/// signal SIGPIPE.
+const GONE: u8 = 141;
+
+/// The advice where the string was given as a path.
+const NO_PATH: &str = "  = help: without a PATH the string is read from standard input";
+
+/// Writes to standard error why there is no answer, and returns the exit status.
+#[inline]
+pub fn tell(
+    rt: &crate::shim::host::HostRuntime,
+    path: &str,
+    input: &[u8],
+    failure: &Failure,
+) -> u8 {
+    if failure.is_of(ErrorKind::BrokenPipe) {
+        return GONE;
+    }
+    let mut out = String::made_in(rt.alloc());
+    let _ = match put_why(&mut out, path, input, failure) {
+        Ok(()) => rt.eprint(out.as_str()),
+        Err(_) => rt.eprintln("formatlint: out of memory"),
+    };
+    if failure.fault == RunFault::NotLiteral {
+        1
+    } else {
+        3
+    }
+}
+
+/// Writes to standard error how many mistakes there are besides the first, where only that is
+/// drawn.
+#[inline]
+fn tell_others(rt: &crate::shim::host::HostRuntime, matches: &ArgMatches<'_>, count: usize) {
+    if count > 1 && !matches.get_flag("all") {
+        let others = count - 1;
+        let _ = crate::shim::eprintln_in!(rt; "formatlint: and {others} more, which --all draws");
+    }
+}
+
+/// Reads one string, and writes the answer. Returns the exit status, or `None` if the value of
+/// `--args` is no list of arguments.
+#[inline]
+pub fn literal_status(rt: &crate::shim::host::HostRuntime, matches: &ArgMatches<'_>) -> Option<u8> {
+    let file = file_of(matches);
+    let path = match file {
+        Some(path) => path,
+        None => matches.get_str("stdin-path").unwrap_or("<stdin>"),
+    };
+    let bytes = match input(rt, matches, file) {
+        Ok(bytes) => bytes,
+        Err(failure) => {
+            let status = tell(rt, path, &[], &failure);
+            if failure.is_of(ErrorKind::NotFound) {
+                let _ = rt.eprintln(NO_PATH);
+            }
+            return Some(status);
+        }
+    };
+    match answer(rt, matches, path, bytes.as_slice()) {
+        Ok(count) => {
+            tell_others(rt, matches, count);
+            Some(u8::from(count > 0))
+        }
+        Err(failure) if failure.fault == RunFault::Words => None,
+        Err(failure) => Some(tell(rt, path, bytes.as_slice(), &failure)),
+    }
+}

@@ -1,0 +1,24 @@
+//! The parts of the program `formatlint` that need no source file: its options, the values of its
+//! arguments, the run over one string, and how it reads manifests and replaces files.
+
+// Extracted from crates/lint_program/src/lib.rt by tools/extract: not to be edited.
+// That source is proved, and each contract here is its. That this text means the same is tested:
+// by results from outside, and beside what is proved (.ci/bindings) and the original (tools/agree).
+
+pub(crate) mod arguments;
+pub(crate) mod changes;
+pub(crate) mod editions;
+pub(crate) mod failure;
+pub(crate) mod literal;
+pub(crate) mod options;
+pub(crate) mod progress;
+pub(crate) mod recorder;
+
+pub use arguments::{change_of, form_of, has_colours, table_of, width_of};
+pub use changes::{replace, Change, StepFailure};
+pub use editions::Editions;
+pub use failure::Failure;
+pub use literal::{literal_status, tell, tell_of_terminal};
+pub use options::{command, is_option, VERSION};
+pub use progress::Progress;
+pub use recorder::Recorder;

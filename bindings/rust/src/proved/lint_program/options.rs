@@ -1,0 +1,306 @@
+//! The options of the program.
+
+// Extracted from crates/lint_program/src/options.rt by tools/extract: not to be edited.
+// That source is proved, and each contract here is its. That this text means the same is tested:
+// by results from outside, and beside what is proved (.ci/bindings) and the original (tools/agree).
+
+use crate::shim::alloc::{AllocError, Global};
+use crate::shim::clap::{Arg, ArgAction, ArgGroup, Command};
+
+/// The version of the program.
+pub const VERSION: &str = "0.3.0";
+
+/// The words that name a mode.
+const MODES: [&str; 4] = ["format", "asm", "diagnostic", "diagnostic-named"];
+
+/// The words that say when there are colours.
+const TIMES: [&str; 3] = ["auto", "always", "never"];
+
+/// The words that name a form of messages.
+const FORMS: [&str; 5] = ["human", "short", "json", "github", "sarif"];
+
+/// The words that name a form of listings.
+const LISTINGS: [&str; 2] = ["text", "json"];
+
+/// The editions.
+const EDITIONS: [&str; 4] = ["2015", "2018", "2021", "2024"];
+
+/// The options about files, which are not given with those about a string.
+const FILES: [&str; 7] = [
+    "exclude",
+    "edition",
+    "macro",
+    "message-format",
+    "stats",
+    "inline",
+    "mixed",
+];
+
+/// The options with which no diff is printed.
+const NO_PREVIEW: [&str; 3] = ["message-format", "literal", "text"];
+
+/// The options with which no paths are printed.
+const NO_CHECK: [&str; 4] = ["message-format", "literal", "text", "diff"];
+
+/// An option, as a row of a table.
+struct Row {
+    /// The name, without its two dashes.
+    name: &'static str,
+    /// The name of its value, or `None` for an option without a value.
+    value: Option<&'static str>,
+    help: &'static str,
+    /// Its short name, without the dash.
+    short: Option<char>,
+    /// The values that it may have, or none if it may have any.
+    values: &'static [&'static str],
+    /// The value that it has where it is not given.
+    default: Option<&'static str>,
+    /// Whether it may be given again and again.
+    is_repeated: bool,
+    /// The options, or the group, without which it is not given.
+    needs: &'static [&'static str],
+    /// The options with which it is not given.
+    conflicts: &'static [&'static str],
+}
+
+/// An option without a value that may be given with all others.
+const FLAG: Row = Row {
+    name: "",
+    value: None,
+    help: "",
+    short: None,
+    values: &[],
+    default: None,
+    is_repeated: false,
+    needs: &[],
+    conflicts: &[],
+};
+
+/// The options, in the order of the help.
+static OPTIONS: [Row; 24] = [
+    Row {
+        name: "exclude",
+        value: Some("NAME"),
+        help: "Leave out files and folders with this name; it can be given again",
+        is_repeated: true,
+        ..FLAG
+    },
+    Row {
+        name: "stdin-path",
+        value: Some("PATH"),
+        help: "The path that stands for standard input in messages; without a path that is read",
+        ..FLAG
+    },
+    Row {
+        name: "edition",
+        value: Some("YEAR"),
+        help: "The edition of the files, in place of that in the nearest Cargo.toml",
+        values: &EDITIONS,
+        ..FLAG
+    },
+    Row {
+        name: "macro",
+        value: Some("NAME:INDEX"),
+        help: "A macro, and which of its arguments, from 0, is a format string; it can be given again",
+        is_repeated: true,
+        ..FLAG
+    },
+    Row {
+        name: "message-format",
+        value: Some("FORM"),
+        help: "The form of messages; short is a line, and json has rustc's members",
+        values: &FORMS,
+        default: Some("human"),
+        ..FLAG
+    },
+    Row {
+        name: "stats",
+        help: "Say on standard error what was read, and what was not and why",
+        ..FLAG
+    },
+    Row {
+        name: "quiet",
+        help: "Do not say on standard error how many faults there are",
+        short: Some('q'),
+        ..FLAG
+    },
+    Row {
+        name: "literal",
+        help: "Read one string literal, of a file or of standard input",
+        conflicts: &FILES,
+        ..FLAG
+    },
+    Row {
+        name: "text",
+        help: "Read the text of one string, of a file or of standard input",
+        conflicts: &FILES,
+        ..FLAG
+    },
+    Row {
+        name: "fix",
+        help: "Apply the suggestions to the files in place, or print the literal or standard input with them",
+        conflicts: &["text"],
+        ..FLAG
+    },
+    Row {
+        name: "inline",
+        help: "Move arguments that are variables into format strings, in the files in place, or print standard input with them",
+        conflicts: &["literal", "text"],
+        ..FLAG
+    },
+    Row {
+        name: "mixed",
+        help: "With --inline: also in calls with other arguments, which stay",
+        needs: &["inline"],
+        ..FLAG
+    },
+    Row {
+        name: "diff",
+        help: "With --fix or --inline: print what would change in files as a unified diff, and write no file",
+        needs: &["change"],
+        conflicts: &NO_PREVIEW,
+        ..FLAG
+    },
+    Row {
+        name: "check",
+        help: "With --fix or --inline: print the paths of the files that would change, and write no file",
+        needs: &["change"],
+        conflicts: &NO_CHECK,
+        ..FLAG
+    },
+    Row {
+        name: "tokens",
+        help: "Print the tokens of the string, in colours or each in a line, and then the fault",
+        needs: &["string"],
+        conflicts: &["fix"],
+        ..FLAG
+    },
+    Row {
+        name: "all",
+        help: "Draw all faults of the string, each with its id and whether it follows from another",
+        needs: &["string"],
+        conflicts: &["fix", "tokens"],
+        ..FLAG
+    },
+    Row {
+        name: "list",
+        help: "List the pieces and the faults of the string, each in a line, as formatread does",
+        needs: &["string"],
+        conflicts: &["fix", "tokens", "all"],
+        ..FLAG
+    },
+    Row {
+        name: "args",
+        value: Some("LIST"),
+        help: "With --list: name arguments, as in 2,w, and list those that are missing or unused",
+        needs: &["list"],
+        ..FLAG
+    },
+    Row {
+        name: "format",
+        value: Some("FORM"),
+        help: "With --list: text, as formatread writes it, or json, an object in each line",
+        values: &LISTINGS,
+        needs: &["list"],
+        ..FLAG
+    },
+    Row {
+        name: "mode",
+        value: Some("MODE"),
+        help: "What the string is",
+        values: &MODES,
+        default: Some("format"),
+        needs: &["string"],
+        ..FLAG
+    },
+    Row {
+        name: "color",
+        value: Some("WHEN"),
+        help: "Whether tokens and drawings have colours; auto: if standard output is a terminal that has them",
+        values: &TIMES,
+        default: Some("auto"),
+        ..FLAG
+    },
+    Row {
+        name: "width",
+        value: Some("N"),
+        help: "How many columns a row of a drawing has; longer lines are cut as rustc cuts them \
+            [default: those of the terminal if COLUMNS says how many, otherwise 140]",
+        ..FLAG
+    },
+    Row {
+        name: "list-ids",
+        help: "List the ids of all kinds of faults",
+        ..FLAG
+    },
+    Row {
+        name: "explain",
+        value: Some("ID"),
+        help: "Say what a kind of fault is, with an example",
+        ..FLAG
+    },
+];
+
+/// Returns an option. Returns `Err` if an allocation fails.
+#[inline]
+fn option<'a>(alloc: Global, row: &'a Row) -> Result<Arg<'a>, AllocError> {
+    let mut arg = Arg::new(alloc, row.name).long(row.name).help(row.help);
+    arg = match row.value {
+        Some(value) => arg.value_name(value),
+        None => arg.action(ArgAction::SetTrue),
+    };
+    if row.is_repeated {
+        arg = arg.action(ArgAction::Append);
+    }
+    if let Some(short) = row.short {
+        arg = arg.short(short);
+    }
+    if !row.values.is_empty() {
+        arg = arg.value_parser(row.values);
+    }
+    if let Some(value) = row.default {
+        arg = arg.default_value(value);
+    }
+    arg.requires_all(row.needs)?
+        .conflicts_with_all(row.conflicts)
+}
+
+/// Adds all options to a command. Returns `Err` if an allocation fails.
+#[inline]
+fn with_options<'a>(alloc: Global, command: Command<'a>) -> Result<Command<'a>, AllocError> {
+    let mut all = command;
+    for row in &OPTIONS {
+        all = all.arg(option(alloc, row)?)?;
+    }
+    Ok(all)
+}
+
+/// Returns the options and the arguments of the program. Returns `Err` if an allocation fails.
+#[inline]
+pub fn command<'a>(alloc: Global) -> Result<Command<'a>, AllocError> {
+    let named = Command::new(alloc, "formatlint")
+        .bin_name("formatlint")?
+        .version(VERSION)
+        .about("Finds the faults of format strings in Rust sources, as the Rust compiler does");
+    let path = Arg::new(alloc, "path")
+        .value_name("PATH")
+        .num_args(0..)
+        .action(ArgAction::Append)
+        .help("The files and folders to read; - is standard input; without one, this folder");
+    let with_all = with_options(alloc, named.arg(path)?)?;
+    let string = ArgGroup::new(alloc, "string").arg("literal")?;
+    let change = ArgGroup::new(alloc, "change").arg("fix")?;
+    let with_string = with_all.group(string.arg("text")?)?;
+    with_string.group(change.arg("inline")?.multiple(true))
+}
+
+/// Returns whether an option has this name.
+#[inline]
+pub fn is_option(name: &str) -> bool {
+    for row in &OPTIONS {
+        if row.name == name {
+            return true;
+        }
+    }
+    name == "help" || name == "version"
+}

@@ -1,0 +1,59 @@
+//! A stream that keeps the error of a call that fails.
+
+// Extracted from crates/lint_program/src/recorder.rt by tools/extract: not to be edited.
+// That source is proved, and each contract here is its. That this text means the same is tested:
+// by results from outside, and beside what is proved (.ci/bindings) and the original (tools/agree).
+
+use std::io::{Error, Read, Result, Write};
+
+/// A stream with the last error that it returned.
+pub struct Recorder<S> {
+    /// The stream.
+    pub stream: S,
+    /// The last error, or `None`.
+    pub error: Option<Error>,
+}
+
+impl<S> Recorder<S> {
+    /// Returns the recorder of a stream that returned no error.
+    #[inline]
+    pub fn new(stream: S) -> Recorder<S> {
+        Recorder {
+            stream,
+            error: None,
+        }
+    }
+
+    /// Keeps an error, and returns one of its kind.
+    #[inline]
+    fn keep(&mut self, error: Error) -> Error {
+        let kind = error.kind();
+        self.error = Some(error);
+        Error::from(kind)
+    }
+}
+
+impl<R: Read> Read for Recorder<R> {
+    #[inline]
+    fn read(&mut self, buf: &mut [u8]) -> Result<usize> {
+        match self.stream.read(buf) {
+            Ok(count) => Ok(count),
+            Err(error) => Err(self.keep(error)),
+        }
+    }
+}
+
+impl<W: Write> Write for Recorder<W> {
+    #[inline]
+    fn write(&mut self, buf: &[u8]) -> Result<usize> {
+        match self.stream.write(buf) {
+            Ok(count) => Ok(count),
+            Err(error) => Err(self.keep(error)),
+        }
+    }
+
+    #[inline]
+    fn flush(&mut self) -> Result<()> {
+        self.stream.flush()
+    }
+}

@@ -1,0 +1,15 @@
+//! The report on a Rust source file ([`Report`]), and a text with the edits that mend its faults
+//! ([`mend_each`]).
+
+// Extracted from crates/source_report/src/lib.rt by tools/extract: not to be edited.
+// That source is proved, and each contract here is its. That this text means the same is tested:
+// by results from outside, and beside what is proved (.ci/bindings) and the original (tools/agree).
+
+pub(crate) mod edited;
+pub(crate) mod report;
+pub(crate) mod suggestions;
+
+pub use edited::mend_each;
+pub use report::{CallReading, Edit, Finding, Help, Label, Note, Options, Report};
+#[cfg(feature = "std")]
+pub use suggestions::{is_applicable, suggestion_of, LabelSuggestion};

@@ -1,0 +1,28 @@
+-- Texts whose lines end with LF, one character after the other.
+use Rattle.std.proofs.Common.{◌≡◌, ◌++◌, ℕ, true, false, [], ◌∷◌, Some, ap, sym}
+use Rattle.std.proofs.Common.{◌∙◌}
+use Rattle.std.specs.Prelude.{◌==◌, ◌&&◌, if◌then◌else◌}
+use Rattle.std.proofs.lemmas.List.{append_assoc}
+use Rattle.rust_tokens.specs.Runs.{first_passes}
+use Rattle.rust_tokens.specs.Texts.{Text, split_first}
+use Rattle.rust_trees.specs.Places.{is_lf}
+use Rattle.rust_trees.proofs.PlaceSteps.{split-some}
+use Rattle.asm_lint.specs.Literals.{without_crs}
+
+-- The character c is kept, where more follows it.
+pub cr-kept : (done now all t : Text) (c : ℕ) (more : Text) → now ≡ done ++ c ∷ []
+    → Some (c, more) ≡ split_first t → (c == 13 && first_passes is_lf more) ≡ false
+    → done ++ without_crs t ≡ all → now ++ without_crs more ≡ all
+cr-kept done now all t c more e f b h =
+    ap (λ v. v ++ without_crs more) e
+    ∙ (append_assoc done (c ∷ []) (without_crs more)
+    ∙ (ap (λ v. done ++ v) (sym (ap (λ v. without_crs v) (split-some t more c f)
+    ∙ ap (λ v. if v then without_crs more else c ∷ without_crs more) b)) ∙ h))
+
+-- It is dropped.
+pub cr-dropped : (done all t : Text) (c : ℕ) (more : Text) → Some (c, more) ≡ split_first t
+    → (c == 13 && first_passes is_lf more) ≡ true → done ++ without_crs t ≡ all
+    → done ++ without_crs more ≡ all
+cr-dropped done all t c more f b h =
+    ap (λ v. done ++ v) (sym (ap (λ v. without_crs v) (split-some t more c f)
+    ∙ ap (λ v. if v then without_crs more else c ∷ without_crs more) b)) ∙ h

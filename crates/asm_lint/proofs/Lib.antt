@@ -1,0 +1,10 @@
+pub mod AsmSteps
+pub mod AsmTelling
+pub mod Crs
+pub mod Elements
+pub mod FrontSteps
+pub mod Gathering
+pub mod MovedAssembly
+pub mod MovedStrings
+pub mod Openings
+pub mod Widths

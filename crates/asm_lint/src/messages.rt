@@ -1,0 +1,134 @@
+//! The findings in the texts of attributes: their faults, in words and with their places in the
+//! file.
+
+ghost use Rattle.std.specs.Prelude.{◌≡◌, ◌++◌, ◌∷◌, [], List, Some, IfOk, IfSome, OnOk, chars, map};
+ghost use Rattle.std.specs.Prelude.{option_map, string_bytes};
+ghost use Rattle.std.specs.List.{All};
+ghost use Rattle.message_faults.specs.Messages.{message_faults};
+ghost use Rattle.message_faults.specs.Seen.{HasNames, seen_fault, start};
+ghost use Rattle.asm_lint.specs.Attributes.{ReadsText, TellMessages, TellsMessage};
+ghost use Rattle.asm_lint.specs.Spans.{HasSpans};
+ghost use Rattle.asm_lint.specs.Literals.{without_crs};
+ghost use Rattle.source_report.specs.declared.report.Finding.{Finding as FindingValue};
+
+use crate::finding_labels::{labels, primary_span};
+use crate::literals::{dropped_crs, read_literal};
+use crate::spans::Site;
+use message_faults::{Message, MessageFault, message_faults};
+use rust_trees::Token;
+use source_report::{Finding, Help};
+use std::alloc::{AllocError, Global};
+use std::collections::BTreeSet;
+
+/// A trait that an attribute stands before.
+#[derive(Clone, Copy)]
+pub struct Item<'s, 'a> {
+    /// Its name.
+    pub name: &'a str,
+    /// Its parameters that are types or constants.
+    pub parameters: &'s [&'a str],
+    /// The set of their names.
+    pub names: &'s BTreeSet<&'a str>,
+}
+
+/// Returns a help, which has no edits. Returns `Err` if an allocation fails.
+fn help(alloc: Global, help: Option<&str>) -> Result<Option<Help>, AllocError>
+    ensures text { IfOk result (λ o. option_map (λ h. string_bytes h.text) o
+        ≡ option_map (λ t. t.now) help.entry) }
+    ensures no_edits { IfOk result (λ o. IfSome o (λ h. h.edits.items ≡ [])) }
+{
+    match help {
+        None => Ok(None),
+        Some(help) => {
+            let text = String::from_str(alloc, help)?;
+            let edits = Vec::new(alloc);
+            Ok(Some(Help { text, edits }))
+        }
+    }
+}
+
+/// Returns the finding of a fault, for a trait of this name. Returns `Err` if an allocation fails.
+fn finding(
+    alloc: Global,
+    site: Site<'_, '_>,
+    name: &str,
+    fault: &MessageFault<'_>,
+) -> Result<Finding, AllocError>
+    ensures outcome { IfOk result (λ x. TellsMessage (chars name.now) (seen_fault fault.now) x) }
+    ensures spans { IfOk result (λ x. HasSpans site.entry.text.now x) }
+{
+    let mut title = String::new(alloc);
+    fault.put_title(alloc, &mut title, name)?;
+    let labels = labels(alloc, site, fault.labels(alloc)?)?;
+    let span = primary_span(site, &labels);
+    let help = help(alloc, fault.help())?;
+    Ok(Finding {
+        is_warning: true,
+        id: fault.id(),
+        title,
+        span,
+        labels,
+        notes: Vec::new(alloc),
+        help,
+    })
+}
+
+/// Adds the findings of faults, for a trait of this name. Returns `Err` if an allocation fails.
+fn put_findings(
+    alloc: Global,
+    findings: &mut Vec<Finding>,
+    site: Site<'_, '_>,
+    name: &str,
+    faults: &[MessageFault<'_>],
+) -> Result<(), AllocError>
+    ensures outcome { OnOk result ((xs : List FindingValue)
+        × (findings.new.items ≡ findings.old.items ++ xs)
+        × TellMessages (chars name.now) (map seen_fault faults.now) xs) }
+    ensures spans { OnOk result (All (HasSpans site.entry.text.now) findings.old.items
+        → All (HasSpans site.entry.text.now) findings.new.items) }
+{
+    for fault in faults {
+        findings.push(finding(alloc, site, name, fault)?)?;
+    }
+    Ok(())
+}
+
+/// Reads the text that a literal stands for, before a trait, and adds its findings. Returns `Err`
+/// if an allocation fails.
+pub fn read_text<'a>(
+    alloc: Global,
+    findings: &mut Vec<Finding>,
+    text: &'a str,
+    item: Item<'_, '_>,
+    token: &Token<'a>,
+) -> Result<(), AllocError>
+    requires { HasNames (map (λ p. p.now) item.parameters.now) item.names.now }
+    ensures read { OnOk result ((xs : List FindingValue)
+        × (findings.new.items ≡ findings.old.items ++ xs)
+        × ReadsText (chars item.entry.name.now) (map (λ p. p.now) item.entry.parameters.now)
+        (without_crs (chars token.now.text.now)) xs) }
+    ensures spans { OnOk result (All (HasSpans text.now) findings.old.items
+        → All (HasSpans text.now) findings.new.items) }
+{
+    let Some(literal) = read_literal(alloc, token.text, false)? else {
+        return Ok(());
+    };
+    let crs = dropped_crs(alloc, token.text)?;
+    let site = Site {
+        text,
+        tokens: &[],
+        literal: *token,
+        crs: &crs,
+        arguments: &[],
+        name: 0,
+        close: 0,
+    };
+    let message = Message {
+        text: literal.text.as_str(),
+        snippet: Some(literal.snippet.as_str()),
+        parameters: Some(item.names),
+    };
+    let faults = message_faults(alloc, message)?;
+    put_findings(alloc, findings, site, item.name, &faults)?;
+    Ok(())
+}

@@ -1,0 +1,104 @@
+//! The commas that are missing, and the tokens that rustc expects instead of what stands there.
+
+ghost use Rattle.std.specs.Prelude.{◌≡◌, map, option_map};
+ghost use Rattle.std.specs.List.{list_any};
+ghost use Rattle.rust_trees.specs.Leaves.{leaf};
+ghost use Rattle.call_forms.specs.Commas.{expected_at, expected_by, has_more, is_period};
+ghost use Rattle.call_forms.specs.Commas.{is_unknown};
+
+use crate::keywords::{is_control, is_modifier};
+use format_calls::{is_mark_of, is_text, is_word, token_at};
+use rust_tokens::Kind;
+use rust_trees::Token;
+
+/// The tokens that rustc expects where another one stands.
+#[derive(Clone, Copy)]
+pub enum Expected {
+    /// A comma, after the format string.
+    Comma,
+    /// Those after a path.
+    Path,
+    /// Those after the name of a field.
+    Field,
+    /// Those after any other operand.
+    Value,
+}
+
+/// Returns whether these tokens are a string literal, which may have a suffix, and others after it.
+pub fn has_more(tokens: &[Token<'_>]) -> bool
+    ensures { result ≡ has_more (map leaf tokens.now) }
+{
+    match tokens.first() {
+        Some(first) => {
+            tokens.len() > 1 && (matches!(first.kind, Kind::Str | Kind::RawStr) && first.is_ended)
+        }
+        None => false,
+    }
+}
+
+/// Returns whether it is not known what rustc expects after an operand, where this token stands in
+/// the argument.
+fn is_unknown(token: &Token<'_>) -> bool
+    ensures { result ≡ is_unknown (leaf token.now) }
+{
+    is_control(token.text)
+        || is_modifier(token.text)
+        || is_mark_of(token, b'|')
+        || token.text == "and"
+        || token.text == "or"
+}
+
+/// Returns whether it is not known what rustc expects after an operand of an argument.
+pub fn are_unknown(tokens: &[Token<'_>]) -> bool
+    ensures { result ≡ list_any is_unknown (map leaf tokens.now) }
+{
+    for token in tokens {
+        if is_unknown(token) {
+            return true;
+        }
+    }
+    false
+}
+
+/// Returns whether the token is a period.
+fn is_period(token: Option<Token<'_>>) -> bool
+    ensures { result ≡ is_period (option_map leaf token.entry) }
+{
+    match token {
+        Some(token) => is_mark_of(&token, b'.'),
+        None => false,
+    }
+}
+
+/// Returns what rustc expects after an operand, from its last three tokens.
+fn expected_by(
+    before: Option<Token<'_>>,
+    second: Option<Token<'_>>,
+    last: Option<Token<'_>>,
+) -> Expected
+    ensures { result ≡ expected_by (option_map leaf before.entry) (option_map leaf second.entry)
+        (option_map leaf last.entry) }
+{
+    match last {
+        Some(last) if is_word(&last) => {
+            if !is_period(second) || is_period(before) {
+                Expected::Path
+            } else if is_text(&last, "await") {
+                Expected::Value
+            } else {
+                Expected::Field
+            }
+        }
+        _ => Expected::Value,
+    }
+}
+
+/// Returns what rustc expects after the operand that ends before the token with an index.
+pub fn expected_at(tokens: &[Token<'_>], index: usize) -> Expected
+    ensures { result ≡ expected_at (map leaf tokens.now) index }
+{
+    let last = token_at(tokens, index.saturating_sub(1));
+    let second = token_at(tokens, index.saturating_sub(2));
+    let before = token_at(tokens, index.saturating_sub(3));
+    expected_by(before, second, last)
+}

@@ -1,0 +1,342 @@
+//! The fault in the arguments of a call whose format string is not read.
+
+ghost use Rattle.std.specs.Prelude.{◌≡◌, ◌+◌, ◌-◌, ◌<◌, ◌^◌, ◌==◌, ◌&&◌, false, length, map, not};
+ghost use Rattle.std.specs.Prelude.{Some, option_map, slice_get};
+ghost use Rattle.rust_trees.specs.Leaves.{leaf};
+ghost use Rattle.format_calls.specs.Arguments.{tokens_of};
+ghost use Rattle.call_forms.specs.Forms.{NoComma, NoOperand, are_bytes, bad_form, comma_form};
+ghost use Rattle.call_forms.specs.Forms.{ends, first_bad, flag, form_at, form_here, form_of};
+ghost use Rattle.call_forms.specs.Forms.{index_of, is_bad, joined_form, lacks_expression};
+ghost use Rattle.call_forms.specs.Forms.{lacks_string, literal_form, needs_string, seen_form};
+ghost use Rattle.call_forms.specs.Forms.{starts_well};
+ghost use Rattle.call_forms.specs.Operators.{operator_at, seen_operator};
+
+use crate::commas::{Expected, are_unknown, expected_at, has_more};
+use crate::expressions::{are_path, have_variables, is_operand, joined, tokens_of};
+use crate::operators::{Operator, lacks_left, lacks_operand, operator_at};
+use format_calls::{Argument, Part, Rule, is_standard};
+use rust_tokens::Kind;
+use rust_trees::Token;
+
+/// A fault in the arguments of a call.
+#[derive(Clone, Copy)]
+pub enum Form<'a> {
+    /// There is no format string.
+    NoString,
+    /// The format string is no string literal.
+    NoLiteral {
+        /// How many arguments stand after it.
+        others: usize,
+        /// Whether it is a byte string literal.
+        is_bytes: bool,
+    },
+    /// No comma stands before a token.
+    NoComma {
+        /// The tokens that rustc expects.
+        expected: Expected,
+        /// The token that stands there.
+        found: Operator<'a>,
+    },
+    /// No operand stands before this operator, with which an argument begins.
+    NoOperand(Operator<'a>),
+    /// No expression stands where an argument ends.
+    NoExpression {
+        /// The index of the argument.
+        index: usize,
+        /// Whether the end of the call follows it. A comma does otherwise.
+        is_last: bool,
+    },
+}
+
+/// Returns whether an argument is a byte string literal.
+fn is_bytes(tokens: &[Token<'_>]) -> bool
+    ensures { result ≡ are_bytes (map leaf tokens.now) }
+{
+    match tokens {
+        [token] => matches!(token.kind, Kind::ByteStr | Kind::RawByteStr),
+        _ => false,
+    }
+}
+
+/// Returns what is wrong with an argument that should be the format string, where so many others
+/// stand after it, or `None` if nothing is known to be.
+fn literal_form<'a>(tokens: &[Token<'a>], others: usize) -> Option<Form<'a>>
+    ensures { option_map seen_form result ≡ literal_form others (map leaf tokens.now) }
+{
+    let Some(first) = tokens.first() else {
+        return None;
+    };
+    if !matches!(first.kind, Kind::Str | Kind::RawStr) && is_operand(first) && are_path(tokens) {
+        return Some(Form::NoLiteral {
+            others,
+            is_bytes: is_bytes(tokens),
+        });
+    }
+    None
+}
+
+/// Returns the tokens of the argument with an index, or `None` if there is none.
+#[tactic(auto, using(crate::proofs::Texts::at_index))]
+fn part_at<'s, 'a>(
+    tokens: &'s [Token<'a>],
+    arguments: &[Argument],
+    index: usize,
+) -> Option<&'s [Token<'a>]>
+    ensures { option_map (λ s. map leaf s.now) result
+        ≡ slice_get (map (tokens_of (map leaf tokens.now)) arguments.now) index }
+{
+    match arguments.get(index) {
+        Some(argument) => Some(tokens_of(tokens, argument)),
+        None => None,
+    }
+}
+
+/// Returns whether an argument has no token, or an operator lacks an operand.
+fn lacks_expression(tokens: &[Token<'_>]) -> bool
+    ensures { result ≡ lacks_expression (map leaf tokens.now) }
+{
+    tokens.is_empty() || lacks_operand(tokens)
+}
+
+/// Returns whether an argument is no expression, as far as its tokens show: it has none, an
+/// operator lacks an operand, or two operands stand next to each other.
+fn is_bad(part: &Part<'_>, argument: &Argument) -> bool
+    ensures { result ≡ is_bad (tokens_of part.now argument.now) }
+{
+    lacks_expression(tokens_of(part.tokens(), argument)) || joined(part, argument).is_some()
+}
+
+/// Returns the index of the first argument that is no expression, or `None` if there is none.
+fn first_bad(part: &Part<'_>, arguments: &[Argument]) -> Option<usize>
+    ensures { result ≡ first_bad 0 (map (tokens_of part.now) arguments.now) }
+{
+    for (index, argument) in arguments.iter().enumerate() {
+        if is_bad(part, argument) {
+            return Some(index);
+        }
+    }
+    None
+}
+
+/// Returns the fault that no comma stands before a token, where rustc expects these tokens.
+fn no_comma(expected: Expected, found: Operator<'_>) -> Form<'_>
+    ensures { seen_form result ≡ NoComma expected (seen_operator found.entry) }
+{
+    Form::NoComma { expected, found }
+}
+
+/// Returns what is wrong with an argument in which the operand with an index stands right after
+/// another one. `is_string` is whether it should be the format string.
+fn joined_form<'a>(tokens: &[Token<'a>], index: usize, is_string: bool) -> Option<Form<'a>>
+    ensures { option_map seen_form result
+        ≡ joined_form is_string (map leaf tokens.now) (Some index) }
+{
+    if !is_string && are_unknown(tokens) {
+        return None;
+    }
+    let Some(found) = operator_at(tokens, index) else {
+        return None;
+    };
+    if is_string {
+        Some(no_comma(Expected::Comma, found))
+    } else {
+        Some(no_comma(expected_at(tokens, index), found))
+    }
+}
+
+/// Returns what is wrong with an argument that begins with an operator which needs an operand
+/// before it, or `None` if there is no token.
+fn operand_form<'a>(tokens: &[Token<'a>]) -> Option<Form<'a>>
+    ensures { option_map seen_form result
+        ≡ option_map (λ o. NoOperand o) (operator_at (map leaf tokens.now) 0) }
+{
+    match operator_at(tokens, 0) {
+        Some(found) => Some(Form::NoOperand(found)),
+        None => None,
+    }
+}
+
+/// Returns what is wrong with the argument with an index, which is no expression. `is_string` is
+/// whether it should be the format string, and `is_last` whether the end of the call follows it.
+#[tactic(auto, unfolding(crate::specs::Forms::bad_form))]
+fn bad_form<'a>(
+    part: &Part<'a>,
+    argument: &Argument,
+    index: usize,
+    is_string: bool,
+    is_last: bool,
+) -> Option<Form<'a>>
+    ensures { option_map seen_form result
+        ≡ bad_form index is_string is_last (tokens_of part.now argument.now) }
+{
+    let tokens = tokens_of(part.tokens(), argument);
+    if lacks_left(tokens) {
+        return operand_form(tokens);
+    }
+    match joined(part, argument) {
+        Some(operand) => joined_form(tokens, operand, is_string),
+        None => Some(Form::NoExpression { index, is_last }),
+    }
+}
+
+/// Returns whether the end of the call follows the argument with an index.
+#[tactic(auto, using(crate::proofs::Texts::at_index), unfolding(crate::specs::Forms::ends))]
+fn is_last(arguments: &[Argument], index: usize, close: usize) -> bool
+    ensures { result ≡ flag (slice_get (ends close arguments.now) index) }
+{
+    match arguments.get(index) {
+        Some(argument) => argument.end == close,
+        None => false,
+    }
+}
+
+/// Returns what is wrong with arguments of which the one with the index `bad` is no expression, and
+/// the one with the index `string` should be the format string. `is_last` is whether the end of the
+/// call follows the one that is no expression.
+#[tactic(auto, using(crate::proofs::Texts::at_index))]
+fn form_at<'a>(
+    part: &Part<'a>,
+    arguments: &[Argument],
+    string: usize,
+    bad: usize,
+    is_last: bool,
+) -> Option<Form<'a>>
+    ensures { option_map seen_form result ≡ form_at is_last string bad
+        (slice_get (map (tokens_of part.now) arguments.now) bad) }
+{
+    match arguments.get(bad) {
+        Some(argument) if bad >= string => { bad_form(part, argument, bad, bad == string, is_last) }
+        _ => None,
+    }
+}
+
+/// Returns whether all arguments before the one with an index are expressions, where the one with
+/// the index `bad`, if any, is the first that is none.
+fn starts_well(bad: Option<usize>, index: usize) -> bool
+    ensures { result ≡ starts_well index bad }
+{
+    match bad {
+        Some(bad) => bad >= index,
+        None => true,
+    }
+}
+
+/// Returns the fault of an argument that is a string literal and more tokens after it, if it is
+/// known.
+fn comma_form<'a>(tokens: &[Token<'a>]) -> Option<Form<'a>>
+    ensures { option_map seen_form result ≡ comma_form (map leaf tokens.now) }
+{
+    match operator_at(tokens, 1) {
+        Some(found) => Some(no_comma(Expected::Comma, found)),
+        None => None,
+    }
+}
+
+/// Returns how many arguments stand after the one with an index.
+fn others_after(arguments: &[Argument], index: usize) -> usize
+    ensures { result ≡ length arguments.now - (index + 1) }
+{
+    arguments.len().saturating_sub(index).saturating_sub(1)
+}
+
+/// Returns what is wrong with the arguments of a call of which the one with this index should be
+/// the format string, or `None` if nothing is known to be. `lacks_string` is whether it is a fault
+/// that there is none, and the list of arguments ends at a token.
+fn form_of<'a>(
+    part: &Part<'a>,
+    arguments: &[Argument],
+    index: usize,
+    lacks_string: bool,
+    close: usize,
+) -> Option<Form<'a>>
+    ensures { option_map seen_form result ≡ form_of lacks_string (ends close arguments.now) index
+        (map (tokens_of part.now) arguments.now) }
+{
+    if have_variables(part, arguments) {
+        return None;
+    }
+    let bad = first_bad(part, arguments);
+    if let Some(string) = part_at(part.tokens(), arguments, index) {
+        if starts_well(bad, index) && has_more(string) {
+            return comma_form(string);
+        }
+    }
+    match bad {
+        Some(bad) => form_at(part, arguments, index, bad, is_last(arguments, bad, close)),
+        None => match part_at(part.tokens(), arguments, index) {
+            Some(string) => literal_form(string, others_after(arguments, index)),
+            None => {
+                if lacks_string {
+                    Some(Form::NoString)
+                } else {
+                    None
+                }
+            }
+        },
+    }
+}
+
+/// Returns whether a macro of this name wants a format string, and has no other rule where none is
+/// given.
+fn needs_string(name: &[u8]) -> bool
+    ensures { result ≡ needs_string name.now }
+{
+    name == b"format".as_slice()
+        || name == b"format_args".as_slice()
+        || name == b"print".as_slice()
+        || name == b"eprint".as_slice()
+}
+
+/// Returns whether it is a fault that a call of a macro of this name, with these arguments before
+/// the delimiter at `close`, has no format string.
+fn lacks_string(name: &[u8], arguments: &[Argument], close: usize) -> bool
+    ensures { result ≡ lacks_string name.now close arguments.now }
+{
+    match arguments {
+        [] => needs_string(name),
+        [only] => name == b"write".as_slice() && only.end != close,
+        _ => false,
+    }
+}
+
+/// Returns the index of the argument that should be the format string of a macro of the standard
+/// library with this rule, or `None` if it may be any expression.
+fn index_of(rule: Rule, is_from_2021: bool) -> Option<usize>
+    ensures { result ≡ index_of is_from_2021 rule }
+{
+    match rule {
+        Rule::At(index) => Some(index),
+        Rule::IndexByEdition(index) => { if is_from_2021 { Some(index) } else { None } }
+        Rule::FirstLiteral | Rule::Templates => None,
+    }
+}
+
+/// Returns what is wrong with the arguments of a call of a macro of this name and with this rule,
+/// or `None` if nothing is known to be, as of macros that are not those of the standard library.
+pub fn form_here<'a>(
+    part: &Part<'a>,
+    name: &[u8],
+    rule: Rule,
+    is_from_2021: bool,
+    arguments: &[Argument],
+    close: usize,
+) -> Option<Form<'a>>
+    ensures { option_map seen_form result ≡ form_here is_from_2021 name.now rule close
+        arguments.now (map (tokens_of part.now) arguments.now) }
+{
+    if !is_standard(name) {
+        return None;
+    }
+    match index_of(rule, is_from_2021) {
+        Some(index) => {
+            form_of(
+                part,
+                arguments,
+                index,
+                lacks_string(name, arguments, close),
+                close,
+            )
+        }
+        None => None,
+    }
+}

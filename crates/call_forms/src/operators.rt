@@ -1,0 +1,333 @@
+//! Operators of one to three characters, and arguments in which one lacks an operand.
+
+ghost use Rattle.std.specs.Prelude.{◌≡◌, Some, map, option_map};
+ghost use Rattle.std.specs.List.{list_any};
+ghost use Rattle.rust_trees.specs.Leaves.{leaf, side};
+ghost use Rattle.call_forms.specs.Operators.{doubles, ends_by, ends_operator};
+ghost use Rattle.call_forms.specs.Operators.{is_closing, is_double, is_either, is_end, is_glued};
+ghost use Rattle.call_forms.specs.Operators.{is_infix, lacks_after};
+ghost use Rattle.call_forms.specs.Operators.{is_operand_end, is_pair, is_prefix, is_single};
+ghost use Rattle.call_forms.specs.Operators.{is_third, is_unclear, lacks_left, lacks_operand};
+ghost use Rattle.call_forms.specs.Operators.{lacks_right, operator_at, operator_by};
+ghost use Rattle.call_forms.specs.Operators.{operator_len, seen_operator, takes_equals};
+ghost use Rattle.call_forms.specs.Operators.{third_text};
+
+use crate::expressions::is_operand;
+use crate::keywords::is_special;
+use format_calls::{is_joint, is_mark_of, is_text, token_at};
+use rust_tokens::Kind;
+use rust_trees::{Side, Token};
+
+/// A token as rustc has it, where an operator is one token.
+#[derive(Clone, Copy)]
+pub struct Operator<'a> {
+    /// The first character of an operator, or all of any other token.
+    pub first: Token<'a>,
+    /// The second character of an operator, or an empty text.
+    pub second: &'a str,
+    /// The third character of an operator, or an empty text.
+    pub third: &'a str,
+}
+
+/// Returns whether a token is a character that makes an operator with another one of its kind.
+fn doubles(token: &Token<'_>) -> bool
+    ensures { result ≡ doubles (leaf token.now) }
+{
+    is_mark_of(token, b'&')
+        || is_mark_of(token, b'|')
+        || is_mark_of(token, b'<')
+        || is_mark_of(token, b'>')
+        || is_mark_of(token, b'.')
+        || is_mark_of(token, b':')
+}
+
+/// Returns whether a token is a character that makes an operator with `=` after it.
+fn takes_equals(token: &Token<'_>) -> bool
+    ensures { result ≡ takes_equals (leaf token.now) }
+{
+    is_mark_of(token, b'=')
+        || is_mark_of(token, b'!')
+        || is_mark_of(token, b'<')
+        || is_mark_of(token, b'>')
+        || is_mark_of(token, b'+')
+        || is_mark_of(token, b'-')
+        || is_mark_of(token, b'*')
+        || is_mark_of(token, b'/')
+        || is_mark_of(token, b'%')
+        || is_mark_of(token, b'^')
+        || is_mark_of(token, b'&')
+        || is_mark_of(token, b'|')
+}
+
+/// Returns whether two characters are an operator, or begin one.
+fn is_pair(token: &Token<'_>, next: &Token<'_>) -> bool
+    ensures { result ≡ is_pair (leaf token.now) (leaf next.now) }
+{
+    takes_equals(token) && is_mark_of(next, b'=')
+        || is_mark_of(token, b'=') && is_mark_of(next, b'>')
+        || is_mark_of(token, b'-') && is_mark_of(next, b'>')
+        || is_mark_of(token, b'<') && is_mark_of(next, b'-')
+        || doubles(token) && token.text == next.text
+}
+
+/// Returns whether two tokens are an operator, or begin one.
+fn is_glued(token: &Token<'_>, next: &Token<'_>) -> bool
+    ensures { result ≡ is_glued (leaf token.now) (leaf next.now) }
+{
+    is_joint(token, next) && is_pair(token, next)
+}
+
+/// Returns whether a character may be the third one of an operator that begins with another one
+/// twice.
+fn is_third(first: &Token<'_>, token: &Token<'_>) -> bool
+    ensures { result ≡ is_third (leaf first.now) (leaf token.now) }
+{
+    is_mark_of(token, b'=')
+        && (is_mark_of(first, b'<') || is_mark_of(first, b'>') || is_mark_of(first, b'.'))
+        || is_mark_of(first, b'.') && is_mark_of(token, b'.')
+}
+
+/// Returns whether the third of these tokens belongs to the operator that the others begin.
+fn ends_operator(first: &Token<'_>, second: &Token<'_>, third: &Token<'_>) -> bool
+    ensures { result ≡ ends_operator (leaf first.now) (leaf second.now) (leaf third.now) }
+{
+    is_joint(second, third) && (first.text == second.text && is_third(first, third))
+}
+
+/// Returns the third character of the operator that two tokens begin, or an empty text.
+fn third_text<'a>(first: &Token<'_>, second: &Token<'_>, third: Option<Token<'a>>) -> &'a str
+    ensures { result.now ≡ third_text (leaf first.now) (leaf second.now)
+        (option_map leaf third.entry) }
+{
+    match third {
+        Some(third) if ends_operator(first, second, &third) => third.text,
+        _ => "",
+    }
+}
+
+/// Returns the operator that a token begins, or the token alone.
+fn operator_by<'a>(
+    first: Token<'a>,
+    second: Option<Token<'a>>,
+    third: Option<Token<'a>>,
+) -> Operator<'a>
+    ensures { seen_operator result ≡ operator_by (leaf first.entry) (option_map leaf second.entry)
+        (option_map leaf third.entry) }
+{
+    match second {
+        Some(second) if is_glued(&first, &second) => Operator {
+            first,
+            second: second.text,
+            third: third_text(&first, &second, third),
+        },
+        _ => Operator {
+            first,
+            second: "",
+            third: "",
+        },
+    }
+}
+
+/// Returns the token with an index as rustc has it, or `None` if there is none.
+pub fn operator_at<'a>(tokens: &[Token<'a>], index: usize) -> Option<Operator<'a>>
+    ensures { option_map seen_operator result ≡ operator_at (map leaf tokens.now) index }
+{
+    let Some(first) = token_at(tokens, index) else {
+        return None;
+    };
+    let second = token_at(tokens, index + 1);
+    let third = token_at(tokens, index + 2);
+    Some(operator_by(first, second, third))
+}
+
+/// Returns whether no expression begins with a character.
+fn is_infix(token: &Token<'_>) -> bool
+    ensures { result ≡ is_infix (leaf token.now) }
+{
+    is_mark_of(token, b'=')
+        || is_mark_of(token, b'>')
+        || is_mark_of(token, b'/')
+        || is_mark_of(token, b'%')
+        || is_mark_of(token, b'^')
+        || is_mark_of(token, b';')
+        || is_mark_of(token, b'?')
+        || is_mark_of(token, b'@')
+}
+
+/// Returns whether tokens begin with an operator that needs an operand before it.
+pub fn lacks_left(tokens: &[Token<'_>]) -> bool
+    ensures { result ≡ lacks_left (map leaf tokens.now) }
+{
+    match tokens.first() {
+        Some(first) if matches!(first.kind, Kind::Punct) => {
+            if is_infix(first) {
+                return true;
+            }
+            match token_at(tokens, 1) {
+                Some(second) => is_mark_of(&second, b'=') && is_glued(first, &second),
+                None => false,
+            }
+        }
+        _ => false,
+    }
+}
+
+/// Returns whether a token closes a pair of delimiters.
+fn is_closing(token: &Token<'_>) -> bool
+    ensures { result ≡ is_closing (side (leaf token.now)) }
+{
+    match token.side() {
+        Side::Closes(_) => true,
+        Side::Opens(_) | Side::Neither => false,
+    }
+}
+
+/// Returns whether an operand ends with a token.
+fn is_operand_end(token: Option<Token<'_>>) -> bool
+    ensures { result ≡ is_operand_end (option_map leaf token.entry) }
+{
+    match token {
+        Some(token) => {
+            is_operand(&token)
+                || is_special(token.text)
+                || is_closing(&token)
+                || is_mark_of(&token, b'?')
+        }
+        None => false,
+    }
+}
+
+/// Returns whether a token is an operator that needs an operand after it.
+fn is_single(token: &Token<'_>) -> bool
+    ensures { result ≡ is_single (leaf token.now) }
+{
+    is_mark_of(token, b'=')
+        || is_mark_of(token, b'+')
+        || is_mark_of(token, b'-')
+        || is_mark_of(token, b'*')
+        || is_mark_of(token, b'/')
+        || is_mark_of(token, b'%')
+        || is_mark_of(token, b'^')
+        || is_mark_of(token, b'&')
+}
+
+/// Returns whether a character is an operator that needs an operand after it, alone and twice.
+fn is_either(token: &Token<'_>) -> bool
+    ensures { result ≡ is_either (leaf token.now) }
+{
+    is_mark_of(token, b'|') || is_mark_of(token, b'<') || is_mark_of(token, b'>')
+}
+
+/// Returns whether two characters of an operator are one that needs an operand after it.
+fn is_double(token: &Token<'_>, next: &Token<'_>) -> bool
+    ensures { result ≡ is_double (leaf token.now) (leaf next.now) }
+{
+    is_mark_of(next, b'=') || (is_mark_of(next, b'&') || is_either(next)) && token.text == next.text
+}
+
+/// Returns whether a token is an operator with which an expression begins.
+fn is_prefix(token: &Token<'_>) -> bool
+    ensures { result ≡ is_prefix (leaf token.now) }
+{
+    is_mark_of(token, b'*')
+        || is_mark_of(token, b'&')
+        || is_mark_of(token, b'-')
+        || is_mark_of(token, b'!')
+}
+
+/// Returns whether a token is the last character of an operator that needs an operand after it.
+fn is_end(token: &Token<'_>) -> bool
+    ensures { result ≡ is_end (leaf token.now) }
+{
+    matches!(token.kind, Kind::Punct)
+        && (is_single(token) || is_either(token) || is_mark_of(token, b'!'))
+}
+
+/// Returns the number of characters of an operator after an operand that ends with the last of
+/// three tokens, or 0.
+fn operator_len(before: Option<Token<'_>>, second: Option<Token<'_>>, last: &Token<'_>) -> usize
+    ensures { result ≡ operator_len (option_map leaf before.entry) (option_map leaf second.entry)
+        (leaf last.now) }
+{
+    match second {
+        Some(token) => {
+            if is_glued(&token, last) {
+                if is_double(&token, last) && is_operand_end(before) {
+                    2
+                } else {
+                    0
+                }
+            } else if (is_single(last) || is_either(last)) && is_operand_end(second) {
+                1
+            } else {
+                0
+            }
+        }
+        None => 0,
+    }
+}
+
+/// Returns whether this token stands in a closure, a pattern or a type, where rustc says more of an
+/// operator after it, or reads it as another one.
+fn is_unclear(token: &Token<'_>) -> bool
+    ensures { result ≡ is_unclear (leaf token.now) }
+{
+    is_mark_of(token, b'|')
+        || is_mark_of(token, b'<')
+        || is_text(token, "as")
+        || is_text(token, "let")
+}
+
+/// Returns whether rustc says more of an operator after these tokens, or may do so.
+fn are_unclear(tokens: &[Token<'_>]) -> bool
+    ensures { result ≡ list_any is_unclear (map leaf tokens.now) }
+{
+    for token in tokens {
+        if is_unclear(token) {
+            return true;
+        }
+    }
+    false
+}
+
+/// Returns whether tokens end with an operator of so many characters, and what stands before it is
+/// clear.
+fn ends_by(tokens: &[Token<'_>], len: usize) -> bool
+    ensures { result ≡ ends_by (map leaf tokens.now) len }
+{
+    len > 0 && !are_unclear(&tokens[..tokens.len().saturating_sub(len)])
+}
+
+/// Returns whether tokens, of which this is the last one, end with an operator that needs an
+/// operand after it.
+fn lacks_after(tokens: &[Token<'_>], last: &Token<'_>) -> bool
+    ensures { result ≡ lacks_after (map leaf tokens.now) (Some (leaf last.now)) }
+{
+    if !is_end(last) {
+        return false;
+    }
+    let count = tokens.len();
+    if count == 1 {
+        return is_prefix(last);
+    }
+    let second = token_at(tokens, count.saturating_sub(2));
+    let before = token_at(tokens, count.saturating_sub(3));
+    ends_by(tokens, operator_len(before, second, last))
+}
+
+/// Returns whether tokens end with an operator that needs an operand after it.
+pub fn lacks_right(tokens: &[Token<'_>]) -> bool
+    ensures { result ≡ lacks_right (map leaf tokens.now) }
+{
+    match tokens.get(tokens.len().saturating_sub(1)) {
+        Some(last) => lacks_after(tokens, last),
+        None => false,
+    }
+}
+
+/// Returns whether tokens are no expression, since an operator lacks an operand.
+pub fn lacks_operand(tokens: &[Token<'_>]) -> bool
+    ensures { result ≡ lacks_operand (map leaf tokens.now) }
+{
+    lacks_left(tokens) || lacks_right(tokens)
+}

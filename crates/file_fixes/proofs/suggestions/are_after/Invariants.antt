@@ -1,9 +1,0 @@
-use Rattle.std.proofs.Common.{◌≡◌, drop, map}
-use Rattle.fault_fixes.specs.SeenEdits.{seen_edit}
-use Rattle.file_fixes.specs.Suggestions.{are_after}
-use Rattle.file_fixes.proofs.suggestions.are_after.Given as goal
-
--- The edits that are left decide.
-abbrev pub invariant-loop-edit : goal.invariant-loop-edit
-invariant-loop-edit l = are_after l.end (map seen_edit (drop l.edit-index l.edits))
-    ≡ are_after l.fn.at (map seen_edit l.edits)

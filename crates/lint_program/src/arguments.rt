@@ -1,0 +1,201 @@
+//! The values that the arguments of the program stand for.
+
+use crate::changes::Change;
+use clap::ArgMatches;
+use drawn_lines::WIDTH;
+use format_calls::{Row, Rule, Table};
+use format_lint::task::{Show, Task};
+use lint_words::{ColourChoice, Form, wants_colours};
+use rust_tokens::{Kind, first_token};
+use rustc_parse_format::ParseMode;
+use std::alloc::{AllocError, Global};
+use std::env;
+use std::io::IsTerminal;
+
+/// Returns the word for the mode.
+fn mode_word<'a>(matches: &ArgMatches<'a>) -> &'a str {
+    matches.get_str("mode").unwrap_or("format")
+}
+
+/// Returns the mode.
+fn mode_of(matches: &ArgMatches<'_>) -> ParseMode {
+    match mode_word(matches) {
+        "asm" => ParseMode::InlineAsm,
+        "diagnostic" => ParseMode::Diagnostic,
+        "diagnostic-named" => ParseMode::DiagnosticNamed,
+        _ => ParseMode::Format,
+    }
+}
+
+/// Returns when colours are written.
+fn when_of(matches: &ArgMatches<'_>) -> ColourChoice {
+    match matches.get_str("color").unwrap_or("auto") {
+        "always" => ColourChoice::Always,
+        "never" => ColourChoice::Never,
+        _ => ColourChoice::Auto,
+    }
+}
+
+/// Returns whether each stream to which tokens or drawings are written is a terminal. Drawings go
+/// to standard error where the output is tokens or a literal.
+fn are_terminals(rt: &HostRuntime, matches: &ArgMatches<'_>) -> bool {
+    match show_of(matches) {
+        Show::Fix => rt.stderr().is_terminal(),
+        Show::Tokens => rt.stdout().is_terminal() && rt.stderr().is_terminal(),
+        Show::Fault | Show::All => rt.stdout().is_terminal(),
+    }
+}
+
+/// Returns whether tokens and drawings are in colours.
+pub fn has_colours(rt: &HostRuntime, matches: &ArgMatches<'_>) -> bool {
+    let no_color = env::var(rt, "NO_COLOR").ok();
+    let term = env::var(rt, "TERM").ok();
+    wants_colours(
+        when_of(matches),
+        are_terminals(rt, matches),
+        no_color.as_deref(),
+        term.as_deref(),
+    )
+}
+
+/// Returns how many columns the terminal that standard output is has, as the environment variable
+/// `COLUMNS` says, or `None` if it is no terminal or the variable is no positive number.
+fn terminal_width(rt: &HostRuntime) -> Option<usize> {
+    if !rt.stdout().is_terminal() {
+        return None;
+    }
+    let columns = env::var(rt, "COLUMNS").ok();
+    match columns.as_deref().unwrap_or("").parse::<usize>() {
+        Ok(width) if width > 0 => Some(width),
+        _ => None,
+    }
+}
+
+/// Returns how many columns a row of a drawing has, or `None` if the word for it is no number.
+/// Without a word it has as many as the terminal, or [`WIDTH`].
+pub fn width_of(rt: &HostRuntime, matches: &ArgMatches<'_>) -> Option<usize> {
+    match matches.get_str("width") {
+        None => Some(terminal_width(rt).unwrap_or(WIDTH)),
+        Some(word) => word.parse::<usize>().ok(),
+    }
+}
+
+/// Returns the form of messages, drawn in colours or not.
+pub fn form_of(matches: &ArgMatches<'_>, width: usize, colours: bool) -> Form {
+    match matches.get_str("message-format").unwrap_or("human") {
+        "short" => Form::Short,
+        "json" => Form::Json,
+        "github" => Form::Github,
+        "sarif" => Form::Sarif,
+        _ => Form::Human { colours, width },
+    }
+}
+
+/// Returns what is done with files that change, or `None` if none is to be changed.
+pub fn change_of(matches: &ArgMatches<'_>) -> Option<Change> {
+    if !matches.get_flag("fix") && !matches.get_flag("inline") {
+        None
+    } else if matches.get_flag("diff") {
+        Some(Change::Diff)
+    } else if matches.get_flag("check") {
+        Some(Change::Check)
+    } else {
+        Some(Change::Write)
+    }
+}
+
+/// Returns the file of one string, or `None` for standard input.
+pub fn file_of<'a>(matches: &ArgMatches<'a>) -> Option<&'a str> {
+    match matches.get_str("path") {
+        Some("-") => None,
+        file => file,
+    }
+}
+
+/// Returns which answer is shown for one string.
+fn show_of(matches: &ArgMatches<'_>) -> Show {
+    if matches.get_flag("fix") {
+        Show::Fix
+    } else if matches.get_flag("all") {
+        Show::All
+    } else if matches.get_flag("tokens") {
+        Show::Tokens
+    } else {
+        Show::Fault
+    }
+}
+
+/// Returns the task for one string, where the input has this path.
+pub fn task_of<'a>(
+    matches: &ArgMatches<'_>,
+    path: &'a str,
+    width: usize,
+    colours: bool,
+) -> Task<'a> {
+    Task {
+        mode: mode_of(matches),
+        is_literal: !matches.get_flag("text"),
+        path,
+        show: show_of(matches),
+        width,
+        colours,
+    }
+}
+
+/// Returns the arguments with which `formatread` writes the listing. Returns `Err` if an
+/// allocation fails.
+pub fn list_words(alloc: Global, matches: &ArgMatches<'_>) -> Result<Vec<String>, AllocError> {
+    let mut words = Vec::new(alloc);
+    words.push(String::from_str(alloc, mode_word(matches))?)?;
+    if !matches.get_flag("text") {
+        words.push(String::from_str(alloc, "--literal")?)?;
+    }
+    if let Some(list) = matches.get_str("args") {
+        words.push(String::from_str(alloc, "--args")?)?;
+        words.push(String::from_str(alloc, list)?)?;
+    }
+    Ok(words)
+}
+
+/// Returns whether a text can be the name of a macro: whether it is an identifier.
+fn is_name(text: &str) -> bool {
+    match first_token(text) {
+        Some(token) => matches!(token.kind, Kind::Ident) && token.span.end == text.len(),
+        None => false,
+    }
+}
+
+/// Returns the macro that a word `NAME:INDEX` means, or `None` if it means none.
+fn row_of(word: &str) -> Option<Row<'_>> {
+    let (name, index) = word.split_once(':')?;
+    let index = index.parse::<usize>().ok()?;
+    is_name(name).then_some(Row {
+        name,
+        rule: Rule::At(index),
+    })
+}
+
+/// Returns the macros that are known: those of the standard library and of some crates, and those
+/// that are given. The error is the first word that means none, or `None` if an allocation fails.
+pub fn table_of<'a>(alloc: Global, given: &[&'a str]) -> Result<Table<'a>, Option<&'a str>> {
+    let Ok(mut table) = Table::standard(alloc) else {
+        return Err(None);
+    };
+    let Ok(others) = Table::with_crates(alloc) else {
+        return Err(None);
+    };
+    for row in &others.rows {
+        if table.rows.push(*row).is_err() {
+            return Err(None);
+        }
+    }
+    for word in given {
+        let Some(row) = row_of(word) else {
+            return Err(Some(*word));
+        };
+        if table.add(row).is_err() {
+            return Err(None);
+        }
+    }
+    Ok(table)
+}

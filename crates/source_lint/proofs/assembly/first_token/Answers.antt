@@ -1,6 +1,0 @@
-use Rattle.rust_trees.specs.Leaves.{leaf}
-use Rattle.source_lint.proofs.AsmSteps.{leaf-there}
-use Rattle.source_lint.proofs.assembly.first_token.Goals as goal
-
-pub returns : goal.returns
-returns c = leaf-there leaf c.args.tokens.now c.args.argument.now.start _ c.requires

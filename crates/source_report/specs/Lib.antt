@@ -1,0 +1,2 @@
+pub mod SeenEdited
+pub mod Suggestions

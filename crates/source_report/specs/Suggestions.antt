@@ -1,0 +1,94 @@
+-- The edits that a program may apply by itself to mend a fault of a file. The source of each is
+-- the compiler's own suggestion, which it calls applicable by a machine. Two of these are left out:
+-- an argument that can be removed, since a comma stays, and `dbg!` in the place of another macro.
+use Rattle.std.specs.Prelude.{ℕ, Bool, true, false, not, ◌++◌, ◌&&◌, ◌||◌, if◌then◌else◌, List, []}
+use Rattle.std.specs.Prelude.{◌∷◌, Option, Some, None, codes, map, nat_le, option_map}
+use Rattle.std.specs.Prelude.{string_bytes}
+use Rattle.std.specs.List.{filter_map}
+use Rattle.std.specs.Str.{bytes_eq}
+use Rattle.rustc_parse_format.specs.Seen.{pair}
+use Rattle.fault_fixes.specs.Edits.{Edit, is_empty}
+use Rattle.source_report.specs.declared.report.Edit.{Edit as DeclaredEdit}
+use Rattle.source_report.specs.declared.report.Finding.{Finding}
+use Rattle.source_report.specs.declared.report.Help.{Help}
+use Rattle.source_report.specs.declared.report.Label.{Label}
+
+-- A suggestion that is drawn as a label: its advice, the text that replaces the source under the
+-- label, and whether the compiler calls it applicable by a machine.
+pub record LabelSuggestion : Type 0 where
+  pub advice : List ℕ
+  pub text : List ℕ
+  pub is_sure : Bool
+
+-- The suggestion that a label with this text is.
+abbrev pub suggestion_of : List ℕ → Option LabelSuggestion
+suggestion_of t =
+    if bytes_eq t (codes "help: remove the `r#`")
+    then Some (record { advice = codes "remove the `r#`"; text = []; is_sure = true })
+    else if bytes_eq t (codes "help: this can be removed")
+    then Some (record { advice = codes "this can be removed"; text = []; is_sure = true })
+    else if bytes_eq t (codes "help: add a colon before the format specifier: `:?`")
+    then Some (record {
+      advice = codes "add a colon before the format specifier";
+      text = codes ":?";
+      is_sure = true;
+    })
+    else if bytes_eq t (codes "help: consider removing the leading `b`")
+    then Some (record {
+      advice = codes "consider removing the leading `b`";
+      text = [];
+      is_sure = false;
+    })
+    else None
+
+-- The suggestions to a fault with this id are to be applied.
+abbrev pub is_applicable : List ℕ → Bool
+is_applicable w = bytes_eq w (codes "raw-identifier") || bytes_eq w (codes "missing-colon")
+    || bytes_eq w (codes "flag-after-type") || bytes_eq w (codes "field-access")
+    || bytes_eq w (codes "tuple-index")
+
+-- The edit of a label, if it is a suggestion.
+abbrev pub label_edit : Label → Option Edit
+label_edit l = option_map (λ s. record { span = pair l.range; text = s.text })
+    (suggestion_of (string_bytes l.text))
+
+-- An edit of a help.
+abbrev pub help_edit : DeclaredEdit → Edit
+help_edit e = record { span = pair e.range; text = string_bytes e.text }
+
+-- The edits of a help, or none if there is no help.
+abbrev pub help_edits : Option Help → List Edit
+help_edits None = []
+help_edits (Some h) = map help_edit h.edits.items
+
+-- The edits that mend a fault, or none if it has no suggestion to apply.
+abbrev pub edits_of : Finding → List Edit
+edits_of x = if is_applicable x.id.now
+    then filter_map label_edit x.labels.items ++ help_edits x.help else []
+
+-- No edit starts before the end of the one before it, and the first one does not start before the
+-- byte offset `at`.
+abbrev pub are_after : ℕ → List Edit → Bool
+are_after at [] = true
+are_after at (e ∷ es) = nat_le at e.span.0 && nat_le e.span.0 e.span.1 && are_after e.span.1 es
+
+-- Where the last of these edits ends, or `at` if there is none.
+abbrev pub end_after : ℕ → List Edit → ℕ
+end_after at [] = at
+end_after at (e ∷ es) = end_after e.span.1 es
+
+-- A fault is mended if it has edits, and none of these starts before the byte offset `at`.
+abbrev pub is_mended : ℕ → Finding → Bool
+is_mended at x = not (is_empty (edits_of x)) && are_after at (edits_of x)
+
+-- Of these faults, one after the other, those that are mended: each whose edits do not start before
+-- the end of the last edit of those before it.
+abbrev pub mended : ℕ → List Finding → List Finding
+mended at [] = []
+mended at (x ∷ xs) = if is_mended at x then x ∷ mended (end_after at (edits_of x)) xs
+    else mended at xs
+
+-- The edits of these faults.
+abbrev pub all_edits : List Finding → List Edit
+all_edits [] = []
+all_edits (x ∷ xs) = edits_of x ++ all_edits xs

@@ -1,0 +1,111 @@
+//! A text with the edits of faults.
+
+ghost use Rattle.std.specs.Prelude.{◌≡◌, ◌++◌, ◌∷◌, IfOk, List, OnOk, drop, map, take};
+ghost use Rattle.fault_fixes.specs.Edits.{Edit as EditValue, applied};
+ghost use Rattle.fault_fixes.specs.SeenEdits.{seen_edit};
+ghost use Rattle.source_report.specs.Suggestions.{all_edits, end_after, mended};
+ghost use Rattle.source_report.specs.SeenEdited.{with_edits, with_faults, with_ids};
+ghost use Rattle.source_report.specs.declared.report.Finding.{Finding as FindingValue};
+
+use crate::report::Finding;
+use crate::suggestions::{are_after, edits_of};
+use fault_fixes::Edit;
+use std::alloc::{AllocError, Global};
+
+/// A text in the middle of its edits.
+#[derive(Drop)]
+pub struct Edited<'t> {
+    /// The part of the text with its edits that is written.
+    pub bytes: Vec<u8>,
+    /// The rest of the text.
+    pub rest: &'t [u8],
+    /// The byte offset at which the rest starts: where the last edit ends, or 0 if there is none.
+    pub end: usize,
+    /// The ids of the faults that are mended.
+    pub ids: Vec<&'static str>,
+}
+
+/// Returns the first n bytes, or all if there are fewer.
+fn front(bytes: &[u8], n: usize) -> &[u8]
+    ensures { result.now ≡ take n bytes.now }
+{
+    bytes.get(..n).unwrap_or(bytes)
+}
+
+/// Returns the bytes after the first n, or none if there are no more.
+fn rest_after(bytes: &[u8], n: usize) -> &[u8]
+    ensures { result.now ≡ drop n bytes.now }
+{
+    bytes.get(n..).unwrap_or(&[])
+}
+
+/// Makes an edit. Returns `Err` if an allocation fails.
+fn make(edited: &mut Edited<'_>, edit: &Edit<'_>) -> Result<(), AllocError>
+    ensures edit { OnOk result ((es : List EditValue) → with_edits edited.new es
+        ≡ with_edits edited.old (seen_edit edit.now ∷ es)) }
+    ensures end { OnOk result (edited.new.end ≡ edit.now.span.end) }
+    ensures ids { OnOk result (edited.new.ids ≡ edited.old.ids) }
+{
+    let kept = front(edited.rest, edit.span.start.saturating_sub(edited.end));
+    edited.bytes.extend_from_slice(kept)?;
+    edited.bytes.extend_from_slice(edit.text.as_bytes())?;
+    edited.rest = rest_after(edited.rest, edit.span.end.saturating_sub(edited.end));
+    edited.end = edit.span.end;
+    Ok(())
+}
+
+/// Makes edits, the first one first. Returns `Err` if an allocation fails.
+fn make_each(edited: &mut Edited<'_>, edits: &[Edit<'_>]) -> Result<(), AllocError>
+    ensures edits { OnOk result ((es : List EditValue) → with_edits edited.new es
+        ≡ with_edits edited.old (map seen_edit edits.now ++ es)) }
+    ensures end { OnOk result (edited.new.end
+        ≡ end_after edited.old.end (map seen_edit edits.now)) }
+    ensures ids { OnOk result (edited.new.ids ≡ edited.old.ids) }
+{
+    for edit in edits {
+        make(edited, edit)?;
+    }
+    Ok(())
+}
+
+/// Mends a fault, if it has edits, and these follow the last one. Returns `Err` if an allocation
+/// fails.
+fn mend(alloc: Global, edited: &mut Edited<'_>, finding: &Finding) -> Result<(), AllocError>
+    ensures text { OnOk result ((xs : List FindingValue) → with_faults edited.new xs
+        ≡ with_faults edited.old (finding.now ∷ xs)) }
+    ensures ids { OnOk result ((xs : List FindingValue) → with_ids edited.new xs
+        ≡ with_ids edited.old (finding.now ∷ xs)) }
+{
+    let edits = edits_of(alloc, finding)?;
+    if !edits.is_empty() && are_after(edited.end, edits.as_slice()) {
+        make_each(edited, edits.as_slice())?;
+        edited.ids.push(finding.id)?;
+    }
+    Ok(())
+}
+
+/// Mends the faults of a text that can be mended in one round. Returns `Err` if an allocation
+/// fails.
+pub fn mend_each<'t>(
+    alloc: Global,
+    text: &'t str,
+    findings: &[Finding],
+) -> Result<Edited<'t>, AllocError>
+    ensures text { IfOk result (λ x. x.bytes.items
+        ≡ applied 0 (all_edits (mended 0 findings.now)) text.now) }
+    ensures ids { IfOk result (λ x. map (λ w. w.now) x.ids.items
+        ≡ map (λ f. f.id.now) (mended 0 findings.now)) }
+{
+    let mut edited = Edited {
+        bytes: Vec::new(alloc),
+        rest: text.as_bytes(),
+        end: 0,
+        ids: Vec::new(alloc),
+    };
+    for finding in findings {
+        mend(alloc, &mut edited, finding)?;
+    }
+    let rest = edited.rest;
+    edited.bytes.extend_from_slice(rest)?;
+    Ok(edited)
+}

@@ -1,0 +1,3 @@
+pub mod Collecting
+pub mod Marks
+pub mod TextFaults
