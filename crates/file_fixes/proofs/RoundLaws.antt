@@ -1,8 +1,7 @@
 -- Rounds that follow each other.
 use Rattle.std.proofs.Common.{◌≡◌, ◌++◌, ◌+◌, ◌-◌, ◌<◌, ℕ, zero, suc, Bool, List, []}
-use Rattle.std.proofs.Common.{◌∷◌, append_assoc, arith, inl, inr, map, refl, subst, sym}
+use Rattle.std.proofs.Common.{append_assoc, arith, inl, inr, refl, subst, sym}
 use Rattle.format_calls.specs.Rows.{Entry}
-use Rattle.source_report.specs.declared.report.Finding.{Finding}
 use Rattle.source_report.specs.declared.report.Report.{Report}
 use Rattle.file_fixes.specs.FileFixes.{AreRounds, IsLast, IsRound}
 
@@ -19,11 +18,6 @@ pub stop : (es : List Entry) (is_new : Bool) (n : ℕ) (bs : List ℕ) (r : Repo
 unfolding AreRounds
 stop es is_new zero bs r e = (refl, refl, refl)
 stop es is_new (suc n) bs r e = absurd cc
-
--- If no fault has an id, none is mended.
-pub none-mended : (xs : List Finding) → map (λ f. f.id.now) xs ≡ [] → xs ≡ []
-none-mended [] e = refl
-none-mended (x ∷ xs) e = absurd cc
 
 -- A round and at most m rounds more are at most m + 1 rounds.
 pub go-on : (es : List Entry) (is_new : Bool) (n m : ℕ) (bs ds cs : List ℕ) (r p q : Report)

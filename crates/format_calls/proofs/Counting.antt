@@ -33,9 +33,6 @@ pub record Passed (b : Bool) (xs : List Leaf) (from at : ℕ) (found : Bool) : T
   pub go_on : list_any (is_stop b xs) trees ≡ false
   pub report : list_any (is_uncounted xs) trees ≡ found
 
-pub passed-none : (b : Bool) (xs : List Leaf) (from : ℕ) → Passed b xs from from false
-passed-none b xs from = record { trees = []; are_trees = refl; go_on = refl; report = refl }
-
 pub passed-more : (b : Bool) (xs : List Leaf) (from i j : ℕ) (found : Bool)
     → Passed b xs from i found → IsTree xs i j → is_stop b xs i ≡ false
     → Passed b xs from j (found || is_uncounted xs i)

@@ -1,6 +1,6 @@
 -- Numbers that are found once for all tokens.
 use Rattle.std.proofs.Common.{◌≡◌, ◌<◌, ◌≤◌, ◌+◌, ◌-◌, ◌++◌, ◌∙◌, ◌⊎◌, ℕ, zero, suc, Bool, true}
-use Rattle.std.proofs.Common.{false, List, [], ◌∷◌, Option, Some, inl, inr, refl, ap, arith, sym}
+use Rattle.std.proofs.Common.{false, List, [], ◌∷◌, Some, inl, inr, refl, ap, arith, sym}
 use Rattle.std.proofs.Common.{subst, length, length-drop, drop, min, take}
 use Rattle.std.specs.Prelude.{◌||◌, nat_lt, slice_get, if◌then◌else◌}
 use Rattle.std.specs.List.{list_any}
@@ -43,10 +43,6 @@ or-true false = refl
 or-parts : (a b : Bool) → (a || b) ≡ false → (a ≡ false) × (b ≡ false)
 or-parts true b e = absurd (true≢false e)
 or-parts false b e = (refl, e)
-
-pub last-none : (w : Wanted) (xs : List Leaf) → IsLast w xs 0 0
-last-none w xs from =
-    any-none w xs (0 - from) from (omega arith) ∙ sym (le-ltb from 0 (omega arith))
 
 -- The number after a token that is wanted, and after one that is not.
 pub last-more : (w : Wanted) (xs : List Leaf) (to last n : ℕ) (x : Leaf) (b : Bool)

@@ -18,16 +18,6 @@ use Rattle.format_calls.specs.Modes.{is_prefix, is_text, mode_after, mode_after_
 use Rattle.format_calls.specs.Arguments.{AreArguments, IsTree, Walks, is_end}
 use Rattle.format_calls.specs.declared.split.Argument.{Argument}
 
-pub tree-in-front : (xs : List Leaf) (i j : ℕ)
-    → ((k : ℕ) → ArePartners xs i k → ◌≡◌ {A = Option ℕ} (Some j) (Some k)) → j ≤ i
-    → IsTree xs i (i + 1)
-tree-in-front xs i j each h =
-    inr (λ k p. let e = same_Some j k (each k (inl p)) in omega (arith, e, h, p.ends), refl)
-
-pub tree-alone : (xs : List Leaf) (i : ℕ)
-    → ((k : ℕ) → ArePartners xs i k → ◌≡◌ {A = Option ℕ} None (Some k)) → IsTree xs i (i + 1)
-tree-alone xs i each = inr (λ k p. none-some k (each k (inl p)), refl)
-
 -- A tree within a pair ends there.
 pub tree-within : (xs : List Leaf) (o c i j : ℕ) → IsPair xs o c → IsTree xs i j → o < i → i < c
     → (i < j) × (j ≤ c)

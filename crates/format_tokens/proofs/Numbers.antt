@@ -1,5 +1,5 @@
 -- A number that is read digit by digit, up to 65536.
-use Rattle.std.proofs.Common.{◌≡◌, ℕ, ◌+◌, ◌*◌, ◌≤◌, Bool, true, false, List, [], ◌∷◌, nat_lt}
+use Rattle.std.proofs.Common.{◌≡◌, ℕ, ◌+◌, ◌*◌, Bool, true, false, List, [], ◌∷◌, nat_lt}
 use Rattle.std.proofs.Common.{length}
 use Rattle.std.proofs.Common.{chars, refl, sym, ap, ◌∙◌, arith, IsUtf8, ◌++◌}
 use Rattle.std.specs.Prelude.{encode_utf8, min}
@@ -17,12 +17,6 @@ pub record Counted (number : ℕ) (rest text : List ℕ) : Type 0 where
   pub more : digits_value_after 10 whole (front is_ascii_digit (chars rest))
       ≡ digits_value 10 (front is_ascii_digit (chars text))
   pub valid : IsUtf8 rest
-
-pub counted-start : (text : List ℕ) → IsUtf8 text → Counted 0 text text
-counted-start text v = record { whole = 0; low = refl; more = refl; valid = v }
-
-pub counted-small : (number : ℕ) (rest text : List ℕ) → Counted number rest text → number ≤ 65536
-counted-small number rest text h = omega (arith, h.low)
 
 pub counted-next : (number c : ℕ) (s r text : List ℕ) → Counted number s text
     → s ≡ encode_utf8 c ++ r → is_ascii_digit c ≡ true

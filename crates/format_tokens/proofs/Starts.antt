@@ -1,8 +1,8 @@
 -- The byte offsets where characters start, and the tokens that they place.
 use Rattle.std.proofs.Common.{◌≡◌, ℕ, suc, zero, ◌++◌, ◌+◌, ◌-◌, ◌≤◌, ◌<◌, ◌==◌, Bool, true, false}
 use Rattle.std.proofs.Common.{List}
-use Rattle.std.proofs.Common.{[], ◌∷◌, length, map, chars, drop, get_or, IsUtf8, refl, sym, ap, ◌∙◌}
-use Rattle.std.proofs.Common.{arith, append_assoc, append-nil, length-append, add-one, drop-cons}
+use Rattle.std.proofs.Common.{[], ◌∷◌, length, map, chars, get_or, IsUtf8, refl, sym, ap, ◌∙◌}
+use Rattle.std.proofs.Common.{arith, append_assoc, append-nil, length-append}
 use Rattle.std.specs.Prelude.{encode_utf8, min}
 use Rattle.std.specs.Char.{len_utf8}
 use Rattle.std.proofs.lemmas.Bool.{eq-eqb, eqb-true, false_from_ne_true}
@@ -128,7 +128,3 @@ place-none w at kept m s ss done whole f none g =
     let more : kept - (at + m) ≡ (kept - at) - s.1 = omega (arith, f) in
     ap (λ l. done ++ l) (same_sizes w ss _ _ _ _ left more
     ∙ sym (placed-none w (n - at) (kept - at) s ss (omega (arith, f, none)))) ∙ g
-
-pub drop-next : (ls : List Sized) (i : ℕ) (d : Sized) → i < length ls
-    → drop i ls ≡ get_or ls i d ∷ drop (i + 1) ls
-drop-next ls i d h = rw add-one (drop-cons ls i d h)

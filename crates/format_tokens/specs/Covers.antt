@@ -20,10 +20,6 @@ IsCover from to (p ∷ ps) = (p.0 ≡ from) × (from < p.1) × IsCover p.1 to ps
 abbrev pub ranges_of : List Placed → List Place
 ranges_of ts = map (λ (t : Placed). t.1) ts
 
--- The kinds of tokens.
-abbrev pub kinds_of : {A : Type 0} → List (Kind × A) → List Kind
-kinds_of {A = A} ts = map (λ (t : Kind × A). t.0) ts
-
 -- The tokens with the text that their byte ranges stand for in a source literal of the input, with
 -- its escapes decoded.
 abbrev pub read_back : Text → Option ℕ → Text → Bool → List Placed → List Label

@@ -8,7 +8,7 @@ ghost use Rattle.rustc_parse_format.specs.Seen.{seen_mode, seen_snippet};
 ghost use Rattle.rustc_parse_format.specs.Source.{HasSource, unappended};
 ghost use Rattle.rustc_parse_format.specs.Types.{Mode, wants_names};
 ghost use Rattle.rustc_parse_format.specs.World.{hashes, world};
-ghost use Rattle.format_tokens.specs.Covers.{IsCover, encoded, in_quotes, kinds_of, ranges_of};
+ghost use Rattle.format_tokens.specs.Covers.{IsCover, encoded, in_quotes, ranges_of};
 ghost use Rattle.format_tokens.specs.Covers.{read_back, slices};
 ghost use Rattle.format_tokens.specs.Midway.{sized};
 ghost use Rattle.format_tokens.specs.Placed.{cut_in, shown, tokens, whole_tokens};

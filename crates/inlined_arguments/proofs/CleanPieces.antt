@@ -1,11 +1,10 @@
 -- The pieces of a clean call, and what it means.
-use Rattle.std.proofs.Common.{◌≡◌, ◌∙◌, ◌++◌, ℕ, Bool, List, [], ◌∷◌, Option, ap, refl, sym, subst}
+use Rattle.std.proofs.Common.{◌≡◌, ◌∙◌, ℕ, Bool, List, [], ◌∷◌, Option, ap, refl, sym, subst}
 use Rattle.std.proofs.Common.{Some, None, chars, map}
 use Rattle.std.specs.Prelude.{option_map}
 use denote.Ref.{Bor}
 use Rattle.rustc_parse_format.specs.Call.{pieces_of}
 use Rattle.rustc_parse_format.specs.Characters.{Text}
-use Rattle.rustc_parse_format.specs.Literal.{IsLiteral, newline}
 use Rattle.rustc_parse_format.specs.State.{calls, first_state, fresh}
 use Rattle.rustc_parse_format.specs.Types.{Count, Is, Name, Param, Star, Implied, Format, Piece}
 use Rattle.rustc_parse_format.specs.Types.{Lit, NextArgument, bare, bare_count}
@@ -19,7 +18,7 @@ use Rattle.call_faults.specs.Clean.{IsClean}
 use Rattle.inlined_arguments.specs.Conditions.{Call}
 use Rattle.inlined_arguments.specs.Inlining.{IsCleanAs, MeansSame, ReadsClean}
 use Rattle.inlined_arguments.specs.Meaning.{Part, ValuePart, flags, meaning, part}
-use Rattle.inlined_arguments.specs.Values.{Amount, Slot, amount_of, given, kept, slots, value_of}
+use Rattle.inlined_arguments.specs.Values.{Amount, Slot, amount_of, given, slots, value_of}
 
 -- The pieces of a clean call are those that were read.
 pub clean-pieces : (captures : Bool) (gs : List FormatArgument) (t : Text) (w : World) (at : ℕ)
@@ -68,16 +67,6 @@ clean-as captures ss ts gs t ps qs e r m =
       same = m ∙ sym (meaning-bare ts qs)
           ∙ ap (λ (xs : List (Piece (Unit {0}))). meaning ts xs) (sym new.1);
     }
-
-pub means-same : (c : Call) (ss ts : List Slot) (ps : List (Piece Place)) (style : Option ℕ)
-    (literal text whole : Text) → ss ≡ slots c.arguments → ts ≡ kept ss → style ≡ c.style
-    → IsLiteral style literal text → whole ≡ text ++ newline c.appended_newline
-    → IsCleanAs c.captures ss ps ts whole → MeansSame c ps literal
-means-same c ss ts ps style literal text whole s k y l w h = record {
-  text = text;
-  is_literal = subst (λ (o : Option ℕ). IsLiteral o literal text) y l;
-  new = rw (← s) (rw (k, w) at h);
-}
 
 -- The places of the pieces do not matter either.
 pub bare-same : (c : Call) (ps : List (Piece Place)) (qs : List (Piece (Unit {0})))

@@ -61,9 +61,6 @@ no-underscore c h =
 digits-hex : (c : ℕ) (t : Text) → is_hex c ≡ true → digits_of (c ∷ t) ≡ c ∷ digits_of t
 digits-hex c t h = rw (h, no-underscore c h) refl
 
-digits-underscore : (t : Text) → digits_of (95 ∷ t) ≡ digits_of t
-digits-underscore t = refl
-
 digits-stop : (c : ℕ) (t : Text) → is_hex c ≡ false → (c == 95) ≡ false → digits_of (c ∷ t) ≡ []
 digits-stop c t h u = rw (h, u) refl
 

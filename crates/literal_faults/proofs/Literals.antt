@@ -130,15 +130,6 @@ pub by-style : (t : Text) → ((n : ℕ) (w : Text) → t ≡ raw_frame n w → 
 by-style t raw (None, w, h) = (w, h)
 by-style t raw (Some n, w, h) = absurd (raw n w h)
 
-pub not-begun : (c : ℕ) (t : Text) → (c ≡ 34 → ⊥) → IsOrdinary (c ∷ t) → ⊥
-not-begun c t n (w, (content, us, e, h, v)) = n (same c t _ e)
-  where
-    same : (c : ℕ) (t s : Text) → c ∷ t ≡ 34 ∷ s → c ≡ 34
-    same c t s e = cc
-
-pub not-empty : IsOrdinary [] → ⊥
-not-empty (w, (content, us, e, h, v)) = absurd cc
-
 -- An option and what is known of it.
 pub some-matched : {X : Type 0} (o : Option X) (P : Type 0) (Q : X → Type 0) → is_some o ≡ true
     → MatchOption o P Q → (x : X) × Q x

@@ -23,9 +23,6 @@ abbrev pub Passed : Text → Text → Type 0
 Passed whole t = (us : List LiteralUnit) (r : Text) → ReadsTo t us r
     → (vs : List LiteralUnit) × ReadsTo whole vs r
 
-pub passed-none : (t : Text) → Passed t t
-passed-none t us r h = (us, h)
-
 pub passed-unit : (whole t v r : Text) → Passed whole t → meaning (unit_at t) ≡ Some (v, r)
     → Passed whole r
 passed-unit whole t v r p e us q h =

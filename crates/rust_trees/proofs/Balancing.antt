@@ -1,6 +1,6 @@
 -- Whether tokens break, as they are added.
-use Rattle.std.proofs.Common.{◌≡◌, ◌++◌, ℕ, Bool, true, false, List, [], ◌∷◌, Option, Some, None}
-use Rattle.std.proofs.Common.{refl, ap, sym, ◌∙◌, subst, length, map}
+use Rattle.std.proofs.Common.{◌≡◌, ◌++◌, true, false, List, [], ◌∷◌, Option, Some, None}
+use Rattle.std.proofs.Common.{refl, ap, sym, ◌∙◌, subst}
 use Rattle.std.specs.Prelude.{◌&&◌, is_some, reverse}
 use Rattle.std.specs.List.{list_all}
 use Rattle.std.proofs.lemmas.Bool.{and_parts}
@@ -19,9 +19,6 @@ use Rattle.rust_trees.proofs.Matches.{breaks-after, front-of, kinds, no-front, o
 use Rattle.rust_trees.proofs.Matches.{reverse-last}
 use Rattle.rust_trees.proofs.Scanning.{below, closes-top, forest-scan, scan-append}
 use Rattle.rust_trees.proofs.Stacks.{Mismatches, joins-more, last-token}
-
-pub known-none : (os : List Opening) → os ≡ [] → IsKnownTo [] os None
-known-none os e = rw e (record { are_ended = refl; scanned = refl; are_open = tt })
 
 -- Tokens that do not break.
 pub goes-on : (w : List Leaf) (os : List Opening) (o : Option FileBreak) → false ≡ is_some o

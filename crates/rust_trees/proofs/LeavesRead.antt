@@ -64,14 +64,6 @@ head-no-leaf Shebang e h = refl
 head-no-leaf ByteOrderMark e h = refl
 head-no-leaf k e h = absurd (false≢true h)
 
-leaves-heads : (at : ℕ) (xs : List Lexeme) → IsTrue (list_all (λ x. is_head x.kind) xs)
-    → leaves at xs ≡ []
-leaves-heads at [] h = refl
-leaves-heads at (x ∷ xs) h =
-    let p = and_parts _ _ h in
-    ap (λ b. if b then leaf_at at x ∷ leaves (end_of at x) xs else leaves (end_of at x) xs)
-    (head-no-leaf x.kind x.is_ended p.0) ∙ leaves-heads (end_of at x) xs p.1
-
 leaves-rest_after : (at : ℕ) (xs ys : List Lexeme) → IsTrue (list_all (λ x. is_head x.kind) xs)
     → leaves at (xs ++ ys) ≡ leaves (end_of_all at xs) ys
 leaves-rest_after at [] ys h = refl

@@ -10,7 +10,7 @@ use Rattle.rustc_parse_format.specs.Characters.{Text}
 use Rattle.rustc_parse_format.specs.Call.{Call, call}
 use Rattle.rustc_parse_format.specs.Lines.{lines_in, closed_in, place_list, ends_with, with_last}
 use Rattle.rustc_parse_format.specs.World.{World, Place, place_at}
-use Rattle.rustc_parse_format.specs.Midway.{FindsNothing, HasFoundNothing, Midway, closed_then}
+use Rattle.rustc_parse_format.specs.Midway.{FindsNothing, HasFoundNothing, Midway}
 use Rattle.rustc_parse_format.specs.Midway.{read_call}
 use Rattle.rustc_parse_format.proofs.Sources.PlainPlaces.{place_end}
 use Rattle.rustc_parse_format.specs.State.{State, AddsNothing, after, last_lines, next_call}
@@ -79,10 +79,6 @@ pub ended_spare : (s : State) (last : Place) → s.rest ≡ [] → s.world.has_s
     last ≡ (s.line_start, (place_at s.world (length s.rest)).0)
     → ends_with last s.line_spans ≡ false → last_lines s s.line_spans ≡ s.line_spans → ⊥
 ended_spare s last e h f b k = no_more s.line_spans last (ended_more s last _ e h f b refl ∙ k)
-
-then_none : (o : Option Place) → closed_then None o ≡ o
-then_none None = refl
-then_none (Some p) = refl
 
 pub not_last : (s : State) (t : Text) (ls : List Place) → s.rest ≡ t → t ≢ [] → last_lines s ls ≡ ls
 not_last s [] ls e h = absurd (h refl)

@@ -108,25 +108,17 @@ added-more found left more old at new f n m a l e k =
           ∙ length-append (filter is_front a.done) (filter is_front (f ∷ [])));
     }
 
--- The earlier errors are kept,
+-- The earlier errors are kept.
 pub added-kept : {A : Type 0} (found left : List (Fault A)) (old new : List (Message A)) (n : ℕ)
     → Added found left old new n
     → (n + length old ≤ length new) × (take (length old) (drop n new) ≡ old)
 added-kept found left old new n a = rw (a.errors, a.fronts) (add_errors-kept old a.done)
 
--- no more errors are added at the front than there are faults,
+-- No more errors are added at the front than there are faults.
 pub added-few : {A : Type 0} (found left : List (Fault A)) (old new : List (Message A)) (n : ℕ)
     → Added found left old new n → n + length left ≤ length found
 added-few found left old new n a =
     rw (a.parts, length-append a.done left, a.fronts) (omega (arith, few_fronts a.done))
-
--- and in the end all are added.
-pub added-all : {A : Type 0} (found : List (Fault A)) (old new : List (Message A)) (n : ℕ)
-    → Added found [] old new n
-    → (new ≡ add_errors old found) × (n ≡ length (filter is_front found))
-added-all found old new n a =
-    let all : found ≡ a.done = a.parts ∙ append-nil a.done in
-    rw (all) (a.errors, a.fronts)
 
 pub add_errors-keeps : {A : Type 0} (old : List (Message A)) (fs : List (Fault A))
     → Keeps old (add_errors old fs)

@@ -1,20 +1,15 @@
 -- Where a cursor is in its source: in a plain world by the bytes that are left, otherwise by an
 -- offset in the kept snippet.
-use Rattle.std.proofs.Common.{◌≡◌, ◌+◌, ◌++◌, ◌-◌, ◌<◌, ◌^◌, drop, ℕ, true, List, [], length, chars}
+use Rattle.std.proofs.Common.{◌≡◌, ◌+◌, ◌-◌, ◌<◌, ◌^◌, drop, ℕ, true, List, [], length, chars}
 use Rattle.std.proofs.Common.{ap, refl, sym, ◌∙◌, Option, Some, None, IsUtf8}
-use Rattle.std.proofs.Common.{arith, string_bytes, subst}
-use Rattle.std.proofs.lemmas.Str.{IsCharBoundary-at_seam}
-use Rattle.std.proofs.Math.Seq.{drop-append_seam}
-use Rattle.std.proofs.Math.Utf8.{encodes}
-use Rattle.std.proofs.lemmas.Str.{IsUtf8-from_is_utf8, is_utf8-from_IsUtf8, chars-nil}
+use Rattle.std.proofs.Common.{arith, string_bytes}
+use Rattle.std.proofs.lemmas.Str.{chars-nil}
 use Rattle.std.proofs.lemmas.List.{nil_from_length}
 use Rattle.std.specs.declared.string.String.{String}
 use Rattle.std.specs.declared.alloc.Global.{Global}
 use Rattle.rustc_parse_format.specs.declared.source.anchor.Anchor.{Anchor}
 use Rattle.rustc_parse_format.specs.declared.source.Source.{Source}
-use Rattle.rustc_parse_format.specs.Characters.{Text, after_first}
-use Rattle.rustc_parse_format.proofs.Bytes.ByteFronts.{left-rest_after}
-use Rattle.rustc_parse_format.proofs.Bytes.Texts.{FormatText, parts}
+use Rattle.rustc_parse_format.specs.Characters.{after_first}
 use Rattle.rustc_parse_format.proofs.Sources.Ends.{frame-units}
 use Rattle.rustc_parse_format.specs.World.{Place, ordinary_end, World, place_at}
 use Rattle.std.specs.Str.{is_utf8}
@@ -96,25 +91,3 @@ first_anchored s text a left fits same h k = record {
   fits = fits;
   ending = kept_ends s.kept_snippet s k;
 }
-
--- A suffix of the rest is left too,
-left-suffix : (input text rest : List ℕ) (u : Text) → FormatText text rest u → IsUtf8 rest
-    → IsLeft input text → IsLeft input rest
-left-suffix input text rest u p v l =
-    let at : drop (length (encodes u)) text ≡ rest =
-    ap (drop (length (encodes u))) p.bytes ∙ drop-append_seam (encodes u) rest in
-    subst (IsLeft input) at
-    (left-rest_after input text _ (IsCharBoundary-at_seam text (encodes u) rest p.bytes v) l)
-
--- and the anchor is no later than it.
-pub anchored-suffix : (s : Source) (text rest : List ℕ) (a : Anchor) (u : Text) → IsUtf8 rest
-    → chars text ≡ u ++ chars rest → IsAnchored s text a → IsAnchored s rest a
-anchored-suffix s text rest a u w e h =
-    let p = parts text rest u (IsUtf8-from_is_utf8 text h.is_left.valid_rest) w e in
-    record {
-      is_left = left-suffix s.input.now text rest u p w h.is_left;
-      is_after = left-suffix a.rest.now text rest u p w h.is_after;
-      is_anchor = h.is_anchor;
-      fits = h.fits;
-      ending = h.ending;
-    }
