@@ -1,28 +1,29 @@
--- A drawing names the spot at which its span begins, and shows the line and the signs of its label.
-use Rattle.std.proofs.Common.{◌≡◌, ◌≤◌, ℕ, ◌++◌, ◌∷◌, [], ◌∙◌, Option, true, false, List}
-use Rattle.std.proofs.Common.{None}
-use Rattle.std.proofs.Common.{ap}
-use Rattle.std.proofs.Common.{append_assoc, arith, codes, refl, sym, chars}
-use Rattle.std.specs.Prelude.{◌==◌}
+-- A drawing names the spot at which its span begins, and shows the lines of its labels.
+use Rattle.std.proofs.Common.{◌≡◌, ◌≤◌, ℕ, ◌-◌, ◌++◌, ◌∷◌, [], ◌∙◌, Bool, Option, true, false}
+use Rattle.std.proofs.Common.{List, None, Some, ap, append_assoc, arith, codes, refl, sym, chars, max}
+use Rattle.std.specs.Prelude.{◌==◌, nat_lt}
+use Rattle.std.specs.Char.{len_utf8}
+use Rattle.std.specs.List.{fold}
+use Rattle.std.proofs.lemmas.Bool.Decides.{nat_tests}
+use Rattle.rustc_parse_format.specs.Characters.{Text}
 use Rattle.rustc_parse_format.specs.Faults.{Message}
 use Rattle.rustc_parse_format.specs.Types.{Mode}
 use Rattle.rustc_parse_format.specs.World.{Place}
 use Rattle.fault_fixes.specs.Edits.{offered}
 use Rattle.drawn_lines.specs.Frames.{Frame}
 use Rattle.drawn_lines.specs.Glyphs.{run}
-use Rattle.drawn_lines.specs.Lines.{code_row, parting, under}
+use Rattle.drawn_lines.specs.Lines.{parting}
 use Rattle.drawn_lines.specs.Painting.{has_colours, painted, palette_of}
-use Rattle.drawn_lines.specs.Places.{Picture, extent, offset, spot}
+use Rattle.drawn_lines.specs.Places.{Picture, extent, offset, origin, past, spot, within}
 use Rattle.drawn_lines.specs.declared.extent.Spot.{Spot}
 use Rattle.drawn_lines.specs.declared.paint.Palette.TheVariants.{Error}
 use Rattle.drawn_lines.specs.declared.paint.Style.TheVariants.{Secondary}
 use Rattle.drawn_lines.proofs.PositionLaws.{spot-is}
-use Rattle.drawn_labels.specs.Labels.{Label, labelled, mark, mark_in}
-use Rattle.drawn_labels.specs.Rows.{alone}
-use Rattle.drawn_labels.specs.Signs.{AddsLabels}
+use Rattle.drawn_labels.specs.Labels.{Label, mark, mark_in, two_labels}
 use Rattle.drawn_edits.specs.Edited.{Edit}
-use Rattle.drawn_labels.proofs.LabelLaws.{labelled-adds}
-use Rattle.drawn_faults.specs.Arrows.{PointsAt, ShowsLabel, named}
+use Rattle.drawn_labels.proofs.LongLaws.{long-adds}
+use Rattle.drawn_labels.proofs.TwoLaws.{one-adds, two-adds}
+use Rattle.drawn_faults.specs.Arrows.{AddsAll, PointsAt, ShowsLabels, named}
 use Rattle.drawn_faults.specs.Drawing.{arrow, below, drawing, head, labelled_rows, laid_out, title}
 use Rattle.drawn_faults.specs.Labels.{edit_of, frame, primary, second}
 
@@ -77,44 +78,76 @@ frame-palette : (p : Picture) (l : Label) (s : Option Label) (d : Option Edit)
 unfolding frame
 frame-palette p l s d = refl
 
--- The drawing of one label in one line, in a layout.
-one-label : (mode : Mode) (f : Frame) (m : Message Place) (l : Label) (s : Option Label)
-    (d : Option Edit) → s ≡ None → (l.extent.start.line == l.extent.end.line) ≡ true
-    → laid_out mode f m l s d
-    ≡ (head mode f m.description l.extent.start ++ labelled f (mark_in f l))
-    ++ (below f m.note d ++ codes "\n")
-unfolding laid_out labelled_rows
-one-label mode f m l s d none one =
-    rw (none, one) (sym (append_assoc (head mode f m.description l.extent.start)
-    (labelled f (mark_in f l)) (below f m.note d ++ codes "\n")))
+-- A spot after more characters is in the same line, or in a later one.
+past-line : (s : Spot) (c : ℕ) → s.line ≤ (past s c).line
+unfolding past
+past-line s c = by_test (c == 10) refl
+  where
+    by_test : (b : Bool) → (c == 10) ≡ b → s.line ≤ (past s c).line
+    by_test true e = rw e (omega arith)
+    by_test false e = rw e (omega arith)
 
-one-adds : (f : Frame) (l : Label) (top : List ℕ) → has_colours f.gutter.palette ≡ false
-    → AddsLabels f l.extent.start.line (mark_in f l ∷ []) top (top ++ labelled f (mark_in f l))
-unfolding mark labelled
-one-adds f l top h =
-    let row = code_row f l.extent.start.line in
-    labelled-adds f (mark_in f l) top (top ++ row) (top ++ labelled f (mark_in f l)) h
-    (label-long f l) refl
-    (sym (append_assoc top row (under f.gutter (alone f.gutter.palette (mark_in f l)))))
+walk-line : (w : Text) (s : Spot) → s.line ≤ (fold past s w).line
+walk-line [] s = omega arith
+walk-line (c ∷ w) s = omega (arith, past-line s c, walk-line w (past s c))
+
+spot-order : (t : Text) (m n : ℕ) (s : Spot) → m ≤ n
+    → (fold past s (within m t)).line ≤ (fold past s (within n t)).line
+spot-order [] m n s l = omega arith
+spot-order (c ∷ t) m n s l = by_test (nat_lt m (len_utf8 c)) refl
+  where
+    by_test : (b : Bool) → nat_lt m (len_utf8 c) ≡ b
+        → (fold past s (within m (c ∷ t))).line ≤ (fold past s (within n (c ∷ t))).line
+    by_test true e = rw e (walk-line (within n (c ∷ t)) s)
+    by_test false e =
+        let long : len_utf8 c ≤ m = grind (arith, nat_tests) in
+        let wide : nat_lt n (len_utf8 c) ≡ false = grind (arith, nat_tests) in
+        rw (e, wide) (spot-order t (m - len_utf8 c) (n - len_utf8 c) (past s c)
+        (omega (arith, l)))
+
+primary-order : (mode : Mode) (p : Picture) (m : Message Place)
+    → (primary mode p m).extent.start.line ≤ (primary mode p m).extent.end.line
+unfolding extent
+primary-order mode p m =
+    spot-order (chars p.source) (offset p m.span.0)
+    (max (offset p m.span.0) (offset p m.span.1)) origin (omega arith)
+
+-- The lines of labels that are drawn are added.
+rows-add : (f : Frame) (l : Label) (s : Option Label) (old : List ℕ)
+    → has_colours f.gutter.palette ≡ false → l.extent.start.line ≤ l.extent.end.line
+    → AddsAll f l s old (old ++ labelled_rows f l s)
+unfolding labelled_rows mark
+rows-add f l None old h order = record {
+  in_line = λ e.
+      let one : (l.extent.start.line == l.extent.end.line) ≡ true = grind (arith, nat_tests) in
+      rw one (one-adds f (mark_in f l) old h (label-long f l));
+  in_lines = λ e.
+      let more : (l.extent.start.line == l.extent.end.line) ≡ false = grind (arith, nat_tests) in
+      long-adds f l old (old ++ labelled_rows f l None) h e (rw more refl);
+  in_order = order;
+}
+rows-add f l (Some s) old h order = λ narrow thin.
+    two-adds f (mark_in f l) (mark_in f s) old (old ++ two_labels f (mark_in f l) (mark_in f s))
+    refl h (label-long f l) (label-long f s) narrow thin
 
 pub drawing-shows : (mode : Mode) (p : Picture) (m : Message Place) (text : List ℕ)
-    → text ≡ drawing mode p m → p.colours ≡ false → second mode p m ≡ None
-    → ((primary mode p m).extent.start.line == (primary mode p m).extent.end.line) ≡ true
-    → ShowsLabel mode p m text
-unfolding drawing
-drawing-shows mode p m text e h none one =
+    → text ≡ drawing mode p m → p.colours ≡ false → ShowsLabels mode p m text
+unfolding drawing laid_out
+drawing-shows mode p m text e h =
     let l = primary mode p m in
     let s = second mode p m in
     let d = edit_of p (offered mode m.suggestion) in
     let f = frame p l s d in
     let top = head mode f m.description l.extent.start in
+    let none = ap has_colours (frame-palette p l s d) ∙ no-colours p h in
     record {
       layout = f;
       is_of = frame-picture p l s d;
-      mid = top ++ labelled f (mark_in f l);
-      label = one-adds f l top (ap has_colours (frame-palette p l s d) ∙ no-colours p h);
-      whole = e ∙ one-label mode f m l s d none one;
+      mid = top ++ labelled_rows f l s;
+      labels = rows-add f l s top none (primary-order mode p m);
+      whole = e
+          ∙ sym (append_assoc top (labelled_rows f l s) (below f m.note d ++ codes "\n"));
     }
 
 -- what `draw` needs
-pub ruleset shown_label = (drawing-points, drawing-shows)
+pub ruleset shown_labels = (drawing-points, drawing-shows)

@@ -1,5 +1,6 @@
 -- What a drawing shows of the source, said by the source: the theorems on drawings are about this.
-use Rattle.std.specs.Prelude.{◌≡◌, ℕ, ◌+◌, ◌++◌, List, ◌∷◌, [], codes, decimal, chars}
+use Rattle.std.specs.Prelude.{◌≡◌, ◌<◌, ◌≤◌, ℕ, ◌+◌, ◌++◌, List, ◌∷◌, [], Option, None, Some}
+use Rattle.std.specs.Prelude.{codes, decimal, chars}
 use Rattle.rustc_parse_format.specs.Faults.{Message}
 use Rattle.rustc_parse_format.specs.Types.{Mode}
 use Rattle.rustc_parse_format.specs.World.{Place}
@@ -12,10 +13,11 @@ use Rattle.drawn_lines.specs.Positions.{IsSpot}
 use Rattle.drawn_lines.specs.declared.extent.Spot.{Spot}
 use Rattle.drawn_lines.specs.declared.paint.Palette.TheVariants.{Error}
 use Rattle.drawn_lines.specs.declared.paint.Style.TheVariants.{Secondary}
-use Rattle.drawn_labels.specs.Labels.{mark_in}
-use Rattle.drawn_labels.specs.Signs.{AddsLabels}
+use Rattle.drawn_labels.specs.Labels.{Label, mark_in}
+use Rattle.drawn_labels.specs.LongSigns.{AddsLong}
+use Rattle.drawn_labels.specs.Signs.{AddsLabels, AddsTwo, IsNarrow}
 use Rattle.drawn_faults.specs.Drawing.{below, head, title}
-use Rattle.drawn_faults.specs.Labels.{edit_of, primary}
+use Rattle.drawn_faults.specs.Labels.{edit_of, primary, second}
 
 -- A spot as an arrow names it: the path, the line, and the column, which counts characters from 1.
 abbrev pub named : Picture → Spot → List ℕ
@@ -35,15 +37,28 @@ pub record PointsAt (mode : Mode) (p : Picture) (m : Message Place) (text : List
       ++ (run columns 32 ++ (painted (palette_of p.colours Error) Secondary (codes "--> ")
       ++ (named p at ++ below)))
 
--- Between its head and the rows below, a drawing with one label has the line in which the span
--- begins, and under that the signs of the label.
-pub record ShowsLabel (mode : Mode) (p : Picture) (m : Message Place) (text : List ℕ)
+-- The lines of one label are added to a text: its line with its signs under it, or the lines of a
+-- label that ends in a later one.
+pub record AddsOne (f : Frame) (l : Label) (old new : List ℕ) : Type 0 where
+  pub in_line : l.extent.start.line ≡ l.extent.end.line
+      → AddsLabels f l.extent.start.line (mark_in f l ∷ []) old new
+  pub in_lines : l.extent.start.line < l.extent.end.line → AddsLong f l old new
+  pub in_order : l.extent.start.line ≤ l.extent.end.line
+
+-- The lines of the labels of an error are added to a text. If there are two, each byte of their
+-- texts takes a column.
+abbrev pub AddsAll : Frame → Label → Option Label → List ℕ → List ℕ → Type 0
+AddsAll f l None old new = AddsOne f l old new
+AddsAll f l (Some s) old new =
+    IsNarrow l.text → IsNarrow s.text → AddsTwo f (mark_in f l) (mark_in f s) old new
+
+-- Between its head and the rows below, a drawing has the lines of its labels.
+pub record ShowsLabels (mode : Mode) (p : Picture) (m : Message Place) (text : List ℕ)
     : Type 0 where
   pub layout : Frame
   pub is_of : layout.picture ≡ p
   pub mid : List ℕ
-  pub label : AddsLabels layout (primary mode p m).extent.start.line
-      (mark_in layout (primary mode p m) ∷ [])
+  pub labels : AddsAll layout (primary mode p m) (second mode p m)
       (head mode layout m.description (primary mode p m).extent.start) mid
   pub whole : text ≡ mid
       ++ (below layout m.note (edit_of p (offered mode m.suggestion)) ++ codes "\n")

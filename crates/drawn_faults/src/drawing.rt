@@ -1,14 +1,14 @@
 //! The text that shows a fault under its source. A function whose name begins with `put_` appends
 //! to `out`, and returns `Err` if an allocation fails.
 
-ghost use Rattle.std.specs.Prelude.{◌≡◌, ◌++◌, ◌<◌, ◌^◌, ◌==◌, false, true, IfOk, IfSome, None};
+ghost use Rattle.std.specs.Prelude.{◌≡◌, ◌++◌, ◌<◌, ◌^◌, false, IfOk, IfSome, None};
 ghost use Rattle.std.specs.Prelude.{OnOk, length, codes};
 ghost use Rattle.std.specs.Prelude.{option_map, string_bytes};
 ghost use Rattle.rustc_parse_format.specs.Seen.{seen_error, seen_mode};
 ghost use Rattle.drawn_lines.specs.Painting.{IsColourOf, IsHarmlessWith, opening, painted};
 ghost use Rattle.drawn_lines.specs.Places.{seen_picture, uncoloured};
-ghost use Rattle.drawn_faults.specs.Arrows.{PointsAt, ShowsLabel};
-ghost use Rattle.drawn_faults.specs.Labels.{primary, second};
+ghost use Rattle.drawn_faults.specs.Arrows.{PointsAt, ShowsLabels};
+ghost use Rattle.drawn_faults.specs.Labels.{primary};
 ghost use Rattle.drawn_edits.specs.Edited.{seen_edit};
 ghost use Rattle.drawn_lines.specs.Frames.{seen_frame};
 ghost use Rattle.drawn_labels.specs.Labels.{seen_label};
@@ -293,7 +293,7 @@ fn least_length(picture: &Picture<'_>, error: &ParseError) -> usize {
 /// A span that does not fit is drawn too: an offset inside a character means the start of that
 /// character, one after the source its end, and a range that ends before it begins is empty.
 /// Returns `Err` if an allocation fails, or if the source has 2^59 bytes or more.
-#[tactic(auto, using(crate::proofs::ArrowLaws::shown_label))]
+#[tactic(auto, using(crate::proofs::ArrowLaws::shown_labels))]
 pub fn draw(
     alloc: Global,
     mode: ParseMode,
@@ -310,13 +310,9 @@ pub fn draw(
     // The line and the column that it names are those of the span's first character in the source.
     ensures arrow { IfOk result (λ s. PointsAt (seen_mode mode) (seen_picture picture.now)
         (seen_error error.now) (string_bytes s)) }
-    // Of a span in one line, with no other label, it shows that line, and under it the span's signs
-    // in the columns of the span, and no sign elsewhere.
-    ensures label { IfOk result (λ s. picture.now.colours ≡ false
-        → second (seen_mode mode) (seen_picture picture.now) (seen_error error.now) ≡ None
-        → (let e = (primary (seen_mode mode) (seen_picture picture.now)
-        (seen_error error.now)).extent in (e.start.line == e.end.line) ≡ true)
-        → ShowsLabel (seen_mode mode) (seen_picture picture.now) (seen_error error.now)
+    // It shows the lines of its labels, with their signs in their columns and no sign elsewhere.
+    ensures labels { IfOk result (λ s. picture.now.colours ≡ false
+        → ShowsLabels (seen_mode mode) (seen_picture picture.now) (seen_error error.now)
         (string_bytes s)) }
 {
     let mut out = String::new(alloc);

@@ -34,7 +34,8 @@ two-turn f m n l =
     let b : nat_lt m.line n.line ≡ false = grind (arith, nat_tests) in
     rw (a, b) refl
 
-one-adds : (f : Frame) (m : Mark) (old : List ℕ) → has_colours f.gutter.palette ≡ false
+-- The line of one label, and the rows under it.
+pub one-adds : (f : Frame) (m : Mark) (old : List ℕ) → has_colours f.gutter.palette ≡ false
     → m.from ≤ m.to → AddsLabels f m.line (m ∷ []) old (old ++ labelled f m)
 unfolding labelled
 one-adds f m old h long =
