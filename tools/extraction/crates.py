@@ -4,7 +4,7 @@ import subprocess
 import tempfile
 from pathlib import Path
 
-from extraction import ghosts, rules
+from extraction import allocators, ghosts, rules
 from extraction.source import Import, Source
 from extraction.tokens import Refused
 
@@ -38,11 +38,13 @@ class Read:
                         for crate, folder in crates.items() for path in sorted(folder.rglob("*.rt"))]
         self.empty, self.fields = ghosts.empty_types(self.sources)
         self.lookers, self.functions = ghosts.lookers(self.sources), functions_of(self.sources)
+        takers = [in_place(it.path, allocators.takers, it) for it in self.sources]
+        self.takers = allocators.TAKING.union(*takers)
         for source in self.sources:
             self.erase(source)
 
     def erase(self, source):
-        source.lookers, source.functions = self.lookers, self.functions
+        source.lookers, source.functions, source.takers = self.lookers, self.functions, self.takers
         in_place(source.path, ghosts.erase, source, self.empty, self.fields)
 
     def replace(self, path, text):
@@ -57,7 +59,7 @@ class Read:
         old = next(it for it in self.sources if it.path == str(path))
         source = source_of(old.crate, old.name, path, text)
         self.erase(source)
-        for item, known in zip(items_of(source), items_of(old)):
+        for item, known in zip(source.items_inside(), old.items_inside()):
             item.is_kept = known.is_kept
         return self.text(source, self.needs, self.cloned)
 
@@ -88,7 +90,7 @@ class Read:
     def text(self, source, needs, cloned):
         """The text in Rust of a source."""
         here = (source.crate, *module_of(source.name))
-        items = items_of(source)
+        items = source.items_inside()
         has = [(needs.has(*here, it.name), needs.feature(*here, it.name))
                for it in items if it.kind == "mod"]
         passed = sorted(it for it in needs.passed if it[0] == source.path)
@@ -108,14 +110,9 @@ def source_of(crate, name, path, text):
     return source
 
 
-def items_of(source):
-    """The items of a file, and those in them."""
-    return [it for item in source.items for it in (item, *item.parts)]
-
-
 def functions_of(sources):
     """The names of all functions and methods."""
-    return {it.name for source in sources for it in items_of(source) if it.kind == "fn"}
+    return {it.name for source in sources for it in source.items_inside() if it.kind == "fn"}
 
 
 def read_repository():
@@ -171,8 +168,9 @@ class Needs:
 
     def add_caller(self, caller):
         """Adds what a file in Rust names: what it imports of what is extracted, and each method
-        that it calls. What it exports is shown: all public methods of that are needed that take no
-        allocator and never say that an allocation failed."""
+        that it calls; one that takes an allocator in Rattle has one argument more there, and is
+        called by its type. What it exports is shown: all public methods of that are needed that
+        take no allocator and never say that an allocation failed."""
         end = len(caller.tokens) - 1
         methods = {it for it in caller.names_in(0, end) if isinstance(it, tuple)}
         for at in (it for it in caller.places(0, end) if caller.tokens[it].is_word("use")):
@@ -273,10 +271,7 @@ class Needs:
         is_shown = part.is_public and of in self.shown and not takes_allocator(source, part)
         if part is item or is_shown or (item.name, part.name) in self.methods:
             return True
-        opening = source.next(part.head, 2)
-        while part.kind == "fn" and source.text(opening) != "(":
-            opening = source.next(opening)
-        count = part.kind == "fn" and source.count_of(opening) - 1
+        count = part.kind == "fn" and source.count_of(source.given(part)) - 1
         return (".", part.name, count) in self.methods
 
 
@@ -300,6 +295,10 @@ def takes_allocator(source, item):
 
 def rust_of(source, needs, crates, empty, cloned):
     """The text in Rust of a source."""
+    for item in [it for it in source.items_inside() if it.is_kept and it.kind == "fn"]:
+        item.allocates = takes_allocator(source, item)
+        allocators.erase(source, item)
+        rules.unsaid(source, item)
     own = set()
     for item in source.items:
         if item.is_kept:
@@ -349,7 +348,7 @@ def item_rewritten(source, item, crates, empty, cloned):
     rules.known_traits(source, item)
     for part in [part for part in item.parts if part.is_kept] or [item]:
         uses_shim |= rules.rewrite(source, part, source.crate, crates)
-        if item.kind == "impl" and part.is_public and takes_allocator(source, part):
+        if item.kind == "impl" and part.is_public and part.allocates:
             # no user of the crate for Rust can call it
             public = source.tokens[source.prev(part.head)]
             public.text = "pub(crate)" if public.text == "pub" else public.text

@@ -3,6 +3,7 @@ reads, or rewrites a form that Rust does not have. A form that no rule knows is 
 import re
 from pathlib import Path
 
+from extraction.allocators import WORDS, is_allocator
 from extraction.source import Import
 
 # The paths of the library that may be named, and those that replace them. Any other is refused. A
@@ -24,16 +25,17 @@ LIBRARY = {"clap": "crate::shim::clap", "itoa": "crate::shim::itoa",
            "std::time::Instant": "crate::shim::host::Instant",
            "strsim": "crate::shim::strsim", "unicode_ident": "crate::shim::unicode_ident",
            "unicode_width": "crate::shim::unicode_width"}
-# Calls that take the allocator, or return an allocation failure. In Rust they are methods of the
-# shim's traits.
-CONSTRUCTORS = {"new": "made_in", "with_capacity": "made_for", "from_str": "made_from"}
+# Calls that may return an allocation failure. In Rust they are methods of the shim's traits.
+CONSTRUCTORS = {("Box", "new"): "made_of", ("String", "from_str"): "made_from",
+                ("String", "with_capacity"): "made_for", ("Vec", "with_capacity"): "made_for"}
 # The names of a module of the library that may stand by themselves or after it.
 NAMED = {"env": {"args", "var"},
          "fs": {"DirEntry", "File", "canonicalize", "metadata", "open", "read_dir", "remove_file",
                 "rename", "set_permissions"},
          "io": {"Error", "ErrorKind", "IsTerminal", "Read", "Result", "Write"}, "mem": {"replace"}}
 # Constructors that take no memory.
-PLAIN = ("from_utf8",)
+PLAIN = {("BTreeMap", "new"), ("BTreeSet", "new"), ("String", "from_utf8"), ("String", "new"),
+         ("Vec", "new")}
 METHODS = {
     "push": "try_push",
     "push_str": "try_push_str",
@@ -46,8 +48,6 @@ METHODS = {
     "sort_by_key": "sort_by_key_in",
     "clone": "try_clone",
     "collect": "collect_in",
-    # of the standard library for some types, and not yet stable
-    "allocator": "own_allocator",
     # of the standard library only since Rust 1.91
     "floor_char_boundary": "boundary_at_most",
     # of the standard library only since Rust 1.80
@@ -60,7 +60,7 @@ TESTS = {"is_some_and": "false", "is_none_or": "true"}
 # Words with which a path may begin besides those that a file names, and names of a plain type.
 KNOWN = ("super", "char", "u8", "u8x16", "u16", "u32", "u64", "usize")
 OF_PLAIN = {"MAX", "from", "from_slice", "from_u32", "is_whitespace", "splat"}
-MACROS = {"matches": "matches", "format": "crate::shim::format_in", "vec": "crate::shim::vec_in",
+MACROS = {"matches": "matches", "format": "crate::shim::try_format", "vec": "crate::shim::try_vec",
           "eprint": "crate::shim::eprint_in", "eprintln": "crate::shim::eprintln_in"}
 # Traits that are named only where they are imported, by the calls of their methods.
 TRAITS = {(".", "width", 0): "UnicodeWidthChar", (".", "is_terminal", 0): "IsTerminal",
@@ -84,6 +84,8 @@ ADDED = {("placeholder_check", "Report"): ("Clone", *SHOWN),
             for name in ("Kind", "Token")}}
 # Members that what calls the crates has to write, for which they have no call.
 OPENED = {"Cursor": {"source"}}
+# What is said at the end of the documentation of a function, of an error that has no value in Rust.
+UNSAID = ("Returns `Err` if an allocation fails.",)
 # Words after which an expression may begin.
 KEYWORDS = ("else", "if", "in", "match", "return", "while")
 # Methods of the library that do the same in both languages, and on each Unicode version but for
@@ -117,6 +119,8 @@ def rewrite(source, item, crate, crates):
         if not source.is_real(at):
             continue
         text, before, behind = source.around(at)
+        if text in WORDS:
+            source.refuse(at, f"`{text}`, an allocator that is not only passed on")
         if source.is_word(at) and behind == "::" and before not in ("::", "."):
             if text in LIBRARY:
                 source.tokens[at].text = LIBRARY[text]
@@ -131,11 +135,13 @@ def rewrite(source, item, crate, crates):
                 refuse_other(source, at, OF_PLAIN)
             elif text in ("Vec", "String", "Box", "BTreeMap", "BTreeSet"):
                 called = source.next(at, 2)
-                if source.text(source.next(called)) == "(" and source.text(called) in CONSTRUCTORS:
-                    source.tokens[called].text = CONSTRUCTORS[source.text(called)]
+                name = text, source.text(called)
+                is_called = source.text(source.next(called)) == "("
+                if is_called and name in CONSTRUCTORS:
+                    source.tokens[called].text = CONSTRUCTORS[name]
                     uses_shim = True
-                elif source.text(called) not in PLAIN:
-                    source.refuse(called, f"a call `{text}::{source.text(called)}`")
+                elif not is_called or name not in PLAIN:
+                    source.refuse(called, f"a call `{'::'.join(name)}`")
             elif text[0].islower() and text not in (*KNOWN, *modules_of(source), *source.imports()):
                 source.refuse(at, f"a path that begins with `{text}`")
         elif source.is_word(at) and text in METHODS and before in (".", "fn") and behind == "(":
@@ -164,6 +170,19 @@ def rewrite(source, item, crate, crates):
         elif text != "static" or at != item.head:
             refuse_unknown(source, at)
     return uses_shim
+
+
+def unsaid(source, item):
+    """Leaves a sentence of UNSAID out of the documentation of a function with such an error, where
+    it is the last one."""
+    words = source.texts(item.head, item.open)
+    if item.first < item.start and words[-4:-1] == [",", "AllocError", ">"]:
+        text = source.span(item.first, item.start - 1)
+        for said in UNSAID:
+            words = re.escape(said).replace(r"\ ", r"( |\n\s*/// )")
+            text = re.sub(rf"((?<=\.) |(^|\n) */// ){words}(?=\s*\Z)", "", text)
+        source.cut(item.first, item.start - 1)
+        source.tokens[item.first].text = text
 
 
 def refuse_other(source, at, known):
@@ -204,11 +223,14 @@ def macro(source, at):
         source.refuse(at, f"a macro `{name}!`")
     inner = source.next(opening)
     if name in ("format", "vec"):
-        if source.text(inner) != "in":
+        end = inner
+        while source.text(end) not in (";", ""):
+            end = source.next(end)
+        if source.text(inner) != "in" or not is_allocator(source, source.next(inner), end):
             source.refuse(at, f"a `{name}!` without an allocator")
-        if name == "vec" and not repeats(source, inner, source.close(opening)):
+        source.cut(inner, source.next(end) - 1)
+        if name == "vec" and not repeats(source, source.next(opening), source.close(opening)):
             source.refuse(at, "a `vec!` of other items than a plain one, again and again")
-        source.cut(inner, source.next(inner) - 1)
     texts = [it.text for it in source.tokens[opening : source.close(opening)] if it.kind == "string"]
     if name != "matches" and any(re.search(r"\?\}", it) for it in texts):
         source.refuse(at, f"a `{name}!` that shows a value as `Debug` does")
@@ -218,16 +240,15 @@ def macro(source, at):
     source.tokens[at].text = MACROS[name]
 
 
-def repeats(source, at, end):
-    """Whether what a macro is given is an allocator, a plain value and a count."""
-    marks = []
+def repeats(source, first, end):
+    """Whether what a macro is given is a plain value and a count."""
+    at, marks = first, []
     while at < end:
         if source.text(at) == ";":
             marks.append(at)
         at = source.next(source.skip(at))
-    plain = source.next(marks[0]) if marks else end
-    is_plain = source.tokens[plain].kind == "number" or source.text(plain) in ("false", "true")
-    return len(marks) == 2 and is_plain and source.next(plain) == marks[1]
+    is_plain = source.tokens[first].kind == "number" or source.text(first) in ("false", "true")
+    return is_plain and marks == [source.next(first)]
 
 
 def refusal(source, at):

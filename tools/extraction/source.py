@@ -17,6 +17,7 @@ class Item:
         self.name = self.trait = self.open = self.of = None
         self.parts, self.members, self.clauses, self.derive = [], [], "", None
         self.is_public = self.is_kept = self.has_members = False
+        self.allocates = False  # a function with an allocator, or the error of an allocation
 
 
 class Source:
@@ -25,7 +26,8 @@ class Source:
 
     def __init__(self, name, text, has_items=True):
         self.name, self.tokens, self.items, self.doubts = name, tokens_of(text), [], []
-        self.lookers, self.functions, self.streams, self.named = set(), set(), [], None
+        self.lookers, self.functions, self.takers = set(), set(), set()
+        self.streams, self.named = [], None
         at = 0
         while at < len(self.tokens) and (self.tokens[at].kind == "space"
                                          or self.tokens[at].text.startswith("//!")):
@@ -215,18 +217,34 @@ class Source:
 
     def count_of(self, opening):
         """How many arguments stand in parentheses."""
-        at, end, count = self.next(opening), self.close(opening), 0
+        return len(self.arguments(opening))
+
+    def arguments(self, opening):
+        """The arguments in parentheses: the first token of each, and the comma or the end after it."""
+        at, end, found = self.next(opening), self.close(opening), []
         while at < end:
-            count += 1
+            first = at
             while at < end and self.text(at) != ",":
                 if self.text(at) == "|":
-                    while self.text(at := self.next(at)) != "|":
+                    while (at := self.next(at)) < end and self.text(at) != "|":
                         pass
                 elif self.tokens[at].is_sign("(", "[", "{"):
                     at = self.close(at)
-                at = self.next(at)
+                at = min(self.next(at), end)
+            found.append((first, at))
             at = self.next(at)
-        return count
+        return found
+
+    def given(self, item):
+        """The parenthesis that opens the parameters of a function."""
+        opening = self.next(item.head, 2)
+        while self.text(opening) != "(":
+            opening = self.next(opening)
+        return opening
+
+    def items_inside(self):
+        """The items of the file, and those in them."""
+        return [it for item in self.items for it in (item, *item.parts)]
 
     def imports(self):
         """The names that this file gives to others, and the path of each."""

@@ -5,7 +5,7 @@ use crate::proved::drawn_faults::draw as draw_in;
 use crate::proved::fault_fixes::{edits as edits_in, errors_of as errors_of_in, fix as fix_in};
 use crate::proved::rustc_parse_format::error_list::empty_error;
 use crate::proved::rustc_parse_format::messages::set_error;
-use crate::shim::alloc::{answer, Global};
+use crate::shim::alloc::answer;
 use crate::shim::parser::Parser;
 use crate::{Argument, ParseError, ParseMode};
 use alloc::string::String;
@@ -60,7 +60,7 @@ pub use crate::proved::rustc_parse_format::Fault;
 /// also have to fit `usize`. An allocation failure aborts, as elsewhere in Rust.
 #[must_use]
 pub fn draw(mode: ParseMode, picture: &Picture<'_>, error: &ParseError) -> String {
-    answer(draw_in(Global, mode, picture, error))
+    answer(draw_in(mode, picture, error))
 }
 
 /// Returns the edits of these errors of a text of this mode, in the order of the source, each
@@ -84,7 +84,7 @@ pub fn draw(mode: ParseMode, picture: &Picture<'_>, error: &ParseError) -> Strin
 /// ```
 #[must_use]
 pub fn edits(mode: ParseMode, errors: &[ParseError]) -> Vec<Edit<'_>> {
-    answer(edits_in(Global, mode, errors))
+    answer(edits_in(mode, errors))
 }
 
 /// Returns the errors of all calls of a parser up to the end of an input, in its order. The
@@ -106,14 +106,7 @@ pub fn errors_of(
     appended_newline: bool,
     mode: ParseMode,
 ) -> Vec<ParseError> {
-    answer(errors_of_in(
-        Global,
-        input,
-        style,
-        snippet,
-        appended_newline,
-        mode,
-    ))
+    answer(errors_of_in(input, style, snippet, appended_newline, mode))
 }
 
 /// Returns the faults of all calls of a parser up to the end of an input, in the order in which they
@@ -139,7 +132,7 @@ pub fn faults_of(
     appended_newline: bool,
     mode: ParseMode,
 ) -> Vec<Fault<'_>> {
-    let parser = Parser::new(Global, input, style, snippet, appended_newline, mode);
+    let parser = Parser::new(input, style, snippet, appended_newline, mode);
     let (mut parser, mut faults) = (answer(parser), Vec::new());
     let mut argument = Argument::default();
     while !parser.is_at_end() {
@@ -160,8 +153,8 @@ pub fn faults_of(
 /// ```
 #[must_use]
 pub fn error_of(fault: &Fault<'_>) -> ParseError {
-    let mut error = empty_error(Global);
-    answer(set_error(Global, &mut error, fault));
+    let mut error = empty_error();
+    answer(set_error(&mut error, fault));
     error
 }
 
@@ -195,14 +188,7 @@ pub fn fix(
     appended_newline: bool,
     mode: ParseMode,
 ) -> Option<Fixed> {
-    answer(fix_in(
-        Global,
-        input,
-        style,
-        snippet,
-        appended_newline,
-        mode,
-    ))
+    answer(fix_in(input, style, snippet, appended_newline, mode))
 }
 
 /// Writes the description of the fault's error.

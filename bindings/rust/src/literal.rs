@@ -3,7 +3,7 @@
 //! an input.
 use crate::faults::{errors_of, faults_of, fix, Fault, Fixed};
 use crate::proved::rustc_parse_format::literal::read_content as read_content_in;
-use crate::shim::alloc::{answer, Global};
+use crate::shim::alloc::answer;
 use crate::tokens::{tokens, Token};
 use crate::{check, ParseError, ParseMode, Parser, Piece, Report};
 use alloc::string::ToString;
@@ -40,7 +40,7 @@ impl<'a> Literal<'a> {
     /// ```
     #[must_use]
     pub fn new(snippet: &'a str, mode: ParseMode) -> Option<Literal<'a>> {
-        answer(Literal::read(Global, snippet, mode))
+        answer(Literal::read(snippet, mode))
     }
 
     /// Returns the literal with a newline appended to its text, as `println!` appends one. One more
@@ -141,5 +141,5 @@ impl<'a> Literal<'a> {
 /// spaces after it. An allocation failure aborts, as elsewhere in Rust.
 #[must_use]
 pub fn read_content(content: &str) -> Option<Vec<(Range<usize>, char)>> {
-    answer(read_content_in(Global, content))
+    answer(read_content_in(content))
 }

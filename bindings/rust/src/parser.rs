@@ -6,7 +6,7 @@ use crate::proved::rustc_parse_format::messages::set_error;
 use crate::proved::rustc_parse_format::parser::ahead::Ahead;
 use crate::proved::rustc_parse_format::reader::Reader;
 use crate::proved::rustc_parse_format::source::{quote_offset, source_of};
-use crate::shim::alloc::{answer, Global};
+use crate::shim::alloc::answer;
 use crate::{ParseError, ParseMode, Piece};
 use alloc::string::String;
 use alloc::vec::Vec;
@@ -76,7 +76,7 @@ impl<'input> Parser<'input> {
         let cursor = Cursor::new(source, Ahead::new(input));
         Parser {
             mode,
-            reader: Reader::new(Global, cursor, quote_offset(style)),
+            reader: Reader::new(cursor, quote_offset(style)),
             keeps_faults: false,
             errors: Vec::new(),
             curarg: 0,
@@ -123,8 +123,8 @@ impl<'input> Parser<'input> {
             } else {
                 self.errors.len()
             };
-            self.errors.insert(at, empty_error(Global));
-            answer(set_error(Global, &mut self.errors[at], fault));
+            self.errors.insert(at, empty_error());
+            answer(set_error(&mut self.errors[at], fault));
             index += 1;
         }
         self.reader.faults.clear();
@@ -168,7 +168,8 @@ impl<'input> Iterator for Parser<'input> {
             self.end_line();
             return None;
         }
-        let piece = answer(reader.piece(Global, self.mode));
+        // (by its type: the method takes the allocator too where it is extracted from)
+        let piece = answer(Reader::piece(reader, self.mode));
         self.curarg = reader.curarg;
         if self.reader.closed_place.is_some() {
             self.arg_places.extend(self.reader.closed_place.take());

@@ -1,6 +1,6 @@
 //! Compares the placeholders of a format string with the arguments that are given to it.
 use crate::proved::placeholder_check::check as check_in;
-use crate::shim::alloc::{answer, Global};
+use crate::shim::alloc::answer;
 use crate::Piece;
 
 pub use crate::proved::placeholder_check::Report;
@@ -25,5 +25,5 @@ pub use crate::proved::placeholder_check::Report;
 /// ```
 #[must_use]
 pub fn check<'a>(pieces: &[Piece<'a>], positional: usize, names: &[&'a str]) -> Report<'a> {
-    answer(check_in(Global, pieces, positional, names))
+    answer(check_in(pieces, positional, names))
 }

@@ -24,10 +24,10 @@ use crate::proved::format_calls::{arguments, calls as calls_in, format_string};
 use crate::proved::format_calls::{Argument as ArgumentIn, Table as TableIn};
 use crate::proved::rust_tokens::tokens as tokens_in;
 use crate::proved::rust_trees::{DelimiterBreak, Places as PlacesIn, Source as SourceIn};
-use crate::proved::source_lint::givens::givens;
 use crate::proved::source_lint::file_faults as file_faults_in;
+use crate::proved::source_lint::givens::givens;
 use crate::proved::source_report::Options;
-use crate::shim::alloc::{answer, Global};
+use crate::shim::alloc::answer;
 use crate::Piece;
 use alloc::string::String;
 use alloc::vec::Vec;
@@ -69,7 +69,7 @@ pub use crate::proved::source_report::{CallReading, Finding, Report};
 /// ```
 #[must_use]
 pub fn tokens(text: &str) -> Vec<Token> {
-    answer(tokens_in(Global, text))
+    answer(tokens_in(text))
 }
 
 /// A text in which the place of a byte offset is found in a time that is not longer in a longer
@@ -83,7 +83,7 @@ impl<'a> Places<'a> {
     #[must_use]
     pub fn new(text: &'a str) -> Places<'a> {
         Places {
-            places: answer(PlacesIn::new(Global, text)),
+            places: answer(PlacesIn::new(text)),
         }
     }
 
@@ -116,7 +116,7 @@ impl<'a> Table<'a> {
     #[must_use]
     pub fn standard() -> Table<'a> {
         Table {
-            table: answer(TableIn::standard(Global)),
+            table: answer(TableIn::standard()),
         }
     }
 
@@ -125,7 +125,7 @@ impl<'a> Table<'a> {
     #[must_use]
     pub fn with_crates() -> Table<'a> {
         Table {
-            table: answer(TableIn::with_crates(Global)),
+            table: answer(TableIn::with_crates()),
         }
     }
 
@@ -230,11 +230,11 @@ fn argument_of<'a>(
 /// failure aborts, as elsewhere in Rust.
 #[must_use]
 pub fn calls<'a>(text: &'a str, table: &Table<'_>, is_from_2021: bool) -> Vec<Call<'a>> {
-    let source = answer(SourceIn::new(Global, text));
+    let source = answer(SourceIn::new(text));
     let mut found = Vec::new();
-    for call in answer(calls_in(Global, &source, &table.table)) {
-        let list = answer(arguments(Global, &source, call.close)).unwrap_or_default();
-        let given = answer(givens(Global, source.tokens(), &list));
+    for call in answer(calls_in(&source, &table.table)) {
+        let list = answer(arguments(&source, call.close)).unwrap_or_default();
+        let given = answer(givens(source.tokens(), &list));
         let (name, close) = (source.tokens()[call.name], source.tokens()[call.close]);
         found.push(Call {
             rule: call.rule,
@@ -263,7 +263,7 @@ pub fn calls<'a>(text: &'a str, table: &Table<'_>, is_from_2021: bool) -> Vec<Ca
 /// ```
 #[must_use]
 pub fn broken_at(text: &str) -> Option<usize> {
-    let source = answer(SourceIn::new(Global, text));
+    let source = answer(SourceIn::new(text));
     let (DelimiterBreak::Unclosed(index) | DelimiterBreak::Unexpected(index)) =
         source.first_break()?;
     source.tokens().get(index).map(|token| token.start)
@@ -287,7 +287,7 @@ pub fn broken_at(text: &str) -> Option<usize> {
 /// ```
 #[must_use]
 pub fn file_faults(text: &str, table: &Table<'_>, is_from_2021: bool) -> Report {
-    answer(file_faults_in(Global, text, &options(table, is_from_2021)))
+    answer(file_faults_in(text, &options(table, is_from_2021)))
 }
 
 /// Reads a file as [`file_faults`] does, and applies to its faults the suggestions that rustc calls
@@ -310,7 +310,7 @@ pub fn file_faults(text: &str, table: &Table<'_>, is_from_2021: bool) -> Report 
 /// ```
 #[must_use]
 pub fn file_fixes(text: &str, table: &Table<'_>, is_from_2021: bool) -> FileFixes {
-    answer(fixes_in(Global, text, &options(table, is_from_2021)))
+    answer(fixes_in(text, &options(table, is_from_2021)))
 }
 
 /// Reads a file as [`file_faults`] does, and moves the arguments of its calls that are variables into
@@ -337,7 +337,6 @@ pub fn file_inlines(
     allows_mixed: bool,
 ) -> FileInlines {
     answer(inlines_in(
-        Global,
         text,
         &options(table, is_from_2021),
         allows_mixed,
@@ -391,7 +390,7 @@ pub fn call_faults<'a>(
     given: &'a [FormatArgument<'a>],
 ) -> CheckedCall<'a> {
     CheckedCall {
-        checked: answer(call_faults_in(Global, string, given)),
+        checked: answer(call_faults_in(string, given)),
     }
 }
 

@@ -1,6 +1,6 @@
 //! The tokens of a format string: what an editor shows in colours.
 use crate::proved::format_tokens::tokens as tokens_in;
-use crate::shim::alloc::{answer, Global};
+use crate::shim::alloc::answer;
 use crate::ParseMode;
 use alloc::string::String;
 use alloc::vec::Vec;
@@ -42,12 +42,5 @@ pub fn tokens(
     appended_newline: bool,
     mode: ParseMode,
 ) -> Vec<Token> {
-    answer(tokens_in(
-        Global,
-        input,
-        style,
-        snippet,
-        appended_newline,
-        mode,
-    ))
+    answer(tokens_in(input, style, snippet, appended_newline, mode))
 }

@@ -6,10 +6,6 @@ use alloc::collections::{BTreeMap, BTreeSet};
 use alloc::string::String;
 use alloc::vec::Vec;
 
-/// The allocator that is passed to calls.
-#[derive(Clone, Copy)]
-pub struct Global;
-
 /// An allocation failure, which is never returned: the type has no value.
 #[derive(Debug)]
 pub enum AllocError {}
@@ -42,22 +38,21 @@ pub fn refused<T>() -> T {
     panic!("capacity overflow")
 }
 
-/// The method of `Box` that takes an allocator and may return an allocation failure.
+/// The method of `Box` that may return an allocation failure.
 pub trait BoxIn<T>: Sized {
-    fn made_in(alloc: Global, value: T) -> Result<Self, AllocError>;
+    fn made_of(value: T) -> Result<Self, AllocError>;
 }
 
 impl<T> BoxIn<T> for Box<T> {
     #[inline(always)]
-    fn made_in(_: Global, value: T) -> Result<Box<T>, AllocError> {
+    fn made_of(value: T) -> Result<Box<T>, AllocError> {
         Ok(Box::new(value))
     }
 }
 
-/// The methods of `Vec` that take or keep an allocator, or return an allocation failure.
+/// The methods of `Vec` that may return an allocation failure.
 pub trait VecIn<T>: Sized {
-    fn made_in(alloc: Global) -> Self;
-    fn made_for(alloc: Global, room: usize) -> Result<Self, AllocError>;
+    fn made_for(room: usize) -> Result<Self, AllocError>;
     fn try_push(&mut self, item: T) -> Result<(), AllocError>;
     fn insert_in(&mut self, at: usize, item: T) -> Result<(), AllocError>;
     fn try_append(&mut self, items: &mut Self) -> Result<(), AllocError>;
@@ -68,17 +63,11 @@ pub trait VecIn<T>: Sized {
     where
         T: Ord;
     fn sort_by_key_in<K: Ord, F: FnMut(&T) -> K>(&mut self, key: F) -> Result<(), AllocError>;
-    fn own_allocator(&self) -> &Global;
 }
 
 impl<T> VecIn<T> for Vec<T> {
     #[inline(always)]
-    fn made_in(_: Global) -> Vec<T> {
-        Vec::new()
-    }
-
-    #[inline(always)]
-    fn made_for(_: Global, room: usize) -> Result<Vec<T>, AllocError> {
+    fn made_for(room: usize) -> Result<Vec<T>, AllocError> {
         Ok(Vec::with_capacity(room))
     }
 
@@ -123,73 +112,49 @@ impl<T> VecIn<T> for Vec<T> {
         self.sort_by_key(key);
         Ok(())
     }
-
-    #[inline(always)]
-    fn own_allocator(&self) -> &Global {
-        &Global
-    }
 }
 
-/// The methods of `BTreeSet` that take an allocator or return an allocation failure.
+/// The methods of `BTreeSet` that may return an allocation failure.
 pub trait SetIn<T>: Sized {
-    fn made_in(alloc: Global) -> Self;
     fn insert_in(&mut self, item: T) -> Result<bool, AllocError>;
 }
 
 impl<T: Ord> SetIn<T> for BTreeSet<T> {
-    #[inline(always)]
-    fn made_in(_: Global) -> BTreeSet<T> {
-        BTreeSet::new()
-    }
-
     #[inline(always)]
     fn insert_in(&mut self, item: T) -> Result<bool, AllocError> {
         Ok(self.insert(item))
     }
 }
 
-/// The methods of `BTreeMap` that take an allocator or return an allocation failure.
+/// The methods of `BTreeMap` that may return an allocation failure.
 pub trait MapIn<K, V>: Sized {
-    fn made_in(alloc: Global) -> Self;
     fn insert_in(&mut self, key: K, value: V) -> Result<Option<V>, AllocError>;
 }
 
 impl<K: Ord, V> MapIn<K, V> for BTreeMap<K, V> {
-    #[inline(always)]
-    fn made_in(_: Global) -> BTreeMap<K, V> {
-        BTreeMap::new()
-    }
-
     #[inline(always)]
     fn insert_in(&mut self, key: K, value: V) -> Result<Option<V>, AllocError> {
         Ok(self.insert(key, value))
     }
 }
 
-/// The methods of `String` that take or keep an allocator, or return an allocation failure.
+/// The methods of `String` that may return an allocation failure.
 pub trait StringIn: Sized {
-    fn made_in(alloc: Global) -> Self;
-    fn made_for(alloc: Global, room: usize) -> Result<Self, AllocError>;
-    fn made_from(alloc: Global, text: &str) -> Result<Self, AllocError>;
+    fn made_for(room: usize) -> Result<Self, AllocError>;
+    fn made_from(text: &str) -> Result<Self, AllocError>;
     fn try_push(&mut self, c: char) -> Result<(), AllocError>;
     fn try_push_str(&mut self, text: &str) -> Result<(), AllocError>;
     fn try_reserve_more(&mut self, room: usize) -> Result<(), AllocError>;
-    fn own_allocator(&self) -> &Global;
 }
 
 impl StringIn for String {
     #[inline(always)]
-    fn made_in(_: Global) -> String {
-        String::new()
-    }
-
-    #[inline(always)]
-    fn made_for(_: Global, room: usize) -> Result<String, AllocError> {
+    fn made_for(room: usize) -> Result<String, AllocError> {
         Ok(String::with_capacity(room))
     }
 
     #[inline(always)]
-    fn made_from(_: Global, text: &str) -> Result<String, AllocError> {
+    fn made_from(text: &str) -> Result<String, AllocError> {
         Ok(String::from(text))
     }
 
@@ -210,16 +175,11 @@ impl StringIn for String {
         self.reserve(room);
         Ok(())
     }
-
-    #[inline(always)]
-    fn own_allocator(&self) -> &Global {
-        &Global
-    }
 }
 
-/// The methods of iterators that take an allocator or return an allocation failure.
+/// The methods of iterators that may return an allocation failure.
 pub trait IterIn: Iterator + Sized {
-    fn collect_in<C: FromIterator<Self::Item>>(self, _: Global) -> Result<C, AllocError> {
+    fn collect_in<C: FromIterator<Self::Item>>(self) -> Result<C, AllocError> {
         Ok(self.collect())
     }
 }

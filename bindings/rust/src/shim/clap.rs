@@ -1,6 +1,6 @@
 //! Command lines, as far as the programs have them: flags, options with one value, and positional
 //! arguments. The words of help and errors are those of the crate `clap`.
-use super::alloc::{AllocError, Global};
+use super::alloc::AllocError;
 use super::host::HostRuntime;
 use std::ops::RangeFrom;
 
@@ -72,7 +72,7 @@ pub struct Arg<'a> {
 
 impl<'a> Arg<'a> {
     /// Returns an argument that is read back by this id.
-    pub fn new(_: Global, id: &'a str) -> Arg<'a> {
+    pub fn new(id: &'a str) -> Arg<'a> {
         Arg {
             id,
             long: None,
@@ -189,7 +189,7 @@ pub struct ArgGroup<'a> {
 
 impl<'a> ArgGroup<'a> {
     /// Returns a group without arguments.
-    pub fn new(_: Global, id: &'a str) -> ArgGroup<'a> {
+    pub fn new(id: &'a str) -> ArgGroup<'a> {
         ArgGroup {
             id,
             args: Vec::new(),
@@ -228,7 +228,7 @@ pub struct Command<'a> {
 
 impl<'a> Command<'a> {
     /// Returns a command without arguments.
-    pub fn new(_: Global, name: &'a str) -> Command<'a> {
+    pub fn new(name: &'a str) -> Command<'a> {
         Command {
             name,
             version: None,
@@ -291,11 +291,11 @@ impl<'a> Command<'a> {
 
     /// Adds the flags that request help and the version.
     fn add_requests(&mut self) {
-        let help = Arg::new(Global, "help").short('h').long("help");
+        let help = Arg::new("help").short('h').long("help");
         self.args
             .push(help.action(ArgAction::Help).help("Print help"));
         if self.version.is_some() {
-            let version = Arg::new(Global, "version").short('V').long("version");
+            let version = Arg::new("version").short('V').long("version");
             self.args
                 .push(version.action(ArgAction::Version).help("Print version"));
         }

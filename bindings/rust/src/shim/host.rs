@@ -1,6 +1,5 @@
 //! The process of a program: arguments, streams, files and the environment. A call that fails is
 //! not tried again, and nothing that was written waits in a buffer.
-use super::alloc::Global;
 use std::fmt::Display;
 use std::io::{self, Read, Write};
 
@@ -8,11 +7,6 @@ use std::io::{self, Read, Write};
 pub struct HostRuntime;
 
 impl HostRuntime {
-    /// Returns the allocator.
-    pub fn alloc(&self) -> Global {
-        Global
-    }
-
     /// Returns standard input.
     pub fn stdin(&self) -> Stdin {
         Stdin

@@ -29,23 +29,22 @@ pub mod prelude {
     pub use ::alloc::{boxed::Box, string::String, vec::Vec};
 }
 
-/// `format!(in alloc; ..)`: returns the text, or `Err` if an allocation fails.
-macro_rules! format_in {
-    ($alloc:expr; $($words:tt)*) => {{
-        let _: $crate::shim::alloc::Global = $alloc;
+/// `format!(in alloc; ..)` without the allocator: returns the text, or `Err` if an allocation fails.
+macro_rules! try_format {
+    ($($words:tt)*) => {
         Ok::<_, $crate::shim::alloc::AllocError>(::alloc::format!($($words)*))
-    }};
+    };
 }
-pub(crate) use format_in;
+pub(crate) use try_format;
 
-/// `vec![in alloc; item; count]`: returns the list, or `Err` if an allocation fails.
-macro_rules! vec_in {
-    ($alloc:expr; $item:expr; $count:expr) => {{
-        let _: $crate::shim::alloc::Global = $alloc;
+/// `vec![in alloc; item; count]` without the allocator: returns the list, or `Err` if an
+/// allocation fails.
+macro_rules! try_vec {
+    ($item:expr; $count:expr) => {
         Ok::<_, $crate::shim::alloc::AllocError>(::alloc::vec![$item; $count])
-    }};
+    };
 }
-pub(crate) use vec_in;
+pub(crate) use try_vec;
 
 /// `eprintln!(rt; ..)`: writes a line to standard error, and returns why that failed.
 macro_rules! eprintln_in {

@@ -2,7 +2,7 @@
 use crate::faults::error_of;
 use crate::proved::rustc_parse_format::faults::Fault;
 use crate::proved::rustc_parse_format::types::PieceKind;
-use crate::shim::alloc::{AllocError, Global};
+use crate::shim::alloc::AllocError;
 use crate::{Argument, ParseError, ParseMode, Piece};
 use alloc::string::String;
 use alloc::vec::Vec;
@@ -20,7 +20,6 @@ pub struct Parser<'input> {
 impl<'input> Parser<'input> {
     /// Creates a parser at the start of an input.
     pub fn new(
-        _: Global,
         input: &'input str,
         style: Option<usize>,
         snippet: Option<String>,
@@ -133,14 +132,13 @@ impl<'input> Parser<'input> {
 
 /// Returns the pieces of an input up to the first call that returns none, and the parser after them.
 pub fn read_all<'input>(
-    alloc: Global,
     input: &'input str,
     style: Option<usize>,
     snippet: Option<String>,
     appended_newline: bool,
     mode: ParseMode,
 ) -> Result<(Vec<Piece<'input>>, Parser<'input>), AllocError> {
-    let mut parser = Parser::new(alloc, input, style, snippet, appended_newline, mode)?;
+    let mut parser = Parser::new(input, style, snippet, appended_newline, mode)?;
     let mut pieces = Vec::new();
     while let Some(piece) = parser.parser.next() {
         parser.add_errors(false);

@@ -1,8 +1,8 @@
 //! How many characters lead from one text to another.
-use super::alloc::{AllocError, Global};
+use super::alloc::AllocError;
 
 /// Returns the fewest characters to insert, remove or replace in one text for the other.
-pub fn levenshtein(_: Global, a: &str, b: &str) -> Result<usize, AllocError> {
+pub fn levenshtein(a: &str, b: &str) -> Result<usize, AllocError> {
     let b: alloc::vec::Vec<char> = b.chars().collect();
     let mut row: alloc::vec::Vec<usize> = (0..=b.len()).collect();
     for (at, c) in a.chars().enumerate() {
