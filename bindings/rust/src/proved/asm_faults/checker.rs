@@ -9,7 +9,7 @@ use crate::proved::asm_faults::faults::AsmFault;
 use crate::proved::asm_faults::lookups::Walk;
 use crate::proved::asm_faults::operands::{operands_of, Operand, Operands};
 use crate::proved::asm_faults::templates::{push_templates, Template};
-use crate::shim::alloc::{AllocError, Global};
+use crate::shim::alloc::AllocError;
 use crate::shim::prelude::*;
 
 /// A call that was checked.
@@ -21,7 +21,7 @@ pub struct AsmCall<'a> {
     pub faults: Vec<AsmFault<'a>>,
 }
 
-/// Adds the faults of templates and operands. Returns `Err` if an allocation fails.
+/// Adds the faults of templates and operands.
 // requires { AllByRecursion (λ t. hashes t.style + length t.text.now + 2 < 2 ^ 64)
 //     templates.now }
 // ensures { OnOk result ((ss : List OperandValue) → Holds ss operands.now
@@ -30,20 +30,19 @@ pub struct AsmCall<'a> {
 //     (template_fault 0 (map seen_template templates.now))) }
 #[inline]
 fn compare<'a>(
-    alloc: Global,
     faults: &mut Vec<AsmFault<'a>>,
     templates: &[Template<'a>],
     operands: &Operands<'a>,
 ) -> Result<(), AllocError> {
     let mut walk = Walk {
-        lookups: Vec::made_in(alloc),
+        lookups: Vec::new(),
         next: 0,
     };
-    let fault = push_templates(alloc, &mut walk, templates)?;
+    let fault = push_templates(&mut walk, templates)?;
     look_up(faults, operands, &walk.lookups)?;
     match fault {
         Some(fault) => faults.try_push(fault)?,
-        None => check_unused(alloc, faults, operands, &walk.lookups)?,
+        None => check_unused(faults, operands, &walk.lookups)?,
     }
     Ok(())
 }
@@ -54,7 +53,7 @@ fn compare<'a>(
 ///
 /// With `options(raw)` the templates have no placeholders, so none is to be given here. For each
 /// template the number of hashes, the length of the text in bytes, and 2 must together fit into a
-/// `usize`. Returns `Err` if an allocation fails.
+/// `usize`.
 // requires { AllByRecursion (λ t. hashes t.style + length t.text.now + 2 < 2 ^ 64)
 //     templates.now }
 // ensures operands { IfOk result (λ x. map seen_operand x.operands.items
@@ -63,13 +62,12 @@ fn compare<'a>(
 //     ≡ asm_faults (map seen_template templates.now) (map seen_operand given.now)) }
 #[inline]
 pub fn asm_faults<'a>(
-    alloc: Global,
     templates: &[Template<'a>],
     given: &[Operand<'a>],
 ) -> Result<AsmCall<'a>, AllocError> {
-    let mut faults = Vec::made_in(alloc);
-    let operands = operands_of(alloc, &mut faults, given)?;
-    compare(alloc, &mut faults, templates, &operands)?;
+    let mut faults = Vec::new();
+    let operands = operands_of(&mut faults, given)?;
+    compare(&mut faults, templates, &operands)?;
     Ok(AsmCall {
         operands: operands.slots,
         faults,

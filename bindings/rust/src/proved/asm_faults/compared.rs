@@ -7,7 +7,7 @@
 use crate::proved::asm_faults::faults::AsmFault;
 use crate::proved::asm_faults::lookups::Lookup;
 use crate::proved::asm_faults::operands::{count_unnamed, index_of, Operand, Operands};
-use crate::shim::alloc::{AllocError, Global};
+use crate::shim::alloc::AllocError;
 use crate::shim::prelude::*;
 
 /// Returns the index of the operand that a lookup means, or `None` if it means none.
@@ -25,16 +25,12 @@ fn meant<'a>(operands: &Operands<'a>, lookup: &Lookup<'a>) -> Option<usize> {
     }
 }
 
-/// Returns of each operand whether a lookup means it. Returns `Err` if an allocation fails.
+/// Returns of each operand whether a lookup means it.
 // ensures { IfOk result (λ v. (ss : List OperandValue) → Holds ss operands.now → (i : ℕ)
 //     → get_or v.items i false ≡ list_any (means ss i) (map seen_lookup lookups.now)) }
 #[inline]
-fn marks<'a>(
-    alloc: Global,
-    operands: &Operands<'a>,
-    lookups: &[Lookup<'a>],
-) -> Result<Vec<bool>, AllocError> {
-    let mut marks = crate::shim::vec_in![alloc; false; operands.slots.len()]?;
+fn marks<'a>(operands: &Operands<'a>, lookups: &[Lookup<'a>]) -> Result<Vec<bool>, AllocError> {
+    let mut marks = crate::shim::try_vec![false; operands.slots.len()]?;
     for lookup in lookups {
         if let Some(index) = meant(operands, lookup) {
             if index < marks.len() {
@@ -52,8 +48,7 @@ fn is_settled(marks: &[bool], index: usize, slot: &Operand<'_>) -> bool {
     matches!(slot, Operand::Register { .. }) || matches!(marks.get(index), Some(true))
 }
 
-/// Adds the index of an operand, unless it is marked or has a register of its own. Returns `Err` if
-/// an allocation fails.
+/// Adds the index of an operand, unless it is marked or has a register of its own.
 // ensures { OnOk result (left.new.items ≡ left.old.items
 //     ++ unused_one (λ i. get_or marks.now i false) index (seen_operand slot.now)) }
 #[inline]
@@ -70,16 +65,12 @@ fn push_unmarked(
 }
 
 /// Returns the indices of the operands that are not marked, but for those with a register of their
-/// own. Returns `Err` if an allocation fails.
+/// own.
 // ensures { IfOk result (λ v. v.items
 //     ≡ unused_from (λ i. get_or marks.now i false) 0 (map seen_operand slots.now)) }
 #[inline]
-fn unmarked(
-    alloc: Global,
-    slots: &[Operand<'_>],
-    marks: &[bool],
-) -> Result<Vec<usize>, AllocError> {
-    let mut left = Vec::made_in(alloc);
+fn unmarked(slots: &[Operand<'_>], marks: &[bool]) -> Result<Vec<usize>, AllocError> {
+    let mut left = Vec::new();
     for (index, slot) in slots.iter().enumerate() {
         push_unmarked(&mut left, marks, index, slot)?;
     }
@@ -115,7 +106,7 @@ fn fault_of<'a>(
     }
 }
 
-/// Adds the faults of lookups. Returns `Err` if an allocation fails.
+/// Adds the faults of lookups.
 // ensures { OnOk result ((ss : List OperandValue) → Holds ss operands.now
 //     → map seen_fault faults.new.items ≡ map seen_fault faults.old.items
 //     ++ filter_map (fault_of ss (count_unnamed ss)) (map seen_lookup lookups.now)) }
@@ -134,7 +125,7 @@ pub(crate) fn look_up<'a>(
     Ok(())
 }
 
-/// Adds the fault of unused operands, if there are any. Returns `Err` if an allocation fails.
+/// Adds the fault of unused operands, if there are any.
 // ensures { OnOk result (map seen_fault faults.new.items ≡ map seen_fault faults.old.items
 //     ++ unused_faults unused.items) }
 #[inline]
@@ -145,20 +136,18 @@ fn push_unused(faults: &mut Vec<AsmFault<'_>>, unused: Vec<usize>) -> Result<(),
     Ok(())
 }
 
-/// Adds the fault of the operands that no lookup means, if there are any. Returns `Err` if an
-/// allocation fails.
+/// Adds the fault of the operands that no lookup means, if there are any.
 // ensures { OnOk result ((ss : List OperandValue) → Holds ss operands.now
 //     → map seen_fault faults.new.items ≡ map seen_fault faults.old.items
 //     ++ unused_faults (unused ss (map seen_lookup lookups.now))) }
 #[inline]
 pub(crate) fn check_unused<'a>(
-    alloc: Global,
     faults: &mut Vec<AsmFault<'a>>,
     operands: &Operands<'a>,
     lookups: &[Lookup<'a>],
 ) -> Result<(), AllocError> {
-    let marks = marks(alloc, operands, lookups)?;
-    let unused = unmarked(alloc, &operands.slots, &marks)?;
+    let marks = marks(operands, lookups)?;
+    let unused = unmarked(&operands.slots, &marks)?;
     push_unused(faults, unused)?;
     Ok(())
 }

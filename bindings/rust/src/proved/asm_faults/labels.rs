@@ -11,7 +11,7 @@ use crate::proved::asm_faults::lookups::bytes_at;
 use crate::proved::asm_faults::operands::{operand_at, Operand};
 use crate::proved::asm_faults::titles::never_used;
 use crate::proved::rustc_parse_format::{Fault, ParseError};
-use crate::shim::alloc::{AllocError, Global};
+use crate::shim::alloc::AllocError;
 use crate::shim::prelude::*;
 
 /// A label under the source of a call.
@@ -35,7 +35,7 @@ fn push_label(
     is_primary: bool,
     text: &str,
 ) -> Result<(), AllocError> {
-    let text = String::made_from(*labels.own_allocator(), text)?;
+    let text = String::made_from(text)?;
     labels.try_push(AsmLabel {
         spot,
         is_primary,
@@ -140,13 +140,12 @@ fn push_second(
     Ok(())
 }
 
-/// Returns the text of the place of an error of a template. Returns `Err` if an allocation
-/// fails.
+/// Returns the text of the place of an error of a template.
 // ensures { IfOk result (λ t. string_bytes t
 //     ≡ (seen_error error.now).label ++ codes " in asm template string") }
 #[inline]
-fn error_text(alloc: Global, error: &ParseError) -> Result<String, AllocError> {
-    let mut text = String::made_from(alloc, &error.label)?;
+fn error_text(error: &ParseError) -> Result<String, AllocError> {
+    let mut text = String::made_from(&error.label)?;
     text.try_push_str(" in asm template string")?;
     Ok(text)
 }
@@ -156,12 +155,11 @@ fn error_text(alloc: Global, error: &ParseError) -> Result<String, AllocError> {
 //     ++ text_labels template (seen_error error.now)) }
 #[inline]
 fn push_error(
-    alloc: Global,
     labels: &mut Vec<AsmLabel>,
     template: usize,
     error: &ParseError,
 ) -> Result<(), AllocError> {
-    let text = error_text(alloc, error)?;
+    let text = error_text(error)?;
     push_label(labels, bytes_at(template, &error.span), true, &text)?;
     push_second(labels, template, error)?;
     Ok(())
@@ -172,13 +170,12 @@ fn push_error(
 //     ++ text_labels template (message (seen_text_fault fault.now))) }
 #[inline]
 fn push_text(
-    alloc: Global,
     labels: &mut Vec<AsmLabel>,
     template: usize,
     fault: &Fault<'_>,
 ) -> Result<(), AllocError> {
-    let error = fault.error(alloc)?;
-    push_error(alloc, labels, template, &error)?;
+    let error = fault.error()?;
+    push_error(labels, template, &error)?;
     Ok(())
 }
 
@@ -201,17 +198,12 @@ fn push_unused(
 }
 
 impl<'a> AsmCall<'a> {
-    /// Returns the labels of one of the faults, in rustc's order. Returns `Err` if an allocation
-    /// fails.
+    /// Returns the labels of one of the faults, in rustc's order.
     // ensures { IfOk result (λ v. map seen_label v.items
     //     ≡ labels (map seen_operand self.now.operands.items) (seen_fault fault.now)) }
     #[inline]
-    pub(crate) fn labels(
-        &self,
-        alloc: Global,
-        fault: &AsmFault<'a>,
-    ) -> Result<Vec<AsmLabel>, AllocError> {
-        let mut labels = Vec::made_in(alloc);
+    pub(crate) fn labels(&self, fault: &AsmFault<'a>) -> Result<Vec<AsmLabel>, AllocError> {
+        let mut labels = Vec::new();
         match fault {
             AsmFault::PositionalAfter { operand, others } => {
                 push_late(&mut labels, &self.operands, *operand, others)?;
@@ -232,7 +224,7 @@ impl<'a> AsmCall<'a> {
                 push_label(&mut labels, *spot, true, "")?;
             }
             AsmFault::Text { template, fault } => {
-                push_text(alloc, &mut labels, *template, fault)?;
+                push_text(&mut labels, *template, fault)?;
             }
             AsmFault::UnusedOperands(unused) => {
                 push_unused(&mut labels, &self.operands, unused)?;

@@ -111,7 +111,7 @@ fn is_long(ty: &str) -> bool {
     length_of(ty) > 1
 }
 
-/// Adds the lookup for the modifier of a placeholder. Returns `Err` if an allocation fails.
+/// Adds the lookup for the modifier of a placeholder.
 // ensures lookups { OnOk result (map seen_lookup lookups.new.items
 //     ≡ map seen_lookup lookups.old.items
 //     ++ modifier_lookups template (seen_argument argument.now).format) }
@@ -131,7 +131,7 @@ fn push_modifier<'a>(
     Ok(())
 }
 
-/// Adds the lookups for a placeholder at a place. Returns `Err` if an allocation fails.
+/// Adds the lookups for a placeholder at a place.
 // requires { walk.old.next ≤ length walk.old.lookups.items }
 // ensures lookups { OnOk result (map seen_lookup walk.new.lookups.items
 //     ≡ map seen_lookup walk.old.lookups.items
@@ -156,7 +156,7 @@ fn push_argument<'a>(
 }
 
 /// Adds the lookups for a piece, where `places` are those of its placeholder and of the later
-/// ones. Returns `Err` if an allocation fails.
+/// ones.
 // requires { walk.old.next ≤ length walk.old.lookups.items }
 // ensures lookups { OnOk result (map seen_lookup walk.new.lookups.items
 //     ≡ map seen_lookup walk.old.lookups.items
@@ -189,7 +189,7 @@ fn places_after<'p>(places: &'p [Range<usize>], piece: &Piece<'_>) -> &'p [Range
 }
 
 /// Adds the lookups for the pieces of a template, whose placeholders have these places, in their
-/// order. Returns `Err` if an allocation fails.
+/// order.
 // requires { walk.old.next ≤ length walk.old.lookups.items }
 // ensures lookups { OnOk result (map seen_lookup walk.new.lookups.items
 //     ≡ map seen_lookup walk.old.lookups.items

@@ -10,7 +10,7 @@ use crate::proved::asm_faults::faults::{AsmFault, AsmSpot};
 use crate::proved::asm_faults::operands::{operand_at, Operand};
 use crate::proved::asm_faults::titles::{given_name, put_number};
 use crate::proved::rustc_parse_format::Fault;
-use crate::shim::alloc::{AllocError, Global};
+use crate::shim::alloc::AllocError;
 use crate::shim::prelude::*;
 
 /// A note or a help of a fault.
@@ -32,7 +32,7 @@ fn push_note(
     text: &str,
     spot: Option<AsmSpot>,
 ) -> Result<(), AllocError> {
-    let text = String::made_from(*notes.own_allocator(), text)?;
+    let text = String::made_from(text)?;
     notes.try_push(AsmNote { text, spot })?;
     Ok(())
 }
@@ -96,11 +96,11 @@ fn push_kind(
     Ok(())
 }
 
-/// Returns how many operands an index may mean, in words. Returns `Err` if an allocation fails.
+/// Returns how many operands an index may mean, in words.
 // ensures { IfOk result (λ t. string_bytes t ≡ count_text count word.now) }
 #[inline]
-fn count_text(alloc: Global, count: usize, word: &str) -> Result<String, AllocError> {
-    let mut text = String::made_in(alloc);
+fn count_text(count: usize, word: &str) -> Result<String, AllocError> {
+    let mut text = String::new();
     put_count(&mut text, count, word)?;
     Ok(text)
 }
@@ -110,32 +110,26 @@ fn count_text(alloc: Global, count: usize, word: &str) -> Result<String, AllocEr
 //     ++ wrong_notes (map seen_operand operands.now) index count) }
 #[inline]
 fn push_wrong(
-    alloc: Global,
     notes: &mut Vec<AsmNote>,
     operands: &[Operand<'_>],
     index: usize,
     count: usize,
 ) -> Result<(), AllocError> {
-    let text = count_text(alloc, count, noun(operands, count))?;
+    let text = count_text(count, noun(operands, count))?;
     push_note(notes, &text, None)?;
     push_kind(notes, index, operand_at(operands, index))?;
     Ok(())
 }
 
-/// Returns the help of a wrong index, or `None` if there is none. Returns `Err` if an allocation
-/// fails.
+/// Returns the help of a wrong index, or `None` if there is none.
 // ensures { IfOk result (λ o. option_map seen_note o
 //     ≡ wrong_help index (slice_get (map seen_operand operands.now) index)) }
 #[inline]
-fn wrong_help(
-    alloc: Global,
-    operands: &[Operand<'_>],
-    index: usize,
-) -> Result<Option<AsmNote>, AllocError> {
+fn wrong_help(operands: &[Operand<'_>], index: usize) -> Result<Option<AsmNote>, AllocError> {
     match operands.get(index) {
         Some(Operand::Register { .. }) => {
             let says = "use the register name directly in the assembly code";
-            let text = String::made_from(alloc, says)?;
+            let text = String::made_from(says)?;
             let spot = Some(AsmSpot::Operand(index));
             Ok(Some(AsmNote { text, spot }))
         }
@@ -147,8 +141,8 @@ fn wrong_help(
 // ensures { OnOk result (map seen_note notes.new.items ≡ map seen_note notes.old.items
 //     ++ text_notes (message (seen_text_fault fault.now)).note) }
 #[inline]
-fn push_text(alloc: Global, notes: &mut Vec<AsmNote>, fault: &Fault<'_>) -> Result<(), AllocError> {
-    let error = fault.error(alloc)?;
+fn push_text(notes: &mut Vec<AsmNote>, fault: &Fault<'_>) -> Result<(), AllocError> {
+    let error = fault.error()?;
     if let Some(note) = &error.note {
         push_note(notes, note, None)?;
     }
@@ -205,42 +199,33 @@ fn unused_start(count: usize) -> &'static str {
     }
 }
 
-/// Returns the help of operands that are not used. Returns `Err` if an allocation fails.
+/// Returns the help of operands that are not used.
 // ensures { IfOk result (λ n. seen_note n
 //     ≡ unused_help (map seen_operand operands.now) unused.now) }
 #[inline]
-fn unused_help(
-    alloc: Global,
-    operands: &[Operand<'_>],
-    unused: &[usize],
-) -> Result<AsmNote, AllocError> {
-    let mut text = String::made_from(alloc, unused_start(unused.len()))?;
+fn unused_help(operands: &[Operand<'_>], unused: &[usize]) -> Result<AsmNote, AllocError> {
+    let mut text = String::made_from(unused_start(unused.len()))?;
     put_placeholders(&mut text, operands, unused)?;
     text.try_push_str(" */\"`")?;
     Ok(AsmNote { text, spot: None })
 }
 
 impl<'a> AsmCall<'a> {
-    /// Returns the notes of one of the faults, in rustc's order. Returns `Err` if an allocation
-    /// fails.
+    /// Returns the notes of one of the faults, in rustc's order.
     // ensures { IfOk result (λ v. map seen_note v.items
     //     ≡ notes (map seen_operand self.now.operands.items) (seen_fault fault.now)) }
     #[inline]
-    pub(crate) fn notes(
-        &self,
-        alloc: Global,
-        fault: &AsmFault<'a>,
-    ) -> Result<Vec<AsmNote>, AllocError> {
-        let mut notes = Vec::made_in(alloc);
+    pub(crate) fn notes(&self, fault: &AsmFault<'a>) -> Result<Vec<AsmNote>, AllocError> {
+        let mut notes = Vec::new();
         match fault {
             AsmFault::WrongIndex {
                 index,
                 positional_count,
                 ..
             } => {
-                push_wrong(alloc, &mut notes, &self.operands, *index, *positional_count)?;
+                push_wrong(&mut notes, &self.operands, *index, *positional_count)?;
             }
-            AsmFault::Text { fault, .. } => push_text(alloc, &mut notes, fault)?,
+            AsmFault::Text { fault, .. } => push_text(&mut notes, fault)?,
             AsmFault::PositionalAfter { .. }
             | AsmFault::RepeatedName { .. }
             | AsmFault::RegisterName { .. }
@@ -252,19 +237,15 @@ impl<'a> AsmCall<'a> {
     }
 
     /// Returns the help of one of the faults, or `None` if it has none. rustc says it after the
-    /// notes. Returns `Err` if an allocation fails.
+    /// notes.
     // ensures { IfOk result (λ o. option_map seen_note o
     //     ≡ help (map seen_operand self.now.operands.items) (seen_fault fault.now)) }
     #[inline]
-    pub(crate) fn help(
-        &self,
-        alloc: Global,
-        fault: &AsmFault<'a>,
-    ) -> Result<Option<AsmNote>, AllocError> {
+    pub(crate) fn help(&self, fault: &AsmFault<'a>) -> Result<Option<AsmNote>, AllocError> {
         match fault {
-            AsmFault::WrongIndex { index, .. } => wrong_help(alloc, &self.operands, *index),
+            AsmFault::WrongIndex { index, .. } => wrong_help(&self.operands, *index),
             AsmFault::UnusedOperands(unused) => {
-                let help = unused_help(alloc, &self.operands, unused)?;
+                let help = unused_help(&self.operands, unused)?;
                 Ok(Some(help))
             }
             AsmFault::PositionalAfter { .. }

@@ -5,7 +5,7 @@
 // by results from outside, and beside what is proved (.ci/bindings) and the original (tools/agree).
 
 use crate::proved::asm_faults::faults::AsmFault;
-use crate::shim::alloc::{AllocError, Global};
+use crate::shim::alloc::AllocError;
 use crate::shim::prelude::*;
 use alloc::collections::BTreeMap;
 
@@ -42,12 +42,12 @@ pub(crate) struct Operands<'a> {
 /// Returns no operands. Does not allocate.
 // ensures { Holds [] result }
 #[inline]
-fn no_operands<'a>(alloc: Global) -> Operands<'a> {
+fn no_operands<'a>() -> Operands<'a> {
     Operands {
-        slots: Vec::made_in(alloc),
-        names: BTreeMap::made_in(alloc),
-        named: Vec::made_in(alloc),
-        registers: Vec::made_in(alloc),
+        slots: Vec::new(),
+        names: BTreeMap::new(),
+        named: Vec::new(),
+        registers: Vec::new(),
     }
 }
 
@@ -58,7 +58,7 @@ pub(crate) fn index_of<'a>(names: &BTreeMap<&'a str, usize>, name: &'a str) -> O
     names.get(&name).copied()
 }
 
-/// Puts a name into a map that does not have it. Returns `Err` if an allocation fails.
+/// Puts a name into a map that does not have it.
 // ensures { OnOk result ((w : Text) → found_in names.new w
 //     ≡ (if bytes_eq w (chars name.now) then Some index else found_in names.old w)) }
 #[inline]
@@ -79,19 +79,19 @@ fn first_of(indices: &[usize]) -> &[usize] {
 }
 
 /// Returns the indices of the first operands that have a name, and then of the first that have a
-/// register of their own. Returns `Err` if an allocation fails.
+/// register of their own.
 // ensures { IfOk result (λ v. (ss : List OperandValue) → Holds ss operands.now
 //     → v.items ≡ others_of ss) }
 #[inline]
-fn others_of(alloc: Global, operands: &Operands<'_>) -> Result<Vec<usize>, AllocError> {
-    let mut others = Vec::made_in(alloc);
+fn others_of(operands: &Operands<'_>) -> Result<Vec<usize>, AllocError> {
+    let mut others = Vec::new();
     others.try_extend_from_slice(first_of(&operands.named))?;
     others.try_extend_from_slice(first_of(&operands.registers))?;
     Ok(others)
 }
 
 /// Adds the fault of an operand without a name and without a register of its own, if these others
-/// stand in front of it. Returns `Err` if an allocation fails.
+/// stand in front of it.
 // ensures { OnOk result (map seen_fault faults.new.items ≡ map seen_fault faults.old.items
 //     ++ late_faults operand others.items) }
 #[inline]
@@ -107,7 +107,7 @@ fn push_late(
 }
 
 /// Adds an operand without a name and without a register of its own, and its fault if it stands
-/// after one that has one of them. Returns `Err` if an allocation fails.
+/// after one that has one of them.
 // ensures held { OnOk result ((ss : List OperandValue) → Holds ss operands.old
 //     → Holds (ss ++ Unnamed ∷ []) operands.new) }
 // ensures outcome { OnOk result ((ss : List OperandValue) → Holds ss operands.old
@@ -119,14 +119,14 @@ fn add_unnamed<'a>(
     faults: &mut Vec<AsmFault<'a>>,
     index: usize,
 ) -> Result<(), AllocError> {
-    let others = others_of(*faults.own_allocator(), operands)?;
+    let others = others_of(operands)?;
     push_late(faults, index, others)?;
     operands.slots.try_push(Operand::Unnamed)?;
     Ok(())
 }
 
 /// Adds an operand with a name, or its fault if that is the name of an earlier one, and the operand
-/// then counts as unnamed. Returns `Err` if an allocation fails.
+/// then counts as unnamed.
 // ensures held { OnOk result ((ss : List OperandValue) → Holds ss operands.old
 //     → index ≡ length ss
 //     → Holds (ss ++ slot ss (Named (chars name.now)) ∷ []) operands.new) }
@@ -157,8 +157,7 @@ fn add_named<'a>(
     Ok(())
 }
 
-/// Adds an operand with a register of its own, and its fault if it has a name. Returns `Err` if an
-/// allocation fails.
+/// Adds an operand with a register of its own, and its fault if it has a name.
 // ensures held { OnOk result ((ss : List OperandValue) → Holds ss operands.old
 //     → index ≡ length ss → Holds (ss ++ Register has_name ∷ []) operands.new) }
 // ensures outcome { OnOk result ((ss : List OperandValue) → Holds ss operands.old
@@ -179,7 +178,7 @@ fn add_register<'a>(
     Ok(())
 }
 
-/// Adds an operand, and its fault if it has one. Returns `Err` if an allocation fails.
+/// Adds an operand, and its fault if it has one.
 // ensures held { OnOk result ((ss : List OperandValue) → Holds ss operands.old
 //     → index ≡ length ss
 //     → Holds (ss ++ slot ss (seen_operand operand.entry) ∷ []) operands.new) }
@@ -224,18 +223,16 @@ pub(crate) fn count_unnamed(operands: &[Operand<'_>]) -> usize {
     count
 }
 
-/// Returns operands as placeholders refer to them, and adds the faults of their list. Returns `Err`
-/// if an allocation fails.
+/// Returns operands as placeholders refer to them, and adds the faults of their list.
 // ensures held { IfOk result (λ a. Holds (slots_after [] (map seen_operand given.now)) a) }
 // ensures outcome { OnOk result (map seen_fault faults.new.items ≡ map seen_fault faults.old.items
 //     ++ faults_from [] 0 (map seen_operand given.now)) }
 #[inline]
 pub(crate) fn operands_of<'a>(
-    alloc: Global,
     faults: &mut Vec<AsmFault<'a>>,
     given: &[Operand<'a>],
 ) -> Result<Operands<'a>, AllocError> {
-    let mut operands = no_operands(alloc);
+    let mut operands = no_operands();
     for (index, operand) in given.iter().enumerate() {
         add(&mut operands, faults, index, *operand)?;
     }

@@ -8,7 +8,7 @@ use crate::proved::asm_faults::faults::AsmFault;
 use crate::proved::asm_faults::lookups::{push_pieces, Walk};
 use crate::proved::rustc_parse_format::{Fault, ParseMode};
 use crate::proved::text_faults::text_fault;
-use crate::shim::alloc::{AllocError, Global};
+use crate::shim::alloc::AllocError;
 use crate::shim::parser::{read_all, Parser};
 use crate::shim::prelude::*;
 
@@ -23,37 +23,35 @@ pub struct Template<'a> {
     pub snippet: Option<&'a str>,
 }
 
-/// Returns a text as a string. Returns `Err` if an allocation fails.
+/// Returns a text as a string.
 // ensures { IfOk result (λ o. seen_snippet o ≡ option_map seen_text text.entry) }
 #[inline]
-fn owned(alloc: Global, text: Option<&str>) -> Result<Option<String>, AllocError> {
+fn owned(text: Option<&str>) -> Result<Option<String>, AllocError> {
     match text {
         None => Ok(None),
-        Some(text) => Ok(Some(String::made_from(alloc, text)?)),
+        Some(text) => Ok(Some(String::made_from(text)?)),
     }
 }
 
-/// Returns the fault of a template that rustc shows, or `None` if it is in the grammar. Returns
-/// `Err` if an allocation fails.
+/// Returns the fault of a template that rustc shows, or `None` if it is in the grammar.
 // requires { hashes template.style + length template.text.now + 2 < 2 ^ 64 }
 // ensures { IfOk result (λ o. option_map seen_text_fault o
 //     ≡ text_fault (start (seen_template template.entry))) }
 #[inline]
-fn fault_of<'a>(alloc: Global, template: Template<'a>) -> Result<Option<Fault<'a>>, AllocError> {
-    let snippet = owned(alloc, template.snippet)?;
+fn fault_of<'a>(template: Template<'a>) -> Result<Option<Fault<'a>>, AllocError> {
+    let snippet = owned(template.snippet)?;
     let mut parser = Parser::new(
-        alloc,
         template.text,
         template.style,
         snippet,
         false,
         ParseMode::InlineAsm,
     )?;
-    let fault = text_fault(alloc, &mut parser)?;
+    let fault = text_fault(&mut parser)?;
     Ok(fault)
 }
 
-/// Adds the lookups for the placeholders of a template. Returns `Err` if an allocation fails.
+/// Adds the lookups for the placeholders of a template.
 // requires fits { hashes template.style + length template.text.now + 2 < 2 ^ 64 }
 // requires few { walk.old.next ≤ length walk.old.lookups.items }
 // ensures lookups { OnOk result (map seen_lookup walk.new.lookups.items
@@ -64,14 +62,12 @@ fn fault_of<'a>(alloc: Global, template: Template<'a>) -> Result<Option<Fault<'a
 // ensures few { OnOk result (walk.new.next ≤ length walk.new.lookups.items) }
 #[inline]
 fn push_template<'a>(
-    alloc: Global,
     walk: &mut Walk<'a>,
     index: usize,
     template: Template<'a>,
 ) -> Result<(), AllocError> {
-    let snippet = owned(alloc, template.snippet)?;
+    let snippet = owned(template.snippet)?;
     let (pieces, parser) = read_all(
-        alloc,
         template.text,
         template.style,
         snippet,
@@ -83,7 +79,7 @@ fn push_template<'a>(
 }
 
 /// Adds the lookups for the placeholders of templates, up to the first that is not in the grammar,
-/// and returns its fault, or `None` if there is none. Returns `Err` if an allocation fails.
+/// and returns its fault, or `None` if there is none.
 // requires fits { AllByRecursion (λ t. hashes t.style + length t.text.now + 2 < 2 ^ 64)
 //     templates.now }
 // requires few { walk.old.next ≤ length walk.old.lookups.items }
@@ -94,18 +90,17 @@ fn push_template<'a>(
 //     ≡ template_fault 0 (map seen_template templates.now)) }
 #[inline]
 pub(crate) fn push_templates<'a>(
-    alloc: Global,
     walk: &mut Walk<'a>,
     templates: &[Template<'a>],
 ) -> Result<Option<AsmFault<'a>>, AllocError> {
     for (index, template) in templates.iter().enumerate() {
-        if let Some(fault) = fault_of(alloc, *template)? {
+        if let Some(fault) = fault_of(*template)? {
             return Ok(Some(AsmFault::Text {
                 template: index,
                 fault,
             }));
         }
-        push_template(alloc, walk, index, *template)?;
+        push_template(walk, index, *template)?;
     }
     Ok(None)
 }

@@ -9,7 +9,7 @@ use crate::proved::asm_faults::checker::AsmCall;
 use crate::proved::asm_faults::faults::AsmFault;
 use crate::proved::asm_faults::operands::Operand;
 use crate::proved::rustc_parse_format::Fault;
-use crate::shim::alloc::{AllocError, Global};
+use crate::shim::alloc::AllocError;
 use crate::shim::itoa::Buffer;
 use crate::shim::prelude::*;
 
@@ -99,8 +99,8 @@ fn unused_title(operands: &[Operand<'_>], unused: &[usize]) -> &'static str {
 //     ++ (codes "invalid asm template string: "
 //     ++ (message (seen_text_fault fault.now)).description)) }
 #[inline]
-fn put_text_title(alloc: Global, out: &mut String, fault: &Fault<'_>) -> Result<(), AllocError> {
-    let error = fault.error(alloc)?;
+fn put_text_title(out: &mut String, fault: &Fault<'_>) -> Result<(), AllocError> {
+    let error = fault.error()?;
     out.try_push_str("invalid asm template string: ")?;
     out.try_push_str(&error.description)?;
     Ok(())
@@ -153,9 +153,7 @@ impl<'a> AsmCall<'a> {
                 out.try_push_str("asm template modifier must be a single character")?;
                 Ok(())
             }
-            AsmFault::Text { fault, .. } => {
-                put_text_title(*self.faults.own_allocator(), out, fault)
-            }
+            AsmFault::Text { fault, .. } => put_text_title(out, fault),
             AsmFault::UnusedOperands(unused) => {
                 out.try_push_str(unused_title(&self.operands, unused))?;
                 Ok(())

@@ -12,7 +12,7 @@ use crate::proved::format_calls::Argument;
 use crate::proved::rust_trees::Token;
 use crate::proved::source_report::{Finding, Help, Label, Note};
 use crate::proved::text_faults::Spot;
-use crate::shim::alloc::{AllocError, Global};
+use crate::shim::alloc::AllocError;
 use crate::shim::prelude::*;
 use core::ops::Range;
 
@@ -67,19 +67,15 @@ fn asm_range(site: AsmSite<'_, '_>, spot: AsmSpot) -> Range<usize> {
     spot_range(one, place)
 }
 
-/// Returns labels with their ranges. Returns `Err` if an allocation fails.
+/// Returns labels with their ranges.
 // ensures primary { IfOk result (λ v. map (λ x. x.is_primary) v.items
 //     ≡ map (λ l. l.is_primary) (map seen_label labels.items)) }
 // ensures texts { IfOk result (λ v. map (λ x. string_bytes x.text) v.items
 //     ≡ map (λ l. l.text) (map seen_label labels.items)) }
 // ensures spans { IfOk result (λ v. All (λ x. IsSpan site.entry.text.now x.range) v.items) }
 #[inline]
-fn labels(
-    alloc: Global,
-    site: AsmSite<'_, '_>,
-    labels: Vec<AsmLabel>,
-) -> Result<Vec<Label>, AllocError> {
-    let mut found = Vec::made_in(alloc);
+fn labels(site: AsmSite<'_, '_>, labels: Vec<AsmLabel>) -> Result<Vec<Label>, AllocError> {
+    let mut found = Vec::new();
     for label in labels {
         found.try_push(Label {
             range: asm_range(site, label.spot),
@@ -90,23 +86,19 @@ fn labels(
     Ok(found)
 }
 
-/// Returns the range of a place, if there is one. Returns `Err` if an allocation fails.
+/// Returns the range of a place, if there is one.
 // ensures count { IfOk result (λ v. length v.items ≡ shown_count spot) }
 // ensures spans { IfOk result (λ v. All (λ r. IsSpan site.entry.text.now r) v.items) }
 #[inline]
-fn ranges(
-    alloc: Global,
-    site: AsmSite<'_, '_>,
-    spot: Option<AsmSpot>,
-) -> Result<Vec<Range<usize>>, AllocError> {
-    let mut found = Vec::made_in(alloc);
+fn ranges(site: AsmSite<'_, '_>, spot: Option<AsmSpot>) -> Result<Vec<Range<usize>>, AllocError> {
+    let mut found = Vec::new();
     if let Some(spot) = spot {
         found.try_push(asm_range(site, spot))?;
     }
     Ok(found)
 }
 
-/// Returns notes with the ranges that they show. Returns `Err` if an allocation fails.
+/// Returns notes with the ranges that they show.
 // ensures texts { IfOk result (λ v. map (λ x. string_bytes x.text) v.items
 //     ≡ map (λ n. n.text) (map seen_note notes.items)) }
 // ensures counts { IfOk result (λ v. map (λ x. length x.ranges.items) v.items
@@ -114,14 +106,10 @@ fn ranges(
 // ensures spans { IfOk result (λ v. All (λ x. All (λ r. IsSpan site.entry.text.now r)
 //     x.ranges.items) v.items) }
 #[inline]
-fn notes(
-    alloc: Global,
-    site: AsmSite<'_, '_>,
-    notes: Vec<AsmNote>,
-) -> Result<Vec<Note>, AllocError> {
-    let mut found = Vec::made_in(alloc);
+fn notes(site: AsmSite<'_, '_>, notes: Vec<AsmNote>) -> Result<Vec<Note>, AllocError> {
+    let mut found = Vec::new();
     for note in notes {
-        let ranges = ranges(alloc, site, note.spot)?;
+        let ranges = ranges(site, note.spot)?;
         found.try_push(Note {
             text: note.text,
             ranges,
@@ -135,12 +123,12 @@ fn notes(
 //     ≡ option_map (λ n. n.text) (option_map seen_note help) }
 // ensures no_edits { IfSome result (λ x. x.edits.items ≡ []) }
 #[inline]
-fn help(alloc: Global, help: Option<AsmNote>) -> Option<Help> {
+fn help(help: Option<AsmNote>) -> Option<Help> {
     match help {
         None => None,
         Some(help) => Some(Help {
             text: help.text,
-            edits: Vec::made_in(alloc),
+            edits: Vec::new(),
         }),
     }
 }
@@ -163,23 +151,22 @@ fn primary_span(site: AsmSite<'_, '_>, labels: &[Label]) -> Range<usize> {
     range_in(site.text, start, end)
 }
 
-/// Returns the finding of a fault of a call. Returns `Err` if an allocation fails.
+/// Returns the finding of a fault of a call.
 // ensures outcome { IfOk result (λ x. TellsAsm (map seen_operand call.now.operands.items)
 //     (seen_fault fault.now) x) }
 // ensures spans { IfOk result (λ x. HasSpans site.entry.text.now x) }
 #[inline]
 fn finding<'c>(
-    alloc: Global,
     site: AsmSite<'_, '_>,
     call: &AsmCall<'c>,
     fault: &AsmFault<'c>,
 ) -> Result<Finding, AllocError> {
-    let mut title = String::made_in(alloc);
+    let mut title = String::new();
     call.put_title(&mut title, fault)?;
-    let labels = labels(alloc, site, call.labels(alloc, fault)?)?;
+    let labels = labels(site, call.labels(fault)?)?;
     let span = primary_span(site, &labels);
-    let notes = notes(alloc, site, call.notes(alloc, fault)?)?;
-    let help = help(alloc, call.help(alloc, fault)?);
+    let notes = notes(site, call.notes(fault)?)?;
+    let help = help(call.help(fault)?);
     Ok(Finding {
         is_warning: false,
         id: fault.id(),
@@ -198,8 +185,7 @@ fn is_template_fault(fault: &AsmFault<'_>) -> bool {
     matches!(fault, AsmFault::Text { .. })
 }
 
-/// Adds the finding of a fault of a call, unless only that of a template counts. Returns `Err` if
-/// an allocation fails.
+/// Adds the finding of a fault of a call, unless only that of a template counts.
 // ensures outcome { OnOk result ((xs : List FindingValue)
 //     × (findings.new.items ≡ findings.old.items ++ xs)
 //     × TellAllAsm (map seen_operand call.now.operands.items)
@@ -208,7 +194,6 @@ fn is_template_fault(fault: &AsmFault<'_>) -> bool {
 //     → All (HasSpans site.entry.text.now) findings.new.items) }
 #[inline]
 fn put_finding<'c>(
-    alloc: Global,
     findings: &mut Vec<Finding>,
     site: AsmSite<'_, '_>,
     call: &AsmCall<'c>,
@@ -216,13 +201,12 @@ fn put_finding<'c>(
     is_whole: bool,
 ) -> Result<(), AllocError> {
     if is_whole || is_template_fault(fault) {
-        findings.try_push(finding(alloc, site, call, fault)?)?;
+        findings.try_push(finding(site, call, fault)?)?;
     }
     Ok(())
 }
 
-/// Adds the findings of the faults of a call, or only that of a template. Returns `Err` if an
-/// allocation fails.
+/// Adds the findings of the faults of a call, or only that of a template.
 // ensures outcome { OnOk result ((xs : List FindingValue)
 //     × (findings.new.items ≡ findings.old.items ++ xs)
 //     × TellAllAsm (map seen_operand call.now.operands.items)
@@ -231,14 +215,13 @@ fn put_finding<'c>(
 //     → All (HasSpans site.entry.text.now) findings.new.items) }
 #[inline]
 pub fn put_findings<'c>(
-    alloc: Global,
     findings: &mut Vec<Finding>,
     site: AsmSite<'_, '_>,
     call: &AsmCall<'c>,
     is_whole: bool,
 ) -> Result<(), AllocError> {
     for fault in &call.faults {
-        put_finding(alloc, findings, site, call, fault, is_whole)?;
+        put_finding(findings, site, call, fault, is_whole)?;
     }
     Ok(())
 }

@@ -13,7 +13,7 @@ use crate::proved::format_calls::{
 };
 use crate::proved::rust_trees::Token;
 use crate::proved::source_report::{CallReading, Finding};
-use crate::shim::alloc::{AllocError, Global};
+use crate::shim::alloc::AllocError;
 use crate::shim::prelude::*;
 
 /// Returns how much of a call is read where the number of its arguments is known, and where not.
@@ -56,7 +56,7 @@ struct Operands<'a> {
     is_unknown: bool,
 }
 
-/// Adds an argument after the templates. Returns `Err` if an allocation fails.
+/// Adds an argument after the templates.
 // requires { argument.now.start < length part.now }
 // ensures list { OnOk result (map seen_operand found.new.list.items
 //     ≡ map seen_operand found.old.list.items
@@ -81,7 +81,7 @@ fn add<'a>(
     Ok(())
 }
 
-/// Returns the arguments after the templates. Returns `Err` if an allocation fails.
+/// Returns the arguments after the templates.
 // requires { AllByRecursion (λ a. a.start < length part.now) arguments.now }
 // ensures list { IfOk result (λ o. map seen_operand o.list.items
 //     ≡ operands part.now arguments.now) }
@@ -89,14 +89,10 @@ fn add<'a>(
 // ensures unknown { IfOk result (λ o. o.is_unknown
 //     ≡ is_unknown part.now arguments.now) }
 #[inline]
-fn operands_of<'a>(
-    alloc: Global,
-    part: &Part<'a>,
-    arguments: &[Argument],
-) -> Result<Operands<'a>, AllocError> {
+fn operands_of<'a>(part: &Part<'a>, arguments: &[Argument]) -> Result<Operands<'a>, AllocError> {
     let mut found = Operands {
-        list: Vec::made_in(alloc),
-        arguments: Vec::made_in(alloc),
+        list: Vec::new(),
+        arguments: Vec::new(),
         are_raw: false,
         is_unknown: false,
     };
@@ -124,15 +120,14 @@ fn first_token<'a>(tokens: &[Token<'a>], argument: &Argument) -> Token<'a> {
 //     hashes t.literal.style + length (string_bytes t.literal.text) + 2 < 2 ^ 64)) }
 #[inline]
 fn read_template<'a>(
-    alloc: Global,
     tokens: &[Token<'a>],
     argument: &Argument,
 ) -> Result<Option<Read<'a>>, AllocError> {
     let token = first_token(tokens, argument);
-    let Some(literal) = read_literal(alloc, token.text, false)? else {
+    let Some(literal) = read_literal(token.text, false)? else {
         return Ok(None);
     };
-    let crs = dropped_crs(alloc, token.text)?;
+    let crs = dropped_crs(token.text)?;
     Ok(Some(Read {
         token,
         crs,
@@ -150,13 +145,12 @@ fn read_template<'a>(
 //     hashes t.literal.style + length (string_bytes t.literal.text) + 2 < 2 ^ 64) v.items)) }
 #[inline]
 fn read_templates<'a>(
-    alloc: Global,
     tokens: &[Token<'a>],
     arguments: &[Argument],
 ) -> Result<Option<Vec<Read<'a>>>, AllocError> {
-    let mut found = Vec::made_in(alloc);
+    let mut found = Vec::new();
     for argument in arguments {
-        match read_template(alloc, tokens, argument)? {
+        match read_template(tokens, argument)? {
             Some(template) => found.try_push(template)?,
             None => return Ok(None),
         }
@@ -164,15 +158,15 @@ fn read_templates<'a>(
     Ok(Some(found))
 }
 
-/// Returns templates as placeholders are read in them. Returns `Err` if an allocation fails.
+/// Returns templates as placeholders are read in them.
 // requires { AllByRecursion (λ t.
 //     hashes t.literal.style + length (string_bytes t.literal.text) + 2 < 2 ^ 64) read.now }
 // ensures seen { IfOk result (λ v. map seen_template v.items ≡ map seen_read read.now) }
 // ensures short { IfOk result (λ v. AllByRecursion (λ t.
 //     hashes t.style + length t.text.now + 2 < 2 ^ 64) v.items) }
 #[inline]
-fn templates_of<'c>(alloc: Global, read: &'c [Read<'_>]) -> Result<Vec<Template<'c>>, AllocError> {
-    let mut found = Vec::made_in(alloc);
+fn templates_of<'c>(read: &'c [Read<'_>]) -> Result<Vec<Template<'c>>, AllocError> {
+    let mut found = Vec::new();
     for template in read {
         found.try_push(Template {
             text: template.literal.text.as_str(),
@@ -183,8 +177,7 @@ fn templates_of<'c>(alloc: Global, read: &'c [Read<'_>]) -> Result<Vec<Template<
     Ok(found)
 }
 
-/// Checks a call with these templates and operands, and adds its findings. Returns `Err` if an
-/// allocation fails.
+/// Checks a call with these templates and operands, and adds its findings.
 // requires { AllByRecursion (λ t. hashes t.style + length t.text.now + 2 < 2 ^ 64)
 //     templates.now }
 // ensures outcome { OnOk result ((xs : List FindingValue)
@@ -195,20 +188,18 @@ fn templates_of<'c>(alloc: Global, read: &'c [Read<'_>]) -> Result<Vec<Template<
 //     → All (HasSpans site.entry.text.now) findings.new.items) }
 #[inline]
 fn check_call<'c>(
-    alloc: Global,
     findings: &mut Vec<Finding>,
     site: AsmSite<'_, '_>,
     templates: &[Template<'c>],
     operands: &[Operand<'c>],
     is_whole: bool,
 ) -> Result<(), AllocError> {
-    let call = asm_faults(alloc, templates, operands)?;
-    put_findings(alloc, findings, site, &call, is_whole)?;
+    let call = asm_faults(templates, operands)?;
+    put_findings(findings, site, &call, is_whole)?;
     Ok(())
 }
 
-/// Returns the templates whose placeholders count: none with `options(raw)`. Returns `Err` if an
-/// allocation fails.
+/// Returns the templates whose placeholders count: none with `options(raw)`.
 // requires { AllByRecursion (λ t.
 //     hashes t.literal.style + length (string_bytes t.literal.text) + 2 < 2 ^ 64) read.now }
 // ensures seen { IfOk result (λ v. map seen_template v.items
@@ -216,20 +207,16 @@ fn check_call<'c>(
 // ensures short { IfOk result (λ v. AllByRecursion (λ t.
 //     hashes t.style + length t.text.now + 2 < 2 ^ 64) v.items) }
 #[inline]
-fn read_unless<'c>(
-    alloc: Global,
-    read: &'c [Read<'_>],
-    are_raw: bool,
-) -> Result<Vec<Template<'c>>, AllocError> {
+fn read_unless<'c>(read: &'c [Read<'_>], are_raw: bool) -> Result<Vec<Template<'c>>, AllocError> {
     if are_raw {
-        return Ok(Vec::made_in(alloc));
+        return Ok(Vec::new());
     }
-    let found = templates_of(alloc, read)?;
+    let found = templates_of(read)?;
     Ok(found)
 }
 
 /// Reads a call whose templates are arguments, with the other arguments after them, and adds its
-/// findings. Returns `Err` if an allocation fails.
+/// findings.
 // requires { AllByRecursion (λ a. a.start < length tokens.now) templates.now }
 // ensures read { IfOk result (λ r. (xs : List FindingValue)
 //     × (findings.new.items ≡ findings.old.items ++ xs)
@@ -239,7 +226,6 @@ fn read_unless<'c>(
 //     → All (HasSpans text.now) findings.new.items) }
 #[inline]
 fn read_literals<'s, 'a>(
-    alloc: Global,
     findings: &mut Vec<Finding>,
     text: &'a str,
     tokens: &'s [Token<'a>],
@@ -247,7 +233,7 @@ fn read_literals<'s, 'a>(
     operands: &'s Operands<'a>,
     is_whole: bool,
 ) -> Result<CallReading, AllocError> {
-    let Some(read) = read_templates(alloc, tokens, templates)? else {
+    let Some(read) = read_templates(tokens, templates)? else {
         return Ok(CallReading::Malformed);
     };
     let site = AsmSite {
@@ -256,8 +242,8 @@ fn read_literals<'s, 'a>(
         templates: &read,
         operands: &operands.arguments,
     };
-    let list = read_unless(alloc, &read, operands.are_raw)?;
-    check_call(alloc, findings, site, &list, &operands.list, is_whole)?;
+    let list = read_unless(&read, operands.are_raw)?;
+    check_call(findings, site, &list, &operands.list, is_whole)?;
     Ok(reading_of(is_whole))
 }
 
@@ -269,8 +255,7 @@ fn are_known(is_unknown: bool, is_counted: bool) -> bool {
     !is_unknown && is_counted
 }
 
-/// Reads a call of a macro for inline assembly, and adds its findings. Returns `Err` if an
-/// allocation fails.
+/// Reads a call of a macro for inline assembly, and adds its findings.
 // requires pair { IsPair part.now (call.now.name + 2) call.now.close }
 // requires split { AreArguments part.now (call.now.name + 3) arguments.now call.now.close }
 // ensures read { IfOk result (λ r. (xs : List FindingValue)
@@ -281,7 +266,6 @@ fn are_known(is_unknown: bool, is_counted: bool) -> bool {
 //     → All (HasSpans text.now) findings.new.items) }
 #[inline]
 pub fn read_asm<'a>(
-    alloc: Global,
     findings: &mut Vec<Finding>,
     text: &'a str,
     part: &Part<'a>,
@@ -290,7 +274,7 @@ pub fn read_asm<'a>(
 ) -> Result<CallReading, AllocError> {
     let tokens = part.tokens();
     let count = template_count(tokens, arguments);
-    let operands = operands_of(alloc, part, &arguments[count..])?;
+    let operands = operands_of(part, &arguments[count..])?;
     let extent = extent_of(
         part.source(),
         false,
@@ -300,7 +284,6 @@ pub fn read_asm<'a>(
     );
     let is_whole = are_known(operands.is_unknown, extent.is_counted);
     let reading = read_literals(
-        alloc,
         findings,
         text,
         tokens,

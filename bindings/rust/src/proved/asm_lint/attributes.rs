@@ -12,7 +12,7 @@ use crate::proved::format_calls::{
 use crate::proved::message_faults::names_of;
 use crate::proved::rust_trees::{Source, Token};
 use crate::proved::source_report::Finding;
-use crate::shim::alloc::{AllocError, Global};
+use crate::shim::alloc::AllocError;
 use crate::shim::prelude::*;
 
 /// Returns whether the token of an index is this word.
@@ -101,13 +101,13 @@ struct Front {
     end: usize,
 }
 
-/// Returns the front of the item that starts at a token. Returns `Err` if an allocation fails.
+/// Returns the front of the item that starts at a token.
 // requires { start ≤ length source.now }
 // ensures item { IfOk result (λ f. IsItem source.now start f.starts.items f.end) }
 // ensures forward { IfOk result (λ f. (start ≤ f.end) × (f.end ≤ length source.now)) }
 #[inline]
-fn front_at(alloc: Global, source: &Source<'_>, start: usize) -> Result<Front, AllocError> {
-    let mut starts = Vec::made_in(alloc);
+fn front_at(source: &Source<'_>, start: usize) -> Result<Front, AllocError> {
+    let mut starts = Vec::new();
     let mut end = start;
     while let Some(after) = after_front(source, end) {
         starts.try_push(end)?;
@@ -143,7 +143,7 @@ fn counts(tokens: &[Token<'_>], has_message: bool, has_label: bool, option: &Arg
         || sets(tokens, option, "note")
 }
 
-/// Adds the literal that an option sets, if it counts. Returns `Err` if an allocation fails.
+/// Adds the literal that an option sets, if it counts.
 // requires { option.now.start < length tokens.now }
 // ensures { OnOk result (map leaf found.new.items ≡ map leaf found.old.items
 //     ++ literal_list (counts (map leaf tokens.now) has_message has_label option.now)
@@ -164,8 +164,7 @@ fn put_literal<'a>(
     Ok(())
 }
 
-/// Reads these literals before a trait, and adds their findings. Returns `Err` if an allocation
-/// fails.
+/// Reads these literals before a trait, and adds their findings.
 // requires { HasNames (map (λ p. p.now) item.parameters.now) item.names.now }
 // ensures read { OnOk result ((xs : List FindingValue)
 //     × (findings.new.items ≡ findings.old.items ++ xs) × ReadsTexts (chars item.entry.name.now)
@@ -174,30 +173,24 @@ fn put_literal<'a>(
 //     → All (HasSpans text.now) findings.new.items) }
 #[inline]
 fn read_texts<'a>(
-    alloc: Global,
     findings: &mut Vec<Finding>,
     text: &'a str,
     item: Item<'_, '_>,
     literals: &[Token<'a>],
 ) -> Result<(), AllocError> {
     for literal in literals {
-        read_text(alloc, findings, text, item, literal)?;
+        read_text(findings, text, item, literal)?;
     }
     Ok(())
 }
 
-/// Returns the literals of the options that count, in their order. Returns `Err` if an allocation
-/// fails.
+/// Returns the literals of the options that count, in their order.
 // requires { AllByRecursion (λ a. a.start < length tokens.now) options.now }
 // ensures { IfOk result (λ v. map leaf v.items
 //     ≡ texts_from (map leaf tokens.now) false false options.now) }
 #[inline]
-fn literals<'a>(
-    alloc: Global,
-    tokens: &[Token<'a>],
-    options: &[Argument],
-) -> Result<Vec<Token<'a>>, AllocError> {
-    let mut found = Vec::made_in(alloc);
+fn literals<'a>(tokens: &[Token<'a>], options: &[Argument]) -> Result<Vec<Token<'a>>, AllocError> {
+    let mut found = Vec::new();
     let mut has_message = false;
     let mut has_label = false;
     for option in options {
@@ -209,7 +202,6 @@ fn literals<'a>(
 }
 
 /// Reads the attribute of a trait that stands at a token, if one does, and adds its findings.
-/// Returns `Err` if an allocation fails.
 // requires { HasNames (map (λ p. p.now) item.parameters.now) item.names.now }
 // ensures read { OnOk result ((xs : List FindingValue)
 //     × (findings.new.items ≡ findings.old.items ++ xs) × ReadsAt (chars item.entry.name.now)
@@ -218,7 +210,6 @@ fn literals<'a>(
 //     → All (HasSpans text.now) findings.new.items) }
 #[inline]
 fn read_at<'a>(
-    alloc: Global,
     findings: &mut Vec<Finding>,
     text: &'a str,
     source: &Source<'a>,
@@ -228,16 +219,16 @@ fn read_at<'a>(
     let Some(close) = attribute_at(source, index) else {
         return Ok(());
     };
-    let Some(options) = arguments(alloc, source, close)? else {
+    let Some(options) = arguments(source, close)? else {
         return Ok(());
     };
-    let literals = literals(alloc, source.tokens(), &options)?;
-    read_texts(alloc, findings, text, item, &literals)?;
+    let literals = literals(source.tokens(), &options)?;
+    read_texts(findings, text, item, &literals)?;
     Ok(())
 }
 
 /// Reads the attributes among the parts of the front of a trait, which start at these tokens, and
-/// adds their findings. Returns `Err` if an allocation fails.
+/// adds their findings.
 // requires { HasNames (map (λ p. p.now) item.parameters.now) item.names.now }
 // ensures read { OnOk result ((xs : List FindingValue)
 //     × (findings.new.items ≡ findings.old.items ++ xs) × ReadsFronts (chars item.entry.name.now)
@@ -246,7 +237,6 @@ fn read_at<'a>(
 //     → All (HasSpans text.now) findings.new.items) }
 #[inline]
 fn read_fronts<'a>(
-    alloc: Global,
     findings: &mut Vec<Finding>,
     text: &'a str,
     source: &Source<'a>,
@@ -254,7 +244,7 @@ fn read_fronts<'a>(
     starts: &[usize],
 ) -> Result<(), AllocError> {
     for start in starts {
-        read_at(alloc, findings, text, source, item, *start)?;
+        read_at(findings, text, source, item, *start)?;
     }
     Ok(())
 }
@@ -269,8 +259,7 @@ fn text_at<'a>(tokens: &[Token<'a>], index: usize) -> &'a str {
     }
 }
 
-/// Reads the attributes of an item with this front, and adds their findings. Returns `Err` if an
-/// allocation fails.
+/// Reads the attributes of an item with this front, and adds their findings.
 // ensures read { OnOk result ((xs : List FindingValue)
 //     × (findings.new.items ≡ findings.old.items ++ xs)
 //     × ReadsItem source.now front.now.starts.items front.now.end xs) }
@@ -278,7 +267,6 @@ fn text_at<'a>(tokens: &[Token<'a>], index: usize) -> &'a str {
 //     → All (HasSpans text.now) findings.new.items) }
 #[inline]
 fn read_item<'a>(
-    alloc: Global,
     findings: &mut Vec<Finding>,
     text: &'a str,
     source: &Source<'a>,
@@ -288,26 +276,24 @@ fn read_item<'a>(
     if !is_word_there(tokens, front.end, "trait") {
         return Ok(());
     }
-    let parameters = parameters(alloc, tokens, front.end + 2)?;
-    let names = names_of(alloc, &parameters)?;
+    let parameters = parameters(tokens, front.end + 2)?;
+    let names = names_of(&parameters)?;
     let item = Item {
         name: text_at(tokens, front.end + 1),
         parameters: &parameters,
         names: &names,
     };
-    read_fronts(alloc, findings, text, source, item, &front.starts)?;
+    read_fronts(findings, text, source, item, &front.starts)?;
     Ok(())
 }
 
-/// Reads the attributes of a file, which has these tokens, and adds their findings. Returns `Err`
-/// if an allocation fails.
+/// Reads the attributes of a file, which has these tokens, and adds their findings.
 // ensures read { OnOk result ((ks : List ℕ) × (xs : List FindingValue)
 //     × (findings.new.items ≡ findings.old.items ++ xs) × ReadsItems source.now 0 ks xs) }
 // ensures spans { OnOk result (All (HasSpans text.now) findings.old.items
 //     → All (HasSpans text.now) findings.new.items) }
 #[inline]
 pub fn read_attributes<'a>(
-    alloc: Global,
     findings: &mut Vec<Finding>,
     text: &'a str,
     source: &Source<'a>,
@@ -315,8 +301,8 @@ pub fn read_attributes<'a>(
     let count = source.tokens().len();
     let mut index = 0;
     while index < count {
-        let front = front_at(alloc, source, index)?;
-        read_item(alloc, findings, text, source, &front)?;
+        let front = front_at(source, index)?;
+        read_item(findings, text, source, &front)?;
         index = front.end + 1;
     }
     Ok(())

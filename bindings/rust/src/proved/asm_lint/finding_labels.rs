@@ -7,23 +7,19 @@
 use crate::proved::asm_lint::spans::{range_in, spot_range, Site};
 use crate::proved::source_report::Label;
 use crate::proved::text_faults::CallLabel;
-use crate::shim::alloc::{AllocError, Global};
+use crate::shim::alloc::AllocError;
 use crate::shim::prelude::*;
 use core::ops::Range;
 
-/// Returns labels of a call with their ranges. Returns `Err` if an allocation fails.
+/// Returns labels of a call with their ranges.
 // ensures primary { IfOk result (λ v. map (λ x. x.is_primary) v.items
 //     ≡ map (λ l. l.is_primary) (map seen_label labels.items)) }
 // ensures texts { IfOk result (λ v. map (λ x. string_bytes x.text) v.items
 //     ≡ map (λ l. l.text) (map seen_label labels.items)) }
 // ensures spans { IfOk result (λ v. All (λ x. IsSpan site.entry.text.now x.range) v.items) }
 #[inline]
-pub fn labels(
-    alloc: Global,
-    site: Site<'_, '_>,
-    labels: Vec<CallLabel>,
-) -> Result<Vec<Label>, AllocError> {
-    let mut found = Vec::made_in(alloc);
+pub fn labels(site: Site<'_, '_>, labels: Vec<CallLabel>) -> Result<Vec<Label>, AllocError> {
+    let mut found = Vec::new();
     for label in labels {
         found.try_push(Label {
             range: spot_range(site, label.spot),

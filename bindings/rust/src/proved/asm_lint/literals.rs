@@ -6,7 +6,7 @@
 
 use crate::proved::piece_listing::literal::literal_text;
 use crate::proved::rust_tokens::split_first;
-use crate::shim::alloc::{AllocError, Global};
+use crate::shim::alloc::AllocError;
 use crate::shim::prelude::*;
 
 /// A string literal that stands for a text.
@@ -36,11 +36,11 @@ fn is_dropped(c: char, rest: &str) -> bool {
     c == '\r' && begins_line(rest)
 }
 
-/// Returns a text without the CR before each LF. Returns `Err` if an allocation fails.
+/// Returns a text without the CR before each LF.
 // ensures { IfOk result (λ s. chars (string_bytes s) ≡ without_crs (chars text.now)) }
 #[inline]
-pub fn without_crs(alloc: Global, text: &str) -> Result<String, AllocError> {
-    let mut lines = String::made_in(alloc);
+pub fn without_crs(text: &str) -> Result<String, AllocError> {
+    let mut lines = String::new();
     let mut rest = text;
     while let Some((c, more)) = split_first(rest) {
         if !is_dropped(c, more) {
@@ -58,7 +58,7 @@ pub fn appends_newline(name: &[u8]) -> bool {
     name == b"println".as_slice() || name == b"eprintln".as_slice() || name == b"writeln".as_slice()
 }
 
-/// Appends a newline to a text, or nothing. Returns `Err` if an allocation fails.
+/// Appends a newline to a text, or nothing.
 // ensures text { OnOk result (chars (string_bytes text.new)
 //     ≡ chars (string_bytes text.old) ++ newline appended) }
 // ensures short { OnOk result (length (string_bytes text.new)
@@ -80,13 +80,9 @@ fn put_newline(text: &mut String, appended: bool) -> Result<(), AllocError> {
 // ensures short { IfOk result (λ o. IfSome o (λ l.
 //     hashes l.style + length (string_bytes l.text) + 2 < 2 ^ 64)) }
 #[inline]
-pub fn read_literal(
-    alloc: Global,
-    token: &str,
-    appended_newline: bool,
-) -> Result<Option<Literal>, AllocError> {
-    let snippet = without_crs(alloc, token)?;
-    let Some((mut text, style)) = literal_text(alloc, snippet.as_str())? else {
+pub fn read_literal(token: &str, appended_newline: bool) -> Result<Option<Literal>, AllocError> {
+    let snippet = without_crs(token)?;
+    let Some((mut text, style)) = literal_text(snippet.as_str())? else {
         return Ok(None);
     };
     put_newline(&mut text, appended_newline)?;
@@ -98,11 +94,10 @@ pub fn read_literal(
 }
 
 /// Returns the CRs of a token that its literal with lines that end with LF does not have, each as
-/// the byte offset in that literal of the LF after it, in ascending order. Returns `Err` if an
-/// allocation fails.
+/// the byte offset in that literal of the LF after it, in ascending order.
 #[inline]
-pub fn dropped_crs(alloc: Global, token: &str) -> Result<Vec<usize>, AllocError> {
-    let mut found = Vec::made_in(alloc);
+pub fn dropped_crs(token: &str) -> Result<Vec<usize>, AllocError> {
+    let mut found = Vec::new();
     if !token.contains('\r') {
         return Ok(found);
     }

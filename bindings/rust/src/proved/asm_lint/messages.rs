@@ -11,7 +11,7 @@ use crate::proved::asm_lint::spans::Site;
 use crate::proved::message_faults::{message_faults, Message, MessageFault};
 use crate::proved::rust_trees::Token;
 use crate::proved::source_report::{Finding, Help};
-use crate::shim::alloc::{AllocError, Global};
+use crate::shim::alloc::AllocError;
 use crate::shim::prelude::*;
 use alloc::collections::BTreeSet;
 
@@ -26,49 +26,48 @@ pub struct Item<'s, 'a> {
     pub names: &'s BTreeSet<&'a str>,
 }
 
-/// Returns a help, which has no edits. Returns `Err` if an allocation fails.
+/// Returns a help, which has no edits.
 // ensures text { IfOk result (λ o. option_map (λ h. string_bytes h.text) o
 //     ≡ option_map (λ t. t.now) help.entry) }
 // ensures no_edits { IfOk result (λ o. IfSome o (λ h. h.edits.items ≡ [])) }
 #[inline]
-fn help(alloc: Global, help: Option<&str>) -> Result<Option<Help>, AllocError> {
+fn help(help: Option<&str>) -> Result<Option<Help>, AllocError> {
     match help {
         None => Ok(None),
         Some(help) => {
-            let text = String::made_from(alloc, help)?;
-            let edits = Vec::made_in(alloc);
+            let text = String::made_from(help)?;
+            let edits = Vec::new();
             Ok(Some(Help { text, edits }))
         }
     }
 }
 
-/// Returns the finding of a fault, for a trait of this name. Returns `Err` if an allocation fails.
+/// Returns the finding of a fault, for a trait of this name.
 // ensures outcome { IfOk result (λ x. TellsMessage (chars name.now) (seen_fault fault.now) x) }
 // ensures spans { IfOk result (λ x. HasSpans site.entry.text.now x) }
 #[inline]
 fn finding(
-    alloc: Global,
     site: Site<'_, '_>,
     name: &str,
     fault: &MessageFault<'_>,
 ) -> Result<Finding, AllocError> {
-    let mut title = String::made_in(alloc);
-    fault.put_title(alloc, &mut title, name)?;
-    let labels = labels(alloc, site, fault.labels(alloc)?)?;
+    let mut title = String::new();
+    fault.put_title(&mut title, name)?;
+    let labels = labels(site, fault.labels()?)?;
     let span = primary_span(site, &labels);
-    let help = help(alloc, fault.help())?;
+    let help = help(fault.help())?;
     Ok(Finding {
         is_warning: true,
         id: fault.id(),
         title,
         span,
         labels,
-        notes: Vec::made_in(alloc),
+        notes: Vec::new(),
         help,
     })
 }
 
-/// Adds the findings of faults, for a trait of this name. Returns `Err` if an allocation fails.
+/// Adds the findings of faults, for a trait of this name.
 // ensures outcome { OnOk result ((xs : List FindingValue)
 //     × (findings.new.items ≡ findings.old.items ++ xs)
 //     × TellMessages (chars name.now) (map seen_fault faults.now) xs) }
@@ -76,20 +75,18 @@ fn finding(
 //     → All (HasSpans site.entry.text.now) findings.new.items) }
 #[inline]
 fn put_findings(
-    alloc: Global,
     findings: &mut Vec<Finding>,
     site: Site<'_, '_>,
     name: &str,
     faults: &[MessageFault<'_>],
 ) -> Result<(), AllocError> {
     for fault in faults {
-        findings.try_push(finding(alloc, site, name, fault)?)?;
+        findings.try_push(finding(site, name, fault)?)?;
     }
     Ok(())
 }
 
-/// Reads the text that a literal stands for, before a trait, and adds its findings. Returns `Err`
-/// if an allocation fails.
+/// Reads the text that a literal stands for, before a trait, and adds its findings.
 // requires { HasNames (map (λ p. p.now) item.parameters.now) item.names.now }
 // ensures read { OnOk result ((xs : List FindingValue)
 //     × (findings.new.items ≡ findings.old.items ++ xs)
@@ -99,16 +96,15 @@ fn put_findings(
 //     → All (HasSpans text.now) findings.new.items) }
 #[inline]
 pub fn read_text<'a>(
-    alloc: Global,
     findings: &mut Vec<Finding>,
     text: &'a str,
     item: Item<'_, '_>,
     token: &Token<'a>,
 ) -> Result<(), AllocError> {
-    let Some(literal) = read_literal(alloc, token.text, false)? else {
+    let Some(literal) = read_literal(token.text, false)? else {
         return Ok(());
     };
-    let crs = dropped_crs(alloc, token.text)?;
+    let crs = dropped_crs(token.text)?;
     let site = Site {
         text,
         tokens: &[],
@@ -123,7 +119,7 @@ pub fn read_text<'a>(
         snippet: Some(literal.snippet.as_str()),
         parameters: Some(item.names),
     };
-    let faults = message_faults(alloc, message)?;
-    put_findings(alloc, findings, site, item.name, &faults)?;
+    let faults = message_faults(message)?;
+    put_findings(findings, site, item.name, &faults)?;
     Ok(())
 }

@@ -5,7 +5,7 @@
 // by results from outside, and beside what is proved (.ci/bindings) and the original (tools/agree).
 
 use crate::proved::call_faults::faults::CallFault;
-use crate::shim::alloc::{AllocError, Global};
+use crate::shim::alloc::AllocError;
 use crate::shim::prelude::*;
 use alloc::collections::BTreeMap;
 
@@ -39,10 +39,10 @@ pub(crate) struct Arguments<'a> {
 /// Returns no arguments. Does not allocate.
 // ensures { Holds [] result }
 #[inline]
-pub(crate) fn no_arguments<'a>(alloc: Global) -> Arguments<'a> {
+pub(crate) fn no_arguments<'a>() -> Arguments<'a> {
     Arguments {
-        list: Vec::made_in(alloc),
-        indices: BTreeMap::made_in(alloc),
+        list: Vec::new(),
+        indices: BTreeMap::new(),
         has_names: false,
     }
 }
@@ -54,7 +54,7 @@ pub(crate) fn index_of<'a>(indices: &BTreeMap<&'a str, usize>, name: &'a str) ->
     indices.get(&name).copied()
 }
 
-/// Puts a name into a map that does not have it. Returns `Err` if an allocation fails.
+/// Puts a name into a map that does not have it.
 // ensures { OnOk result ((w : Text) → found_in indices.new w
 //     ≡ (if bytes_eq w (chars name.now) then Some index else found_in indices.old w)) }
 #[inline]
@@ -79,7 +79,7 @@ fn first_of<'a>(arguments: &Arguments<'a>, given: &FormatArgument<'a>) -> Option
     }
 }
 
-/// Adds an argument to those that count. Returns `Err` if an allocation fails.
+/// Adds an argument to those that count.
 // ensures { OnOk result ((ks : List KeptValue) → Holds ks arguments.old
 //     → first_of ks (seen_given given.entry) ≡ None
 //     → Holds (ks ++ record { index = index; given = seen_given given.entry } ∷ [])
@@ -99,7 +99,6 @@ fn keep<'a>(
 }
 
 /// Adds an argument to those that count, unless an earlier one has its name, which is then a fault.
-/// Returns `Err` if an allocation fails.
 // ensures kept { OnOk result ((ks : List KeptValue) → Holds ks arguments.old
 //     → Holds (with_given ks index (seen_given given.entry)) arguments.new) }
 // ensures outcome { OnOk result ((ks : List KeptValue) → Holds ks arguments.old
@@ -127,12 +126,11 @@ fn is_late<'a>(arguments: &Arguments<'a>, given: &FormatArgument<'a>) -> bool {
     given.name.is_none() && arguments.has_names
 }
 
-/// Returns the indices of those of arguments that have a name. Returns `Err` if an allocation
-/// fails.
+/// Returns the indices of those of arguments that have a name.
 // ensures { IfOk result (λ v. v.items ≡ named_of (map seen_kept list.now)) }
 #[inline]
-fn named_of(alloc: Global, list: &[Kept<'_>]) -> Result<Vec<usize>, AllocError> {
-    let mut named = Vec::made_in(alloc);
+fn named_of(list: &[Kept<'_>]) -> Result<Vec<usize>, AllocError> {
+    let mut named = Vec::new();
     for kept in list {
         if kept.given.name.is_some() {
             named.try_push(kept.index)?;
@@ -142,7 +140,7 @@ fn named_of(alloc: Global, list: &[Kept<'_>]) -> Result<Vec<usize>, AllocError> 
 }
 
 /// Returns the arguments that count, or `None` if the first one without a name after one with a
-/// name ends the list. Adds the faults of the list. Returns `Err` if an allocation fails.
+/// name ends the list. Adds the faults of the list.
 // ensures outcome { OnOk result (map seen_fault faults.new.items ≡ map seen_fault faults.old.items
 //     ++ list_faults [] 0 (map seen_given given.now)) }
 // ensures some { IfOk result (λ o. IfSome o (λ a.
@@ -151,14 +149,13 @@ fn named_of(alloc: Global, list: &[Kept<'_>]) -> Result<Vec<usize>, AllocError> 
 //     list_any is_last (list_faults [] 0 (map seen_given given.now)) ≡ not (is_some o)) }
 #[inline]
 pub(crate) fn arguments_of<'a>(
-    alloc: Global,
     faults: &mut Vec<CallFault<'a>>,
     given: &[FormatArgument<'a>],
 ) -> Result<Option<Arguments<'a>>, AllocError> {
-    let mut arguments = no_arguments(alloc);
+    let mut arguments = no_arguments();
     for (index, argument) in given.iter().enumerate() {
         if is_late(&arguments, argument) {
-            let named = named_of(alloc, &arguments.list)?;
+            let named = named_of(&arguments.list)?;
             faults.try_push(CallFault::PositionalAfterNamed { index, named })?;
             return Ok(None);
         }

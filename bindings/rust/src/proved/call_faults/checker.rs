@@ -11,7 +11,7 @@ use crate::proved::call_faults::lookups::lookups_of;
 use crate::proved::call_faults::spots::counts_before;
 use crate::proved::rustc_parse_format::{Fault, ParseMode, Piece};
 use crate::proved::text_faults::text_fault;
-use crate::shim::alloc::{AllocError, Global};
+use crate::shim::alloc::AllocError;
 use crate::shim::parser::{read_all, Parser};
 use crate::shim::prelude::*;
 
@@ -48,38 +48,35 @@ pub struct CallReport<'a> {
     pub faults: Vec<CallFault<'a>>,
 }
 
-/// Returns a text as a string. Returns `Err` if an allocation fails.
+/// Returns a text as a string.
 // ensures { IfOk result (λ o. seen_snippet o ≡ option_map seen_text text.entry) }
 #[inline]
-fn owned(alloc: Global, text: Option<&str>) -> Result<Option<String>, AllocError> {
+fn owned(text: Option<&str>) -> Result<Option<String>, AllocError> {
     match text {
         None => Ok(None),
-        Some(text) => Ok(Some(String::made_from(alloc, text)?)),
+        Some(text) => Ok(Some(String::made_from(text)?)),
     }
 }
 
 /// Returns the fault of a format string that rustc shows, or `None` if it is in the grammar.
-/// Returns `Err` if an allocation fails.
 // requires { hashes string.style + length string.text.now + 2 < 2 ^ 64 }
 // ensures { IfOk result (λ o. option_map seen_text_fault o ≡ text_fault (start string.entry)) }
 #[inline]
-fn fault_of<'a>(alloc: Global, string: FormatString<'a>) -> Result<Option<Fault<'a>>, AllocError> {
-    let snippet = owned(alloc, string.snippet)?;
+fn fault_of<'a>(string: FormatString<'a>) -> Result<Option<Fault<'a>>, AllocError> {
+    let snippet = owned(string.snippet)?;
     let mut parser = Parser::new(
-        alloc,
         string.text,
         string.style,
         snippet,
         string.appended_newline,
         ParseMode::Format,
     )?;
-    let fault = text_fault(alloc, &mut parser)?;
+    let fault = text_fault(&mut parser)?;
     Ok(fault)
 }
 
 /// Returns the faults of a call whose format string has these pieces, and puts the indices of
-/// the arguments that count into `kept`. `is_read` is whether the string is in the grammar. Returns
-/// `Err` if an allocation fails.
+/// the arguments that count into `kept`. `is_read` is whether the string is in the grammar.
 // requires { hashes string.style + length string.text.now + 2 < 2 ^ 64 }
 // ensures kept { OnOk result (kept.old.items ≡ []
 //     → kept.new.items ≡ kept_indices (map seen_given given.now)) }
@@ -88,27 +85,25 @@ fn fault_of<'a>(alloc: Global, string: FormatString<'a>) -> Result<Option<Fault<
 //     (text_fault (start string.entry)) (map seen pieces.now)) }
 #[inline]
 fn faults_of<'a>(
-    alloc: Global,
     string: FormatString<'a>,
     is_read: bool,
     pieces: &[Piece<'a>],
     given: &[FormatArgument<'a>],
     kept: &mut Vec<usize>,
 ) -> Result<Vec<CallFault<'a>>, AllocError> {
-    let mut faults = Vec::made_in(alloc);
-    let Some(mut arguments) = arguments_of(alloc, &mut faults, given)? else {
+    let mut faults = Vec::new();
+    let Some(mut arguments) = arguments_of(&mut faults, given)? else {
         return Ok(faults);
     };
-    *kept = indices_of(alloc, &arguments.list)?;
+    *kept = indices_of(&arguments.list)?;
     if !is_read {
-        if let Some(fault) = fault_of(alloc, string)? {
+        if let Some(fault) = fault_of(string)? {
             faults.try_push(CallFault::Text(fault))?;
         }
         return Ok(faults);
     }
-    let lookups = lookups_of(alloc, pieces)?;
+    let lookups = lookups_of(pieces)?;
     compare(
-        alloc,
         &mut faults,
         string.captures,
         &mut arguments,
@@ -123,7 +118,6 @@ fn faults_of<'a>(
 /// faults, as rustc reports them. A placeholder's spans are those of the parser.
 ///
 /// The number of hashes, the length of the text in bytes, and 2 must together fit into a `usize`.
-/// Returns `Err` if an allocation fails.
 // requires { hashes string.style + length string.text.now + 2 < 2 ^ 64 }
 // The pieces and the parser are those of the calls of a parser at the start of the string, and
 // the faults are those that the definition names, in its order.
@@ -142,13 +136,11 @@ fn faults_of<'a>(
 //     ↔ IsClean string.entry.captures (map seen_given given.now) (chars string.entry.text.now)) }
 #[inline]
 pub fn call_faults<'a>(
-    alloc: Global,
     string: FormatString<'a>,
     given: &'a [FormatArgument<'a>],
 ) -> Result<CallReport<'a>, AllocError> {
-    let snippet = owned(alloc, string.snippet)?;
+    let snippet = owned(string.snippet)?;
     let (pieces, parser) = read_all(
-        alloc,
         string.text,
         string.style,
         snippet,
@@ -156,9 +148,9 @@ pub fn call_faults<'a>(
         ParseMode::Format,
     )?;
     let is_read = parser.errors().is_empty();
-    let mut kept = Vec::made_in(alloc);
-    let faults = faults_of(alloc, string, is_read, &pieces, given, &mut kept)?;
-    let counts = counts_before(alloc, &pieces)?;
+    let mut kept = Vec::new();
+    let faults = faults_of(string, is_read, &pieces, given, &mut kept)?;
+    let counts = counts_before(&pieces)?;
     Ok(CallReport {
         given,
         kept,

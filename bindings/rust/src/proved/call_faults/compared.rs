@@ -7,7 +7,7 @@
 use crate::proved::call_faults::arguments::{index_of, insert, Arguments, Kept};
 use crate::proved::call_faults::faults::{CallFault, Missing, Part};
 use crate::proved::call_faults::lookups::{Lookup, Wanted};
-use crate::shim::alloc::{AllocError, Global};
+use crate::shim::alloc::AllocError;
 use crate::shim::prelude::*;
 use alloc::collections::BTreeMap;
 
@@ -23,19 +23,17 @@ fn meant<'a>(arguments: &Arguments<'a>, lookup: &Lookup<'a>) -> Option<usize> {
     }
 }
 
-/// Returns of each argument whether a lookup means it, if there are `count` ones. Returns `Err` if
-/// an allocation fails.
+/// Returns of each argument whether a lookup means it, if there are `count` ones.
 // ensures { IfOk result (λ v. (ks : List KeptValue) → Holds ks arguments.now
 //     → AllByRecursion (λ k. k.index < count) ks → (i : ℕ) → get_or v.items i false
 //     ≡ list_any (means ks i) (map seen_lookup lookups.now)) }
 #[inline]
 fn marks<'a>(
-    alloc: Global,
     arguments: &Arguments<'a>,
     count: usize,
     lookups: &[Lookup<'a>],
 ) -> Result<Vec<bool>, AllocError> {
-    let mut marks = crate::shim::vec_in![alloc; false; count]?;
+    let mut marks = crate::shim::try_vec![false; count]?;
     for lookup in lookups {
         if let Some(index) = meant(arguments, lookup) {
             if index < marks.len() {
@@ -58,17 +56,12 @@ fn beyond(count: usize, lookup: &Lookup<'_>) -> Option<Missing> {
     }
 }
 
-/// Returns the references by an index that is at least `count`. Returns `Err` if an allocation
-/// fails.
+/// Returns the references by an index that is at least `count`.
 // ensures { IfOk result (λ v. v.items
 //     ≡ filter_map (beyond count) (map seen_lookup lookups.now)) }
 #[inline]
-fn references_from(
-    alloc: Global,
-    count: usize,
-    lookups: &[Lookup<'_>],
-) -> Result<Vec<Missing>, AllocError> {
-    let mut missing = Vec::made_in(alloc);
+fn references_from(count: usize, lookups: &[Lookup<'_>]) -> Result<Vec<Missing>, AllocError> {
+    let mut missing = Vec::new();
     for lookup in lookups {
         if let Some(reference) = beyond(count, lookup) {
             missing.try_push(reference)?;
@@ -77,16 +70,12 @@ fn references_from(
     Ok(missing)
 }
 
-/// Returns the arguments that are not marked. Returns `Err` if an allocation fails.
+/// Returns the arguments that are not marked.
 // ensures { IfOk result (λ v. map seen_kept v.items
 //     ≡ filter (λ k. not (get_or marks.now k.index false)) (map seen_kept arguments.now)) }
 #[inline]
-fn unmarked<'a>(
-    alloc: Global,
-    arguments: &[Kept<'a>],
-    marks: &[bool],
-) -> Result<Vec<Kept<'a>>, AllocError> {
-    let mut left = Vec::made_in(alloc);
+fn unmarked<'a>(arguments: &[Kept<'a>], marks: &[bool]) -> Result<Vec<Kept<'a>>, AllocError> {
+    let mut left = Vec::new();
     for kept in arguments {
         if !matches!(marks.get(kept.index), Some(true)) {
             left.try_push(*kept)?;
@@ -96,8 +85,7 @@ fn unmarked<'a>(
 }
 
 /// Adds the fault of a lookup: of a trait that does not exist, or of a name that no variable is
-/// captured for and that `indices` does not have, which it is then put into. Returns `Err` if an
-/// allocation fails.
+/// captured for and that `indices` does not have, which it is then put into.
 // ensures { OnOk result ((known : List Text) → KnowsNames known indices.old
 //     → (now : List Text) × KnowsNames now indices.new × ((ls : List LookupValue)
 //     → map seen_fault faults.new.items ++ lookup_faults captures now ls
@@ -123,7 +111,7 @@ fn look_up_one<'a>(
     Ok(())
 }
 
-/// Adds the faults of lookups, one after the other. Returns `Err` if an allocation fails.
+/// Adds the faults of lookups, one after the other.
 // ensures { OnOk result ((known : List Text) → KnowsNames known indices.old
 //     → map seen_fault faults.new.items ≡ map seen_fault faults.old.items
 //     ++ lookup_faults captures known (map seen_lookup lookups.now)) }
@@ -152,16 +140,12 @@ fn misses_name(faults: &[CallFault<'_>]) -> bool {
     false
 }
 
-/// Returns a map that has the names that are the positions of placeholders. Returns `Err` if an
-/// allocation fails.
+/// Returns a map that has the names that are the positions of placeholders.
 // ensures { IfOk result (λ m. (w : Text) → is_some (found_in m w)
 //     ≡ list_any (is_position w) (map seen_lookup lookups.now)) }
 #[inline]
-fn positions_of<'a>(
-    alloc: Global,
-    lookups: &[Lookup<'a>],
-) -> Result<BTreeMap<&'a str, usize>, AllocError> {
-    let mut names = BTreeMap::made_in(alloc);
+fn positions_of<'a>(lookups: &[Lookup<'a>]) -> Result<BTreeMap<&'a str, usize>, AllocError> {
+    let mut names = BTreeMap::new();
     for lookup in lookups {
         if let Lookup::Refer(reference, Wanted::Name(name)) = lookup {
             if matches!(reference.part, Part::Position) {
@@ -183,21 +167,16 @@ fn is_redundant<'a>(positions: &BTreeMap<&'a str, usize>, kept: &Kept<'a>) -> bo
     }
 }
 
-/// Returns the indices of the redundant ones of arguments that no lookup means. Returns `Err` if an
-/// allocation fails.
+/// Returns the indices of the redundant ones of arguments that no lookup means.
 // ensures { IfOk result (λ v. v.items ≡ indices
 //     (filter (is_redundant (map seen_lookup lookups.now)) (map seen_kept left.now))) }
 #[inline]
-fn redundant_of<'a>(
-    alloc: Global,
-    left: &[Kept<'a>],
-    lookups: &[Lookup<'a>],
-) -> Result<Vec<usize>, AllocError> {
-    let mut redundant = Vec::made_in(alloc);
+fn redundant_of<'a>(left: &[Kept<'a>], lookups: &[Lookup<'a>]) -> Result<Vec<usize>, AllocError> {
+    let mut redundant = Vec::new();
     if left.is_empty() {
         return Ok(redundant);
     }
-    let positions = positions_of(alloc, lookups)?;
+    let positions = positions_of(lookups)?;
     for kept in left {
         if is_redundant(&positions, kept) {
             redundant.try_push(kept.index)?;
@@ -206,35 +185,33 @@ fn redundant_of<'a>(
     Ok(redundant)
 }
 
-/// Returns the indices of arguments. Returns `Err` if an allocation fails.
+/// Returns the indices of arguments.
 // ensures { IfOk result (λ v. v.items ≡ indices (map seen_kept arguments.now)) }
 #[inline]
-pub(crate) fn indices_of(alloc: Global, arguments: &[Kept<'_>]) -> Result<Vec<usize>, AllocError> {
-    let mut indices = Vec::made_in(alloc);
+pub(crate) fn indices_of(arguments: &[Kept<'_>]) -> Result<Vec<usize>, AllocError> {
+    let mut indices = Vec::new();
     for kept in arguments {
         indices.try_push(kept.index)?;
     }
     Ok(indices)
 }
 
-/// Adds the fault of arguments that no lookup means: of the redundant ones, or else of all. Returns
-/// `Err` if an allocation fails.
+/// Adds the fault of arguments that no lookup means: of the redundant ones, or else of all.
 // ensures { OnOk result (map seen_fault faults.new.items ≡ map seen_fault faults.old.items
 //     ++ left_faults (indices (filter (is_redundant (map seen_lookup lookups.now))
 //     (map seen_kept left.now))) (indices (map seen_kept left.now))) }
 #[inline]
 fn tell_left<'a>(
-    alloc: Global,
     faults: &mut Vec<CallFault<'a>>,
     left: &[Kept<'a>],
     lookups: &[Lookup<'a>],
 ) -> Result<(), AllocError> {
-    let redundant = redundant_of(alloc, left, lookups)?;
+    let redundant = redundant_of(left, lookups)?;
     if !redundant.is_empty() {
         faults.try_push(CallFault::RedundantArguments(redundant))?;
         return Ok(());
     }
-    let unused = indices_of(alloc, left)?;
+    let unused = indices_of(left)?;
     if !unused.is_empty() {
         faults.try_push(CallFault::UnusedArguments(unused))?;
     }
@@ -258,8 +235,7 @@ fn by_index<'a>(arguments: &[Kept<'a>], lookup: &Lookup<'a>) -> Option<CallFault
     }
 }
 
-/// Adds the faults of lookups that mean an argument with a name by its index. Returns `Err` if an
-/// allocation fails.
+/// Adds the faults of lookups that mean an argument with a name by its index.
 // ensures { OnOk result (map seen_fault faults.new.items ≡ map seen_fault faults.old.items
 //     ++ filter_map (by_index (map seen_kept arguments.now)) (map seen_lookup lookups.now)) }
 #[inline]
@@ -276,8 +252,7 @@ fn tell_by_index<'a>(
     Ok(())
 }
 
-/// Adds the fault of references by an index that is too large, if there are any. Returns `Err` if
-/// an allocation fails.
+/// Adds the fault of references by an index that is too large, if there are any.
 // ensures { OnOk result (map seen_fault faults.new.items ≡ map seen_fault faults.old.items
 //     ++ missing_faults missing.items) }
 #[inline]
@@ -296,29 +271,28 @@ fn is_settled(found: &[CallFault<'_>], missing: &[Missing], left: &[Kept<'_>]) -
 }
 
 /// Adds what is wrong between the arguments that count, whose indices are below `count`, and
-/// lookups. Returns `Err` if an allocation fails.
+/// lookups.
 // ensures { OnOk result ((ks : List KeptValue) → Holds ks arguments.old
 //     → AllByRecursion (λ k. k.index < count) ks
 //     → map seen_fault faults.new.items ≡ map seen_fault faults.old.items
 //     ++ compared captures ks (map seen_lookup lookups.now)) }
 #[inline]
 pub(crate) fn compare<'a>(
-    alloc: Global,
     faults: &mut Vec<CallFault<'a>>,
     captures: bool,
     arguments: &mut Arguments<'a>,
     count: usize,
     lookups: &[Lookup<'a>],
 ) -> Result<(), AllocError> {
-    let marks = marks(alloc, arguments, count, lookups)?;
-    let left = unmarked(alloc, &arguments.list, &marks)?;
-    let missing = references_from(alloc, arguments.list.len(), lookups)?;
-    let mut found = Vec::made_in(alloc);
+    let marks = marks(arguments, count, lookups)?;
+    let left = unmarked(&arguments.list, &marks)?;
+    let missing = references_from(arguments.list.len(), lookups)?;
+    let mut found = Vec::new();
     look_up(&mut found, &mut arguments.indices, captures, lookups)?;
     let is_settled = is_settled(&found, &missing, &left);
     faults.try_append(&mut found)?;
     tell_missing(faults, missing)?;
-    tell_left(alloc, faults, &left, lookups)?;
+    tell_left(faults, &left, lookups)?;
     if !is_settled {
         return Ok(());
     }

@@ -13,7 +13,7 @@ use crate::proved::call_faults::spots::{bytes_at, index_spot, CallEdit, CallHelp
 use crate::proved::call_faults::titles::{name_of, put_number};
 use crate::proved::rustc_parse_format::{Fault, Suggestion};
 use crate::proved::text_faults::Spot;
-use crate::shim::alloc::{AllocError, Global};
+use crate::shim::alloc::AllocError;
 use crate::shim::prelude::*;
 use core::ops::Range;
 
@@ -29,14 +29,14 @@ fn plain_edit(spot: Spot, text: String) -> CallEdit {
     }
 }
 
-/// Returns a help with one edit. Returns `Err` if an allocation fails.
+/// Returns a help with one edit.
 // ensures { IfOk result (λ h. seen_help h ≡ record {
 //   text = string_bytes text;
 //   edits = edit spot (string_bytes new) ∷ [];
 // }) }
 #[inline]
-fn single(alloc: Global, text: String, spot: Spot, new: String) -> Result<CallHelp, AllocError> {
-    let mut edits = Vec::made_in(alloc);
+fn single(text: String, spot: Spot, new: String) -> Result<CallHelp, AllocError> {
+    let mut edits = Vec::new();
     edits.try_push(plain_edit(spot, new))?;
     Ok(CallHelp { text, edits })
 }
@@ -53,25 +53,20 @@ fn put_placeholders(out: &mut String, count: usize) -> Result<(), AllocError> {
     Ok(())
 }
 
-/// Returns the help for so many unused arguments, or `None` if there is none. Returns `Err` if an
-/// allocation fails.
+/// Returns the help for so many unused arguments, or `None` if there is none.
 // ensures { IfOk result (λ o. option_map seen_help o
 //     ≡ unused_help (seen_call call.now) count) }
 #[inline]
-fn unused_help(
-    alloc: Global,
-    call: &CallReport<'_>,
-    count: usize,
-) -> Result<Option<CallHelp>, AllocError> {
+fn unused_help(call: &CallReport<'_>, count: usize) -> Result<Option<CallHelp>, AllocError> {
     if are_missing(&call.faults) || count != call.kept.len() {
         return Ok(None);
     }
     let says = "format specifiers use curly braces, consider adding ";
-    let mut text = String::made_from(alloc, says)?;
+    let mut text = String::made_from(says)?;
     put_specifiers(&mut text, count)?;
-    let mut new = String::made_in(alloc);
+    let mut new = String::new();
     put_placeholders(&mut new, count)?;
-    let help = single(alloc, text, Spot::LiteralEnd, new)?;
+    let help = single(text, Spot::LiteralEnd, new)?;
     Ok(Some(help))
 }
 
@@ -95,10 +90,9 @@ fn push_removals(
     given: &[FormatArgument<'_>],
     indices: &[usize],
 ) -> Result<(), AllocError> {
-    let alloc = *edits.own_allocator();
     let mut rest = indices;
     while let Some((index, others)) = rest.split_first() {
-        let text = String::made_in(alloc);
+        let text = String::new();
         let spot = removed_spot(given, *index);
         edits.try_push(plain_edit(spot, text))?;
         rest = others;
@@ -106,22 +100,20 @@ fn push_removals(
     Ok(())
 }
 
-/// Returns the help for redundant arguments, or `None` if there is none. Returns `Err` if an
-/// allocation fails.
+/// Returns the help for redundant arguments, or `None` if there is none.
 // ensures { IfOk result (λ o. option_map seen_help o
 //     ≡ redundant_help (map seen_given given.now) redundant.now) }
 #[inline]
 fn redundant_help(
-    alloc: Global,
     given: &[FormatArgument<'_>],
     redundant: &[usize],
 ) -> Result<Option<CallHelp>, AllocError> {
     if redundant.len() <= 1 || have_names(given) {
         return Ok(None);
     }
-    let mut edits = Vec::made_in(alloc);
+    let mut edits = Vec::new();
     push_removals(&mut edits, given, redundant)?;
-    let text = String::made_from(alloc, "this can be removed")?;
+    let text = String::made_from("this can be removed")?;
     Ok(Some(CallHelp { text, edits }))
 }
 
@@ -135,44 +127,41 @@ fn after_name(part: Part) -> &'static str {
     }
 }
 
-/// Returns the name of an argument as a part of a placeholder has it. Returns `Err` if an
-/// allocation fails.
+/// Returns the name of an argument as a part of a placeholder has it.
 // ensures { IfOk result (λ s. string_bytes s ≡ name_in part (chars name.now)) }
 #[inline]
-fn name_in(alloc: Global, part: Part, name: &str) -> Result<String, AllocError> {
-    let mut text = String::made_from(alloc, name)?;
+fn name_in(part: Part, name: &str) -> Result<String, AllocError> {
+    let mut text = String::made_from(name)?;
     text.try_push_str(after_name(part))?;
     Ok(text)
 }
 
-/// Returns the help for a use by index of an argument with a name. Returns `Err` if an allocation
-/// fails.
+/// Returns the help for a use by index of an argument with a name.
 // ensures { IfOk result (λ h. seen_help h
 //     ≡ by_index_help (seen_call call.now) reference index) }
 #[inline]
 fn by_index_help(
-    alloc: Global,
     call: &CallReport<'_>,
     reference: Reference,
     index: usize,
 ) -> Result<CallHelp, AllocError> {
     let says = "use the named argument by name to avoid ambiguity";
-    let text = String::made_from(alloc, says)?;
-    let new = name_in(alloc, reference.part, name_of(call.given, index))?;
+    let text = String::made_from(says)?;
+    let new = name_in(reference.part, name_of(call.given, index))?;
     let spot = index_spot(&call.pieces, reference);
-    let help = single(alloc, text, spot, new)?;
+    let help = single(text, spot, new)?;
     Ok(help)
 }
 
-/// Returns the help that replaces a text. Returns `Err` if an allocation fails.
+/// Returns the help that replaces a text.
 // ensures { IfOk result (λ h. seen_help h ≡ replacing spot new.now) }
 #[inline]
-fn replacing(alloc: Global, spot: Spot, new: &str) -> Result<CallHelp, AllocError> {
-    let mut text = String::made_from(alloc, "did you mean `")?;
+fn replacing(spot: Spot, new: &str) -> Result<CallHelp, AllocError> {
+    let mut text = String::made_from("did you mean `")?;
     text.try_push_str(new)?;
     text.try_push_str("`?")?;
-    let new = String::made_from(alloc, new)?;
-    let help = single(alloc, text, spot, new)?;
+    let new = String::made_from(new)?;
+    let help = single(text, spot, new)?;
     Ok(help)
 }
 
@@ -199,22 +188,20 @@ fn added_spot(count: usize) -> Spot {
     }
 }
 
-/// Returns the help for an expression at this place of the string. Returns `Err` if an allocation
-/// fails.
+/// Returns the help for an expression at this place of the string.
 // ensures { IfOk result (λ h. seen_help h
 //     ≡ positional_help (map seen_given given.now) (pair span.now)) }
 #[inline]
 fn positional_help(
-    alloc: Global,
     given: &[FormatArgument<'_>],
     span: &Range<usize>,
 ) -> Result<CallHelp, AllocError> {
     let count = unnamed_count(given);
     let spot = bytes_at(span);
-    let mut index = String::made_in(alloc);
+    let mut index = String::new();
     put_number(&mut index, count)?;
-    let comma = String::made_from(alloc, ", ")?;
-    let mut edits = Vec::made_in(alloc);
+    let comma = String::made_from(", ")?;
+    let mut edits = Vec::new();
     edits.try_push(plain_edit(spot, index))?;
     edits.try_push(CallEdit {
         spot: added_spot(count),
@@ -223,21 +210,20 @@ fn positional_help(
         rest: "",
     })?;
     let says = "consider using a positional formatting argument instead";
-    let text = String::made_from(alloc, says)?;
+    let text = String::made_from(says)?;
     Ok(CallHelp { text, edits })
 }
 
-/// Returns the help for `=` after an argument, or `None` unless one argument counts. Returns `Err`
-/// if an allocation fails.
+/// Returns the help for `=` after an argument, or `None` unless one argument counts.
 // ensures { IfOk result (λ o. option_map seen_help o ≡ debug_help kept.now) }
 #[inline]
-fn debug_help(alloc: Global, kept: &[usize]) -> Result<Option<CallHelp>, AllocError> {
+fn debug_help(kept: &[usize]) -> Result<Option<CallHelp>, AllocError> {
     let [index] = kept else {
         return Ok(None);
     };
-    let text = String::made_from(alloc, "use rust debug printing macro")?;
-    let opening = String::made_from(alloc, "dbg!(")?;
-    let mut edits = Vec::made_in(alloc);
+    let text = String::made_from("use rust debug printing macro")?;
+    let opening = String::made_from("dbg!(")?;
+    let mut edits = Vec::new();
     edits.try_push(CallEdit {
         spot: Spot::Call,
         text: opening,
@@ -247,27 +233,22 @@ fn debug_help(alloc: Global, kept: &[usize]) -> Result<Option<CallHelp>, AllocEr
     Ok(Some(CallHelp { text, edits }))
 }
 
-/// Returns the help for a fault of the string, or `None` if it has none that is no label. Returns
-/// `Err` if an allocation fails.
+/// Returns the help for a fault of the string, or `None` if it has none that is no label.
 // ensures { IfOk result (λ o. option_map seen_help o
 //     ≡ text_help (seen_call call.now) (message (seen_text_fault fault.now))) }
 #[inline]
-fn text_help(
-    alloc: Global,
-    call: &CallReport<'_>,
-    fault: &Fault<'_>,
-) -> Result<Option<CallHelp>, AllocError> {
-    let error = fault.error(alloc)?;
+fn text_help(call: &CallReport<'_>, fault: &Fault<'_>) -> Result<Option<CallHelp>, AllocError> {
+    let error = fault.error()?;
     match &error.suggestion {
         Suggestion::ReorderFormatParameter(span, text) => {
-            let help = replacing(alloc, bytes_at(span), text)?;
+            let help = replacing(bytes_at(span), text)?;
             Ok(Some(help))
         }
         Suggestion::UsePositional => {
-            let help = positional_help(alloc, call.given, &error.span)?;
+            let help = positional_help(call.given, &error.span)?;
             Ok(Some(help))
         }
-        Suggestion::UseRustDebugPrintingMacro => debug_help(alloc, &call.kept),
+        Suggestion::UseRustDebugPrintingMacro => debug_help(&call.kept),
         Suggestion::None | Suggestion::RemoveRawIdent(_) | Suggestion::AddMissingColon(_) => {
             Ok(None)
         }
@@ -276,29 +257,22 @@ fn text_help(
 
 impl<'a> CallReport<'a> {
     /// Returns the suggestion of rustc for one of the faults, or `None` if there is none or it is
-    /// in a label. The suggestions for the directives of other languages are left out. Returns
-    /// `Err` if an allocation fails.
+    /// in a label. The suggestions for the directives of other languages are left out.
     // ensures { IfOk result (λ o. option_map seen_help o
     //     ≡ help (seen_call self.now) (seen_fault fault.now)) }
     #[inline]
-    pub(crate) fn help(
-        &self,
-        alloc: Global,
-        fault: &CallFault<'a>,
-    ) -> Result<Option<CallHelp>, AllocError> {
+    pub(crate) fn help(&self, fault: &CallFault<'a>) -> Result<Option<CallHelp>, AllocError> {
         match fault {
             CallFault::PositionalAfterNamed { .. }
             | CallFault::RepeatedName { .. }
             | CallFault::MissingName { .. }
             | CallFault::UnknownTrait { .. }
             | CallFault::MissingArguments(_) => Ok(None),
-            CallFault::Text(fault) => text_help(alloc, self, fault),
-            CallFault::UnusedArguments(unused) => unused_help(alloc, self, unused.len()),
-            CallFault::RedundantArguments(redundant) => {
-                redundant_help(alloc, self.given, redundant)
-            }
+            CallFault::Text(fault) => text_help(self, fault),
+            CallFault::UnusedArguments(unused) => unused_help(self, unused.len()),
+            CallFault::RedundantArguments(redundant) => redundant_help(self.given, redundant),
             CallFault::NameUsedByIndex { reference, index } => {
-                let help = by_index_help(alloc, self, *reference, *index)?;
+                let help = by_index_help(self, *reference, *index)?;
                 Ok(Some(help))
             }
         }

@@ -15,7 +15,7 @@ use crate::proved::call_faults::spots::{
 use crate::proved::call_faults::titles::{have_numbers, name_of, never_used, put_name_between};
 use crate::proved::rustc_parse_format::{Fault, ParseError, Suggestion};
 use crate::proved::text_faults::{CallLabel, Spot};
-use crate::shim::alloc::{AllocError, Global};
+use crate::shim::alloc::AllocError;
 use crate::shim::prelude::*;
 use core::ops::Range;
 
@@ -95,13 +95,9 @@ fn push_second(labels: &mut Vec<CallLabel>, error: &ParseError) -> Result<(), Al
 // ensures { OnOk result (map seen_label labels.new.items ≡ map seen_label labels.old.items
 //     ++ text_labels (message (seen_text_fault fault.now))) }
 #[inline]
-fn push_text(
-    alloc: Global,
-    labels: &mut Vec<CallLabel>,
-    fault: &Fault<'_>,
-) -> Result<(), AllocError> {
-    let error = fault.error(alloc)?;
-    let mut text = String::made_from(alloc, &error.label)?;
+fn push_text(labels: &mut Vec<CallLabel>, fault: &Fault<'_>) -> Result<(), AllocError> {
+    let error = fault.error()?;
+    let mut text = String::made_from(&error.label)?;
     text.try_push_str(" in format string")?;
     push_primary(labels, bytes_at(&error.span), &text)?;
     push_second(labels, &error)?;
@@ -273,12 +269,11 @@ fn by_index_text() -> &'static str {
     "this named argument is referred to by position in formatting string"
 }
 
-/// Returns the label of the use by index of an argument with a name. Returns `Err` if an
-/// allocation fails.
+/// Returns the label of the use by index of an argument with a name.
 // ensures { IfOk result (λ s. string_bytes s ≡ use_text (chars name.now)) }
 #[inline]
-fn use_text(alloc: Global, name: &str) -> Result<String, AllocError> {
-    let mut text = String::made_in(alloc);
+fn use_text(name: &str) -> Result<String, AllocError> {
+    let mut text = String::new();
     let before = "this formatting argument uses named argument ";
     put_name_between(&mut text, before, name, " by position")?;
     Ok(text)
@@ -294,7 +289,7 @@ fn push_by_index(
     reference: Reference,
     index: usize,
 ) -> Result<(), AllocError> {
-    let text = use_text(*labels.own_allocator(), name_of(call.given, index))?;
+    let text = use_text(name_of(call.given, index))?;
     let places = call.parser.arg_places();
     let spot = use_spot(&call.pieces, &call.counts, places, reference);
     push_primary(labels, Spot::Name(index), by_index_text())?;
@@ -305,16 +300,12 @@ fn push_by_index(
 impl<'a> CallReport<'a> {
     /// Returns the labels of one of the faults, as rustc has them. The primary label that begins
     /// first in the source is where rustc says that the fault is. A fault of the string has the
-    /// labels of its error. Returns `Err` if an allocation fails.
+    /// labels of its error.
     // ensures { IfOk result (λ v. map seen_label v.items
     //     ≡ labels (seen_call self.now) (seen_fault fault.now)) }
     #[inline]
-    pub(crate) fn labels(
-        &self,
-        alloc: Global,
-        fault: &CallFault<'a>,
-    ) -> Result<Vec<CallLabel>, AllocError> {
-        let mut labels = Vec::made_in(alloc);
+    pub(crate) fn labels(&self, fault: &CallFault<'a>) -> Result<Vec<CallLabel>, AllocError> {
+        let mut labels = Vec::new();
         match fault {
             CallFault::PositionalAfterNamed { index, named } => {
                 let text = "positional arguments must be before named arguments";
@@ -325,7 +316,7 @@ impl<'a> CallReport<'a> {
                 push_secondary(&mut labels, Spot::Name(*first), "previously here")?;
                 push_primary(&mut labels, Spot::Name(*index), "duplicate argument")?;
             }
-            CallFault::Text(fault) => push_text(alloc, &mut labels, fault)?,
+            CallFault::Text(fault) => push_text(&mut labels, fault)?,
             CallFault::MissingName { reference, .. } => {
                 push_plain(&mut labels, named_spot(&self.pieces, *reference))?;
             }
@@ -334,7 +325,7 @@ impl<'a> CallReport<'a> {
             }
             CallFault::MissingArguments(missing) => {
                 if !have_numbers(&self.pieces) {
-                    return few_labels(alloc, self);
+                    return few_labels(self);
                 }
                 push_missing(&mut labels, &self.pieces, missing)?;
             }

@@ -6,7 +6,7 @@
 
 use crate::proved::call_faults::faults::{Part, Reference};
 use crate::proved::rustc_parse_format::{Argument, Count, Piece, Position};
-use crate::shim::alloc::{AllocError, Global};
+use crate::shim::alloc::AllocError;
 use crate::shim::prelude::*;
 
 /// The argument that a reference wants.
@@ -37,8 +37,7 @@ fn wanted_by<'a>(position: &Position<'a>) -> Wanted<'a> {
     }
 }
 
-/// Adds the reference of a precision or of a width, if it is one. Returns `Err` if an allocation
-/// fails.
+/// Adds the reference of a precision or of a width, if it is one.
 // ensures { OnOk result (map seen_lookup list.new.items ≡ map seen_lookup list.old.items
 //     ++ refer reference.piece reference.part (count_uses (seen_count count.now))) }
 #[inline]
@@ -77,7 +76,7 @@ fn is_known(ty: &str) -> bool {
     }
 }
 
-/// Adds the lookups for a placeholder. Returns `Err` if an allocation fails.
+/// Adds the lookups for a placeholder.
 // ensures { OnOk result (map seen_lookup list.new.items ≡ map seen_lookup list.old.items
 //     ++ argument_lookups piece (seen_argument argument.now)) }
 #[inline]
@@ -102,7 +101,7 @@ fn push_argument<'a>(
     Ok(())
 }
 
-/// Adds the lookups for a piece. Returns `Err` if an allocation fails.
+/// Adds the lookups for a piece.
 // ensures { OnOk result (map seen_lookup list.new.items ≡ map seen_lookup list.old.items
 //     ++ piece_lookups index (seen piece.now)) }
 #[inline]
@@ -117,14 +116,11 @@ fn push_piece<'a>(
     }
 }
 
-/// Returns the lookups for pieces. Returns `Err` if an allocation fails.
+/// Returns the lookups for pieces.
 // ensures { IfOk result (λ v. map seen_lookup v.items ≡ lookups_from 0 (map seen pieces.now)) }
 #[inline]
-pub(crate) fn lookups_of<'a>(
-    alloc: Global,
-    pieces: &[Piece<'a>],
-) -> Result<Vec<Lookup<'a>>, AllocError> {
-    let mut list = Vec::made_in(alloc);
+pub(crate) fn lookups_of<'a>(pieces: &[Piece<'a>]) -> Result<Vec<Lookup<'a>>, AllocError> {
+    let mut list = Vec::new();
     for (index, piece) in pieces.iter().enumerate() {
         push_piece(&mut list, index, piece)?;
     }

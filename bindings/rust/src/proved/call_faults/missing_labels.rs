@@ -13,7 +13,7 @@ use crate::proved::call_faults::spots::{
 use crate::proved::call_faults::titles::put_number;
 use crate::proved::rustc_parse_format::{Count, Piece, Position};
 use crate::proved::text_faults::{CallLabel, Spot};
-use crate::shim::alloc::{AllocError, Global};
+use crate::shim::alloc::AllocError;
 use crate::shim::prelude::*;
 use core::ops::Range;
 
@@ -144,7 +144,7 @@ fn push_star(
     let Some(index) = star_of(&argument.format.precision) else {
         return Ok(());
     };
-    let mut text = String::made_in(*labels.own_allocator());
+    let mut text = String::new();
     put_star(&mut text, index, total)?;
     labels.try_push(CallLabel {
         spot: spot_of(&argument.format.precision_span),
@@ -172,11 +172,8 @@ fn push_stars(
 /// Returns the labels of too few arguments, where none is referred to by a number that is written.
 // ensures { IfOk result (λ v. map seen_label v.items ≡ few_labels (seen_call call.now)) }
 #[inline]
-pub(crate) fn few_labels(
-    alloc: Global,
-    call: &CallReport<'_>,
-) -> Result<Vec<CallLabel>, AllocError> {
-    let mut labels = Vec::made_in(alloc);
+pub(crate) fn few_labels(call: &CallReport<'_>) -> Result<Vec<CallLabel>, AllocError> {
+    let mut labels = Vec::new();
     push_values(&mut labels, &call.kept)?;
     push_stars(&mut labels, call.parser.curarg(), &call.pieces)?;
     push_nexts(&mut labels, &call.pieces, call.parser.arg_places())?;

@@ -13,7 +13,7 @@ use crate::proved::call_faults::spots::{bytes_at, CallNote};
 use crate::proved::call_faults::titles::{have_numbers, put_name_between, put_number};
 use crate::proved::rustc_parse_format::{Alignment, Count, Fault, FormatSpec, Piece, Position};
 use crate::proved::text_faults::Spot;
-use crate::shim::alloc::{AllocError, Global};
+use crate::shim::alloc::AllocError;
 use crate::shim::prelude::*;
 use alloc::collections::BTreeMap;
 
@@ -22,9 +22,8 @@ use alloc::collections::BTreeMap;
 //     ≡ map seen_note notes.old.items ++ plain text.now ∷ []) }
 #[inline]
 fn push_plain(notes: &mut Vec<CallNote>, text: &str) -> Result<(), AllocError> {
-    let alloc = *notes.own_allocator();
-    let text = String::made_from(alloc, text)?;
-    let spots = Vec::made_in(alloc);
+    let text = String::made_from(text)?;
+    let spots = Vec::new();
     notes.try_push(CallNote { text, spots })?;
     Ok(())
 }
@@ -44,23 +43,19 @@ fn push_if(notes: &mut Vec<CallNote>, holds: bool, text: &str) -> Result<(), All
 // ensures { OnOk result (map seen_note notes.new.items ≡ map seen_note notes.old.items
 //     ++ text_notes (message (seen_text_fault fault.now)).note) }
 #[inline]
-fn push_text(
-    alloc: Global,
-    notes: &mut Vec<CallNote>,
-    fault: &Fault<'_>,
-) -> Result<(), AllocError> {
-    let error = fault.error(alloc)?;
+fn push_text(notes: &mut Vec<CallNote>, fault: &Fault<'_>) -> Result<(), AllocError> {
+    let error = fault.error()?;
     if let Some(note) = &error.note {
         push_plain(notes, note)?;
     }
     Ok(())
 }
 
-/// Returns the first note of a name that no argument has. Returns `Err` if an allocation fails.
+/// Returns the first note of a name that no argument has.
 // ensures { IfOk result (λ s. string_bytes s ≡ capture_text (chars name.now)) }
 #[inline]
-fn capture_text(alloc: Global, name: &str) -> Result<String, AllocError> {
-    let mut text = String::made_in(alloc);
+fn capture_text(name: &str) -> Result<String, AllocError> {
+    let mut text = String::new();
     let before = "did you intend to capture a variable ";
     put_name_between(&mut text, before, name, " from the surrounding scope?")?;
     Ok(text)
@@ -78,7 +73,7 @@ fn ambiguity_text() -> &'static str {
 //     ++ plain (capture_text (chars name.now)) ∷ plain ambiguity_text ∷ []) }
 #[inline]
 fn push_name(notes: &mut Vec<CallNote>, name: &str) -> Result<(), AllocError> {
-    let text = capture_text(*notes.own_allocator(), name)?;
+    let text = capture_text(name)?;
     push_plain(notes, &text)?;
     push_plain(notes, ambiguity_text())?;
     Ok(())
@@ -230,7 +225,7 @@ fn push_unused(
     if are_missing(&call.faults) || count == call.kept.len() || count <= 1 {
         return Ok(());
     }
-    let mut text = String::made_from(*notes.own_allocator(), "consider adding ")?;
+    let mut text = String::made_from("consider adding ")?;
     put_specifiers(&mut text, count)?;
     push_plain(notes, &text)?;
     Ok(())
@@ -246,17 +241,15 @@ fn variable_of<'a>(given: &[FormatArgument<'a>], index: usize) -> Option<&'a str
     }
 }
 
-/// Returns the variables that arguments are, as the names that a map has. Returns `Err` if an
-/// allocation fails.
+/// Returns the variables that arguments are, as the names that a map has.
 // ensures { IfOk result (λ m. (w : Text) → is_some (found_in m w)
 //     ≡ list_any (is_variable (map seen_given given.now) w) indices.now) }
 #[inline]
 fn variables_of<'a>(
-    alloc: Global,
     given: &[FormatArgument<'a>],
     indices: &[usize],
 ) -> Result<BTreeMap<&'a str, usize>, AllocError> {
-    let mut names = BTreeMap::made_in(alloc);
+    let mut names = BTreeMap::new();
     for index in indices {
         if let Some(variable) = variable_of(given, *index) {
             insert(&mut names, variable, 0)?;
@@ -293,17 +286,15 @@ fn push_position<'a>(
     Ok(())
 }
 
-/// Returns the places of the positions of pieces that are names which a map has. Returns `Err` if
-/// an allocation fails.
+/// Returns the places of the positions of pieces that are names which a map has.
 // ensures { IfOk result (λ v. v.items
 //     ≡ named_positions (λ w. is_some (found_in names.now w)) (map seen pieces.now)) }
 #[inline]
 fn named_positions<'a>(
-    alloc: Global,
     names: &BTreeMap<&'a str, usize>,
     pieces: &[Piece<'a>],
 ) -> Result<Vec<Spot>, AllocError> {
-    let mut spots = Vec::made_in(alloc);
+    let mut spots = Vec::new();
     for piece in pieces {
         push_position(&mut spots, names, piece)?;
     }
@@ -326,14 +317,13 @@ fn redundant_text(count: usize) -> &'static str {
 //     ++ redundant_note (seen_call call.now) redundant.now ∷ []) }
 #[inline]
 fn push_redundant<'a>(
-    alloc: Global,
     notes: &mut Vec<CallNote>,
     call: &CallReport<'a>,
     redundant: &[usize],
 ) -> Result<(), AllocError> {
-    let names = variables_of(alloc, call.given, redundant)?;
-    let spots = named_positions(alloc, &names, &call.pieces)?;
-    let text = String::made_from(alloc, redundant_text(redundant.len()))?;
+    let names = variables_of(call.given, redundant)?;
+    let spots = named_positions(&names, &call.pieces)?;
+    let text = String::made_from(redundant_text(redundant.len()))?;
     notes.try_push(CallNote { text, spots })?;
     Ok(())
 }
@@ -341,27 +331,22 @@ fn push_redundant<'a>(
 impl<'a> CallReport<'a> {
     /// Returns the notes of one of the faults, as rustc has them, but for the note of a warning
     /// which says that it is on by default. A fault of the string has the note of its error.
-    /// Returns `Err` if an allocation fails.
     // ensures { IfOk result (λ v. map seen_note v.items
     //     ≡ notes (seen_call self.now) (seen_fault fault.now)) }
     #[inline]
-    pub(crate) fn notes(
-        &self,
-        alloc: Global,
-        fault: &CallFault<'a>,
-    ) -> Result<Vec<CallNote>, AllocError> {
-        let mut notes = Vec::made_in(alloc);
+    pub(crate) fn notes(&self, fault: &CallFault<'a>) -> Result<Vec<CallNote>, AllocError> {
+        let mut notes = Vec::new();
         match fault {
             CallFault::PositionalAfterNamed { .. }
             | CallFault::RepeatedName { .. }
             | CallFault::NameUsedByIndex { .. } => {}
-            CallFault::Text(fault) => push_text(alloc, &mut notes, fault)?,
+            CallFault::Text(fault) => push_text(&mut notes, fault)?,
             CallFault::MissingName { name, .. } => push_name(&mut notes, name)?,
             CallFault::UnknownTrait { .. } => push_plain(&mut notes, traits_text())?,
             CallFault::MissingArguments(_) => push_missing(&mut notes, &self.pieces)?,
             CallFault::UnusedArguments(unused) => push_unused(&mut notes, self, unused.len())?,
             CallFault::RedundantArguments(redundant) => {
-                push_redundant(alloc, &mut notes, self, redundant)?;
+                push_redundant(&mut notes, self, redundant)?;
             }
         }
         Ok(notes)

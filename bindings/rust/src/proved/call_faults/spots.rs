@@ -7,7 +7,7 @@
 use crate::proved::call_faults::faults::{Part, Reference};
 use crate::proved::rustc_parse_format::{Argument, Count, Piece};
 use crate::proved::text_faults::{CallLabel, Spot};
-use crate::shim::alloc::{AllocError, Global};
+use crate::shim::alloc::AllocError;
 use crate::shim::prelude::*;
 use core::ops::Range;
 
@@ -53,7 +53,7 @@ pub(crate) fn push_primary(
     spot: Spot,
     text: &str,
 ) -> Result<(), AllocError> {
-    let text = String::made_from(*labels.own_allocator(), text)?;
+    let text = String::made_from(text)?;
     labels.try_push(CallLabel {
         spot,
         is_primary: true,
@@ -80,7 +80,7 @@ pub(crate) fn push_secondary(
     spot: Spot,
     text: &str,
 ) -> Result<(), AllocError> {
-    let text = String::made_from(*labels.own_allocator(), text)?;
+    let text = String::made_from(text)?;
     labels.try_push(CallLabel {
         spot,
         is_primary: false,
@@ -209,12 +209,11 @@ fn count_with(count: usize, piece: &Piece<'_>) -> usize {
     }
 }
 
-/// Returns of each of these pieces how many placeholders stand before it. Returns `Err` if an
-/// allocation fails.
+/// Returns of each of these pieces how many placeholders stand before it.
 // ensures { IfOk result (λ v. v.items ≡ counts_before 0 (map seen pieces.now)) }
 #[inline]
-pub(crate) fn counts_before(alloc: Global, pieces: &[Piece<'_>]) -> Result<Vec<usize>, AllocError> {
-    let mut counts = Vec::made_for(alloc, pieces.len())?;
+pub(crate) fn counts_before(pieces: &[Piece<'_>]) -> Result<Vec<usize>, AllocError> {
+    let mut counts = Vec::made_for(pieces.len())?;
     let mut count = 0;
     for piece in pieces {
         counts.try_push(count)?;

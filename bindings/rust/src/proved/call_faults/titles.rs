@@ -10,7 +10,7 @@ use crate::proved::call_faults::checker::CallReport;
 use crate::proved::call_faults::faults::CallFault;
 use crate::proved::placeholder_check::check;
 use crate::proved::rustc_parse_format::{Count, Fault, Piece, Position};
-use crate::shim::alloc::{AllocError, Global};
+use crate::shim::alloc::AllocError;
 use crate::shim::itoa::Buffer;
 use crate::shim::prelude::*;
 
@@ -246,8 +246,8 @@ fn unused_title(given: &[FormatArgument<'_>], unused: &[usize]) -> &'static str 
 // ensures { OnOk result (string_bytes out.new ≡ string_bytes out.old
 //     ++ (codes "invalid format string: " ++ (message (seen_text_fault fault.now)).description)) }
 #[inline]
-fn put_text_title(alloc: Global, out: &mut String, fault: &Fault<'_>) -> Result<(), AllocError> {
-    let error = fault.error(alloc)?;
+fn put_text_title(out: &mut String, fault: &Fault<'_>) -> Result<(), AllocError> {
+    let error = fault.error()?;
     out.try_push_str("invalid format string: ")?;
     out.try_push_str(&error.description)?;
     Ok(())
@@ -263,8 +263,7 @@ fn put_text_title(alloc: Global, out: &mut String, fault: &Fault<'_>) -> Result<
 fn put_missing(out: &mut String, call: &CallReport<'_>) -> Result<(), AllocError> {
     let count = call.kept.len();
     if have_numbers(&call.pieces) {
-        let alloc = *call.pieces.own_allocator();
-        let report = check(alloc, &call.pieces, count, &[])?;
+        let report = check(&call.pieces, count, &[])?;
         put_numbers_title(out, &report.missing_index, count)?;
         return Ok(());
     }
@@ -294,7 +293,7 @@ impl<'a> CallReport<'a> {
                 "duplicate argument named ",
                 name_of(self.given, *index),
             ),
-            CallFault::Text(fault) => put_text_title(*self.pieces.own_allocator(), out, fault),
+            CallFault::Text(fault) => put_text_title(out, fault),
             CallFault::MissingName { name, .. } => {
                 put_named(out, "there is no argument named ", name)?;
                 Ok(())

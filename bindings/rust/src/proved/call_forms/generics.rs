@@ -6,7 +6,7 @@
 
 use crate::proved::format_calls::{is_mark, is_mark_of, is_text, is_word};
 use crate::proved::rust_trees::{is_opening, Side, Token};
-use crate::shim::alloc::{AllocError, Global};
+use crate::shim::alloc::AllocError;
 use crate::shim::prelude::*;
 
 /// Where a token of a list of parameters is.
@@ -112,8 +112,7 @@ fn place_after(place: Place, token: &Token<'_>) -> Place {
     }
 }
 
-/// Adds the name of the parameter that a token is, if it is one. Returns `Err` if an allocation
-/// fails.
+/// Adds the name of the parameter that a token is, if it is one.
 // ensures { OnOk result (map (λ w. w.now) found.new.items ≡ map (λ w. w.now) found.old.items
 //     ++ parameter place (leaf token.now)) }
 #[inline]
@@ -129,16 +128,12 @@ fn put_parameter<'a>(
 }
 
 /// Returns the names of the parameters whose list opens with the token of an index, or none if no
-/// list does. Returns `Err` if an allocation fails.
+/// list does.
 // ensures { IfOk result (λ v. map (λ w. w.now) v.items
 //     ≡ parameters (map leaf tokens.now) index) }
 #[inline]
-pub fn parameters<'a>(
-    alloc: Global,
-    tokens: &[Token<'a>],
-    index: usize,
-) -> Result<Vec<&'a str>, AllocError> {
-    let mut found = Vec::made_in(alloc);
+pub fn parameters<'a>(tokens: &[Token<'a>], index: usize) -> Result<Vec<&'a str>, AllocError> {
+    let mut found = Vec::new();
     if !is_mark(tokens, index, b'<') {
         return Ok(found);
     }

@@ -16,7 +16,7 @@ use crate::proved::drawn_lines::{
     after_lines, put_gutter, put_painted_run, put_parting, put_run, split_first, width, Frame,
     Gutter, Palette, Style,
 };
-use crate::shim::alloc::{AllocError, Global};
+use crate::shim::alloc::AllocError;
 use crate::shim::prelude::*;
 
 /// Returns the only addition of a line, or `None` if there are several, or a text of the line is in
@@ -160,7 +160,7 @@ fn put_replaced(
     old: &[Line<'_>],
     new: &[Line<'_>],
 ) -> Result<(), AllocError> {
-    if is_same_end(*out.own_allocator(), old, new)? {
+    if is_same_end(old, new)? {
         let (front, _) = old.split_at(old.len().saturating_sub(1));
         return Ok(put_sign_rows(
             out,
@@ -306,7 +306,7 @@ fn put_line_rows(
     if !do_remove(parts) {
         return Ok(put_inserted(out, frame, number, new)?);
     }
-    let old = old_lines(*out.own_allocator(), parts)?;
+    let old = old_lines(parts)?;
     if old.len() >= 1 << (usize::BITS - 5) {
         return crate::shim::alloc::refuse();
     }
@@ -344,14 +344,13 @@ fn put_new_rows(
 //     ≡ edited_parts (seen_frame frame.now) number (map seen_edit edits.now)) }
 #[inline]
 fn edited_parts<'a>(
-    alloc: Global,
     frame: &Frame<'a>,
     number: usize,
     edits: &[Edit<'a>],
 ) -> Result<Vec<Part<'a>>, AllocError> {
     let source = frame.picture.source;
     let text = after_lines(source, number);
-    let parts = parts_of(alloc, source.len() - text.len(), text, edits)?;
+    let parts = parts_of(source.len() - text.len(), text, edits)?;
     Ok(parts)
 }
 
@@ -366,10 +365,9 @@ fn put_from(
     number: usize,
     edits: &[Edit<'_>],
 ) -> Result<(), AllocError> {
-    let alloc = *out.own_allocator();
     put_parting(out, frame)?;
-    let parts = edited_parts(alloc, frame, number, edits)?;
-    let new = new_lines(alloc, &parts)?;
+    let parts = edited_parts(frame, number, edits)?;
+    let new = new_lines(&parts)?;
     put_new_rows(out, frame, number, &parts, &new)?;
     Ok(())
 }

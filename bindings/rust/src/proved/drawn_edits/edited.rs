@@ -8,7 +8,7 @@
 use crate::proved::drawn_lines::{
     extent_of, offsets, rank, split_first, split_line, Extent, Picture, Style,
 };
-use crate::shim::alloc::{AllocError, Global};
+use crate::shim::alloc::AllocError;
 use crate::shim::prelude::*;
 use core::mem;
 use core::ops::Range;
@@ -81,12 +81,11 @@ pub fn split_within(text: &str, width: usize) -> (&str, &str) {
 //     ≡ parts start (map seen_edit edits.now) text.now) }
 #[inline]
 pub fn parts_of<'a>(
-    alloc: Global,
     start: usize,
     text: &'a str,
     edits: &[Edit<'a>],
 ) -> Result<Vec<Part<'a>>, AllocError> {
-    let mut list = Vec::made_in(alloc);
+    let mut list = Vec::new();
     let mut at = start;
     let mut rest = text;
     for edit in edits {
@@ -127,9 +126,8 @@ fn end_line<'a>(
     row: &mut Vec<Part<'a>>,
     part: Part<'a>,
 ) -> Result<(), AllocError> {
-    let alloc = *row.own_allocator();
     row.try_push(part)?;
-    let parts = mem::replace(row, Vec::made_in(alloc));
+    let parts = mem::replace(row, Vec::new());
     lines.try_push(Line { parts })?;
     Ok(())
 }
@@ -232,9 +230,9 @@ fn push_new<'a>(
 /// Returns the new lines of parts, without those at their end that have no text.
 // ensures { IfOk result (λ v. map seen_line v.items ≡ new_lines (map seen_part parts.now)) }
 #[inline]
-pub fn new_lines<'a>(alloc: Global, parts: &[Part<'a>]) -> Result<Vec<Line<'a>>, AllocError> {
-    let mut lines = Vec::made_in(alloc);
-    let mut row = Vec::made_in(alloc);
+pub fn new_lines<'a>(parts: &[Part<'a>]) -> Result<Vec<Line<'a>>, AllocError> {
+    let mut lines = Vec::new();
+    let mut row = Vec::new();
     push_new(&mut lines, &mut row, parts)?;
     lines.try_push(Line { parts: row })?;
     let count = count_to_text(&lines);
@@ -245,9 +243,9 @@ pub fn new_lines<'a>(alloc: Global, parts: &[Part<'a>]) -> Result<Vec<Line<'a>>,
 /// Returns the lines of parts without what they add.
 // ensures { IfOk result (λ v. map seen_line v.items ≡ old_lines (map seen_part parts.now)) }
 #[inline]
-pub fn old_lines<'a>(alloc: Global, parts: &[Part<'a>]) -> Result<Vec<Line<'a>>, AllocError> {
-    let mut lines = Vec::made_in(alloc);
-    let mut row = Vec::made_in(alloc);
+pub fn old_lines<'a>(parts: &[Part<'a>]) -> Result<Vec<Line<'a>>, AllocError> {
+    let mut lines = Vec::new();
+    let mut row = Vec::new();
     push_parts(&mut lines, &mut row, Style::Addition, parts)?;
     lines.try_push(Line { parts: row })?;
     Ok(lines)
@@ -310,8 +308,8 @@ fn put_text(out: &mut String, parts: &[Part<'_>]) -> Result<(), AllocError> {
 /// Returns the text of lines.
 // ensures { IfOk result (λ s. string_bytes s ≡ text_of (map seen_line lines.now)) }
 #[inline]
-fn text_of(alloc: Global, lines: &[Line<'_>]) -> Result<String, AllocError> {
-    let mut text = String::made_in(alloc);
+fn text_of(lines: &[Line<'_>]) -> Result<String, AllocError> {
+    let mut text = String::new();
     for line in lines {
         put_text(&mut text, &line.parts)?;
     }
@@ -322,13 +320,13 @@ fn text_of(alloc: Global, lines: &[Line<'_>]) -> Result<String, AllocError> {
 // ensures { IfOk result (λ b. b
 //     ≡ is_same_end (map seen_line old.now) (map seen_line new.now)) }
 #[inline]
-pub fn is_same_end(alloc: Global, old: &[Line<'_>], new: &[Line<'_>]) -> Result<bool, AllocError> {
+pub fn is_same_end(old: &[Line<'_>], new: &[Line<'_>]) -> Result<bool, AllocError> {
     let [line, ..] = new else {
         return Ok(false);
     };
     let (_, last) = old.split_at(old.len().saturating_sub(1));
-    let before = text_of(alloc, last)?;
-    let mut after = String::made_in(alloc);
+    let before = text_of(last)?;
+    let mut after = String::new();
     put_text(&mut after, &line.parts)?;
     Ok(before.as_str() == after.as_str())
 }

@@ -13,7 +13,7 @@ use crate::proved::drawn_labels::Label;
 use crate::proved::drawn_lines::{
     digits, extent_of, palette_of, put_parting, Frame, Gutter, Palette, Picture,
 };
-use crate::shim::alloc::{AllocError, Global};
+use crate::shim::alloc::AllocError;
 use crate::shim::prelude::*;
 use core::ops::Range;
 
@@ -65,24 +65,23 @@ fn label_of<'a>(picture: &Picture<'_>, label: &SourceLabel<'a>) -> Label<'a> {
     }
 }
 
-/// Returns labels with their places in the source. Returns `Err` if an allocation fails.
+/// Returns labels with their places in the source.
 // requires { length picture.now.source.now < 2 ^ 59 }
 // ensures { IfOk result (λ v. map seen_label v.items
 //     ≡ map (label_of (seen_picture picture.now)) (map seen_source_label labels.now)) }
 #[inline]
 fn labels_of<'a>(
-    alloc: Global,
     picture: &Picture<'_>,
     labels: &[SourceLabel<'a>],
 ) -> Result<Vec<Label<'a>>, AllocError> {
-    let mut list = Vec::made_in(alloc);
+    let mut list = Vec::new();
     for label in labels {
         list.try_push(label_of(picture, label))?;
     }
     Ok(list)
 }
 
-/// Returns the gutter of a diagnostic with these labels. Returns `Err` if an allocation fails.
+/// Returns the gutter of a diagnostic with these labels.
 // requires source { length picture.now.source.now < 2 ^ 59 }
 // requires labels { map seen_label labels.now ≡ map (label_of (seen_picture picture.now))
 //     (seen_diagnostic diagnostic.now).labels }
@@ -90,14 +89,13 @@ fn labels_of<'a>(
 //     ≡ gutter_of (seen_picture picture.now) (seen_diagnostic diagnostic.now)) }
 #[inline]
 fn gutter_of(
-    alloc: Global,
     picture: &Picture<'_>,
     diagnostic: &Diagnostic<'_>,
     labels: &[Label<'_>],
 ) -> Result<Gutter, AllocError> {
     let last = last_label_line(0, labels);
-    let last = last_note_line(alloc, picture, last, diagnostic.notes)?;
-    let last = last_help_line(alloc, picture, last, diagnostic.helps)?;
+    let last = last_note_line(picture, last, diagnostic.notes)?;
+    let last = last_help_line(picture, last, diagnostic.helps)?;
     let columns = digits(picture.line_start as usize + last);
     let palette = palette_of(picture.colours, level_of(diagnostic.level));
     Ok(Gutter { columns, palette })
@@ -176,9 +174,8 @@ fn put_diagnostic(
     picture: &Picture<'_>,
     diagnostic: &Diagnostic<'_>,
 ) -> Result<(), AllocError> {
-    let alloc = *out.own_allocator();
-    let labels = labels_of(alloc, picture, diagnostic.labels)?;
-    let gutter = gutter_of(alloc, picture, diagnostic, &labels)?;
+    let labels = labels_of(picture, diagnostic.labels)?;
+    let gutter = gutter_of(picture, diagnostic, &labels)?;
     let frame = frame_of(picture, gutter, &labels);
     put_drawn(out, &frame, diagnostic, &labels)?;
     Ok(())

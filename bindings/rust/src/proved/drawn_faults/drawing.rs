@@ -13,7 +13,7 @@ use crate::proved::drawn_lines::{
     put_painted, put_parting, put_run, Frame, Gutter, Palette, Picture, Spot, Style,
 };
 use crate::proved::rustc_parse_format::{ParseError, ParseMode};
-use crate::shim::alloc::{AllocError, Global};
+use crate::shim::alloc::AllocError;
 use crate::shim::prelude::*;
 
 /// Adds the start of all titles, up to the name of the text, in which the style goes on.
@@ -208,7 +208,7 @@ fn put_below(
     Ok(())
 }
 
-/// Adds the drawing of an error with this label. Returns `Err` if an allocation fails.
+/// Adds the drawing of an error with this label.
 // requires source { length picture.now.source.now < 2 ^ 59 }
 // requires label { seen_label label.now
 //     ≡ primary (seen_mode mode) (seen_picture picture.now) (seen_error error.now) }
@@ -291,22 +291,17 @@ fn least_length(picture: &Picture<'_>, error: &ParseError) -> usize {
 // The line and the column that it names are those of the span's first character in the source.
 // ensures arrow { IfOk result (λ s. PointsAt (seen_mode mode) (seen_picture picture.now)
 //     (seen_error error.now) (string_bytes s)) }
-// Of a span in one line, with no other label, it shows that line, and under it the span's signs
-// in the columns of the span, and no sign elsewhere.
-// ensures label { IfOk result (λ s. picture.now.colours ≡ false
-//     → second (seen_mode mode) (seen_picture picture.now) (seen_error error.now) ≡ None
-//     → (let e = (primary (seen_mode mode) (seen_picture picture.now)
-//     (seen_error error.now)).extent in (e.start.line == e.end.line) ≡ true)
-//     → ShowsLabel (seen_mode mode) (seen_picture picture.now) (seen_error error.now)
+// It shows the lines of its labels, with their signs in their columns and no sign elsewhere.
+// ensures labels { IfOk result (λ s. picture.now.colours ≡ false
+//     → ShowsLabels (seen_mode mode) (seen_picture picture.now) (seen_error error.now)
 //     (string_bytes s)) }
 #[inline]
 pub fn draw(
-    alloc: Global,
     mode: ParseMode,
     picture: &Picture<'_>,
     error: &ParseError,
 ) -> Result<String, AllocError> {
-    let mut out = String::made_in(alloc);
+    let mut out = String::new();
     put_drawing(&mut out, mode, picture, error)?;
     Ok(out)
 }
@@ -330,9 +325,8 @@ pub fn put_drawing(
     if picture.source.len() >= 1 << (usize::BITS - 5) {
         return crate::shim::alloc::refuse();
     }
-    let alloc = *out.own_allocator();
     let name = text_name(mode);
-    let mut text = String::made_for(alloc, error.label.len().saturating_add(4 + name.len()))?;
+    let mut text = String::made_for(error.label.len().saturating_add(4 + name.len()))?;
     text.try_push_str(error.label.as_str())?;
     text.try_push_str(" in ")?;
     text.try_push_str(name)?;

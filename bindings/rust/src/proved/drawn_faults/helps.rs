@@ -10,7 +10,7 @@ use crate::proved::drawn_faults::marked::last_edit_line;
 use crate::proved::drawn_faults::notes::put_indented;
 use crate::proved::drawn_lines::{put_glyphs, put_painted, put_run, Frame, Gutter, Picture, Style};
 use crate::proved::fault_fixes::Edit as SourceEdit;
-use crate::shim::alloc::{AllocError, Global};
+use crate::shim::alloc::AllocError;
 use crate::shim::prelude::*;
 
 /// A help of a diagnostic.
@@ -22,25 +22,23 @@ pub struct SourceHelp<'a> {
     pub edits: &'a [SourceEdit<'a>],
 }
 
-/// Returns edits with their places in the source. Returns `Err` if an allocation fails.
+/// Returns edits with their places in the source.
 // requires { length picture.now.source.now < 2 ^ 59 }
 // ensures { IfOk result (λ v. map seen_edit v.items
 //     ≡ map (placed_edit (seen_picture picture.now)) (map seen_source_edit edits.now)) }
 #[inline]
 fn placed_edits<'a>(
-    alloc: Global,
     picture: &Picture<'_>,
     edits: &[SourceEdit<'a>],
 ) -> Result<Vec<Edit<'a>>, AllocError> {
-    let mut list = Vec::made_in(alloc);
+    let mut list = Vec::new();
     for edit in edits {
         list.try_push(placed(picture, edit.text, &edit.span))?;
     }
     Ok(list)
 }
 
-/// Returns the last line that helps edit, or `last` if that is further down. Returns `Err` if an
-/// allocation fails.
+/// Returns the last line that helps edit, or `last` if that is further down.
 // requires source { length picture.now.source.now < 2 ^ 59 }
 // requires small { last < 2 ^ 59 }
 // ensures value { IfOk result (λ n. n
@@ -48,14 +46,13 @@ fn placed_edits<'a>(
 // ensures small { IfOk result (λ n. n < 2 ^ 59) }
 #[inline]
 pub fn last_help_line(
-    alloc: Global,
     picture: &Picture<'_>,
     last: usize,
     helps: &[SourceHelp<'_>],
 ) -> Result<usize, AllocError> {
     let mut line = last;
     for help in helps {
-        let edits = placed_edits(alloc, picture, help.edits)?;
+        let edits = placed_edits(picture, help.edits)?;
         line = last_edit_line(line, &edits);
     }
     Ok(line)
@@ -97,7 +94,7 @@ fn put_help(out: &mut String, frame: &Frame<'_>, help: &SourceHelp<'_>) -> Resul
     put_help_word(out, frame.gutter.palette)?;
     put_glyphs(out, help.text, 0)?;
     out.try_push_str("\n")?;
-    let edits = placed_edits(*out.own_allocator(), frame.picture, help.edits)?;
+    let edits = placed_edits(frame.picture, help.edits)?;
     put_edits(out, frame, &edits)?;
     Ok(())
 }

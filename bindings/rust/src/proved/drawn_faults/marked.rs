@@ -12,7 +12,7 @@ use crate::proved::drawn_labels::{
 use crate::proved::drawn_lines::{
     line_indent, put_code, put_gap, Frame, Gutter, Picture, Spot, ORIGIN,
 };
-use crate::shim::alloc::{AllocError, Global};
+use crate::shim::alloc::AllocError;
 use crate::shim::prelude::*;
 
 /// Returns the last line in which one of labels ends, or `last` if that is further down.
@@ -144,35 +144,26 @@ pub fn first_spot(labels: &[Label<'_>]) -> Spot {
     found.unwrap_or(ORIGIN)
 }
 
-/// Returns labels in the lines in which they begin, in the order in which they are drawn. Returns
-/// `Err` if an allocation fails.
+/// Returns labels in the lines in which they begin, in the order in which they are drawn.
 // requires { length frame.now.picture.now.source.now < 2 ^ 59 }
 // ensures { IfOk result (λ v. map seen_mark v.items ≡ sorted is_right_of []
 //     (map (mark_in (seen_frame frame.now)) (map seen_label labels.now))) }
 #[inline]
-fn marks_of<'a>(
-    alloc: Global,
-    frame: &Frame<'_>,
-    labels: &[Label<'a>],
-) -> Result<Vec<Mark<'a>>, AllocError> {
-    let mut list = Vec::made_in(alloc);
+fn marks_of<'a>(frame: &Frame<'_>, labels: &[Label<'a>]) -> Result<Vec<Mark<'a>>, AllocError> {
+    let mut list = Vec::new();
     for label in labels {
         list.try_push(mark_in(frame, label))?;
     }
-    let marks = from_right(alloc, &list)?;
+    let marks = from_right(&list)?;
     Ok(marks)
 }
 
-/// Returns those of labels that begin in a line. Returns `Err` if an allocation fails.
+/// Returns those of labels that begin in a line.
 // ensures { IfOk result (λ v. map seen_mark v.items
 //     ≡ in_line number (map seen_mark marks.now)) }
 #[inline]
-fn in_line<'a>(
-    alloc: Global,
-    number: usize,
-    marks: &[Mark<'a>],
-) -> Result<Vec<Mark<'a>>, AllocError> {
-    let mut list = Vec::made_in(alloc);
+fn in_line<'a>(number: usize, marks: &[Mark<'a>]) -> Result<Vec<Mark<'a>>, AllocError> {
+    let mut list = Vec::new();
     for mark in marks {
         if mark.line == number {
             list.try_push(*mark)?;
@@ -212,7 +203,7 @@ fn put_line_rows(
     marks: &[Mark<'_>],
 ) -> Result<(), AllocError> {
     put_code(out, frame, number)?;
-    let marks = in_line(*out.own_allocator(), number, marks)?;
+    let marks = in_line(number, marks)?;
     put_mark_rows(out, frame.gutter, &marks)?;
     Ok(())
 }
@@ -277,7 +268,7 @@ fn put_each_in_line(
     frame: &Frame<'_>,
     labels: &[Label<'_>],
 ) -> Result<(), AllocError> {
-    let marks = marks_of(*out.own_allocator(), frame, labels)?;
+    let marks = marks_of(frame, labels)?;
     put_marked_lines(out, frame, &marks)?;
     Ok(())
 }

@@ -12,7 +12,7 @@ use crate::proved::drawn_lines::{
     extent_of, glyph, glyph_count, palette_of, put_closing, put_glyphs, put_opening, put_painted,
     put_parting, put_run, split_first, Frame, Gutter, Palette, Picture, Style,
 };
-use crate::shim::alloc::{AllocError, Global};
+use crate::shim::alloc::AllocError;
 use crate::shim::prelude::*;
 use core::ops::Range;
 
@@ -25,17 +25,16 @@ pub struct SourceNote<'a> {
     pub spans: &'a [Range<usize>],
 }
 
-/// Returns labels of ranges that a note shows. Returns `Err` if an allocation fails.
+/// Returns labels of ranges that a note shows.
 // requires { length picture.now.source.now < 2 ^ 59 }
 // ensures { IfOk result (λ v. map seen_label v.items
 //     ≡ map (shown_label (seen_picture picture.now)) (map pair spans.now)) }
 #[inline]
 fn shown_labels(
-    alloc: Global,
     picture: &Picture<'_>,
     spans: &[Range<usize>],
 ) -> Result<Vec<Label<'static>>, AllocError> {
-    let mut list = Vec::made_in(alloc);
+    let mut list = Vec::new();
     for span in spans {
         list.try_push(Label {
             sign: '^',
@@ -46,8 +45,7 @@ fn shown_labels(
     Ok(list)
 }
 
-/// Returns the last line that notes show, or `last` if that is further down. Returns `Err` if an
-/// allocation fails.
+/// Returns the last line that notes show, or `last` if that is further down.
 // requires source { length picture.now.source.now < 2 ^ 59 }
 // requires small { last < 2 ^ 59 }
 // ensures value { IfOk result (λ n. n
@@ -55,14 +53,13 @@ fn shown_labels(
 // ensures small { IfOk result (λ n. n < 2 ^ 59) }
 #[inline]
 pub fn last_note_line(
-    alloc: Global,
     picture: &Picture<'_>,
     last: usize,
     notes: &[SourceNote<'_>],
 ) -> Result<usize, AllocError> {
     let mut line = last;
     for note in notes {
-        let labels = shown_labels(alloc, picture, note.spans)?;
+        let labels = shown_labels(picture, note.spans)?;
         line = last_label_line(line, &labels);
     }
     Ok(line)
@@ -164,9 +161,8 @@ pub fn put_notes(
     gutter: Gutter,
     notes: &[SourceNote<'_>],
 ) -> Result<(), AllocError> {
-    let alloc = *out.own_allocator();
     for note in notes {
-        let labels = shown_labels(alloc, picture, note.spans)?;
+        let labels = shown_labels(picture, note.spans)?;
         put_shown_note(out, picture, gutter, note.text, &labels)?;
     }
     Ok(())

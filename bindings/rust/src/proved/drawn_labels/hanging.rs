@@ -5,7 +5,7 @@
 // by results from outside, and beside what is proved (.ci/bindings) and the original (tools/agree).
 
 use crate::proved::drawn_labels::mark::Mark;
-use crate::shim::alloc::{AllocError, Global};
+use crate::shim::alloc::AllocError;
 use crate::shim::prelude::*;
 
 /// A label, and how many rows below the signs its text hangs: it stands right of them if that is
@@ -101,15 +101,14 @@ fn depth_after(down: usize, mark: &Mark<'_>, others: &[Mark<'_>]) -> usize {
     }
 }
 
-/// Returns the labels of a line, from right to left, with how far down they hang. Returns `Err` if
-/// an allocation fails.
+/// Returns the labels of a line, from right to left, with how far down they hang.
 // ensures { IfOk result (λ v. map seen_hung v.items ≡ hang 0 (map seen_mark marks.now)) }
 #[inline]
-pub fn hang<'a>(alloc: Global, marks: &[Mark<'a>]) -> Result<Vec<Hung<'a>>, AllocError> {
+pub fn hang<'a>(marks: &[Mark<'a>]) -> Result<Vec<Hung<'a>>, AllocError> {
     if marks.len() >= 1 << (usize::BITS - 5) {
         return crate::shim::alloc::refuse();
     }
-    let mut list = Vec::made_in(alloc);
+    let mut list = Vec::new();
     let mut down = 0;
     for mark in marks {
         let others = &marks[list.len() + 1..];

@@ -12,7 +12,7 @@ use crate::proved::drawn_labels::hanging::{depth, hang, has_text, Hung};
 use crate::proved::drawn_labels::mark::Mark;
 use crate::proved::drawn_labels::order::covered_first;
 use crate::proved::drawn_lines::{put_gutter, Gutter};
-use crate::shim::alloc::{AllocError, Global};
+use crate::shim::alloc::AllocError;
 use crate::shim::prelude::*;
 
 /// Puts the text of a label that stands right of its signs into a row.
@@ -60,15 +60,14 @@ fn put_signs(row: &mut Vec<Cell>, marks: &[Mark<'_>]) -> Result<(), AllocError> 
     Ok(())
 }
 
-/// Returns the row of signs of labels, with the texts right of them. Returns `Err` if an allocation
-/// fails.
+/// Returns the row of signs of labels, with the texts right of them.
 // ensures { IfOk result (λ v. v.items
 //     ≡ sign_row (map seen_mark marks.now) (map seen_hung hung.now)) }
 #[inline]
-fn sign_row(alloc: Global, marks: &[Mark<'_>], hung: &[Hung<'_>]) -> Result<Vec<Cell>, AllocError> {
-    let mut row = Vec::made_in(alloc);
+fn sign_row(marks: &[Mark<'_>], hung: &[Hung<'_>]) -> Result<Vec<Cell>, AllocError> {
+    let mut row = Vec::new();
     put_side_texts(&mut row, hung)?;
-    let covered = covered_first(alloc, marks)?;
+    let covered = covered_first(marks)?;
     put_signs(&mut row, &covered)?;
     Ok(row)
 }
@@ -116,11 +115,11 @@ fn put_hung_texts(row: &mut Vec<Cell>, n: usize, hung: &[Hung<'_>]) -> Result<()
     Ok(())
 }
 
-/// Returns the row with `n` rows between it and the signs. Returns `Err` if an allocation fails.
+/// Returns the row with `n` rows between it and the signs.
 // ensures { IfOk result (λ v. v.items ≡ hung_row n (map seen_hung hung.now)) }
 #[inline]
-fn hung_row(alloc: Global, n: usize, hung: &[Hung<'_>]) -> Result<Vec<Cell>, AllocError> {
-    let mut row = Vec::made_in(alloc);
+fn hung_row(n: usize, hung: &[Hung<'_>]) -> Result<Vec<Cell>, AllocError> {
+    let mut row = Vec::new();
     put_bars(&mut row, n, hung)?;
     put_hung_texts(&mut row, n, hung)?;
     Ok(row)
@@ -147,9 +146,8 @@ fn put_hung_rows(
     count: usize,
     hung: &[Hung<'_>],
 ) -> Result<(), AllocError> {
-    let alloc = *out.own_allocator();
     for above in 0..count {
-        let row = hung_row(alloc, above, hung)?;
+        let row = hung_row(above, hung)?;
         put_row(out, gutter, &row)?;
     }
     Ok(())
@@ -169,7 +167,7 @@ fn put_rows_below(
         return Ok(());
     }
     put_hung_rows(out, gutter, most, hung)?;
-    let row = hung_row(*out.own_allocator(), most, hung)?;
+    let row = hung_row(most, hung)?;
     put_row(out, gutter, &row)?;
     Ok(())
 }
@@ -184,7 +182,7 @@ fn put_rows_of(
     marks: &[Mark<'_>],
     hung: &[Hung<'_>],
 ) -> Result<(), AllocError> {
-    let row = sign_row(*out.own_allocator(), marks, hung)?;
+    let row = sign_row(marks, hung)?;
     put_row(out, gutter, &row)?;
     put_rows_below(out, gutter, depth(hung), hung)?;
     Ok(())
@@ -202,7 +200,7 @@ pub fn put_mark_rows(
     gutter: Gutter,
     marks: &[Mark<'_>],
 ) -> Result<(), AllocError> {
-    let hung = hang(*out.own_allocator(), marks)?;
+    let hung = hang(marks)?;
     put_rows_of(out, gutter, marks, &hung)?;
     Ok(())
 }

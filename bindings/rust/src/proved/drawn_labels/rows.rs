@@ -40,7 +40,7 @@ fn put_coloured_signs(
     n: &Mark<'_>,
     columns: usize,
 ) -> Result<(), AllocError> {
-    let mut row = Vec::made_in(*out.own_allocator());
+    let mut row = Vec::new();
     for column in 0..columns {
         row.try_push(sign_at(m, n, column))?;
     }

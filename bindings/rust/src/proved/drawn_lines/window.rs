@@ -227,7 +227,7 @@ fn put_cut(
     if row.len() >= 1 << (usize::BITS - 5) {
         return crate::shim::alloc::refuse();
     }
-    let mut part = String::made_in(*out.own_allocator());
+    let mut part = String::new();
     put_in_window(&mut part, window, is_wide, row)?;
     if part.len() >= 1 << (usize::BITS - 5) {
         return crate::shim::alloc::refuse();
@@ -257,7 +257,7 @@ pub fn put_shown(
     if window.left == 0 && !is_wide {
         return Ok(put_glyphs(out, text, 0)?);
     }
-    let mut row = String::made_in(*out.own_allocator());
+    let mut row = String::new();
     put_glyphs(&mut row, text, 0)?;
     put_cut(out, palette, window, is_wide, row.as_str())?;
     Ok(())

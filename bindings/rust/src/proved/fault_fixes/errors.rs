@@ -5,7 +5,7 @@
 // by results from outside, and beside what is proved (.ci/bindings) and the original (tools/agree).
 
 use crate::proved::rustc_parse_format::{Argument, Fault, ParseError, ParseMode};
-use crate::shim::alloc::{AllocError, Global};
+use crate::shim::alloc::AllocError;
 use crate::shim::parser::Parser;
 use crate::shim::prelude::*;
 
@@ -17,13 +17,13 @@ struct Errors {
     backs: Vec<ParseError>,
 }
 
-/// Adds the errors of faults. Returns `Err` if an allocation fails.
+/// Adds the errors of faults.
 // ensures { OnOk result (seen_errors errors.new
 //     ≡ add_errors (seen_errors errors.old) (map seen_fault faults.now)) }
 #[inline]
-fn add_each(alloc: Global, errors: &mut Errors, faults: &[Fault<'_>]) -> Result<(), AllocError> {
+fn add_each(errors: &mut Errors, faults: &[Fault<'_>]) -> Result<(), AllocError> {
     for fault in faults {
-        let error = fault.error(alloc)?;
+        let error = fault.error()?;
         if fault.is_front() {
             errors.fronts.try_push(error)?;
         } else {
@@ -34,7 +34,7 @@ fn add_each(alloc: Global, errors: &mut Errors, faults: &[Fault<'_>]) -> Result<
 }
 
 /// Makes a call of a parser, and adds the errors of its faults. `found` is empty before and after
-/// the call. Returns `Err` if an allocation fails.
+/// the call.
 // requires none { parser.old.errors ≡ [] }
 // requires empty { found.old.items ≡ [] }
 // ensures state { OnOk result (parser.new
@@ -44,19 +44,18 @@ fn add_each(alloc: Global, errors: &mut Errors, faults: &[Fault<'_>]) -> Result<
 // ensures added { OnOk result (found.new.items ≡ []) }
 #[inline]
 fn add_next<'a>(
-    alloc: Global,
     errors: &mut Errors,
     parser: &mut Parser<'a>,
     argument: &mut Argument<'a>,
     found: &mut Vec<Fault<'a>>,
 ) -> Result<(), AllocError> {
     parser.next_with_faults(argument, found)?;
-    add_each(alloc, errors, found.as_slice())?;
+    add_each(errors, found.as_slice())?;
     found.clear();
     Ok(())
 }
 
-/// Returns errors as one list. Returns `Err` if an allocation fails.
+/// Returns errors as one list.
 // ensures { IfOk result (λ v. map seen_error v.items ≡ seen_errors errors) }
 #[inline]
 fn joined(errors: Errors) -> Result<Vec<ParseError>, AllocError> {
@@ -69,7 +68,7 @@ fn joined(errors: Errors) -> Result<Vec<ParseError>, AllocError> {
 
 /// Returns the errors of all calls of a parser up to the end of an input, in its order. The
 /// arguments are those of [`Parser::new`]. The time grows with the input, whereas a parser moves
-/// all errors that it has where one is put before them. Returns `Err` if an allocation fails.
+/// all errors that it has where one is put before them.
 // requires { hashes style + length input.now + 2 < 2 ^ 64 }
 // ensures errors { IfOk result (λ v. map seen_error v.items
 //     ≡ all_errors (first_state (seen_mode mode) (chars input.now) style
@@ -77,7 +76,6 @@ fn joined(errors: Errors) -> Result<Vec<ParseError>, AllocError> {
 // ensures empty { input.now ≡ [] → IsOk result }
 #[inline]
 pub fn errors_of(
-    alloc: Global,
     input: &str,
     style: Option<usize>,
     snippet: Option<String>,
@@ -85,17 +83,17 @@ pub fn errors_of(
     mode: ParseMode,
 ) -> Result<Vec<ParseError>, AllocError> {
     if input.is_empty() {
-        return Ok(Vec::made_in(alloc));
+        return Ok(Vec::new());
     }
-    let mut parser = Parser::new(alloc, input, style, snippet, appended_newline, mode)?;
+    let mut parser = Parser::new(input, style, snippet, appended_newline, mode)?;
     let mut argument = Argument::default();
-    let mut found = Vec::made_in(alloc);
+    let mut found = Vec::new();
     let mut errors = Errors {
-        fronts: Vec::made_in(alloc),
-        backs: Vec::made_in(alloc),
+        fronts: Vec::new(),
+        backs: Vec::new(),
     };
     while !parser.is_at_end() {
-        add_next(alloc, &mut errors, &mut parser, &mut argument, &mut found)?;
+        add_next(&mut errors, &mut parser, &mut argument, &mut found)?;
     }
     joined(errors)
 }

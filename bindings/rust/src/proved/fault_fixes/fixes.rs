@@ -7,7 +7,7 @@
 
 use crate::proved::rustc_parse_format::literal::is_source_literal;
 use crate::proved::rustc_parse_format::{Argument, Fault, ParseError, ParseMode, Suggestion};
-use crate::shim::alloc::{AllocError, Global};
+use crate::shim::alloc::AllocError;
 use crate::shim::parser::Parser;
 use crate::shim::prelude::*;
 use core::ops::Range;
@@ -86,18 +86,13 @@ fn offered_edit(mode: ParseMode, suggestion: &Suggestion) -> Option<Edit<'_>> {
 ///
 /// The errors are in the order of a parser, in which each error that has an edit comes before those
 /// of earlier places. An edit that does not start after the end of the one before it is left out.
-/// Returns `Err` if an allocation fails.
 // ensures edits { IfOk result (λ v. map seen_edit v.items
 //     ≡ edits (seen_mode mode) (map seen_error errors.now)) }
 // ensures order { IfOk result (λ v. AreInOrder 0 (map seen_edit v.items)) }
 // ensures spare { edits (seen_mode mode) (map seen_error errors.now) ≡ [] → IsOk result }
 #[inline]
-pub fn edits<'e>(
-    alloc: Global,
-    mode: ParseMode,
-    errors: &'e [ParseError],
-) -> Result<Vec<Edit<'e>>, AllocError> {
-    let mut found = Vec::made_in(alloc);
+pub fn edits<'e>(mode: ParseMode, errors: &'e [ParseError]) -> Result<Vec<Edit<'e>>, AllocError> {
+    let mut found = Vec::new();
     let mut end = 0;
     for error in errors.iter().rev() {
         if let Some(edit) = offered_edit(mode, &error.suggestion) {
@@ -137,7 +132,7 @@ struct Edited<'t> {
 }
 
 /// Makes the edit of a suggestion in a mode, if it has one that starts after the end of the last
-/// one. Returns `Err` if an allocation fails.
+/// one.
 // ensures { OnOk result ((es : List EditValue) → with_edits edited.new es ≡ with_edits edited.old
 //     (cons_option (suggested (offered (seen_mode mode) (seen_suggestion suggestion.now))) es)) }
 #[inline]
@@ -160,7 +155,7 @@ fn make(
     Ok(())
 }
 
-/// Makes the edits of faults in a mode, the first one first. Returns `Err` if an allocation fails.
+/// Makes the edits of faults in a mode, the first one first.
 // ensures { OnOk result ((es : List EditValue) → with_edits edited.new es ≡ with_edits edited.old
 //     (fault_edits (seen_mode mode) (map seen_fault faults.now) ++ es)) }
 #[inline]
@@ -170,14 +165,14 @@ fn make_each(
     faults: &[Fault<'_>],
 ) -> Result<(), AllocError> {
     for fault in faults {
-        let suggestion = fault.suggestion(*edited.bytes.own_allocator())?;
+        let suggestion = fault.suggestion()?;
         make(edited, mode, &suggestion)?;
     }
     Ok(())
 }
 
 /// Makes a call of a parser, and the edits of its faults in a mode. `found` is empty before and
-/// after the call. Returns `Err` if an allocation fails.
+/// after the call.
 // requires none { parser.old.errors ≡ [] }
 // requires empty { found.old.items ≡ [] }
 // ensures state { OnOk result (parser.new
@@ -201,8 +196,7 @@ fn make_next<'a>(
 }
 
 /// Returns a text with the edits of the errors of all calls of a parser without errors, in a mode,
-/// and whether there are any. The text starts at the byte offset `at`. Returns `Err` if an
-/// allocation fails.
+/// and whether there are any. The text starts at the byte offset `at`.
 // requires { parser.old.errors ≡ [] }
 // ensures bytes { IfOk result (λ x. x.0.items
 //     ≡ applied at (edits (seen_mode mode) (all_errors parser.old)) text.now) }
@@ -210,16 +204,15 @@ fn make_next<'a>(
 //     ≡ not (is_empty (edits (seen_mode mode) (all_errors parser.old)))) }
 #[inline]
 fn edit_all(
-    alloc: Global,
     mode: ParseMode,
     parser: &mut Parser<'_>,
     text: &str,
     at: usize,
 ) -> Result<(Vec<u8>, bool), AllocError> {
     let mut argument = Argument::default();
-    let mut found = Vec::made_in(alloc);
+    let mut found = Vec::new();
     let mut edited = Edited {
-        bytes: Vec::made_in(alloc),
+        bytes: Vec::new(),
         rest: text.as_bytes(),
         start: at,
         end: 0,
@@ -241,7 +234,7 @@ fn text_of(bytes: Vec<u8>) -> Option<String> {
 }
 
 /// Returns the literal of an input with the edits of its errors, or `None` if it has none or is
-/// then not UTF-8. Returns `Err` if an allocation fails.
+/// then not UTF-8.
 // requires { hashes style + length input.now + 2 < 2 ^ 64 }
 // ensures edits { IfOk result (λ o. IfSome o (λ s. literal_edits (seen_mode mode)
 //     (chars input.now) style (chars snippet.now) appended_newline ≢ [])) }
@@ -254,33 +247,31 @@ fn text_of(bytes: Vec<u8>) -> Option<String> {
 //     snippet.now) → ⊥)) }
 #[inline]
 fn edited_literal(
-    alloc: Global,
     input: &str,
     style: Option<usize>,
     snippet: &str,
     appended_newline: bool,
     mode: ParseMode,
 ) -> Result<Option<String>, AllocError> {
-    let owned = String::made_from(alloc, snippet)?;
-    let mut parser = Parser::new(alloc, input, style, Some(owned), appended_newline, mode)?;
-    let (bytes, has_edits) = edit_all(alloc, mode, &mut parser, snippet, 0)?;
+    let owned = String::made_from(snippet)?;
+    let mut parser = Parser::new(input, style, Some(owned), appended_newline, mode)?;
+    let (bytes, has_edits) = edit_all(mode, &mut parser, snippet, 0)?;
     if !has_edits {
         return Ok(None);
     }
     Ok(text_of(bytes))
 }
 
-/// Returns an input with the edits of its errors, or `None` if it is then not UTF-8. Returns `Err`
-/// if an allocation fails.
+/// Returns an input with the edits of its errors, or `None` if it is then not UTF-8.
 // requires { length input.now + 2 < 2 ^ 64 }
 // ensures some { IfOk result (λ o. IfSome o (λ s. string_bytes s
 //     ≡ applied 1 (text_edits (seen_mode mode) (chars input.now)) input.now)) }
 // ensures none { IfOk result (λ o. IfNone o
 //     (IsUtf8 (applied 1 (text_edits (seen_mode mode) (chars input.now)) input.now) → ⊥)) }
 #[inline]
-fn edited_text(alloc: Global, input: &str, mode: ParseMode) -> Result<Option<String>, AllocError> {
-    let mut parser = Parser::new(alloc, input, None, None, false, mode)?;
-    let (bytes, _) = edit_all(alloc, mode, &mut parser, input, 1)?;
+fn edited_text(input: &str, mode: ParseMode) -> Result<Option<String>, AllocError> {
+    let mut parser = Parser::new(input, None, None, false, mode)?;
+    let (bytes, _) = edit_all(mode, &mut parser, input, 1)?;
     Ok(text_of(bytes))
 }
 
@@ -289,7 +280,7 @@ fn edited_text(alloc: Global, input: &str, mode: ParseMode) -> Result<Option<Str
 ///
 /// Returns `None` if the snippet is not the source literal of the input, so that no edit is made in
 /// a foreign literal, if there is no edit, or if the literal with its edits would not stand for the
-/// text with its own. Returns `Err` if an allocation fails.
+/// text with its own.
 // requires { hashes style + length input.now + 2 < 2 ^ 64 }
 // ensures some { IfOk result (λ o. IfSome o (λ f. IsRound (seen_mode mode) input.now style
 //     snippet.now appended_newline (seen_fixed f))) }
@@ -299,7 +290,6 @@ fn edited_text(alloc: Global, input: &str, mode: ParseMode) -> Result<Option<Str
 //     → IsOk result }
 #[inline]
 pub fn round(
-    alloc: Global,
     input: &str,
     style: Option<usize>,
     snippet: &str,
@@ -309,11 +299,10 @@ pub fn round(
     if !is_source_literal(input, style, snippet, appended_newline) {
         return Ok(None);
     }
-    let Some(snippet) = edited_literal(alloc, input, style, snippet, appended_newline, mode)?
-    else {
+    let Some(snippet) = edited_literal(input, style, snippet, appended_newline, mode)? else {
         return Ok(None);
     };
-    let Some(text) = edited_text(alloc, input, mode)? else {
+    let Some(text) = edited_text(input, mode)? else {
         return Ok(None);
     };
     if is_source_literal(&text, style, &snippet, appended_newline) {

@@ -6,7 +6,7 @@
 
 use crate::proved::fault_fixes::fixes::{round, Fixed};
 use crate::proved::rustc_parse_format::{Argument, Fault, ParseMode};
-use crate::shim::alloc::{AllocError, Global};
+use crate::shim::alloc::AllocError;
 use crate::shim::parser::Parser;
 use crate::shim::prelude::*;
 
@@ -27,13 +27,13 @@ struct Faults<'a> {
 //     ≡ ids (seen_mode mode) text.now) }
 // ensures calls { IfOk result (λ f. f.calls ≡ faulty (seen_mode mode) text.now) }
 #[inline]
-fn faults_of(alloc: Global, text: &str, mode: ParseMode) -> Result<Faults<'_>, AllocError> {
+fn faults_of(text: &str, mode: ParseMode) -> Result<Faults<'_>, AllocError> {
     if text.len() >= 1 << (usize::BITS - 5) {
         return crate::shim::alloc::refuse();
     }
-    let mut parser = Parser::new(alloc, text, None, None, false, mode)?;
+    let mut parser = Parser::new(text, None, None, false, mode)?;
     let mut argument = Argument::default();
-    let mut list = Vec::made_in(alloc);
+    let mut list = Vec::new();
     let mut calls = 0;
     while !parser.is_at_end() {
         let count = list.len();
@@ -67,13 +67,8 @@ fn is_part(part: &[Fault<'_>], whole: &[Fault<'_>]) -> bool {
 // ensures { IfOk result (λ o. o ≡ count_left (map fault_id (map seen_fault old.now))
 //     (seen_mode mode) text.now) }
 #[inline]
-fn count_left(
-    alloc: Global,
-    old: &[Fault<'_>],
-    text: &str,
-    mode: ParseMode,
-) -> Result<Option<usize>, AllocError> {
-    let found = faults_of(alloc, text, mode)?;
+fn count_left(old: &[Fault<'_>], text: &str, mode: ParseMode) -> Result<Option<usize>, AllocError> {
+    let found = faults_of(text, mode)?;
     if is_part(found.list.as_slice(), old) {
         Ok(Some(found.calls))
     } else {
@@ -113,7 +108,6 @@ fn offer(best: &mut Best, literal: Fixed, calls: Option<usize>) {
 //     → ⊥)) }
 #[inline]
 fn next_round(
-    alloc: Global,
     reached: &Fixed,
     style: Option<usize>,
     appended_newline: bool,
@@ -127,7 +121,7 @@ fn next_round(
     if snippet.len() >= 1 << (usize::BITS - 5) {
         return crate::shim::alloc::refuse();
     }
-    Ok(round(alloc, text, style, snippet, appended_newline, mode)?)
+    Ok(round(text, style, snippet, appended_newline, mode)?)
 }
 
 /// Returns the source literal of an input with the edits that its faults suggest, and the text with
@@ -153,17 +147,16 @@ fn next_round(
 //     → IsOk result }
 #[inline]
 pub fn fix(
-    alloc: Global,
     input: &str,
     style: Option<usize>,
     snippet: &str,
     appended_newline: bool,
     mode: ParseMode,
 ) -> Result<Option<Fixed>, AllocError> {
-    let Some(first) = round(alloc, input, style, snippet, appended_newline, mode)? else {
+    let Some(first) = round(input, style, snippet, appended_newline, mode)? else {
         return Ok(None);
     };
-    let old = faults_of(alloc, input, mode)?;
+    let old = faults_of(input, mode)?;
     let mut best = Best {
         literal: None,
         calls: old.calls,
@@ -174,12 +167,12 @@ pub fn fix(
         let Some(fixed) = reached else {
             return Ok(best.literal);
         };
-        let calls = count_left(alloc, old.list.as_slice(), fixed.text.as_str(), mode)?;
+        let calls = count_left(old.list.as_slice(), fixed.text.as_str(), mode)?;
         if let Some(0) = calls {
             offer(&mut best, fixed, calls);
             return Ok(best.literal);
         }
-        reached = next_round(alloc, &fixed, style, appended_newline, mode)?;
+        reached = next_round(&fixed, style, appended_newline, mode)?;
         offer(&mut best, fixed, calls);
         rounds += 1;
     }

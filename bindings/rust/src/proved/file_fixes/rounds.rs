@@ -6,7 +6,7 @@
 
 use crate::proved::source_lint::file_faults;
 use crate::proved::source_report::{mend_each, Options, Report};
-use crate::shim::alloc::{AllocError, Global};
+use crate::shim::alloc::AllocError;
 use crate::shim::prelude::*;
 
 /// The most rounds.
@@ -42,7 +42,7 @@ pub fn is_no_worse(old: &Report, new: &Report) -> bool {
 }
 
 /// Returns a file after one more round, or `None` if there is nothing to mend or the file with its
-/// edits is worse. Returns `Err` if an allocation fails.
+/// edits is worse.
 // ensures round { IfOk result (λ o. IfSome o (λ x. IsRound
 //     (map entry options.now.table.rows.items) options.now.is_from_2021
 //     (bytes_or fixed.now.text text.now) fixed.now.report (string_bytes x.text) x.report
@@ -53,7 +53,6 @@ pub fn is_no_worse(old: &Report, new: &Report) -> bool {
 //     x.report.findings.items)) }
 #[inline]
 fn next_round(
-    alloc: Global,
     text: &str,
     fixed: &FileFixes,
     options: &Options<'_>,
@@ -62,14 +61,14 @@ fn next_round(
         None => text,
         Some(fixed) => fixed.as_str(),
     };
-    let edited = mend_each(alloc, source, fixed.report.findings.as_slice())?;
+    let edited = mend_each(source, fixed.report.findings.as_slice())?;
     if edited.ids.is_empty() {
         return Ok(None);
     }
     let Some(text) = String::from_utf8(edited.bytes).ok() else {
         return Ok(None);
     };
-    let report = file_faults(alloc, text.as_str(), options)?;
+    let report = file_faults(text.as_str(), options)?;
     if !is_no_worse(&fixed.report, &report) {
         return Ok(None);
     }
@@ -80,7 +79,7 @@ fn next_round(
     }))
 }
 
-/// Returns fixes with those of one more round. Returns `Err` if an allocation fails.
+/// Returns fixes with those of one more round.
 // ensures text { IfOk result (λ x. x.text ≡ Some round.text) }
 // ensures ids { IfOk result (λ x. x.ids.items ≡ fixed.ids.items ++ round.ids.items) }
 // ensures report { IfOk result (λ x. x.report ≡ round.report) }
@@ -101,8 +100,7 @@ fn with_round(fixed: FileFixes, round: Round) -> Result<FileFixes, AllocError> {
 ///
 /// In a round the suggestions of all faults are applied whose edits follow each other, and then
 /// those of the new report, in at most sixteen rounds. A round is left out if the file then breaks,
-/// has another number of calls, or more faults. Nothing is fixed in a file that breaks. Returns
-/// `Err` if an allocation fails.
+/// has another number of calls, or more faults. Nothing is fixed in a file that breaks.
 // ensures rounds { IfOk result (λ x. (r : ReportValue)
 //     × IsReport (map entry options.now.table.rows.items) options.now.is_from_2021 text.now r
 //     × AreRounds (map entry options.now.table.rows.items) options.now.is_from_2021 16 text.now r
@@ -112,15 +110,15 @@ fn with_round(fixed: FileFixes, round: Round) -> Result<FileFixes, AllocError> {
 // ensures spans { IfOk result (λ x. All (HasSpans (bytes_or x.text text.now))
 //     x.report.findings.items) }
 #[inline]
-pub fn fixes(alloc: Global, text: &str, options: &Options<'_>) -> Result<FileFixes, AllocError> {
+pub fn fixes(text: &str, options: &Options<'_>) -> Result<FileFixes, AllocError> {
     let mut fixed = FileFixes {
         text: None,
-        ids: Vec::made_in(alloc),
-        report: file_faults(alloc, text, options)?,
+        ids: Vec::new(),
+        report: file_faults(text, options)?,
     };
     let mut rounds = 0;
     while rounds < MOST_ROUNDS {
-        let Some(round) = next_round(alloc, text, &fixed, options)? else {
+        let Some(round) = next_round(text, &fixed, options)? else {
             return Ok(fixed);
         };
         fixed = with_round(fixed, round)?;

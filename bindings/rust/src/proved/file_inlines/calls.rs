@@ -17,7 +17,7 @@ use crate::proved::source_lint::{
     argument_at, arguments_before, captures, ends_early, index_or, name_at, other_macro, File,
 };
 use crate::proved::source_report::CallReading;
-use crate::shim::alloc::{AllocError, Global};
+use crate::shim::alloc::AllocError;
 use crate::shim::prelude::*;
 
 /// What inlining makes of a call.
@@ -83,25 +83,22 @@ struct Found<'s, 'a> {
     arguments: &'s [Argument],
 }
 
-/// Returns what inlining makes of this call, which `found` is in its file. Returns `Err` if an
-/// allocation fails.
+/// Returns what inlining makes of this call, which `found` is in its file.
 // requires { hashes call.string.style + length call.string.text.now + 2 < 2 ^ 64 }
 // ensures { IfOk result (λ x. Makes allows_mixed (seen_call call.entry)
 //     (AreEdits found.entry.text.now (map leaf found.entry.tokens.now) (leaf found.entry.literal)
 //     found.entry.arguments.now) x.inlining (map seen_edit x.edits.items)) }
 #[inline]
 fn inlined_as(
-    alloc: Global,
     found: Found<'_, '_>,
     call: FormatCall<'_>,
     allows_mixed: bool,
 ) -> Result<InlinedCall, AllocError> {
-    let made = match inlined(alloc, call, allows_mixed)? {
+    let made = match inlined(call, allows_mixed)? {
         Ok(made) => made,
-        Err(left) => return Ok(left_for(alloc, CallInlining::Left(left))),
+        Err(left) => return Ok(left_for(CallInlining::Left(left))),
     };
     let edits = edits_of(
-        alloc,
         found.text,
         found.tokens,
         found.literal,
@@ -113,7 +110,7 @@ fn inlined_as(
             inlining: CallInlining::Inlined,
             edits,
         }),
-        None => Ok(left_for(alloc, CallInlining::Left(Left::OtherMeaning))),
+        None => Ok(left_for(CallInlining::Left(Left::OtherMeaning))),
     }
 }
 
@@ -121,21 +118,20 @@ fn inlined_as(
 // ensures reason { result.inlining ≡ reason }
 // ensures none { result.edits.items ≡ [] }
 #[inline]
-fn left_for(alloc: Global, reason: CallInlining) -> InlinedCall {
+fn left_for(reason: CallInlining) -> InlinedCall {
     InlinedCall {
         inlining: reason,
-        edits: Vec::made_in(alloc),
+        edits: Vec::new(),
     }
 }
 
 /// Returns what inlining makes of a call of a macro with this rule and this name, whose arguments
-/// are all or not. Returns `Err` if an allocation fails.
+/// are all or not.
 // ensures { IfOk result (λ x. InlinesLiteral is_from_2021 allows_mixed rule name.now
 //     found.entry.text.now (map leaf found.entry.tokens.now) (leaf found.entry.literal)
 //     found.entry.arguments.now is_counted x.inlining (map seen_edit x.edits.items)) }
 #[inline]
 fn inline_found(
-    alloc: Global,
     found: Found<'_, '_>,
     rule: Rule,
     name: &[u8],
@@ -144,13 +140,10 @@ fn inline_found(
     allows_mixed: bool,
 ) -> Result<InlinedCall, AllocError> {
     let appended_newline = appends_newline(name);
-    let Some(literal) = read_literal(alloc, found.literal.text, appended_newline)? else {
-        return Ok(left_for(
-            alloc,
-            CallInlining::Unread(CallReading::Malformed),
-        ));
+    let Some(literal) = read_literal(found.literal.text, appended_newline)? else {
+        return Ok(left_for(CallInlining::Unread(CallReading::Malformed)));
     };
-    let arguments = with_sources(alloc, found.text, found.tokens, found.arguments)?;
+    let arguments = with_sources(found.text, found.tokens, found.arguments)?;
     let text = literal.text.as_str();
     let snippet = literal.snippet.as_str();
     let list = arguments.as_slice();
@@ -168,12 +161,11 @@ fn inline_found(
         is_format_alone: is_format_alone(rule, name, is_from_2021),
         has_const_form: has_const_form(rule),
     };
-    let made = inlined_as(alloc, found, call, allows_mixed)?;
+    let made = inlined_as(found, call, allows_mixed)?;
     Ok(made)
 }
 
 /// Returns what inlining makes of a call whose format string begins the argument of this index.
-/// Returns `Err` if an allocation fails.
 // requires pair { IsPair part.now (call.now.name + 2) call.now.close }
 // requires split { AreArguments part.now (call.now.name + 3) arguments.now call.now.close }
 // requires literal { (a : ArgumentValue) × (slice_get arguments.now index ≡ Some a)
@@ -182,7 +174,6 @@ fn inline_found(
 //     part.now call.now arguments.now index x.inlining (map seen_edit x.edits.items)) }
 #[inline]
 fn inline_at(
-    alloc: Global,
     file: File<'_, '_>,
     part: &Part<'_>,
     call: &Call,
@@ -192,11 +183,11 @@ fn inline_at(
 ) -> Result<InlinedCall, AllocError> {
     let unread = CallInlining::Unread(CallReading::Malformed);
     let Some(string) = argument_at(arguments, index) else {
-        return Ok(left_for(alloc, unread));
+        return Ok(left_for(unread));
     };
     let tokens = part.tokens();
     let Some(literal) = token_at(tokens, string.start) else {
-        return Ok(left_for(alloc, unread));
+        return Ok(left_for(unread));
     };
     let extent = extent_of(
         part.source(),
@@ -205,7 +196,7 @@ fn inline_at(
         string.start + 1,
         call.close,
     );
-    let before = arguments_before(alloc, &arguments[index + 1..], extent.end)?;
+    let before = arguments_before(&arguments[index + 1..], extent.end)?;
     let found = Found {
         text: file.text,
         tokens,
@@ -213,7 +204,6 @@ fn inline_at(
         arguments: &before,
     };
     let made = inline_found(
-        alloc,
         found,
         call.rule,
         name_at(tokens, call.name),
@@ -225,7 +215,7 @@ fn inline_at(
 }
 
 /// Returns what inlining makes of a call whose format string is the argument of this index, or
-/// whose templates begin with it. Returns `Err` if an allocation fails.
+/// whose templates begin with it.
 // requires pair { IsPair part.now (call.now.name + 2) call.now.close }
 // requires split { AreArguments part.now (call.now.name + 3) arguments.now call.now.close }
 // requires literal { (a : ArgumentValue) × (slice_get arguments.now index ≡ Some a)
@@ -235,7 +225,6 @@ fn inline_at(
 //     (map seen_edit x.edits.items)) }
 #[inline]
 fn inline_one(
-    alloc: Global,
     file: File<'_, '_>,
     part: &Part<'_>,
     call: &Call,
@@ -244,44 +233,42 @@ fn inline_one(
     allows_mixed: bool,
 ) -> Result<InlinedCall, AllocError> {
     match call.rule {
-        Rule::Templates => Ok(left_for(alloc, CallInlining::Assembly)),
+        Rule::Templates => Ok(left_for(CallInlining::Assembly)),
         Rule::At(_) | Rule::IndexByEdition(_) | Rule::FirstLiteral => {
-            let made = inline_at(alloc, file, part, call, arguments, index, allows_mixed)?;
+            let made = inline_at(file, part, call, arguments, index, allows_mixed)?;
             Ok(made)
         }
     }
 }
 
-/// Returns what inlining makes of a call. Returns `Err` if an allocation fails.
+/// Returns what inlining makes of a call.
 // requires { IsPair part.now (call.now.name + 2) call.now.close }
 // ensures { IfOk result (λ x. Inlines (scope file.entry) file.entry.is_from_2021 allows_mixed
 //     part.now call.now x.inlining (map seen_edit x.edits.items)) }
 #[inline]
 fn inline_call<'a>(
-    alloc: Global,
     file: File<'_, 'a>,
     part: &Part<'a>,
     call: &Call,
     allows_mixed: bool,
 ) -> Result<InlinedCall, AllocError> {
     if let Some(reading) = other_macro(file, part.tokens(), call) {
-        return Ok(left_for(alloc, CallInlining::Unread(reading)));
+        return Ok(left_for(CallInlining::Unread(reading)));
     }
-    let Some(arguments) = arguments(alloc, part.source(), call.close)? else {
-        return Ok(left_for(alloc, CallInlining::Unread(CallReading::Whole)));
+    let Some(arguments) = arguments(part.source(), call.close)? else {
+        return Ok(left_for(CallInlining::Unread(CallReading::Whole)));
     };
     let list = arguments.as_slice();
     match index_or(file, part, call, list) {
         Ok(index) => {
-            let made = inline_one(alloc, file, part, call, list, index, allows_mixed)?;
+            let made = inline_one(file, part, call, list, index, allows_mixed)?;
             Ok(made)
         }
-        Err(reading) => Ok(left_for(alloc, CallInlining::Unread(reading))),
+        Err(reading) => Ok(left_for(CallInlining::Unread(reading))),
     }
 }
 
-/// Adds what inlining makes of calls of a part of a file, one after the other. Returns `Err` if an
-/// allocation fails.
+/// Adds what inlining makes of calls of a part of a file, one after the other.
 // requires { (c : CallValue) → Contains calls.now c → IsPair part.now (c.name + 2) c.close }
 // ensures { OnOk result ((rs : List InliningValue) × (es : List EditValue)
 //     × (made.new.inlinings.items ≡ made.old.inlinings.items ++ rs)
@@ -290,7 +277,6 @@ fn inline_call<'a>(
 //     calls.now rs es) }
 #[inline]
 pub(crate) fn inline_calls<'a>(
-    alloc: Global,
     made: &mut InlinedCalls,
     file: File<'_, 'a>,
     part: &Part<'a>,
@@ -299,7 +285,7 @@ pub(crate) fn inline_calls<'a>(
 ) -> Result<(), AllocError> {
     let mut rest = calls;
     while let Some((call, others)) = rest.split_first() {
-        let mut one = inline_call(alloc, file, part, call, allows_mixed)?;
+        let mut one = inline_call(file, part, call, allows_mixed)?;
         made.inlinings.try_push(one.inlining)?;
         made.edits.try_append(&mut one.edits)?;
         rest = others;

@@ -10,30 +10,29 @@ use crate::proved::format_calls::Argument;
 use crate::proved::inlined_arguments::{apply_edits, Edit, Inlined};
 use crate::proved::rust_trees::Token;
 use crate::proved::source_lint::argument_at;
-use crate::shim::alloc::{AllocError, Global};
+use crate::shim::alloc::AllocError;
 use crate::shim::prelude::*;
 
 /// Returns the edits of a literal with lines that end with LF as edits of its token, which has
-/// these CRs more. Returns `Err` if an allocation fails.
+/// these CRs more.
 // ensures { IfOk result (λ v. map (λ e. e.text) (map seen_edit v.items)
 //     ≡ map (λ e. e.text) (map seen_edit edits.now)) }
 #[inline]
-fn in_token(alloc: Global, crs: &[usize], edits: &[Edit]) -> Result<Vec<Edit>, AllocError> {
-    let mut found = Vec::made_in(alloc);
+fn in_token(crs: &[usize], edits: &[Edit]) -> Result<Vec<Edit>, AllocError> {
+    let mut found = Vec::new();
     for edit in edits {
         found.try_push(Edit {
             span: offset_in(crs, edit.span.start)..offset_in(crs, edit.span.end),
-            text: String::made_from(alloc, edit.text.as_str())?,
+            text: String::made_from(edit.text.as_str())?,
         })?;
     }
     Ok(found)
 }
 
-/// Returns an edit that stands some bytes further on, or `None` if an offset is too large. Returns
-/// `Err` if an allocation fails.
+/// Returns an edit that stands some bytes further on, or `None` if an offset is too large.
 // ensures { IfOk result (λ o. IfSome o (λ e. seen_edit e ≡ moved by (seen_edit edit.now))) }
 #[inline]
-fn moved(alloc: Global, edit: &Edit, by: usize) -> Result<Option<Edit>, AllocError> {
+fn moved(edit: &Edit, by: usize) -> Result<Option<Edit>, AllocError> {
     let (Some(start), Some(end)) = (
         by.checked_add(edit.span.start),
         by.checked_add(edit.span.end),
@@ -42,19 +41,18 @@ fn moved(alloc: Global, edit: &Edit, by: usize) -> Result<Option<Edit>, AllocErr
     };
     Ok(Some(Edit {
         span: start..end,
-        text: String::made_from(alloc, edit.text.as_str())?,
+        text: String::made_from(edit.text.as_str())?,
     }))
 }
 
-/// Returns edits that stand some bytes further on, or `None` if an offset is too large. Returns
-/// `Err` if an allocation fails.
+/// Returns edits that stand some bytes further on, or `None` if an offset is too large.
 // ensures { IfOk result (λ o. IfSome o (λ v. map seen_edit v.items
 //     ≡ map (moved by) (map seen_edit edits.now))) }
 #[inline]
-fn each_moved(alloc: Global, edits: &[Edit], by: usize) -> Result<Option<Vec<Edit>>, AllocError> {
-    let mut found = Vec::made_in(alloc);
+fn each_moved(edits: &[Edit], by: usize) -> Result<Option<Vec<Edit>>, AllocError> {
+    let mut found = Vec::new();
     for edit in edits {
-        let Some(edit) = moved(alloc, edit, by)? else {
+        let Some(edit) = moved(edit, by)? else {
             return Ok(None);
         };
         found.try_push(edit)?;
@@ -62,14 +60,12 @@ fn each_moved(alloc: Global, edits: &[Edit], by: usize) -> Result<Option<Vec<Edi
     Ok(Some(found))
 }
 
-/// Adds the edits that remove the arguments of these indices, with their source. Returns `Err` if
-/// an allocation fails.
+/// Adds the edits that remove the arguments of these indices, with their source.
 // ensures { OnOk result (map seen_edit edits.new.items ≡ map seen_edit edits.old.items
 //     ++ filter_map (λ n. option_map (removal text.now (map leaf tokens.now))
 //     (slice_get arguments.now n)) gone.now) }
 #[inline]
 fn push_removals(
-    alloc: Global,
     edits: &mut Vec<Edit>,
     text: &str,
     tokens: &[Token<'_>],
@@ -80,68 +76,54 @@ fn push_removals(
         if let Some(argument) = argument_at(arguments, *index) {
             edits.try_push(Edit {
                 span: removed(text, tokens, &argument),
-                text: String::made_in(alloc),
+                text: String::new(),
             })?;
         }
     }
     Ok(())
 }
 
-/// Returns whether a token, without the CR before each LF, is this literal. Returns `Err` if an
-/// allocation fails.
+/// Returns whether a token, without the CR before each LF, is this literal.
 // ensures { IfOk result (λ b. IsTrue b → without_crs (chars token.now) ≡ chars literal.now) }
 #[inline]
-fn is_literal(alloc: Global, token: &str, literal: &str) -> Result<bool, AllocError> {
-    let found = without_crs(alloc, token)?;
+fn is_literal(token: &str, literal: &str) -> Result<bool, AllocError> {
+    let found = without_crs(token)?;
     Ok(found.as_str() == literal)
 }
 
 /// Returns the edits of the literal that a token is, as edits of its file, or `None` if the token
-/// with them is not the new literal. Returns `Err` if an allocation fails.
+/// with them is not the new literal.
 // ensures { IfOk result (λ o. IfSome o (λ v.
 //     AreLiteralEdits (leaf literal.entry) (seen_inlined made.now) (map seen_edit v.items))) }
 #[inline]
-fn literal_edits(
-    alloc: Global,
-    literal: Token<'_>,
-    made: &Inlined,
-) -> Result<Option<Vec<Edit>>, AllocError> {
-    let crs = dropped_crs(alloc, literal.text)?;
-    let inside = in_token(alloc, &crs, made.edits.as_slice())?;
-    let Some(new) = apply_edits(alloc, literal.text, &inside)? else {
+fn literal_edits(literal: Token<'_>, made: &Inlined) -> Result<Option<Vec<Edit>>, AllocError> {
+    let crs = dropped_crs(literal.text)?;
+    let inside = in_token(&crs, made.edits.as_slice())?;
+    let Some(new) = apply_edits(literal.text, &inside)? else {
         return Ok(None);
     };
-    if !is_literal(alloc, new.as_str(), made.literal.as_str())? {
+    if !is_literal(new.as_str(), made.literal.as_str())? {
         return Ok(None);
     }
-    let found = each_moved(alloc, inside.as_slice(), literal.start)?;
+    let found = each_moved(inside.as_slice(), literal.start)?;
     Ok(found)
 }
 
 /// Returns the edits that inline a call, with this token as its literal and these arguments after
-/// it, or `None` if the token with its edits is not the new literal. Returns `Err` if an allocation
-/// fails.
+/// it, or `None` if the token with its edits is not the new literal.
 // ensures { IfOk result (λ o. IfSome o (λ v. AreEdits text.now (map leaf tokens.now)
 //     (leaf literal.entry) arguments.now (seen_inlined made.now) (map seen_edit v.items))) }
 #[inline]
 pub(crate) fn edits_of(
-    alloc: Global,
     text: &str,
     tokens: &[Token<'_>],
     literal: Token<'_>,
     arguments: &[Argument],
     made: &Inlined,
 ) -> Result<Option<Vec<Edit>>, AllocError> {
-    let Some(mut edits) = literal_edits(alloc, literal, made)? else {
+    let Some(mut edits) = literal_edits(literal, made)? else {
         return Ok(None);
     };
-    push_removals(
-        alloc,
-        &mut edits,
-        text,
-        tokens,
-        arguments,
-        made.gone.as_slice(),
-    )?;
+    push_removals(&mut edits, text, tokens, arguments, made.gone.as_slice())?;
     Ok(Some(edits))
 }

@@ -8,7 +8,7 @@ use crate::proved::asm_lint::name_of;
 use crate::proved::format_calls::{is_word, token_at, Argument};
 use crate::proved::inlined_arguments::Argument as FormatArgument;
 use crate::proved::rust_trees::Token;
-use crate::shim::alloc::{AllocError, Global};
+use crate::shim::alloc::AllocError;
 use crate::shim::prelude::*;
 use core::ops::Range;
 
@@ -73,17 +73,16 @@ fn with_source<'a>(text: &'a str, tokens: &[Token<'a>], argument: &Argument) -> 
     }
 }
 
-/// Returns arguments of a call with their source. Returns `Err` if an allocation fails.
+/// Returns arguments of a call with their source.
 // ensures { IfOk result (λ v. map seen_argument v.items
 //     ≡ map (with_source text.now (map leaf tokens.now)) arguments.now) }
 #[inline]
 pub(crate) fn with_sources<'a>(
-    alloc: Global,
     text: &'a str,
     tokens: &[Token<'a>],
     arguments: &[Argument],
 ) -> Result<Vec<FormatArgument<'a>>, AllocError> {
-    let mut found = Vec::made_in(alloc);
+    let mut found = Vec::new();
     for argument in arguments {
         found.try_push(with_source(text, tokens, argument))?;
     }

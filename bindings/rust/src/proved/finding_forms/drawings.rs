@@ -11,7 +11,7 @@ use crate::proved::drawn_lines::Picture;
 use crate::proved::fault_fixes::Edit;
 use crate::proved::finding_forms::forms::File;
 use crate::proved::source_report::Finding;
-use crate::shim::alloc::{AllocError, Global};
+use crate::shim::alloc::AllocError;
 use crate::shim::prelude::*;
 use core::ops::Range;
 
@@ -97,7 +97,6 @@ fn line_end(text: &str, offset: usize) -> Option<usize> {
 // requires { file.now.places ≡ file.now.text.now }
 #[inline]
 fn excerpt_of<'a>(
-    alloc: Global,
     file: &File<'a>,
     range: &Range<usize>,
 ) -> Result<Option<Excerpt<'a>>, AllocError> {
@@ -111,7 +110,7 @@ fn excerpt_of<'a>(
         return Ok(None);
     };
     let lines = file.text.get(start..end).unwrap_or("");
-    let mut source = String::made_in(alloc);
+    let mut source = String::new();
     for line in lines.split('\n') {
         if line.len() > MOST {
             return Ok(None);
@@ -153,14 +152,10 @@ impl<'a> Excerpt<'a> {
         self.offset(range.start)..self.offset(range.end)
     }
 
-    /// Returns the labels of a finding. Returns `Err` if an allocation fails.
+    /// Returns the labels of a finding.
     #[inline]
-    fn labels<'f>(
-        &self,
-        alloc: Global,
-        finding: &'f Finding,
-    ) -> Result<Vec<SourceLabel<'f>>, AllocError> {
-        let mut labels = Vec::made_in(alloc);
+    fn labels<'f>(&self, finding: &'f Finding) -> Result<Vec<SourceLabel<'f>>, AllocError> {
+        let mut labels = Vec::new();
         for label in &finding.labels {
             labels.try_push(SourceLabel {
                 span: self.range(&label.range),
@@ -171,16 +166,12 @@ impl<'a> Excerpt<'a> {
         Ok(labels)
     }
 
-    /// Returns the ranges of the notes of a finding. Returns `Err` if an allocation fails.
+    /// Returns the ranges of the notes of a finding.
     #[inline]
-    fn note_ranges(
-        &self,
-        alloc: Global,
-        finding: &Finding,
-    ) -> Result<Vec<Vec<Range<usize>>>, AllocError> {
-        let mut all = Vec::made_in(alloc);
+    fn note_ranges(&self, finding: &Finding) -> Result<Vec<Vec<Range<usize>>>, AllocError> {
+        let mut all = Vec::new();
         for note in &finding.notes {
-            let mut ranges = Vec::made_in(alloc);
+            let mut ranges = Vec::new();
             for range in &note.ranges {
                 ranges.try_push(self.range(range))?;
             }
@@ -189,16 +180,14 @@ impl<'a> Excerpt<'a> {
         Ok(all)
     }
 
-    /// Returns the edits of the help of a finding with these texts, or none. Returns `Err` if an
-    /// allocation fails.
+    /// Returns the edits of the help of a finding with these texts, or none.
     #[inline]
     fn edits<'f>(
         &self,
-        alloc: Global,
         finding: &Finding,
         texts: &'f [String],
     ) -> Result<Vec<Edit<'f>>, AllocError> {
-        let mut edits = Vec::made_in(alloc);
+        let mut edits = Vec::new();
         if let Some(help) = &finding.help {
             for (edit, text) in help.edits.iter().zip(texts) {
                 edits.try_push(Edit {
@@ -211,10 +200,10 @@ impl<'a> Excerpt<'a> {
     }
 }
 
-/// Returns a text with LF for CRLF. Returns `Err` if an allocation fails.
+/// Returns a text with LF for CRLF.
 #[inline]
-fn with_line_feeds(alloc: Global, text: &str) -> Result<String, AllocError> {
-    let mut out = String::made_in(alloc);
+fn with_line_feeds(text: &str) -> Result<String, AllocError> {
+    let mut out = String::new();
     let mut is_first = true;
     for part in text.split("\r\n") {
         if !is_first {
@@ -226,27 +215,25 @@ fn with_line_feeds(alloc: Global, text: &str) -> Result<String, AllocError> {
     Ok(out)
 }
 
-/// Returns the new texts of the help of a finding, with LF for CRLF, or none. Returns `Err` if an
-/// allocation fails.
+/// Returns the new texts of the help of a finding, with LF for CRLF, or none.
 #[inline]
-fn edit_texts(alloc: Global, finding: &Finding) -> Result<Vec<String>, AllocError> {
-    let mut texts = Vec::made_in(alloc);
+fn edit_texts(finding: &Finding) -> Result<Vec<String>, AllocError> {
+    let mut texts = Vec::new();
     if let Some(help) = &finding.help {
         for edit in &help.edits {
-            texts.try_push(with_line_feeds(alloc, edit.text.as_str())?)?;
+            texts.try_push(with_line_feeds(edit.text.as_str())?)?;
         }
     }
     Ok(texts)
 }
 
-/// Returns the notes of a finding, with these ranges. Returns `Err` if an allocation fails.
+/// Returns the notes of a finding, with these ranges.
 #[inline]
 fn notes<'f>(
-    alloc: Global,
     finding: &'f Finding,
     ranges: &'f [Vec<Range<usize>>],
 ) -> Result<Vec<SourceNote<'f>>, AllocError> {
-    let mut notes = Vec::made_in(alloc);
+    let mut notes = Vec::new();
     for (note, spans) in finding.notes.iter().zip(ranges) {
         notes.try_push(SourceNote {
             text: note.text.as_str(),
@@ -256,14 +243,13 @@ fn notes<'f>(
     Ok(notes)
 }
 
-/// Returns the help of a finding, with these edits, or none. Returns `Err` if an allocation fails.
+/// Returns the help of a finding, with these edits, or none.
 #[inline]
 fn helps<'f>(
-    alloc: Global,
     finding: &'f Finding,
     edits: &'f [Edit<'f>],
 ) -> Result<Vec<SourceHelp<'f>>, AllocError> {
-    let mut helps = Vec::made_in(alloc);
+    let mut helps = Vec::new();
     if let Some(help) = &finding.help {
         helps.try_push(SourceHelp {
             text: help.text.as_str(),
@@ -283,7 +269,7 @@ fn level(finding: &Finding) -> Level {
     }
 }
 
-/// Appends the drawing of a finding under these lines. Returns `Err` if an allocation fails.
+/// Appends the drawing of a finding under these lines.
 #[inline]
 fn put_drawn<'x>(
     out: &mut String,
@@ -293,13 +279,12 @@ fn put_drawn<'x>(
     excerpt: &'x Excerpt<'_>,
     finding: &'x Finding,
 ) -> Result<(), AllocError> {
-    let alloc = *out.own_allocator();
-    let labels = excerpt.labels(alloc, finding)?;
-    let ranges = excerpt.note_ranges(alloc, finding)?;
-    let notes = notes(alloc, finding, ranges.as_slice())?;
-    let texts = edit_texts(alloc, finding)?;
-    let edits = excerpt.edits(alloc, finding, texts.as_slice())?;
-    let helps = helps(alloc, finding, edits.as_slice())?;
+    let labels = excerpt.labels(finding)?;
+    let ranges = excerpt.note_ranges(finding)?;
+    let notes = notes(finding, ranges.as_slice())?;
+    let texts = edit_texts(finding)?;
+    let edits = excerpt.edits(finding, texts.as_slice())?;
+    let helps = helps(finding, edits.as_slice())?;
     let picture = Picture {
         path,
         source: excerpt.source.as_str(),
@@ -319,8 +304,7 @@ fn put_drawn<'x>(
 }
 
 /// Appends the drawing of a finding, maybe in colours, and returns whether there is one: none is
-/// made of more than 20 labels, of more than 4,096 bytes, or of a line with more than that. Returns
-/// `Err` if an allocation fails.
+/// made of more than 20 labels, of more than 4,096 bytes, or of a line with more than that.
 // requires { file.now.places ≡ file.now.text.now }
 #[inline]
 pub fn put_drawing(
@@ -333,7 +317,7 @@ pub fn put_drawing(
     if finding.labels.len() > MOST_LABELS {
         return Ok(false);
     }
-    let Some(excerpt) = excerpt_of(*out.own_allocator(), file, &extent(finding))? else {
+    let Some(excerpt) = excerpt_of(file, &extent(finding))? else {
         return Ok(false);
     };
     put_drawn(out, colours, width, file.path, &excerpt, finding)?;

@@ -14,7 +14,7 @@ use crate::proved::message_forms::{
 };
 use crate::proved::rust_trees::Places;
 use crate::proved::source_report::{is_applicable, suggestion_of, Finding, Help, LabelSuggestion};
-use crate::shim::alloc::{AllocError, Global};
+use crate::shim::alloc::AllocError;
 use crate::shim::prelude::*;
 use core::ops::Range;
 
@@ -108,15 +108,11 @@ fn level_of(finding: &Finding) -> Level {
 }
 
 /// Returns the labels of a finding as ranges of its message. One that is a suggestion is a child of
-/// the message, and no label. Returns `Err` if an allocation fails.
+/// the message, and no label.
 // requires { file.now.places ≡ file.now.text.now }
 #[inline]
-fn label_spans<'a>(
-    alloc: Global,
-    file: &File<'a>,
-    finding: &'a Finding,
-) -> Result<Vec<Span<'a>>, AllocError> {
-    let mut spans = Vec::made_in(alloc);
+fn label_spans<'a>(file: &File<'a>, finding: &'a Finding) -> Result<Vec<Span<'a>>, AllocError> {
+    let mut spans = Vec::new();
     let mut has_primary = false;
     for label in &finding.labels {
         let is_suggestion = suggestion_of(label.text.as_str()).is_some();
@@ -140,16 +136,15 @@ fn is_sure(id: &str) -> bool {
     is_applicable(id) || id == "debug-equals" || id == "redundant-argument"
 }
 
-/// Returns the edits of a help as ranges of its message. Returns `Err` if an allocation fails.
+/// Returns the edits of a help as ranges of its message.
 // requires { file.now.places ≡ file.now.text.now }
 #[inline]
 fn edit_spans<'a>(
-    alloc: Global,
     file: &File<'a>,
     help: &'a Help,
     is_sure: bool,
 ) -> Result<Vec<Span<'a>>, AllocError> {
-    let mut spans = Vec::made_in(alloc);
+    let mut spans = Vec::new();
     for edit in &help.edits {
         let mut span = span_of(file, Form::Json, &edit.range);
         span.suggestion = Some(Suggestion {
@@ -161,12 +156,10 @@ fn edit_spans<'a>(
     Ok(spans)
 }
 
-/// Returns the range of a suggestion that is drawn as a label. Returns `Err` if an allocation
-/// fails.
+/// Returns the range of a suggestion that is drawn as a label.
 // requires { file.now.places ≡ file.now.text.now }
 #[inline]
 fn suggestion_spans<'a>(
-    alloc: Global,
     file: &File<'a>,
     range: &Range<usize>,
     suggestion: LabelSuggestion,
@@ -176,23 +169,22 @@ fn suggestion_spans<'a>(
         text: suggestion.text,
         is_sure: suggestion.is_sure,
     });
-    let mut spans = Vec::made_in(alloc);
+    let mut spans = Vec::new();
     spans.try_push(span)?;
     Ok(spans)
 }
 
 /// Returns the ranges of the notes of a finding, then those of its suggestions that are not drawn,
-/// of those among its labels, and of its help. Returns `Err` if an allocation fails.
+/// of those among its labels, and of its help.
 // requires { file.now.places ≡ file.now.text.now }
 #[inline]
 fn child_spans<'a>(
-    alloc: Global,
     file: &File<'a>,
     finding: &'a Finding,
 ) -> Result<Vec<Vec<Span<'a>>>, AllocError> {
-    let mut all = Vec::made_in(alloc);
+    let mut all = Vec::new();
     for note in &finding.notes {
-        let mut spans = Vec::made_in(alloc);
+        let mut spans = Vec::new();
         for range in &note.ranges {
             spans.try_push(span_of(file, Form::Json, range))?;
         }
@@ -200,29 +192,28 @@ fn child_spans<'a>(
     }
     for number in 0..TRAITS {
         if let Some(suggestion) = trait_suggestion(finding.id, number) {
-            all.try_push(suggestion_spans(alloc, file, &finding.span, suggestion)?)?;
+            all.try_push(suggestion_spans(file, &finding.span, suggestion)?)?;
         }
     }
     for label in &finding.labels {
         if let Some(suggestion) = suggestion_of(label.text.as_str()) {
-            all.try_push(suggestion_spans(alloc, file, &label.range, suggestion)?)?;
+            all.try_push(suggestion_spans(file, &label.range, suggestion)?)?;
         }
     }
     if let Some(help) = &finding.help {
-        all.try_push(edit_spans(alloc, file, help, is_sure(finding.id))?)?;
+        all.try_push(edit_spans(file, help, is_sure(finding.id))?)?;
     }
     Ok(all)
 }
 
 /// Returns the notes of a finding, its suggestions that are not drawn, those among its labels and
-/// its help, with these ranges. Returns `Err` if an allocation fails.
+/// its help, with these ranges.
 #[inline]
 fn children<'a, 's>(
-    alloc: Global,
     finding: &'a Finding,
     ranges: &'s [Vec<Span<'a>>],
 ) -> Result<Vec<Child<'a, 's>>, AllocError> {
-    let mut children = Vec::made_in(alloc);
+    let mut children = Vec::new();
     for (note, spans) in finding.notes.iter().zip(ranges) {
         children.try_push(Child {
             level: ChildLevel::Note,
@@ -265,8 +256,7 @@ fn children<'a, 's>(
     Ok(children)
 }
 
-/// Appends a message in the form for people: drawn, maybe in colours, or else in a line. Returns
-/// `Err` if an allocation fails.
+/// Appends a message in the form for people: drawn, maybe in colours, or else in a line.
 // requires { file.now.places ≡ file.now.text.now }
 #[inline]
 fn put_human(
@@ -283,7 +273,7 @@ fn put_human(
     put_short(out, message)
 }
 
-/// Appends a message as a line of JSON. Returns `Err` if an allocation fails.
+/// Appends a message as a line of JSON.
 // requires { file.now.places ≡ file.now.text.now }
 #[inline]
 fn put_line<'a>(
@@ -292,12 +282,11 @@ fn put_line<'a>(
     finding: &'a Finding,
     message: &Message<'a>,
 ) -> Result<(), AllocError> {
-    let alloc = *out.own_allocator();
-    let mut rendered = String::made_in(alloc);
+    let mut rendered = String::new();
     put_human(&mut rendered, false, WIDTH, file, finding, message)?;
-    let spans = label_spans(alloc, file, finding)?;
-    let ranges = child_spans(alloc, file, finding)?;
-    let children = children(alloc, finding, ranges.as_slice())?;
+    let spans = label_spans(file, finding)?;
+    let ranges = child_spans(file, finding)?;
+    let children = children(finding, ranges.as_slice())?;
     put_json(
         out,
         message,
@@ -307,7 +296,7 @@ fn put_line<'a>(
     )
 }
 
-/// Appends a finding in a form. Returns `Err` if an allocation fails.
+/// Appends a finding in a form.
 // requires { file.now.places ≡ file.now.text.now }
 #[inline]
 pub fn put_finding<'a>(
@@ -333,8 +322,7 @@ pub fn put_finding<'a>(
     }
 }
 
-/// Appends the start of the output, which comes before all messages. Returns `Err` if an allocation
-/// fails.
+/// Appends the start of the output, which comes before all messages.
 #[inline]
 pub fn put_start(out: &mut String, form: Form, version: &str) -> Result<(), AllocError> {
     match form {
@@ -343,8 +331,7 @@ pub fn put_start(out: &mut String, form: Form, version: &str) -> Result<(), Allo
     }
 }
 
-/// Appends the end of the output, which comes after all messages. Returns `Err` if an allocation
-/// fails.
+/// Appends the end of the output, which comes after all messages.
 #[inline]
 pub fn put_end(out: &mut String, form: Form, is_whole: bool) -> Result<(), AllocError> {
     match form {

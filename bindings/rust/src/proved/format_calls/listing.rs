@@ -7,7 +7,7 @@
 use crate::proved::format_calls::marks::{is_after, is_mark, is_word, token_at, word};
 use crate::proved::format_calls::table::{rule_of, Row, Rule, Table};
 use crate::proved::rust_trees::{Source, Token};
-use crate::shim::alloc::{AllocError, Global};
+use crate::shim::alloc::AllocError;
 use crate::shim::prelude::*;
 
 /// A call of a macro: a word, `!` and a pair of delimiters.
@@ -65,18 +65,13 @@ fn call_at(source: &Source<'_>, rows: &[Row<'_>], name: usize) -> Option<Call> {
     }
 }
 
-/// Returns the calls of the macros of a table, in the order of their names. Returns `Err` if an
-/// allocation fails.
+/// Returns the calls of the macros of a table, in the order of their names.
 // ensures each { IfOk result (λ v. (c : Call) → Contains v.items c
 //     ↔ IsCall (map entry table.now.rows.items) source.now c) }
 // ensures in_order { IfOk result (λ v. Rises 0 v.items (length source.now)) }
 #[inline]
-pub fn calls(
-    alloc: Global,
-    source: &Source<'_>,
-    table: &Table<'_>,
-) -> Result<Vec<Call>, AllocError> {
-    let mut found = Vec::made_in(alloc);
+pub fn calls(source: &Source<'_>, table: &Table<'_>) -> Result<Vec<Call>, AllocError> {
+    let mut found = Vec::new();
     for name in 0..source.tokens().len() {
         if let Some(call) = call_at(source, &table.rows, name) {
             found.try_push(call)?;

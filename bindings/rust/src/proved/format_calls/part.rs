@@ -8,7 +8,7 @@ use crate::proved::format_calls::marks::is_mark_of;
 use crate::proved::format_calls::modes::is_text;
 use crate::proved::format_calls::split::Argument;
 use crate::proved::rust_trees::{Source, Token};
-use crate::shim::alloc::{AllocError, Global};
+use crate::shim::alloc::AllocError;
 use crate::shim::prelude::*;
 
 /// A kind of token that arguments are searched for.
@@ -43,15 +43,11 @@ fn is_one_wanted(tokens: &[Token<'_>], wanted: Wanted) -> bool {
 }
 
 /// Returns for each number of tokens from the first one on how many of them end with the last one
-/// that is wanted, or nothing if none is. Returns `Err` if an allocation fails.
+/// that is wanted, or nothing if none is.
 // ensures { IfOk result (λ v. AreLast wanted (map leaf tokens.now) v.items) }
 #[inline]
-fn last_ones(
-    alloc: Global,
-    tokens: &[Token<'_>],
-    wanted: Wanted,
-) -> Result<Vec<usize>, AllocError> {
-    let mut found = Vec::made_in(alloc);
+fn last_ones(tokens: &[Token<'_>], wanted: Wanted) -> Result<Vec<usize>, AllocError> {
+    let mut found = Vec::new();
     if !is_one_wanted(tokens, wanted) {
         return Ok(found);
     }
@@ -88,12 +84,12 @@ pub struct Part<'a> {
 }
 
 impl<'a> Part<'a> {
-    /// Reads the tokens of a part. Returns `Err` if an allocation fails.
+    /// Reads the tokens of a part.
     // ensures { IfOk result (λ p. p ≡ source.entry) }
     #[inline]
-    pub(crate) fn new(alloc: Global, source: Source<'a>) -> Result<Self, AllocError> {
-        let variables = last_ones(alloc, source.tokens(), Wanted::Variable)?;
-        let raws = last_ones(alloc, source.tokens(), Wanted::Raw)?;
+    pub(crate) fn new(source: Source<'a>) -> Result<Self, AllocError> {
+        let variables = last_ones(source.tokens(), Wanted::Variable)?;
+        let raws = last_ones(source.tokens(), Wanted::Raw)?;
         Ok(Part {
             source,
             variables,

@@ -7,7 +7,7 @@
 use crate::proved::format_calls::marks::{is_mark_of, is_word, word};
 use crate::proved::format_calls::table::{rule_of, Row, Table};
 use crate::proved::rust_trees::{is_opening, Balance, Source, Token, Tokens};
-use crate::shim::alloc::{AllocError, Global};
+use crate::shim::alloc::AllocError;
 
 /// Returns whether three tokens are a word of a table, `!` and an opening delimiter.
 // ensures { result ≡ opens_call (map entry rows.now) (leaf name.now) (leaf mark.now)
@@ -80,7 +80,7 @@ fn moved_on<'a>(last: Window<'a>, token: Token<'a>) -> Window<'a> {
     }
 }
 
-/// Adds the tokens of a part after the first three. Returns `Err` if an allocation fails.
+/// Adds the tokens of a part after the first three.
 // requires { 3 ≤ length part.now }
 // ensures { OnOk result ((w : List Leaf) → IsBalanced w balance.old
 //     → IsBalanced (w ++ drop 3 part.now) balance.new) }
@@ -110,7 +110,6 @@ fn add_after_front(balance: &mut Balance, part: &Source<'_>) -> Result<(), Alloc
 //     × ((w : List Leaf) → IsBalanced w balance.old → IsBalanced (w ++ left) balance.new)) }
 #[inline]
 pub fn next_part<'a>(
-    alloc: Global,
     rest: &mut Tokens<'a>,
     table: &Table<'_>,
     balance: &mut Balance,
@@ -124,7 +123,7 @@ pub fn next_part<'a>(
         balance.add(&token)?;
         if let Some(front) = front_of(&table.rows, last, token) {
             let tokens = [front.name, front.mark, front.opening];
-            let part = Source::read_group(alloc, &tokens, rest)?;
+            let part = Source::read_group(&tokens, rest)?;
             add_after_front(balance, &part)?;
             return Ok(Some(part));
         }

@@ -7,7 +7,7 @@
 use crate::proved::format_calls::marks::{is_mark, is_word, token_at};
 use crate::proved::format_calls::modes::{is_followed, mode_after, Mode};
 use crate::proved::rust_trees::{Source, Token};
-use crate::shim::alloc::{AllocError, Global};
+use crate::shim::alloc::AllocError;
 use crate::shim::prelude::*;
 
 /// An argument of a call.
@@ -83,19 +83,13 @@ fn argument_end(source: &Source<'_>, opening: usize, from: usize, to: usize) -> 
     end
 }
 
-/// Returns the arguments between two delimiters that are a pair. Returns `Err` if an allocation
-/// fails.
+/// Returns the arguments between two delimiters that are a pair.
 // requires { IsPair source.now opening close }
 // ensures { IfOk result (λ v. AreArguments source.now (opening + 1) v.items close) }
 #[inline]
-fn between(
-    alloc: Global,
-    source: &Source<'_>,
-    opening: usize,
-    close: usize,
-) -> Result<Vec<Argument>, AllocError> {
+fn between(source: &Source<'_>, opening: usize, close: usize) -> Result<Vec<Argument>, AllocError> {
     let tokens = source.tokens();
-    let mut found = Vec::made_in(alloc);
+    let mut found = Vec::new();
     let mut start = opening + 1;
     while start < close {
         let end = argument_end(source, opening, start, close);
@@ -114,20 +108,16 @@ fn between(
 }
 
 /// Returns the arguments of the call that ends with this closing delimiter, or `None` if the token
-/// closes no pair. Returns `Err` if an allocation fails.
+/// closes no pair.
 // ensures some { IfOk result (λ o. IfSome o (λ v. (n : ℕ) × IsPair source.now n close
 //     × AreArguments source.now (n + 1) v.items close)) }
 // ensures none { IfOk result (λ o. IsNone o → (n : ℕ) → IsPair source.now n close → ⊥) }
 #[inline]
-pub fn arguments(
-    alloc: Global,
-    source: &Source<'_>,
-    close: usize,
-) -> Result<Option<Vec<Argument>>, AllocError> {
+pub fn arguments(source: &Source<'_>, close: usize) -> Result<Option<Vec<Argument>>, AllocError> {
     match source.partner(close) {
         Some(opening) => {
             if opening < close {
-                let found = between(alloc, source, opening, close)?;
+                let found = between(source, opening, close)?;
                 Ok(Some(found))
             } else {
                 Ok(None)

@@ -4,7 +4,7 @@
 // That source is proved, and each contract here is its. That this text means the same is tested:
 // by results from outside, and beside what is proved (.ci/bindings) and the original (tools/agree).
 
-use crate::shim::alloc::{AllocError, Global};
+use crate::shim::alloc::AllocError;
 use crate::shim::prelude::*;
 
 /// The rule for the argument of a macro that is its format string. The arguments after it are
@@ -190,7 +190,7 @@ const CRATES: [Row<'static>; 13] = [
     },
 ];
 
-/// Adds rows to the end of a list. Returns `Err` if an allocation fails.
+/// Adds rows to the end of a list.
 // ensures { OnOk result (rows.new.items ≡ rows.old.items ++ more.now) }
 #[inline]
 fn push_rows<'a>(rows: &mut Vec<Row<'a>>, more: &[Row<'static>]) -> Result<(), AllocError> {
@@ -201,21 +201,20 @@ fn push_rows<'a>(rows: &mut Vec<Row<'a>>, more: &[Row<'static>]) -> Result<(), A
 }
 
 impl<'a> Table<'a> {
-    /// Returns the macros of the standard library. Returns `Err` if an allocation fails.
+    /// Returns the macros of the standard library.
     // ensures { IfOk result (λ t. map entry t.rows.items ≡ standard) }
     #[inline]
-    pub(crate) fn standard(alloc: Global) -> Result<Self, AllocError> {
-        let mut rows = Vec::made_in(alloc);
+    pub(crate) fn standard() -> Result<Self, AllocError> {
+        let mut rows = Vec::new();
         push_rows(&mut rows, STANDARD.as_slice())?;
         Ok(Table { rows })
     }
 
-    /// Returns macros of the crates log, tracing, slog, anyhow and eyre. Returns `Err` if an
-    /// allocation fails.
+    /// Returns macros of the crates log, tracing, slog, anyhow and eyre.
     // ensures { IfOk result (λ t. map entry t.rows.items ≡ with_crates) }
     #[inline]
-    pub(crate) fn with_crates(alloc: Global) -> Result<Self, AllocError> {
-        let mut rows = Vec::made_in(alloc);
+    pub(crate) fn with_crates() -> Result<Self, AllocError> {
+        let mut rows = Vec::new();
         push_rows(&mut rows, CRATES.as_slice())?;
         Ok(Table { rows })
     }

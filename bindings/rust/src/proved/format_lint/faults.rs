@@ -7,7 +7,7 @@
 use super::findings::Findings;
 use crate::proved::format_tokens::{label, place_labels, Kind, Token};
 use crate::proved::rustc_parse_format::{Argument, ParseMode};
-use crate::shim::alloc::{AllocError, Global};
+use crate::shim::alloc::AllocError;
 use crate::shim::parser::Parser;
 use crate::shim::prelude::*;
 
@@ -31,10 +31,10 @@ pub struct Source<'a> {
 // requires { parser.old.errors ≡ [] }
 // ensures { IfOk result (λ f. Keeps f (findings_from false parser.old)) }
 #[inline]
-fn faults_of<'a>(alloc: Global, parser: &mut Parser<'a>) -> Result<Findings<'a>, AllocError> {
+fn faults_of<'a>(parser: &mut Parser<'a>) -> Result<Findings<'a>, AllocError> {
     let mut argument = Argument::default();
-    let mut found = Vec::made_in(alloc);
-    let mut faults = Findings::new(alloc);
+    let mut found = Vec::new();
+    let mut faults = Findings::new();
     while !parser.is_at_end() {
         parser.next_with_faults(&mut argument, &mut found)?;
         faults.add(&mut found)?;
@@ -51,16 +51,15 @@ fn faults_of<'a>(alloc: Global, parser: &mut Parser<'a>) -> Result<Findings<'a>,
 //     (findings (seen_mode mode) (seen_source source.entry))) }
 #[inline]
 fn labels_of<'a>(
-    alloc: Global,
     parser: &mut Parser<'a>,
     mode: ParseMode,
     source: Source<'a>,
 ) -> Result<(Vec<(Kind, usize)>, Findings<'a>), AllocError> {
     let text = source.text;
     let mut argument = Argument::default();
-    let mut labels = Vec::made_in(alloc);
-    let mut found = Vec::made_in(alloc);
-    let mut faults = Findings::new(alloc);
+    let mut labels = Vec::new();
+    let mut found = Vec::new();
+    let mut faults = Findings::new();
     let mut rest = text;
     while !rest.is_empty() {
         let taken = parser.next_with_faults(&mut argument, &mut found)?;
@@ -71,33 +70,25 @@ fn labels_of<'a>(
     Ok((labels, faults))
 }
 
-/// Returns a parser at the start of a source. Returns `Err` if an allocation fails.
+/// Returns a parser at the start of a source.
 // requires { hashes source.style ≤ limit }
 // ensures { IfOk result (λ p. p ≡ start (seen_mode mode) (seen_source source.entry)) }
 #[inline]
-fn parser_of<'a>(
-    alloc: Global,
-    mode: ParseMode,
-    source: Source<'a>,
-) -> Result<Parser<'a>, AllocError> {
+fn parser_of<'a>(mode: ParseMode, source: Source<'a>) -> Result<Parser<'a>, AllocError> {
     let snippet = match source.literal {
-        Some(literal) => Some(String::made_from(alloc, literal)?),
+        Some(literal) => Some(String::made_from(literal)?),
         None => None,
     };
-    Parser::new(alloc, source.text, source.style, snippet, false, mode)
+    Parser::new(source.text, source.style, snippet, false, mode)
 }
 
 /// Returns the faults of a source. Returns `Err` as `faults_of` does.
 // requires { hashes source.style ≤ limit }
 // ensures { IfOk result (λ f. Keeps f (findings (seen_mode mode) (seen_source source.entry))) }
 #[inline]
-pub fn faults_in<'a>(
-    alloc: Global,
-    mode: ParseMode,
-    source: Source<'a>,
-) -> Result<Findings<'a>, AllocError> {
-    let mut parser = parser_of(alloc, mode, source)?;
-    let faults = faults_of(alloc, &mut parser)?;
+pub fn faults_in<'a>(mode: ParseMode, source: Source<'a>) -> Result<Findings<'a>, AllocError> {
+    let mut parser = parser_of(mode, source)?;
+    let faults = faults_of(&mut parser)?;
     Ok(faults)
 }
 
@@ -109,14 +100,12 @@ pub fn faults_in<'a>(
 //     (findings (seen_mode mode) (seen_source source.entry))) }
 #[inline]
 pub fn tokens_in<'a>(
-    alloc: Global,
     mode: ParseMode,
     source: Source<'a>,
 ) -> Result<(Vec<Token>, Findings<'a>), AllocError> {
-    let mut parser = parser_of(alloc, mode, source)?;
-    let (labels, faults) = labels_of(alloc, &mut parser, mode, source)?;
+    let mut parser = parser_of(mode, source)?;
+    let (labels, faults) = labels_of(&mut parser, mode, source)?;
     let tokens = place_labels(
-        alloc,
         source.text,
         source.style,
         source.literal,

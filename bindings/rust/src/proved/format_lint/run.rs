@@ -8,7 +8,6 @@ use super::shown::shown_of_input;
 use super::task::Task;
 use crate::proved::piece_listing::run::{read_input, write_whole};
 use crate::proved::piece_listing::verdict::RunFault;
-use crate::shim::alloc::Global;
 use std::io::{Read, Write};
 
 /// Reads an input from `reader` up to its end, and writes the output of `task` for it to `writer`
@@ -49,17 +48,16 @@ use std::io::{Read, Write};
 //     → (writer.new ≡ writer.old) × (error_writer.new ≡ error_writer.old)) }
 #[inline]
 pub fn run<R: Read, W: Write, E: Write>(
-    alloc: Global,
     reader: &mut R,
     writer: &mut W,
     error_writer: &mut E,
     task: Task<'_>,
 ) -> Result<usize, RunFault> {
-    let input = read_input(alloc, reader)?;
+    let input = read_input(reader)?;
     let Ok(text) = core::str::from_utf8(input.as_slice()) else {
         return Err(RunFault::NotText);
     };
-    let shown = shown_of_input(alloc, text, task)?;
+    let shown = shown_of_input(text, task)?;
     write_whole(writer, shown.output.as_bytes())?;
     write_whole(error_writer, shown.error_output.as_bytes())?;
     Ok(shown.mistakes)

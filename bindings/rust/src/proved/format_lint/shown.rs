@@ -15,7 +15,7 @@ use crate::proved::literal_faults::snippet_of;
 use crate::proved::piece_listing::literal::literal_text;
 use crate::proved::piece_listing::verdict::RunFault;
 use crate::proved::rustc_parse_format::ParseMode;
-use crate::shim::alloc::{AllocError, Global};
+use crate::shim::alloc::AllocError;
 use crate::shim::prelude::*;
 
 /// The result of a task for an input.
@@ -29,7 +29,6 @@ pub struct Shown {
 }
 
 /// Appends a line with the id of a fault, which says whether it follows from the one before.
-/// Returns `Err` if an allocation fails.
 // ensures { OnOk result (string_bytes out.new ≡ string_bytes out.old
 //     ++ id_line finding.now.follows (fault_id (seen_fault finding.now.fault))) }
 #[inline]
@@ -44,30 +43,27 @@ fn put_id(out: &mut String, finding: &Finding<'_>) -> Result<(), AllocError> {
     Ok(())
 }
 
-/// Appends the drawing of a fault to a text. Returns `Err` if an allocation fails.
+/// Appends the drawing of a fault to a text.
 // ensures { OnOk result (string_bytes out.new ≡ string_bytes out.old ++ drawing (seen_mode mode)
 //     (seen_picture picture.now) (message (seen_finding finding.now).fault)) }
 #[inline]
 fn put_finding(
-    alloc: Global,
     out: &mut String,
     mode: ParseMode,
     picture: &Picture<'_>,
     finding: &Finding<'_>,
 ) -> Result<(), AllocError> {
-    let error = finding.fault.error(alloc)?;
+    let error = finding.fault.error()?;
     put_drawing(out, mode, picture, &error)?;
     Ok(())
 }
 
-/// Appends the drawings of faults to a text, each after a line with its id. Returns `Err` if an
-/// allocation fails.
+/// Appends the drawings of faults to a text, each after a line with its id.
 // ensures { OnOk result (string_bytes out.new ≡ string_bytes out.old
 //     ++ flat_map (drawn_finding (seen_mode mode) (seen_picture picture.now))
 //     (map seen_finding findings.now)) }
 #[inline]
 fn put_each(
-    alloc: Global,
     out: &mut String,
     mode: ParseMode,
     picture: &Picture<'_>,
@@ -75,39 +71,36 @@ fn put_each(
 ) -> Result<(), AllocError> {
     for finding in findings {
         put_id(out, finding)?;
-        put_finding(alloc, out, mode, picture, finding)?;
+        put_finding(out, mode, picture, finding)?;
     }
     Ok(())
 }
 
-/// Appends a line that says how many faults are not drawn, if there are any. Returns `Err` if an
-/// allocation fails.
+/// Appends a line that says how many faults are not drawn, if there are any.
 // ensures { OnOk result (string_bytes out.new ≡ string_bytes out.old ++ more count) }
 #[inline]
-fn put_more(alloc: Global, out: &mut String, count: usize) -> Result<(), AllocError> {
+fn put_more(out: &mut String, count: usize) -> Result<(), AllocError> {
     if count == 0 {
         return Ok(());
     }
-    let line = crate::shim::format_in!(alloc; "and {count} more\n")?;
+    let line = crate::shim::try_format!("and {count} more\n")?;
     out.try_push_str(line.as_str())?;
     Ok(())
 }
 
-/// Appends the drawing of the first of these faults to a text, if there is one. Returns `Err` if an
-/// allocation fails.
+/// Appends the drawing of the first of these faults to a text, if there is one.
 // ensures { OnOk result (string_bytes out.new ≡ string_bytes out.old
 //     ++ first_drawing (seen_mode mode) (seen_picture picture.now)
 //     (map seen_finding findings.now)) }
 #[inline]
 fn put_first(
-    alloc: Global,
     out: &mut String,
     mode: ParseMode,
     picture: &Picture<'_>,
     findings: &[Finding<'_>],
 ) -> Result<(), AllocError> {
     if !findings.is_empty() {
-        put_finding(alloc, out, mode, picture, &findings[0])?;
+        put_finding(out, mode, picture, &findings[0])?;
     }
     Ok(())
 }
@@ -123,7 +116,6 @@ fn put_first(
 // ensures report { IfOk result (λ report. report ≡ faults.now.mistakes) }
 #[inline]
 fn put_drawings(
-    alloc: Global,
     out: &mut String,
     all: bool,
     mode: ParseMode,
@@ -131,10 +123,10 @@ fn put_drawings(
     faults: &Findings<'_>,
 ) -> Result<usize, AllocError> {
     if all {
-        put_each(alloc, out, mode, picture, faults.first.as_slice())?;
-        put_more(alloc, out, faults.others)?;
+        put_each(out, mode, picture, faults.first.as_slice())?;
+        put_more(out, faults.others)?;
     } else {
-        put_first(alloc, out, mode, picture, faults.first.as_slice())?;
+        put_first(out, mode, picture, faults.first.as_slice())?;
     }
     Ok(faults.mistakes)
 }
@@ -148,7 +140,6 @@ fn put_drawings(
 //     ≡ mistakes (findings (seen_mode task.entry.mode) (seen_source source.entry))) }
 #[inline]
 fn put_faults(
-    alloc: Global,
     out: &mut String,
     all: bool,
     task: Task<'_>,
@@ -163,45 +154,38 @@ fn put_faults(
         width: task.width,
         colours: task.colours,
     };
-    put_drawings(alloc, out, all, task.mode, &picture, faults)
+    put_drawings(out, all, task.mode, &picture, faults)
 }
 
-/// Returns the drawing of a source as the output. Returns `Err` if an allocation fails.
+/// Returns the drawing of a source as the output.
 // requires { hashes source.style ≤ limit }
 // ensures { IfOk result (λ x. seen_shown x
 //     ≡ drawn all (seen_task task.entry) (seen_source source.entry)) }
 #[inline]
-fn drawn_output(
-    alloc: Global,
-    all: bool,
-    task: Task<'_>,
-    source: Source<'_>,
-) -> Result<Shown, AllocError> {
-    let faults = faults_in(alloc, task.mode, source)?;
-    let mut output = String::made_in(alloc);
-    let mistakes = put_faults(alloc, &mut output, all, task, source, &faults)?;
+fn drawn_output(all: bool, task: Task<'_>, source: Source<'_>) -> Result<Shown, AllocError> {
+    let faults = faults_in(task.mode, source)?;
+    let mut output = String::new();
+    let mistakes = put_faults(&mut output, all, task, source, &faults)?;
     Ok(Shown {
         output,
-        error_output: String::made_in(alloc),
+        error_output: String::new(),
         mistakes,
     })
 }
 
 /// Returns an output with the drawing of the first of a source's faults as the error output.
-/// Returns `Err` if an allocation fails.
 // requires { Keeps faults.now (findings (seen_mode task.mode) (seen_source source)) }
 // ensures { IfOk result (λ x. seen_shown x
 //     ≡ with_drawing (string_bytes output) (seen_task task.entry) (seen_source source.entry)) }
 #[inline]
 fn with_drawing(
-    alloc: Global,
     output: String,
     task: Task<'_>,
     source: Source<'_>,
     faults: &Findings<'_>,
 ) -> Result<Shown, AllocError> {
-    let mut error_output = String::made_in(alloc);
-    let mistakes = put_faults(alloc, &mut error_output, false, task, source, faults)?;
+    let mut error_output = String::new();
+    let mistakes = put_faults(&mut error_output, false, task, source, faults)?;
     Ok(Shown {
         output,
         error_output,
@@ -209,32 +193,31 @@ fn with_drawing(
     })
 }
 
-/// Returns a source as it is written and a line end, with the drawing of its first fault. Returns
-/// `Err` if an allocation fails.
+/// Returns a source as it is written and a line end, with the drawing of its first fault.
 // requires { hashes source.style ≤ limit }
 // ensures { IfOk result (λ x. seen_shown x
 //     ≡ kept (seen_task task.entry) (seen_source source.entry)) }
 #[inline]
-fn kept_output(alloc: Global, task: Task<'_>, source: Source<'_>) -> Result<Shown, AllocError> {
-    let mut output = String::made_in(alloc);
+fn kept_output(task: Task<'_>, source: Source<'_>) -> Result<Shown, AllocError> {
+    let mut output = String::new();
     output.try_push_str(source.literal.unwrap_or(source.text))?;
     output.try_push_str("\n")?;
-    let faults = faults_in(alloc, task.mode, source)?;
-    Ok(with_drawing(alloc, output, task, source, &faults)?)
+    let faults = faults_in(task.mode, source)?;
+    Ok(with_drawing(output, task, source, &faults)?)
 }
 
 /// Returns the literal of a source with the edits that its faults suggest, with the drawing of the
-/// first fault that it then has. Returns `Err` if an allocation fails.
+/// first fault that it then has.
 // requires { hashes source.style ≤ limit }
 // ensures { IfOk result (λ x. (r : SourceValue)
 //     × IsMended (seen_mode task.entry.mode) (seen_source source.entry) r
 //     × (seen_shown x ≡ kept (seen_task task.entry) r)) }
 #[inline]
-fn fixed_output(alloc: Global, task: Task<'_>, source: Source<'_>) -> Result<Shown, AllocError> {
+fn fixed_output(task: Task<'_>, source: Source<'_>) -> Result<Shown, AllocError> {
     let Some(literal) = source.literal else {
-        return Ok(kept_output(alloc, task, source)?);
+        return Ok(kept_output(task, source)?);
     };
-    match fix(alloc, source.text, source.style, literal, false, task.mode)? {
+    match fix(source.text, source.style, literal, false, task.mode)? {
         Some(fixed) => {
             let mended = Source {
                 text: fixed.text.as_str(),
@@ -244,40 +227,40 @@ fn fixed_output(alloc: Global, task: Task<'_>, source: Source<'_>) -> Result<Sho
                 line_start: 1,
                 start: 0,
             };
-            Ok(kept_output(alloc, task, mended)?)
+            Ok(kept_output(task, mended)?)
         }
-        None => Ok(kept_output(alloc, task, source)?),
+        None => Ok(kept_output(task, source)?),
     }
 }
 
 /// Returns the tokens of a source, in colours with a line end after them or each in a line, with
-/// the drawing of its first fault. Returns `Err` if an allocation fails.
+/// the drawing of its first fault.
 // requires { hashes source.style ≤ limit }
 // ensures { IfOk result (λ x. seen_shown x
 //     ≡ lexed (seen_task task.entry) (seen_source source.entry)) }
 #[inline]
-fn token_output(alloc: Global, task: Task<'_>, source: Source<'_>) -> Result<Shown, AllocError> {
+fn token_output(task: Task<'_>, source: Source<'_>) -> Result<Shown, AllocError> {
     let written = source.literal.unwrap_or(source.text);
-    let (found, faults) = tokens_in(alloc, task.mode, source)?;
-    let mut output = String::made_in(alloc);
+    let (found, faults) = tokens_in(task.mode, source)?;
+    let mut output = String::new();
     put_tokens(&mut output, task.colours, written, found.as_slice())?;
     if task.colours {
         output.try_push_str("\n")?;
     }
-    Ok(with_drawing(alloc, output, task, source, &faults)?)
+    Ok(with_drawing(output, task, source, &faults)?)
 }
 
-/// Returns the result of a task for a source. Returns `Err` if an allocation fails.
+/// Returns the result of a task for a source.
 // requires { hashes source.style ≤ limit }
 // ensures { IfOk result (λ x. IsShown (seen_task task.entry) (seen_source source.entry)
 //     (seen_shown x)) }
 #[inline]
-fn shown_of(alloc: Global, source: Source<'_>, task: Task<'_>) -> Result<Shown, AllocError> {
+fn shown_of(source: Source<'_>, task: Task<'_>) -> Result<Shown, AllocError> {
     match task.show {
-        Show::Fault => drawn_output(alloc, false, task, source),
-        Show::All => drawn_output(alloc, true, task, source),
-        Show::Tokens => token_output(alloc, task, source),
-        Show::Fix => fixed_output(alloc, task, source),
+        Show::Fault => drawn_output(false, task, source),
+        Show::All => drawn_output(true, task, source),
+        Show::Tokens => token_output(task, source),
+        Show::Fix => fixed_output(task, source),
     }
 }
 
@@ -291,9 +274,9 @@ fn shown_of(alloc: Global, source: Source<'_>, task: Task<'_>) -> Result<Shown, 
 //     → ⊥ }
 // ensures others { IfErr result (λ fault. fault ≢ NotLiteral → fault ≡ Memory) }
 #[inline]
-fn shown_of_literal(alloc: Global, input: &str, task: Task<'_>) -> Result<Shown, RunFault> {
+fn shown_of_literal(input: &str, task: Task<'_>) -> Result<Shown, RunFault> {
     let snippet = snippet_of(input);
-    let Some((text, style)) = literal_text(alloc, snippet.text)? else {
+    let Some((text, style)) = literal_text(snippet.text)? else {
         return Err(RunFault::NotLiteral);
     };
     let source = Source {
@@ -304,7 +287,7 @@ fn shown_of_literal(alloc: Global, input: &str, task: Task<'_>) -> Result<Shown,
         line_start: 1,
         start: snippet.start,
     };
-    Ok(shown_of(alloc, source, task)?)
+    Ok(shown_of(source, task)?)
 }
 
 /// Returns a text that is in no literal, with the lines that it is drawn in.
@@ -334,11 +317,11 @@ fn bare<'a>(text: &'a str, lines: &'a str) -> Source<'a> {
 //     → IsSourceIn task.entry.is_literal input.now s → ⊥ }
 // ensures others { IfErr result (λ fault. fault ≢ NotLiteral → fault ≡ Memory) }
 #[inline]
-pub fn shown_of_input(alloc: Global, input: &str, task: Task<'_>) -> Result<Shown, RunFault> {
+pub fn shown_of_input(input: &str, task: Task<'_>) -> Result<Shown, RunFault> {
     if task.is_literal {
-        return shown_of_literal(alloc, input, task);
+        return shown_of_literal(input, task);
     }
     // without a literal a span is one more than in the text, and so is the place in these lines
-    let lines = crate::shim::format_in!(alloc; "\n{input}")?;
-    Ok(shown_of(alloc, bare(input, lines.as_str()), task)?)
+    let lines = crate::shim::try_format!("\n{input}")?;
+    Ok(shown_of(bare(input, lines.as_str()), task)?)
 }

@@ -101,7 +101,7 @@ fn put_drawn_quoted(out: &mut String, as_is: bool, text: &str) -> Result<(), All
     if as_is {
         return put_quoted(out, text);
     }
-    let mut quoted = String::made_in(*out.own_allocator());
+    let mut quoted = String::new();
     put_quoted(&mut quoted, text)?;
     put_glyphs(out, quoted.as_str(), 0)?;
     Ok(())

@@ -7,7 +7,7 @@
 use crate::proved::format_literal::written::is_written;
 use crate::proved::piece_listing::literal::literal_text;
 use crate::proved::rustc_parse_format::ParseMode;
-use crate::shim::alloc::{AllocError, Global};
+use crate::shim::alloc::AllocError;
 use crate::shim::prelude::*;
 
 /// A string literal that is read as a format string: the five arguments that calls over an input
@@ -30,18 +30,16 @@ pub struct Literal<'a> {
 impl<'a> Literal<'a> {
     /// Reads a string literal by the rules of the Rust Reference, `"..."` or `r#"..."#` with any
     /// number of hashes. Its lines end with LF. Returns `None` if the source is no such literal:
-    /// for example with a prefix `b` or `c`, a suffix, or white space around it. Returns `Err` if
-    /// an allocation fails.
+    /// for example with a prefix `b` or `c`, a suffix, or white space around it.
     // ensures { IfOk result (λ o. MatchOption o
     //     ((style : Option ℕ) (t : Text) → IsWritten style (chars source.now) t → ⊥)
     //     (λ l. IsRead source.now (seen_mode mode) l)) }
     #[inline]
     pub(crate) fn read(
-        alloc: Global,
         source: &'a str,
         mode: ParseMode,
     ) -> Result<Option<Literal<'a>>, AllocError> {
-        let Some((text, style)) = literal_text(alloc, source)? else {
+        let Some((text, style)) = literal_text(source)? else {
             return Ok(None);
         };
         if !is_written(source, style, &text) {

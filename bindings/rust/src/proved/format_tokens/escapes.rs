@@ -7,7 +7,7 @@
 use crate::proved::format_tokens::kinds::{Kind, Token};
 use crate::proved::format_tokens::parts::{after_first, begins, width_of};
 use crate::proved::rustc_parse_format::literal::split_first_unit;
-use crate::shim::alloc::{AllocError, Global};
+use crate::shim::alloc::AllocError;
 use crate::shim::prelude::*;
 use core::ops::Range;
 
@@ -140,13 +140,12 @@ fn has_backslash(text: &str) -> bool {
     false
 }
 
-/// Returns the tokens of an ordinary literal cut at its escapes. Returns `Err` if an allocation
-/// fails.
+/// Returns the tokens of an ordinary literal cut at its escapes.
 // ensures { IfOk result (λ v. map seen_token v.items
 //     ≡ cut (chars literal.now) (map seen_token tokens.now)) }
 #[inline]
-fn cut(alloc: Global, literal: &str, tokens: &[Token]) -> Result<Vec<Token>, AllocError> {
-    let mut found = Vec::made_for(alloc, tokens.len())?;
+fn cut(literal: &str, tokens: &[Token]) -> Result<Vec<Token>, AllocError> {
+    let mut found = Vec::made_for(tokens.len())?;
     let mut rest = literal;
     for token in tokens {
         let width = token.span.end.saturating_sub(token.span.start);
@@ -157,18 +156,13 @@ fn cut(alloc: Global, literal: &str, tokens: &[Token]) -> Result<Vec<Token>, All
     Ok(found)
 }
 
-/// Returns the tokens of an ordinary literal, which cover it, cut at its escapes. Returns `Err` if
-/// an allocation fails.
+/// Returns the tokens of an ordinary literal, which cover it, cut at its escapes.
 // ensures { IfOk result (λ v. (a b : ℕ) → IsCover a b (ranges_of (map seen_token tokens.items))
 //     → map seen_token v.items ≡ cut (chars literal.now) (map seen_token tokens.items)) }
 #[inline]
-pub fn cut_escapes(
-    alloc: Global,
-    literal: &str,
-    tokens: Vec<Token>,
-) -> Result<Vec<Token>, AllocError> {
+pub fn cut_escapes(literal: &str, tokens: Vec<Token>) -> Result<Vec<Token>, AllocError> {
     if has_backslash(literal) {
-        return cut(alloc, literal, tokens.as_slice());
+        return cut(literal, tokens.as_slice());
     }
     Ok(tokens)
 }

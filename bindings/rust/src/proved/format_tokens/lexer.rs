@@ -11,7 +11,7 @@ use crate::proved::format_tokens::places::{ordinary_starts, place, plain_starts}
 use crate::proved::format_tokens::walk::labels;
 use crate::proved::rustc_parse_format::literal::is_source_literal;
 use crate::proved::rustc_parse_format::ParseMode;
-use crate::shim::alloc::{AllocError, Global};
+use crate::shim::alloc::AllocError;
 use crate::shim::prelude::*;
 
 /// Returns whether each argument has to be a name and nothing else.
@@ -46,24 +46,23 @@ fn source_of<'a>(
 }
 
 /// Returns the byte offsets where the characters of an input start in its source literal, and then
-/// the end of the text. Returns `Err` if an allocation fails.
+/// the end of the text.
 // requires room { hashes style + length input.now + 2 < 2 ^ 64 }
 // requires source { IsSource (chars input.now) style (chars literal.now) appended_newline }
 // ensures { IfOk result (λ v. v.items
 //     ≡ starts_of (world (chars input.now) style (Some (chars literal.now)) appended_newline)) }
 #[inline]
 fn literal_starts(
-    alloc: Global,
     input: &str,
     style: Option<usize>,
     literal: &str,
     appended_newline: bool,
 ) -> Result<Vec<usize>, AllocError> {
     match style {
-        None => ordinary_starts(alloc, literal, appended_newline),
+        None => ordinary_starts(literal, appended_newline),
         Some(hashes) => {
             let end = width_of(literal).saturating_sub(hashes + 1);
-            let starts = plain_starts(alloc, hashes + 2, input, end)?;
+            let starts = plain_starts(hashes + 2, input, end)?;
             Ok(starts)
         }
     }
@@ -71,7 +70,7 @@ fn literal_starts(
 
 /// Returns the tokens of an input with their byte ranges, where escapes are in the tokens of the
 /// characters that they stand for, and the opening and the closing of `literal`, its source literal
-/// if it has one. Returns `Err` if an allocation fails.
+/// if it has one.
 // requires room { hashes style + length input.now + 2 < 2 ^ 64 }
 // requires source { IsSource (chars input.now) style (chars literal.now) appended_newline }
 // ensures { IfOk result (λ v. (mode : Mode)
@@ -80,7 +79,6 @@ fn literal_starts(
 //     ≡ whole_tokens mode (chars input.now) style (Some (chars literal.now)) appended_newline) }
 #[inline]
 fn place_whole(
-    alloc: Global,
     input: &str,
     style: Option<usize>,
     literal: &str,
@@ -89,9 +87,9 @@ fn place_whole(
     labels: &[(Kind, usize)],
 ) -> Result<Vec<Token>, AllocError> {
     let kept = length_of(input).saturating_sub(usize::from(appended_newline));
-    let offsets = literal_starts(alloc, input, style, literal, appended_newline)?;
+    let offsets = literal_starts(input, style, literal, appended_newline)?;
     let starts = offsets.as_slice();
-    let mut tokens = Vec::made_for(alloc, labels.len().saturating_add(2))?;
+    let mut tokens = Vec::made_for(labels.len().saturating_add(2))?;
     tokens.try_push(Token {
         kind: Kind::Quote,
         span: 0..starts[0],
@@ -105,8 +103,7 @@ fn place_whole(
 }
 
 /// Returns the tokens of an input with their byte ranges. `labels` has the kind of each, as `label`
-/// adds them, and its number of characters; the other arguments are those of `tokens`. Returns
-/// `Err` if an allocation fails.
+/// adds them, and its number of characters; the other arguments are those of `tokens`.
 // requires { hashes style + length input.now + 2 < 2 ^ 64 }
 // ensures { IfOk result (λ v.
 //     labels.now ≡ map sized (read_tokens (seen_mode mode) (chars input.now))
@@ -114,7 +111,6 @@ fn place_whole(
 //     (seen_text snippet.entry) appended_newline) }
 #[inline]
 pub fn place_labels(
-    alloc: Global,
     input: &str,
     style: Option<usize>,
     snippet: Option<&str>,
@@ -125,24 +121,16 @@ pub fn place_labels(
     let names = wants_names(mode);
     let Some(literal) = source_of(input, style, snippet, appended_newline) else {
         let kept = length_of(input).saturating_sub(usize::from(appended_newline));
-        let starts = plain_starts(alloc, 0, input, width_of(input))?;
-        let mut tokens = Vec::made_for(alloc, labels.len())?;
+        let starts = plain_starts(0, input, width_of(input))?;
+        let mut tokens = Vec::made_for(labels.len())?;
         place(&mut tokens, names, labels, starts.as_slice(), kept)?;
         return Ok(tokens);
     };
-    let tokens = place_whole(
-        alloc,
-        input,
-        style,
-        literal,
-        appended_newline,
-        names,
-        labels,
-    )?;
+    let tokens = place_whole(input, style, literal, appended_newline, names, labels)?;
     match style {
         Some(_) => Ok(tokens),
         None => {
-            let parts = cut_escapes(alloc, literal, tokens)?;
+            let parts = cut_escapes(literal, tokens)?;
             Ok(parts)
         }
     }
@@ -166,7 +154,6 @@ pub fn place_labels(
 /// its own, `EscapeSequence`, and cuts the token that it is in. An escape that stands for a brace,
 /// or for another character of a placeholder, stays in the token of that character.
 ///
-/// Returns `Err` if an allocation fails.
 // requires { hashes style + length input.now + 2 < 2 ^ 64 }
 // ensures tokens { IfOk result (λ v. map seen_token v.items ≡ tokens (seen_mode mode)
 //     (chars input.now) style (seen_snippet snippet) appended_newline) }
@@ -193,7 +180,6 @@ pub fn place_labels(
 //     ≡ encoded (shown (seen_mode mode) (chars input.now) appended_newline))) }
 #[inline]
 pub fn tokens(
-    alloc: Global,
     input: &str,
     style: Option<usize>,
     snippet: Option<String>,
@@ -204,7 +190,7 @@ pub fn tokens(
         None => None,
         Some(literal) => Some(literal.as_str()),
     };
-    let labels = labels(alloc, input, mode)?;
-    let tokens = place_labels(alloc, input, style, text, appended_newline, mode, &labels)?;
+    let labels = labels(input, mode)?;
+    let tokens = place_labels(input, style, text, appended_newline, mode, &labels)?;
     Ok(tokens)
 }

@@ -21,7 +21,7 @@ pub fn length_of(text: &str) -> usize {
 }
 
 /// Adds a token of a text's first `bytes` bytes, and returns the rest of the text. Without bytes
-/// there is no token. Returns `Err` if an allocation fails.
+/// there is no token.
 // ensures { IfOk result (λ left. (u r : Text) → chars text.now ≡ u ++ r → bytes ≡ byte_length u
 //     → Took (token kind u) r labels.old.items labels.new.items left.now) }
 #[inline]

@@ -8,22 +8,17 @@ use crate::proved::format_tokens::culprits::{fits, inside_after, marked_kind, ro
 use crate::proved::format_tokens::kinds::{Kind, Token};
 use crate::proved::format_tokens::parts::length_of;
 use crate::proved::rustc_parse_format::literal::{quoted_content, read_content};
-use crate::shim::alloc::{AllocError, Global};
+use crate::shim::alloc::AllocError;
 use crate::shim::prelude::*;
 
 /// Returns the byte offsets where the characters of a text start, where it starts at `at` and each
-/// character stands for itself, and then `end`. Returns `Err` if an allocation fails.
+/// character stands for itself, and then `end`.
 // requires { at + length text.now < 2 ^ 64 }
 // ensures { IfOk result (λ v. (b : Bool)
 //     → v.items ≡ starts_of (plain_world b at (chars text.now) end)) }
 #[inline]
-pub fn plain_starts(
-    alloc: Global,
-    at: usize,
-    text: &str,
-    end: usize,
-) -> Result<Vec<usize>, AllocError> {
-    let mut starts = Vec::made_for(alloc, length_of(text).saturating_add(1))?;
+pub fn plain_starts(at: usize, text: &str, end: usize) -> Result<Vec<usize>, AllocError> {
+    let mut starts = Vec::made_for(length_of(text).saturating_add(1))?;
     let mut next = at;
     let mut rest = text.chars();
     while let Some(c) = rest.next() {
@@ -35,23 +30,19 @@ pub fn plain_starts(
 }
 
 /// Returns the byte offsets where the characters of an input start in its source literal, an
-/// ordinary one, and then the end of the text. Returns `Err` if an allocation fails.
+/// ordinary one, and then the end of the text.
 // ensures { IfOk result (λ v. (input : Text)
 //     → IsSource input None (chars snippet.now) appended_newline
 //     → v.items ≡ starts_of (world input None (Some (chars snippet.now)) appended_newline)) }
 #[inline]
-pub fn ordinary_starts(
-    alloc: Global,
-    snippet: &str,
-    appended_newline: bool,
-) -> Result<Vec<usize>, AllocError> {
+pub fn ordinary_starts(snippet: &str, appended_newline: bool) -> Result<Vec<usize>, AllocError> {
     let Some(content) = quoted_content(snippet) else {
-        return Ok(Vec::made_in(alloc));
+        return Ok(Vec::new());
     };
-    let Some(characters) = read_content(alloc, content)? else {
-        return Ok(Vec::made_in(alloc));
+    let Some(characters) = read_content(content)? else {
+        return Ok(Vec::new());
     };
-    let mut starts = Vec::made_for(alloc, characters.len().saturating_add(2))?;
+    let mut starts = Vec::made_for(characters.len().saturating_add(2))?;
     let mut end = 1;
     for character in &characters {
         starts.try_push(character.0.start + 1)?;
@@ -66,7 +57,7 @@ pub fn ordinary_starts(
 
 /// Adds the tokens of the first `kept` characters, with those marked that are out of place. `names`
 /// says whether only names are accepted, `labels` has the kind of each token and its number of
-/// characters, `starts` where the characters start. Returns `Err` if an allocation fails.
+/// characters, `starts` where the characters start.
 // requires { kept < length starts.now }
 // ensures { OnOk result ((w : World) → starts.now ≡ starts_of w
 //     → map seen_token tokens.new.items ≡ map seen_token tokens.old.items

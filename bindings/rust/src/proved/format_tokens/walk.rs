@@ -9,7 +9,7 @@ use crate::proved::format_tokens::parts::{
     begins, position, run_width, specification, take, width_of, Run,
 };
 use crate::proved::rustc_parse_format::{Argument, ParseMode, PieceKind};
-use crate::shim::alloc::{AllocError, Global};
+use crate::shim::alloc::AllocError;
 use crate::shim::parser::Parser;
 use crate::shim::prelude::*;
 
@@ -167,12 +167,11 @@ pub fn label<'a>(
 //     ≡ map sized (read_tokens (seen_mode mode) (chars input.now))) }
 #[inline]
 fn labels_by<'a>(
-    alloc: Global,
     parser: &mut Parser<'a>,
     mode: ParseMode,
     input: &'a str,
 ) -> Result<Vec<(Kind, usize)>, AllocError> {
-    let mut labels = Vec::made_in(alloc);
+    let mut labels = Vec::new();
     let mut argument = Argument::default();
     let mut rest = input;
     while !rest.is_empty() {
@@ -191,11 +190,7 @@ fn labels_by<'a>(
 // ensures { IfOk result (λ v. v.items
 //     ≡ map sized (read_tokens (seen_mode mode) (chars input.now))) }
 #[inline]
-pub fn labels(
-    alloc: Global,
-    input: &str,
-    mode: ParseMode,
-) -> Result<Vec<(Kind, usize)>, AllocError> {
-    let mut parser = Parser::new(alloc, input, None, None, false, mode)?;
-    labels_by(alloc, &mut parser, mode, input)
+pub fn labels(input: &str, mode: ParseMode) -> Result<Vec<(Kind, usize)>, AllocError> {
+    let mut parser = Parser::new(input, None, None, false, mode)?;
+    labels_by(&mut parser, mode, input)
 }

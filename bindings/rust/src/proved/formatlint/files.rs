@@ -186,7 +186,7 @@ fn tell_end(
 /// Reads a stream up to its end or the most bytes that are read.
 #[inline]
 fn read_all<R: Read>(rt: &crate::shim::host::HostRuntime, stream: R) -> io::Result<Vec<u8>> {
-    let mut bytes = Vec::made_for(rt.alloc(), CHUNK)?;
+    let mut bytes = Vec::made_for(CHUNK)?;
     stream.take(MOST as u64 + 1).read_to_end(&mut bytes)?;
     Ok(bytes)
 }
@@ -215,7 +215,7 @@ impl<'a> Run<'a> {
         if report.findings.is_empty() && !is_broken {
             return Ok(());
         }
-        let places = Places::new(rt.alloc(), text)?;
+        let places = Places::new(text)?;
         let file = File { path, text, places };
         if !matches!(self.request.change, Some(Change::Diff | Change::Check)) {
             self.put_findings(rt, &file, report)?;
@@ -239,7 +239,7 @@ impl<'a> Run<'a> {
         self.totals.clear_progress(rt);
         match change {
             Change::Diff => {
-                let mut diff = String::made_in(rt.alloc());
+                let mut diff = String::new();
                 put_diff(&mut diff, path, old, new)?;
                 write(rt, diff.as_str())?;
             }
@@ -268,7 +268,7 @@ impl<'a> Run<'a> {
         origin: Origin,
         change: Change,
     ) -> Result<(), Failure> {
-        let made = apply_rewrite(rt.alloc(), text, &self.options, self.request.rewrite)?;
+        let made = apply_rewrite(text, &self.options, self.request.rewrite)?;
         let is_source = origin == Origin::Stdin && change == Change::Write;
         let Some(new) = &made.text else {
             if is_source {
@@ -296,7 +296,7 @@ impl<'a> Run<'a> {
         text: &str,
         extent: Extent,
     ) -> Result<(), Failure> {
-        let report = file_faults(rt.alloc(), text, &self.options)?;
+        let report = file_faults(text, &self.options)?;
         self.totals.add(&report);
         self.put_report(rt, path, text, extent, &report)
     }
@@ -369,7 +369,7 @@ impl<'a> Run<'a> {
         rt: &crate::shim::host::HostRuntime,
         path: &str,
     ) -> Result<(), Failure> {
-        let mut walk = Walk::new(rt.alloc(), path, self.request.excluded)?;
+        let mut walk = Walk::new(path, self.request.excluded)?;
         for _ in 0..u64::MAX {
             match walk.next(rt, &mut self.totals)? {
                 Some(path) => self.lint_file(rt, path.as_str())?,
@@ -446,7 +446,7 @@ pub fn lint<'a>(
         options,
         editions: Editions::new(rt, request.edition),
         totals: Totals::new(rt),
-        out: String::made_in(rt.alloc()),
+        out: String::new(),
         has_messages: false,
         is_aside: is_aside(request),
     };

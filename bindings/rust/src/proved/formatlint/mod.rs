@@ -19,7 +19,7 @@ use crate::proved::lint_program::{
 };
 use crate::proved::lint_words::Form;
 use crate::proved::source_report::Options;
-use crate::shim::alloc::{AllocError, Global};
+use crate::shim::alloc::AllocError;
 use crate::shim::clap::error::ErrorKind;
 use crate::shim::clap::{ArgMatches, Error};
 use crate::shim::host::env;
@@ -46,7 +46,7 @@ const NO_STDIN: &str = "--stdin-path names standard input, and no path is -";
 /// Returns the error that a value of the arguments is wrong, with the reason.
 #[inline]
 fn value_error(rt: &crate::shim::host::HostRuntime, why: &str) -> Result<u8, Error> {
-    Err(command(rt.alloc())?.error(ErrorKind::ValueValidation, why)?)
+    Err(command()?.error(ErrorKind::ValueValidation, why)?)
 }
 
 /// Appends the ids of all kinds of faults, each in a line.
@@ -71,11 +71,11 @@ fn print(rt: &crate::shim::host::HostRuntime, text: &str) -> u8 {
 /// Returns the id that is nearest to a word by the number of characters to change, the first of
 /// several, or `None` if each wants more than a third of the word changed, as rustc does for names.
 #[inline]
-fn similar_id(alloc: Global, word: &str) -> Result<Option<&'static str>, AllocError> {
+fn similar_id(word: &str) -> Result<Option<&'static str>, AllocError> {
     let mut most = word.len().max(3) / 3;
     let mut found = None;
     for rule in &RULES {
-        let count = levenshtein(alloc, word, rule.id)?;
+        let count = levenshtein(word, rule.id)?;
         if count < most || count == most && found.is_none() {
             most = count;
             found = Some(rule.id);
@@ -87,12 +87,12 @@ fn similar_id(alloc: Global, word: &str) -> Result<Option<&'static str>, AllocEr
 /// Returns the error that no kind of fault has this id.
 #[inline]
 fn id_error(rt: &crate::shim::host::HostRuntime, id: &str) -> Result<u8, Error> {
-    let why = match similar_id(rt.alloc(), id)? {
-        Some(other) => crate::shim::format_in!(rt.alloc();
+    let why = match similar_id(id)? {
+        Some(other) => crate::shim::try_format!(
             "no kind of fault has the id '{id}'\n\n  tip: a similar id exists: '{other}'"
         )?,
         None => {
-            crate::shim::format_in!(rt.alloc(); "no kind of fault has the id '{id}': --list-ids lists all")?
+            crate::shim::try_format!("no kind of fault has the id '{id}': --list-ids lists all")?
         }
     };
     value_error(rt, why.as_str())
@@ -105,7 +105,7 @@ fn explain(rt: &crate::shim::host::HostRuntime, id: &str) -> Result<u8, Error> {
     let Some(rule) = rule_of(id) else {
         return id_error(rt, id);
     };
-    let mut out = String::made_in(rt.alloc());
+    let mut out = String::new();
     put_explanation(&mut out, &rule)?;
     Ok(print(rt, out.as_str()))
 }
@@ -179,10 +179,10 @@ fn files_status(
     rt: &crate::shim::host::HostRuntime,
     matches: &ArgMatches<'_>,
 ) -> Result<u8, Error> {
-    let table = match table_of(rt.alloc(), matches.get_strs("macro").unwrap_or(&[])) {
+    let table = match table_of(matches.get_strs("macro").unwrap_or(&[])) {
         Ok(table) => table,
         Err(Some(word)) => {
-            let why = crate::shim::format_in!(rt.alloc();
+            let why = crate::shim::try_format!(
                 "invalid value '{word}' for '--macro <NAME:INDEX>': \
                 it is the name of a macro and a number, as in say:0"
             )?;
@@ -224,9 +224,9 @@ fn files_status(
 /// the arguments are invalid or request help or the version, or if an allocation fails.
 #[inline]
 fn status(rt: &crate::shim::host::HostRuntime, words: &[String]) -> Result<u8, Error> {
-    let matches = command(rt.alloc())?.try_get_matches_from(words)?;
+    let matches = command()?.try_get_matches_from(words)?;
     if matches.get_flag("list-ids") {
-        let mut out = String::made_in(rt.alloc());
+        let mut out = String::new();
         put_ids(&mut out)?;
         return Ok(print(rt, out.as_str()));
     }
@@ -252,7 +252,7 @@ fn ended(rt: &crate::shim::host::HostRuntime, why: &str, status: u8) -> ExitCode
 #[inline]
 pub fn main(rt: crate::shim::host::HostRuntime) -> ExitCode {
     let words: Vec<String> = match env::args(&rt) {
-        Ok(words) => match words.collect_in(rt.alloc()) {
+        Ok(words) => match words.collect_in() {
             Ok(words) => words,
             Err(_) => return ended(&rt, "out of memory", 3),
         },

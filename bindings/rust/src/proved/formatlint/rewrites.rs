@@ -7,7 +7,7 @@
 use crate::proved::file_fixes::fixes;
 use crate::proved::file_inlines::{inlines, CallInlining};
 use crate::proved::source_report::{Options, Report};
-use crate::shim::alloc::{AllocError, Global};
+use crate::shim::alloc::AllocError;
 use crate::shim::prelude::*;
 
 /// What a request changes in files.
@@ -35,28 +35,23 @@ pub struct Rewritten {
     pub report: Report,
 }
 
-/// Returns a text with suggestions applied. Returns `Err` if an allocation fails.
+/// Returns a text with suggestions applied.
 #[inline]
-fn fixed(alloc: Global, text: &str, options: &Options<'_>) -> Result<Rewritten, AllocError> {
-    let fixed = fixes(alloc, text, options)?;
+fn fixed(text: &str, options: &Options<'_>) -> Result<Rewritten, AllocError> {
+    let fixed = fixes(text, options)?;
     Ok(Rewritten {
         text: fixed.text,
         fixes: fixed.ids.len(),
-        calls: Vec::made_in(alloc),
+        calls: Vec::new(),
         has_inlines: false,
         report: fixed.report,
     })
 }
 
-/// Returns a text with calls inlined. Returns `Err` if an allocation fails.
+/// Returns a text with calls inlined.
 #[inline]
-fn inlined(
-    alloc: Global,
-    text: &str,
-    options: &Options<'_>,
-    rewrite: Rewrite,
-) -> Result<Rewritten, AllocError> {
-    let inlined = inlines(alloc, text, options, rewrite.allows_mixed)?;
+fn inlined(text: &str, options: &Options<'_>, rewrite: Rewrite) -> Result<Rewritten, AllocError> {
+    let inlined = inlines(text, options, rewrite.allows_mixed)?;
     Ok(Rewritten {
         has_inlines: inlined.text.is_some(),
         text: inlined.text,
@@ -67,24 +62,23 @@ fn inlined(
 }
 
 /// Returns a text with what a request changes in it: first its suggestions are applied, and then
-/// calls are inlined. Returns `Err` if an allocation fails.
+/// calls are inlined.
 #[inline]
 pub fn apply_rewrite(
-    alloc: Global,
     text: &str,
     options: &Options<'_>,
     rewrite: Rewrite,
 ) -> Result<Rewritten, AllocError> {
     if !rewrite.fixes {
-        return inlined(alloc, text, options, rewrite);
+        return inlined(text, options, rewrite);
     }
-    let fixed = fixed(alloc, text, options)?;
+    let fixed = fixed(text, options)?;
     if !rewrite.inlines {
         return Ok(fixed);
     }
     let mut made = match &fixed.text {
-        Some(text) => inlined(alloc, text.as_str(), options, rewrite)?,
-        None => inlined(alloc, text, options, rewrite)?,
+        Some(text) => inlined(text.as_str(), options, rewrite)?,
+        None => inlined(text, options, rewrite)?,
     };
     made.fixes = fixed.fixes;
     if made.text.is_none() {

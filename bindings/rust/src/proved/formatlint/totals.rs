@@ -69,19 +69,17 @@ fn ending(number: usize) -> &'static str {
     }
 }
 
-/// Appends the line that says why the file with this path was not replaced. Returns `Err` if an
-/// allocation fails.
+/// Appends the line that says why the file with this path was not replaced.
 #[inline]
 fn put_step(out: &mut String, path: &str, failure: &StepFailure) -> Result<(), AllocError> {
-    let alloc = *out.own_allocator();
     let step = failure.step;
     let reason = match &failure.error {
         Some(error) => {
-            let words = crate::shim::format_in!(alloc; "{error}")?;
+            let words = crate::shim::try_format!("{error}")?;
             let why = system_words(words.as_str());
-            crate::shim::format_in!(alloc; "not written: {step}: {why}")?
+            crate::shim::try_format!("not written: {step}: {why}")?
         }
-        None => crate::shim::format_in!(alloc; "not written: {step}")?,
+        None => crate::shim::try_format!("not written: {step}")?,
     };
     put_failure(out, path, RunFault::Write, reason.as_str())
 }
@@ -229,7 +227,7 @@ impl Totals {
     ) {
         count(&mut self.failures);
         self.progress.clear(rt);
-        let mut out = String::made_in(rt.alloc());
+        let mut out = String::new();
         let _ = match put_step(&mut out, path, failure) {
             Ok(()) => rt.eprint(out.as_str()),
             Err(_) => rt.eprintln("formatlint: out of memory"),
@@ -242,8 +240,8 @@ impl Totals {
     pub fn fail(&mut self, rt: &crate::shim::host::HostRuntime, path: &str, error: &io::Error) {
         count(&mut self.failures);
         self.progress.clear(rt);
-        let mut out = String::made_in(rt.alloc());
-        let put = match crate::shim::format_in!(rt.alloc(); "{error}") {
+        let mut out = String::new();
+        let put = match crate::shim::try_format!("{error}") {
             Ok(words) => {
                 let why = system_words(words.as_str());
                 put_failure(&mut out, path, RunFault::Read, why)
@@ -267,7 +265,7 @@ impl Totals {
     ) {
         count(&mut self.failures);
         self.progress.clear(rt);
-        let mut out = String::made_in(rt.alloc());
+        let mut out = String::new();
         let _ = match put_place_failure(&mut out, path, place, why) {
             Ok(()) => rt.eprint(out.as_str()),
             Err(_) => rt.eprintln("formatlint: out of memory"),

@@ -5,7 +5,7 @@
 // by results from outside, and beside what is proved (.ci/bindings) and the original (tools/agree).
 
 use crate::proved::formatlint::totals::Totals;
-use crate::shim::alloc::{AllocError, Global};
+use crate::shim::alloc::AllocError;
 use crate::shim::host::fs;
 use crate::shim::host::fs::DirEntry;
 use crate::shim::prelude::*;
@@ -30,8 +30,8 @@ pub struct Walk<'a> {
 
 /// Returns the path of a name in a folder. An empty path is that of the current folder.
 #[inline]
-fn join(alloc: Global, folder: &str, name: &str) -> Result<String, AllocError> {
-    let mut path = String::made_from(alloc, folder)?;
+fn join(folder: &str, name: &str) -> Result<String, AllocError> {
+    let mut path = String::made_from(folder)?;
     if !folder.is_empty() && !folder.ends_with('/') {
         path.try_push('/')?;
     }
@@ -46,17 +46,12 @@ fn is_left_out(name: &str) -> bool {
 }
 
 impl<'a> Walk<'a> {
-    /// Returns the files below a folder. An empty path is that of the current folder. Returns
-    /// `Err` if an allocation fails.
+    /// Returns the files below a folder. An empty path is that of the current folder.
     #[inline]
-    pub(crate) fn new(
-        alloc: Global,
-        folder: &str,
-        excluded: &'a [&'a str],
-    ) -> Result<Walk<'a>, AllocError> {
-        let mut rest = Vec::made_in(alloc);
+    pub(crate) fn new(folder: &str, excluded: &'a [&'a str]) -> Result<Walk<'a>, AllocError> {
+        let mut rest = Vec::new();
         rest.try_push(Entry {
-            path: String::made_from(alloc, folder)?,
+            path: String::made_from(folder)?,
             is_folder: true,
         })?;
         Ok(Walk { rest, excluded })
@@ -83,7 +78,7 @@ impl<'a> Walk<'a> {
             kind.is_file() && name.ends_with(".rs")
         };
         if is_read {
-            let path = join(rt.alloc(), folder, name)?;
+            let path = join(folder, name)?;
             found.try_push(Entry { path, is_folder })?;
         }
         Ok(())
@@ -99,7 +94,7 @@ impl<'a> Walk<'a> {
         totals: &mut Totals,
     ) -> io::Result<Vec<Entry>> {
         let shown = if folder.is_empty() { "." } else { folder };
-        let mut found = Vec::made_in(rt.alloc());
+        let mut found = Vec::new();
         for entry in fs::read_dir(rt, shown)? {
             let added = match entry {
                 Ok(entry) => self.add(rt, folder, &entry, &mut found),
@@ -115,7 +110,7 @@ impl<'a> Walk<'a> {
     }
 
     /// Returns the path of the next file, or `None` if there is none. The failure of
-    /// a folder that cannot be read is added to the totals. Returns `Err` if an allocation fails.
+    /// a folder that cannot be read is added to the totals.
     #[inline]
     pub(crate) fn next(
         &mut self,

@@ -20,7 +20,7 @@ fn words(rt: &crate::shim::host::HostRuntime) -> Result<Vec<String>, RunFault> {
         Err(_) => return Err(RunFault::Words),
     };
     let _name = words.next();
-    Ok(words.collect_in(rt.alloc())?)
+    Ok(words.collect_in()?)
 }
 
 /// Runs the program with its command-line arguments, standard input and standard output. Returns
@@ -28,12 +28,7 @@ fn words(rt: &crate::shim::host::HostRuntime) -> Result<Vec<String>, RunFault> {
 #[inline]
 fn answer(rt: &crate::shim::host::HostRuntime) -> Result<bool, RunFault> {
     let words = words(rt)?;
-    run(
-        rt.alloc(),
-        &mut rt.stdin(),
-        &mut rt.stdout(),
-        words.as_slice(),
-    )
+    run(&mut rt.stdin(), &mut rt.stdout(), words.as_slice())
 }
 
 #[inline]

@@ -5,23 +5,19 @@
 // by results from outside, and beside what is proved (.ci/bindings) and the original (tools/agree).
 
 use crate::proved::inlined_arguments::call::Edit;
-use crate::shim::alloc::{AllocError, Global};
+use crate::shim::alloc::AllocError;
 use crate::shim::prelude::*;
 
 /// Returns bytes with edits, or `None` if these are not one after the other in the bytes, or
-/// overlap. Returns `Err` if an allocation fails.
+/// overlap.
 // ensures some { IfOk result (λ o. IfSome o (λ v.
 //     AreApart 0 (map seen_edit edits.now) (length bytes.now)
 //     × (v.items ≡ edited 0 (map seen_edit edits.now) bytes.now))) }
 // ensures none { IfOk result (λ o. IsNone o
 //     → AreApart 0 (map seen_edit edits.now) (length bytes.now) → ⊥) }
 #[inline]
-fn edited_bytes(
-    alloc: Global,
-    bytes: &[u8],
-    edits: &[Edit],
-) -> Result<Option<Vec<u8>>, AllocError> {
-    let mut out = Vec::made_in(alloc);
+fn edited_bytes(bytes: &[u8], edits: &[Edit]) -> Result<Option<Vec<u8>>, AllocError> {
+    let mut out = Vec::new();
     let mut at = 0;
     for edit in edits {
         if edit.span.start < at || edit.span.end < edit.span.start {
@@ -39,19 +35,15 @@ fn edited_bytes(
 }
 
 /// Returns a literal with edits, or `None` if these are not one after the other in it, overlap or
-/// cut a character. Returns `Err` if an allocation fails.
+/// cut a character.
 // ensures some { IfOk result (λ o. IfSome o (λ s.
 //     AreApart 0 (map seen_edit edits.now) (length literal.now)
 //     × (string_bytes s ≡ edited 0 (map seen_edit edits.now) literal.now))) }
 // ensures none { IfOk result (λ o. IsNone o
 //     → MakeNoText literal.now (map seen_edit edits.now)) }
 #[inline]
-pub fn apply_edits(
-    alloc: Global,
-    literal: &str,
-    edits: &[Edit],
-) -> Result<Option<String>, AllocError> {
-    match edited_bytes(alloc, literal.as_bytes(), edits)? {
+pub fn apply_edits(literal: &str, edits: &[Edit]) -> Result<Option<String>, AllocError> {
+    match edited_bytes(literal.as_bytes(), edits)? {
         Some(bytes) => Ok(String::from_utf8(bytes).ok()),
         None => Ok(None),
     }

@@ -9,7 +9,7 @@ use crate::proved::inlined_arguments::meaning::Meant;
 use crate::proved::inlined_arguments::slots::Value;
 use crate::proved::inlined_arguments::values::{amount_of, position_value, Amount, Values};
 use crate::proved::rustc_parse_format::{Argument, Count, Piece, Position};
-use crate::shim::alloc::{AllocError, Global};
+use crate::shim::alloc::AllocError;
 use crate::shim::itoa::Buffer;
 use crate::shim::prelude::*;
 use core::ops::Range;
@@ -46,35 +46,29 @@ fn count_reference<'a>(count: &Count<'a>) -> Reference<'a> {
 }
 
 /// Returns the new text of a reference to this value, or `None` if it stays as it is: a name that
-/// is that of the variable already, an index that stays the same, or the next argument. Returns
-/// `Err` if an allocation fails.
+/// is that of the variable already, an index that stays the same, or the next argument.
 #[inline]
-fn new_text(
-    alloc: Global,
-    reference: Reference<'_>,
-    value: Value<'_>,
-) -> Result<Option<String>, AllocError> {
+fn new_text(reference: Reference<'_>, value: Value<'_>) -> Result<Option<String>, AllocError> {
     match (value, reference) {
         (Value::Variable(name), Reference::Name(other)) => {
             if name == other {
                 return Ok(None);
             }
-            Ok(Some(String::made_from(alloc, name)?))
+            Ok(Some(String::made_from(name)?))
         }
-        (Value::Variable(name), _) => Ok(Some(String::made_from(alloc, name)?)),
+        (Value::Variable(name), _) => Ok(Some(String::made_from(name)?)),
         (Value::Expression { number, .. }, Reference::Index(n)) => {
             if n == number {
                 return Ok(None);
             }
             let mut digits = Buffer::new();
-            Ok(Some(String::made_from(alloc, digits.format(number))?))
+            Ok(Some(String::made_from(digits.format(number))?))
         }
         _ => Ok(None),
     }
 }
 
-/// Adds the edit that puts a text into a place of the literal, if there is one. Returns `Err` if an
-/// allocation fails.
+/// Adds the edit that puts a text into a place of the literal, if there is one.
 // ensures { OnOk result ((places : List Place) → AreAt places (map seen_edit edits.old.items)
 //     → AreAt (places ++ pair span.now ∷ []) (map seen_edit edits.new.items)) }
 #[inline]
@@ -92,19 +86,17 @@ fn push_edit(
     Ok(())
 }
 
-/// Adds the edit of the position of a placeholder, if it does not stay as it is. Returns `Err` if
-/// an allocation fails.
+/// Adds the edit of the position of a placeholder, if it does not stay as it is.
 // ensures { OnOk result ((places : List Place) → AreAt places (map seen_edit edits.old.items)
 //     → AreAt (places ++ pair argument.now.position_span ∷ []) (map seen_edit edits.new.items)) }
 #[inline]
 fn push_position<'a>(
-    alloc: Global,
     edits: &mut Vec<Edit>,
     values: &Values<'_, 'a>,
     argument: &Argument<'a>,
 ) -> Result<(), AllocError> {
     let text = match position_value(values, &argument.position) {
-        Some(value) => new_text(alloc, position_reference(&argument.position), value)?,
+        Some(value) => new_text(position_reference(&argument.position), value)?,
         None => None,
     };
     push_edit(edits, &argument.position_span, text)?;
@@ -112,11 +104,9 @@ fn push_position<'a>(
 }
 
 /// Returns the text of a width or a precision that is an argument, or `None` if it stays as it is.
-/// `opening` is what the text begins with: the dot of a precision. Returns `Err` if an allocation
-/// fails.
+/// `opening` is what the text begins with: the dot of a precision.
 #[inline]
 fn count_text<'a>(
-    alloc: Global,
     values: &Values<'_, 'a>,
     count: &Count<'a>,
     opening: &str,
@@ -124,23 +114,22 @@ fn count_text<'a>(
     let Amount::ValueOf(Some(value)) = amount_of(values, count) else {
         return Ok(None);
     };
-    let Some(argument) = new_text(alloc, count_reference(count), value)? else {
+    let Some(argument) = new_text(count_reference(count), value)? else {
         return Ok(None);
     };
-    let mut text = String::made_from(alloc, opening)?;
+    let mut text = String::made_from(opening)?;
     text.try_push_str(&argument)?;
     text.try_push('$')?;
     Ok(Some(text))
 }
 
 /// Adds the edit of a width or a precision at a place of the literal, if it does not stay as it is.
-/// `opening` is what its text begins with. Returns `Err` if an allocation fails.
+/// `opening` is what its text begins with.
 // ensures { OnOk result ((places : List Place) → AreAt places (map seen_edit edits.old.items)
 //     → AreAt (places ++ option_to_list (option_map pair span.now))
 //     (map seen_edit edits.new.items)) }
 #[inline]
 fn push_count<'a>(
-    alloc: Global,
     edits: &mut Vec<Edit>,
     values: &Values<'_, 'a>,
     count: &Count<'a>,
@@ -148,18 +137,17 @@ fn push_count<'a>(
     opening: &str,
 ) -> Result<(), AllocError> {
     if let Some(span) = span {
-        let text = count_text(alloc, values, count, opening)?;
+        let text = count_text(values, count, opening)?;
         push_edit(edits, span, text)?;
     }
     Ok(())
 }
 
-/// Adds the edits of a piece. Returns `Err` if an allocation fails.
+/// Adds the edits of a piece.
 // ensures { OnOk result ((places : List Place) → AreAt places (map seen_edit edits.old.items)
 //     → AreAt (places ++ reference_places (seen piece.now)) (map seen_edit edits.new.items)) }
 #[inline]
 fn push_piece<'a>(
-    alloc: Global,
     edits: &mut Vec<Edit>,
     values: &Values<'_, 'a>,
     piece: &Piece<'a>,
@@ -168,10 +156,9 @@ fn push_piece<'a>(
         return Ok(());
     };
     let format = &argument.format;
-    push_position(alloc, edits, values, argument)?;
-    push_count(alloc, edits, values, &format.width, &format.width_span, "")?;
+    push_position(edits, values, argument)?;
+    push_count(edits, values, &format.width, &format.width_span, "")?;
     push_count(
-        alloc,
         edits,
         values,
         &format.precision,
@@ -183,14 +170,13 @@ fn push_piece<'a>(
 
 /// Returns the edits of a literal whose text has these pieces: they put variables in the place of
 /// references to arguments that are these, and make the others those to the arguments that stay.
-/// Returns `Err` if an allocation fails.
 // ensures { IfOk result (λ v.
 //     AreAtReferences (map seen call.entry.pieces.now) (map seen_edit v.items)) }
 #[inline]
-pub(crate) fn edits_of(alloc: Global, call: Meant<'_, '_>) -> Result<Vec<Edit>, AllocError> {
-    let mut edits = Vec::made_in(alloc);
+pub(crate) fn edits_of(call: Meant<'_, '_>) -> Result<Vec<Edit>, AllocError> {
+    let mut edits = Vec::new();
     for piece in call.pieces {
-        push_piece(alloc, &mut edits, call.values, piece)?;
+        push_piece(&mut edits, call.values, piece)?;
     }
     Ok(edits)
 }

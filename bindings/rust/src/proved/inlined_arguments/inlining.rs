@@ -15,10 +15,10 @@ use crate::proved::inlined_arguments::slots::{givens, kept, slots, Slot};
 use crate::proved::inlined_arguments::values::values_of;
 use crate::proved::inlined_arguments::variables::gone;
 use crate::proved::piece_listing::literal::literal_text;
-use crate::shim::alloc::{AllocError, Global};
+use crate::shim::alloc::AllocError;
 use crate::shim::prelude::*;
 
-/// Adds the newline that a macro appends, if it does. Returns `Err` if an allocation fails.
+/// Adds the newline that a macro appends, if it does.
 // ensures text { OnOk result (chars (string_bytes text.new)
 //     ≡ chars (string_bytes text.old) ++ newline appended) }
 // ensures short { OnOk result (length (string_bytes text.new)
@@ -44,8 +44,7 @@ fn is_same_style(left: Option<usize>, right: Option<usize>) -> bool {
 }
 
 /// Returns whether nothing is wrong with a call with this string and these slots, and it means what
-/// the old one does. The given arguments are those of the slots. Returns `Err` if an allocation
-/// fails.
+/// the old one does. The given arguments are those of the slots.
 // requires { hashes string.style + length string.text.now + 2 < 2 ^ 64 }
 // ensures { IfOk result (λ b. Knows old.entry.values.now
 //     → map seen_given given.now ≡ map given_of (map seen_slot slots.now) → IsTrue b
@@ -53,16 +52,15 @@ fn is_same_style(left: Option<usize>, right: Option<usize>) -> bool {
 //     (map seen old.entry.pieces.now) (map seen_slot slots.now) (chars string.entry.text.now)) }
 #[inline]
 fn means_same_with<'c>(
-    alloc: Global,
     old: Meant<'_, '_>,
     string: FormatString<'c>,
     slots: &[Slot<'c>],
     given: &'c [FormatArgument<'c>],
 ) -> Result<bool, AllocError> {
-    let Some(pieces) = read(alloc, string, given)? else {
+    let Some(pieces) = read(string, given)? else {
         return Ok(false);
     };
-    let values = values_of(alloc, slots)?;
+    let values = values_of(slots)?;
     let new = Meant {
         pieces: &pieces,
         values: &values,
@@ -71,19 +69,14 @@ fn means_same_with<'c>(
 }
 
 /// Returns whether a call with this literal in place of its own, and without the arguments that are
-/// variables, means what the old one does. Returns `Err` if an allocation fails.
+/// variables, means what the old one does.
 // ensures { IfOk result (λ b. Knows old.entry.values.now
 //     → seen_slots old.entry.values.now ≡ slots_of (map seen_argument call.entry.arguments.now)
 //     → IsTrue b
 //     → MeansSame (seen_call call.entry) (map seen old.entry.pieces.now) (chars literal.now)) }
 #[inline]
-fn keeps_meaning(
-    alloc: Global,
-    call: Call<'_>,
-    old: Meant<'_, '_>,
-    literal: &str,
-) -> Result<bool, AllocError> {
-    let Some((mut text, style)) = literal_text(alloc, literal)? else {
+fn keeps_meaning(call: Call<'_>, old: Meant<'_, '_>, literal: &str) -> Result<bool, AllocError> {
+    let Some((mut text, style)) = literal_text(literal)? else {
         return Ok(false);
     };
     if !is_same_style(style, call.string.style) {
@@ -97,15 +90,15 @@ fn keeps_meaning(
         appended_newline: call.string.appended_newline,
         captures: call.string.captures,
     };
-    let kept = kept(alloc, old.values.slots)?;
-    let given = givens(alloc, &kept)?;
-    let is_same = means_same_with(alloc, old, string, &kept, given.as_slice())?;
+    let kept = kept(old.values.slots)?;
+    let given = givens(&kept)?;
+    let is_same = means_same_with(old, string, &kept, given.as_slice())?;
     Ok(is_same)
 }
 
 /// Returns a call with its arguments that are variables in its format string, or why it is left as
 /// it is, if it is not for a reason that is seen without reading its string. The slots and the
-/// given arguments are those of the call. Returns `Err` if an allocation fails.
+/// given arguments are those of the call.
 // requires fits { hashes call.string.style + length call.string.text.now + 2 < 2 ^ 64 }
 // requires slots { map seen_slot slots.now ≡ slots_of (map seen_argument call.arguments.now) }
 // requires given { map seen_given given.now ≡ map given_of (map seen_slot slots.now) }
@@ -117,7 +110,6 @@ fn keeps_meaning(
 //     → IsLeft mixed (seen_call call.entry) l)) }
 #[inline]
 fn inlined_with<'c>(
-    alloc: Global,
     call: Call<'c>,
     slots: &[Slot<'c>],
     given: &'c [FormatArgument<'c>],
@@ -125,22 +117,22 @@ fn inlined_with<'c>(
     let Some(snippet) = call.string.snippet else {
         return Ok(Err(Left::NoLiteral));
     };
-    let Some(pieces) = read(alloc, call.string, given)? else {
+    let Some(pieces) = read(call.string, given)? else {
         return Ok(Err(Left::Faulty));
     };
-    let values = values_of(alloc, slots)?;
+    let values = values_of(slots)?;
     let old = Meant {
         pieces: &pieces,
         values: &values,
     };
-    let edits = edits_of(alloc, old)?;
-    let Some(literal) = apply_edits(alloc, snippet, &edits)? else {
+    let edits = edits_of(old)?;
+    let Some(literal) = apply_edits(snippet, &edits)? else {
         return Ok(Err(Left::OtherMeaning));
     };
-    if !keeps_meaning(alloc, call, old, &literal)? {
+    if !keeps_meaning(call, old, &literal)? {
         return Ok(Err(Left::OtherMeaning));
     }
-    let gone = gone(alloc, call.arguments)?;
+    let gone = gone(call.arguments)?;
     Ok(Ok(Inlined {
         edits,
         literal,
@@ -159,16 +151,12 @@ fn inlined_with<'c>(
 //     IsInlined allows_mixed (seen_call call.entry) (seen_inlined x))) }
 // ensures left { IfOk result (λ r. IfErr r (λ l. IsLeft allows_mixed (seen_call call.entry) l)) }
 #[inline]
-pub fn inlined(
-    alloc: Global,
-    call: Call<'_>,
-    allows_mixed: bool,
-) -> Result<Result<Inlined, Left>, AllocError> {
+pub fn inlined(call: Call<'_>, allows_mixed: bool) -> Result<Result<Inlined, Left>, AllocError> {
     if let Some(left) = condition(&call, allows_mixed) {
         return Ok(Err(left));
     }
-    let slots = slots(alloc, call.arguments)?;
-    let given = givens(alloc, &slots)?;
-    let made = inlined_with(alloc, call, &slots, given.as_slice())?;
+    let slots = slots(call.arguments)?;
+    let given = givens(&slots)?;
+    let made = inlined_with(call, &slots, given.as_slice())?;
     Ok(made)
 }

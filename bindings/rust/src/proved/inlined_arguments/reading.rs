@@ -6,7 +6,7 @@
 
 use crate::proved::call_faults::{call_faults, CallFault, FormatArgument, FormatString};
 use crate::proved::rustc_parse_format::Piece;
-use crate::shim::alloc::{AllocError, Global};
+use crate::shim::alloc::AllocError;
 use crate::shim::prelude::*;
 
 /// Returns whether a fault is only a warning.
@@ -29,7 +29,7 @@ fn are_warnings(faults: &[CallFault<'_>]) -> bool {
 }
 
 /// Returns the pieces of the format string of a call, or `None` if something is wrong with the
-/// call. Returns `Err` if an allocation fails.
+/// call.
 // requires { hashes string.style + length string.text.now + 2 < 2 ^ 64 }
 // ensures { IfOk result (λ o. MatchOption o
 //     (IsClean string.entry.captures (map seen_given given.now) (chars string.entry.text.now)
@@ -40,11 +40,10 @@ fn are_warnings(faults: &[CallFault<'_>]) -> bool {
 //     (map bare (map seen v.items)))) }
 #[inline]
 pub(crate) fn read<'a>(
-    alloc: Global,
     string: FormatString<'a>,
     given: &'a [FormatArgument<'a>],
 ) -> Result<Option<Vec<Piece<'a>>>, AllocError> {
-    let checked = call_faults(alloc, string, given)?;
+    let checked = call_faults(string, given)?;
     if are_warnings(&checked.faults) {
         Ok(Some(checked.pieces))
     } else {

@@ -7,7 +7,7 @@
 use crate::proved::call_faults::FormatArgument;
 use crate::proved::inlined_arguments::call::Argument;
 use crate::proved::inlined_arguments::variables::variable;
-use crate::shim::alloc::{AllocError, Global};
+use crate::shim::alloc::AllocError;
 use crate::shim::prelude::*;
 
 /// The value that a part of a placeholder refers to.
@@ -50,14 +50,11 @@ fn is_expression(value: Value<'_>) -> bool {
     matches!(value, Value::Expression { .. })
 }
 
-/// Returns the slots of arguments. Returns `Err` if an allocation fails.
+/// Returns the slots of arguments.
 // ensures { IfOk result (λ v. map seen_slot v.items ≡ slots (map seen_argument arguments.now)) }
 #[inline]
-pub(crate) fn slots<'a>(
-    alloc: Global,
-    arguments: &[Argument<'a>],
-) -> Result<Vec<Slot<'a>>, AllocError> {
-    let mut slots = Vec::made_in(alloc);
+pub(crate) fn slots<'a>(arguments: &[Argument<'a>]) -> Result<Vec<Slot<'a>>, AllocError> {
+    let mut slots = Vec::new();
     let mut number = 0;
     for (index, argument) in arguments.iter().enumerate() {
         let value = slot_value(argument, index, number);
@@ -72,12 +69,11 @@ pub(crate) fn slots<'a>(
     Ok(slots)
 }
 
-/// Returns the slots that stay: those of arguments that are no variables. Returns `Err` if an
-/// allocation fails.
+/// Returns the slots that stay: those of arguments that are no variables.
 // ensures { IfOk result (λ v. map seen_slot v.items ≡ kept (map seen_slot slots.now)) }
 #[inline]
-pub(crate) fn kept<'a>(alloc: Global, slots: &[Slot<'a>]) -> Result<Vec<Slot<'a>>, AllocError> {
-    let mut kept = Vec::made_in(alloc);
+pub(crate) fn kept<'a>(slots: &[Slot<'a>]) -> Result<Vec<Slot<'a>>, AllocError> {
+    let mut kept = Vec::new();
     for slot in slots {
         if is_expression(slot.value) {
             kept.try_push(*slot)?;
@@ -86,14 +82,11 @@ pub(crate) fn kept<'a>(alloc: Global, slots: &[Slot<'a>]) -> Result<Vec<Slot<'a>
     Ok(kept)
 }
 
-/// Returns slots as the arguments of a call. Returns `Err` if an allocation fails.
+/// Returns slots as the arguments of a call.
 // ensures { IfOk result (λ v. map seen_given v.items ≡ map given (map seen_slot slots.now)) }
 #[inline]
-pub(crate) fn givens<'a>(
-    alloc: Global,
-    slots: &[Slot<'a>],
-) -> Result<Vec<FormatArgument<'a>>, AllocError> {
-    let mut found = Vec::made_in(alloc);
+pub(crate) fn givens<'a>(slots: &[Slot<'a>]) -> Result<Vec<FormatArgument<'a>>, AllocError> {
+    let mut found = Vec::new();
     for slot in slots {
         found.try_push(FormatArgument {
             name: slot.name,

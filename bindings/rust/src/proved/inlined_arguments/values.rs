@@ -6,7 +6,7 @@
 
 use crate::proved::inlined_arguments::slots::{Slot, Value};
 use crate::proved::rustc_parse_format::{Count, Position};
-use crate::shim::alloc::{AllocError, Global};
+use crate::shim::alloc::AllocError;
 use crate::shim::prelude::*;
 use alloc::collections::BTreeMap;
 
@@ -36,7 +36,7 @@ fn found_in<'a>(named: &BTreeMap<&'a str, Value<'a>>, name: &'a str) -> Option<V
     named.get(&name).copied()
 }
 
-/// Puts the value of a name into a map. Returns `Err` if an allocation fails.
+/// Puts the value of a name into a map.
 // ensures { OnOk result ((w : Text) → found_in named.new w ≡ (if bytes_eq w (chars name.now) then
 //     Some (seen_value value.entry) else found_in named.old w)) }
 #[inline]
@@ -49,15 +49,12 @@ fn insert<'a>(
     Ok(())
 }
 
-/// Returns the values of slots. Returns `Err` if an allocation fails.
+/// Returns the values of slots.
 // ensures knows { IfOk result Knows }
 // ensures slots { IfOk result (λ v. seen_slots v ≡ map seen_slot slots.now) }
 #[inline]
-pub(crate) fn values_of<'s, 'a>(
-    alloc: Global,
-    slots: &'s [Slot<'a>],
-) -> Result<Values<'s, 'a>, AllocError> {
-    let mut named = BTreeMap::made_in(alloc);
+pub(crate) fn values_of<'s, 'a>(slots: &'s [Slot<'a>]) -> Result<Values<'s, 'a>, AllocError> {
+    let mut named = BTreeMap::new();
     for slot in slots {
         if let Some(name) = slot.name {
             insert(&mut named, name, slot.value)?;

@@ -6,7 +6,7 @@
 
 use crate::proved::inlined_arguments::call::Argument;
 use crate::proved::inlined_arguments::keywords::is_keyword;
-use crate::shim::alloc::{AllocError, Global};
+use crate::shim::alloc::AllocError;
 use crate::shim::prelude::*;
 
 /// The first character that normalization may change or join with the one before it.
@@ -115,11 +115,11 @@ pub(crate) fn has_comment(argument: &Argument<'_>) -> bool {
     has_slash(argument.source)
 }
 
-/// Returns the indices of the arguments that are variables. Returns `Err` if an allocation fails.
+/// Returns the indices of the arguments that are variables.
 // ensures { IfOk result (λ v. v.items ≡ gone_from 0 (map seen_argument arguments.now)) }
 #[inline]
-pub(crate) fn gone(alloc: Global, arguments: &[Argument<'_>]) -> Result<Vec<usize>, AllocError> {
-    let mut gone = Vec::made_in(alloc);
+pub(crate) fn gone(arguments: &[Argument<'_>]) -> Result<Vec<usize>, AllocError> {
+    let mut gone = Vec::new();
     for (index, argument) in arguments.iter().enumerate() {
         if is_variable(argument) {
             gone.try_push(index)?;

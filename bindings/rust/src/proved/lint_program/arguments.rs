@@ -11,7 +11,7 @@ use crate::proved::lint_program::changes::Change;
 use crate::proved::lint_words::{wants_colours, ColourChoice, Form};
 use crate::proved::rust_tokens::{first_token, Kind};
 use crate::proved::rustc_parse_format::ParseMode;
-use crate::shim::alloc::{AllocError, Global};
+use crate::shim::alloc::AllocError;
 use crate::shim::clap::ArgMatches;
 use crate::shim::host::env;
 use crate::shim::host::IsTerminal;
@@ -159,18 +159,17 @@ pub fn task_of<'a>(
     }
 }
 
-/// Returns the arguments with which `formatread` writes the listing. Returns `Err` if an
-/// allocation fails.
+/// Returns the arguments with which `formatread` writes the listing.
 #[inline]
-pub fn list_words(alloc: Global, matches: &ArgMatches<'_>) -> Result<Vec<String>, AllocError> {
-    let mut words = Vec::made_in(alloc);
-    words.try_push(String::made_from(alloc, mode_word(matches))?)?;
+pub fn list_words(matches: &ArgMatches<'_>) -> Result<Vec<String>, AllocError> {
+    let mut words = Vec::new();
+    words.try_push(String::made_from(mode_word(matches))?)?;
     if !matches.get_flag("text") {
-        words.try_push(String::made_from(alloc, "--literal")?)?;
+        words.try_push(String::made_from("--literal")?)?;
     }
     if let Some(list) = matches.get_str("args") {
-        words.try_push(String::made_from(alloc, "--args")?)?;
-        words.try_push(String::made_from(alloc, list)?)?;
+        words.try_push(String::made_from("--args")?)?;
+        words.try_push(String::made_from(list)?)?;
     }
     Ok(words)
 }
@@ -198,11 +197,11 @@ fn row_of(word: &str) -> Option<Row<'_>> {
 /// Returns the macros that are known: those of the standard library and of some crates, and those
 /// that are given. The error is the first word that means none, or `None` if an allocation fails.
 #[inline]
-pub fn table_of<'a>(alloc: Global, given: &[&'a str]) -> Result<Table<'a>, Option<&'a str>> {
-    let Ok(mut table) = Table::standard(alloc) else {
+pub fn table_of<'a>(given: &[&'a str]) -> Result<Table<'a>, Option<&'a str>> {
+    let Ok(mut table) = Table::standard() else {
         return Err(None);
     };
-    let Ok(others) = Table::with_crates(alloc) else {
+    let Ok(others) = Table::with_crates() else {
         return Err(None);
     };
     for row in &others.rows {

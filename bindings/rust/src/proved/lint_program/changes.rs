@@ -47,7 +47,7 @@ fn at_step<T>(step: &'static str, answer: io::Result<T>) -> Result<T, StepFailur
     }
 }
 
-/// Returns the path of a new file beside another one. Returns `Err` if an allocation fails.
+/// Returns the path of a new file beside another one.
 #[inline]
 fn path_beside(
     rt: &crate::shim::host::HostRuntime,
@@ -56,9 +56,9 @@ fn path_beside(
 ) -> Result<String, AllocError> {
     match path.rsplit_once('/') {
         Some((folder, name)) => {
-            crate::shim::format_in!(rt.alloc(); "{folder}/.{name}.formatlint-{number}")
+            crate::shim::try_format!("{folder}/.{name}.formatlint-{number}")
         }
-        None => crate::shim::format_in!(rt.alloc(); ".{path}.formatlint-{number}"),
+        None => crate::shim::try_format!(".{path}.formatlint-{number}"),
     }
 }
 
@@ -113,7 +113,7 @@ fn fill(
 /// Returns whether a file has these bytes.
 #[inline]
 fn has_bytes(rt: &crate::shim::host::HostRuntime, path: &str, bytes: &[u8]) -> io::Result<bool> {
-    let mut now = Vec::made_for(rt.alloc(), bytes.len())?;
+    let mut now = Vec::made_for(bytes.len())?;
     let limit = (bytes.len() as u64).saturating_add(1);
     let file = fs::open(rt, path)?;
     file.take(limit).read_to_end(&mut now)?;
@@ -152,7 +152,7 @@ fn target_of(rt: &crate::shim::host::HostRuntime, path: &str) -> io::Result<Opti
     if data.permissions().readonly() {
         return Err(io::Error::from(ErrorKind::PermissionDenied));
     }
-    let text = String::made_from(rt.alloc(), target.as_str())?;
+    let text = String::made_from(target.as_str())?;
     Ok(Some(text))
 }
 

@@ -39,11 +39,11 @@ fn folder_of(path: &str) -> &str {
 /// Returns the text of the manifest in a folder, or an error if there is none or it is no text.
 #[inline]
 fn manifest(rt: &crate::shim::host::HostRuntime, folder: &str) -> io::Result<String> {
-    let path = crate::shim::format_in!(rt.alloc(); "{folder}/Cargo.toml")?;
+    let path = crate::shim::try_format!("{folder}/Cargo.toml")?;
     if !fs::metadata(rt, path.as_str())?.is_file() {
         return Err(io::Error::from(io::ErrorKind::NotFound));
     }
-    let mut text = String::made_for(rt.alloc(), ROOM)?;
+    let mut text = String::made_for(ROOM)?;
     fs::open(rt, path.as_str())?
         .take(MOST)
         .read_to_string(&mut text)?;
@@ -105,7 +105,7 @@ impl<'a> Editions<'a> {
     pub fn new(rt: &crate::shim::host::HostRuntime, edition: Option<&'a str>) -> Editions<'a> {
         Editions {
             edition,
-            folder: String::made_in(rt.alloc()),
+            folder: String::new(),
             answer: None,
         }
     }
@@ -132,7 +132,7 @@ impl<'a> Editions<'a> {
             Ok(whole) => edition_of(rt, whole.as_str()),
             Err(_) => true,
         };
-        self.folder = String::made_from(rt.alloc(), folder)?;
+        self.folder = String::made_from(folder)?;
         self.answer = Some(answer);
         Ok(answer)
     }

@@ -14,7 +14,7 @@ use crate::proved::listing_json::{list, Listing};
 use crate::proved::literal_faults::{file_fault, snippet_of};
 use crate::proved::piece_listing::run::{read_input, run as list_as_text, write_whole};
 use crate::proved::piece_listing::verdict::RunFault;
-use crate::shim::alloc::{AllocError, Global};
+use crate::shim::alloc::AllocError;
 use crate::shim::clap::ArgMatches;
 use crate::shim::host::fs;
 use crate::shim::host::IsTerminal;
@@ -25,7 +25,7 @@ use std::io::{ErrorKind, Read, Write};
 #[inline]
 fn read<R: Read>(rt: &crate::shim::host::HostRuntime, stream: R) -> Result<Vec<u8>, Failure> {
     let mut reader = Recorder::new(stream);
-    match read_input(rt.alloc(), &mut reader) {
+    match read_input(&mut reader) {
         Ok(bytes) => Ok(bytes),
         Err(fault) => Err(Failure {
             fault,
@@ -50,15 +50,11 @@ fn read_file(rt: &crate::shim::host::HostRuntime, file: Option<&str>) -> Result<
 /// Returns the bytes of a file with each CRLF as the line feed that the compiler reads it as. A
 /// text that is no literal stays as it is.
 #[inline]
-fn without_returns(
-    alloc: Global,
-    matches: &ArgMatches<'_>,
-    file: Vec<u8>,
-) -> Result<Vec<u8>, AllocError> {
+fn without_returns(matches: &ArgMatches<'_>, file: Vec<u8>) -> Result<Vec<u8>, AllocError> {
     if matches.get_flag("text") || !file.contains(&b'\r') {
         return Ok(file);
     }
-    let mut bytes = Vec::made_in(alloc);
+    let mut bytes = Vec::new();
     for (index, byte) in file.iter().enumerate() {
         if *byte != b'\r' || file.get(index.saturating_add(1)) != Some(&b'\n') {
             bytes.try_push(*byte)?;
@@ -83,7 +79,7 @@ fn input(
     file: Option<&str>,
 ) -> Result<Vec<u8>, Failure> {
     let bytes = read_file(rt, file)?;
-    Ok(without_returns(rt.alloc(), matches, bytes)?)
+    Ok(without_returns(matches, bytes)?)
 }
 
 /// Returns the bytes of an input that are listed: all of a text, or the literal in a file.
@@ -100,15 +96,15 @@ fn listing_input<'a>(matches: &ArgMatches<'_>, input: &'a [u8]) -> &'a [u8] {
 
 /// Returns the listing of an input, in the form that the arguments name.
 #[inline]
-fn listing_of(alloc: Global, matches: &ArgMatches<'_>, input: &[u8]) -> Result<Listing, RunFault> {
-    let words = list_words(alloc, matches)?;
+fn listing_of(matches: &ArgMatches<'_>, input: &[u8]) -> Result<Listing, RunFault> {
+    let words = list_words(matches)?;
     let bytes = listing_input(matches, input);
     if matches.get_str("format") == Some("json") {
-        return list(alloc, bytes, words.as_slice());
+        return list(bytes, words.as_slice());
     }
     let mut reader = bytes;
-    let mut lines = Vec::made_in(alloc);
-    let has_ends = list_as_text(alloc, &mut reader, &mut lines, words.as_slice())?;
+    let mut lines = Vec::new();
+    let has_ends = list_as_text(&mut reader, &mut lines, words.as_slice())?;
     Ok(Listing {
         bytes: lines,
         has_ends,
@@ -124,10 +120,10 @@ fn answer_listing<W: Write>(
     matches: &ArgMatches<'_>,
     input: &[u8],
 ) -> Result<usize, RunFault> {
-    let listing = listing_of(rt.alloc(), matches, input)?;
+    let listing = listing_of(matches, input)?;
     match core::str::from_utf8(listing.bytes.as_slice()) {
         Ok(text) if rt.stdout().is_terminal() => {
-            let mut drawn = String::made_in(rt.alloc());
+            let mut drawn = String::new();
             put_glyphs(&mut drawn, text, 0)?;
             write_whole(writer, drawn.as_bytes())?;
         }
@@ -145,7 +141,6 @@ fn answer(
     path: &str,
     input: &[u8],
 ) -> Result<usize, Failure> {
-    let alloc = rt.alloc();
     let mut writer = Recorder::new(rt.stdout());
     let mut error_writer = Recorder::new(rt.stderr());
     let result = if matches.get_flag("list") {
@@ -154,7 +149,7 @@ fn answer(
         let width = width_of(rt, matches).unwrap_or(WIDTH);
         let task = task_of(matches, path, width, has_colours(rt, matches));
         let mut reader = input;
-        run(alloc, &mut reader, &mut writer, &mut error_writer, task)
+        run(&mut reader, &mut writer, &mut error_writer, task)
     };
     match result {
         Ok(count) => Ok(count),
@@ -181,8 +176,8 @@ fn put_why(
         }
     }
     let words = match &failure.error {
-        Some(error) => crate::shim::format_in!(*out.own_allocator(); "{error}")?,
-        None => String::made_in(*out.own_allocator()),
+        Some(error) => crate::shim::try_format!("{error}")?,
+        None => String::new(),
     };
     put_failure(out, path, failure.fault, system_words(words.as_str()))
 }
@@ -205,7 +200,7 @@ pub fn tell(
     if failure.is_of(ErrorKind::BrokenPipe) {
         return GONE;
     }
-    let mut out = String::made_in(rt.alloc());
+    let mut out = String::new();
     let _ = match put_why(&mut out, path, input, failure) {
         Ok(()) => rt.eprint(out.as_str()),
         Err(_) => rt.eprintln("formatlint: out of memory"),

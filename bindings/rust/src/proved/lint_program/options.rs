@@ -4,7 +4,7 @@
 // That source is proved, and each contract here is its. That this text means the same is tested:
 // by results from outside, and beside what is proved (.ci/bindings) and the original (tools/agree).
 
-use crate::shim::alloc::{AllocError, Global};
+use crate::shim::alloc::AllocError;
 use crate::shim::clap::{Arg, ArgAction, ArgGroup, Command};
 
 /// The version of the program.
@@ -241,10 +241,10 @@ static OPTIONS: [Row; 24] = [
     },
 ];
 
-/// Returns an option. Returns `Err` if an allocation fails.
+/// Returns an option.
 #[inline]
-fn option<'a>(alloc: Global, row: &'a Row) -> Result<Arg<'a>, AllocError> {
-    let mut arg = Arg::new(alloc, row.name).long(row.name).help(row.help);
+fn option<'a>(row: &'a Row) -> Result<Arg<'a>, AllocError> {
+    let mut arg = Arg::new(row.name).long(row.name).help(row.help);
     arg = match row.value {
         Some(value) => arg.value_name(value),
         None => arg.action(ArgAction::SetTrue),
@@ -265,31 +265,31 @@ fn option<'a>(alloc: Global, row: &'a Row) -> Result<Arg<'a>, AllocError> {
         .conflicts_with_all(row.conflicts)
 }
 
-/// Adds all options to a command. Returns `Err` if an allocation fails.
+/// Adds all options to a command.
 #[inline]
-fn with_options<'a>(alloc: Global, command: Command<'a>) -> Result<Command<'a>, AllocError> {
+fn with_options<'a>(command: Command<'a>) -> Result<Command<'a>, AllocError> {
     let mut all = command;
     for row in &OPTIONS {
-        all = all.arg(option(alloc, row)?)?;
+        all = all.arg(option(row)?)?;
     }
     Ok(all)
 }
 
-/// Returns the options and the arguments of the program. Returns `Err` if an allocation fails.
+/// Returns the options and the arguments of the program.
 #[inline]
-pub fn command<'a>(alloc: Global) -> Result<Command<'a>, AllocError> {
-    let named = Command::new(alloc, "formatlint")
+pub fn command<'a>() -> Result<Command<'a>, AllocError> {
+    let named = Command::new("formatlint")
         .bin_name("formatlint")?
         .version(VERSION)
         .about("Finds the faults of format strings in Rust sources, as the Rust compiler does");
-    let path = Arg::new(alloc, "path")
+    let path = Arg::new("path")
         .value_name("PATH")
         .num_args(0..)
         .action(ArgAction::Append)
         .help("The files and folders to read; - is standard input; without one, this folder");
-    let with_all = with_options(alloc, named.arg(path)?)?;
-    let string = ArgGroup::new(alloc, "string").arg("literal")?;
-    let change = ArgGroup::new(alloc, "change").arg("fix")?;
+    let with_all = with_options(named.arg(path)?)?;
+    let string = ArgGroup::new("string").arg("literal")?;
+    let change = ArgGroup::new("change").arg("fix")?;
     let with_string = with_all.group(string.arg("text")?)?;
     with_string.group(change.arg("inline")?.multiple(true))
 }

@@ -22,8 +22,7 @@ pub fn system_words(text: &str) -> &str {
     }
 }
 
-/// Appends the start of a line: the name of the program and the path. Returns `Err` if an
-/// allocation fails.
+/// Appends the start of a line: the name of the program and the path.
 // ensures { OnOk result (string_bytes out.new ≡ string_bytes out.old ++ opening path.now) }
 #[inline]
 fn put_opening(out: &mut String, path: &str) -> Result<(), AllocError> {
@@ -69,7 +68,7 @@ pub fn put_failure(
     Ok(())
 }
 
-/// Appends a number in decimal digits. Returns `Err` if an allocation fails.
+/// Appends a number in decimal digits.
 // ensures { OnOk result (string_bytes out.new ≡ string_bytes out.old ++ decimal number) }
 #[inline]
 fn put_number(out: &mut String, number: usize) -> Result<(), AllocError> {
@@ -78,7 +77,7 @@ fn put_number(out: &mut String, number: usize) -> Result<(), AllocError> {
     Ok(())
 }
 
-/// Appends a place: the line, a colon and the column. Returns `Err` if an allocation fails.
+/// Appends a place: the line, a colon and the column.
 // ensures { OnOk result (string_bytes out.new ≡ string_bytes out.old ++ place_text place) }
 #[inline]
 fn put_place(out: &mut String, place: Place) -> Result<(), AllocError> {

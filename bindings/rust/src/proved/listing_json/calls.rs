@@ -8,7 +8,7 @@
 use super::faults::put_fault;
 use super::pieces::put_piece;
 use crate::proved::rustc_parse_format::{Argument, Fault, PieceKind};
-use crate::shim::alloc::{AllocError, Global};
+use crate::shim::alloc::AllocError;
 use crate::shim::json::Writer;
 use crate::shim::parser::Parser;
 use crate::shim::prelude::*;
@@ -18,8 +18,8 @@ use core::mem;
 // ensures before { result.before ≡ out.old.items }
 // ensures tokens { result.tokens ≡ [] }
 #[inline]
-pub fn begin_line(alloc: Global, out: &mut Vec<u8>) -> Writer {
-    Writer::new(mem::replace(out, Vec::made_in(alloc)))
+pub fn begin_line(out: &mut Vec<u8>) -> Writer {
+    Writer::new(mem::replace(out, Vec::new()))
 }
 
 /// Ends the line of a writer, and moves it back into the text.
@@ -37,13 +37,12 @@ pub fn end_line(out: &mut Vec<u8>, writer: Writer) -> Result<(), AllocError> {
 //     out.old.items out.new.items) }
 #[inline]
 fn put_piece_line(
-    alloc: Global,
     out: &mut Vec<u8>,
     taken: &PieceKind<'_>,
     argument: &Argument<'_>,
 ) -> Result<(), AllocError> {
-    let mut writer = begin_line(alloc, out);
-    put_piece(alloc, &mut writer, taken, argument)?;
+    let mut writer = begin_line(out);
+    put_piece(&mut writer, taken, argument)?;
     end_line(out, writer)?;
     Ok(())
 }
@@ -53,13 +52,12 @@ fn put_piece_line(
 //     out.old.items out.new.items) }
 #[inline]
 fn put_given(
-    alloc: Global,
     out: &mut Vec<u8>,
     taken: &Option<PieceKind<'_>>,
     argument: &Argument<'_>,
 ) -> Result<(), AllocError> {
     match taken {
-        Some(taken) => put_piece_line(alloc, out, taken, argument),
+        Some(taken) => put_piece_line(out, taken, argument),
         None => Ok(()),
     }
 }
@@ -68,9 +66,9 @@ fn put_given(
 // ensures { OnOk result (Adds (fault_value (seen_fault fault.now) ∷ [])
 //     out.old.items out.new.items) }
 #[inline]
-fn put_fault_line(alloc: Global, out: &mut Vec<u8>, fault: &Fault<'_>) -> Result<(), AllocError> {
-    let mut writer = begin_line(alloc, out);
-    put_fault(alloc, &mut writer, fault)?;
+fn put_fault_line(out: &mut Vec<u8>, fault: &Fault<'_>) -> Result<(), AllocError> {
+    let mut writer = begin_line(out);
+    put_fault(&mut writer, fault)?;
     end_line(out, writer)?;
     Ok(())
 }
@@ -79,9 +77,9 @@ fn put_fault_line(alloc: Global, out: &mut Vec<u8>, fault: &Fault<'_>) -> Result
 // ensures { OnOk result (Adds (map fault_value (map seen_fault faults.now))
 //     out.old.items out.new.items) }
 #[inline]
-fn put_faults(alloc: Global, out: &mut Vec<u8>, faults: &[Fault<'_>]) -> Result<(), AllocError> {
+fn put_faults(out: &mut Vec<u8>, faults: &[Fault<'_>]) -> Result<(), AllocError> {
     for fault in faults {
-        put_fault_line(alloc, out, fault)?;
+        put_fault_line(out, fault)?;
     }
     Ok(())
 }
@@ -98,15 +96,14 @@ fn put_faults(alloc: Global, out: &mut Vec<u8>, faults: &[Fault<'_>]) -> Result<
 // ensures goes_on { IfOk result (λ b. b ≡ is_some (next_call parser.old).piece) }
 #[inline]
 fn put_call<'a>(
-    alloc: Global,
     out: &mut Vec<u8>,
     parser: &mut Parser<'a>,
     argument: &mut Argument<'a>,
     faults: &mut Vec<Fault<'a>>,
 ) -> Result<bool, AllocError> {
     let taken = parser.next_with_faults(argument, faults)?;
-    put_given(alloc, out, &taken, argument)?;
-    put_faults(alloc, out, faults.as_slice())?;
+    put_given(out, &taken, argument)?;
+    put_faults(out, faults.as_slice())?;
     Ok(taken.is_some())
 }
 
@@ -116,17 +113,13 @@ fn put_call<'a>(
 //     out.old.items out.new.items) }
 // ensures faults { IfOk result (λ b. b ≡ has_faults (calls parser.old)) }
 #[inline]
-pub fn put_calls<'a>(
-    alloc: Global,
-    out: &mut Vec<u8>,
-    parser: &mut Parser<'a>,
-) -> Result<bool, AllocError> {
+pub fn put_calls<'a>(out: &mut Vec<u8>, parser: &mut Parser<'a>) -> Result<bool, AllocError> {
     let mut argument = Argument::default();
-    let mut faults = Vec::made_in(alloc);
+    let mut faults = Vec::new();
     let mut has_faults = false;
     let mut goes_on = true;
     while goes_on {
-        goes_on = put_call(alloc, out, parser, &mut argument, &mut faults)?;
+        goes_on = put_call(out, parser, &mut argument, &mut faults)?;
         has_faults |= !faults.is_empty();
         faults.clear();
     }

@@ -7,7 +7,7 @@
 
 use super::fields::{begin_kind, put_span_of, put_string};
 use crate::proved::rustc_parse_format::{Fault, ParseError, Suggestion};
-use crate::shim::alloc::{AllocError, Global};
+use crate::shim::alloc::AllocError;
 use crate::shim::json::Writer;
 use crate::shim::prelude::*;
 use core::ops::Range;
@@ -133,7 +133,7 @@ fn put_error(writer: &mut Writer, id: &str, error: &ParseError) -> Result<(), Al
 //     ≡ writer.old.tokens ++ json_tokens (fault_value (seen_fault fault.now))) }
 // ensures before { OnOk result (writer.new.before ≡ writer.old.before) }
 #[inline]
-pub fn put_fault(alloc: Global, writer: &mut Writer, fault: &Fault<'_>) -> Result<(), AllocError> {
-    let error = fault.error(alloc)?;
+pub fn put_fault(writer: &mut Writer, fault: &Fault<'_>) -> Result<(), AllocError> {
+    let error = fault.error()?;
     put_error(writer, fault.id(), &error)
 }

@@ -10,7 +10,7 @@ use crate::proved::piece_listing::literal::{literal_text, strip_newline};
 use crate::proved::piece_listing::verdict::RunFault;
 use crate::proved::piece_listing::{has_entries, report_for, task_of, Task};
 use crate::proved::placeholder_check::{uses_of, Report, Uses};
-use crate::shim::alloc::{AllocError, Global};
+use crate::shim::alloc::AllocError;
 use crate::shim::parser::{read_all, Parser};
 use crate::shim::prelude::*;
 
@@ -25,18 +25,17 @@ pub struct Listing {
     pub has_ends: bool,
 }
 
-/// Returns a copy of a literal, if there is one. Returns `Err` if an allocation fails.
+/// Returns a copy of a literal, if there is one.
 // ensures { IfOk result (λ s. seen_snippet s ≡ option_map (λ l. chars l.now) literal.entry) }
 #[inline]
-fn snippet_of(alloc: Global, literal: Option<&str>) -> Result<Option<String>, AllocError> {
+fn snippet_of(literal: Option<&str>) -> Result<Option<String>, AllocError> {
     match literal {
-        Some(text) => Ok(Some(String::made_from(alloc, text)?)),
+        Some(text) => Ok(Some(String::made_from(text)?)),
         None => Ok(None),
     }
 }
 
 /// Returns the arguments that the placeholders of a text use, if the task has a list of arguments.
-/// Returns `Err` if an allocation fails.
 // requires { hashes style + length text.now + 2 < 2 ^ 64 }
 // ensures { IfOk result (λ u. IsSome task.entry.given
 //     → Holds (uses (pieces (seen_mode task.entry.mode) (record {
@@ -46,22 +45,20 @@ fn snippet_of(alloc: Global, literal: Option<&str>) -> Result<Option<String>, Al
 //     }))) u) }
 #[inline]
 fn used_by<'a>(
-    alloc: Global,
     text: &'a str,
     style: Option<usize>,
     snippet: Option<String>,
     task: Task<'_>,
 ) -> Result<Uses<'a>, AllocError> {
     if task.given.is_none() {
-        return Ok(Uses::new(alloc));
+        return Ok(Uses::new());
     }
-    let (pieces, _) = read_all(alloc, text, style, snippet, false, task.mode)?;
-    let used = uses_of(alloc, pieces.as_slice())?;
+    let (pieces, _) = read_all(text, style, snippet, false, task.mode)?;
+    let used = uses_of(pieces.as_slice())?;
     Ok(used)
 }
 
-/// Returns the report on the arguments that are missing or unused in a text. Returns `Err` if an
-/// allocation fails.
+/// Returns the report on the arguments that are missing or unused in a text.
 // requires { hashes style + length text.now + 2 < 2 ^ 64 }
 // ensures { IfOk result (λ r. IsReportFor (option_map seen_given task.entry.given)
 //     (pieces (seen_mode task.entry.mode) (record {
@@ -71,39 +68,32 @@ fn used_by<'a>(
 //     })) (seen_report r)) }
 #[inline]
 fn report_of<'a>(
-    alloc: Global,
     text: &'a str,
     style: Option<usize>,
     snippet: Option<String>,
     task: Task<'a>,
 ) -> Result<Report<'a>, AllocError> {
-    let used = used_by(alloc, text, style, snippet, task)?;
-    report_for(alloc, &used, task.given)
+    let used = used_by(text, style, snippet, task)?;
+    report_for(&used, task.given)
 }
 
-/// Returns the lines of the calls of a parser and of a report. Returns `Err` if an allocation
-/// fails.
+/// Returns the lines of the calls of a parser and of a report.
 // ensures lines { IfOk result (λ x. Adds (calls_values parser.old.world (calls parser.old)
 //     ++ report_values (seen_report report.now)) [] x.bytes.items) }
 // ensures ends { IfOk result (λ x. x.has_ends
 //     ≡ (has_faults (calls parser.old) || has_entries (seen_report report.now))) }
 #[inline]
-fn list_calls(
-    alloc: Global,
-    parser: &mut Parser<'_>,
-    report: &Report<'_>,
-) -> Result<Listing, AllocError> {
-    let mut bytes = Vec::made_in(alloc);
-    let has_faults = put_calls(alloc, &mut bytes, parser)?;
-    put_report(alloc, &mut bytes, report)?;
+fn list_calls(parser: &mut Parser<'_>, report: &Report<'_>) -> Result<Listing, AllocError> {
+    let mut bytes = Vec::new();
+    let has_faults = put_calls(&mut bytes, parser)?;
+    put_report(&mut bytes, report)?;
     Ok(Listing {
         bytes,
         has_ends: has_faults || has_entries(report),
     })
 }
 
-/// Returns the listing of a text, with the literal that it is in if there is one. Returns `Err` if
-/// an allocation fails.
+/// Returns the listing of a text, with the literal that it is in if there is one.
 // requires { hashes style + length text.now + 2 < 2 ^ 64 }
 // ensures { IfOk result (λ x. IsListed (seen_task task.entry) (record {
 //   text = chars text.now;
@@ -112,16 +102,15 @@ fn list_calls(
 // }) x.bytes.items x.has_ends) }
 #[inline]
 fn list_source(
-    alloc: Global,
     text: &str,
     style: Option<usize>,
     literal: Option<&str>,
     task: Task<'_>,
 ) -> Result<Listing, AllocError> {
-    let report = report_of(alloc, text, style, snippet_of(alloc, literal)?, task)?;
-    let snippet = snippet_of(alloc, literal)?;
-    let mut parser = Parser::new(alloc, text, style, snippet, false, task.mode)?;
-    list_calls(alloc, &mut parser, &report)
+    let report = report_of(text, style, snippet_of(literal)?, task)?;
+    let snippet = snippet_of(literal)?;
+    let mut parser = Parser::new(text, style, snippet, false, task.mode)?;
+    list_calls(&mut parser, &report)
 }
 
 /// Returns the listing of an input that is to be a string literal, perhaps with a newline after it.
@@ -133,18 +122,12 @@ fn list_source(
 //     → (s : Source) → IsInLiteral (chars input.now) s → ⊥ }
 // ensures only { IfErr result (λ fault. (fault ≢ Words) × (fault ≢ TooLong) × (fault ≢ NotText)) }
 #[inline]
-fn list_literal(alloc: Global, input: &str, task: Task<'_>) -> Result<Listing, RunFault> {
+fn list_literal(input: &str, task: Task<'_>) -> Result<Listing, RunFault> {
     let literal = strip_newline(input);
-    let Some((text, style)) = literal_text(alloc, literal)? else {
+    let Some((text, style)) = literal_text(literal)? else {
         return Err(RunFault::NotLiteral);
     };
-    Ok(list_source(
-        alloc,
-        text.as_str(),
-        style,
-        Some(literal),
-        task,
-    )?)
+    Ok(list_source(text.as_str(), style, Some(literal), task)?)
 }
 
 /// Returns the listing of a text, which is a string literal if the task says so. Returns `Err` if
@@ -157,11 +140,11 @@ fn list_literal(alloc: Global, input: &str, task: Task<'_>) -> Result<Listing, R
 //     → IsSourceOf task.entry.is_literal (chars text.now) s → ⊥ }
 // ensures only { IfErr result (λ fault. (fault ≢ Words) × (fault ≢ TooLong) × (fault ≢ NotText)) }
 #[inline]
-fn list_text(alloc: Global, text: &str, task: Task<'_>) -> Result<Listing, RunFault> {
+fn list_text(text: &str, task: Task<'_>) -> Result<Listing, RunFault> {
     if task.is_literal {
-        list_literal(alloc, text, task)
+        list_literal(text, task)
     } else {
-        Ok(list_source(alloc, text, None, None, task)?)
+        Ok(list_source(text, None, None, task)?)
     }
 }
 
@@ -184,7 +167,7 @@ fn list_text(alloc: Global, text: &str, task: Task<'_>) -> Result<Listing, RunFa
 //     × (task_of (map string_bytes words.now) ≡ Some a)
 //     × ((s : Source) → IsSourceOf a.is_literal (chars input.now) s → ⊥) }
 #[inline]
-pub fn list(alloc: Global, input: &[u8], words: &[String]) -> Result<Listing, RunFault> {
+pub fn list(input: &[u8], words: &[String]) -> Result<Listing, RunFault> {
     let Some(task) = task_of(words) else {
         return Err(RunFault::Words);
     };
@@ -194,5 +177,5 @@ pub fn list(alloc: Global, input: &[u8], words: &[String]) -> Result<Listing, Ru
     let Ok(text) = core::str::from_utf8(input) else {
         return Err(RunFault::NotText);
     };
-    list_text(alloc, text, task)
+    list_text(text, task)
 }

@@ -11,7 +11,7 @@ use super::fields::{
 use crate::proved::rustc_parse_format::{
     Alignment, Argument, Count, DebugHex, FormatSpec, PieceKind, Position, Sign,
 };
-use crate::shim::alloc::{AllocError, Global};
+use crate::shim::alloc::AllocError;
 use crate::shim::json::Writer;
 use crate::shim::prelude::*;
 use core::ops::Range;
@@ -77,8 +77,8 @@ fn put_count(writer: &mut Writer, name: &str, count: &Count<'_>) -> Result<(), A
 //     ≡ writer.old.tokens ++ json_tokens (fill_value c)) }
 // ensures before { writer.new.before ≡ writer.old.before }
 #[inline]
-fn put_char(alloc: Global, writer: &mut Writer, c: char) -> Result<(), AllocError> {
-    let mut text = String::made_in(alloc);
+fn put_char(writer: &mut Writer, c: char) -> Result<(), AllocError> {
+    let mut text = String::new();
     text.try_push(c)?;
     writer.string(text.as_str())?;
     Ok(())
@@ -89,9 +89,9 @@ fn put_char(alloc: Global, writer: &mut Writer, c: char) -> Result<(), AllocErro
 //     ≡ writer.old.tokens ++ json_tokens (maybe fill_value fill)) }
 // ensures before { writer.new.before ≡ writer.old.before }
 #[inline]
-fn put_fill(alloc: Global, writer: &mut Writer, fill: Option<char>) -> Result<(), AllocError> {
+fn put_fill(writer: &mut Writer, fill: Option<char>) -> Result<(), AllocError> {
     match fill {
-        Some(c) => put_char(alloc, writer, c),
+        Some(c) => put_char(writer, c),
         None => writer.null(),
     }
 }
@@ -152,14 +152,10 @@ fn put_hex(writer: &mut Writer, hex: Option<DebugHex>) -> Result<(), AllocError>
 //     ≡ writer.old.tokens ++ json_tokens (format_value (seen_spec format.now))) }
 // ensures before { OnOk result (writer.new.before ≡ writer.old.before) }
 #[inline]
-fn put_format(
-    alloc: Global,
-    writer: &mut Writer,
-    format: &FormatSpec<'_>,
-) -> Result<(), AllocError> {
+fn put_format(writer: &mut Writer, format: &FormatSpec<'_>) -> Result<(), AllocError> {
     writer.begin_object()?;
     writer.key("fill")?;
-    put_fill(alloc, writer, format.fill)?;
+    put_fill(writer, format.fill)?;
     put_maybe_span(writer, "fill_span", &format.fill_span)?;
     writer.key("align")?;
     put_align(writer, format.align)?;
@@ -198,17 +194,13 @@ fn put_run(writer: &mut Writer, text: &str) -> Result<(), AllocError> {
 //     ≡ writer.old.tokens ++ json_tokens (placeholder_value (seen_argument argument.now))) }
 // ensures before { OnOk result (writer.new.before ≡ writer.old.before) }
 #[inline]
-fn put_placeholder(
-    alloc: Global,
-    writer: &mut Writer,
-    argument: &Argument<'_>,
-) -> Result<(), AllocError> {
+fn put_placeholder(writer: &mut Writer, argument: &Argument<'_>) -> Result<(), AllocError> {
     begin_kind(writer, "placeholder")?;
     writer.key("position")?;
     put_position(writer, &argument.position)?;
     put_span_of(writer, "position_span", &argument.position_span)?;
     writer.key("format")?;
-    put_format(alloc, writer, &argument.format)?;
+    put_format(writer, &argument.format)?;
     writer.end_object()?;
     Ok(())
 }
@@ -219,13 +211,12 @@ fn put_placeholder(
 // ensures before { OnOk result (writer.new.before ≡ writer.old.before) }
 #[inline]
 pub fn put_piece(
-    alloc: Global,
     writer: &mut Writer,
     taken: &PieceKind<'_>,
     argument: &Argument<'_>,
 ) -> Result<(), AllocError> {
     match taken {
         PieceKind::Lit(text) => put_run(writer, text),
-        PieceKind::NextArgument => put_placeholder(alloc, writer, argument),
+        PieceKind::NextArgument => put_placeholder(writer, argument),
     }
 }

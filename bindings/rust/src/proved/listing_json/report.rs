@@ -9,19 +9,14 @@
 use super::calls::{begin_line, end_line};
 use super::fields::{put_index, put_name};
 use crate::proved::placeholder_check::Report;
-use crate::shim::alloc::{AllocError, Global};
+use crate::shim::alloc::AllocError;
 use crate::shim::prelude::*;
 
 /// Appends the line of an index.
 // ensures { OnOk result (Adds (index_value kind.now index ∷ []) out.old.items out.new.items) }
 #[inline]
-fn put_index_line(
-    alloc: Global,
-    out: &mut Vec<u8>,
-    kind: &str,
-    index: usize,
-) -> Result<(), AllocError> {
-    let mut writer = begin_line(alloc, out);
+fn put_index_line(out: &mut Vec<u8>, kind: &str, index: usize) -> Result<(), AllocError> {
+    let mut writer = begin_line(out);
     put_index(&mut writer, kind, index)?;
     end_line(out, writer)?;
     Ok(())
@@ -31,14 +26,9 @@ fn put_index_line(
 // ensures { OnOk result (Adds (map (index_value kind.now) indices.now)
 //     out.old.items out.new.items) }
 #[inline]
-fn put_indices(
-    alloc: Global,
-    out: &mut Vec<u8>,
-    kind: &str,
-    indices: &[usize],
-) -> Result<(), AllocError> {
+fn put_indices(out: &mut Vec<u8>, kind: &str, indices: &[usize]) -> Result<(), AllocError> {
     for index in indices {
-        put_index_line(alloc, out, kind, *index)?;
+        put_index_line(out, kind, *index)?;
     }
     Ok(())
 }
@@ -47,13 +37,8 @@ fn put_indices(
 // ensures { OnOk result (Adds (name_value kind.now (chars name.now) ∷ [])
 //     out.old.items out.new.items) }
 #[inline]
-fn put_name_line(
-    alloc: Global,
-    out: &mut Vec<u8>,
-    kind: &str,
-    name: &str,
-) -> Result<(), AllocError> {
-    let mut writer = begin_line(alloc, out);
+fn put_name_line(out: &mut Vec<u8>, kind: &str, name: &str) -> Result<(), AllocError> {
+    let mut writer = begin_line(out);
     put_name(&mut writer, kind, name)?;
     end_line(out, writer)?;
     Ok(())
@@ -63,14 +48,9 @@ fn put_name_line(
 // ensures { OnOk result (Adds (map (name_value kind.now) (texts names.now))
 //     out.old.items out.new.items) }
 #[inline]
-fn put_names(
-    alloc: Global,
-    out: &mut Vec<u8>,
-    kind: &str,
-    names: &[&str],
-) -> Result<(), AllocError> {
+fn put_names(out: &mut Vec<u8>, kind: &str, names: &[&str]) -> Result<(), AllocError> {
     for name in names {
-        put_name_line(alloc, out, kind, name)?;
+        put_name_line(out, kind, name)?;
     }
     Ok(())
 }
@@ -79,10 +59,10 @@ fn put_names(
 // ensures { OnOk result (Adds (report_values (seen_report report.now))
 //     out.old.items out.new.items) }
 #[inline]
-pub fn put_report(alloc: Global, out: &mut Vec<u8>, report: &Report<'_>) -> Result<(), AllocError> {
-    put_indices(alloc, out, "missing-index", report.missing_index.as_slice())?;
-    put_names(alloc, out, "missing-name", report.missing_name.as_slice())?;
-    put_indices(alloc, out, "unused-index", report.unused_index.as_slice())?;
-    put_names(alloc, out, "unused-name", report.unused_name.as_slice())?;
+pub fn put_report(out: &mut Vec<u8>, report: &Report<'_>) -> Result<(), AllocError> {
+    put_indices(out, "missing-index", report.missing_index.as_slice())?;
+    put_names(out, "missing-name", report.missing_name.as_slice())?;
+    put_indices(out, "unused-index", report.unused_index.as_slice())?;
+    put_names(out, "unused-name", report.unused_name.as_slice())?;
     Ok(())
 }

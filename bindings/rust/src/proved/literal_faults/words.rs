@@ -69,8 +69,7 @@ fn named_character(kind: FaultKind) -> Option<char> {
     }
 }
 
-/// Appends a character: printable ASCII as it is, and any other as an escape. Returns `Err` if an
-/// allocation fails.
+/// Appends a character: printable ASCII as it is, and any other as an escape.
 // ensures { OnOk result (string_bytes out.new ≡ string_bytes out.old ++ shown c) }
 #[inline]
 fn put_shown(out: &mut String, c: char) -> Result<(), AllocError> {
@@ -81,7 +80,7 @@ fn put_shown(out: &mut String, c: char) -> Result<(), AllocError> {
         '\n' => out.try_push_str("\\n")?,
         _ => {
             let code = u32::from(c);
-            let escape = crate::shim::format_in!(*out.own_allocator(); "\\u{{{code:x}}}")?;
+            let escape = crate::shim::try_format!("\\u{{{code:x}}}")?;
             out.try_push_str(&escape)?;
         }
     }

@@ -7,7 +7,7 @@
 use crate::proved::message_faults::faults::MessageFault;
 use crate::proved::rustc_parse_format::{Argument, Fault, ParseMode, Piece, Position};
 use crate::proved::text_faults::{text_fault, Spot};
-use crate::shim::alloc::{AllocError, Global};
+use crate::shim::alloc::AllocError;
 use crate::shim::parser::{read_all, Parser};
 use crate::shim::prelude::*;
 use alloc::collections::BTreeSet;
@@ -26,40 +26,29 @@ pub struct Message<'a, 's, 'p> {
     pub parameters: Option<&'s BTreeSet<&'p str>>,
 }
 
-/// Returns a text as a string. Returns `Err` if an allocation fails.
+/// Returns a text as a string.
 // ensures { IfOk result (λ o. seen_snippet o ≡ option_map seen_text text.entry) }
 #[inline]
-fn owned(alloc: Global, text: Option<&str>) -> Result<Option<String>, AllocError> {
+fn owned(text: Option<&str>) -> Result<Option<String>, AllocError> {
     match text {
         None => Ok(None),
-        Some(text) => Ok(Some(String::made_from(alloc, text)?)),
+        Some(text) => Ok(Some(String::made_from(text)?)),
     }
 }
 
-/// Returns the fault of a text that rustc shows, or `None` if it is in the grammar. Returns `Err`
-/// if an allocation fails.
+/// Returns the fault of a text that rustc shows, or `None` if it is in the grammar.
 // requires { length message.text.now + 2 < 2 ^ 64 }
 // ensures { IfOk result (λ o. option_map seen_text_fault o
 //     ≡ text_fault (start message.entry)) }
 #[inline]
-fn fault_of<'a>(
-    alloc: Global,
-    message: Message<'a, '_, '_>,
-) -> Result<Option<Fault<'a>>, AllocError> {
-    let snippet = owned(alloc, message.snippet)?;
-    let mut parser = Parser::new(
-        alloc,
-        message.text,
-        None,
-        snippet,
-        false,
-        ParseMode::Diagnostic,
-    )?;
-    let fault = text_fault(alloc, &mut parser)?;
+fn fault_of<'a>(message: Message<'a, '_, '_>) -> Result<Option<Fault<'a>>, AllocError> {
+    let snippet = owned(message.snippet)?;
+    let mut parser = Parser::new(message.text, None, snippet, false, ParseMode::Diagnostic)?;
+    let fault = text_fault(&mut parser)?;
     Ok(fault)
 }
 
-/// Puts a name into a set. Returns `Err` if an allocation fails.
+/// Puts a name into a set.
 // ensures { OnOk result ((w : Text) → has_text names.new w
 //     ≡ (bytes_eq w (chars name.now) || has_text names.old w)) }
 #[inline]
@@ -68,15 +57,11 @@ fn insert<'a>(names: &mut BTreeSet<&'a str>, name: &'a str) -> Result<(), AllocE
     Ok(())
 }
 
-/// Returns the set of the names of parameters, for [`Message::parameters`]. Returns `Err` if an
-/// allocation fails.
+/// Returns the set of the names of parameters, for [`Message::parameters`].
 // ensures { IfOk result (λ s. HasNames (map (λ p. p.now) parameters.now) s) }
 #[inline]
-pub fn names_of<'a>(
-    alloc: Global,
-    parameters: &[&'a str],
-) -> Result<BTreeSet<&'a str>, AllocError> {
-    let mut names = BTreeSet::made_in(alloc);
+pub fn names_of<'a>(parameters: &[&'a str]) -> Result<BTreeSet<&'a str>, AllocError> {
+    let mut names = BTreeSet::new();
     for parameter in parameters {
         insert(&mut names, parameter)?;
     }
@@ -110,8 +95,7 @@ fn spot_of(is_known: bool, span: &Range<usize>) -> Spot {
     }
 }
 
-/// Adds the fault of the specification of a placeholder, if it has one. Returns `Err` if an
-/// allocation fails.
+/// Adds the fault of the specification of a placeholder, if it has one.
 // ensures { OnOk result (map seen_fault faults.new.items ≡ map seen_fault faults.old.items
 //     ++ specifier_faults is_known (option_map pair span.now)) }
 #[inline]
@@ -128,7 +112,7 @@ fn push_specifier<'a>(
     Ok(())
 }
 
-/// Adds the fault of a name, if it is that of no parameter. Returns `Err` if an allocation fails.
+/// Adds the fault of a name, if it is that of no parameter.
 // ensures { OnOk result (map seen_fault faults.new.items ≡ map seen_fault faults.old.items
 //     ++ name_faults (known_names names.entry) spot (chars name.now)) }
 #[inline]
@@ -146,7 +130,7 @@ fn push_name<'a>(
     Ok(())
 }
 
-/// Adds the faults of a placeholder. Returns `Err` if an allocation fails.
+/// Adds the faults of a placeholder.
 // ensures { OnOk result (map seen_fault faults.new.items ≡ map seen_fault faults.old.items
 //     ++ placeholder_faults (known_names names.entry) is_known
 //     (seen_argument argument.now)) }
@@ -168,7 +152,7 @@ fn push_placeholder<'a>(
     Ok(())
 }
 
-/// Adds the faults of a piece. Returns `Err` if an allocation fails.
+/// Adds the faults of a piece.
 // ensures { OnOk result (map seen_fault faults.new.items ≡ map seen_fault faults.old.items
 //     ++ piece_faults (known_names names.entry) is_known (seen piece.now)) }
 #[inline]
@@ -184,7 +168,7 @@ fn push_piece<'a>(
     }
 }
 
-/// Adds the faults of pieces. Returns `Err` if an allocation fails.
+/// Adds the faults of pieces.
 // ensures { OnOk result (map seen_fault faults.new.items ≡ map seen_fault faults.old.items
 //     ++ faults_of (known_names names.entry) is_known (map seen pieces.now)) }
 #[inline]
@@ -200,44 +184,33 @@ fn push_pieces<'a>(
     Ok(())
 }
 
-/// Adds the faults of the placeholders of a text. Returns `Err` if an allocation fails.
+/// Adds the faults of the placeholders of a text.
 // requires { length message.text.now + 2 < 2 ^ 64 }
 // ensures { OnOk result (map seen_fault faults.new.items ≡ map seen_fault faults.old.items
 //     ++ faults_or (known_names message.entry.parameters) (start message.entry) None) }
 #[inline]
 fn push_placeholders<'a>(
-    alloc: Global,
     faults: &mut Vec<MessageFault<'a>>,
     message: Message<'a, '_, '_>,
 ) -> Result<(), AllocError> {
-    let snippet = owned(alloc, message.snippet)?;
-    let (pieces, parser) = read_all(
-        alloc,
-        message.text,
-        None,
-        snippet,
-        false,
-        ParseMode::Diagnostic,
-    )?;
+    let snippet = owned(message.snippet)?;
+    let (pieces, parser) = read_all(message.text, None, snippet, false, ParseMode::Diagnostic)?;
     let is_known = parser.is_source_literal();
     push_pieces(faults, message.parameters, is_known, &pieces)?;
     Ok(())
 }
 
-/// Returns the faults of a text. Returns `Err` if an allocation fails.
+/// Returns the faults of a text.
 // requires { length message.text.now + 2 < 2 ^ 64 }
 // ensures { IfOk result (λ v. map seen_fault v.items ≡ faults_or
 //     (known_names message.entry.parameters) (start message.entry)
 //     (text_fault (start message.entry))) }
 #[inline]
-fn faults_of<'a>(
-    alloc: Global,
-    message: Message<'a, '_, '_>,
-) -> Result<Vec<MessageFault<'a>>, AllocError> {
-    let mut faults = Vec::made_in(alloc);
-    match fault_of(alloc, message)? {
+fn faults_of<'a>(message: Message<'a, '_, '_>) -> Result<Vec<MessageFault<'a>>, AllocError> {
+    let mut faults = Vec::new();
+    match fault_of(message)? {
         Some(fault) => faults.try_push(MessageFault::Text(fault))?,
-        None => push_placeholders(alloc, &mut faults, message)?,
+        None => push_placeholders(&mut faults, message)?,
     }
     Ok(faults)
 }
@@ -245,17 +218,15 @@ fn faults_of<'a>(
 /// Checks a text of the attribute `diagnostic::on_unimplemented`, and returns its faults in the
 /// order of its placeholders, of which the specifications and the positions are looked at.
 ///
-/// The length of the text in bytes and 2 must together be less than 2^64. Returns `Err` if an
-/// allocation fails.
+/// The length of the text in bytes and 2 must together be less than 2^64.
 // requires { length message.text.now + 2 < 2 ^ 64 }
 // ensures { IfOk result (λ v. (ps : Option (List (List ℕ)))
 //     → HasParameters ps message.entry.parameters
 //     → map seen_fault v.items ≡ message_faults ps (start message.entry)) }
 #[inline]
 pub fn message_faults<'a>(
-    alloc: Global,
     message: Message<'a, '_, '_>,
 ) -> Result<Vec<MessageFault<'a>>, AllocError> {
-    let faults = faults_of(alloc, message)?;
+    let faults = faults_of(message)?;
     Ok(faults)
 }

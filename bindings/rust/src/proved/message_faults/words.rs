@@ -8,7 +8,7 @@
 use crate::proved::message_faults::faults::MessageFault;
 use crate::proved::rustc_parse_format::Fault;
 use crate::proved::text_faults::{CallLabel, Spot};
-use crate::shim::alloc::{AllocError, Global};
+use crate::shim::alloc::AllocError;
 use crate::shim::prelude::*;
 
 /// Adds a name between backquotes.
@@ -37,8 +37,8 @@ fn put_parameter_title(out: &mut String, name: &str, trait_name: &str) -> Result
 // ensures { OnOk result (string_bytes out.new ≡ string_bytes out.old
 //     ++ (message (seen_text_fault fault.now)).description) }
 #[inline]
-fn put_text_title(alloc: Global, out: &mut String, fault: &Fault<'_>) -> Result<(), AllocError> {
-    let error = fault.error(alloc)?;
+fn put_text_title(out: &mut String, fault: &Fault<'_>) -> Result<(), AllocError> {
+    let error = fault.error()?;
     out.try_push_str(&error.description)?;
     Ok(())
 }
@@ -48,7 +48,7 @@ fn put_text_title(alloc: Global, out: &mut String, fault: &Fault<'_>) -> Result<
 //     ≡ map seen_label labels.old.items ++ primary spot [] ∷ []) }
 #[inline]
 fn push_plain(labels: &mut Vec<CallLabel>, spot: Spot) -> Result<(), AllocError> {
-    let text = String::made_in(*labels.own_allocator());
+    let text = String::new();
     labels.try_push(CallLabel {
         spot,
         is_primary: true,
@@ -62,7 +62,7 @@ fn push_plain(labels: &mut Vec<CallLabel>, spot: Spot) -> Result<(), AllocError>
 //     ≡ map seen_label labels.old.items ++ secondary spot text.now ∷ []) }
 #[inline]
 fn push_secondary(labels: &mut Vec<CallLabel>, spot: Spot, text: &str) -> Result<(), AllocError> {
-    let text = String::made_from(*labels.own_allocator(), text)?;
+    let text = String::made_from(text)?;
     labels.try_push(CallLabel {
         spot,
         is_primary: false,
@@ -75,12 +75,8 @@ fn push_secondary(labels: &mut Vec<CallLabel>, spot: Spot, text: &str) -> Result
 // ensures { OnOk result (map seen_label labels.new.items ≡ map seen_label labels.old.items
 //     ++ text_labels (message (seen_text_fault fault.now))) }
 #[inline]
-fn push_text(
-    alloc: Global,
-    labels: &mut Vec<CallLabel>,
-    fault: &Fault<'_>,
-) -> Result<(), AllocError> {
-    let error = fault.error(alloc)?;
+fn push_text(labels: &mut Vec<CallLabel>, fault: &Fault<'_>) -> Result<(), AllocError> {
+    let error = fault.error()?;
     let spot = Spot::Bytes {
         start: error.span.start,
         end: error.span.end,
@@ -109,14 +105,9 @@ impl<'a> MessageFault<'a> {
     // ensures { OnOk result (string_bytes out.new ≡ string_bytes out.old
     //     ++ title (chars trait_name.now) (seen_fault self.now)) }
     #[inline]
-    pub(crate) fn put_title(
-        &self,
-        alloc: Global,
-        out: &mut String,
-        trait_name: &str,
-    ) -> Result<(), AllocError> {
+    pub(crate) fn put_title(&self, out: &mut String, trait_name: &str) -> Result<(), AllocError> {
         match self {
-            MessageFault::Text(fault) => put_text_title(alloc, out, fault)?,
+            MessageFault::Text(fault) => put_text_title(out, fault)?,
             MessageFault::Specifier { .. } => out.try_push_str("invalid format specifier")?,
             MessageFault::Positional { .. } => {
                 out.try_push_str("positional format arguments are not allowed here")?;
@@ -128,13 +119,13 @@ impl<'a> MessageFault<'a> {
         Ok(())
     }
 
-    /// Returns the labels of the fault, in rustc's order. Returns `Err` if an allocation fails.
+    /// Returns the labels of the fault, in rustc's order.
     // ensures { IfOk result (λ v. map seen_label v.items ≡ labels (seen_fault self.now)) }
     #[inline]
-    pub(crate) fn labels(&self, alloc: Global) -> Result<Vec<CallLabel>, AllocError> {
-        let mut labels = Vec::made_in(alloc);
+    pub(crate) fn labels(&self) -> Result<Vec<CallLabel>, AllocError> {
+        let mut labels = Vec::new();
         match self {
-            MessageFault::Text(fault) => push_text(alloc, &mut labels, fault)?,
+            MessageFault::Text(fault) => push_text(&mut labels, fault)?,
             MessageFault::Specifier { spot }
             | MessageFault::Positional { spot }
             | MessageFault::MissingParameter { spot, .. } => push_plain(&mut labels, *spot)?,

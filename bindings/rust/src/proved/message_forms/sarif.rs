@@ -11,7 +11,7 @@ use crate::proved::message_forms::members::{
     put_comma, put_count, put_end, put_key, put_text, put_truth,
 };
 use crate::proved::message_forms::message::{level_name, Message, Span};
-use crate::shim::alloc::{AllocError, Global};
+use crate::shim::alloc::AllocError;
 use crate::shim::prelude::*;
 
 /// Adds a plain text as a message.
@@ -47,11 +47,11 @@ fn put_region(out: &mut String, span: &Span<'_>) -> Result<(), AllocError> {
     Ok(())
 }
 
-/// Returns a path as a URI. Returns `Err` if an allocation fails.
+/// Returns a path as a URI.
 // ensures { IfOk result (λ s. string_bytes s ≡ uri path.now) }
 #[inline]
-fn uri_of(alloc: Global, path: &str) -> Result<String, AllocError> {
-    let mut text = String::made_in(alloc);
+fn uri_of(path: &str) -> Result<String, AllocError> {
+    let mut text = String::new();
     put_uri(&mut text, path)?;
     Ok(text)
 }
@@ -61,7 +61,7 @@ fn uri_of(alloc: Global, path: &str) -> Result<String, AllocError> {
 //     ≡ string_bytes out.old ++ json_text (artifact path.now)) }
 #[inline]
 fn put_artifact(out: &mut String, path: &str) -> Result<(), AllocError> {
-    let text = uri_of(*out.own_allocator(), path)?;
+    let text = uri_of(path)?;
     put_text(out, false, "uri", text.as_str())?;
     put_end(out)?;
     Ok(())
@@ -131,11 +131,11 @@ pub fn put_sarif_result(
     Ok(())
 }
 
-/// Returns the text of a rule. Returns `Err` if an allocation fails.
+/// Returns the text of a rule.
 // ensures { IfOk result (λ s. string_bytes s ≡ explanation_text rule.now) }
 #[inline]
-fn explanation(alloc: Global, rule: &Rule) -> Result<String, AllocError> {
-    let mut text = String::made_in(alloc);
+fn explanation(rule: &Rule) -> Result<String, AllocError> {
+    let mut text = String::new();
     put_explanation(&mut text, rule)?;
     Ok(text)
 }
@@ -145,7 +145,7 @@ fn explanation(alloc: Global, rule: &Rule) -> Result<String, AllocError> {
 //     ≡ string_bytes out.old ++ json_text (rule_json rule.now)) }
 #[inline]
 fn put_rule(out: &mut String, rule: &Rule) -> Result<(), AllocError> {
-    let text = explanation(*out.own_allocator(), rule)?;
+    let text = explanation(rule)?;
     put_text(out, false, "id", rule.id)?;
     put_plain_member(out, "shortDescription", rule.summary)?;
     put_plain_member(out, "fullDescription", rule.explanation)?;

@@ -12,8 +12,7 @@ use crate::shim::alloc::AllocError;
 use crate::shim::parser::Parser;
 use crate::shim::prelude::*;
 
-/// Makes the next call of a parser, and returns its piece. A placeholder is in `argument`. Returns
-/// `Err` if an allocation fails.
+/// Makes the next call of a parser, and returns its piece. A placeholder is in `argument`.
 // ensures piece { IfOk result (λ t. option_map (seen_taken argument.new) t
 //     ≡ option_map (piece_in parser.old.world) (next_call parser.old).piece) }
 // ensures state { OnOk result (parser.new ≡ after parser.old (next_call parser.old)) }
@@ -27,7 +26,7 @@ fn next_piece<'a>(
     Ok(taken)
 }
 
-/// Appends the line of a piece. Returns `Err` if an allocation fails.
+/// Appends the line of a piece.
 // ensures { OnOk result (string_bytes out.new ≡ string_bytes out.old
 //     ++ piece_line (seen_taken argument.now taken.now)) }
 #[inline]
@@ -44,7 +43,6 @@ fn put_taken(
 }
 
 /// Adds the arguments that a piece uses, if they are to be compared with those that are given.
-/// Returns `Err` if an allocation fails.
 // ensures { OnOk result (IsTrue compares → (us : List Use) → Holds us uses.old
 //     → Holds (us ++ piece_uses (seen_taken argument.now taken.now)) uses.new) }
 #[inline]
@@ -61,8 +59,7 @@ fn add_uses<'a>(
 }
 
 /// Appends the lines of the pieces of a parser up to the first call that returns `None`, and adds
-/// the arguments that they use to `used` if `compares` is set. Returns `Err` if an allocation
-/// fails.
+/// the arguments that they use to `used` if `compares` is set.
 // ensures lines { OnOk result (string_bytes out.new ≡ string_bytes out.old
 //     ++ flat_map piece_line (pieces_in parser.old.world (pieces_of (calls parser.old)))) }
 // ensures used { OnOk result (IsTrue compares → (us : List Use) → Holds us used.old

@@ -4,7 +4,7 @@
 // That source is proved, and each contract here is its. That this text means the same is tested:
 // by results from outside, and beside what is proved (.ci/bindings) and the original (tools/agree).
 
-use crate::shim::alloc::{AllocError, Global};
+use crate::shim::alloc::AllocError;
 use crate::shim::prelude::*;
 
 /// The most digits that a number may have.
@@ -78,11 +78,11 @@ pub fn given_by(word: &str) -> Option<GivenArguments<'_>> {
     })
 }
 
-/// Returns the parts of a text that are separated by commas. Returns `Err` if an allocation fails.
+/// Returns the parts of a text that are separated by commas.
 // ensures { IfOk result (λ v. texts v.items ≡ map chars (parts text.now)) }
 #[inline]
-fn between_commas<'a>(alloc: Global, text: &'a str) -> Result<Vec<&'a str>, AllocError> {
-    let mut found = Vec::made_in(alloc);
+fn between_commas<'a>(text: &'a str) -> Result<Vec<&'a str>, AllocError> {
+    let mut found = Vec::new();
     let mut rest = text;
     while let Some((name, more)) = around_comma(rest) {
         found.try_push(name)?;
@@ -92,12 +92,12 @@ fn between_commas<'a>(alloc: Global, text: &'a str) -> Result<Vec<&'a str>, Allo
     Ok(found)
 }
 
-/// Returns the names of a list of arguments. Returns `Err` if an allocation fails.
+/// Returns the names of a list of arguments.
 // ensures { IfOk result (λ v. texts v.items ≡ seen_names names.entry) }
 #[inline]
-pub fn names<'a>(alloc: Global, names: Option<&'a str>) -> Result<Vec<&'a str>, AllocError> {
+pub fn names<'a>(names: Option<&'a str>) -> Result<Vec<&'a str>, AllocError> {
     match names {
-        Some(text) => between_commas(alloc, text),
-        None => Ok(Vec::made_in(alloc)),
+        Some(text) => between_commas(text),
+        None => Ok(Vec::new()),
     }
 }

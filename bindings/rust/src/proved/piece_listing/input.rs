@@ -13,7 +13,7 @@ use super::task::Task;
 use super::verdict::RunFault;
 use crate::proved::placeholder_check::{Report, Uses};
 use crate::proved::rustc_parse_format::ParseError;
-use crate::shim::alloc::{AllocError, Global};
+use crate::shim::alloc::AllocError;
 use crate::shim::parser::Parser;
 use crate::shim::prelude::*;
 
@@ -39,7 +39,6 @@ fn put_ends(
 
 /// Returns the listing of the pieces up to the first call of a parser that returns `None`, with the
 /// report on the arguments that are given, and whether there is a line that is not of a piece.
-/// Returns `Err` if an allocation fails.
 // ensures lines { IfOk result (λ x.
 //     let ps = pieces_in parser.old.world (pieces_of (calls parser.old)) in
 //     let es = (after_all parser.old (calls parser.old)).errors in
@@ -51,20 +50,19 @@ fn put_ends(
 //     → IsOk result }
 #[inline]
 fn list_calls<'a>(
-    alloc: Global,
     parser: &mut Parser<'a>,
     given: Option<GivenArguments<'a>>,
 ) -> Result<(String, bool), AllocError> {
-    let mut lines = String::made_in(alloc);
-    let mut used = Uses::new(alloc);
+    let mut lines = String::new();
+    let mut used = Uses::new();
     put_calls(&mut lines, &mut used, given.is_some(), parser)?;
-    let report = report_for(alloc, &used, given)?;
+    let report = report_for(&used, given)?;
     let has_ends = put_ends(&mut lines, parser.errors(), &report)?;
     Ok((lines, has_ends))
 }
 
 /// Reads a text with a parser, and returns its listing and whether there is a line that is not of a
-/// piece. Returns `Err` if an allocation fails.
+/// piece.
 // requires { hashes style ≤ limit }
 // ensures lines { IfOk result (λ x. IsListed (seen_task task.entry)
 //     (record { text = chars text.now; style = style; snippet = seen_snippet snippet })
@@ -75,33 +73,31 @@ fn list_calls<'a>(
 //     → task.entry.given ≡ None → IsOk result }
 #[inline]
 fn list_source(
-    alloc: Global,
     text: &str,
     style: Option<usize>,
     snippet: Option<String>,
     task: Task<'_>,
 ) -> Result<(String, bool), AllocError> {
-    let mut parser = Parser::new(alloc, text, style, snippet, false, task.mode)?;
-    let listed = list_calls(alloc, &mut parser, task.given)?;
+    let mut parser = Parser::new(text, style, snippet, false, task.mode)?;
+    let listed = list_calls(&mut parser, task.given)?;
     Ok(listed)
 }
 
 /// Returns the listing of the text that a literal stands for, and whether there is a line that is
-/// not of a piece. Returns `Err` if an allocation fails.
+/// not of a piece.
 // requires { hashes style ≤ limit }
 // ensures { IfOk result (λ x. IsListed (seen_task task.entry)
 //     (record { text = chars text.now; style = style; snippet = Some (chars literal.now) })
 //     (string_bytes x.0, x.1)) }
 #[inline]
 fn list_text_of(
-    alloc: Global,
     literal: &str,
     text: &str,
     style: Option<usize>,
     task: Task<'_>,
 ) -> Result<(String, bool), AllocError> {
-    let snippet = String::made_from(alloc, literal)?;
-    list_source(alloc, text, style, Some(snippet), task)
+    let snippet = String::made_from(literal)?;
+    list_source(text, style, Some(snippet), task)
 }
 
 /// Returns the listing of the text that the input stands for as a string literal, perhaps with a
@@ -117,12 +113,12 @@ fn list_text_of(
 // ensures is_text { IfErr result (λ fault. fault ≢ NotText) }
 // ensures empty { input.now ≡ [] → result ≡ Err NotLiteral }
 #[inline]
-fn list_literal(alloc: Global, input: &str, task: Task<'_>) -> Result<(String, bool), RunFault> {
+fn list_literal(input: &str, task: Task<'_>) -> Result<(String, bool), RunFault> {
     let literal = strip_newline(input);
-    let Some((text, style)) = literal_text(alloc, literal)? else {
+    let Some((text, style)) = literal_text(literal)? else {
         return Err(RunFault::NotLiteral);
     };
-    Ok(list_text_of(alloc, literal, text.as_str(), style, task)?)
+    Ok(list_text_of(literal, text.as_str(), style, task)?)
 }
 
 /// Returns the listing of an input, and whether there is a line that is not of a piece. Returns
@@ -141,10 +137,10 @@ fn list_literal(alloc: Global, input: &str, task: Task<'_>) -> Result<(String, b
 // ensures empty_literal { input.now ≡ [] → task.entry.is_literal ≡ true
 //     → result ≡ Err NotLiteral }
 #[inline]
-pub fn list_input(alloc: Global, input: &str, task: Task<'_>) -> Result<(String, bool), RunFault> {
+pub fn list_input(input: &str, task: Task<'_>) -> Result<(String, bool), RunFault> {
     if task.is_literal {
-        list_literal(alloc, input, task)
+        list_literal(input, task)
     } else {
-        Ok(list_source(alloc, input, None, None, task)?)
+        Ok(list_source(input, None, None, task)?)
     }
 }

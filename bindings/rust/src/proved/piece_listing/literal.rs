@@ -5,7 +5,7 @@
 // by results from outside, and beside what is proved (.ci/bindings) and the original (tools/agree).
 
 use crate::proved::rustc_parse_format::literal::{content_text, quoted_content};
-use crate::shim::alloc::{AllocError, Global};
+use crate::shim::alloc::AllocError;
 use crate::shim::prelude::*;
 
 /// Returns a text without the character `c` at its end, or `None` if it does not end in `c`.
@@ -91,17 +91,17 @@ pub fn raw_text(literal: &str) -> Option<(usize, &str)> {
 }
 
 /// Returns the text that an ordinary string literal stands for, or `None` if it is no ordinary
-/// string literal. Returns `Err` if an allocation fails.
+/// string literal.
 // ensures found { IfOk result (λ o. MatchOption o
 //     ((t : Text) → IsOrdinaryLiteral (chars literal.now) t → ⊥)
 //     (λ s. IsOrdinaryLiteral (chars literal.now) (chars (string_bytes s)))) }
 // ensures empty { literal.now ≡ [] → IsOk result }
 #[inline]
-fn ordinary_text(alloc: Global, literal: &str) -> Result<Option<String>, AllocError> {
+fn ordinary_text(literal: &str) -> Result<Option<String>, AllocError> {
     let Some(content) = quoted_content(literal) else {
         return Ok(None);
     };
-    content_text(alloc, content)
+    content_text(content)
 }
 
 /// Returns the text that a string literal stands for, and its style: the number of hashes of a raw
@@ -113,14 +113,11 @@ fn ordinary_text(alloc: Global, literal: &str) -> Result<Option<String>, AllocEr
 // ensures few { IfOk result (λ o. IfSome o (λ x. hashes x.1 ≤ length literal.now)) }
 // ensures empty { literal.now ≡ [] → IsOk result }
 #[inline]
-pub fn literal_text(
-    alloc: Global,
-    literal: &str,
-) -> Result<Option<(String, Option<usize>)>, AllocError> {
+pub fn literal_text(literal: &str) -> Result<Option<(String, Option<usize>)>, AllocError> {
     if let Some((hashes, text)) = raw_text(literal) {
-        return Ok(Some((String::made_from(alloc, text)?, Some(hashes))));
+        return Ok(Some((String::made_from(text)?, Some(hashes))));
     }
-    match ordinary_text(alloc, literal)? {
+    match ordinary_text(literal)? {
         Some(text) => Ok(Some((text, None))),
         None => Ok(None),
     }

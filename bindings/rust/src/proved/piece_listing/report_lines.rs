@@ -8,11 +8,11 @@ use super::given::{names, GivenArguments};
 use super::listing::put_quoted;
 use super::numbers::put_number;
 use crate::proved::placeholder_check::{check_uses, Report, Uses};
-use crate::shim::alloc::{AllocError, Global};
+use crate::shim::alloc::AllocError;
 use crate::shim::prelude::*;
 
 /// Returns the report on the arguments that are used if these are given, or a report without
-/// entries for `None`. Returns `Err` if an allocation fails.
+/// entries for `None`.
 // ensures report { IfOk result (λ r. (ps : List (Piece Place))
 //     → (IsSome given.entry → Holds (uses ps) used.now)
 //     → IsReportFor (option_map seen_given given.entry) ps (seen_report r)) }
@@ -20,20 +20,19 @@ use crate::shim::prelude::*;
 // ensures no_entries { given.entry ≡ None → IfOk result (λ r. seen_report r ≡ no_entries) }
 #[inline]
 pub fn report_for<'a>(
-    alloc: Global,
     used: &Uses<'a>,
     given: Option<GivenArguments<'a>>,
 ) -> Result<Report<'a>, AllocError> {
     match given {
         Some(given) => {
-            let names = names(alloc, given.names)?;
-            check_uses(alloc, used, given.positional, names.as_slice())
+            let names = names(given.names)?;
+            check_uses(used, given.positional, names.as_slice())
         }
         None => Ok(Report {
-            missing_index: Vec::made_in(alloc),
-            missing_name: Vec::made_in(alloc),
-            unused_index: Vec::made_in(alloc),
-            unused_name: Vec::made_in(alloc),
+            missing_index: Vec::new(),
+            missing_name: Vec::new(),
+            unused_index: Vec::new(),
+            unused_name: Vec::new(),
         }),
     }
 }
@@ -48,7 +47,7 @@ pub fn has_entries(report: &Report<'_>) -> bool {
         || report.unused_name.len() > 0
 }
 
-/// Adds a line for each number, which begins with `label`. Returns `Err` if an allocation fails.
+/// Adds a line for each number, which begins with `label`.
 // ensures lines { OnOk result (string_bytes out.new ≡ string_bytes out.old ++
 //     flat_map (index_line label.now) numbers.now) }
 // ensures empty { numbers.now ≡ [] → IsOk result }
@@ -61,7 +60,7 @@ fn put_numbers(out: &mut String, label: &str, numbers: &[usize]) -> Result<(), A
     Ok(())
 }
 
-/// Adds the line of a name, which begins with `label`. Returns `Err` if an allocation fails.
+/// Adds the line of a name, which begins with `label`.
 // ensures { OnOk result (string_bytes out.new ≡ string_bytes out.old ++
 //     name_line label.now (chars name.now)) }
 #[inline]
@@ -72,7 +71,7 @@ fn put_name(out: &mut String, label: &str, name: &str) -> Result<(), AllocError>
     Ok(())
 }
 
-/// Adds a line for each name, which begins with `label`. Returns `Err` if an allocation fails.
+/// Adds a line for each name, which begins with `label`.
 // ensures lines { OnOk result (string_bytes out.new ≡ string_bytes out.old ++
 //     flat_map (name_line label.now) (texts names.now)) }
 // ensures empty { names.now ≡ [] → IsOk result }
@@ -84,7 +83,7 @@ fn put_names(out: &mut String, label: &str, names: &[&str]) -> Result<(), AllocE
     Ok(())
 }
 
-/// Adds a line for each entry of a report. Returns `Err` if an allocation fails.
+/// Adds a line for each entry of a report.
 // ensures lines { OnOk result (string_bytes out.new ≡ string_bytes out.old ++
 //     report_lines (seen_report report.now)) }
 // ensures empty { seen_report report.now ≡ no_entries → IsOk result }

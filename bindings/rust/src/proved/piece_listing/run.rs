@@ -7,7 +7,6 @@
 use super::input::list_input;
 use super::task::task_of;
 use super::verdict::RunFault;
-use crate::shim::alloc::Global;
 use crate::shim::prelude::*;
 use std::io::{Read, Write};
 
@@ -29,8 +28,8 @@ const CHUNK: usize = 4096;
 // ensures is_literal { IfErr result (λ fault. fault ≢ NotLiteral) }
 // ensures empty { R.remaining reader.old ≡ Some [] → IsOkUnless result ReadFault }
 #[inline]
-pub fn read_input<R: Read>(alloc: Global, reader: &mut R) -> Result<Vec<u8>, RunFault> {
-    let mut bytes = Vec::made_in(alloc);
+pub fn read_input<R: Read>(reader: &mut R) -> Result<Vec<u8>, RunFault> {
+    let mut bytes = Vec::new();
     let mut chunk = [0u8; CHUNK];
     for _ in 0..LIMIT + 1 {
         let count = match reader.read(&mut chunk) {
@@ -102,7 +101,6 @@ pub fn write_whole<W: Write>(writer: &mut W, bytes: &[u8]) -> Result<(), RunFaul
 // ensures unwritten { IfErr result (λ fault. fault ≢ WriteFault → writer.new ≡ writer.old) }
 #[inline]
 pub fn run<R: Read, W: Write>(
-    alloc: Global,
     reader: &mut R,
     writer: &mut W,
     words: &[String],
@@ -111,11 +109,11 @@ pub fn run<R: Read, W: Write>(
         Some(task) => task,
         None => return Err(RunFault::Words),
     };
-    let input = read_input(alloc, reader)?;
+    let input = read_input(reader)?;
     let Ok(text) = core::str::from_utf8(input.as_slice()) else {
         return Err(RunFault::NotText);
     };
-    let (lines, has_ends) = list_input(alloc, text, task)?;
+    let (lines, has_ends) = list_input(text, task)?;
     write_whole(writer, lines.as_bytes())?;
     Ok(has_ends)
 }

@@ -8,7 +8,7 @@ use crate::proved::placeholder_check::indices::{lacked_below, members_from};
 use crate::proved::placeholder_check::names::{lacked_by, names_of};
 use crate::proved::placeholder_check::uses::{uses_of, Uses};
 use crate::proved::rustc_parse_format::Piece;
-use crate::shim::alloc::{AllocError, Global};
+use crate::shim::alloc::AllocError;
 use crate::shim::prelude::*;
 
 /// The arguments that are missing or unused. No list has an entry twice.
@@ -35,18 +35,17 @@ pub struct Report<'a> {
 // ensures empty { IsNew used.now → positional ≡ 0 → names.now ≡ [] → IsOk result }
 #[inline]
 pub fn check_uses<'a>(
-    alloc: Global,
     used: &Uses<'a>,
     positional: usize,
     names: &[&'a str],
 ) -> Result<Report<'a>, AllocError> {
-    let missing_index = members_from(alloc, &used.indices, positional)?;
+    let missing_index = members_from(&used.indices, positional)?;
     let used_below = used.indices.count.saturating_sub(missing_index.len());
     let room = positional.saturating_sub(used_below);
-    let unused_index = lacked_below(alloc, &used.indices, positional, room)?;
-    let given = names_of(alloc, names)?;
-    let missing_name = lacked_by(alloc, &used.names.list, &given)?;
-    let unused_name = lacked_by(alloc, &given.list, &used.names)?;
+    let unused_index = lacked_below(&used.indices, positional, room)?;
+    let given = names_of(names)?;
+    let missing_name = lacked_by(&used.names.list, &given)?;
+    let unused_name = lacked_by(&given.list, &used.names)?;
     Ok(Report {
         missing_index,
         missing_name,
@@ -71,12 +70,11 @@ pub fn check_uses<'a>(
 // ensures empty { pieces.now ≡ [] → positional ≡ 0 → names.now ≡ [] → IsOk result }
 #[inline]
 pub fn check<'a>(
-    alloc: Global,
     pieces: &[Piece<'a>],
     positional: usize,
     names: &[&'a str],
 ) -> Result<Report<'a>, AllocError> {
-    let used = uses_of(alloc, pieces)?;
-    let report = check_uses(alloc, &used, positional, names)?;
+    let used = uses_of(pieces)?;
+    let report = check_uses(&used, positional, names)?;
     Ok(report)
 }

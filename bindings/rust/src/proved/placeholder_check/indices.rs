@@ -6,7 +6,7 @@
 // That source is proved, and each contract here is its. That this text means the same is tested:
 // by results from outside, and beside what is proved (.ci/bindings) and the original (tools/agree).
 
-use crate::shim::alloc::{AllocError, Global};
+use crate::shim::alloc::AllocError;
 use crate::shim::prelude::*;
 use alloc::collections::BTreeSet;
 
@@ -26,10 +26,10 @@ pub struct Indices {
 /// Returns the empty set. Allocates nothing.
 // ensures { (result.marks.items ≡ []) × (result.others.keys ≡ []) × (result.count ≡ 0) }
 #[inline]
-pub fn no_indices(alloc: Global) -> Indices {
+pub fn no_indices() -> Indices {
     Indices {
-        marks: Vec::made_in(alloc),
-        others: BTreeSet::made_in(alloc),
+        marks: Vec::new(),
+        others: BTreeSet::new(),
         count: 0,
     }
 }
@@ -44,7 +44,7 @@ pub fn has_index(set: &Indices, index: usize) -> bool {
     }
 }
 
-/// Marks an index that is not far from those in the list. Returns `Err` if an allocation fails.
+/// Marks an index that is not far from those in the list.
 // ensures { OnOk result ((n : ℕ) → get_or marks.new.items n false
 //     ≡ (get_or marks.old.items n false || index == n)) }
 #[inline]
@@ -60,7 +60,7 @@ fn mark(marks: &mut Vec<bool>, index: usize) -> Result<(), AllocError> {
     Ok(())
 }
 
-/// Adds an index to a set. Returns `Err` if an allocation fails.
+/// Adds an index to a set.
 // ensures noted { OnOk result
 //     ((n : ℕ) → is_noted set.new n ≡ (is_noted set.old n || index == n)) }
 // ensures counted { OnOk result (set.new.count
@@ -81,8 +81,7 @@ pub fn insert_index(set: &mut Indices, index: usize) -> Result<(), AllocError> {
     Ok(())
 }
 
-/// Appends the numbers of a set that are at least `first` to a list, in ascending order. Returns
-/// `Err` if an allocation fails.
+/// Appends the numbers of a set that are at least `first` to a list, in ascending order.
 // ensures kept { OnOk result
 //     (list.new.items ≡ list.old.items ++ filter (λ n. nat_le first n) set.now.keys) }
 // ensures ordered { IsOrdered nat_cmp set.now }
@@ -97,19 +96,13 @@ fn push_from(list: &mut Vec<usize>, set: &BTreeSet<usize>, first: usize) -> Resu
     Ok(())
 }
 
-/// Returns the indices of a set from `first` up to `end`, in ascending order. Returns `Err` if an
-/// allocation fails.
+/// Returns the indices of a set from `first` up to `end`, in ascending order.
 // ensures members { IfOk result
 //     (λ v. Lists (λ n. (n < end) × ((first ≤ n) × (is_noted set.now n ≡ true))) v.items) }
 // ensures empty { end ≡ 0 → IsOk result }
 #[inline]
-fn members_between(
-    alloc: Global,
-    set: &Indices,
-    first: usize,
-    end: usize,
-) -> Result<Vec<usize>, AllocError> {
-    let mut members = Vec::made_in(alloc);
+fn members_between(set: &Indices, first: usize, end: usize) -> Result<Vec<usize>, AllocError> {
+    let mut members = Vec::new();
     for n in first..end {
         if has_index(set, n) {
             members.try_push(n)?;
@@ -118,33 +111,27 @@ fn members_between(
     Ok(members)
 }
 
-/// Returns the indices of a set that are at least `first`, in ascending order. Returns `Err` if an
-/// allocation fails.
+/// Returns the indices of a set that are at least `first`, in ascending order.
 // ensures members { IfOk result
 //     (λ v. Lists (λ n. (first ≤ n) × (is_noted set.now n ≡ true)) v.items) }
 // ensures empty { set.now.marks.items ≡ [] → set.now.others.keys ≡ [] → IsOk result }
 #[inline]
-pub fn members_from(alloc: Global, set: &Indices, first: usize) -> Result<Vec<usize>, AllocError> {
+pub fn members_from(set: &Indices, first: usize) -> Result<Vec<usize>, AllocError> {
     let end = set.marks.len();
-    let mut members = members_between(alloc, set, first, end)?;
+    let mut members = members_between(set, first, end)?;
     push_from(&mut members, &set.others, first.max(end))?;
     Ok(members)
 }
 
 /// Returns the indices below `end` that are not in a set, in ascending order. Allocates room for
 /// `room` indices first, since `end` may be the greatest `usize`, and filling the memory before the
-/// failure would take minutes. Returns `Err` if an allocation fails.
+/// failure would take minutes.
 // ensures lacked { IfOk result
 //     (λ v. Lists (λ n. (n < end) × (is_noted set.now n ≡ false)) v.items) }
 // ensures empty { end ≡ 0 → room ≡ 0 → IsOk result }
 #[inline]
-pub fn lacked_below(
-    alloc: Global,
-    set: &Indices,
-    end: usize,
-    room: usize,
-) -> Result<Vec<usize>, AllocError> {
-    let mut lacked = Vec::made_for(alloc, room)?;
+pub fn lacked_below(set: &Indices, end: usize, room: usize) -> Result<Vec<usize>, AllocError> {
+    let mut lacked = Vec::made_for(room)?;
     for n in 0..end {
         if !has_index(set, n) {
             lacked.try_push(n)?;

@@ -5,7 +5,7 @@
 // That source is proved, and each contract here is its. That this text means the same is tested:
 // by results from outside, and beside what is proved (.ci/bindings) and the original (tools/agree).
 
-use crate::shim::alloc::{AllocError, Global};
+use crate::shim::alloc::AllocError;
 use crate::shim::prelude::*;
 use alloc::collections::BTreeSet;
 
@@ -24,10 +24,10 @@ pub struct Names<'a> {
 // ensures empty { result.list.items ≡ [] }
 // ensures none { Follows [] result }
 #[inline]
-pub fn no_names<'a>(alloc: Global) -> Names<'a> {
+pub fn no_names<'a>() -> Names<'a> {
     Names {
-        list: Vec::made_in(alloc),
-        later: BTreeSet::made_in(alloc),
+        list: Vec::new(),
+        later: BTreeSet::new(),
     }
 }
 
@@ -64,7 +64,7 @@ pub fn has_name<'a>(names: &Names<'a>, name: &'a str) -> bool {
     is_early(&names.list, name) || is_later(&names.later, name)
 }
 
-/// Inserts a name into a set. Returns `Err` if an allocation fails.
+/// Inserts a name into a set.
 // ensures { OnOk result ((t : Text) → has_text set.new t
 //     ≡ (bytes_eq t (chars name.now) || has_text set.old t)) }
 #[inline]
@@ -73,7 +73,7 @@ fn insert_later<'a>(set: &mut BTreeSet<&'a str>, name: &'a str) -> Result<(), Al
     Ok(())
 }
 
-/// Adds a name to others, if it is not yet there. Returns `Err` if an allocation fails.
+/// Adds a name to others, if it is not yet there.
 // ensures { OnOk result ((before : List Text) → Follows before names.old
 //     → Follows (before ++ chars name.now ∷ []) names.new) }
 #[inline]
@@ -88,30 +88,25 @@ pub fn insert_name<'a>(names: &mut Names<'a>, name: &'a str) -> Result<(), Alloc
     Ok(())
 }
 
-/// Returns the names of a list. Returns `Err` if an allocation fails.
+/// Returns the names of a list.
 // ensures names { IfOk result (λ s. Follows (texts list.now) s) }
 // ensures empty { list.now ≡ [] → IfOk result (λ s. s.list.items ≡ []) × IsOk result }
 #[inline]
-pub fn names_of<'a>(alloc: Global, list: &[&'a str]) -> Result<Names<'a>, AllocError> {
-    let mut names = no_names(alloc);
+pub fn names_of<'a>(list: &[&'a str]) -> Result<Names<'a>, AllocError> {
+    let mut names = no_names();
     for name in list {
         insert_name(&mut names, name)?;
     }
     Ok(names)
 }
 
-/// Returns the names of a list that are not among others, in their order. Returns `Err` if an
-/// allocation fails.
+/// Returns the names of a list that are not among others, in their order.
 // ensures lacked { IfOk result
 //     (λ v. texts v.items ≡ filter (λ t. not (is_known others.now t)) (texts names.now)) }
 // ensures empty { names.now ≡ [] → IsOk result }
 #[inline]
-pub fn lacked_by<'a>(
-    alloc: Global,
-    names: &[&'a str],
-    others: &Names<'a>,
-) -> Result<Vec<&'a str>, AllocError> {
-    let mut lacked = Vec::made_in(alloc);
+pub fn lacked_by<'a>(names: &[&'a str], others: &Names<'a>) -> Result<Vec<&'a str>, AllocError> {
+    let mut lacked = Vec::new();
     for name in names {
         if !has_name(others, name) {
             lacked.try_push(*name)?;

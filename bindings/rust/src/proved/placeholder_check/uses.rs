@@ -7,7 +7,7 @@
 use crate::proved::placeholder_check::indices::{insert_index, no_indices, Indices};
 use crate::proved::placeholder_check::names::{insert_name, no_names, Names};
 use crate::proved::rustc_parse_format::{Argument, Count, Piece, Position};
-use crate::shim::alloc::{AllocError, Global};
+use crate::shim::alloc::AllocError;
 
 /// The arguments that placeholders use, each index and each name once.
 pub struct Uses<'a> {
@@ -22,10 +22,10 @@ impl<'a> Uses<'a> {
     // ensures holds { Holds [] result }
     // ensures none { IsNew result }
     #[inline]
-    pub(crate) fn new(alloc: Global) -> Uses<'a> {
+    pub(crate) fn new() -> Uses<'a> {
         Uses {
-            indices: no_indices(alloc),
-            names: no_names(alloc),
+            indices: no_indices(),
+            names: no_names(),
         }
     }
 
@@ -40,7 +40,7 @@ impl<'a> Uses<'a> {
     }
 }
 
-/// Adds a use of an index. Returns `Err` if an allocation fails.
+/// Adds a use of an index.
 // ensures { OnOk result (Adds (ByIndex index ∷ []) uses.old uses.new) }
 #[inline]
 fn add_index(uses: &mut Uses<'_>, index: usize) -> Result<(), AllocError> {
@@ -48,7 +48,7 @@ fn add_index(uses: &mut Uses<'_>, index: usize) -> Result<(), AllocError> {
     Ok(())
 }
 
-/// Adds a use of a name. Returns `Err` if an allocation fails.
+/// Adds a use of a name.
 // ensures { OnOk result (Adds (ByName (chars name.now) ∷ []) uses.old uses.new) }
 #[inline]
 fn add_name<'a>(uses: &mut Uses<'a>, name: &'a str) -> Result<(), AllocError> {
@@ -56,7 +56,7 @@ fn add_name<'a>(uses: &mut Uses<'a>, name: &'a str) -> Result<(), AllocError> {
     Ok(())
 }
 
-/// Adds the argument that a position uses. Returns `Err` if an allocation fails.
+/// Adds the argument that a position uses.
 // ensures { OnOk result
 //     (Adds (position_use (seen_position position.now) ∷ []) uses.old uses.new) }
 #[inline]
@@ -67,8 +67,7 @@ fn add_position<'a>(uses: &mut Uses<'a>, position: &Position<'a>) -> Result<(), 
     }
 }
 
-/// Adds the argument that a width or a precision uses, if it uses one. Returns `Err` if an
-/// allocation fails.
+/// Adds the argument that a width or a precision uses, if it uses one.
 // ensures { OnOk result (Adds (count_uses (seen_count count.now)) uses.old uses.new) }
 #[inline]
 fn add_count<'a>(uses: &mut Uses<'a>, count: &Count<'a>) -> Result<(), AllocError> {
@@ -80,7 +79,7 @@ fn add_count<'a>(uses: &mut Uses<'a>, count: &Count<'a>) -> Result<(), AllocErro
 }
 
 /// Adds the arguments that a placeholder uses: by its position, its width and its precision, in
-/// this order. Returns `Err` if an allocation fails.
+/// this order.
 // ensures { OnOk result (Adds (argument_uses (seen_argument argument.now)) uses.old uses.new) }
 #[inline]
 fn add_argument<'a>(uses: &mut Uses<'a>, argument: &Argument<'a>) -> Result<(), AllocError> {
@@ -90,7 +89,7 @@ fn add_argument<'a>(uses: &mut Uses<'a>, argument: &Argument<'a>) -> Result<(), 
     Ok(())
 }
 
-/// Adds the arguments that a piece uses. Returns `Err` if an allocation fails.
+/// Adds the arguments that a piece uses.
 // ensures { OnOk result (Adds (piece_uses (seen piece.now)) uses.old uses.new) }
 #[inline]
 fn add_piece<'a>(uses: &mut Uses<'a>, piece: &Piece<'a>) -> Result<(), AllocError> {
@@ -100,12 +99,12 @@ fn add_piece<'a>(uses: &mut Uses<'a>, piece: &Piece<'a>) -> Result<(), AllocErro
     }
 }
 
-/// Returns the arguments that pieces use. Returns `Err` if an allocation fails.
+/// Returns the arguments that pieces use.
 // ensures uses { IfOk result (λ u. Holds (uses (map seen pieces.now)) u) }
 // ensures empty { pieces.now ≡ [] → IfOk result (λ u. IsNew u) × IsOk result }
 #[inline]
-pub fn uses_of<'a>(alloc: Global, pieces: &[Piece<'a>]) -> Result<Uses<'a>, AllocError> {
-    let mut uses = Uses::new(alloc);
+pub fn uses_of<'a>(pieces: &[Piece<'a>]) -> Result<Uses<'a>, AllocError> {
+    let mut uses = Uses::new();
     for piece in pieces {
         add_piece(&mut uses, piece)?;
     }

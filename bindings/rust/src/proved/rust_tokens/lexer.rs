@@ -8,7 +8,7 @@ use crate::proved::rust_tokens::ends::after_line;
 use crate::proved::rust_tokens::first::{after_suffix, first_body, plain_token};
 use crate::proved::rust_tokens::kinds::{Kind, Token};
 use crate::proved::rust_tokens::texts::strip;
-use crate::shim::alloc::{AllocError, Global};
+use crate::shim::alloc::AllocError;
 use crate::shim::prelude::*;
 
 /// A token at the start of a text.
@@ -168,7 +168,7 @@ pub fn skip_head(text: &str) -> &str {
     after_shebang(after_mark(text))
 }
 
-/// Adds a token of this kind unless it is empty. Returns `Err` if an allocation fails.
+/// Adds a token of this kind unless it is empty.
 // ensures { IfOk result (λ _. found.new.items ≡ found.old.items ++ between kind start end) }
 #[inline]
 fn add_unless_empty(
@@ -188,16 +188,16 @@ fn add_unless_empty(
     Ok(())
 }
 
-/// Returns the tokens of a file. Returns `Err` if an allocation fails.
+/// Returns the tokens of a file.
 // ensures reads { IfOk result (λ v. (xs : List Lexeme) × ReadsFile (chars text.now) xs
 //     × (v.items ≡ placed 0 xs)) }
 // ensures covers { IfOk result (λ v. Covers 0 v.items (length text.now)) }
 #[inline]
-pub fn tokens(alloc: Global, text: &str) -> Result<Vec<Token>, AllocError> {
+pub fn tokens(text: &str) -> Result<Vec<Token>, AllocError> {
     let unmarked = after_mark(text);
     let mark_end = text.len() - unmarked.len();
     let mut rest = after_shebang(unmarked);
-    let mut found = Vec::made_in(alloc);
+    let mut found = Vec::new();
     add_unless_empty(&mut found, Kind::ByteOrderMark, 0, mark_end)?;
     add_unless_empty(&mut found, Kind::Shebang, mark_end, text.len() - rest.len())?;
     while let Some(step) = next_step(rest) {

@@ -7,7 +7,7 @@
 use crate::proved::rust_trees::leaves::Token;
 use crate::proved::rust_trees::matching::Opening;
 use crate::proved::rust_trees::sides::{is_same, Delimiter, Side};
-use crate::shim::alloc::{AllocError, Global};
+use crate::shim::alloc::AllocError;
 use crate::shim::prelude::*;
 
 /// In which way tokens break.
@@ -42,9 +42,9 @@ impl Balance {
     /// Returns that of no tokens. Does not allocate.
     // ensures { IsBalanced [] result }
     #[inline]
-    pub(crate) fn new(alloc: Global) -> Balance {
+    pub(crate) fn new() -> Balance {
         Balance {
-            openings: Vec::made_in(alloc),
+            openings: Vec::new(),
             first_break: None,
         }
     }
@@ -66,7 +66,7 @@ impl Balance {
         });
     }
 
-    /// Adds a token. Returns `Err` if an allocation fails.
+    /// Adds a token.
     // ensures { OnOk result ((w : List Leaf) → IsBalanced w self.old
     //     → IsBalanced (w ++ leaf token.now ∷ []) self.new) }
     #[inline]
@@ -92,7 +92,7 @@ impl Balance {
         Ok(())
     }
 
-    /// Adds tokens, one after the other. Returns `Err` if an allocation fails.
+    /// Adds tokens, one after the other.
     // ensures { OnOk result ((w : List Leaf) → IsBalanced w self.old
     //     → IsBalanced (w ++ map leaf tokens.now) self.new) }
     #[inline]

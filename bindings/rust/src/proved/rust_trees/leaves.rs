@@ -6,7 +6,7 @@
 
 use crate::proved::rust_tokens::{skip_head, split_first_token, Kind};
 use crate::proved::rust_trees::sides::{side_of, Side};
-use crate::shim::alloc::{AllocError, Global};
+use crate::shim::alloc::AllocError;
 use crate::shim::prelude::*;
 
 /// A token of a file.
@@ -125,14 +125,13 @@ impl<'a> Tokens<'a> {
     }
 }
 
-/// Returns the tokens of a file without white space and comments. Returns `Err` if an allocation
-/// fails.
+/// Returns the tokens of a file without white space and comments.
 // ensures { IfOk result (λ v. (xs : List Lexeme) × ReadsFile (chars text.now) xs
 //     × (map leaf v.items ≡ leaves 0 xs)) }
 #[inline]
-pub fn leaves(alloc: Global, text: &str) -> Result<Vec<Token<'_>>, AllocError> {
+pub fn leaves(text: &str) -> Result<Vec<Token<'_>>, AllocError> {
     let mut rest = Tokens::new(text);
-    let mut found = Vec::made_in(alloc);
+    let mut found = Vec::new();
     while let Some(token) = rest.next() {
         found.try_push(token)?;
     }

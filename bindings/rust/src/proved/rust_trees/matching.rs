@@ -6,7 +6,7 @@
 
 use crate::proved::rust_trees::leaves::Token;
 use crate::proved::rust_trees::sides::{is_same, Delimiter, Side};
-use crate::shim::alloc::{AllocError, Global};
+use crate::shim::alloc::AllocError;
 use crate::shim::prelude::*;
 
 /// The place where tokens that are no forest break: the index of a token.
@@ -37,7 +37,7 @@ pub struct Matching {
     pub unexpected: Option<usize>,
 }
 
-/// Adds a closing delimiter. Returns `Err` if an allocation fails.
+/// Adds a closing delimiter.
 // requires { (w : List Leaf) × IsMatched w found.old }
 // ensures { IfOk result (λ _. (w : List Leaf) (x : Leaf) → IsMatched w found.old
 //     → side x ≡ Side.Closes delimiter → IsMatched (w ++ x ∷ []) found.new) }
@@ -57,7 +57,7 @@ fn close(found: &mut Matching, delimiter: Delimiter) -> Result<(), AllocError> {
     Ok(())
 }
 
-/// Adds a token. Returns `Err` if an allocation fails.
+/// Adds a token.
 // requires { (w : List Leaf) × IsMatched w found.old }
 // ensures { IfOk result (λ _. (w : List Leaf) → IsMatched w found.old
 //     → IsMatched (w ++ leaf token.now ∷ []) found.new) }
@@ -82,13 +82,13 @@ pub fn is_closed(found: &Matching) -> bool {
     found.openings.is_empty()
 }
 
-/// Returns the pairs of delimiters in these tokens. Returns `Err` if an allocation fails.
+/// Returns the pairs of delimiters in these tokens.
 // ensures { IfOk result (λ m. IsMatched (map leaf tokens.now) m) }
 #[inline]
-pub fn match_delimiters(alloc: Global, tokens: &[Token<'_>]) -> Result<Matching, AllocError> {
+pub fn match_delimiters(tokens: &[Token<'_>]) -> Result<Matching, AllocError> {
     let mut found = Matching {
-        partners: Vec::made_in(alloc),
-        openings: Vec::made_in(alloc),
+        partners: Vec::new(),
+        openings: Vec::new(),
         unexpected: None,
     };
     for token in tokens {

@@ -5,7 +5,7 @@
 // by results from outside, and beside what is proved (.ci/bindings) and the original (tools/agree).
 
 use crate::proved::rust_tokens::split_first;
-use crate::shim::alloc::{AllocError, Global};
+use crate::shim::alloc::AllocError;
 use crate::shim::prelude::*;
 
 /// A line and a column of a text, both from 1. An LF ends a line, and a column counts characters,
@@ -113,8 +113,7 @@ fn place_from(text: &str, known: &[Known], offset: usize) -> Place {
     place_at(text, offset)
 }
 
-/// Adds a byte offset with its place to those that are known, unless it is 0. Returns `Err` if an
-/// allocation fails.
+/// Adds a byte offset with its place to those that are known, unless it is 0.
 // requires known { All (IsKnown text.now) known.old.items }
 // requires boundary { IsCharBoundary text.now offset }
 // ensures { All (IsKnown text.now) known.new.items }
@@ -135,11 +134,11 @@ pub struct Places<'a> {
 }
 
 impl<'a> Places<'a> {
-    /// Reads a text. Returns `Err` if an allocation fails.
+    /// Reads a text.
     // ensures { IfOk result (λ p. p ≡ text.now) }
     #[inline]
-    pub(crate) fn new(alloc: Global, text: &'a str) -> Result<Self, AllocError> {
-        let mut known = Vec::made_in(alloc);
+    pub(crate) fn new(text: &'a str) -> Result<Self, AllocError> {
+        let mut known = Vec::new();
         for step in 1..=text.len() / STEP {
             add_known(&mut known, text, text.boundary_at_most(step * STEP))?;
         }

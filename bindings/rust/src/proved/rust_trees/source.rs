@@ -9,7 +9,7 @@ use crate::proved::rust_trees::matching::{
     add, break_of, is_closed, match_delimiters, DelimiterBreak, Matching,
 };
 use crate::proved::rust_trees::sides::is_closing;
-use crate::shim::alloc::{AllocError, Global};
+use crate::shim::alloc::AllocError;
 use crate::shim::prelude::*;
 
 /// The tokens of a file with the pairs of delimiters among them. A contract sees the tokens.
@@ -33,13 +33,13 @@ fn source_of<'a>(tokens: Vec<Token<'a>>, found: Matching) -> Source<'a> {
 }
 
 impl<'a> Source<'a> {
-    /// Reads a file. Returns `Err` if an allocation fails.
+    /// Reads a file.
     // ensures { IfOk result (λ s. (xs : List Lexeme) × ReadsFile (chars text.now) xs
     //     × (s ≡ leaves 0 xs)) }
     #[inline]
-    pub(crate) fn new(alloc: Global, text: &'a str) -> Result<Self, AllocError> {
-        let tokens = leaves(alloc, text)?;
-        let found = match_delimiters(alloc, &tokens)?;
+    pub(crate) fn new(text: &'a str) -> Result<Self, AllocError> {
+        let tokens = leaves(text)?;
+        let found = match_delimiters(&tokens)?;
         Ok(source_of(tokens, found))
     }
 
@@ -53,13 +53,12 @@ impl<'a> Source<'a> {
     // ensures whole { IfOk result (λ s. AreLeft rest.new [] ⊎ IsGroup s) }
     #[inline]
     pub(crate) fn read_group(
-        alloc: Global,
         front: &[Token<'a>],
         rest: &mut Tokens<'a>,
     ) -> Result<Self, AllocError> {
-        let mut tokens = Vec::made_in(alloc);
+        let mut tokens = Vec::new();
         tokens.try_extend_from_slice(front)?;
-        let mut found = match_delimiters(alloc, front)?;
+        let mut found = match_delimiters(front)?;
         while let Some(token) = rest.next() {
             add(&mut found, &token)?;
             tokens.try_push(token)?;

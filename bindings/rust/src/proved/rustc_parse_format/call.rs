@@ -7,13 +7,13 @@
 use crate::proved::rustc_parse_format::faults::Fault;
 use crate::proved::rustc_parse_format::reader::Reader;
 use crate::proved::rustc_parse_format::types::{Argument, ParseMode, Piece};
-use crate::shim::alloc::{AllocError, Global};
+use crate::shim::alloc::AllocError;
 use crate::shim::prelude::*;
 use core::ops::Range;
 
 impl<'input> Reader<'input> {
     /// Adds the fault that no brace closes `argument`, whose opening brace has the byte range
-    /// `opening`. Returns `Err` if an allocation fails.
+    /// `opening`.
     // ensures state { (let f = seen_spec argument.now.format in
     //     OnOk result (self.new ≡ record self.old {
     //       faults = self.old.faults ++ no_brace (brace_fill f.fill f.fill_span)
@@ -56,7 +56,7 @@ impl<'input> Reader<'input> {
     }
 
     /// Moves past the closing brace. If it is missing, adds that fault and recovers. The opening
-    /// brace has the byte range `opening`. Returns `Err` if an allocation fails.
+    /// brace has the byte range `opening`.
     // requires numbers { self.old.next + length self.old.rest < 2 ^ 64 }
     // ensures state { OnOk result ((o : Text) (a : ArgumentValue Span)
     //     → pair opening ≡ place_of self.old.world (over_first o)
@@ -80,7 +80,7 @@ impl<'input> Reader<'input> {
     }
 
     /// Reads a placeholder, with its opening brace, into `into`, whose position is still implicit
-    /// and whose format is the default. Returns `Err` if an allocation fails.
+    /// and whose format is the default.
     // requires implicit { seen_position into.old.position ≡ Implicit 0 }
     // requires blank { seen_spec into.old.format ≡ default_spec }
     // requires opens { opens_placeholder self.old.rest ≡ true }
@@ -105,7 +105,7 @@ impl<'input> Reader<'input> {
     }
 
     /// Reads a text, where no placeholder begins. Returns `None` at the end of the input and after
-    /// a closing brace that closes nothing, which is a fault. Returns `Err` if an allocation fails.
+    /// a closing brace that closes nothing, which is a fault.
     // requires bare { opens_placeholder self.old.rest ≡ false }
     // ensures piece { IfOk result (λ p. (m : Mode) → option_map (λ t. Lit (chars t.now)) p
     //     ≡ option_map (piece_in self.old.world) (call m self.old.next self.old.rest).piece) }
@@ -134,8 +134,7 @@ impl<'input> Reader<'input> {
     }
 
     /// Reads the next piece: a placeholder, whose argument is allocated first, or text. Returns
-    /// `None` at the end of the input and after a closing brace that closes nothing. Returns `Err`
-    /// if an allocation fails.
+    /// `None` at the end of the input and after a closing brace that closes nothing.
     // requires numbers { self.old.next + length self.old.rest < 2 ^ 64 }
     // ensures piece { IfOk result (λ p. option_map seen p
     //     ≡ option_map (piece_in self.old.world)
@@ -144,13 +143,9 @@ impl<'input> Reader<'input> {
     //     Reaches self.old result self.new (read_call self.old k)
     //     (FindsNothing self.old k.faults k.texts × (opens_placeholder self.old.rest ≡ false)) }
     #[inline(always)]
-    pub(crate) fn piece(
-        &mut self,
-        alloc: Global,
-        mode: ParseMode,
-    ) -> Result<Option<Piece<'input>>, AllocError> {
+    pub(crate) fn piece(&mut self, mode: ParseMode) -> Result<Option<Piece<'input>>, AllocError> {
         if self.cursor.opens_placeholder() {
-            let mut argument = Box::made_in(alloc, Argument::default())?;
+            let mut argument = Box::made_of(Argument::default())?;
             self.placeholder(mode, &mut argument)?;
             return Ok(Some(Piece::NextArgument(argument)));
         }

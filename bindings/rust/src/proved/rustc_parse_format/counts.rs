@@ -12,8 +12,7 @@ use crate::shim::alloc::AllocError;
 
 impl<'input> Reader<'input> {
     /// Reads the ASCII digits at the cursor, if any, and returns their value modulo 65536. A value
-    /// above 65535 is a fault, whose span includes the character after the digits. Returns `Err` if
-    /// an allocation fails.
+    /// above 65535 is a fault, whose span includes the character after the digits.
     // ensures value { IfOk result (λ n. n ≡ number (digits self.old.rest)) }
     // ensures reads { ReadsTo self.old result self.new (after_digits self.old.rest) self.old.next
     //     (number_faults self.old.rest) [] }
@@ -26,8 +25,7 @@ impl<'input> Reader<'input> {
         Ok(number)
     }
 
-    /// Reads the word that begins at the cursor. The word `_` is a fault. Returns `Err` if an
-    /// allocation fails.
+    /// Reads the word that begins at the cursor. The word `_` is a fault.
     // requires { first_passes is_id_start self.old.rest ≡ true }
     // ensures value { IfOk result (λ w. chars w.now ≡ word self.old.rest) }
     // ensures reads { ReadsTo self.old result self.new (after_word self.old.rest) self.old.next
@@ -42,8 +40,7 @@ impl<'input> Reader<'input> {
     }
 
     /// Reads a name and the `$` after it into `into`, which is still `CountImplied`. If there is no
-    /// `$`, goes back to the start of the word, but keeps its fault. Returns `Err` if an allocation
-    /// fails.
+    /// `$`, goes back to the start of the word, but keeps its fault.
     // requires blank { seen_count into.old ≡ Implied }
     // requires furthest { IsFurthest self.old.rest self.old.back }
     // requires word { first_passes is_id_start self.old.rest ≡ true }
@@ -68,8 +65,7 @@ impl<'input> Reader<'input> {
     }
 
     /// Reads a count, as in the grammar of `std::fmt`, into `into`, which is still `CountImplied`:
-    /// a number, the index or the name of an argument and a `$`, or nothing. Returns `Err` if an
-    /// allocation fails.
+    /// a number, the index or the name of an argument and a `$`, or nothing.
     // requires blank { seen_count into.old ≡ Implied }
     // requires furthest { IsFurthest self.old.rest self.old.back }
     // ensures value { (let k = count self.old.rest in OnOk result (seen_count into.new
@@ -94,8 +90,7 @@ impl<'input> Reader<'input> {
         Ok(())
     }
 
-    /// Reads the count of a width and its span into `format`, which has no width yet. Returns `Err`
-    /// if an allocation fails.
+    /// Reads the count of a width and its span into `format`, which has no width yet.
     // requires width { seen_count format.old.width ≡ Implied }
     // requires span { option_map pair format.old.width_span ≡ None }
     // requires furthest { IsFurthest self.old.rest self.old.back }
@@ -121,8 +116,7 @@ impl<'input> Reader<'input> {
     }
 
     /// Reads the width, as in the grammar of `std::fmt`, into `format`, which has none yet. A
-    /// leading `0` is a flag, unless a `$` follows it: then it is the index of an argument. Returns
-    /// `Err` if an allocation fails.
+    /// leading `0` is a flag, unless a `$` follows it: then it is the index of an argument.
     // requires zero_pad { format.old.zero_pad ≡ false }
     // requires width { seen_count format.old.width ≡ Implied }
     // requires span { option_map pair format.old.width_span ≡ None }
@@ -156,7 +150,7 @@ impl<'input> Reader<'input> {
 
     /// Reads a dot and the precision after it, which may be missing, into `format`, which has none
     /// yet. Reads nothing if the next character is not a dot. A `*` takes the index of the next
-    /// implicit argument. Returns `Err` if an allocation fails.
+    /// implicit argument.
     // requires precision { seen_count format.old.precision ≡ Implied }
     // requires span { option_map pair format.old.precision_span ≡ None }
     // requires numbers { self.old.next + 1 < 2 ^ 64 }

@@ -7,17 +7,17 @@
 use crate::proved::rustc_parse_format::faults::Fault;
 use crate::proved::rustc_parse_format::messages::set_error;
 use crate::proved::rustc_parse_format::types::{ParseError, Suggestion};
-use crate::shim::alloc::{AllocError, Global};
+use crate::shim::alloc::AllocError;
 use crate::shim::prelude::*;
 
 /// Returns an error whose texts are empty. Does not allocate.
 // ensures { seen_error result ≡ error [] None [] (0, 0) None }
 #[inline]
-pub fn empty_error(alloc: Global) -> ParseError {
+pub fn empty_error() -> ParseError {
     ParseError {
-        description: String::made_in(alloc),
+        description: String::new(),
         note: None,
-        label: String::made_in(alloc),
+        label: String::new(),
         span: 0..0,
         secondary_label: None,
         suggestion: Suggestion::None,
@@ -25,13 +25,12 @@ pub fn empty_error(alloc: Global) -> ParseError {
 }
 
 impl Fault<'_> {
-    /// Returns the error of the fault, as a parser has it in its list. Returns `Err` if an
-    /// allocation fails.
+    /// Returns the error of the fault, as a parser has it in its list.
     // ensures { IfOk result (λ e. seen_error e ≡ message (seen_fault self.now)) }
     #[inline]
-    pub(crate) fn error(&self, alloc: Global) -> Result<ParseError, AllocError> {
-        let mut error = empty_error(alloc);
-        set_error(alloc, &mut error, self)?;
+    pub(crate) fn error(&self) -> Result<ParseError, AllocError> {
+        let mut error = empty_error();
+        set_error(&mut error, self)?;
         Ok(error)
     }
 }

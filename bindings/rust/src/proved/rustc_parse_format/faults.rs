@@ -4,7 +4,7 @@
 // That source is proved, and each contract here is its. That this text means the same is tested:
 // by results from outside, and beside what is proved (.ci/bindings) and the original (tools/agree).
 
-use crate::shim::alloc::{AllocError, Global};
+use crate::shim::alloc::AllocError;
 use crate::shim::prelude::*;
 use core::mem;
 use core::ops::Range;
@@ -92,11 +92,11 @@ impl<'input> Faults<'input> {
     /// Returns an empty list. Does not allocate.
     // ensures { result ≡ [] }
     #[inline]
-    pub(crate) fn new(alloc: Global) -> Faults<'input> {
+    pub(crate) fn new() -> Faults<'input> {
         Faults {
             first: None,
             second: None,
-            more: Vec::made_in(alloc),
+            more: Vec::new(),
         }
     }
 
@@ -151,8 +151,7 @@ impl<'input> Faults<'input> {
         if self.is_empty() {
             return Ok(());
         }
-        let alloc = *self.more.own_allocator();
-        let mut faults = mem::replace(self, Faults::new(alloc));
+        let mut faults = mem::replace(self, Faults::new());
         if let Some(first) = faults.first.take() {
             list.try_push(first)?;
         }

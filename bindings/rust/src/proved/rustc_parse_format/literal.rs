@@ -11,7 +11,7 @@ pub(crate) mod rest;
 pub(crate) mod unit;
 
 use crate::proved::rustc_parse_format::characters::Class;
-use crate::shim::alloc::{AllocError, Global};
+use crate::shim::alloc::AllocError;
 use core::ops::Range;
 pub(crate) use rest::Rest;
 use unit::byte_escape;
@@ -33,17 +33,13 @@ pub fn split_first_unit(content: &str) -> Option<(Option<char>, &str)> {
 }
 
 /// Returns the characters that a content stands for, each with its byte range in the content, or
-/// `None` if the text is no content, as `content_characters` computes them. Returns `Err` if an
-/// allocation fails.
+/// `None` if the text is no content, as `content_characters` computes them.
 // ensures computed { IfOk result (λ o. option_map (λ v. seen_characters v.items) o
 //     ≡ content_characters 0 (chars content.now)) }
 // ensures empty { chars content.now ≡ [] → IsOk result }
 #[inline]
-fn read_characters(
-    alloc: Global,
-    content: &str,
-) -> Result<Option<Vec<(Range<usize>, char)>>, AllocError> {
-    let mut found = Vec::made_in(alloc);
+fn read_characters(content: &str) -> Result<Option<Vec<(Range<usize>, char)>>, AllocError> {
+    let mut found = Vec::new();
     let mut rest = Rest::new(content);
     let total = rest.len();
     let mut at = 0;
@@ -79,14 +75,11 @@ fn read_characters(
 //     ++ newline_places w.end appended))) }
 // ensures empty { content.now ≡ [] → IsOk result }
 #[inline]
-pub fn read_content(
-    alloc: Global,
-    content: &str,
-) -> Result<Option<Vec<(Range<usize>, char)>>, AllocError> {
-    read_characters(alloc, content)
+pub fn read_content(content: &str) -> Result<Option<Vec<(Range<usize>, char)>>, AllocError> {
+    read_characters(content)
 }
 
-/// Appends the plain characters that come next to a text. Returns `Err` if an allocation fails.
+/// Appends the plain characters that come next to a text.
 // ensures text { OnOk result (chars (string_bytes text.new)
 //     ≡ chars (string_bytes text.old) ++ front is_plain rest.old) }
 // ensures rest { rest.new ≡ rest_after is_plain rest.old }
@@ -100,7 +93,7 @@ fn put_plain(text: &mut String, rest: &mut Rest<'_>) -> Result<(), AllocError> {
     Ok(())
 }
 
-/// Appends a character to a text. Returns `Err` if an allocation fails.
+/// Appends a character to a text.
 // ensures { OnOk result (chars (string_bytes text.new) ≡ chars (string_bytes text.old)
 //     ++ c ∷ []) }
 #[inline(always)]
@@ -132,9 +125,9 @@ fn shrink(text: &mut String) {
 // ensures none { IfOk result (λ o. IfNone o (IsNoContent (chars content.now))) }
 // ensures empty { content.now ≡ [] → IsOk result }
 #[inline]
-pub fn content_text(alloc: Global, content: &str) -> Result<Option<String>, AllocError> {
+pub fn content_text(content: &str) -> Result<Option<String>, AllocError> {
     // no unit is shorter than its value; a longer content may be refused at its start
-    let mut text = String::made_for(alloc, content.len().min(FIRST_ROOM))?;
+    let mut text = String::made_for(content.len().min(FIRST_ROOM))?;
     let mut rest = Rest::new(content);
     put_plain(&mut text, &mut rest)?;
     while !rest.is_empty() {

@@ -10,72 +10,70 @@
 use crate::proved::rustc_parse_format::faults::Fault;
 use crate::proved::rustc_parse_format::types::{ParseError, Suggestion};
 use crate::proved::rustc_parse_format::written::put_written;
-use crate::shim::alloc::{AllocError, Global};
+use crate::shim::alloc::AllocError;
 use crate::shim::prelude::*;
 use core::ops::Range;
 
 /// Returns the description of a missing closing brace, from the character found in its place, or
-/// `None` at the end of the input. Returns `Err` if an allocation fails.
+/// `None` at the end of the input.
 // ensures { IfOk result (λ s. string_bytes s ≡ expected found) }
 #[inline]
-fn expected_brace(alloc: Global, found: Option<char>) -> Result<String, AllocError> {
+fn expected_brace(found: Option<char>) -> Result<String, AllocError> {
     let Some(c) = found else {
-        return String::made_from(alloc, "expected `}` but string was terminated");
+        return String::made_from("expected `}` but string was terminated");
     };
     // 21 bytes, at most 6 for the character, and the closing quote
-    let mut text = String::made_for(alloc, 28)?;
+    let mut text = String::made_for(28)?;
     text.try_push_str("expected `}`, found `")?;
     put_written(&mut text, c)?;
     text.try_push('`')?;
     Ok(text)
 }
 
-/// Returns the description of a number above 65535, from its digits. Returns `Err` if an allocation
-/// fails.
+/// Returns the description of a number above 65535, from its digits.
 // ensures { IfOk result (λ s. string_bytes s ≡ out_of_range (chars digits.now)) }
 #[inline]
-fn out_of_range(alloc: Global, digits: &str) -> Result<String, AllocError> {
-    let mut text = String::made_for(alloc, 70 + digits.len())?;
+fn out_of_range(digits: &str) -> Result<String, AllocError> {
+    let mut text = String::made_for(70 + digits.len())?;
     text.try_push_str("integer `")?;
     text.try_push_str(digits)?;
     text.try_push_str("` does not fit into the type `u16` whose range is `0..=65535`")?;
     Ok(text)
 }
 
-/// Returns the flag with the type `?` after it. Returns `Err` if an allocation fails.
+/// Returns the flag with the type `?` after it.
 // ensures { IfOk result (λ s. string_bytes s ≡ encode_utf8_all (flag ∷ codes "?")) }
 #[inline]
-fn flagged_type(alloc: Global, flag: char) -> Result<String, AllocError> {
-    let mut text = String::made_for(alloc, 1 + flag.len_utf8())?;
+fn flagged_type(flag: char) -> Result<String, AllocError> {
+    let mut text = String::made_for(1 + flag.len_utf8())?;
     text.try_push(flag)?;
     text.try_push('?')?;
     Ok(text)
 }
 
-/// Returns the note on how to write the type `?` for the argument `word`. Returns `Err` if an
-/// allocation fails.
+/// Returns the note on how to write the type `?` for the argument `word`.
 // ensures { IfOk result (λ s. string_bytes s ≡ debug_after (chars word.now)) }
 #[inline]
-fn debug_after(alloc: Global, word: &str) -> Result<String, AllocError> {
-    let mut text = String::made_for(alloc, 37 + word.len())?;
+fn debug_after(word: &str) -> Result<String, AllocError> {
+    let mut text = String::made_for(37 + word.len())?;
     text.try_push_str("`?` comes after `:`, try `")?;
     text.try_push_str(word)?;
     text.try_push_str(":?` instead")?;
     Ok(text)
 }
 
-/// Returns the label on where an alignment belongs. Returns `Err` if an allocation fails.
+/// Returns the label on where an alignment belongs.
 // ensures { IfOk result (λ s. string_bytes s ≡ align_after sign) }
 #[inline]
-fn align_after(alloc: Global, sign: char) -> Result<String, AllocError> {
-    let mut text = String::made_for(alloc, 30 + sign.len_utf8())?;
+fn align_after(sign: char) -> Result<String, AllocError> {
+    let mut text = String::made_for(30 + sign.len_utf8())?;
     text.try_push_str("expected `")?;
     text.try_push(sign)?;
     text.try_push_str("` to occur after `:`")?;
     Ok(text)
 }
 
-/// Sets the description, the label and the span of an error. Returns `Err` if an allocation fails.
+/// Sets the description, the label and the span of an error.
 // ensures { OnOk result (seen_error into.new ≡ record (seen_error into.old) {
 //   description = string_bytes description;
 //   label = label.now;
@@ -83,20 +81,18 @@ fn align_after(alloc: Global, sign: char) -> Result<String, AllocError> {
 // }) }
 #[inline(always)]
 fn set_texts(
-    alloc: Global,
     into: &mut ParseError,
     description: String,
     label: &str,
     span: &Range<usize>,
 ) -> Result<(), AllocError> {
     into.description = description;
-    into.label = String::made_from(alloc, label)?;
+    into.label = String::made_from(label)?;
     into.span = span.start..span.end;
     Ok(())
 }
 
-/// Sets the description, the note, the label and the span of an error. Returns `Err` if an
-/// allocation fails.
+/// Sets the description, the note, the label and the span of an error.
 // ensures { OnOk result (seen_error into.new ≡ record (seen_error into.old) {
 //   description = description.now;
 //   note = Some note.now;
@@ -105,20 +101,19 @@ fn set_texts(
 // }) }
 #[inline(always)]
 fn set_texts_with_note(
-    alloc: Global,
     into: &mut ParseError,
     description: &str,
     note: &str,
     label: &str,
     span: &Range<usize>,
 ) -> Result<(), AllocError> {
-    let description = String::made_from(alloc, description)?;
-    into.note = Some(String::made_from(alloc, note)?);
-    set_texts(alloc, into, description, label, span)
+    let description = String::made_from(description)?;
+    into.note = Some(String::made_from(note)?);
+    set_texts(into, description, label, span)
 }
 
 /// Sets the description, the note, the span and the secondary label of an error whose label is that
-/// of a missing closing brace. Returns `Err` if an allocation fails.
+/// of a missing closing brace.
 // ensures { OnOk result (seen_error into.new ≡ record (seen_error into.old) {
 //   description = string_bytes description;
 //   note = Some note.now;
@@ -128,34 +123,27 @@ fn set_texts_with_note(
 // }) }
 #[inline]
 fn set_brace_error(
-    alloc: Global,
     into: &mut ParseError,
     description: String,
     note: &str,
     span: &Range<usize>,
     second: (&str, &Range<usize>),
 ) -> Result<(), AllocError> {
-    into.note = Some(String::made_from(alloc, note)?);
-    into.secondary_label = Some((
-        String::made_from(alloc, second.0)?,
-        second.1.start..second.1.end,
-    ));
-    set_texts(alloc, into, description, "expected `}`", span)
+    into.note = Some(String::made_from(note)?);
+    into.secondary_label = Some((String::made_from(second.0)?, second.1.start..second.1.end));
+    set_texts(into, description, "expected `}`", span)
 }
 
-/// Sets the texts and the span of the error of a field access. Returns `Err` if an allocation
-/// fails.
+/// Sets the texts and the span of the error of a field access.
 // requires { seen_error into.old ≡ suggesting UsePositional (error [] None [] (0, 0) None) }
 // ensures { OnOk result (seen_error into.new ≡ local_variable description.now (pair span.now)) }
 #[inline]
 fn set_field_error(
-    alloc: Global,
     into: &mut ParseError,
     description: &str,
     span: &Range<usize>,
 ) -> Result<(), AllocError> {
     set_texts_with_note(
-        alloc,
         into,
         description,
         "consider moving this expression to a local variable and then using the local here instead",
@@ -166,17 +154,15 @@ fn set_field_error(
 
 impl Fault<'_> {
     /// Returns the suggestion of the fault's error, and makes none of the error's other texts.
-    /// Returns `Err` if an allocation fails.
     // ensures { IfOk result (λ s. seen_suggestion s
     //     ≡ (message (seen_fault self.now)).suggestion) }
     #[inline(always)]
-    pub(crate) fn suggestion(&self, alloc: Global) -> Result<Suggestion, AllocError> {
+    pub(crate) fn suggestion(&self) -> Result<Suggestion, AllocError> {
         let suggestion = match self {
             Fault::RawIdentifier(_, prefix) => Suggestion::RemoveRawIdent(prefix.start..prefix.end),
-            Fault::LateFlag(flag, _, both) => Suggestion::ReorderFormatParameter(
-                both.start..both.end,
-                flagged_type(alloc, *flag)?,
-            ),
+            Fault::LateFlag(flag, _, both) => {
+                Suggestion::ReorderFormatParameter(both.start..both.end, flagged_type(*flag)?)
+            }
             Fault::MissingColon(span) => Suggestion::AddMissingColon(span.start..span.end),
             Fault::DebugPrint(..) => Suggestion::UseRustDebugPrintingMacro,
             Fault::FieldAccess(_) | Fault::TupleIndex(_) => Suggestion::UsePositional,
@@ -186,18 +172,13 @@ impl Fault<'_> {
     }
 }
 
-/// Sets an error, which is still empty, to that of a fault. Returns `Err` if an allocation fails.
+/// Sets an error, which is still empty, to that of a fault.
 // requires { seen_error into.old ≡ error [] None [] (0, 0) None }
 // ensures { OnOk result (seen_error into.new ≡ message (seen_fault fault.now)) }
 #[inline]
-pub fn set_error(
-    alloc: Global,
-    into: &mut ParseError,
-    fault: &Fault<'_>,
-) -> Result<(), AllocError> {
+pub fn set_error(into: &mut ParseError, fault: &Fault<'_>) -> Result<(), AllocError> {
     match fault {
         Fault::UnmatchedBrace(span) => set_texts_with_note(
-            alloc,
             into,
             "unmatched `}` found",
             "if you intended to print `}`, you can escape it using `}}`",
@@ -205,17 +186,15 @@ pub fn set_error(
             span,
         ),
         Fault::MissingBrace(found, span, opening) => set_brace_error(
-            alloc,
             into,
-            expected_brace(alloc, *found)?,
+            expected_brace(*found)?,
             "if you intended to print `{`, you can escape it using `{{`",
             span,
             ("because of this opening brace", opening),
         ),
         Fault::FillBrace(found, span, fill) => set_brace_error(
-            alloc,
             into,
-            expected_brace(alloc, *found)?,
+            expected_brace(*found)?,
             "the character `}` is interpreted as a fill character because of the `:` that precedes it",
             span,
             (
@@ -224,7 +203,6 @@ pub fn set_error(
             ),
         ),
         Fault::Underscore(span) => set_texts_with_note(
-            alloc,
             into,
             "invalid argument name `_`",
             "argument name cannot be a single underscore",
@@ -232,14 +210,12 @@ pub fn set_error(
             span,
         ),
         Fault::TooLarge(digits, span) => set_texts(
-            alloc,
             into,
-            out_of_range(alloc, digits)?,
+            out_of_range(digits)?,
             "integer out of range for `u16`",
             span,
         ),
         Fault::Unnamed(span) => set_texts_with_note(
-            alloc,
             into,
             "expected a named argument",
             "only named arguments are allowed here",
@@ -247,16 +223,14 @@ pub fn set_error(
             span,
         ),
         Fault::TextAfterColon(span) => set_texts(
-            alloc,
             into,
-            String::made_from(alloc, "format specifiers are not allowed")?,
+            String::made_from("format specifiers are not allowed")?,
             "remove this text",
             span,
         ),
         Fault::RawIdentifier(span, _) => {
-            into.suggestion = fault.suggestion(alloc)?;
+            into.suggestion = fault.suggestion()?;
             set_texts_with_note(
-                alloc,
                 into,
                 "raw identifiers are not supported",
                 "identifiers in format strings can be keywords and don't need to be prefixed with `r#`",
@@ -265,14 +239,13 @@ pub fn set_error(
             )
         }
         Fault::LateFlag(flag, span, _) => {
-            into.suggestion = fault.suggestion(alloc)?;
-            let description = expected_brace(alloc, Some(*flag))?;
-            set_texts(alloc, into, description, "expected `'}'`", span)
+            into.suggestion = fault.suggestion()?;
+            let description = expected_brace(Some(*flag))?;
+            set_texts(into, description, "expected `'}'`", span)
         }
         Fault::MissingColon(span) => {
-            into.suggestion = fault.suggestion(alloc)?;
+            into.suggestion = fault.suggestion()?;
             set_texts_with_note(
-                alloc,
                 into,
                 "expected `}`, found `?`",
                 "to print `{`, you can escape it using `{{`",
@@ -281,29 +254,25 @@ pub fn set_error(
             )
         }
         Fault::LateDebug(word, span) => {
-            into.note = Some(debug_after(alloc, word)?);
+            into.note = Some(debug_after(word)?);
             set_texts(
-                alloc,
                 into,
-                String::made_from(alloc, "expected format parameter to occur after `:`")?,
+                String::made_from("expected format parameter to occur after `:`")?,
                 "expected `?` to occur after `:`",
                 span,
             )
         }
         Fault::LateAlign(sign, span) => {
-            into.label = align_after(alloc, *sign)?;
+            into.label = align_after(*sign)?;
             into.span = span.start..span.end;
             into.description = String::made_from(
-                alloc,
                 "expected alignment specifier after `:` in format string; example: `{:>?}`",
             )?;
             Ok(())
         }
         Fault::Grouping(span, opening) => set_brace_error(
-            alloc,
             into,
             String::made_from(
-                alloc,
                 "python's numeric grouping `,` is not supported in rust format strings",
             )?,
             "to print `{`, you can escape it using `{{`",
@@ -311,12 +280,10 @@ pub fn set_error(
             ("because of this opening brace", opening),
         ),
         Fault::DebugPrint(span, opening) => {
-            into.suggestion = fault.suggestion(alloc)?;
+            into.suggestion = fault.suggestion()?;
             set_brace_error(
-                alloc,
                 into,
                 String::made_from(
-                    alloc,
                     "python's f-string debug `=` is not supported in rust, use `dbg(x)` instead",
                 )?,
                 "to print `{`, you can escape it using `{{`",
@@ -325,7 +292,6 @@ pub fn set_error(
             )
         }
         Fault::LateSign(span) => set_texts_with_note(
-            alloc,
             into,
             "the `+` sign flag must appear after `:` in a format string",
             "`+` comes after `:`, try `{:+}` instead of `{+}`",
@@ -333,12 +299,12 @@ pub fn set_error(
             span,
         ),
         Fault::FieldAccess(span) => {
-            into.suggestion = fault.suggestion(alloc)?;
-            set_field_error(alloc, into, "field access isn't supported", span)
+            into.suggestion = fault.suggestion()?;
+            set_field_error(into, "field access isn't supported", span)
         }
         Fault::TupleIndex(span) => {
-            into.suggestion = fault.suggestion(alloc)?;
-            set_field_error(alloc, into, "tuple index access isn't supported", span)
+            into.suggestion = fault.suggestion()?;
+            set_field_error(into, "tuple index access isn't supported", span)
         }
     }
 }

@@ -12,7 +12,6 @@ use crate::shim::alloc::AllocError;
 impl<'input> Reader<'input> {
     /// Reads a word that begins with `r#`, and returns it without that prefix; such a raw
     /// identifier is a fault. If no word comes after the `r#`, reads and returns the `r` alone.
-    /// Returns `Err` if an allocation fails.
     // requires { begins_prefix self.old.rest ≡ true }
     // ensures value { IfOk result (λ w. Some (Named (chars w.now))
     //     ≡ given_position (position self.old.rest).0) }
@@ -35,7 +34,7 @@ impl<'input> Reader<'input> {
     }
 
     /// Reads the position, an integer or else a word, which may be raw, into `into`, which is still
-    /// implicit. Reads nothing if there is neither. Returns `Err` if an allocation fails.
+    /// implicit. Reads nothing if there is neither.
     // requires { seen_position into.old ≡ Implicit 0 }
     // ensures value { OnOk result
     //     (seen_position into.new ≡ position_of 0 (position self.old.rest).0) }
@@ -118,7 +117,7 @@ impl<'input> Reader<'input> {
     }
 
     /// Reads a position, white space and a specification into `into`, whose position is still
-    /// implicit and whose format is the default. Returns `Err` if an allocation fails.
+    /// implicit and whose format is the default.
     // requires implicit { seen_position into.old.position ≡ Implicit 0 }
     // requires blank { seen_spec into.old.format ≡ default_spec }
     // requires numbers { self.old.next + 1 + length self.old.rest < 2 ^ 64 }

@@ -8,7 +8,7 @@
 use crate::proved::rustc_parse_format::characters::Class;
 use crate::proved::rustc_parse_format::cursor::Cursor;
 use crate::proved::rustc_parse_format::faults::{Fault, Faults};
-use crate::shim::alloc::{AllocError, Global};
+use crate::shim::alloc::AllocError;
 use crate::shim::prelude::*;
 use core::ops::Range;
 
@@ -34,13 +34,13 @@ impl<'input> Reader<'input> {
     /// line starts at the byte offset `line_start`. Does not allocate.
     // ensures { result ≡ midway cursor.entry 0 line_start }
     #[inline]
-    pub(crate) fn new(alloc: Global, cursor: Cursor<'input>, line_start: usize) -> Reader<'input> {
+    pub(crate) fn new(cursor: Cursor<'input>, line_start: usize) -> Reader<'input> {
         Reader {
             cursor,
             curarg: 0,
-            faults: Faults::new(alloc),
+            faults: Faults::new(),
             line_start,
-            lines: Vec::made_in(alloc),
+            lines: Vec::new(),
             closed_place: None,
         }
     }
@@ -110,7 +110,7 @@ impl<'input> Reader<'input> {
     }
 
     /// Moves past the longest prefix without braces. In a source literal it does so line by line,
-    /// and records the lines that end. Returns `Err` if an allocation fails.
+    /// and records the lines that end.
     // ensures reads { Reaches self.old result self.new (read_run self.old)
     //     (IsInOneLine self.old) }
     #[inline(never)]
@@ -123,7 +123,7 @@ impl<'input> Reader<'input> {
     }
 
     /// Moves past the longest prefix without braces of a source literal, line by line, and records
-    /// the lines that end. Returns `Err` if an allocation fails.
+    /// the lines that end.
     // requires { IsTrue self.old.world.has_source }
     // ensures reads { Reaches self.old result self.new (read_run self.old)
     //     (IsInOneLine self.old) }
@@ -156,7 +156,7 @@ impl<'input> Reader<'input> {
     }
 
     /// Moves past the newline that comes next in a source literal, and records the line that it
-    /// ends. Returns `Err` if an allocation fails.
+    /// ends.
     // ensures state { OnOk result (self.new ≡ passed_next 10 self.old) }
     // ensures err { OnErr result (self.new.source ≡ self.old.source) }
     #[inline]

@@ -48,7 +48,7 @@ fn begins_late_debug(sign: char, next: char) -> bool {
 
 impl<'input> Reader<'input> {
     /// Moves past the next character, which is `sign`, and adds its fault. Changes nothing if it
-    /// has none of its own. Returns `Err` if an allocation fails.
+    /// has none of its own.
     // ensures state { (let span = place_of self.old.world (over_first self.old.rest) in
     //     OnOk result (self.new
     //     ≡ after_sign self.old (sign_fault sign next span (pair opening)))) }
@@ -69,7 +69,7 @@ impl<'input> Reader<'input> {
     }
 
     /// Moves past a `?`. If a colon follows, also moves past that and the word after it, which may
-    /// be empty, and adds a fault. Returns `Err` if an allocation fails.
+    /// be empty, and adds a fault.
     // ensures state { OnOk result (self.new
     //     ≡ recovered self.old (late_debug self.old.next self.old.rest)) }
     // ensures err { OnErr result (self.new.source ≡ self.old.source) }
@@ -89,7 +89,7 @@ impl<'input> Reader<'input> {
 
     /// Moves past a `.`, the field after it, and a closing brace directly after that. With the
     /// brace, a field that is a name or a number is a fault. The argument starts at the byte offset
-    /// `from`. Returns `Err` if an allocation fails.
+    /// `from`.
     // requires here { self.old.rest ≢ [] }
     // requires numbers { self.old.next + length self.old.rest < 2 ^ 64 }
     // ensures state { OnOk result ((m : Mark) → from ≡ number_of self.old.world m → self.new
@@ -116,7 +116,7 @@ impl<'input> Reader<'input> {
     }
 
     /// Recovers from a missing closing brace of `argument`, by the next character. The opening
-    /// brace has the byte range `opening`. Returns `Err` if an allocation fails.
+    /// brace has the byte range `opening`.
     // requires numbers { self.old.next + length self.old.rest < 2 ^ 64 }
     // ensures state { OnOk result ((o : Text) (a : ArgumentValue Span)
     //     → pair opening ≡ place_of self.old.world (over_first o)

@@ -75,7 +75,7 @@ impl<'input> Reader<'input> {
     }
 
     /// Reads a word into `format` as its type, which is still empty, and sets its span if the word
-    /// is not empty. Returns `Err` if an allocation fails.
+    /// is not empty.
     // requires ty { chars format.old.ty.now ≡ [] }
     // requires span { option_map pair format.old.ty_span ≡ None }
     // ensures value { (let t = self.old.rest in
@@ -98,8 +98,7 @@ impl<'input> Reader<'input> {
         Ok(())
     }
 
-    /// Reads the type `?`. A flag after it is a fault, and is not read. Returns `Err` if an
-    /// allocation fails.
+    /// Reads the type `?`. A flag after it is a fault, and is not read.
     // ensures reads { ReadsTo self.old result self.new (after_first self.old.rest) self.old.next
     //     (flag_faults self.old.rest) [] }
     #[inline]
@@ -115,7 +114,6 @@ impl<'input> Reader<'input> {
     }
 
     /// Reads the type, as in the grammar of `std::fmt`, into `format`, whose type is still empty.
-    /// Returns `Err` if an allocation fails.
     // requires debug_hex { option_map seen_debug_hex format.old.debug_hex ≡ None }
     // requires ty { chars format.old.ty.now ≡ [] }
     // requires span { option_map pair format.old.ty_span ≡ None }
@@ -150,7 +148,7 @@ impl<'input> Reader<'input> {
     }
 
     /// Reads a format specification, as in the grammar of `std::fmt`, into `format`, which is still
-    /// the default. Returns `Err` if an allocation fails.
+    /// the default.
     // requires blank { seen_spec format.old ≡ default_spec }
     // requires numbers { self.old.next + 1 < 2 ^ 64 }
     // requires furthest { IsFurthest self.old.rest self.old.back }
@@ -173,7 +171,6 @@ impl<'input> Reader<'input> {
 
     /// Reads a colon and the text of a diagnostic into `format`, which is still the default. The
     /// span of the text includes the colon. Text is a fault in a mode that allows only names.
-    /// Returns `Err` if an allocation fails.
     // ensures value { OnOk result (seen_spec format.new ≡ record (seen_spec format.old) {
     //   ty = front is_no_brace (after_first self.old.rest);
     //   ty_span = Some (place_of self.old.world
@@ -208,8 +205,7 @@ impl<'input> Reader<'input> {
     }
 
     /// Reads a colon and the part that `mode` has after it into `format`, which is still the
-    /// default. Reads nothing if the next character is not a colon. Returns `Err` if an allocation
-    /// fails.
+    /// default. Reads nothing if the next character is not a colon.
     // requires blank { seen_spec format.old ≡ default_spec }
     // requires numbers { self.old.next + length self.old.rest < 2 ^ 64 }
     // ensures value { (let s = specification (seen_mode mode) self.old.rest in

@@ -34,7 +34,7 @@ fn put_plainly_written(out: &mut String, c: char) -> Result<(), AllocError> {
     let code = u32::from(c);
     if code < 32 || code == 127 {
         // formatted on its own first: `write!` does not promise what it leaves in `out` if it fails
-        let escape = crate::shim::format_in!(*out.own_allocator(); "\\u{{{code:x}}}")?;
+        let escape = crate::shim::try_format!("\\u{{{code:x}}}")?;
         out.try_push_str(&escape)?;
     } else {
         out.try_push(c)?;
@@ -55,7 +55,7 @@ pub fn put_written(out: &mut String, c: char) -> Result<(), AllocError> {
     Ok(())
 }
 
-/// Appends a run of characters, which is often empty. Returns `Err` if an allocation fails.
+/// Appends a run of characters, which is often empty.
 // ensures { OnOk result (string_bytes out.new ≡ string_bytes out.old ++ run.now) }
 #[inline(always)]
 fn push_run(out: &mut String, run: &str) -> Result<(), AllocError> {
@@ -65,8 +65,7 @@ fn push_run(out: &mut String, run: &str) -> Result<(), AllocError> {
     out.try_push_str(run)
 }
 
-/// Appends the characters that come next and are written as they are. Returns `Err` if an
-/// allocation fails.
+/// Appends the characters that come next and are written as they are.
 // ensures written { OnOk result (string_bytes out.new ++ flat_map written rest.new
 //     ≡ string_bytes out.old ++ flat_map written rest.old) }
 // ensures shorter { length rest.new ≤ length rest.old }

@@ -8,7 +8,7 @@ use crate::proved::asm_lint::{labels, primary_span, Site};
 use crate::proved::call_faults::{CallEdit, CallFault, CallHelp, CallReport};
 use crate::proved::source_lint::labels::{help, notes};
 use crate::proved::source_report::Finding;
-use crate::shim::alloc::{AllocError, Global};
+use crate::shim::alloc::AllocError;
 use crate::shim::prelude::*;
 
 /// Returns whether a fault is only a warning.
@@ -54,26 +54,24 @@ fn counted_help(help: Option<CallHelp>, is_whole: bool) -> Option<CallHelp> {
     }
 }
 
-/// Returns the finding of a fault of a call, whose number of arguments is known or not. Returns
-/// `Err` if an allocation fails.
+/// Returns the finding of a fault of a call, whose number of arguments is known or not.
 // ensures outcome { IfOk result (λ x.
 //     Tells is_whole (seen_call checked.now) (seen_fault fault.now) x) }
 // ensures spans { IfOk result (λ x. HasSpans site.entry.text.now x) }
 #[inline]
 fn finding<'c>(
-    alloc: Global,
     site: Site<'_, '_>,
     checked: &CallReport<'c>,
     fault: &CallFault<'c>,
     is_whole: bool,
 ) -> Result<Finding, AllocError> {
-    let mut title = String::made_in(alloc);
+    let mut title = String::new();
     checked.put_title(&mut title, fault)?;
-    let labels = labels(alloc, site, checked.labels(alloc, fault)?)?;
+    let labels = labels(site, checked.labels(fault)?)?;
     let span = primary_span(site, &labels);
-    let notes = notes(alloc, site, checked.notes(alloc, fault)?)?;
-    let counted = counted_help(checked.help(alloc, fault)?, is_whole);
-    let help = help(alloc, site, counted)?;
+    let notes = notes(site, checked.notes(fault)?)?;
+    let counted = counted_help(checked.help(fault)?, is_whole);
+    let help = help(site, counted)?;
     Ok(Finding {
         is_warning: is_warning(fault),
         id: fault.id(),
@@ -85,8 +83,7 @@ fn finding<'c>(
     })
 }
 
-/// Adds the finding of a fault of a call, unless only that of its string counts. Returns `Err` if
-/// an allocation fails.
+/// Adds the finding of a fault of a call, unless only that of its string counts.
 // ensures outcome { OnOk result ((xs : List FindingValue)
 //     × (findings.new.items ≡ findings.old.items ++ xs)
 //     × TellAll is_whole (seen_call checked.now)
@@ -95,7 +92,6 @@ fn finding<'c>(
 //     → All (HasSpans site.entry.text.now) findings.new.items) }
 #[inline]
 fn put_finding<'c>(
-    alloc: Global,
     findings: &mut Vec<Finding>,
     site: Site<'_, '_>,
     checked: &CallReport<'c>,
@@ -103,13 +99,12 @@ fn put_finding<'c>(
     is_whole: bool,
 ) -> Result<(), AllocError> {
     if is_whole || is_text_fault(fault) {
-        findings.try_push(finding(alloc, site, checked, fault, is_whole)?)?;
+        findings.try_push(finding(site, checked, fault, is_whole)?)?;
     }
     Ok(())
 }
 
-/// Adds the findings of the faults of a call, or only that of its string. Returns `Err` if an
-/// allocation fails.
+/// Adds the findings of the faults of a call, or only that of its string.
 // ensures outcome { OnOk result ((xs : List FindingValue)
 //     × (findings.new.items ≡ findings.old.items ++ xs)
 //     × AreFindings is_whole (seen_call checked.now) xs) }
@@ -117,14 +112,13 @@ fn put_finding<'c>(
 //     → All (HasSpans site.entry.text.now) findings.new.items) }
 #[inline]
 pub fn put_findings<'c>(
-    alloc: Global,
     findings: &mut Vec<Finding>,
     site: Site<'_, '_>,
     checked: &CallReport<'c>,
     is_whole: bool,
 ) -> Result<(), AllocError> {
     for fault in &checked.faults {
-        put_finding(alloc, findings, site, checked, fault, is_whole)?;
+        put_finding(findings, site, checked, fault, is_whole)?;
     }
     Ok(())
 }

@@ -9,7 +9,7 @@ use crate::proved::call_forms::{kind_word, Expected, Form, Operator};
 use crate::proved::format_calls::{Argument, Call};
 use crate::proved::rust_trees::Token;
 use crate::proved::source_report::{Edit, Finding, Help, Label};
-use crate::shim::alloc::{AllocError, Global};
+use crate::shim::alloc::AllocError;
 use crate::shim::prelude::*;
 use core::ops::Range;
 
@@ -25,7 +25,7 @@ fn form_id(form: Form<'_>) -> &'static str {
     }
 }
 
-/// Adds a token that rustc found, in its words. Returns `Err` if an allocation fails.
+/// Adds a token that rustc found, in its words.
 // ensures { OnOk result (string_bytes out.new
 //     ≡ string_bytes out.old ++ found_text (seen_operator found.entry)) }
 #[inline]
@@ -70,7 +70,7 @@ fn end_words(is_last: bool) -> &'static str {
     }
 }
 
-/// Adds the title. Returns `Err` if an allocation fails.
+/// Adds the title.
 // ensures { OnOk result (string_bytes out.new
 //     ≡ string_bytes out.old ++ form_title (seen_form form.entry)) }
 #[inline]
@@ -210,7 +210,7 @@ fn lacks_literal(form: Form<'_>) -> Option<usize> {
     }
 }
 
-/// Adds a label. Returns `Err` if an allocation fails.
+/// Adds a label.
 // ensures { OnOk result ((l : LabelValue) × (labels.new.items ≡ labels.old.items ++ l ∷ [])
 //     × (l.range ≡ range) × (l.is_primary ≡ is_primary) × (string_bytes l.text ≡ text.now)) }
 #[inline]
@@ -220,7 +220,7 @@ fn push_label(
     is_primary: bool,
     text: &str,
 ) -> Result<(), AllocError> {
-    let text = String::made_from(*labels.own_allocator(), text)?;
+    let text = String::made_from(text)?;
     labels.try_push(Label {
         range,
         is_primary,
@@ -229,18 +229,13 @@ fn push_label(
     Ok(())
 }
 
-/// Returns the labels of what is wrong with these bytes. Returns `Err` if an allocation fails.
+/// Returns the labels of what is wrong with these bytes.
 // requires { IsSpan text.now span.now }
 // ensures outcome { IfOk result (λ v. TellLabels (form_labels (seen_form form.entry)) v.items) }
 // ensures spans { IfOk result (λ v. All (λ l. IsSpan text.now l.range) v.items) }
 #[inline]
-fn form_labels(
-    alloc: Global,
-    text: &str,
-    span: &Range<usize>,
-    form: Form<'_>,
-) -> Result<Vec<Label>, AllocError> {
-    let mut labels = Vec::made_in(alloc);
+fn form_labels(text: &str, span: &Range<usize>, form: Form<'_>) -> Result<Vec<Label>, AllocError> {
+    let mut labels = Vec::new();
     push_label(&mut labels, span.start..span.end, true, form_label(form))?;
     if has_bytes(form) {
         let letter = range_in(text, span.start, span.start.saturating_add(1));
@@ -249,7 +244,7 @@ fn form_labels(
     Ok(labels)
 }
 
-/// Adds this many placeholders, each after a space. Returns `Err` if an allocation fails.
+/// Adds this many placeholders, each after a space.
 // ensures { OnOk result (string_bytes out.new ≡ string_bytes out.old ++ more_placeholders count) }
 #[inline]
 fn put_more(out: &mut String, count: usize) -> Result<(), AllocError> {
@@ -261,36 +256,29 @@ fn put_more(out: &mut String, count: usize) -> Result<(), AllocError> {
     Ok(())
 }
 
-/// Returns the format string for an argument and so many others, with the comma after it. Returns
-/// `Err` if an allocation fails.
+/// Returns the format string for an argument and so many others, with the comma after it.
 // ensures { IfOk result (λ s. string_bytes s ≡ literal_for others) }
 #[inline]
-fn literal_for(alloc: Global, others: usize) -> Result<String, AllocError> {
-    let mut text = String::made_from(alloc, "\"{}")?;
+fn literal_for(others: usize) -> Result<String, AllocError> {
+    let mut text = String::made_from("\"{}")?;
     put_more(&mut text, others)?;
     text.try_push_str("\", ")?;
     Ok(text)
 }
 
-/// Returns the help, or `None` if there is none that is no label. Returns `Err` if an allocation
-/// fails.
+/// Returns the help, or `None` if there is none that is no label.
 // ensures outcome { IfOk result (λ o. TellsHelp (form_help (seen_form form.entry)) o) }
 // ensures spans { IfOk result (λ o. IfSome o (λ h. All (λ e. IsSpan text.now e.range)
 //     h.edits.items)) }
 #[inline]
-fn form_help(
-    alloc: Global,
-    text: &str,
-    span: &Range<usize>,
-    form: Form<'_>,
-) -> Result<Option<Help>, AllocError> {
+fn form_help(text: &str, span: &Range<usize>, form: Form<'_>) -> Result<Option<Help>, AllocError> {
     let Some(others) = lacks_literal(form) else {
         return Ok(None);
     };
     let says = "you might be missing a string literal to format with";
-    let words = String::made_from(alloc, says)?;
-    let literal = literal_for(alloc, others)?;
-    let mut edits = Vec::made_in(alloc);
+    let words = String::made_from(says)?;
+    let literal = literal_for(others)?;
+    let mut edits = Vec::new();
     edits.try_push(Edit {
         range: range_in(text, span.start, span.start),
         text: literal,
@@ -298,35 +286,28 @@ fn form_help(
     Ok(Some(Help { text: words, edits }))
 }
 
-/// Returns the finding of what is wrong with the arguments of a call. Returns `Err` if an
-/// allocation fails.
+/// Returns the finding of what is wrong with the arguments of a call.
 // requires { IsSpan text.now span }
 // ensures outcome { IfOk result (λ x. TellsForm (seen_form form.entry) x) }
 // ensures spans { IfOk result (λ x. HasSpans text.now x) }
 #[inline]
-fn form_finding(
-    alloc: Global,
-    text: &str,
-    span: Range<usize>,
-    form: Form<'_>,
-) -> Result<Finding, AllocError> {
-    let mut title = String::made_in(alloc);
+fn form_finding(text: &str, span: Range<usize>, form: Form<'_>) -> Result<Finding, AllocError> {
+    let mut title = String::new();
     put_title(&mut title, form)?;
-    let labels = form_labels(alloc, text, &span, form)?;
-    let help = form_help(alloc, text, &span, form)?;
+    let labels = form_labels(text, &span, form)?;
+    let help = form_help(text, &span, form)?;
     Ok(Finding {
         is_warning: false,
         id: form_id(form),
         title,
         span,
         labels,
-        notes: Vec::made_in(alloc),
+        notes: Vec::new(),
         help,
     })
 }
 
-/// Adds the finding of what is wrong with the arguments of a call, if anything is. Returns `Err` if
-/// an allocation fails.
+/// Adds the finding of what is wrong with the arguments of a call, if anything is.
 // ensures outcome { OnOk result ((xs : List FindingValue)
 //     × (findings.new.items ≡ findings.old.items ++ xs)
 //     × TellsForms (option_map seen_form form.entry) xs) }
@@ -343,7 +324,7 @@ pub fn put_form(
 ) -> Result<(), AllocError> {
     if let Some(form) = form {
         let span = form_range(text, tokens, call, arguments, form);
-        findings.try_push(form_finding(*findings.own_allocator(), text, span, form)?)?;
+        findings.try_push(form_finding(text, span, form)?)?;
     }
     Ok(())
 }

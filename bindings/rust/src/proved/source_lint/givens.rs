@@ -9,7 +9,7 @@ use crate::proved::call_faults::FormatArgument;
 use crate::proved::format_calls::{token_at, Argument};
 use crate::proved::rust_tokens::Kind;
 use crate::proved::rust_trees::Token;
-use crate::shim::alloc::{AllocError, Global};
+use crate::shim::alloc::AllocError;
 use crate::shim::prelude::*;
 
 /// Returns whether a word is an expression by itself, and no variable.
@@ -65,16 +65,15 @@ fn given<'a>(tokens: &[Token<'a>], argument: &Argument) -> FormatArgument<'a> {
     }
 }
 
-/// Returns arguments as placeholders refer to them. Returns `Err` if an allocation fails.
+/// Returns arguments as placeholders refer to them.
 // ensures { IfOk result (λ v. map seen_given v.items
 //     ≡ map (given (map leaf tokens.now)) arguments.now) }
 #[inline]
 pub fn givens<'a>(
-    alloc: Global,
     tokens: &[Token<'a>],
     arguments: &[Argument],
 ) -> Result<Vec<FormatArgument<'a>>, AllocError> {
-    let mut found = Vec::made_in(alloc);
+    let mut found = Vec::new();
     for argument in arguments {
         found.try_push(given(tokens, argument))?;
     }

@@ -10,7 +10,7 @@ use crate::proved::rust_trees::{Balance, Source, Tokens};
 use crate::proved::source_lint::macros::{macro_names, File};
 use crate::proved::source_lint::readings::read_call;
 use crate::proved::source_report::{CallReading, Finding, Options, Report};
-use crate::shim::alloc::{AllocError, Global};
+use crate::shim::alloc::AllocError;
 use crate::shim::prelude::*;
 
 /// The readings of the calls of a file so far, and the findings in these calls.
@@ -22,7 +22,7 @@ pub struct Readings {
 }
 
 /// Reads calls of a part of a file, one after the other, and adds how much of each is read and its
-/// findings. Returns `Err` if an allocation fails.
+/// findings.
 // requires { (c : CallValue) → Contains calls.now c → IsPair part.now (c.name + 2) c.close }
 // ensures read { OnOk result ((rs : List ReadingValue) × (xs : List FindingValue)
 //     × (found.new.calls.items ≡ found.old.calls.items ++ rs)
@@ -33,7 +33,6 @@ pub struct Readings {
 //     → All (HasSpans file.entry.text.now) found.new.findings.items) }
 #[inline]
 pub fn read_calls<'a>(
-    alloc: Global,
     found: &mut Readings,
     file: File<'_, 'a>,
     part: &Part<'a>,
@@ -41,15 +40,14 @@ pub fn read_calls<'a>(
 ) -> Result<(), AllocError> {
     let mut rest = calls;
     while let Some((call, others)) = rest.split_first() {
-        let reading = read_call(alloc, &mut found.findings, file, part, call)?;
+        let reading = read_call(&mut found.findings, file, part, call)?;
         found.calls.try_push(reading)?;
         rest = others;
     }
     Ok(())
 }
 
-/// Reads the calls of a file, part by part, and adds all its tokens to `balance`. Returns `Err` if
-/// an allocation fails.
+/// Reads the calls of a file, part by part, and adds all its tokens to `balance`.
 // ensures read { IfOk result (λ f. (ls : List Leaf) × AreLeaves file.entry.text.now ls
 //     × ReadsCalls (map entry table.now.rows.items) (scope file.entry) file.entry.is_from_2021
 //     ls f.calls.items f.findings.items
@@ -58,47 +56,40 @@ pub fn read_calls<'a>(
 //     f.findings.items) }
 #[inline]
 fn read_file(
-    alloc: Global,
     file: File<'_, '_>,
     table: &Table<'_>,
     balance: &mut Balance,
 ) -> Result<Readings, AllocError> {
     let mut found = Readings {
-        calls: Vec::made_in(alloc),
-        findings: Vec::made_in(alloc),
+        calls: Vec::new(),
+        findings: Vec::new(),
     };
     let mut rest = Tokens::new(file.text);
-    while let Some(source) = next_part(alloc, &mut rest, table, balance)? {
-        let part = Part::new(alloc, source)?;
-        let calls = calls(alloc, part.source(), table)?;
-        read_calls(alloc, &mut found, file, &part, &calls)?;
+    while let Some(source) = next_part(&mut rest, table, balance)? {
+        let part = Part::new(source)?;
+        let calls = calls(part.source(), table)?;
+        read_calls(&mut found, file, &part, &calls)?;
     }
     Ok(found)
 }
 
-/// Adds the findings in the texts of the attributes of a file. Returns `Err` if an allocation
-/// fails.
+/// Adds the findings in the texts of the attributes of a file.
 // ensures read { OnOk result ((ls : List Leaf) → AreLeaves text.now ls → (xs : List FindingValue)
 //     × (findings.new.items ≡ findings.old.items ++ xs) × ReadsAttributes text.now ls xs) }
 // ensures spans { OnOk result (All (HasSpans text.now) findings.old.items
 //     → All (HasSpans text.now) findings.new.items) }
 #[inline]
-fn put_attributes(
-    alloc: Global,
-    findings: &mut Vec<Finding>,
-    text: &str,
-) -> Result<(), AllocError> {
+fn put_attributes(findings: &mut Vec<Finding>, text: &str) -> Result<(), AllocError> {
     if !text.contains("on_unimplemented") {
         return Ok(());
     }
-    let source = Source::new(alloc, text)?;
-    read_attributes(alloc, findings, text, &source)?;
+    let source = Source::new(text)?;
+    read_attributes(findings, text, &source)?;
     Ok(())
 }
 
 /// Returns the report on a file whose calls have these readings, and whose tokens were all added to
-/// `balance`: the findings in its attributes follow those in its calls. Returns `Err` if an
-/// allocation fails.
+/// `balance`: the findings in its attributes follow those in its calls.
 // ensures report { IfOk result (λ r. (es : List Entry) (is_new : Bool) (ls : List Leaf)
 //     → AreLeaves text.now ls
 //     → ReadsCalls es (record { text = text.now; defined = macro_names ls }) is_new ls
@@ -107,14 +98,9 @@ fn put_attributes(
 // ensures spans { IfOk result (λ r. All (HasSpans text.now) readings.findings.items
 //     → All (HasSpans text.now) r.findings.items) }
 #[inline]
-pub fn report_on(
-    alloc: Global,
-    text: &str,
-    readings: Readings,
-    balance: Balance,
-) -> Result<Report, AllocError> {
+pub fn report_on(text: &str, readings: Readings, balance: Balance) -> Result<Report, AllocError> {
     let mut found = readings;
-    put_attributes(alloc, &mut found.findings, text)?;
+    put_attributes(&mut found.findings, text)?;
     Ok(Report {
         calls: found.calls,
         findings: found.findings,
@@ -124,21 +110,20 @@ pub fn report_on(
 
 /// Reads a source file, and returns the faults of its calls of macros that take a format string or
 /// templates of assembly, and then those of the texts of its attributes.
-/// Lines may end with LF or CRLF, and a byte order mark may stand at the start. Returns `Err` if an
-/// allocation fails.
+/// Lines may end with LF or CRLF, and a byte order mark may stand at the start.
 // ensures report { IfOk result (λ r. IsReport (map entry options.now.table.rows.items)
 //     options.now.is_from_2021 text.now r) }
 // ensures spans { IfOk result (λ r. All (HasSpans text.now) r.findings.items) }
 #[inline]
-pub fn file_faults(alloc: Global, text: &str, options: &Options<'_>) -> Result<Report, AllocError> {
-    let names = macro_names(alloc, text)?;
+pub fn file_faults(text: &str, options: &Options<'_>) -> Result<Report, AllocError> {
+    let names = macro_names(text)?;
     let file = File {
         text,
         macros: &names,
         is_from_2021: options.is_from_2021,
     };
-    let mut balance = Balance::new(alloc);
-    let found = read_file(alloc, file, &options.table, &mut balance)?;
-    let report = report_on(alloc, text, found, balance)?;
+    let mut balance = Balance::new();
+    let found = read_file(file, &options.table, &mut balance)?;
+    let report = report_on(text, found, balance)?;
     Ok(report)
 }

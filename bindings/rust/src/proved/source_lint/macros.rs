@@ -9,7 +9,7 @@ use crate::proved::format_calls::{is_mark_of, is_of_crates, is_word, token_at, w
 use crate::proved::rust_tokens::Kind;
 use crate::proved::rust_trees::{Token, Tokens};
 use crate::proved::source_report::CallReading;
-use crate::shim::alloc::{AllocError, Global};
+use crate::shim::alloc::AllocError;
 use crate::shim::prelude::*;
 use alloc::collections::BTreeSet;
 
@@ -41,8 +41,7 @@ fn begins_definition(word: Option<Token<'_>>, mark: Option<Token<'_>>) -> bool {
     }
 }
 
-/// Adds the name of the macro that a token defines after two others, if it does. Returns `Err` if
-/// an allocation fails.
+/// Adds the name of the macro that a token defines after two others, if it does.
 // ensures { OnOk result ((n : List ℕ) → list_any (bytes_eq n) (names_in found.new)
 //     ≡ (list_any (bytes_eq n) (names_in found.old) || list_any (bytes_eq n)
 //     (definition (option_map leaf before.entry) (option_map leaf last.entry)
@@ -60,14 +59,13 @@ fn put_definition<'a>(
     Ok(())
 }
 
-/// Returns the names of the macros that a file defines by `macro_rules!`, without `r#`. Returns
-/// `Err` if an allocation fails.
+/// Returns the names of the macros that a file defines by `macro_rules!`, without `r#`.
 // ensures { IfOk result (λ s. (ls : List Leaf) × AreLeaves text.now ls
 //     × ((n : List ℕ) → list_any (bytes_eq n) (names_in s)
 //     ≡ list_any (bytes_eq n) (macro_names ls))) }
 #[inline]
-pub fn macro_names<'a>(alloc: Global, text: &'a str) -> Result<BTreeSet<&'a [u8]>, AllocError> {
-    let mut found = BTreeSet::made_in(alloc);
+pub fn macro_names<'a>(text: &'a str) -> Result<BTreeSet<&'a [u8]>, AllocError> {
+    let mut found = BTreeSet::new();
     if !text.contains("macro_rules") {
         return Ok(found);
     }

@@ -18,29 +18,26 @@ use crate::proved::source_lint::form_words::put_form;
 use crate::proved::source_lint::givens::givens;
 use crate::proved::source_lint::macros::{name_at, other_macro, File};
 use crate::proved::source_report::{CallReading, Finding};
-use crate::shim::alloc::{AllocError, Global};
+use crate::shim::alloc::AllocError;
 use crate::shim::prelude::*;
 
 /// Returns arguments as placeholders refer to them, or none if their number is not known.
-/// Returns `Err` if an allocation fails.
 // ensures { IfOk result (λ v. map seen_given v.items
 //     ≡ counted_givens is_counted (map (given (map leaf tokens.now)) arguments.now)) }
 #[inline]
 fn counted_givens<'a>(
-    alloc: Global,
     tokens: &[Token<'a>],
     arguments: &[Argument],
     is_counted: bool,
 ) -> Result<Vec<FormatArgument<'a>>, AllocError> {
     if !is_counted {
-        return Ok(Vec::made_in(alloc));
+        return Ok(Vec::new());
     }
-    let found = givens(alloc, tokens, arguments)?;
+    let found = givens(tokens, arguments)?;
     Ok(found)
 }
 
-/// Checks a call with this format string and these arguments, and adds its findings. Returns `Err`
-/// if an allocation fails.
+/// Checks a call with this format string and these arguments, and adds its findings.
 // requires { hashes string.style + length string.text.now + 2 < 2 ^ 64 }
 // ensures outcome { OnOk result (let s = start string.entry in (xs : List FindingValue)
 //     × (findings.new.items ≡ findings.old.items ++ xs)
@@ -49,20 +46,19 @@ fn counted_givens<'a>(
 //     → All (HasSpans site.entry.text.now) findings.new.items) }
 #[inline]
 fn check_string<'c>(
-    alloc: Global,
     findings: &mut Vec<Finding>,
     site: Site<'_, '_>,
     string: FormatString<'c>,
     given: &'c [FormatArgument<'c>],
     is_counted: bool,
 ) -> Result<(), AllocError> {
-    let checked = call_faults(alloc, string, given)?;
-    put_findings(alloc, findings, site, &checked, is_counted)?;
+    let checked = call_faults(string, given)?;
+    put_findings(findings, site, &checked, is_counted)?;
     Ok(())
 }
 
 /// Reads the format string of a call, which is the literal of the site, with the arguments after
-/// it, and adds the findings. Returns `Err` if an allocation fails.
+/// it, and adds the findings.
 // ensures read { IfOk result (λ r. (xs : List FindingValue)
 //     × (findings.new.items ≡ findings.old.items ++ xs)
 //     × ReadsLiteral (without_crs (chars site.entry.literal.text.now)) appended_newline captures
@@ -71,17 +67,16 @@ fn check_string<'c>(
 //     → All (HasSpans site.entry.text.now) findings.new.items) }
 #[inline]
 fn read_string(
-    alloc: Global,
     findings: &mut Vec<Finding>,
     site: Site<'_, '_>,
     appended_newline: bool,
     captures: bool,
     is_counted: bool,
 ) -> Result<CallReading, AllocError> {
-    let Some(literal) = read_literal(alloc, site.literal.text, appended_newline)? else {
+    let Some(literal) = read_literal(site.literal.text, appended_newline)? else {
         return Ok(CallReading::Malformed);
     };
-    let given = counted_givens(alloc, site.tokens, site.arguments, is_counted)?;
+    let given = counted_givens(site.tokens, site.arguments, is_counted)?;
     let text = literal.text.as_str();
     let snippet = literal.snippet.as_str();
     let list = given.as_slice();
@@ -92,7 +87,7 @@ fn read_string(
         appended_newline,
         captures,
     };
-    check_string(alloc, findings, site, string, list, is_counted)?;
+    check_string(findings, site, string, list, is_counted)?;
     Ok(reading_of(is_counted))
 }
 
@@ -127,15 +122,10 @@ pub fn ends_early(rule: Rule) -> bool {
 }
 
 /// Returns the arguments that start before a token, of which the last ends there at the latest.
-/// Returns `Err` if an allocation fails.
 // ensures { IfOk result (λ v. v.items ≡ arguments_before end arguments.now) }
 #[inline]
-pub fn arguments_before(
-    alloc: Global,
-    arguments: &[Argument],
-    end: usize,
-) -> Result<Vec<Argument>, AllocError> {
-    let mut found = Vec::made_in(alloc);
+pub fn arguments_before(arguments: &[Argument], end: usize) -> Result<Vec<Argument>, AllocError> {
+    let mut found = Vec::new();
     for argument in arguments {
         if argument.start >= end {
             return Ok(found);
@@ -150,7 +140,7 @@ pub fn arguments_before(
 }
 
 /// Reads a call with this literal as its format string and these arguments after it, and adds its
-/// findings. Returns `Err` if an allocation fails.
+/// findings.
 // ensures read { IfOk result (λ r. (xs : List FindingValue)
 //     × (findings.new.items ≡ findings.old.items ++ xs)
 //     × ReadsLiteral (without_crs (chars literal.entry.text.now))
@@ -161,7 +151,6 @@ pub fn arguments_before(
 //     → All (HasSpans file.entry.text.now) findings.new.items) }
 #[inline]
 fn read_with(
-    alloc: Global,
     findings: &mut Vec<Finding>,
     file: File<'_, '_>,
     part: &Part<'_>,
@@ -171,7 +160,7 @@ fn read_with(
     is_counted: bool,
 ) -> Result<CallReading, AllocError> {
     let tokens = part.tokens();
-    let crs = dropped_crs(alloc, literal.text)?;
+    let crs = dropped_crs(literal.text)?;
     let site = Site {
         text: file.text,
         tokens,
@@ -184,19 +173,11 @@ fn read_with(
     let name = name_at(tokens, call.name);
     let appended_newline = appends_newline(name);
     let captures = captures(call.rule, name, file.is_from_2021);
-    let reading = read_string(
-        alloc,
-        findings,
-        site,
-        appended_newline,
-        captures,
-        is_counted,
-    )?;
+    let reading = read_string(findings, site, appended_newline, captures, is_counted)?;
     Ok(reading)
 }
 
 /// Reads a call whose format string begins the argument of this index, and adds its findings.
-/// Returns `Err` if an allocation fails.
 // requires pair { IsPair part.now (call.now.name + 2) call.now.close }
 // requires split { AreArguments part.now (call.now.name + 3) arguments.now call.now.close }
 // requires literal { (a : ArgumentValue) × (slice_get arguments.now index ≡ Some a)
@@ -208,7 +189,6 @@ fn read_with(
 //     → All (HasSpans file.entry.text.now) findings.new.items) }
 #[inline]
 fn read_at(
-    alloc: Global,
     findings: &mut Vec<Finding>,
     file: File<'_, '_>,
     part: &Part<'_>,
@@ -232,16 +212,16 @@ fn read_at(
     let counted = extent.is_counted;
     let others = &arguments[index + 1..];
     if extent.end == call.close {
-        let reading = read_with(alloc, findings, file, part, call, literal, others, counted)?;
+        let reading = read_with(findings, file, part, call, literal, others, counted)?;
         return Ok(reading);
     }
-    let before = arguments_before(alloc, others, extent.end)?;
-    let reading = read_with(alloc, findings, file, part, call, literal, &before, counted)?;
+    let before = arguments_before(others, extent.end)?;
+    let reading = read_with(findings, file, part, call, literal, &before, counted)?;
     Ok(reading)
 }
 
 /// Reads a call whose format string is the argument of this index, or whose templates begin with
-/// it, and adds its findings. Returns `Err` if an allocation fails.
+/// it, and adds its findings.
 // requires pair { IsPair part.now (call.now.name + 2) call.now.close }
 // requires split { AreArguments part.now (call.now.name + 3) arguments.now call.now.close }
 // requires literal { (a : ArgumentValue) × (slice_get arguments.now index ≡ Some a)
@@ -254,7 +234,6 @@ fn read_at(
 //     → All (HasSpans file.entry.text.now) findings.new.items) }
 #[inline]
 fn read_one<'a>(
-    alloc: Global,
     findings: &mut Vec<Finding>,
     file: File<'_, 'a>,
     part: &Part<'a>,
@@ -264,11 +243,11 @@ fn read_one<'a>(
 ) -> Result<CallReading, AllocError> {
     match call.rule {
         Rule::Templates => {
-            let reading = read_asm(alloc, findings, file.text, part, call, arguments)?;
+            let reading = read_asm(findings, file.text, part, call, arguments)?;
             Ok(reading)
         }
         Rule::At(_) | Rule::IndexByEdition(_) | Rule::FirstLiteral => {
-            let reading = read_at(alloc, findings, file, part, call, arguments, index)?;
+            let reading = read_at(findings, file, part, call, arguments, index)?;
             Ok(reading)
         }
     }
@@ -353,7 +332,7 @@ pub fn index_or(
     }
 }
 
-/// Reads a call, and adds its findings. Returns `Err` if an allocation fails.
+/// Reads a call, and adds its findings.
 // requires { IsPair part.now (call.now.name + 2) call.now.close }
 // ensures read { IfOk result (λ r. (xs : List FindingValue)
 //     × (findings.new.items ≡ findings.old.items ++ xs)
@@ -362,7 +341,6 @@ pub fn index_or(
 //     → All (HasSpans file.entry.text.now) findings.new.items) }
 #[inline]
 pub fn read_call<'a>(
-    alloc: Global,
     findings: &mut Vec<Finding>,
     file: File<'_, 'a>,
     part: &Part<'a>,
@@ -373,13 +351,13 @@ pub fn read_call<'a>(
         return Ok(reading);
     }
     let name = name_at(tokens, call.name);
-    let Some(arguments) = arguments(alloc, part.source(), call.close)? else {
+    let Some(arguments) = arguments(part.source(), call.close)? else {
         return Ok(CallReading::Whole);
     };
     let list = arguments.as_slice();
     match index_or(file, part, call, list) {
         Ok(index) => {
-            let reading = read_one(alloc, findings, file, part, call, list, index)?;
+            let reading = read_one(findings, file, part, call, list, index)?;
             Ok(reading)
         }
         Err(reading) => {

@@ -7,7 +7,7 @@
 use crate::proved::fault_fixes::Edit;
 use crate::proved::source_report::report::Finding;
 use crate::proved::source_report::suggestions::{are_after, edits_of};
-use crate::shim::alloc::{AllocError, Global};
+use crate::shim::alloc::AllocError;
 use crate::shim::prelude::*;
 
 /// A text in the middle of its edits.
@@ -36,7 +36,7 @@ fn rest_after(bytes: &[u8], n: usize) -> &[u8] {
     bytes.get(n..).unwrap_or(&[])
 }
 
-/// Makes an edit. Returns `Err` if an allocation fails.
+/// Makes an edit.
 // ensures edit { OnOk result ((es : List EditValue) → with_edits edited.new es
 //     ≡ with_edits edited.old (seen_edit edit.now ∷ es)) }
 // ensures end { OnOk result (edited.new.end ≡ edit.now.span.end) }
@@ -51,7 +51,7 @@ fn make(edited: &mut Edited<'_>, edit: &Edit<'_>) -> Result<(), AllocError> {
     Ok(())
 }
 
-/// Makes edits, the first one first. Returns `Err` if an allocation fails.
+/// Makes edits, the first one first.
 // ensures edits { OnOk result ((es : List EditValue) → with_edits edited.new es
 //     ≡ with_edits edited.old (map seen_edit edits.now ++ es)) }
 // ensures end { OnOk result (edited.new.end
@@ -65,15 +65,14 @@ fn make_each(edited: &mut Edited<'_>, edits: &[Edit<'_>]) -> Result<(), AllocErr
     Ok(())
 }
 
-/// Mends a fault, if it has edits, and these follow the last one. Returns `Err` if an allocation
-/// fails.
+/// Mends a fault, if it has edits, and these follow the last one.
 // ensures text { OnOk result ((xs : List FindingValue) → with_faults edited.new xs
 //     ≡ with_faults edited.old (finding.now ∷ xs)) }
 // ensures ids { OnOk result ((xs : List FindingValue) → with_ids edited.new xs
 //     ≡ with_ids edited.old (finding.now ∷ xs)) }
 #[inline]
-fn mend(alloc: Global, edited: &mut Edited<'_>, finding: &Finding) -> Result<(), AllocError> {
-    let edits = edits_of(alloc, finding)?;
+fn mend(edited: &mut Edited<'_>, finding: &Finding) -> Result<(), AllocError> {
+    let edits = edits_of(finding)?;
     if !edits.is_empty() && are_after(edited.end, edits.as_slice()) {
         make_each(edited, edits.as_slice())?;
         edited.ids.try_push(finding.id)?;
@@ -81,26 +80,21 @@ fn mend(alloc: Global, edited: &mut Edited<'_>, finding: &Finding) -> Result<(),
     Ok(())
 }
 
-/// Mends the faults of a text that can be mended in one round. Returns `Err` if an allocation
-/// fails.
+/// Mends the faults of a text that can be mended in one round.
 // ensures text { IfOk result (λ x. x.bytes.items
 //     ≡ applied 0 (all_edits (mended 0 findings.now)) text.now) }
 // ensures ids { IfOk result (λ x. map (λ w. w.now) x.ids.items
 //     ≡ map (λ f. f.id.now) (mended 0 findings.now)) }
 #[inline]
-pub fn mend_each<'t>(
-    alloc: Global,
-    text: &'t str,
-    findings: &[Finding],
-) -> Result<Edited<'t>, AllocError> {
+pub fn mend_each<'t>(text: &'t str, findings: &[Finding]) -> Result<Edited<'t>, AllocError> {
     let mut edited = Edited {
-        bytes: Vec::made_in(alloc),
+        bytes: Vec::new(),
         rest: text.as_bytes(),
         end: 0,
-        ids: Vec::made_in(alloc),
+        ids: Vec::new(),
     };
     for finding in findings {
-        mend(alloc, &mut edited, finding)?;
+        mend(&mut edited, finding)?;
     }
     let rest = edited.rest;
     edited.bytes.try_extend_from_slice(rest)?;

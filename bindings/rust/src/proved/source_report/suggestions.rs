@@ -6,7 +6,7 @@
 
 use crate::proved::fault_fixes::Edit;
 use crate::proved::source_report::report::{Finding, Help, Label};
-use crate::shim::alloc::{AllocError, Global};
+use crate::shim::alloc::AllocError;
 use crate::shim::prelude::*;
 
 /// A suggestion that is drawn as a label.
@@ -74,7 +74,7 @@ pub fn is_applicable(id: &str) -> bool {
         || id == "tuple-index"
 }
 
-/// Adds the edits of labels. Returns `Err` if an allocation fails.
+/// Adds the edits of labels.
 // ensures { OnOk result (map seen_edit edits.new.items
 //     ≡ map seen_edit edits.old.items ++ filter_map label_edit labels.now) }
 #[inline]
@@ -90,7 +90,7 @@ fn add_label_edits<'f>(edits: &mut Vec<Edit<'f>>, labels: &'f [Label]) -> Result
     Ok(())
 }
 
-/// Adds the edits of a help. Returns `Err` if an allocation fails.
+/// Adds the edits of a help.
 // ensures { OnOk result (map seen_edit edits.new.items
 //     ≡ map seen_edit edits.old.items ++ help_edits help.now) }
 #[inline]
@@ -107,12 +107,11 @@ fn add_help_edits<'f>(edits: &mut Vec<Edit<'f>>, help: &'f Option<Help>) -> Resu
     Ok(())
 }
 
-/// Returns the edits that mend a fault, or none if it has no suggestion to apply. Returns `Err` if
-/// an allocation fails.
+/// Returns the edits that mend a fault, or none if it has no suggestion to apply.
 // ensures { IfOk result (λ v. map seen_edit v.items ≡ edits_of finding.now) }
 #[inline]
-pub fn edits_of<'f>(alloc: Global, finding: &'f Finding) -> Result<Vec<Edit<'f>>, AllocError> {
-    let mut edits = Vec::made_in(alloc);
+pub fn edits_of<'f>(finding: &'f Finding) -> Result<Vec<Edit<'f>>, AllocError> {
+    let mut edits = Vec::new();
     if is_applicable(finding.id) {
         add_label_edits(&mut edits, finding.labels.as_slice())?;
         add_help_edits(&mut edits, &finding.help)?;

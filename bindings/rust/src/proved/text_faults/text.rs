@@ -5,7 +5,7 @@
 // by results from outside, and beside what is proved (.ci/bindings) and the original (tools/agree).
 
 use crate::proved::rustc_parse_format::{Argument, Fault};
-use crate::shim::alloc::{AllocError, Global};
+use crate::shim::alloc::AllocError;
 use crate::shim::parser::Parser;
 use crate::shim::prelude::*;
 
@@ -34,14 +34,13 @@ fn shown(faults: Vec<Fault<'_>>) -> Option<Fault<'_>> {
     shown
 }
 
-/// Returns the faults of the first call of a parser that finds any. Returns `Err` if an allocation
-/// fails.
+/// Returns the faults of the first call of a parser that finds any.
 // ensures { IfOk result (λ v. map seen_fault v.items
 //     ≡ faults_in parser.old.world (first_faults (calls parser.old))) }
 #[inline]
-fn first_faults<'a>(alloc: Global, parser: &mut Parser<'a>) -> Result<Vec<Fault<'a>>, AllocError> {
+fn first_faults<'a>(parser: &mut Parser<'a>) -> Result<Vec<Fault<'a>>, AllocError> {
     let mut argument = Argument::default();
-    let mut faults = Vec::made_in(alloc);
+    let mut faults = Vec::new();
     while faults.is_empty() && !parser.is_at_end() {
         parser.next_with_faults(&mut argument, &mut faults)?;
     }
@@ -53,10 +52,7 @@ fn first_faults<'a>(alloc: Global, parser: &mut Parser<'a>) -> Result<Vec<Fault<
 /// calls. Returns `Err` if an allocation fails, and the parser may then be after some of them.
 // ensures { IfOk result (λ o. option_map seen_fault o ≡ text_fault parser.old) }
 #[inline]
-pub fn text_fault<'a>(
-    alloc: Global,
-    parser: &mut Parser<'a>,
-) -> Result<Option<Fault<'a>>, AllocError> {
-    let faults = first_faults(alloc, parser)?;
+pub fn text_fault<'a>(parser: &mut Parser<'a>) -> Result<Option<Fault<'a>>, AllocError> {
+    let faults = first_faults(parser)?;
     Ok(shown(faults))
 }

@@ -74,7 +74,7 @@ fn hunk_len(rows: &[Row<'_>]) -> usize {
     changed.saturating_add(CONTEXT)
 }
 
-/// Appends a number in decimal digits. Returns `Err` if an allocation fails.
+/// Appends a number in decimal digits.
 // ensures { OnOk result (string_bytes out.new ≡ string_bytes out.old ++ decimal number) }
 #[inline]
 fn put_number(out: &mut String, number: usize) -> Result<(), AllocError> {
@@ -82,8 +82,7 @@ fn put_number(out: &mut String, number: usize) -> Result<(), AllocError> {
 }
 
 /// Appends where the lines of a hunk are in a text: the number of the first line, and how many
-/// there are. Without a line the number is that of the line before. Returns `Err` if an allocation
-/// fails.
+/// there are. Without a line the number is that of the line before.
 // requires { before + count < 2 ^ 64 }
 // ensures { OnOk result (string_bytes out.new ≡ string_bytes out.old ++ extent before count) }
 #[inline]
@@ -105,8 +104,7 @@ fn sign(side: Side) -> &'static str {
     }
 }
 
-/// Appends what follows a line without an LF, and nothing after one with it. Returns `Err` if an
-/// allocation fails.
+/// Appends what follows a line without an LF, and nothing after one with it.
 // ensures { OnOk result (string_bytes out.new ≡ string_bytes out.old ++ line_end line.now) }
 #[inline]
 fn put_line_end(out: &mut String, line: &str) -> Result<(), AllocError> {
@@ -116,7 +114,7 @@ fn put_line_end(out: &mut String, line: &str) -> Result<(), AllocError> {
     out.try_push_str("\n\\ No newline at end of file\n")
 }
 
-/// Appends a row. Returns `Err` if an allocation fails.
+/// Appends a row.
 // ensures { OnOk result (string_bytes out.new ≡ string_bytes out.old ++ row_text row.now) }
 #[inline]
 fn put_row(out: &mut String, row: &Row<'_>) -> Result<(), AllocError> {
@@ -125,7 +123,7 @@ fn put_row(out: &mut String, row: &Row<'_>) -> Result<(), AllocError> {
     put_line_end(out, row.line)
 }
 
-/// Appends rows. Returns `Err` if an allocation fails.
+/// Appends rows.
 // ensures { OnOk result (string_bytes out.new ≡ string_bytes out.old ++ rows_text rows.now) }
 #[inline]
 fn put_rows(out: &mut String, rows: &[Row<'_>]) -> Result<(), AllocError> {
@@ -135,8 +133,7 @@ fn put_rows(out: &mut String, rows: &[Row<'_>]) -> Result<(), AllocError> {
     Ok(())
 }
 
-/// Appends a hunk of rows, with these numbers of lines before it. Returns `Err` if an allocation
-/// fails.
+/// Appends a hunk of rows, with these numbers of lines before it.
 // requires old { before.old + old_count rows.now < 2 ^ 64 }
 // requires new { before.new + new_count rows.now < 2 ^ 64 }
 // ensures { OnOk result (string_bytes out.new
@@ -166,7 +163,7 @@ fn after(before: Numbers, rows: &[Row<'_>]) -> Numbers {
     }
 }
 
-/// Appends all hunks of rows. Returns `Err` if an allocation fails.
+/// Appends all hunks of rows.
 // ensures { OnOk result ((t : List ℕ) × (string_bytes out.new ≡ string_bytes out.old ++ t)
 //     × AreHunks rows.now t) }
 #[inline]
@@ -197,7 +194,7 @@ fn wants_quotes(path: &str) -> bool {
     false
 }
 
-/// Appends a character of a path in quotes. Returns `Err` if an allocation fails.
+/// Appends a character of a path in quotes.
 #[inline]
 fn put_quoted(out: &mut String, c: char) -> Result<(), AllocError> {
     if c == '"' || c == '\\' {
@@ -217,7 +214,7 @@ fn put_quoted(out: &mut String, c: char) -> Result<(), AllocError> {
 }
 
 /// Appends a path, in quotes with escapes of C if it has a quote, a backslash or a control
-/// character, and with a tab after it if it has a space. Returns `Err` if an allocation fails.
+/// character, and with a tab after it if it has a space.
 #[inline]
 fn put_path(out: &mut String, path: &str) -> Result<(), AllocError> {
     if !wants_quotes(path) {
@@ -234,13 +231,12 @@ fn put_path(out: &mut String, path: &str) -> Result<(), AllocError> {
     out.try_push('"')
 }
 
-/// Appends the first two lines of a diff of the file with this path. Returns `Err` if an allocation
-/// fails.
+/// Appends the first two lines of a diff of the file with this path.
 // ensures { OnOk result ((p : List ℕ)
 //     × (string_bytes out.new ≡ string_bytes out.old ++ head p)) }
 #[inline]
 fn put_head(out: &mut String, path: &str) -> Result<(), AllocError> {
-    let mut name = String::made_in(*out.own_allocator());
+    let mut name = String::new();
     put_path(&mut name, path)?;
     out.try_push_str("--- ")?;
     out.try_push_str(name.as_str())?;
@@ -266,7 +262,7 @@ pub fn put_diff(out: &mut String, path: &str, old: &str, new: &str) -> Result<()
     if old == new {
         return Ok(());
     }
-    let rows = rows_of(*out.own_allocator(), old, new)?;
+    let rows = rows_of(old, new)?;
     put_head(out, path)?;
     put_hunks(out, rows.as_slice())?;
     Ok(())

@@ -4,7 +4,7 @@
 // That source is proved, and each contract here is its. That this text means the same is tested:
 // by results from outside, and beside what is proved (.ci/bindings) and the original (tools/agree).
 
-use crate::shim::alloc::{AllocError, Global};
+use crate::shim::alloc::AllocError;
 use crate::shim::prelude::*;
 
 /// The most lines of a text in which a line that both have is looked for.
@@ -30,12 +30,11 @@ pub struct Row<'a> {
     pub line: &'a str,
 }
 
-/// Returns the lines of a text, each with its LF; the last one may have none. Returns `Err` if an
-/// allocation fails.
+/// Returns the lines of a text, each with its LF; the last one may have none.
 // ensures { IfOk result (λ v. joined v.items ≡ text.now) }
 #[inline]
-fn lines_of<'a>(alloc: Global, text: &'a str) -> Result<Vec<&'a str>, AllocError> {
-    let mut lines = Vec::made_in(alloc);
+fn lines_of<'a>(text: &'a str) -> Result<Vec<&'a str>, AllocError> {
+    let mut lines = Vec::new();
     for line in text.split_inclusive('\n') {
         lines.try_push(line)?;
     }
@@ -100,7 +99,7 @@ fn next_common(old: &[&str], new: &[&str]) -> Option<Pair> {
     None
 }
 
-/// Appends a line that is on this side. Returns `Err` if an allocation fails.
+/// Appends a line that is on this side.
 // ensures old { OnOk result (old_text rows.new.items
 //     ≡ old_text rows.old.items ++ in_old side line.now) }
 // ensures new { OnOk result (new_text rows.new.items
@@ -111,7 +110,7 @@ fn push_line<'a>(rows: &mut Vec<Row<'a>>, side: Side, line: &'a str) -> Result<(
     Ok(())
 }
 
-/// Appends lines that are on this side. Returns `Err` if an allocation fails.
+/// Appends lines that are on this side.
 // ensures old { OnOk result (old_text rows.new.items
 //     ≡ old_text rows.old.items ++ in_old side (joined lines.now)) }
 // ensures new { OnOk result (new_text rows.new.items
@@ -142,8 +141,7 @@ pub fn rest_after<T>(items: &[T], n: usize) -> &[T] {
     items.get(n..).unwrap_or(&items[items.len()..])
 }
 
-/// Appends the lines of two texts up to one that they have in common. Returns `Err` if an
-/// allocation fails.
+/// Appends the lines of two texts up to one that they have in common.
 // requires { IsCommon old.now new.now pair }
 // ensures old { OnOk result (old_text rows.new.items
 //     ≡ old_text rows.old.items ++ joined (take pair.old old.now)) }
@@ -164,8 +162,7 @@ fn push_pair<'a>(
     Ok(())
 }
 
-/// Appends the lines of two texts without a common end beside each other. Returns `Err` if an
-/// allocation fails.
+/// Appends the lines of two texts without a common end beside each other.
 // ensures old { OnOk result (old_text rows.new.items
 //     ≡ old_text rows.old.items ++ joined old.now) }
 // ensures new { OnOk result (new_text rows.new.items
@@ -189,18 +186,17 @@ fn push_middle<'a>(
 }
 
 /// Returns the lines of two texts beside each other: those that are not in the new one alone are
-/// the old text, and those that are not in the old one alone the new text. Returns `Err` if an
-/// allocation fails.
+/// the old text, and those that are not in the old one alone the new text.
 // ensures old { IfOk result (λ v. old_text v.items ≡ old.now) }
 // ensures new { IfOk result (λ v. new_text v.items ≡ new.now) }
 #[inline]
-pub fn rows_of<'a>(alloc: Global, old: &'a str, new: &'a str) -> Result<Vec<Row<'a>>, AllocError> {
-    let olds = lines_of(alloc, old)?;
-    let news = lines_of(alloc, new)?;
+pub fn rows_of<'a>(old: &'a str, new: &'a str) -> Result<Vec<Row<'a>>, AllocError> {
+    let olds = lines_of(old)?;
+    let news = lines_of(new)?;
     let lines = olds.as_slice();
     let others = news.as_slice();
     let end = common_end(lines, others);
-    let mut rows = Vec::made_in(alloc);
+    let mut rows = Vec::new();
     let (fewer, more) = (lines.len() - end, others.len() - end);
     push_middle(&mut rows, front(lines, fewer), front(others, more))?;
     push_lines(&mut rows, Side::Both, rest_after(lines, fewer))?;
