@@ -1,7 +1,7 @@
 -- A drawing names the spot at which its span begins, and shows the lines of its labels.
 use Rattle.std.proofs.Common.{◌≡◌, ◌≤◌, ℕ, ◌-◌, ◌++◌, ◌∷◌, [], ◌∙◌, Bool, Option, true, false}
-use Rattle.std.proofs.Common.{List, None, Some, ap, append_assoc, arith, codes, refl, sym, chars, max}
-use Rattle.std.specs.Prelude.{◌==◌, nat_lt}
+use Rattle.std.proofs.Common.{List, None, Some, ap, append_assoc, arith, codes, refl, sym, chars}
+use Rattle.std.specs.Prelude.{◌==◌, max, nat_lt}
 use Rattle.std.specs.Char.{len_utf8}
 use Rattle.std.specs.List.{fold}
 use Rattle.std.proofs.lemmas.Bool.Decides.{nat_tests}
