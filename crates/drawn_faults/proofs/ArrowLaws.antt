@@ -94,16 +94,18 @@ walk-line (c ∷ w) s = omega (arith, past-line s c, walk-line w (past s c))
 spot-order : (t : Text) (m n : ℕ) (s : Spot) → m ≤ n
     → (fold past s (within m t)).line ≤ (fold past s (within n t)).line
 spot-order [] m n s l = omega arith
-spot-order (c ∷ t) m n s l = by_test (nat_lt m (len_utf8 c)) refl
+spot-order (c ∷ t) m n s l =
+    by_test (nat_lt m (len_utf8 c)) refl (λ i k h. spot-order t i k (past s c) h)
   where
     by_test : (b : Bool) → nat_lt m (len_utf8 c) ≡ b
+        → ((i k : ℕ) → i ≤ k
+        → (fold past (past s c) (within i t)).line ≤ (fold past (past s c) (within k t)).line)
         → (fold past s (within m (c ∷ t))).line ≤ (fold past s (within n (c ∷ t))).line
-    by_test true e = rw e (walk-line (within n (c ∷ t)) s)
-    by_test false e =
+    by_test true e on = rw e (walk-line (within n (c ∷ t)) s)
+    by_test false e on =
         let long : len_utf8 c ≤ m = grind (arith, nat_tests) in
         let wide : nat_lt n (len_utf8 c) ≡ false = grind (arith, nat_tests) in
-        rw (e, wide) (spot-order t (m - len_utf8 c) (n - len_utf8 c) (past s c)
-        (omega (arith, l)))
+        rw (e, wide) (on (m - len_utf8 c) (n - len_utf8 c) (omega (arith, l)))
 
 primary-order : (mode : Mode) (p : Picture) (m : Message Place)
     → (primary mode p m).extent.start.line ≤ (primary mode p m).extent.end.line
