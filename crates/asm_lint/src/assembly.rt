@@ -235,8 +235,7 @@ fn read_unless<'c>(
     if are_raw {
         return Ok(Vec::new(alloc));
     }
-    let found = templates_of(alloc, read)?;
-    Ok(found)
+    templates_of(alloc, read)
 }
 
 /// Reads a call whose templates are arguments, with the other arguments after them, and adds its

@@ -168,8 +168,7 @@ fn by_index_help(
     let text = String::from_str(alloc, says)?;
     let new = name_in(alloc, reference.part, name_of(call.given, index))?;
     let spot = index_spot(&call.pieces, reference);
-    let help = single(alloc, text, spot, new)?;
-    Ok(help)
+    single(alloc, text, spot, new)
 }
 
 /// Returns the help that replaces a text. Returns `Err` if an allocation fails.
@@ -180,8 +179,7 @@ fn replacing(alloc: Global, spot: Spot, new: &str) -> Result<CallHelp, AllocErro
     text.push_str(new)?;
     text.push_str("`?")?;
     let new = String::from_str(alloc, new)?;
-    let help = single(alloc, text, spot, new)?;
-    Ok(help)
+    single(alloc, text, spot, new)
 }
 
 /// Returns how many of arguments stand before the first one with a name.

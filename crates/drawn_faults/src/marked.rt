@@ -165,8 +165,7 @@ fn marks_of<'a>(
     for label in labels {
         list.push(mark_in(frame, label))?;
     }
-    let marks = from_right(alloc, &list)?;
-    Ok(marks)
+    from_right(alloc, &list)
 }
 
 /// Returns those of labels that begin in a line. Returns `Err` if an allocation fails.

@@ -256,8 +256,7 @@ fn inline_one(
     match call.rule {
         Rule::Templates => Ok(left_for(alloc, CallInlining::Assembly)),
         Rule::At(_) | Rule::IndexByEdition(_) | Rule::FirstLiteral => {
-            let made = inline_at(alloc, file, part, call, arguments, index, allows_mixed)?;
-            Ok(made)
+            inline_at(alloc, file, part, call, arguments, index, allows_mixed)
         }
     }
 }

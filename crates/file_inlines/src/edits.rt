@@ -117,8 +117,7 @@ fn literal_edits(
     if !is_literal(alloc, new.as_str(), made.literal.as_str())? {
         return Ok(None);
     }
-    let found = each_moved(alloc, inside.as_slice(), literal.start)?;
-    Ok(found)
+    each_moved(alloc, inside.as_slice(), literal.start)
 }
 
 /// Returns the edits that inline a call, with this token as its literal and these arguments after

@@ -106,8 +106,7 @@ fn keeps_meaning(
     };
     let kept = kept(alloc, old.values.slots)?;
     let given = givens(alloc, &kept)?;
-    let is_same = means_same_with(alloc, old, string, &kept, given.as_slice())?;
-    Ok(is_same)
+    means_same_with(alloc, old, string, &kept, given.as_slice())
 }
 
 /// Returns a call with its arguments that are variables in its format string, or why it is left as
@@ -176,6 +175,5 @@ pub fn inlined(
     }
     let slots = slots(alloc, call.arguments)?;
     let given = givens(alloc, &slots)?;
-    let made = inlined_with(alloc, call, &slots, given.as_slice())?;
-    Ok(made)
+    inlined_with(alloc, call, &slots, given.as_slice())
 }

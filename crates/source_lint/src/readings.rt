@@ -48,8 +48,7 @@ fn counted_givens<'a>(
     if !is_counted {
         return Ok(Vec::new(alloc));
     }
-    let found = givens(alloc, tokens, arguments)?;
-    Ok(found)
+    givens(alloc, tokens, arguments)
 }
 
 /// Checks a call with this format string and these arguments, and adds its findings. Returns `Err`
@@ -276,13 +275,9 @@ fn read_one<'a>(
         → All (HasSpans file.entry.text.now) findings.new.items) }
 {
     match call.rule {
-        Rule::Templates => {
-            let reading = read_asm(alloc, findings, file.text, part, call, arguments)?;
-            Ok(reading)
-        }
+        Rule::Templates => { read_asm(alloc, findings, file.text, part, call, arguments) }
         Rule::At(_) | Rule::IndexByEdition(_) | Rule::FirstLiteral => {
-            let reading = read_at(alloc, findings, file, part, call, arguments, index)?;
-            Ok(reading)
+            read_at(alloc, findings, file, part, call, arguments, index)
         }
     }
 }
