@@ -25,10 +25,9 @@ use Rattle.format_tokens.specs.Seen.{seen_token}
 use Rattle.format_tokens.specs.Midway.{sized}
 use Rattle.format_tokens.specs.Escapes.{Placed}
 use Rattle.format_tokens.specs.Placed.{placed, shown, tokens, whole_tokens, within}
-use Rattle.format_tokens.specs.Starts.{placed_sizes, starts_of}
+use Rattle.format_tokens.specs.Starts.{marked_sizes, placed_sizes, starts_of}
 use Rattle.format_tokens.specs.Tokens.{Label, token}
 use Rattle.format_tokens.specs.Walk.{read_tokens, tokens_of}
-use Rattle.format_tokens.specs.Culprits.{marked}
 use Rattle.format_tokens.proofs.Marking.{marked-sized}
 use Rattle.format_tokens.proofs.Starts.{firsts, length-starts, placed-none, placed-some, starts-at}
 use Rattle.format_tokens.proofs.InText.{placed-shown, text-tokens}
@@ -98,7 +97,7 @@ kept-small w n kept starts e f h = omega (arith, ap length e, length-starts w, f
 shown-tokens : (w : World) (mode : Mode) (input : Text) (b : Bool) (kept : ℕ)
     → length w.places ≡ length input → kept ≡ length (unappended b input)
     → placed_sizes w (length w.places) kept
-    (marked (wants_names mode) false (map sized (read_tokens mode input)))
+    (marked_sizes (wants_names mode) false (map sized (read_tokens mode input)))
     ≡ placed w (length input) (shown mode input b)
 shown-tokens w mode input b kept n e =
     ap (placed_sizes w (length w.places) kept)
@@ -112,7 +111,7 @@ pub plain-tokens : (mode : Mode) (input : Text) (style : Option ℕ) (snippet : 
     → (HasSource input style snippet b → ⊥)
     → (let w = plain_world false 0 input (byte_length input) in
     all ≡ placed_sizes w (length w.places) kept
-    (marked (wants_names mode) false (map sized (read_tokens mode input))))
+    (marked_sizes (wants_names mode) false (map sized (read_tokens mode input))))
     → all ≡ tokens mode input style snippet b
 plain-tokens mode input style snippet b kept all e none h =
     h ∙ (shown-tokens (plain_world false 0 input (byte_length input)) mode input b kept
@@ -136,7 +135,7 @@ pub quoted-tokens : (mode : Mode) (input : Text) (style : Option ℕ) (literal :
     → (let w = world input style (Some literal) b in
     all ≡ ((Quote, (0, get_or starts 0 0)) ∷ []
     ++ placed_sizes w (length w.places) kept
-    (marked (wants_names mode) false (map sized (read_tokens mode input))))
+    (marked_sizes (wants_names mode) false (map sized (read_tokens mode input))))
     ++ (Quote, (get_or starts (length starts - 1) 0, n)) ∷ [])
     → all ≡ whole_tokens mode input style (Some literal) b
 unfolding whole_tokens

@@ -14,7 +14,7 @@ use crate::proved::inlined_arguments::reading::read;
 use crate::proved::inlined_arguments::slots::{givens, kept, slots, Slot};
 use crate::proved::inlined_arguments::values::values_of;
 use crate::proved::inlined_arguments::variables::gone;
-use crate::proved::piece_listing::literal::literal_text;
+use crate::proved::piece_listing::literal::{literal_text, LiteralText};
 use crate::shim::alloc::{AllocError, Global};
 use crate::shim::prelude::*;
 
@@ -83,7 +83,7 @@ fn keeps_meaning(
     old: Meant<'_, '_>,
     literal: &str,
 ) -> Result<bool, AllocError> {
-    let Some((mut text, style)) = literal_text(alloc, literal)? else {
+    let Some(LiteralText { mut text, style }) = literal_text(alloc, literal)? else {
         return Ok(false);
     };
     if !is_same_style(style, call.string.style) {

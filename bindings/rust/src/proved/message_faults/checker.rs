@@ -8,7 +8,7 @@ use crate::proved::message_faults::faults::MessageFault;
 use crate::proved::rustc_parse_format::{Argument, Fault, ParseMode, Piece, Position};
 use crate::proved::text_faults::{text_fault, Spot};
 use crate::shim::alloc::{AllocError, Global};
-use crate::shim::parser::{read_all, Parser};
+use crate::shim::parser::{read_all, Parser, Reading};
 use crate::shim::prelude::*;
 use alloc::collections::BTreeSet;
 use core::ops::Range;
@@ -211,7 +211,7 @@ fn push_placeholders<'a>(
     message: Message<'a, '_, '_>,
 ) -> Result<(), AllocError> {
     let snippet = owned(alloc, message.snippet)?;
-    let (pieces, parser) = read_all(
+    let Reading { pieces, parser } = read_all(
         alloc,
         message.text,
         None,
