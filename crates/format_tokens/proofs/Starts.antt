@@ -12,9 +12,8 @@ use Rattle.rustc_parse_format.specs.Marks.{Start}
 use Rattle.rustc_parse_format.specs.World.{World, Place, number_of, place_at, plain_places}
 use Rattle.rustc_parse_format.specs.World.{plain_world}
 use Rattle.format_tokens.specs.declared.kinds.Kind.{Kind}
-use Rattle.format_tokens.specs.declared.kinds.Label.{Label as Sized}
 use Rattle.format_tokens.specs.Escapes.{Placed}
-use Rattle.format_tokens.specs.Starts.{placed_sizes, starts_of}
+use Rattle.format_tokens.specs.Starts.{Pair, placed_sizes, starts_of}
 
 abbrev pub firsts : List Place → List ℕ
 firsts ps = map (λ (p : Place). p.0) ps
@@ -71,22 +70,22 @@ length-starts w = length-append (firsts w.places) (w.end ∷ [])
     ∙ ap (λ n. n + 1) (length-map w.places (λ (p : Place). p.0))
 
 -- The tokens of a label and those that follow.
-pub placed-some : (w : World) (n k : ℕ) (s : Sized) (ss : List Sized) → 0 < min s.width k
+pub placed-some : (w : World) (n k : ℕ) (s : Pair) (ss : List Pair) → 0 < min s.1 k
     → placed_sizes w n k (s ∷ ss)
-    ≡ (s.kind, (number_of w (Start n), number_of w (Start (n - min s.width k))))
-    ∷ placed_sizes w (n - min s.width k) (k - s.width) ss
+    ≡ (s.0, (number_of w (Start n), number_of w (Start (n - min s.1 k))))
+    ∷ placed_sizes w (n - min s.1 k) (k - s.1) ss
 placed-some w n k s ss some =
-    let test : (min s.width k == 0) ≡ false = false_from_ne_true (min s.width k == 0)
-    (λ t. absurd (omega (arith, eqb-true (min s.width k) 0 t, some))) in
+    let test : (min s.1 k == 0) ≡ false = false_from_ne_true (min s.1 k == 0)
+    (λ t. absurd (omega (arith, eqb-true (min s.1 k) 0 t, some))) in
     rw test refl
 
-pub placed-none : (w : World) (n k : ℕ) (s : Sized) (ss : List Sized) → min s.width k ≡ 0
-    → placed_sizes w n k (s ∷ ss) ≡ placed_sizes w n (k - s.width) ss
+pub placed-none : (w : World) (n k : ℕ) (s : Pair) (ss : List Pair) → min s.1 k ≡ 0
+    → placed_sizes w n k (s ∷ ss) ≡ placed_sizes w n (k - s.1) ss
 placed-none w n k s ss none =
-    let test : (min s.width k == 0) ≡ true = eq-eqb (min s.width k) 0 none in
-    rw test (ap (λ m. placed_sizes w m (k - s.width) ss) (omega (arith, none)))
+    let test : (min s.1 k == 0) ≡ true = eq-eqb (min s.1 k) 0 none in
+    rw test (ap (λ m. placed_sizes w m (k - s.1) ss) (omega (arith, none)))
 
-same_sizes : (w : World) (ss : List Sized) (a b c d : ℕ) → a ≡ b → c ≡ d
+same_sizes : (w : World) (ss : List Pair) (a b c d : ℕ) → a ≡ b → c ≡ d
     → placed_sizes w a c ss ≡ placed_sizes w b d ss
 same_sizes w ss a b c d e f = rw (e, f) refl
 
@@ -95,36 +94,36 @@ pub same_token : (k : Kind) (a b x y : ℕ) (l m : List Placed) → a ≡ x → 
 same_token k a b x y l m e f g = cc
 
 -- One step of the loop that places tokens: with the tokens of a label, the others follow.
-pub place-some : (w : World) (starts : List ℕ) (at kept m : ℕ) (s : Sized) (ss : List Sized)
+pub place-some : (w : World) (starts : List ℕ) (at kept m : ℕ) (s : Pair) (ss : List Pair)
     (done whole : List Placed) → starts ≡ starts_of w → at ≤ kept → kept < length starts
-    → m ≡ min s.width (kept - at) → at < at + m
+    → m ≡ min s.1 (kept - at) → at < at + m
     → done ++ placed_sizes w (length w.places - at) (kept - at) (s ∷ ss) ≡ whole
-    → (done ++ (s.kind, (get_or starts at 0, get_or starts (at + m) 0)) ∷ [])
+    → (done ++ (s.0, (get_or starts at 0, get_or starts (at + m) 0)) ∷ [])
     ++ placed_sizes w (length w.places - (at + m)) (kept - (at + m)) ss ≡ whole
 place-some w starts at kept m s ss done whole e h small f some g =
     let n = length w.places in
-    let j = min s.width (kept - at) in
+    let j = min s.1 (kept - at) in
     let room : length starts ≡ n + 1 = ap length e ∙ length-starts w in
     let left : n - (at + m) ≡ (n - at) - j = omega (arith, f) in
-    let more : kept - (at + m) ≡ (kept - at) - s.width = omega (arith, f) in
+    let more : kept - (at + m) ≡ (kept - at) - s.1 = omega (arith, f) in
     let start : get_or starts at 0 ≡ number_of w (Start (n - at)) =
     ap (λ l. get_or l at 0) e ∙ starts-at w at (omega (arith, room)) in
     let stop : get_or starts (at + m) 0 ≡ number_of w (Start ((n - at) - j)) =
     ap (λ l. get_or l (at + m) 0) e ∙ (starts-at w (at + m) (omega (arith, room, f))
     ∙ ap (λ i. number_of w (Start i)) left) in
-    let same = same_token s.kind _ _ _ _ _ _ start stop (same_sizes w ss _ _ _ _ left more) in
-    append_assoc done ((s.kind, (get_or starts at 0, get_or starts (at + m) 0)) ∷ [])
+    let same = same_token s.0 _ _ _ _ _ _ start stop (same_sizes w ss _ _ _ _ left more) in
+    append_assoc done ((s.0, (get_or starts at 0, get_or starts (at + m) 0)) ∷ [])
     (placed_sizes w (n - (at + m)) (kept - (at + m)) ss)
     ∙ (ap (λ l. done ++ l) (same ∙ sym (placed-some w (n - at) (kept - at) s ss
     (omega (arith, f, some)))) ∙ g)
 
-pub place-none : (w : World) (at kept m : ℕ) (s : Sized) (ss : List Sized)
-    (done whole : List Placed) → m ≡ min s.width (kept - at) → at + m ≤ at
+pub place-none : (w : World) (at kept m : ℕ) (s : Pair) (ss : List Pair)
+    (done whole : List Placed) → m ≡ min s.1 (kept - at) → at + m ≤ at
     → done ++ placed_sizes w (length w.places - at) (kept - at) (s ∷ ss) ≡ whole
     → done ++ placed_sizes w (length w.places - (at + m)) (kept - (at + m)) ss ≡ whole
 place-none w at kept m s ss done whole f none g =
     let n = length w.places in
     let left : n - (at + m) ≡ n - at = omega (arith, none) in
-    let more : kept - (at + m) ≡ (kept - at) - s.width = omega (arith, f) in
+    let more : kept - (at + m) ≡ (kept - at) - s.1 = omega (arith, f) in
     ap (λ l. done ++ l) (same_sizes w ss _ _ _ _ left more
     ∙ sym (placed-none w (n - at) (kept - at) s ss (omega (arith, f, none)))) ∙ g

@@ -3,7 +3,7 @@
 -- is out of place, and so are text and doubled braces inside a pair: no field has them. In a mode
 -- that accepts only names, a number and text after a colon are out of place, and so are the braces
 -- around no argument.
-use Rattle.std.specs.Prelude.{◌&&◌, ◌||◌, not, Bool, true, false, if◌then◌else◌, List, [], ◌∷◌, map}
+use Rattle.std.specs.Prelude.{◌&&◌, ◌||◌, not, Bool, true, false, if◌then◌else◌, List, [], ◌∷◌}
 use Rattle.format_tokens.specs.declared.culprits.Role.{Role}
 use Rattle.format_tokens.specs.declared.culprits.Role.TheVariants.{Open, Close, Text, Name, Number}
 use Rattle.format_tokens.specs.declared.culprits.Role.TheVariants.{Message, Other}
@@ -18,7 +18,6 @@ use Rattle.format_tokens.specs.declared.kinds.Kind.TheVariants.{DollarSign, Dot,
 use Rattle.format_tokens.specs.declared.kinds.Kind.TheVariants.{«Type» as TypeKind, Modifier}
 use Rattle.format_tokens.specs.declared.kinds.Kind.TheVariants.{DiagnosticText, Unexpected, Quote}
 use Rattle.format_tokens.specs.declared.kinds.Kind.TheVariants.{EscapeSequence}
-use Rattle.format_tokens.specs.Tokens.{Label}
 
 -- The role of a kind. A token that the call of a parser found out of place may stand for a name.
 unfoldable pub role_of : Kind → Role
@@ -58,9 +57,9 @@ closes_or others Message = others
 closes_or others Other = others
 
 -- The first brace that stands alone is a closing one.
-abbrev pub closes : List Kind → Bool
+abbrev pub closes : {A : Type 0} → List (Kind × A) → Bool
 closes [] = false
-closes (k ∷ ks) = closes_or (closes ks) (role_of k)
+closes (t ∷ ts) = closes_or (closes ts) (role_of t.0)
 
 -- The role is that of an argument.
 abbrev pub is_argument : Role → Bool
@@ -73,20 +72,20 @@ is_argument Message = false
 is_argument Other = false
 
 -- The first token is that of an argument.
-abbrev pub has_argument : List Kind → Bool
+abbrev pub has_argument : {A : Type 0} → List (Kind × A) → Bool
 has_argument [] = false
-has_argument (k ∷ ks) = is_argument (role_of k)
+has_argument (t ∷ ts) = is_argument (role_of t.0)
 
--- A token of this role is in place before tokens of these kinds. The first flag says that only
--- names are accepted, the second that the token is inside a pair of braces.
-abbrev pub fits : Bool → Bool → List Kind → Role → Bool
-fits names inside ks Open = closes ks && (not names || has_argument ks)
-fits names inside ks Close = inside
-fits names inside ks Text = not inside
-fits names inside ks Name = true
-fits names inside ks Number = not names
-fits names inside ks Message = not names
-fits names inside ks Other = true
+-- A token of this role is in place before these tokens. The first flag says that only names are
+-- accepted, the second that the token is inside a pair of braces.
+abbrev pub fits : {A : Type 0} → Bool → Bool → List (Kind × A) → Role → Bool
+fits names inside ts Open = closes ts && (not names || has_argument ts)
+fits names inside ts Close = inside
+fits names inside ts Text = not inside
+fits names inside ts Name = true
+fits names inside ts Number = not names
+fits names inside ts Message = not names
+fits names inside ts Other = true
 
 -- The tokens after one of this role are inside a pair. The first flag says that it is inside one,
 -- the second that it is in place.
@@ -99,14 +98,10 @@ inside_after inside fits Number = inside
 inside_after inside fits Message = inside
 inside_after inside fits Other = inside
 
--- The kinds of tokens.
-abbrev pub kinds_of : List Label → List Kind
-kinds_of ls = map (λ (l : Label). l.0) ls
-
 -- The tokens, where those that are out of place are `Unexpected`.
-abbrev pub marked : Bool → Bool → List Label → List Label
+abbrev pub marked : {A : Type 0} → Bool → Bool → List (Kind × A) → List (Kind × A)
 marked names inside [] = []
-marked names inside (l ∷ ls) =
-    let f = fits names inside (kinds_of ls) (role_of l.0) in
-    ((if f then l.0 else Unexpected), l.1)
-    ∷ marked names (inside_after inside f (role_of l.0)) ls
+marked names inside (t ∷ ts) =
+    let f = fits names inside ts (role_of t.0) in
+    ((if f then t.0 else Unexpected), t.1)
+    ∷ marked names (inside_after inside f (role_of t.0)) ts

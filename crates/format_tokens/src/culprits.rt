@@ -4,7 +4,7 @@ ghost use Rattle.std.specs.Prelude.{◌≡◌, if◌then◌else◌};
 ghost use Rattle.format_tokens.specs.declared.kinds.Kind.TheVariants.{Unexpected};
 ghost use Rattle.format_tokens.specs.Culprits.{closes, fits, has_argument, inside_after};
 ghost use Rattle.format_tokens.specs.Culprits.{is_argument, role_of};
-ghost use Rattle.format_tokens.specs.Starts.{sized_kinds};
+ghost use Rattle.format_tokens.specs.Starts.{pairs};
 
 use crate::kinds::{Kind, Label};
 
@@ -58,7 +58,7 @@ pub fn role_of(kind: Kind) -> Role
 
 /// Returns whether the first brace that stands alone is a closing one.
 fn closes(labels: &[Label]) -> bool
-    ensures { result ≡ closes (sized_kinds labels.now) }
+    ensures { result ≡ closes (pairs labels.now) }
 {
     for label in labels {
         match role_of(label.kind) {
@@ -82,7 +82,7 @@ fn is_argument(role: Role) -> bool
 
 /// Returns whether the first token is that of an argument.
 fn has_argument(labels: &[Label]) -> bool
-    ensures { result ≡ has_argument (sized_kinds labels.now) }
+    ensures { result ≡ has_argument (pairs labels.now) }
 {
     !labels.is_empty() && is_argument(role_of(labels[0].kind))
 }
@@ -90,7 +90,7 @@ fn has_argument(labels: &[Label]) -> bool
 /// Returns whether a token is in place before `others`. `names` says that only names are accepted,
 /// `inside` that the token is inside a pair of braces.
 pub fn fits(names: bool, inside: bool, role: Role, others: &[Label]) -> bool
-    ensures { result ≡ fits names inside (sized_kinds others.now) role }
+    ensures { result ≡ fits names inside (pairs others.now) role }
 {
     match role {
         Role::Open => closes(others) && (!names || has_argument(others)),

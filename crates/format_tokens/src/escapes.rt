@@ -109,10 +109,12 @@ fn put_parts(tokens: &mut Vec<Token>, token: &Token, text: &str) -> Result<(), A
     while !rest.is_empty() {
         match escape_at(rest) {
             None => rest = after_first(rest),
-            Some(FirstUnit {
-                character,
-                rest: others,
-            }) => {
+            Some(
+                FirstUnit {
+                    character,
+                    rest: others,
+                },
+            ) => {
                 if is_apart(token.kind, character) {
                     let at = end.saturating_sub(width_of(rest));
                     let to = end.saturating_sub(width_of(others));

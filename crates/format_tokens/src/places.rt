@@ -7,8 +7,9 @@ ghost use Rattle.std.specs.Prelude.{OnOk, length, map};
 ghost use Rattle.rustc_parse_format.specs.Characters.{Text};
 ghost use Rattle.rustc_parse_format.specs.Literal.{IsSource};
 ghost use Rattle.rustc_parse_format.specs.World.{World, plain_world, world};
+ghost use Rattle.format_tokens.specs.Culprits.{marked};
 ghost use Rattle.format_tokens.specs.Seen.{seen_token};
-ghost use Rattle.format_tokens.specs.Starts.{marked_sizes, placed_sizes, starts_of};
+ghost use Rattle.format_tokens.specs.Starts.{pairs, placed_sizes, starts_of};
 
 use crate::culprits::{fits, inside_after, marked_kind, role_of};
 use crate::kinds::{Label, Token};
@@ -82,7 +83,7 @@ pub fn place(
     requires { kept < length starts.now }
     ensures { OnOk result ((w : World) → starts.now ≡ starts_of w
         → map seen_token tokens.new.items ≡ map seen_token tokens.old.items
-        ++ placed_sizes w (length w.places) kept (marked_sizes names false labels.now)) }
+        ++ placed_sizes w (length w.places) kept (marked names false (pairs labels.now))) }
 {
     let mut at = 0;
     let mut inside = false;

@@ -83,7 +83,14 @@ pub fn read_and_check<'a>(
         → (HasSource (chars input.now) style (seen_snippet snippet) appended_newline → ⊥)
         → positional ≡ 0 → names.now ≡ [] → IsOk result }
 {
-    let Reading { pieces, parser } = read_all(alloc, input, style, snippet, appended_newline, mode)?;
+    let Reading { pieces, parser } = read_all(
+        alloc,
+        input,
+        style,
+        snippet,
+        appended_newline,
+        mode,
+    )?;
     let report = check(alloc, pieces.as_slice(), positional, names)?;
     Ok(CheckedReading {
         pieces,

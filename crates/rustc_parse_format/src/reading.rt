@@ -71,10 +71,11 @@ pub struct Reading<'input> {
     pub parser: Parser<'input>,
 }
 
-/// Reads a whole input. The arguments are those of [`Parser::new`]: `style` is `None` for an ordinary literal and `Some(n)` for a raw one with n
-/// hashes, `snippet` is the literal as it is in the source, and `appended_newline` is whether the
-/// input ends in a newline that the source does not have. The number of hashes, the byte length of
-/// the input and 2 must add up to less than 2^64.
+/// Reads a whole input. The arguments are those of [`Parser::new`]: `style` is `None` for an
+/// ordinary literal and `Some(n)` for a raw one with n hashes, `snippet` is the literal as it is in
+/// the source, and `appended_newline` is whether the input ends in a newline that the source does
+/// not have. The number of hashes, the byte length of the input and 2 must add up to less than
+/// 2^64.
 ///
 /// The pieces are those up to the first call of [`Parser::next`] that returns `None`. This call may
 /// be one for an unmatched `}`: then the rest of the input is not read, and the parser has an error

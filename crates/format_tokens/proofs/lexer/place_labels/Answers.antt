@@ -4,12 +4,13 @@ use Rattle.rustc_parse_format.specs.Source.{unappended}
 use Rattle.rustc_parse_format.specs.World.{plain_world}
 use Rattle.rustc_parse_format.proofs.Sources.PlainPlaces.{length-plain_places}
 use Rattle.rustc_parse_format.specs.Seen.{seen_mode}
+use Rattle.format_tokens.specs.Culprits.{marked}
 use Rattle.format_tokens.specs.Escapes.{cut}
 use Rattle.format_tokens.specs.Placed.{cut_in, tokens, whole_tokens}
 use Rattle.format_tokens.proofs.Covering.{whole-cover}
 use Rattle.format_tokens.proofs.CutCovering.{source-cut}
 use Rattle.format_tokens.specs.Seen.{seen_text, seen_token}
-use Rattle.format_tokens.specs.Starts.{marked_sizes, placed_sizes, starts_of}
+use Rattle.format_tokens.specs.Starts.{pairs, placed_sizes, starts_of}
 use Rattle.format_tokens.proofs.Lexing.{kept-is, kept-small}
 use Rattle.format_tokens.proofs.Lexing.{plain-tokens}
 use Rattle.format_tokens.proofs.lexer.place_labels.Goals as goal
@@ -37,7 +38,7 @@ returns-in_default c labels =
     c.saturating_sub-kept.result _ kept c.in_default.ensures
     (c.in_ok-place.ensures w starts
     ∙ (ap (λ l. map seen_token l ++ placed_sizes w (length w.places) c.saturating_sub-kept.result
-    (marked_sizes c.wants_names-names.result false c.args.labels.now)) c.in_ok-tokens.ensures.items
+    (marked c.wants_names-names.result false (pairs c.args.labels.now))) c.in_ok-tokens.ensures.items
     ∙ rw (c.wants_names-names.ensures, labels) refl))
 
 pub returns-in-Some-style : goal.returns-in-Some-style

@@ -2,7 +2,7 @@ use Rattle.std.proofs.Common.{◌≡◌, ◌∙◌, ap, map, arith, if◌then◌
 use Rattle.std.proofs.lemmas.List.{map-append}
 use Rattle.format_tokens.specs.Culprits.{fits, inside_after, role_of}
 use Rattle.format_tokens.specs.Seen.{seen_token}
-use Rattle.format_tokens.specs.Starts.{sized_kinds}
+use Rattle.format_tokens.specs.Starts.{pairs}
 use Rattle.format_tokens.specs.declared.kinds.Kind.TheVariants.{Unexpected}
 use Rattle.format_tokens.proofs.Starts.{place-none, place-some}
 use Rattle.format_tokens.proofs.places.place.Goals as goal
@@ -11,13 +11,12 @@ use Rattle.format_tokens.proofs.places.place.Goals.{then-at-to+in_ok-push, else-
 pub loop-label-preserved : goal.loop-label-preserved
 loop-label-preserved c =
     let label = c.in-Some.label.now in
-    let others = sized_kinds c.in-Some.others.now in
+    let others = pairs c.in-Some.others.now in
     let inside = c.loop-label.inside in
     let fit : c.fits-fits.result ≡ fits c.args.names inside others (role_of label.kind) =
     c.fits-fits.ensures ∙ ap (fits c.args.names inside others) c.role_of-role.ensures in
     let after : c.inside_after-inside.result
-    ≡ inside_after inside (fits c.args.names inside others (role_of label.kind))
-    (role_of label.kind) =
+    ≡ inside_after inside (fits c.args.names inside others (role_of label.kind)) (role_of label.kind) =
     c.inside_after-inside.ensures
     ∙ (ap (λ f. inside_after inside f c.role_of-role.result) fit
     ∙ ap (inside_after inside (fits c.args.names inside others (role_of label.kind)))
