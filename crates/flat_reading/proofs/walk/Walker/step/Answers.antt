@@ -50,7 +50,7 @@ add-requires c =
     let grown = ap (λ (s : State). length s.errors) c.in_ok-piece.ensures.state
     ∙ length-after c.args.self.now.parser (next_call c.args.self.now.parser) in
     let few = few_fronts (next_call c.args.self.now.parser).faults in
-    let fronts : c.in_ok-piece.front_errors ≡ fronts_in (next_call c.args.self.now.parser) =
+    let fronts : c.in_ok-piece.field-0.front_errors ≡ fronts_in (next_call c.args.self.now.parser) =
     c.in_ok-piece.ensures.fronts in
     omega (arith, before, rest_after, grown, few, fronts)
 
@@ -83,7 +83,7 @@ returns-clause-call c =
     let grown = ap (λ (s : State). length s.errors) c.in_ok-piece.ensures.state
     ∙ length-after old.parser (next_call old.parser) in
     let fs = (next_call old.parser).faults in
-    let fronts : c.in_ok-piece.front_errors ≡ fronts_in (next_call old.parser) =
+    let fronts : c.in_ok-piece.field-0.front_errors ≡ fronts_in (next_call old.parser) =
     c.in_ok-piece.ensures.fronts in
     let found : length c.errors.result.now - length c.errors-faults.result.now
     ≡ length fs = omega (arith, before, rest_after, grown) in
