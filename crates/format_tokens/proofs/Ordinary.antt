@@ -26,7 +26,8 @@ abbrev pub places_of : List ContentCharacter → List Place
 places_of xs = map (λ x. (suc x.span.start, suc x.span.end)) xs
 
 -- The places so far are there, and the text so far ends there.
-pub record IsReadSoFar (xs : List ContentCharacter) (i : ℕ) (starts : List ℕ) (end : ℕ) : Type 0 where
+pub record IsReadSoFar (xs : List ContentCharacter) (i : ℕ) (starts : List ℕ) (end : ℕ) :
+    Type 0 where
   pub starts_are : starts ≡ firsts (places_of (take i xs))
   pub end_is : end ≡ last_stop 1 (places_of (take i xs))
 
@@ -34,7 +35,8 @@ last_stop-more : (e : ℕ) (ps : List Place) (p : Place) → last_stop e (ps ++ 
 last_stop-more e [] p = refl
 last_stop-more e (q ∷ ps) p = last_stop-more q.1 ps p
 
-pub read-next : (xs : List ContentCharacter) (i : ℕ) (starts more : List ℕ) (end a b : ℕ) (d : ContentCharacter)
+pub read-next : (xs : List ContentCharacter) (i : ℕ) (starts more : List ℕ) (end a b : ℕ)
+    (d : ContentCharacter)
     → IsReadSoFar xs i starts end → i < length xs → more ≡ starts ++ a ∷ []
     → a ≡ suc (get_or xs i d).span.start → b ≡ suc (get_or xs i d).span.end
     → IsReadSoFar xs (i + 1) more b
@@ -42,7 +44,8 @@ read-next xs i starts more end a b d h l m e f =
     let x : Place = (suc (get_or xs i d).span.start, suc (get_or xs i d).span.end) in
     let all : places_of (take (i + 1) xs) ≡ places_of (take i xs) ++ x ∷ [] =
     ap places_of (take_more xs i d l)
-    ∙ map-append (λ (y : ContentCharacter). (suc y.span.start, suc y.span.end)) (take i xs) (get_or xs i d ∷ []) in
+    ∙ map-append (λ (y : ContentCharacter). (suc y.span.start, suc y.span.end)) (take i xs)
+    (get_or xs i d ∷ []) in
     record {
       starts_are = m ∙ (ap (λ l. l ++ a ∷ []) h.starts_are
           ∙ (ap (λ n. firsts (places_of (take i xs)) ++ n ∷ []) e
@@ -65,7 +68,8 @@ pub record IsBounded (ps : List Place) (n : ℕ) : Type 0 where
   pub in_order : InOrder 1 ps
   pub inside : last_stop 1 ps < n
 
-pub read-bounded : (content : Text) (xs : List ContentCharacter) → IsReadAs content (seen_characters xs)
+pub read-bounded : (content : Text) (xs : List ContentCharacter)
+    → IsReadAs content (seen_characters xs)
     → IsBounded (places_of xs) (byte_length (ordinary_frame content))
 read-bounded content xs (us, only, e) =
     let k = known (content_value us) None (ordinary_frame content) false
@@ -87,8 +91,8 @@ last-after : (b : ℕ) (ps : List Place) → InOrder b ps → b ≤ last_stop b 
 last-after b [] o = omega arith
 last-after b (p ∷ ps) (s, t, rest) = omega (arith, last-after p.1 ps rest)
 
-in_order-at : (b e : ℕ) (xs : List ContentCharacter) (i : ℕ) (d : ContentCharacter) → InOrder b (places_of xs)
-    → i < length xs → (suc (get_or xs i d).span.end ≤ last_stop e (places_of xs))
+in_order-at : (b e : ℕ) (xs : List ContentCharacter) (i : ℕ) (d : ContentCharacter)
+    → InOrder b (places_of xs) → i < length xs → (suc (get_or xs i d).span.end ≤ last_stop e (places_of xs))
     × ((get_or xs i d).span.start < (get_or xs i d).span.end)
 in_order-at b e [] i d o h = absurd (omega arith)
 in_order-at b e (x ∷ xs) zero d (s, t, rest) h =
@@ -97,7 +101,8 @@ in_order-at b e (x ∷ xs) (suc i) d (s, t, rest) h =
     in_order-at (suc x.span.end) (suc x.span.end) xs i d rest (omega arith)
 
 -- So one more than its offsets is at most the length of the literal.
-pub read-fits : (snippet : List ℕ) (content : Text) (xs : List ContentCharacter) (i : ℕ) (d : ContentCharacter)
+pub read-fits : (snippet : List ℕ) (content : Text) (xs : List ContentCharacter) (i : ℕ)
+    (d : ContentCharacter)
     → IsUtf8 snippet → chars snippet ≡ ordinary_frame content
     → IsReadAs content (seen_characters xs) → i < length xs
     → ((get_or xs i d).span.start < (get_or xs i d).span.end)

@@ -11,10 +11,12 @@ pub fn after_units(content: &str) -> &str
     ensures { StopsAt (chars content.now) (chars result.now) }
 {
     let mut rest = content;
-    while let Some(FirstUnit {
-        character: _,
-        rest: more,
-    }) = split_first_unit(rest)
+    while let Some(
+        FirstUnit {
+            character: _,
+            rest: more,
+        },
+    ) = split_first_unit(rest)
     {
         rest = more;
     }

@@ -23,11 +23,7 @@ fn content_again(
 }
 
 /// Characters with their places are those that are wanted.
-fn check_characters(
-    rt: &impl Abort,
-    found: &[ContentCharacter],
-    wanted: &[(Range<usize>, char)],
-) {
+fn check_characters(rt: &impl Abort, found: &[ContentCharacter], wanted: &[(Range<usize>, char)]) {
     assert_eq!(rt; found.len(), wanted.len());
     for (one, other) in found.iter().zip(wanted.iter()) {
         assert!(rt; one.span == other.0);

@@ -34,7 +34,11 @@ fn try_read(
 }
 
 /// Reads a row, and once more where that is refused memory.
-pub fn read_again(rt: &(impl Abort + Print), alloc: Global, row: Row) -> Result<Reading<'static>, Fail> {
+pub fn read_again(
+    rt: &(impl Abort + Print),
+    alloc: Global,
+    row: Row,
+) -> Result<Reading<'static>, Fail> {
     if let Ok(read) = try_read(rt, alloc, row)? {
         return Ok(read);
     }

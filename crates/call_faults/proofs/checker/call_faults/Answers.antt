@@ -20,10 +20,12 @@ returns c =
     c.args.string.appended_newline ≡ s
     = ap (λ t. first_state Format (chars c.args.string.text.now) c.args.string.style t
     c.args.string.appended_newline) c.in_ok-snippet.ensures in
-    let pieces : map seen c.in_ok-pieces.field-0.pieces.items ≡ pieces_in s.world (pieces_of (calls s))
+    let pieces : map seen c.in_ok-pieces.field-0.pieces.items
+    ≡ pieces_in s.world (pieces_of (calls s))
     = c.in_ok-pieces.ensures.walk.0
     ∙ ap (λ (p : State). pieces_in p.world (pieces_of (calls p))) at_start in
-    let parser : c.in_ok-pieces.field-0.parser ≡ after_all s (calls s) = c.in_ok-pieces.ensures.walk.1
+    let parser : c.in_ok-pieces.field-0.parser ≡ after_all s (calls s) =
+    c.in_ok-pieces.ensures.walk.1
     ∙ ap (λ (p : State). after_all p (calls p)) at_start in
     let errors : map seen_error c.errors.result.now ≡ (after_all s (calls s)).errors
     = c.errors.ensures ∙ ap (λ (p : State). p.errors) parser in

@@ -38,7 +38,8 @@ returns-in_default c labels =
     c.saturating_sub-kept.result _ kept c.in_default.ensures
     (c.in_ok-place.ensures w starts
     ∙ (ap (λ l. map seen_token l ++ placed_sizes w (length w.places) c.saturating_sub-kept.result
-    (marked c.wants_names-names.result false (pairs c.args.labels.now))) c.in_ok-tokens.ensures.items
+    (marked c.wants_names-names.result false (pairs c.args.labels.now)))
+    c.in_ok-tokens.ensures.items
     ∙ rw (c.wants_names-names.ensures, labels) refl))
 
 pub returns-in-Some-style : goal.returns-in-Some-style

@@ -16,7 +16,8 @@ loop-label-preserved c =
     let fit : c.fits-fits.result ≡ fits c.args.names inside others (role_of label.kind) =
     c.fits-fits.ensures ∙ ap (fits c.args.names inside others) c.role_of-role.ensures in
     let after : c.inside_after-inside.result
-    ≡ inside_after inside (fits c.args.names inside others (role_of label.kind)) (role_of label.kind) =
+    ≡ inside_after inside (fits c.args.names inside others (role_of label.kind))
+    (role_of label.kind) =
     c.inside_after-inside.ensures
     ∙ (ap (λ f. inside_after inside f c.role_of-role.result) fit
     ∙ ap (inside_after inside (fits c.args.names inside others (role_of label.kind)))
