@@ -178,7 +178,7 @@ pub fn same_as_its_literal(case: &Case) {
     // (a literal is read in runs of characters)
     let ordinary = Literal::new(snippet, format).filter(|it| it.style.is_none());
     let units = quoted_content(snippet).and_then(read_content);
-    let text = units.map(|it| it.iter().map(|(_, c)| *c).collect::<String>());
+    let text = units.map(|it| it.iter().map(|it| it.character).collect::<String>());
     assert_eq!(ordinary.map(|it| it.text), text, "Literal::new of {case:?}");
     let snippet_too = Some(snippet.clone());
     let mut parser =
@@ -190,11 +190,12 @@ pub fn same_as_its_literal(case: &Case) {
     }
     let content = quoted_content(snippet).expect("a content between quotes");
     let found = read_content(content).expect("the content of a literal");
-    let text: String = found.iter().map(|(_, c)| *c).collect();
+    let text: String = found.iter().map(|it| it.character).collect();
     assert_eq!(text + if case.newline { "\n" } else { "" }, case.input, "read_content of {case:?}");
     while let Some((place, at, c)) = parser.peek() {
-        if let Some((wanted, d)) = found.get(case.input[..at].chars().count()) {
-            assert_eq!((place, c), (wanted.start + 1..wanted.end + 1, *d), "{at} of {case:?}");
+        if let Some(wanted) = found.get(case.input[..at].chars().count()) {
+            let span = wanted.span.start + 1..wanted.span.end + 1;
+            assert_eq!((place, c), (span, wanted.character), "{at} of {case:?}");
         }
         parser.next();
     }

@@ -11,6 +11,7 @@ from extraction.source import Import
 LIBRARY = {"clap": "crate::shim::clap", "itoa": "crate::shim::itoa",
            "json": "crate::shim::json",
            "rustc_parse_format::Parser": "crate::shim::parser::Parser",
+           "rustc_parse_format::Reading": "crate::shim::parser::Reading",
            "rustc_parse_format::read_all": "crate::shim::parser::read_all",
            "std::alloc": "crate::shim::alloc",
            "std::collections::BTreeMap": "alloc::collections::BTreeMap",
@@ -70,7 +71,8 @@ DERIVES = {"Clone", "Copy", "Debug", "Default", "Drop", "Eq", "Ord", "PartialEq"
 # Derives that only the crate for Rust has: none of these needs a proof there.
 SHOWN = ("Debug", "Eq", "PartialEq")
 ADDED = {("placeholder_check", "Report"): ("Clone", *SHOWN),
-         ("rustc_parse_format", "Fault"): ("Clone", *SHOWN),
+         **{("rustc_parse_format", name): ("Clone", *SHOWN)
+            for name in ("ContentCharacter", "Fault")},
          ("fault_fixes", "Fixed"): ("Clone",),
          ("format_literal", "Literal"): ("Clone", *SHOWN),
          ("call_faults", "FormatArgument"): SHOWN, ("source_report", "CallReading"): SHOWN,

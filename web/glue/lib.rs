@@ -40,7 +40,7 @@ fn answer(input: &str, before: usize, start: usize, mode: usize, all: bool) -> O
     let snippet = (start > 0).then(|| literal.to_string());
     let mut text = literal[start..end].to_string();
     if start == 1 {
-        text = read_content(&text)?.into_iter().map(|(_, c)| c).collect();
+        text = read_content(&text)?.iter().map(|it| it.character).collect();
     }
     let mut parser = Parser::new(&text, style, snippet.clone(), false, mode);
     let (mut shown, mut pieces) = (Vec::new(), Vec::new());

@@ -8,10 +8,11 @@ use crate::tokens::{tokens, Token};
 use crate::{check, ParseError, ParseMode, Parser, Piece, Report};
 use alloc::string::ToString;
 use alloc::vec::Vec;
-use core::ops::Range;
 
 pub use crate::proved::format_literal::Literal;
-pub use crate::proved::rustc_parse_format::literal::{is_source_literal, quoted_content};
+pub use crate::proved::rustc_parse_format::literal::{
+    is_source_literal, quoted_content, ContentCharacter,
+};
 
 impl<'a> Literal<'a> {
     /// Reads a string literal by the rules of the Rust Reference, `"..."` or `r#"..."#` with any
@@ -140,6 +141,6 @@ impl<'a> Literal<'a> {
 /// stands for nothing, together with the newline and all tabs, newlines, carriage returns and
 /// spaces after it. An allocation failure aborts, as elsewhere in Rust.
 #[must_use]
-pub fn read_content(content: &str) -> Option<Vec<(Range<usize>, char)>> {
+pub fn read_content(content: &str) -> Option<Vec<ContentCharacter>> {
     answer(read_content_in(content))
 }

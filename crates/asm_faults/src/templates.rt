@@ -14,7 +14,7 @@ ghost use Rattle.asm_faults.specs.Templates.{template_fault, template_lookups};
 
 use crate::faults::AsmFault;
 use crate::lookups::{Walk, push_pieces};
-use rustc_parse_format::{Fault, ParseMode, Parser, read_all};
+use rustc_parse_format::{Fault, ParseMode, Parser, Reading, read_all};
 use std::alloc::{AllocError, Global};
 use text_faults::text_fault;
 
@@ -76,7 +76,7 @@ fn push_template<'a>(
     ensures few { OnOk result (walk.new.next ≤ length walk.new.lookups.items) }
 {
     let snippet = owned(alloc, template.snippet)?;
-    let (pieces, parser) = read_all(
+    let Reading { pieces, parser } = read_all(
         alloc,
         template.text,
         template.style,

@@ -9,7 +9,7 @@ ghost use Rattle.rust_tokens.specs.Runs.{first_passes};
 ghost use Rattle.rust_trees.specs.Places.{is_lf};
 ghost use Rattle.asm_lint.specs.Literals.{IsRead, appends_newline, without_crs};
 
-use piece_listing::literal::literal_text;
+use piece_listing::literal::{LiteralText, literal_text};
 use rust_tokens::split_first;
 use std::alloc::{AllocError, Global};
 
@@ -91,7 +91,7 @@ pub fn read_literal(
         hashes l.style + length (string_bytes l.text) + 2 < 2 ^ 64)) }
 {
     let snippet = without_crs(alloc, token)?;
-    let Some((mut text, style)) = literal_text(alloc, snippet.as_str())? else {
+    let Some(LiteralText { mut text, style }) = literal_text(alloc, snippet.as_str())? else {
         return Ok(None);
     };
     put_newline(&mut text, appended_newline)?;

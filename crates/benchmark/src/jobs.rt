@@ -8,7 +8,7 @@ use flat_reading::records::{Answer, CountRecord, Extent, Fault, MaybeExtent, Spe
 use flat_reading::task::Task as FlatTask;
 use format_lint::run::run;
 use format_lint::task::{Show, Task};
-use piece_listing::literal::literal_text;
+use piece_listing::literal::{LiteralText, literal_text};
 use placeholder_check::{Report, read_and_check};
 use rustc_parse_format::{
     Argument, Count, FormatSpec, ParseError, ParseMode, Parser, Piece, Position,
@@ -113,7 +113,7 @@ fn add_report(digest: &mut Digest, report: &Report<'_>) {
 
 /// Reads a literal and checks its arguments.
 fn check(alloc: Global, literal: String, digest: &mut Digest) -> Result<(), AllocError> {
-    let Some((text, style)) = literal_text(alloc, literal.as_str())? else {
+    let Some(LiteralText { text, style }) = literal_text(alloc, literal.as_str())? else {
         digest.add(4);
         return Ok(());
     };
@@ -122,21 +122,12 @@ fn check(alloc: Global, literal: String, digest: &mut Digest) -> Result<(), Allo
         return Ok(());
     }
     let names = ["name", "value", "err", "path"];
-    let (pieces, parser, report) = read_and_check(
-        alloc,
-        input,
-        style,
-        Some(literal),
-        false,
-        mode,
-        2,
-        &names,
-    )?;
-    for piece in &pieces {
+    let read = read_and_check(alloc, input, style, Some(literal), false, mode, 2, &names)?;
+    for piece in &read.pieces {
         add_piece(digest, piece);
     }
-    add_parser(digest, &parser);
-    add_report(digest, &report);
+    add_parser(digest, &read.parser);
+    add_report(digest, &read.report);
     Ok(())
 }
 
@@ -325,7 +316,7 @@ fn record(
     buffers: &mut Buffers,
     digest: &mut Digest,
 ) -> Result<(), AllocError> {
-    let Some((text, style)) = literal_text(alloc, literal)? else {
+    let Some(LiteralText { text, style }) = literal_text(alloc, literal)? else {
         digest.add(5);
         return Ok(());
     };

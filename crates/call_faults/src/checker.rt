@@ -21,7 +21,7 @@ use crate::compared::{compare, indices_of};
 use crate::faults::CallFault;
 use crate::lookups::lookups_of;
 use crate::spots::counts_before;
-use rustc_parse_format::{Fault, ParseMode, Parser, Piece, read_all};
+use rustc_parse_format::{Fault, ParseMode, Parser, Piece, Reading, read_all};
 use std::alloc::{AllocError, Global};
 use text_faults::text_fault;
 
@@ -159,7 +159,7 @@ pub fn call_faults<'a>(
         ↔ IsClean string.entry.captures (map seen_given given.now) (chars string.entry.text.now)) }
 {
     let snippet = owned(alloc, string.snippet)?;
-    let (pieces, parser) = read_all(
+    let Reading { pieces, parser } = read_all(
         alloc,
         string.text,
         string.style,

@@ -204,6 +204,6 @@ pub fn texts_at(
     let mut parser = Parser::new(alloc, &input[start..], Some(start), None, false, mode)?;
     parser.set_curarg(next);
     let mut argument = Argument::default();
-    let _taken = parser.next_into(&mut argument)?;
+    let _next = parser.next_into(&mut argument)?;
     Ok(argument_texts(input, 2, &argument))
 }

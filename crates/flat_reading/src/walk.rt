@@ -26,7 +26,7 @@ use crate::flat::{
 };
 use crate::records::{MaybeExtent, PIECE_NONE, PIECE_TEXT, POSITION_IMPLICIT, Step};
 use crate::texts::{has_texts, run_extent, texts_at};
-use rustc_parse_format::{Argument, ParseMode, Parser, PieceKind};
+use rustc_parse_format::{Argument, NextPiece, ParseMode, Parser, PieceKind};
 use std::alloc::{AllocError, Global};
 
 /// A step without a piece and without a state.
@@ -269,7 +269,10 @@ impl<'a> Walker<'a> {
         let next = self.parser.curarg();
         let faults = self.parser.errors().len();
         let places = self.parser.arg_places().len();
-        let (given, fronts) = self.parser.next_into(&mut self.argument)?;
+        let NextPiece {
+            piece,
+            front_errors,
+        } = self.parser.next_into(&mut self.argument)?;
         put_state(&self.parser, step);
         step.place = closed_place(&self.parser, places);
         put_peeks(
@@ -279,8 +282,8 @@ impl<'a> Walker<'a> {
             &mut step.peek_ahead,
         );
         self.finders
-            .add(number, fronts, self.parser.errors().len() - faults)?;
-        self.put_given(&given, start, next, specs, step)?;
+            .add(number, front_errors, self.parser.errors().len() - faults)?;
+        self.put_given(&piece, start, next, specs, step)?;
         Ok(())
     }
 

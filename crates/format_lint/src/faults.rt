@@ -12,7 +12,7 @@ ghost use Rattle.format_lint.specs.Lint.{findings, start, tokens_in};
 ghost use Rattle.format_lint.specs.SeenLint.{Keeps, seen_source};
 
 use super::findings::Findings;
-use format_tokens::{Kind, Token, label, place_labels};
+use format_tokens::{Label, Token, label, place_labels};
 use rustc_parse_format::{Argument, ParseMode, Parser};
 use std::alloc::{AllocError, Global};
 
@@ -47,14 +47,14 @@ fn faults_of<'a>(alloc: Global, parser: &mut Parser<'a>) -> Result<Findings<'a>,
     Ok(faults)
 }
 
-/// Returns the tokens of a source's text, each with its number of characters, and the faults, by
-/// the calls of a parser at its start. Returns `Err` as `faults_of` does.
+/// Returns the labels of a source's text and its faults, by the calls of a parser at its start.
+/// Returns `Err` as `faults_of` does.
 fn labels_of<'a>(
     alloc: Global,
     parser: &mut Parser<'a>,
     mode: ParseMode,
     source: Source<'a>,
-) -> Result<(Vec<(Kind, usize)>, Findings<'a>), AllocError>
+) -> Result<(Vec<Label>, Findings<'a>), AllocError>
     requires { parser.old ≡ start (seen_mode mode) (seen_source source) }
     ensures labels { IfOk result (λ x. x.0.items
         ≡ map sized (read_tokens (seen_mode mode) (chars source.entry.text.now))) }

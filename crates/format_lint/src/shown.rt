@@ -28,7 +28,7 @@ use drawn_faults::put_drawing;
 use drawn_lines::Picture;
 use fault_fixes::fix;
 use literal_faults::snippet_of;
-use piece_listing::literal::literal_text;
+use piece_listing::literal::{LiteralText, literal_text};
 use piece_listing::verdict::RunFault;
 use rustc_parse_format::ParseMode;
 use std::alloc::{AllocError, Global};
@@ -309,7 +309,7 @@ fn shown_of_literal(alloc: Global, input: &str, task: Task<'_>) -> Result<Shown,
     ensures others { IfErr result (λ fault. fault ≢ NotLiteral → fault ≡ Memory) }
 {
     let snippet = snippet_of(input);
-    let Some((text, style)) = literal_text(alloc, snippet.text)? else {
+    let Some(LiteralText { text, style }) = literal_text(alloc, snippet.text)? else {
         return Err(RunFault::NotLiteral);
     };
     let source = Source {

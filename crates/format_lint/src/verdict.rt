@@ -3,15 +3,15 @@
 ghost use Rattle.std.specs.Prelude.{◌≡◌};
 ghost use Rattle.format_lint.specs.Lint.{verdict};
 
-use piece_listing::verdict::RunFault;
+use piece_listing::verdict::{Exit, RunFault};
 
-/// Returns the message for standard error, which is empty if there is no error, and the exit status
-/// of the program: 0 if no mistake is left, 1 if one is, 2 if the arguments are invalid or the
-/// input is not a string literal, and 3 after any other error. Does not allocate.
-pub fn verdict(answer: &Result<usize, RunFault>) -> (&'static str, u8)
-    ensures { (result.0.now, result.1) ≡ verdict answer.now }
+/// Returns the message and the exit status of the program for a result of `run`. The status is 0 if
+/// no mistake is left, 1 if one is, 2 if the arguments are invalid or the input is not a string
+/// literal, and 3 after any other error. Does not allocate.
+pub fn verdict(answer: &Result<usize, RunFault>) -> Exit
+    ensures { (result.message.now, result.status) ≡ verdict answer.now }
 {
-    match answer {
+    let (message, status) = match answer {
         Ok(0) => ("", 0),
         Ok(_) => ("", 1),
         Err(RunFault::Words) => ("formatlint: invalid arguments", 2),
@@ -21,5 +21,6 @@ pub fn verdict(answer: &Result<usize, RunFault>) -> (&'static str, u8)
         Err(RunFault::NotText) => ("formatlint: input is not UTF-8", 3),
         Err(RunFault::Memory) => ("formatlint: out of memory", 3),
         Err(RunFault::Write) => ("formatlint: writing failed", 3),
-    }
+    };
+    Exit { message, status }
 }

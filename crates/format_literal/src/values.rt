@@ -6,9 +6,9 @@ ghost use Rattle.rustc_parse_format.specs.World.{hashes};
 use crate::written::is_written;
 use fault_fixes::{Fixed, fix};
 use format_tokens::{Token, tokens};
-use piece_listing::literal::literal_text;
+use piece_listing::literal::{LiteralText, literal_text};
 use placeholder_check::{Report, check};
-use rustc_parse_format::{ParseMode, Parser, Piece, read_all};
+use rustc_parse_format::{ParseMode, Parser, Reading, read_all};
 use std::alloc::{AllocError, Global};
 
 /// A string literal that is read as a format string: the five arguments that calls over an input
@@ -61,7 +61,7 @@ impl<'a> Literal<'a> {
             ((style : Option ℕ) (t : Text) → IsWritten style (chars source.now) t → ⊥)
             (λ l. IsRead source.now (seen_mode mode) l)) }
     {
-        let Some((text, style)) = literal_text(alloc, source)? else {
+        let Some(LiteralText { text, style }) = literal_text(alloc, source)? else {
             return Ok(None);
         };
         if !is_written(source, style, &text) {
@@ -106,10 +106,10 @@ impl<'a> Literal<'a> {
 
     /// Returns the pieces and the parser after them, as `rustc_parse_format::read_all` does: the
     /// errors are in [`Parser::errors`]. Returns `Err` if an allocation fails.
-    pub fn read_all(&self, alloc: Global) -> Result<(Vec<Piece<'_>>, Parser<'_>), AllocError>
+    pub fn read_all(&self, alloc: Global) -> Result<Reading<'_>, AllocError>
         ensures { IfOk result (λ x. let s = start self.now in
-            (map seen x.0.items ≡ pieces_in s.world (pieces_of (calls s)))
-            × (x.1 ≡ after_all s (calls s))) }
+            (map seen x.pieces.items ≡ pieces_in s.world (pieces_of (calls s)))
+            × (x.parser ≡ after_all s (calls s))) }
     {
         let snippet = String::from_str(alloc, self.snippet)?;
         read_all(
@@ -171,7 +171,7 @@ impl<'a> Literal<'a> {
             IsReport (uses (pieces_in s.world (pieces_of (calls s)))) positional (texts names.now)
             (seen_report r)) }
     {
-        let (pieces, _) = self.read_all(alloc)?;
+        let Reading { pieces, parser: _ } = self.read_all(alloc)?;
         check(alloc, &pieces, positional, names)
     }
 }

@@ -24,7 +24,8 @@ use Rattle.rustc_parse_format.proofs.Grammar.Fronts.{front-rest_after}
 use Rattle.rustc_parse_format.proofs.Grammar.Rests.{IsRest}
 use Rattle.rustc_parse_format.proofs.Readers.Recoveries.{recovery_rest}
 use Rattle.format_tokens.specs.declared.kinds.Kind.TheVariants.{Text as TextKind, Escape, Close}
-use Rattle.format_tokens.specs.Midway.{Sized, Took}
+use Rattle.format_tokens.specs.declared.kinds.Label.{Label as Sized}
+use Rattle.format_tokens.specs.Midway.{Took}
 use Rattle.format_tokens.specs.Tokens.{opened_tokens, token}
 use Rattle.format_tokens.specs.Walk.{call_tokens, placeholder_tokens, skipped_tokens, up_to_rest}
 use Rattle.format_tokens.proofs.Skipping.{Skips}

@@ -17,7 +17,8 @@ use Rattle.rustc_parse_format.proofs.Grammar.PartLaws.{IsPart-moved, absent-same
 use Rattle.rustc_parse_format.proofs.Grammar.PartLaws.{row-two, two-split}
 use Rattle.format_tokens.specs.declared.kinds.Kind.TheVariants.{Asterisk, DollarSign, Dot}
 use Rattle.format_tokens.specs.declared.kinds.Kind.TheVariants.{Identifier, Zero}
-use Rattle.format_tokens.specs.Midway.{Sized, Took}
+use Rattle.format_tokens.specs.declared.kinds.Label.{Label as Sized}
+use Rattle.format_tokens.specs.Midway.{Took}
 use Rattle.format_tokens.specs.Tokens.{count_tokens, integer_kind, precision_tokens, token}
 use Rattle.format_tokens.specs.Tokens.{width_tokens, word_kind}
 use Rattle.format_tokens.proofs.Taking.{Takes, as_kind, moved, then, width-nil}

@@ -25,11 +25,11 @@ use Rattle.format_tokens.specs.Seen.{seen_token}
 use Rattle.format_tokens.specs.Midway.{sized}
 use Rattle.format_tokens.specs.Escapes.{Placed}
 use Rattle.format_tokens.specs.Placed.{placed, shown, tokens, whole_tokens, within}
-use Rattle.format_tokens.specs.Starts.{placed_sizes, starts_of}
+use Rattle.format_tokens.specs.Starts.{pairs, placed_sizes, starts_of}
 use Rattle.format_tokens.specs.Tokens.{Label, token}
 use Rattle.format_tokens.specs.Walk.{read_tokens, tokens_of}
 use Rattle.format_tokens.specs.Culprits.{marked}
-use Rattle.format_tokens.proofs.Marking.{marked-sized}
+use Rattle.format_tokens.proofs.Marking.{counted, marked-sized}
 use Rattle.format_tokens.proofs.Starts.{firsts, length-starts, placed-none, placed-some, starts-at}
 use Rattle.format_tokens.proofs.InText.{placed-shown, text-tokens}
 
@@ -47,22 +47,22 @@ token-none w n j k (c ∷ u) ls e none = absurd (omega arith)
 
 -- By lengths alone the same tokens are placed.
 one-placed : (w : World) (n k j : ℕ) (l : Label) (ls : List Label)
-    → ((m i : ℕ) → placed_sizes w m i (map sized ls) ≡ placed w m (within i ls))
+    → ((m i : ℕ) → placed_sizes w m i (map counted ls) ≡ placed w m (within i ls))
     → min (length l.1) k ≡ j
-    → placed_sizes w n k (sized l ∷ map sized ls) ≡ placed w n (within k (l ∷ ls))
-one-placed w n k zero l ls others e = placed-none w n k (sized l) (map sized ls) e
+    → placed_sizes w n k (counted l ∷ map counted ls) ≡ placed w n (within k (l ∷ ls))
+one-placed w n k zero l ls others e = placed-none w n k (counted l) (map counted ls) e
     ∙ (others n (k - length l.1)
     ∙ sym (token-none w n 0 l.0 (take k l.1) (within (k - length l.1) ls)
     (omega (arith, length-take k l.1, e)) refl))
 one-placed w n k (suc j) l ls others e =
-    placed-some w n k (sized l) (map sized ls) (omega (arith, e))
+    placed-some w n k (counted l) (map counted ls) (omega (arith, e))
     ∙ (ap (λ t. (l.0, (number_of w (Start n), number_of w (Start (n - min (length l.1) k)))) ∷ t)
     (others (n - min (length l.1) k) (k - length l.1))
     ∙ sym (token-placed w n (min (length l.1) k) l.0 (take k l.1)
     (within (k - length l.1) ls) (omega (arith, length-take k l.1)) (omega (arith, e))))
 
 pub sizes-placed : (w : World) (n k : ℕ) (ls : List Label)
-    → placed_sizes w n k (map sized ls) ≡ placed w n (within k ls)
+    → placed_sizes w n k (map counted ls) ≡ placed w n (within k ls)
 sizes-placed w n k [] = refl
 sizes-placed w n k (l ∷ ls) =
     one-placed w n k (min (length l.1) k) l ls (λ m i. sizes-placed w m i ls) refl
@@ -98,7 +98,7 @@ kept-small w n kept starts e f h = omega (arith, ap length e, length-starts w, f
 shown-tokens : (w : World) (mode : Mode) (input : Text) (b : Bool) (kept : ℕ)
     → length w.places ≡ length input → kept ≡ length (unappended b input)
     → placed_sizes w (length w.places) kept
-    (marked (wants_names mode) false (map sized (read_tokens mode input)))
+    (marked (wants_names mode) false (pairs (map sized (read_tokens mode input))))
     ≡ placed w (length input) (shown mode input b)
 shown-tokens w mode input b kept n e =
     ap (placed_sizes w (length w.places) kept)
@@ -112,7 +112,7 @@ pub plain-tokens : (mode : Mode) (input : Text) (style : Option ℕ) (snippet : 
     → (HasSource input style snippet b → ⊥)
     → (let w = plain_world false 0 input (byte_length input) in
     all ≡ placed_sizes w (length w.places) kept
-    (marked (wants_names mode) false (map sized (read_tokens mode input))))
+    (marked (wants_names mode) false (pairs (map sized (read_tokens mode input)))))
     → all ≡ tokens mode input style snippet b
 plain-tokens mode input style snippet b kept all e none h =
     h ∙ (shown-tokens (plain_world false 0 input (byte_length input)) mode input b kept
@@ -136,7 +136,7 @@ pub quoted-tokens : (mode : Mode) (input : Text) (style : Option ℕ) (literal :
     → (let w = world input style (Some literal) b in
     all ≡ ((Quote, (0, get_or starts 0 0)) ∷ []
     ++ placed_sizes w (length w.places) kept
-    (marked (wants_names mode) false (map sized (read_tokens mode input))))
+    (marked (wants_names mode) false (pairs (map sized (read_tokens mode input)))))
     ++ (Quote, (get_or starts (length starts - 1) 0, n)) ∷ [])
     → all ≡ whole_tokens mode input style (Some literal) b
 unfolding whole_tokens

@@ -1,5 +1,5 @@
 -- Marks do not depend on the characters of tokens.
-use Rattle.std.proofs.Common.{◌≡◌, Bool, List, [], ◌∷◌, map, length, refl, ap}
+use Rattle.std.proofs.Common.{◌≡◌, Bool, List, [], ◌∷◌, map, length, refl, ap, ◌∙◌}
 use Rattle.std.specs.Prelude.{if◌then◌else◌}
 use Rattle.format_tokens.specs.declared.culprits.Role.{Role}
 use Rattle.format_tokens.specs.declared.culprits.Role.TheVariants.{Open, Close, Text, Name}
@@ -7,29 +7,43 @@ use Rattle.format_tokens.specs.declared.culprits.Role.TheVariants.{Number, Messa
 use Rattle.format_tokens.specs.declared.kinds.Kind.TheVariants.{Unexpected}
 use Rattle.format_tokens.specs.Culprits.{closes, closes_or, fits, has_argument, marked, role_of}
 use Rattle.format_tokens.specs.Midway.{sized}
+use Rattle.format_tokens.specs.Starts.{Pair, pairs}
 use Rattle.format_tokens.specs.Tokens.{Label}
 
-closes-sized : (ls : List Label) → closes (map sized ls) ≡ closes ls
-closes-sized [] = refl
-closes-sized (l ∷ ls) = ap (λ b. closes_or b (role_of l.0)) (closes-sized ls)
+-- The token as a pair, with its length in place of its characters.
+abbrev pub counted : Label → Pair
+counted l = (l.0, length l.1)
 
-argument-sized : (ls : List Label) → has_argument (map sized ls) ≡ has_argument ls
-argument-sized [] = refl
-argument-sized (l ∷ ls) = refl
+closes-counted : (ls : List Label) → closes (map counted ls) ≡ closes ls
+closes-counted [] = refl
+closes-counted (l ∷ ls) = ap (λ b. closes_or b (role_of l.0)) (closes-counted ls)
 
-fits-sized : (names inside : Bool) (ls : List Label) (r : Role)
-    → fits names inside (map sized ls) r ≡ fits names inside ls r
-fits-sized names inside ls Open = rw (closes-sized ls, argument-sized ls) refl
-fits-sized names inside ls Close = refl
-fits-sized names inside ls Text = refl
-fits-sized names inside ls Name = refl
-fits-sized names inside ls Number = refl
-fits-sized names inside ls Message = refl
-fits-sized names inside ls Other = refl
+argument-counted : (ls : List Label) → has_argument (map counted ls) ≡ has_argument ls
+argument-counted [] = refl
+argument-counted (l ∷ ls) = refl
+
+fits-counted : (names inside : Bool) (ls : List Label) (r : Role)
+    → fits names inside (map counted ls) r ≡ fits names inside ls r
+fits-counted names inside ls Open = rw (closes-counted ls, argument-counted ls) refl
+fits-counted names inside ls Close = refl
+fits-counted names inside ls Text = refl
+fits-counted names inside ls Name = refl
+fits-counted names inside ls Number = refl
+fits-counted names inside ls Message = refl
+fits-counted names inside ls Other = refl
+
+marked-counted : (names : Bool) (ls : List Label) (inside : Bool)
+    → marked names inside (map counted ls) ≡ map counted (marked names inside ls)
+marked-counted names [] inside = refl
+marked-counted names (l ∷ ls) inside = rw (fits-counted names inside ls (role_of l.0))
+    (ap (λ ss. ((if fits names inside ls (role_of l.0) then l.0 else Unexpected), length l.1) ∷ ss)
+    (marked-counted names ls _))
+
+pairs-counted : (ls : List Label) → pairs (map sized ls) ≡ map counted ls
+pairs-counted [] = refl
+pairs-counted (l ∷ ls) = ap (λ (ss : List Pair). counted l ∷ ss) (pairs-counted ls)
 
 pub marked-sized : (names : Bool) (ls : List Label) (inside : Bool)
-    → marked names inside (map sized ls) ≡ map sized (marked names inside ls)
-marked-sized names [] inside = refl
-marked-sized names (l ∷ ls) inside = rw (fits-sized names inside ls (role_of l.0))
-    (ap (λ ss. ((if fits names inside ls (role_of l.0) then l.0 else Unexpected), length l.1) ∷ ss)
-    (marked-sized names ls _))
+    → marked names inside (pairs (map sized ls)) ≡ map counted (marked names inside ls)
+marked-sized names ls inside =
+    ap (marked names inside) (pairs-counted ls) ∙ marked-counted names ls inside

@@ -4,7 +4,7 @@ use Rattle.std.proofs.Common.{◌∷◌, length, map, take, get_or, refl, sym, a
 use Rattle.std.proofs.Common.{append-nil, Some, None, chars, IsUtf8}
 use Rattle.std.proofs.lemmas.List.{append_cancel_right, map-append, take_all, take_more}
 use Rattle.std.specs.Prelude.{if◌then◌else◌}
-use Rattle.std.specs.declared.ops.Range.{Range}
+use Rattle.rustc_parse_format.specs.declared.literal.ContentCharacter.{ContentCharacter}
 use Rattle.rustc_parse_format.specs.Characters.{Text, byte_length}
 use Rattle.rustc_parse_format.specs.Literal.{IsReadAs, IsSource, content_value, ordinary_frame}
 use Rattle.rustc_parse_format.specs.LiteralReading.{seen_characters}
@@ -17,19 +17,17 @@ use Rattle.rustc_parse_format.proofs.Spans.Worlds.{known}
 use Rattle.format_tokens.specs.Starts.{starts_of}
 use Rattle.format_tokens.proofs.Starts.{firsts}
 
-abbrev pub Read : Type 0
-Read = Range ℕ × ℕ
-
--- What is read past the end of the list.
-abbrev pub no_read : Read
-no_read = (record { start = 0; end = 0 }, 0)
+-- A character past the end of the list.
+abbrev pub no_read : ContentCharacter
+no_read = record { span = record { start = 0; end = 0 }; character = 0 }
 
 -- The places of what is read, as byte ranges of the literal.
-abbrev pub places_of : List Read → List Place
-places_of xs = map (λ x. (suc x.0.start, suc x.0.end)) xs
+abbrev pub places_of : List ContentCharacter → List Place
+places_of xs = map (λ x. (suc x.span.start, suc x.span.end)) xs
 
 -- The places so far are there, and the text so far ends there.
-pub record IsReadSoFar (xs : List Read) (i : ℕ) (starts : List ℕ) (end : ℕ) : Type 0 where
+pub record IsReadSoFar (xs : List ContentCharacter) (i : ℕ) (starts : List ℕ) (end : ℕ) :
+    Type 0 where
   pub starts_are : starts ≡ firsts (places_of (take i xs))
   pub end_is : end ≡ last_stop 1 (places_of (take i xs))
 
@@ -37,15 +35,17 @@ last_stop-more : (e : ℕ) (ps : List Place) (p : Place) → last_stop e (ps ++ 
 last_stop-more e [] p = refl
 last_stop-more e (q ∷ ps) p = last_stop-more q.1 ps p
 
-pub read-next : (xs : List Read) (i : ℕ) (starts more : List ℕ) (end a b : ℕ) (d : Read)
+pub read-next : (xs : List ContentCharacter) (i : ℕ) (starts more : List ℕ) (end a b : ℕ)
+    (d : ContentCharacter)
     → IsReadSoFar xs i starts end → i < length xs → more ≡ starts ++ a ∷ []
-    → a ≡ suc (get_or xs i d).0.start → b ≡ suc (get_or xs i d).0.end
+    → a ≡ suc (get_or xs i d).span.start → b ≡ suc (get_or xs i d).span.end
     → IsReadSoFar xs (i + 1) more b
 read-next xs i starts more end a b d h l m e f =
-    let x : Place = (suc (get_or xs i d).0.start, suc (get_or xs i d).0.end) in
+    let x : Place = (suc (get_or xs i d).span.start, suc (get_or xs i d).span.end) in
     let all : places_of (take (i + 1) xs) ≡ places_of (take i xs) ++ x ∷ [] =
     ap places_of (take_more xs i d l)
-    ∙ map-append (λ (y : Read). (suc y.0.start, suc y.0.end)) (take i xs) (get_or xs i d ∷ []) in
+    ∙ map-append (λ (y : ContentCharacter). (suc y.span.start, suc y.span.end)) (take i xs)
+    (get_or xs i d ∷ []) in
     record {
       starts_are = m ∙ (ap (λ l. l ++ a ∷ []) h.starts_are
           ∙ (ap (λ n. firsts (places_of (take i xs)) ++ n ∷ []) e
@@ -54,7 +54,7 @@ read-next xs i starts more end a b d h l m e f =
       end_is = f ∙ (sym (last_stop-more 1 (places_of (take i xs)) x) ∙ ap (last_stop 1) (sym all));
     }
 
-places_seen : (xs : List Read)
+places_seen : (xs : List ContentCharacter)
     → map (λ (x : Place × ℕ). later 1 x.0) (seen_characters xs) ≡ places_of xs
 places_seen [] = refl
 places_seen (x ∷ xs) = same (places_seen xs) (omega arith) (omega arith)
@@ -68,7 +68,8 @@ pub record IsBounded (ps : List Place) (n : ℕ) : Type 0 where
   pub in_order : InOrder 1 ps
   pub inside : last_stop 1 ps < n
 
-pub read-bounded : (content : Text) (xs : List Read) → IsReadAs content (seen_characters xs)
+pub read-bounded : (content : Text) (xs : List ContentCharacter)
+    → IsReadAs content (seen_characters xs)
     → IsBounded (places_of xs) (byte_length (ordinary_frame content))
 read-bounded content xs (us, only, e) =
     let k = known (content_value us) None (ordinary_frame content) false
@@ -90,21 +91,22 @@ last-after : (b : ℕ) (ps : List Place) → InOrder b ps → b ≤ last_stop b 
 last-after b [] o = omega arith
 last-after b (p ∷ ps) (s, t, rest) = omega (arith, last-after p.1 ps rest)
 
-in_order-at : (b e : ℕ) (xs : List Read) (i : ℕ) (d : Read) → InOrder b (places_of xs)
-    → i < length xs → (suc (get_or xs i d).0.end ≤ last_stop e (places_of xs))
-    × ((get_or xs i d).0.start < (get_or xs i d).0.end)
+in_order-at : (b e : ℕ) (xs : List ContentCharacter) (i : ℕ) (d : ContentCharacter)
+    → InOrder b (places_of xs) → i < length xs → (suc (get_or xs i d).span.end ≤ last_stop e (places_of xs))
+    × ((get_or xs i d).span.start < (get_or xs i d).span.end)
 in_order-at b e [] i d o h = absurd (omega arith)
 in_order-at b e (x ∷ xs) zero d (s, t, rest) h =
-    (last-after (suc x.0.end) (places_of xs) rest, omega arith)
+    (last-after (suc x.span.end) (places_of xs) rest, omega arith)
 in_order-at b e (x ∷ xs) (suc i) d (s, t, rest) h =
-    in_order-at (suc x.0.end) (suc x.0.end) xs i d rest (omega arith)
+    in_order-at (suc x.span.end) (suc x.span.end) xs i d rest (omega arith)
 
 -- So one more than its offsets is at most the length of the literal.
-pub read-fits : (snippet : List ℕ) (content : Text) (xs : List Read) (i : ℕ) (d : Read)
+pub read-fits : (snippet : List ℕ) (content : Text) (xs : List ContentCharacter) (i : ℕ)
+    (d : ContentCharacter)
     → IsUtf8 snippet → chars snippet ≡ ordinary_frame content
     → IsReadAs content (seen_characters xs) → i < length xs
-    → ((get_or xs i d).0.start < (get_or xs i d).0.end)
-    × ((get_or xs i d).0.end + 1 < length snippet)
+    → ((get_or xs i d).span.start < (get_or xs i d).span.end)
+    × ((get_or xs i d).span.end + 1 < length snippet)
 read-fits snippet content xs i d v e read h =
     let b = read-bounded content xs read in
     let a = in_order-at 1 1 xs i d b.in_order h in
@@ -124,7 +126,7 @@ with_starts : (b : Bool) (x y : List ℕ) (d e : ℕ) → x ≡ y → d ≡ e
 with_starts b x y d e f g = rw (f, g) refl
 
 -- The starts of the characters that are read, that of an appended newline and the end of the text.
-pub ordinary-all : (input snippet content : Text) (xs : List Read) (appended : Bool)
+pub ordinary-all : (input snippet content : Text) (xs : List ContentCharacter) (appended : Bool)
     (starts all : List ℕ) (end : ℕ) → snippet ≡ ordinary_frame content
     → ((i : Text) (a : Bool) → IsSource i None (ordinary_frame content) a
     → (let w = world i None (Some (ordinary_frame content)) a in

@@ -14,7 +14,8 @@ use Rattle.rustc_parse_format.specs.Types.{Index, Named}
 use Rattle.rustc_parse_format.specs.Values.{position_of}
 use Rattle.rustc_parse_format.proofs.Grammar.PartLaws.{absent-same, two-split}
 use Rattle.format_tokens.specs.declared.kinds.Kind.TheVariants.{Identifier, RawPrefix}
-use Rattle.format_tokens.specs.Midway.{Sized, Took, names_raw}
+use Rattle.format_tokens.specs.declared.kinds.Label.{Label as Sized}
+use Rattle.format_tokens.specs.Midway.{Took, names_raw}
 use Rattle.format_tokens.specs.Tokens.{integer_kind, position_tokens, word_kind}
 use Rattle.format_tokens.proofs.Counts.{integer-kind, integer-width}
 use Rattle.format_tokens.proofs.Taking.{Takes, as_kind, then, width-nil}

@@ -16,7 +16,8 @@ use Rattle.rustc_parse_format.specs.State.{State, after, next_call}
 use Rattle.rustc_parse_format.proofs.Grammar.Rests.{IsRest}
 use Rattle.rustc_parse_format.proofs.Walking.ParserLaws.{call_rest}
 use Rattle.rustc_parse_format.proofs.Walking.Progress.{call-lt}
-use Rattle.format_tokens.specs.Midway.{Sized, Took, sized}
+use Rattle.format_tokens.specs.declared.kinds.Label.{Label as Sized}
+use Rattle.format_tokens.specs.Midway.{Took, sized}
 use Rattle.format_tokens.specs.Walk.{call_tokens, read_tokens, tokens_within}
 
 pub IsRest-width : {t r : Text} → IsRest t r → byte_length r ≤ byte_length t

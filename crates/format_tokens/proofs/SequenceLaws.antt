@@ -1,12 +1,12 @@
 -- The tokens of escapes are the escapes of the source.
 use Rattle.std.proofs.Common.{◌≡◌, ℕ, suc, zero, ◌++◌, ◌-◌, Bool, true, false, List, [], ◌∷◌, ◌∙◌}
-use Rattle.std.proofs.Common.{length, map, refl, sym, ap, cond, nat_lt, Option, Some, None}
+use Rattle.std.proofs.Common.{length, map, refl, ap, cond, nat_lt, Option, Some, None}
 use Rattle.std.specs.Prelude.{filter}
 use Rattle.rustc_parse_format.specs.Characters.{Text, byte_length}
 use Rattle.format_tokens.specs.declared.kinds.Kind.{Kind}
 use Rattle.format_tokens.specs.declared.kinds.Kind.TheVariants.{EscapeSequence}
 use Rattle.format_tokens.specs.Escapes.{Placed, escape_at, is_apart, parts, parts_within, run}
-use Rattle.format_tokens.specs.Sequences.{SourceEscape, apart, escapes_of, escapes_within}
+use Rattle.format_tokens.specs.Sequences.{apart, escapes_of, escapes_within}
 use Rattle.format_tokens.specs.Sequences.{is_sequence}
 use Rattle.format_tokens.specs.Sequences.{sequence, sequences}
 

@@ -11,7 +11,8 @@ use Rattle.std.proofs.lemmas.Bool.{eqb-true, false≢true, false_from_ne_true}
 use Rattle.std.proofs.lemmas.List.Sums.{sum_by-append}
 use Rattle.rustc_parse_format.specs.Characters.{Text, byte_length}
 use Rattle.format_tokens.specs.declared.kinds.Kind.TheVariants.{Close, Unexpected}
-use Rattle.format_tokens.specs.Midway.{Sized, Took}
+use Rattle.format_tokens.specs.declared.kinds.Label.{Label as Sized}
+use Rattle.format_tokens.specs.Midway.{Took}
 use Rattle.format_tokens.specs.Tokens.{Label}
 use Rattle.format_tokens.specs.Walk.{is_closed, skipped_tokens}
 use Rattle.format_tokens.proofs.Taking.{Takes, then, width-nil}

@@ -15,7 +15,8 @@ use Rattle.rustc_parse_format.proofs.Grammar.PartLaws.{two-split}
 use Rattle.format_tokens.specs.declared.kinds.Kind.TheVariants.{Colon}
 use Rattle.format_tokens.specs.declared.kinds.Kind.TheVariants.{Modifier as ModifierKind}
 use Rattle.format_tokens.specs.declared.kinds.Kind.TheVariants.{DiagnosticText as DiagnosticKind}
-use Rattle.format_tokens.specs.Midway.{Sized, Took}
+use Rattle.format_tokens.specs.declared.kinds.Label.{Label as Sized}
+use Rattle.format_tokens.specs.Midway.{Took}
 use Rattle.format_tokens.specs.Tokens.{format_tokens, spec_tokens, word_kind}
 use Rattle.format_tokens.proofs.Taking.{Takes, as_kind, then}
 

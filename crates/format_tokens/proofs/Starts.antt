@@ -12,9 +12,8 @@ use Rattle.rustc_parse_format.specs.Marks.{Start}
 use Rattle.rustc_parse_format.specs.World.{World, Place, number_of, place_at, plain_places}
 use Rattle.rustc_parse_format.specs.World.{plain_world}
 use Rattle.format_tokens.specs.declared.kinds.Kind.{Kind}
-use Rattle.format_tokens.specs.Midway.{Sized}
 use Rattle.format_tokens.specs.Escapes.{Placed}
-use Rattle.format_tokens.specs.Starts.{placed_sizes, starts_of}
+use Rattle.format_tokens.specs.Starts.{Pair, placed_sizes, starts_of}
 
 abbrev pub firsts : List Place → List ℕ
 firsts ps = map (λ (p : Place). p.0) ps
@@ -71,7 +70,7 @@ length-starts w = length-append (firsts w.places) (w.end ∷ [])
     ∙ ap (λ n. n + 1) (length-map w.places (λ (p : Place). p.0))
 
 -- The tokens of a label and those that follow.
-pub placed-some : (w : World) (n k : ℕ) (s : Sized) (ss : List Sized) → 0 < min s.1 k
+pub placed-some : (w : World) (n k : ℕ) (s : Pair) (ss : List Pair) → 0 < min s.1 k
     → placed_sizes w n k (s ∷ ss)
     ≡ (s.0, (number_of w (Start n), number_of w (Start (n - min s.1 k))))
     ∷ placed_sizes w (n - min s.1 k) (k - s.1) ss
@@ -80,13 +79,13 @@ placed-some w n k s ss some =
     (λ t. absurd (omega (arith, eqb-true (min s.1 k) 0 t, some))) in
     rw test refl
 
-pub placed-none : (w : World) (n k : ℕ) (s : Sized) (ss : List Sized) → min s.1 k ≡ 0
+pub placed-none : (w : World) (n k : ℕ) (s : Pair) (ss : List Pair) → min s.1 k ≡ 0
     → placed_sizes w n k (s ∷ ss) ≡ placed_sizes w n (k - s.1) ss
 placed-none w n k s ss none =
     let test : (min s.1 k == 0) ≡ true = eq-eqb (min s.1 k) 0 none in
     rw test (ap (λ m. placed_sizes w m (k - s.1) ss) (omega (arith, none)))
 
-same_sizes : (w : World) (ss : List Sized) (a b c d : ℕ) → a ≡ b → c ≡ d
+same_sizes : (w : World) (ss : List Pair) (a b c d : ℕ) → a ≡ b → c ≡ d
     → placed_sizes w a c ss ≡ placed_sizes w b d ss
 same_sizes w ss a b c d e f = rw (e, f) refl
 
@@ -95,7 +94,7 @@ pub same_token : (k : Kind) (a b x y : ℕ) (l m : List Placed) → a ≡ x → 
 same_token k a b x y l m e f g = cc
 
 -- One step of the loop that places tokens: with the tokens of a label, the others follow.
-pub place-some : (w : World) (starts : List ℕ) (at kept m : ℕ) (s : Sized) (ss : List Sized)
+pub place-some : (w : World) (starts : List ℕ) (at kept m : ℕ) (s : Pair) (ss : List Pair)
     (done whole : List Placed) → starts ≡ starts_of w → at ≤ kept → kept < length starts
     → m ≡ min s.1 (kept - at) → at < at + m
     → done ++ placed_sizes w (length w.places - at) (kept - at) (s ∷ ss) ≡ whole
@@ -118,7 +117,7 @@ place-some w starts at kept m s ss done whole e h small f some g =
     ∙ (ap (λ l. done ++ l) (same ∙ sym (placed-some w (n - at) (kept - at) s ss
     (omega (arith, f, some)))) ∙ g)
 
-pub place-none : (w : World) (at kept m : ℕ) (s : Sized) (ss : List Sized)
+pub place-none : (w : World) (at kept m : ℕ) (s : Pair) (ss : List Pair)
     (done whole : List Placed) → m ≡ min s.1 (kept - at) → at + m ≤ at
     → done ++ placed_sizes w (length w.places - at) (kept - at) (s ∷ ss) ≡ whole
     → done ++ placed_sizes w (length w.places - (at + m)) (kept - (at + m)) ss ≡ whole

@@ -14,7 +14,8 @@ use Rattle.std.proofs.Math.Utf8.{encodes, scalar, scalars}
 use Rattle.rustc_parse_format.specs.Characters.{Text, byte_length}
 use Rattle.rustc_parse_format.proofs.Sources.PlainPlaces.{width_encodes}
 use Rattle.format_tokens.specs.declared.kinds.Kind.{Kind}
-use Rattle.format_tokens.specs.Midway.{Sized, Took, sized}
+use Rattle.format_tokens.specs.declared.kinds.Label.{Label as Sized}
+use Rattle.format_tokens.specs.Midway.{Took, sized}
 use Rattle.format_tokens.specs.Tokens.{Label, token}
 
 -- Tokens that are taken after others.
@@ -101,10 +102,13 @@ front_chars text u r n front v e w f =
     ∙ (ap (take (length (encodes u))) h.bytes ∙ take-append_seam (encodes u) (encodes r))))
     ∙ h.front
 
+abbrev label_of : Kind → ℕ → Sized
+label_of k m = record { kind = k; width = m }
+
 -- A token of some bytes.
 pub take-some : (k : Kind) (u r : Text) (x y : List Sized) (t front left : List ℕ) (n m : ℕ)
     → n ≢ 0 → IsUtf8 t → chars t ≡ u ++ r → n ≡ byte_length u → front ≡ take n t → left ≡ drop n t
-    → m ≡ length (chars front) → y ≡ x ++ (k, m) ∷ [] → Took (token k u) r x y left
+    → m ≡ length (chars front) → y ≡ x ++ label_of k m ∷ [] → Took (token k u) r x y left
 take-some k [] r x y t front left n m z v e w f l i added = absurd (z w)
 take-some k (c ∷ u) r x y t front left n m z v e w f l i added =
     let h = halves t (c ∷ u) r v e in
@@ -118,7 +122,7 @@ take-some k (c ∷ u) r x y t front left n m z v e w f l i added =
     ∙ (ap (take (length (encodes (c ∷ u)))) h.bytes
     ∙ take-append_seam (encodes (c ∷ u)) (encodes r)) in
     record {
-      adds = added ∙ ap (λ m. x ++ (k, m) ∷ []) (i ∙ (ap (λ b. length (chars b)) (f ∙ kept)
+      adds = added ∙ ap (λ m. x ++ label_of k m ∷ []) (i ∙ (ap (λ b. length (chars b)) (f ∙ kept)
           ∙ ap length h.front));
       leaves = ap chars (l ∙ cut) ∙ h.rest;
     }

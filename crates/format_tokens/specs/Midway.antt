@@ -4,18 +4,14 @@ use Prim.Native.Char.{code}
 use Rattle.std.specs.Prelude.{◌≡◌, ℕ, ◌++◌, ◌&&◌, Bool, false, List, [], ◌∷◌, length, map, chars}
 use Rattle.std.specs.Char.{is_ascii_digit, is_whitespace}
 use Rattle.rustc_parse_format.specs.Characters.{Text, begins_with, after_first}
-use Rattle.format_tokens.specs.declared.kinds.Kind.{Kind}
+use Rattle.format_tokens.specs.declared.kinds.Label.{Label as Sized}
 use Rattle.format_tokens.specs.declared.parts.Run.{Run}
 use Rattle.format_tokens.specs.declared.parts.Run.TheVariants.{Digits, Whitespace}
 use Rattle.format_tokens.specs.Tokens.{Label}
 
--- A kind and a number of characters.
-abbrev pub Sized : Type 0
-Sized = Kind × ℕ
-
 -- The token with its length in place of its characters.
 abbrev pub sized : Label → Sized
-sized l = (l.0, length l.1)
+sized l = record { kind = l.0; width = length l.1 }
 
 -- The tokens are added to a list, each with its length, and r is left of the text.
 pub record Took (ls : List Label) (r : Text) (old new : List Sized) (left : List ℕ) : Type 0 where

@@ -1,6 +1,6 @@
 -- The escapes of a source text, one after the other: the law on the tokens of escapes is about
 -- these.
-use Rattle.std.specs.Prelude.{ℕ, suc, zero, ◌-◌, Bool, true, false, List, [], ◌∷◌, length, map}
+use Rattle.std.specs.Prelude.{ℕ, suc, zero, ◌-◌, Bool, true, false, List, [], ◌∷◌, length}
 use Rattle.std.specs.Prelude.{filter}
 use Rattle.std.specs.Prelude.{Some, None}
 use Rattle.rustc_parse_format.specs.Characters.{Text, byte_length}

@@ -4,8 +4,9 @@ ghost use Rattle.std.specs.Prelude.{◌≡◌, if◌then◌else◌};
 ghost use Rattle.format_tokens.specs.declared.kinds.Kind.TheVariants.{Unexpected};
 ghost use Rattle.format_tokens.specs.Culprits.{closes, fits, has_argument, inside_after};
 ghost use Rattle.format_tokens.specs.Culprits.{is_argument, role_of};
+ghost use Rattle.format_tokens.specs.Starts.{pairs};
 
-use crate::kinds::Kind;
+use crate::kinds::{Kind, Label};
 
 /// The part of a token among those of a placeholder.
 #[derive(Clone, Copy)]
@@ -56,11 +57,11 @@ pub fn role_of(kind: Kind) -> Role
 }
 
 /// Returns whether the first brace that stands alone is a closing one.
-fn closes(labels: &[(Kind, usize)]) -> bool
-    ensures { result ≡ closes labels.now }
+fn closes(labels: &[Label]) -> bool
+    ensures { result ≡ closes (pairs labels.now) }
 {
     for label in labels {
-        match role_of(label.0) {
+        match role_of(label.kind) {
             Role::Open => return false,
             Role::Close => return true,
             Role::Text | Role::Name | Role::Number | Role::Message | Role::Other => {}
@@ -80,16 +81,16 @@ fn is_argument(role: Role) -> bool
 }
 
 /// Returns whether the first token is that of an argument.
-fn has_argument(labels: &[(Kind, usize)]) -> bool
-    ensures { result ≡ has_argument labels.now }
+fn has_argument(labels: &[Label]) -> bool
+    ensures { result ≡ has_argument (pairs labels.now) }
 {
-    !labels.is_empty() && is_argument(role_of(labels[0].0))
+    !labels.is_empty() && is_argument(role_of(labels[0].kind))
 }
 
 /// Returns whether a token is in place before `others`. `names` says that only names are accepted,
 /// `inside` that the token is inside a pair of braces.
-pub fn fits(names: bool, inside: bool, role: Role, others: &[(Kind, usize)]) -> bool
-    ensures { result ≡ fits names inside others.now role }
+pub fn fits(names: bool, inside: bool, role: Role, others: &[Label]) -> bool
+    ensures { result ≡ fits names inside (pairs others.now) role }
 {
     match role {
         Role::Open => closes(others) && (!names || has_argument(others)),

@@ -13,14 +13,13 @@ ghost use Rattle.format_tokens.specs.Seen.{seen_token};
 
 use crate::kinds::{Kind, Token};
 use crate::parts::{after_first, begins, width_of};
-use rustc_parse_format::literal::split_first_unit;
+use rustc_parse_format::literal::{FirstUnit, split_first_unit};
 use std::alloc::{AllocError, Global};
 use std::ops::Range;
 
-/// Returns the character that the escape at the start of a text stands for, if any, and the rest of
-/// the text after it, or `None` if the text begins with no escape.
-fn escape_at(text: &str) -> Option<(Option<char>, &str)>
-    ensures { option_map (λ x. (at_most_one x.0, chars x.1.now)) result
+/// Returns the escape at the start of a text, or `None` if the text begins with no escape.
+fn escape_at(text: &str) -> Option<FirstUnit<'_>>
+    ensures { option_map (λ x. (at_most_one x.character, chars x.rest.now)) result
         ≡ escape_at (chars text.now) }
 {
     if begins(text, '\\') {
@@ -110,7 +109,12 @@ fn put_parts(tokens: &mut Vec<Token>, token: &Token, text: &str) -> Result<(), A
     while !rest.is_empty() {
         match escape_at(rest) {
             None => rest = after_first(rest),
-            Some((character, others)) => {
+            Some(
+                FirstUnit {
+                    character,
+                    rest: others,
+                },
+            ) => {
                 if is_apart(token.kind, character) {
                     let at = end.saturating_sub(width_of(rest));
                     let to = end.saturating_sub(width_of(others));

@@ -18,7 +18,7 @@ ghost use Rattle.format_tokens.specs.Starts.{starts_of};
 ghost use Rattle.format_tokens.specs.Walk.{read_tokens};
 
 use crate::escapes::cut_escapes;
-use crate::kinds::{Kind, Token};
+use crate::kinds::{Kind, Label, Token};
 use crate::parts::{length_of, width_of};
 use crate::places::{ordinary_starts, place, plain_starts};
 use crate::walk::labels;
@@ -91,7 +91,7 @@ fn place_whole(
     literal: &str,
     appended_newline: bool,
     names: bool,
-    labels: &[(Kind, usize)],
+    labels: &[Label],
 ) -> Result<Vec<Token>, AllocError>
     requires room { hashes style + length input.now + 2 < 2 ^ 64 }
     requires source { IsSource (chars input.now) style (chars literal.now) appended_newline }
@@ -116,9 +116,8 @@ fn place_whole(
     Ok(tokens)
 }
 
-/// Returns the tokens of an input with their byte ranges. `labels` has the kind of each, as `label`
-/// adds them, and its number of characters; the other arguments are those of `tokens`. Returns
-/// `Err` if an allocation fails.
+/// Returns the tokens of an input with their byte ranges. `labels` are those that `label` adds; the
+/// other arguments are those of `tokens`. Returns `Err` if an allocation fails.
 pub fn place_labels(
     alloc: Global,
     input: &str,
@@ -126,7 +125,7 @@ pub fn place_labels(
     snippet: Option<&str>,
     appended_newline: bool,
     mode: ParseMode,
-    labels: &[(Kind, usize)],
+    labels: &[Label],
 ) -> Result<Vec<Token>, AllocError>
     requires { hashes style + length input.now + 2 < 2 ^ 64 }
     ensures { IfOk result (λ v.

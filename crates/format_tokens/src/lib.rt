@@ -10,6 +10,6 @@ mod parts;
 mod places;
 mod walk;
 
-pub use kinds::{Kind, Token};
+pub use kinds::{Kind, Label, Token};
 pub use lexer::{place_labels, tokens};
 pub use walk::label;

@@ -24,7 +24,7 @@ ghost use Rattle.format_tokens.specs.Tokens.{count_tokens, format_tokens, positi
 ghost use Rattle.format_tokens.specs.Tokens.{integer_kind, precision_tokens, spec_tokens, token};
 ghost use Rattle.format_tokens.specs.Tokens.{width_tokens, word_kind};
 
-use crate::kinds::Kind;
+use crate::kinds::{Kind, Label};
 use rustc_parse_format::{Alignment, Count, DebugHex, FormatSpec, ParseMode, Position, Sign};
 use std::alloc::AllocError;
 
@@ -38,7 +38,7 @@ pub fn length_of(text: &str) -> usize
 /// Adds a token of a text's first `bytes` bytes, and returns the rest of the text. Without bytes
 /// there is no token. Returns `Err` if an allocation fails.
 pub fn take<'a>(
-    labels: &mut Vec<(Kind, usize)>,
+    labels: &mut Vec<Label>,
     kind: Kind,
     bytes: usize,
     text: &'a str,
@@ -51,7 +51,10 @@ pub fn take<'a>(
     }
     match text.split_at_checked(bytes) {
         Some((front, left)) => {
-            labels.push((kind, length_of(front)))?;
+            labels.push(Label {
+                kind,
+                width: length_of(front),
+            })?;
             Ok(left)
         }
         None => Ok(""),
@@ -186,7 +189,7 @@ fn is_raw(text: &str, name: &str) -> bool
 
 /// Adds the tokens of a position.
 pub fn position<'a>(
-    labels: &mut Vec<(Kind, usize)>,
+    labels: &mut Vec<Label>,
     position: &Position<'_>,
     text: &'a str,
 ) -> Result<&'a str, AllocError>
@@ -218,7 +221,7 @@ pub fn position<'a>(
 
 /// Adds the tokens of a count.
 fn count<'a>(
-    labels: &mut Vec<(Kind, usize)>,
+    labels: &mut Vec<Label>,
     count: &Count<'_>,
     text: &'a str,
 ) -> Result<&'a str, AllocError>
@@ -268,7 +271,7 @@ fn count<'a>(
 
 /// Adds the tokens of a width, with the flag `0` if it is set.
 fn width<'a>(
-    labels: &mut Vec<(Kind, usize)>,
+    labels: &mut Vec<Label>,
     zero_pad: bool,
     width: &Count<'_>,
     text: &'a str,
@@ -285,7 +288,7 @@ fn width<'a>(
 
 /// Adds the tokens of a precision, with the dot before it.
 fn precision<'a>(
-    labels: &mut Vec<(Kind, usize)>,
+    labels: &mut Vec<Label>,
     precision: &Count<'_>,
     text: &'a str,
 ) -> Result<&'a str, AllocError>
@@ -342,7 +345,7 @@ fn type_width(debug_hex: Option<DebugHex>, ty: &str) -> usize
 
 /// Adds the tokens of a format specification.
 fn format<'a>(
-    labels: &mut Vec<(Kind, usize)>,
+    labels: &mut Vec<Label>,
     format: &FormatSpec<'_>,
     text: &'a str,
 ) -> Result<&'a str, AllocError>
@@ -373,7 +376,7 @@ fn format<'a>(
 
 /// Adds the tokens of a specification, with the colon before it.
 pub fn specification<'a>(
-    labels: &mut Vec<(Kind, usize)>,
+    labels: &mut Vec<Label>,
     mode: ParseMode,
     spec: &FormatSpec<'_>,
     text: &'a str,

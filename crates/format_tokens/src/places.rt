@@ -9,10 +9,10 @@ ghost use Rattle.rustc_parse_format.specs.Literal.{IsSource};
 ghost use Rattle.rustc_parse_format.specs.World.{World, plain_world, world};
 ghost use Rattle.format_tokens.specs.Culprits.{marked};
 ghost use Rattle.format_tokens.specs.Seen.{seen_token};
-ghost use Rattle.format_tokens.specs.Starts.{placed_sizes, starts_of};
+ghost use Rattle.format_tokens.specs.Starts.{pairs, placed_sizes, starts_of};
 
 use crate::culprits::{fits, inside_after, marked_kind, role_of};
-use crate::kinds::{Kind, Token};
+use crate::kinds::{Label, Token};
 use crate::parts::length_of;
 use rustc_parse_format::literal::{quoted_content, read_content};
 use std::alloc::{AllocError, Global};
@@ -60,8 +60,8 @@ pub fn ordinary_starts(
     let mut starts = Vec::with_capacity(alloc, characters.len().saturating_add(2))?;
     let mut end = 1;
     for character in &characters {
-        starts.push(character.0.start + 1)?;
-        end = character.0.end + 1;
+        starts.push(character.span.start + 1)?;
+        end = character.span.end + 1;
     }
     if appended_newline {
         starts.push(end)?;
@@ -71,30 +71,30 @@ pub fn ordinary_starts(
 }
 
 /// Adds the tokens of the first `kept` characters, with those marked that are out of place. `names`
-/// says whether only names are accepted, `labels` has the kind of each token and its number of
-/// characters, `starts` where the characters start. Returns `Err` if an allocation fails.
+/// says whether only names are accepted, `starts` where the characters start. Returns `Err` if an
+/// allocation fails.
 pub fn place(
     tokens: &mut Vec<Token>,
     names: bool,
-    labels: &[(Kind, usize)],
+    labels: &[Label],
     starts: &[usize],
     kept: usize,
 ) -> Result<(), AllocError>
     requires { kept < length starts.now }
     ensures { OnOk result ((w : World) → starts.now ≡ starts_of w
         → map seen_token tokens.new.items ≡ map seen_token tokens.old.items
-        ++ placed_sizes w (length w.places) kept (marked names false labels.now)) }
+        ++ placed_sizes w (length w.places) kept (marked names false (pairs labels.now))) }
 {
     let mut at = 0;
     let mut inside = false;
     let mut rest = labels;
     while let Some((label, others)) = rest.split_first() {
-        let role = role_of(label.0);
+        let role = role_of(label.kind);
         let fits = fits(names, inside, role, others);
-        let to = at + label.1.min(kept - at);
+        let to = at + label.width.min(kept - at);
         if at < to {
             tokens.push(Token {
-                kind: marked_kind(label.0, fits),
+                kind: marked_kind(label.kind, fits),
                 span: starts[at]..starts[to],
             })?;
         }

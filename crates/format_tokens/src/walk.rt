@@ -15,9 +15,9 @@ ghost use Rattle.format_tokens.specs.Midway.{Took, sized};
 ghost use Rattle.format_tokens.specs.Walk.{call_tokens, is_closed, placeholder_tokens};
 ghost use Rattle.format_tokens.specs.Walk.{read_tokens, skipped_tokens};
 
-use crate::kinds::Kind;
+use crate::kinds::{Kind, Label};
 use crate::parts::{Run, begins, position, run_width, specification, take, width_of};
-use rustc_parse_format::{Argument, ParseMode, Parser, PieceKind};
+use rustc_parse_format::{Argument, NextPiece, ParseMode, Parser, PieceKind};
 use std::alloc::{AllocError, Global};
 
 /// Returns the text before the closing brace at its end, or `None` if it does not end with one.
@@ -42,11 +42,7 @@ fn is_closed(bytes: usize, text: &str) -> bool
 
 /// Adds the tokens of the first `bytes` bytes of a text, which the call reads in place of a closing
 /// brace, and returns the rest of the text.
-fn skipped<'a>(
-    labels: &mut Vec<(Kind, usize)>,
-    bytes: usize,
-    text: &'a str,
-) -> Result<&'a str, AllocError>
+fn skipped<'a>(labels: &mut Vec<Label>, bytes: usize, text: &'a str) -> Result<&'a str, AllocError>
     ensures { IfOk result (λ left. (u r : Text) → chars text.now ≡ u ++ r → bytes ≡ byte_length u
         → Took (skipped_tokens u) r labels.old.items labels.new.items left.now) }
 {
@@ -59,7 +55,7 @@ fn skipped<'a>(
 /// Adds the tokens of a placeholder at the start of a text, and returns the rest of the text after
 /// the call that read it: `left` bytes.
 fn placeholder<'a>(
-    labels: &mut Vec<(Kind, usize)>,
+    labels: &mut Vec<Label>,
     mode: ParseMode,
     argument: &Argument<'_>,
     left: usize,
@@ -107,11 +103,7 @@ fn escape_width(text: &str) -> usize
 
 /// Adds the tokens of a piece of literal text at the start of a text, and returns the rest of the
 /// text after it: `left` bytes.
-fn literal<'a>(
-    labels: &mut Vec<(Kind, usize)>,
-    left: usize,
-    text: &'a str,
-) -> Result<&'a str, AllocError>
+fn literal<'a>(labels: &mut Vec<Label>, left: usize, text: &'a str) -> Result<&'a str, AllocError>
     ensures { IfOk result (λ after. (mode : Mode) (n : ℕ) (l : Text) →
         (let k = call mode n (chars text.now) in
         k.piece ≡ Some (LitPiece l) → left ≡ byte_length k.rest
@@ -128,12 +120,12 @@ fn literal<'a>(
     Ok(after)
 }
 
-/// Adds the kinds of the tokens of a call at the start of a text and the number of characters of
-/// each, and returns the rest of the text after it: `left` bytes. `taken` is the piece that
-/// `Parser::next_into` returned, and `argument` the one into which it read a placeholder. Returns
-/// `Err` if an allocation fails; the list may then have some of the tokens.
+/// Adds the labels of a call at the start of a text, and returns the rest of the text after it:
+/// `left` bytes. `taken` is the piece that `Parser::next_into` returned, and `argument` the one into
+/// which it read a placeholder. Returns `Err` if an allocation fails; the list may then have some of
+/// the labels.
 pub fn label<'a>(
-    labels: &mut Vec<(Kind, usize)>,
+    labels: &mut Vec<Label>,
     mode: ParseMode,
     taken: Option<PieceKind<'_>>,
     argument: &Argument<'_>,
@@ -174,7 +166,7 @@ fn labels_by<'a>(
     parser: &mut Parser<'a>,
     mode: ParseMode,
     input: &'a str,
-) -> Result<Vec<(Kind, usize)>, AllocError>
+) -> Result<Vec<Label>, AllocError>
     requires { parser.old ≡ first_state (seen_mode mode) (chars input.now) None None false }
     ensures { IfOk result (λ v. v.items
         ≡ map sized (read_tokens (seen_mode mode) (chars input.now))) }
@@ -183,18 +175,20 @@ fn labels_by<'a>(
     let mut argument = Argument::default();
     let mut rest = input;
     while !rest.is_empty() {
-        let (taken, _) = parser.next_into(&mut argument)?;
+        let NextPiece {
+            piece,
+            front_errors: _,
+        } = parser.next_into(&mut argument)?;
         // (the errors are not needed, and are freed while they are in the caches)
         parser.take_errors();
         let left = width_of(input).saturating_sub(parser.position());
-        rest = label(&mut labels, mode, taken, &argument, left, rest)?;
+        rest = label(&mut labels, mode, piece, &argument, left, rest)?;
     }
     Ok(labels)
 }
 
-/// Returns the kinds of the tokens of a text, none of them marked, and the number of characters of
-/// each.
-pub fn labels(alloc: Global, input: &str, mode: ParseMode) -> Result<Vec<(Kind, usize)>, AllocError>
+/// Returns the labels of a text, none of them marked.
+pub fn labels(alloc: Global, input: &str, mode: ParseMode) -> Result<Vec<Label>, AllocError>
     requires { length input.now + 2 < 2 ^ 64 }
     ensures { IfOk result (λ v. v.items
         ≡ map sized (read_tokens (seen_mode mode) (chars input.now))) }

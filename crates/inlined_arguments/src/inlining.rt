@@ -22,7 +22,7 @@ use crate::slots::{Slot, givens, kept, slots};
 use crate::values::values_of;
 use crate::variables::gone;
 use call_faults::{FormatArgument, FormatString};
-use piece_listing::literal::literal_text;
+use piece_listing::literal::{LiteralText, literal_text};
 use std::alloc::{AllocError, Global};
 
 /// Adds the newline that a macro appends, if it does. Returns `Err` if an allocation fails.
@@ -90,7 +90,7 @@ fn keeps_meaning(
         → IsTrue b
         → MeansSame (seen_call call.entry) (map seen old.entry.pieces.now) (chars literal.now)) }
 {
-    let Some((mut text, style)) = literal_text(alloc, literal)? else {
+    let Some(LiteralText { mut text, style }) = literal_text(alloc, literal)? else {
         return Ok(false);
     };
     if !is_same_style(style, call.string.style) {

@@ -19,7 +19,7 @@ mod script;
 use column::text_of;
 use listing::{put_end, put_next, put_source};
 use rustc_parse_format::literal::is_source_literal;
-use rustc_parse_format::{ParseMode, Parser, Piece, read_all};
+use rustc_parse_format::{ParseMode, Parser, Reading, read_all};
 use std::alloc::{AllocError, Global};
 use std::io;
 use std::test::Fail;
@@ -130,10 +130,7 @@ fn start<'a>(
 }
 
 /// The result of `read_all` for a row, or None if the style is too large for it.
-fn read<'a>(
-    alloc: Global,
-    row: &'a Row<'_>,
-) -> Result<Option<(Vec<Piece<'a>>, Parser<'a>)>, AllocError> {
+fn read<'a>(alloc: Global, row: &'a Row<'_>) -> Result<Option<Reading<'a>>, AllocError> {
     let (input, style) = (row.input.as_str(), row.style);
     if input.len() > 10_000 || style.unwrap_or(0) > usize::MAX - 2 - input.len() {
         return Ok(None);
@@ -169,7 +166,7 @@ fn by_next(alloc: Global, row: &Row<'_>) -> Result<String, AllocError> {
 /// The listing of a row by `read_all`, and after its pieces by `next`.
 fn by_read_all(alloc: Global, row: &Row<'_>) -> Result<String, AllocError> {
     let mut out = String::new(alloc);
-    if let Some((pieces, mut parser)) = read(alloc, row)? {
+    if let Some(Reading { pieces, mut parser }) = read(alloc, row)? {
         put_source(&mut out, parser.is_source_literal())?;
         for piece in &pieces {
             listing::put_line(&mut out, piece)?;

@@ -1,6 +1,6 @@
 //! The names of the arguments that a format string uses.
 
-use rustc_parse_format::{ArgumentNamed, ParseError, ParseMode, Piece, read_all};
+use rustc_parse_format::{ArgumentNamed, ParseError, ParseMode, Piece, Reading, read_all};
 use std::alloc::{AllocError, Global};
 
 /// The names that the pieces of a text refer to, in order, or None for one with errors.
@@ -29,6 +29,6 @@ pub fn names<'a>(alloc: Global, text: &'a str) -> Result<Option<Vec<&'a str>>, A
     if text.len() > 1_000_000 {
         return Ok(None);
     }
-    let (pieces, parser) = read_all(alloc, text, None, None, false, ParseMode::Format)?;
+    let Reading { pieces, parser } = read_all(alloc, text, None, None, false, ParseMode::Format)?;
     names_of(alloc, &pieces, parser.errors())
 }

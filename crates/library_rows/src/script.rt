@@ -119,8 +119,9 @@ fn put_next_into(
     parser: &mut Parser<'_>,
 ) -> Result<(), AllocError> {
     let mut argument = Argument::default();
-    let (taken, fronts) = parser.next_into(&mut argument)?;
-    put_taken(alloc, out, taken, argument)?;
+    let next = parser.next_into(&mut argument)?;
+    put_taken(alloc, out, next.piece, argument)?;
+    let fronts = next.front_errors;
     write!(out, "and {fronts}")
 }
 
@@ -142,8 +143,8 @@ fn put_next_with_faults(
 /// Adds how many errors the next call puts in front of how many.
 fn put_fronts(out: &mut String, parser: &mut Parser<'_>) -> Result<(), AllocError> {
     let mut argument = Argument::default();
-    let (_, fronts) = parser.next_into(&mut argument)?;
-    let errors = parser.errors().len();
+    let next = parser.next_into(&mut argument)?;
+    let (fronts, errors) = (next.front_errors, parser.errors().len());
     write!(out, "{fronts} of {errors}")
 }
 

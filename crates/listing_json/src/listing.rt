@@ -21,11 +21,11 @@ ghost use Rattle.listing_json.specs.Values.{report_values};
 
 use super::calls::put_calls;
 use super::report::put_report;
-use piece_listing::literal::{literal_text, strip_newline};
+use piece_listing::literal::{LiteralText, literal_text, strip_newline};
 use piece_listing::verdict::RunFault;
 use piece_listing::{Task, has_entries, report_for, task_of};
 use placeholder_check::{Report, Uses, uses_of};
-use rustc_parse_format::{Parser, read_all};
+use rustc_parse_format::{Parser, Reading, read_all};
 use std::alloc::{AllocError, Global};
 
 /// The most bytes that an input may have.
@@ -70,7 +70,7 @@ fn used_by<'a>(
     if task.given.is_none() {
         return Ok(Uses::new(alloc));
     }
-    let (pieces, _) = read_all(alloc, text, style, snippet, false, task.mode)?;
+    let Reading { pieces, parser: _ } = read_all(alloc, text, style, snippet, false, task.mode)?;
     let used = uses_of(alloc, pieces.as_slice())?;
     Ok(used)
 }
@@ -150,7 +150,7 @@ fn list_literal(alloc: Global, input: &str, task: Task<'_>) -> Result<Listing, R
     ensures only { IfErr result (λ fault. (fault ≢ Words) × (fault ≢ TooLong) × (fault ≢ NotText)) }
 {
     let literal = strip_newline(input);
-    let Some((text, style)) = literal_text(alloc, literal)? else {
+    let Some(LiteralText { text, style }) = literal_text(alloc, literal)? else {
         return Err(RunFault::NotLiteral);
     };
     Ok(list_source(alloc, text.as_str(), style, Some(literal), task)?)

@@ -3,7 +3,7 @@
 ghost use Rattle.std.specs.Prelude.{chars};
 ghost use Rattle.literal_faults.specs.Stops.{StopsAt};
 
-use rustc_parse_format::literal::split_first_unit;
+use rustc_parse_format::literal::{FirstUnit, split_first_unit};
 
 /// Returns the rest of a text after the characters and escapes of an ordinary string literal that
 /// it begins with.
@@ -11,7 +11,13 @@ pub fn after_units(content: &str) -> &str
     ensures { StopsAt (chars content.now) (chars result.now) }
 {
     let mut rest = content;
-    while let Some((_, more)) = split_first_unit(rest) {
+    while let Some(
+        FirstUnit {
+            character: _,
+            rest: more,
+        },
+    ) = split_first_unit(rest)
+    {
         rest = more;
     }
     rest

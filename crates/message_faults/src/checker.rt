@@ -16,7 +16,7 @@ ghost use Rattle.message_faults.specs.Seen.{HasNames, HasParameters, known_names
 ghost use Rattle.message_faults.specs.Seen.{start};
 
 use crate::faults::MessageFault;
-use rustc_parse_format::{Argument, Fault, ParseMode, Parser, Piece, Position, read_all};
+use rustc_parse_format::{Argument, Fault, ParseMode, Parser, Piece, Position, Reading, read_all};
 use std::alloc::{AllocError, Global};
 use std::collections::BTreeSet;
 use std::ops::Range;
@@ -217,7 +217,7 @@ fn push_placeholders<'a>(
         ++ faults_or (known_names message.entry.parameters) (start message.entry) None) }
 {
     let snippet = owned(alloc, message.snippet)?;
-    let (pieces, parser) = read_all(
+    let Reading { pieces, parser } = read_all(
         alloc,
         message.text,
         None,

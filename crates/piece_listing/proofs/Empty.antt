@@ -1,6 +1,6 @@
 -- The answer to an empty input.
 use Rattle.std.proofs.Common.{◌≡◌, ◌≤◌, ℕ, ◌++◌, Bool, true, false, List, [], ◌∷◌, Option, None}
-use Rattle.std.proofs.Common.{Some, Result, Ok, Err, String, Global, string_bytes, replicate}
+use Rattle.std.proofs.Common.{Some, Result, Ok, Err, string_bytes, replicate}
 use Rattle.std.proofs.Common.{refl, sym, ap, ◌∙◌, option_map, map, chars, length, arith}
 use Rattle.std.specs.Prelude.{IfSome, MatchOption}
 use Rattle.std.proofs.lemmas.Option.{same_Some, none-some}
@@ -14,6 +14,8 @@ use Rattle.rustc_parse_format.specs.State.{after_all, calls, fresh}
 use Rattle.rustc_parse_format.specs.World.{Place, World}
 use Rattle.rustc_parse_format.specs.Seen.{seen_mode}
 use Rattle.piece_listing.specs.declared.given.GivenArguments.{GivenArguments as DeclaredArguments}
+use Rattle.piece_listing.specs.declared.input.Listing.{Listing}
+use Rattle.piece_listing.specs.declared.literal.LiteralText.{LiteralText}
 use Rattle.piece_listing.specs.declared.task.Task.{Task as DeclaredTask}
 use Rattle.piece_listing.specs.declared.verdict.RunFault.{RunFault}
 use Rattle.piece_listing.specs.declared.verdict.RunFault.TheVariants.{NotLiteral}
@@ -75,33 +77,33 @@ pub empty-read : (remaining : Option (List ℕ)) (items slice text : List ℕ) �
 empty-read remaining items slice text known held sliced read = let none : items
     ≡ [] = rw known at held in read ∙ sliced ∙ none
 
-pub nothing_found : (o : Option (String Global × Option ℕ)) (x : String Global × Option ℕ)
+pub nothing_found : (o : Option LiteralText) (x : LiteralText)
     (bs literal : List ℕ) → bs ≡ [] → length literal ≤ length bs
     → MatchOption o ((style : Option ℕ) (t : List ℕ) → IsLiteral style (chars literal) t → ⊥)
-    (λ y. IsLiteral y.1 (chars literal) (chars (string_bytes y.0)))
+    (λ y. IsLiteral y.style (chars literal) (chars (string_bytes y.text)))
     → o ≡ Some x → ⊥
 nothing_found None x bs literal e short found is = absurd (none-some x is)
 nothing_found (Some y) x bs literal e short found is =
-    empty-no_literal literal (nil_from_length literal (omega (arith, ap length e))) y.1
-    (chars (string_bytes y.0)) found
+    empty-no_literal literal (nil_from_length literal (omega (arith, ap length e))) y.style
+    (chars (string_bytes y.text)) found
 
 -- the result of the program
-pub empty-listed : (t : DeclaredTask) (lines : String Global) (has_ends : Bool) (bs : List ℕ)
+pub empty-listed : (t : DeclaredTask) (x : Listing) (bs : List ℕ)
     → bs ≡ []
     → t.given ≡ None
     → (bs ≡ [] → t.is_literal ≡ true
-    → ◌≡◌ {A = Result (String Global × Bool) RunFault} (Ok (lines, has_ends)) (Err NotLiteral))
+    → ◌≡◌ {A = Result Listing RunFault} (Ok x) (Err NotLiteral))
     → (s : Source) × IsSourceOf t.is_literal (chars bs) s
-    × IsListed (seen_task t) s (string_bytes lines, has_ends)
-    → (t.is_literal ≡ false) × (string_bytes lines ≡ []) × (has_ends ≡ false)
-empty-listed t lines has_ends bs e bare refused found = by_literal t.is_literal refused found
+    × IsListed (seen_task t) s (string_bytes x.lines, x.has_ends)
+    → (t.is_literal ≡ false) × (string_bytes x.lines ≡ []) × (x.has_ends ≡ false)
+empty-listed t x bs e bare refused found = by_literal t.is_literal refused found
   where
     by_literal : (literal : Bool)
         → (bs ≡ [] → literal ≡ true
-        → ◌≡◌ {A = Result (String Global × Bool) RunFault} (Ok (lines, has_ends)) (Err NotLiteral))
+        → ◌≡◌ {A = Result Listing RunFault} (Ok x) (Err NotLiteral))
         → (s : Source) × IsSourceOf literal (chars bs) s
-        × IsListed (seen_task t) s (string_bytes lines, has_ends)
-        → (literal ≡ false) × (string_bytes lines ≡ []) × (has_ends ≡ false)
+        × IsListed (seen_task t) s (string_bytes x.lines, x.has_ends)
+        → (literal ≡ false) × (string_bytes x.lines ≡ []) × (x.has_ends ≡ false)
     by_literal true refused found = absurd (let no_listing = refused e refl in cc)
     by_literal false refused (s, is, (r, report, given)) =
         let none : r ≡ no_entries = rw bare at report in

@@ -13,7 +13,7 @@ ghost use Rattle.piece_listing.specs.Listing.{piece_line};
 
 use super::listing::{put_argument, put_literal};
 use placeholder_check::Uses;
-use rustc_parse_format::{Argument, FormatSpec, Parser, PieceKind, Position};
+use rustc_parse_format::{Argument, FormatSpec, NextPiece, Parser, PieceKind, Position};
 use std::alloc::AllocError;
 
 /// Makes the next call of a parser, and returns its piece. A placeholder is in `argument`. Returns
@@ -27,8 +27,11 @@ fn next_piece<'a>(
     ensures state { OnOk result (parser.new ≡ after parser.old (next_call parser.old)) }
     ensures spare { AddsNothing parser.old (next_call parser.old) → IsOk result }
 {
-    let (taken, _) = parser.next_into(argument)?;
-    Ok(taken)
+    let NextPiece {
+        piece,
+        front_errors: _,
+    } = parser.next_into(argument)?;
+    Ok(piece)
 }
 
 /// Appends the line of a piece. Returns `Err` if an allocation fails.

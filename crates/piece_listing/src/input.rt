@@ -22,13 +22,22 @@ ghost use Rattle.piece_listing.specs.SeenTask.{seen_given, seen_task};
 use super::calls::put_calls;
 use super::given::GivenArguments;
 use super::listing::put_faults;
-use super::literal::{literal_text, strip_newline};
+use super::literal::{LiteralText, literal_text, strip_newline};
 use super::report_lines::{has_entries, put_report, report_for};
 use super::task::Task;
 use super::verdict::RunFault;
 use placeholder_check::{Report, Uses};
 use rustc_parse_format::{ParseError, Parser};
 use std::alloc::{AllocError, Global};
+
+/// The listing of an input.
+#[derive(Drop)]
+pub struct Listing {
+    /// The lines, each with its line end.
+    pub lines: String,
+    /// Whether there is a line that is not of a piece.
+    pub has_ends: bool,
+}
 
 /// Appends the lines of errors and of a report. Returns whether there are any, and `Err` if an
 /// allocation fails.
@@ -51,18 +60,17 @@ fn put_ends(
 }
 
 /// Returns the listing of the pieces up to the first call of a parser that returns `None`, with the
-/// report on the arguments that are given, and whether there is a line that is not of a piece.
-/// Returns `Err` if an allocation fails.
+/// report on the arguments that are given. Returns `Err` if an allocation fails.
 fn list_calls<'a>(
     alloc: Global,
     parser: &mut Parser<'a>,
     given: Option<GivenArguments<'a>>,
-) -> Result<(String, bool), AllocError>
+) -> Result<Listing, AllocError>
     ensures lines { IfOk result (λ x.
         let ps = pieces_in parser.old.world (pieces_of (calls parser.old)) in
         let es = (after_all parser.old (calls parser.old)).errors in
         (r : ReportValue) × IsReportFor (option_map seen_given given.entry) ps r
-        × ◌≡◌ {A = List ℕ × Bool} (string_bytes x.0, x.1)
+        × ◌≡◌ {A = List ℕ × Bool} (string_bytes x.lines, x.has_ends)
         (listing ps es r, nat_lt 0 (length es) || has_entries r)) }
     ensures empty { parser.old.rest ≡ [] → parser.old.world.has_source ≡ false
         → (after_all parser.old (calls parser.old)).errors ≡ [] → given.entry ≡ None
@@ -73,11 +81,10 @@ fn list_calls<'a>(
     put_calls(&mut lines, &mut used, given.is_some(), parser)?;
     let report = report_for(alloc, &used, given)?;
     let has_ends = put_ends(&mut lines, parser.errors(), &report)?;
-    Ok((lines, has_ends))
+    Ok(Listing { lines, has_ends })
 }
 
-/// Reads a text with a parser, and returns its listing and whether there is a line that is not of a
-/// piece. Returns `Err` if an allocation fails.
+/// Reads a text with a parser, and returns its listing. Returns `Err` if an allocation fails.
 #[tactic(auto, unfolding(crate::specs::Program::pieces, crate::specs::Program::errors))]
 fn list_source(
     alloc: Global,
@@ -85,11 +92,11 @@ fn list_source(
     style: Option<usize>,
     snippet: Option<String>,
     task: Task<'_>,
-) -> Result<(String, bool), AllocError>
+) -> Result<Listing, AllocError>
     requires { hashes style ≤ limit }
     ensures lines { IfOk result (λ x. IsListed (seen_task task.entry)
         (record { text = chars text.now; style = style; snippet = seen_snippet snippet })
-        (string_bytes x.0, x.1)) }
+        (string_bytes x.lines, x.has_ends)) }
     // For an empty text, only the last line of a source literal and a report may allocate.
     ensures empty { text.now ≡ []
         → (HasSource (chars text.now) style (seen_snippet snippet) false → ⊥)
@@ -100,31 +107,30 @@ fn list_source(
     Ok(listed)
 }
 
-/// Returns the listing of the text that a literal stands for, and whether there is a line that is
-/// not of a piece. Returns `Err` if an allocation fails.
+/// Returns the listing of the text that a literal stands for. Returns `Err` if an allocation fails.
 fn list_text_of(
     alloc: Global,
     literal: &str,
     text: &str,
     style: Option<usize>,
     task: Task<'_>,
-) -> Result<(String, bool), AllocError>
+) -> Result<Listing, AllocError>
     requires { hashes style ≤ limit }
     ensures { IfOk result (λ x. IsListed (seen_task task.entry)
         (record { text = chars text.now; style = style; snippet = Some (chars literal.now) })
-        (string_bytes x.0, x.1)) }
+        (string_bytes x.lines, x.has_ends)) }
 {
     let snippet = String::from_str(alloc, literal)?;
     list_source(alloc, text, style, Some(snippet), task)
 }
 
 /// Returns the listing of the text that the input stands for as a string literal, perhaps with a
-/// newline after it, as editors and shells end a line, and whether there is a line that is not of a
-/// piece. Returns `Err` if the input is not a string literal or an allocation fails.
-fn list_literal(alloc: Global, input: &str, task: Task<'_>) -> Result<(String, bool), RunFault>
+/// newline after it, as editors and shells end a line. Returns `Err` if the input is not a string
+/// literal or an allocation fails.
+fn list_literal(alloc: Global, input: &str, task: Task<'_>) -> Result<Listing, RunFault>
     requires { IsShort input.now }
     ensures lines { IfOk result (λ x. (s : Source) × IsInLiteral (chars input.now) s
-        × IsListed (seen_task task.entry) s (string_bytes x.0, x.1)) }
+        × IsListed (seen_task task.entry) s (string_bytes x.lines, x.has_ends)) }
     ensures not_literal { IsErrOf result NotLiteral → (s : Source) → IsInLiteral (chars input.now) s
         → ⊥ }
     ensures not_words { IfErr result (λ fault. fault ≢ Words) }
@@ -133,19 +139,19 @@ fn list_literal(alloc: Global, input: &str, task: Task<'_>) -> Result<(String, b
     ensures empty { input.now ≡ [] → result ≡ Err NotLiteral }
 {
     let literal = strip_newline(input);
-    let Some((text, style)) = literal_text(alloc, literal)? else {
+    let Some(LiteralText { text, style }) = literal_text(alloc, literal)? else {
         return Err(RunFault::NotLiteral);
     };
     Ok(list_text_of(alloc, literal, text.as_str(), style, task)?)
 }
 
-/// Returns the listing of an input, and whether there is a line that is not of a piece. Returns
-/// `Err` if the task needs a string literal and the input is none, or if an allocation fails.
-pub fn list_input(alloc: Global, input: &str, task: Task<'_>) -> Result<(String, bool), RunFault>
+/// Returns the listing of an input. Returns `Err` if the task needs a string literal and the input
+/// is none, or if an allocation fails.
+pub fn list_input(alloc: Global, input: &str, task: Task<'_>) -> Result<Listing, RunFault>
     requires { IsShort input.now }
     ensures lines { IfOk result (λ x. (s : Source)
         × IsSourceOf task.entry.is_literal (chars input.now) s
-        × IsListed (seen_task task.entry) s (string_bytes x.0, x.1)) }
+        × IsListed (seen_task task.entry) s (string_bytes x.lines, x.has_ends)) }
     ensures not_literal { IsErrOf result NotLiteral → (s : Source)
         → IsSourceOf task.entry.is_literal (chars input.now) s → ⊥ }
     ensures not_words { IfErr result (λ fault. fault ≢ Words) }

@@ -12,7 +12,7 @@ ghost use Rattle.piece_listing.specs.declared.verdict.RunFault.TheVariants.{Read
 ghost use Rattle.piece_listing.specs.declared.verdict.RunFault.TheVariants.{Write as WriteFault};
 ghost use Rattle.piece_listing.specs.Program.{Answer, IsOwed, task_of, empty_answer, limit};
 
-use super::input::list_input;
+use super::input::{Listing, list_input};
 use super::task::task_of;
 use super::verdict::RunFault;
 use std::alloc::Global;
@@ -122,7 +122,7 @@ pub fn run<R: Read, W: Write>(
     let Ok(text) = str::from_utf8(input.as_slice()) else {
         return Err(RunFault::NotText);
     };
-    let (lines, has_ends) = list_input(alloc, text, task)?;
+    let Listing { lines, has_ends } = list_input(alloc, text, task)?;
     write_whole(writer, lines.as_bytes())?;
     Ok(has_ends)
 }

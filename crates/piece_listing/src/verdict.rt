@@ -33,14 +33,22 @@ impl From<AllocError> for RunFault {
     }
 }
 
-/// Returns the message for standard error, which is empty if there is no error, and the exit status
-/// of the program: 0 if each line of the listing is of a piece, 1 if not, 2 if the command-line
-/// arguments are invalid or the input is not a string literal, and 3 after any other error. Does
-/// not allocate.
-pub fn verdict(answer: &Result<bool, RunFault>) -> (&'static str, u8)
-    ensures { (result.0.now, result.1) ≡ verdict answer.now }
+/// The exit of a program.
+#[derive(Copy, Clone, Debug, Eq, PartialEq)]
+pub struct Exit {
+    /// The message for standard error, without a line end. It is empty if there is no error.
+    pub message: &'static str,
+    /// The exit status.
+    pub status: u8,
+}
+
+/// Returns the message and the exit status of the program for a result of `run`. The status is 0 if
+/// each line of the listing is of a piece, 1 if not, 2 if the command-line arguments are invalid or
+/// the input is not a string literal, and 3 after any other error. Does not allocate.
+pub fn verdict(answer: &Result<bool, RunFault>) -> Exit
+    ensures { (result.message.now, result.status) ≡ verdict answer.now }
 {
-    match answer {
+    let (message, status) = match answer {
         Ok(false) => ("", 0),
         Ok(true) => ("", 1),
         Err(RunFault::Words) => (
@@ -53,5 +61,6 @@ pub fn verdict(answer: &Result<bool, RunFault>) -> (&'static str, u8)
         Err(RunFault::NotText) => ("formatread: input is not UTF-8", 3),
         Err(RunFault::Memory) => ("formatread: out of memory", 3),
         Err(RunFault::Write) => ("formatread: writing failed", 3),
-    }
+    };
+    Exit { message, status }
 }

@@ -10,5 +10,5 @@ mod reading;
 mod uses;
 
 pub use checker::{Report, check, check_uses};
-pub use reading::read_and_check;
+pub use reading::{CheckedReading, read_and_check};
 pub use uses::{Uses, uses_of};

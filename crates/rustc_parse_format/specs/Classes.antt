@@ -1,8 +1,8 @@
 -- The classes of characters whose longest prefix the code reads, each as its test.
 use Rattle.std.specs.Prelude.{ℕ, Bool}
-use Rattle.std.specs.Char.{is_whitespace, is_ascii_digit}
+use Rattle.std.specs.Char.{is_whitespace}
 use Rattle.rustc_parse_format.specs.declared.characters.Class.{Class}
-use Rattle.rustc_parse_format.specs.declared.characters.Class.TheVariants.{Continue, Digit, White}
+use Rattle.rustc_parse_format.specs.declared.characters.Class.TheVariants.{Continue, White}
 use Rattle.rustc_parse_format.specs.declared.characters.Class.TheVariants.{Text, Line, Unescaped}
 use Rattle.rustc_parse_format.specs.declared.characters.Class.TheVariants.{Plain, Unchanged}
 use Rattle.rustc_parse_format.specs.Characters.{is_id_continue, is_in_line, is_no_brace}
@@ -13,7 +13,6 @@ use Rattle.rustc_parse_format.specs.Written.{is_unchanged}
 -- The test that a class stands for.
 abbrev pub passes : Class → ℕ → Bool
 passes Continue c = is_id_continue c
-passes Digit c = is_ascii_digit c
 passes White c = is_whitespace c
 passes Text c = is_no_brace c
 passes Line c = is_in_line c

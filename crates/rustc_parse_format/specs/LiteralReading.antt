@@ -4,7 +4,7 @@ use Rattle.std.specs.Prelude.{◌≡◌, ◌≤◌, length, ℕ, Bool, ◌==◌,
 use Rattle.std.specs.Prelude.{map, Option, Some, None, option_map, bytes_eq, not, ◌+◌, ◌++◌, false}
 use Rattle.std.specs.Prelude.{IsTrue}
 use Rattle.std.specs.List.{list_all}
-use Rattle.std.specs.declared.ops.Range.{Range}
+use Rattle.rustc_parse_format.specs.declared.literal.ContentCharacter.{ContentCharacter}
 use Rattle.rustc_parse_format.specs.Characters.{Text, byte_length}
 use Rattle.rustc_parse_format.specs.World.{literal_end, Place, content_places, last_stop, input_end}
 use Rattle.rustc_parse_format.specs.World.{foreign_end}
@@ -14,8 +14,8 @@ use Rattle.rustc_parse_format.specs.Source.{HasSource}
 use Rattle.rustc_parse_format.specs.Seen.{pair}
 
 -- Characters with their places, as a contract sees them.
-abbrev pub seen_characters : List (Range ℕ × ℕ) → List (Place × ℕ)
-seen_characters cs = map (λ x. (pair x.0, x.1)) cs
+abbrev pub seen_characters : List ContentCharacter → List (Place × ℕ)
+seen_characters cs = map (λ (c : ContentCharacter). (pair c.span, c.character)) cs
 
 -- The characters that a content stands for, each with its place. The content starts at the byte
 -- `at`. None if the text is not a content.

@@ -20,8 +20,6 @@ use crate::blocks::{Stops, front_width};
 pub enum Class {
     /// Characters that can continue a word: `XID_Continue`.
     Continue,
-    /// ASCII digits, `0` to `9`.
-    Digit,
     /// White space, as in `char::is_whitespace`.
     White,
     /// All characters but braces.
@@ -47,7 +45,6 @@ impl Class {
     {
         match self {
             Class::Continue => unicode_ident::is_xid_continue(c),
-            Class::Digit => c.is_ascii_digit(),
             Class::White => c.is_whitespace(),
             Class::Text => c != '{' && c != '}',
             Class::Line => c != '{' && c != '}' && c != '\n',

@@ -195,10 +195,12 @@ pub fn clone_of_argument<'input>(
 }
 
 /// Clones a piece whose placeholder is elsewhere. Always succeeds, and the clone equals its source.
-pub fn clone_of_taken<'input>(taken: &PieceKind<'input>) -> Result<PieceKind<'input>, AllocError>
-    ensures { IsOkAnd result (λ t. t ≡ taken.now) }
+pub fn clone_of_piece_kind<'input>(
+    piece: &PieceKind<'input>,
+) -> Result<PieceKind<'input>, AllocError>
+    ensures { IsOkAnd result (λ p. p ≡ piece.now) }
 {
-    taken.clone()
+    piece.clone()
 }
 
 /// Proves that the texts of a placeholder are UTF-8.

@@ -49,13 +49,13 @@ pub use blocks::{Stops, front_width};
 pub use faults::Fault;
 pub use parser::Parser;
 pub use pieces::Pieces;
-pub use reading::read_all;
+pub use reading::{Reading, read_all};
 pub use types::Alignment::{AlignCenter, AlignLeft, AlignRight, AlignUnknown};
 pub use types::Count::{CountImplied, CountIs, CountIsName, CountIsParam, CountIsStar};
 pub use types::Position::{ArgumentImplicitlyIs, ArgumentIs, ArgumentNamed};
 pub use types::{
-    Alignment, Argument, Count, DebugHex, FormatSpec, ParseError, ParseMode, Piece, PieceKind,
-    Position, Sign, Suggestion,
+    Alignment, Argument, Count, DebugHex, FormatSpec, NextPiece, ParseError, ParseMode, Piece,
+    PieceKind, Position, Sign, Suggestion,
 };
 #[doc(hidden)]
 pub use written::{put_all_written, put_written};

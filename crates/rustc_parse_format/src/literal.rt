@@ -28,28 +28,47 @@ use std::ops::Range;
 use unit::byte_escape;
 pub(crate) use unit::{is_newline_escape, read_unit};
 
-/// Returns the character that the first unit of a content stands for, and the rest of the content
-/// after the unit. The character is `None` for a string continuation, which stands for nothing.
-/// Returns `None` if the text begins with no unit: it is empty or begins with a quote, a CR or a
-/// wrong escape.
+/// The first unit of a content, a plain character or an escape, and the text after it.
+#[derive(Drop)]
+pub struct FirstUnit<'a> {
+    /// The character that the unit stands for, or `None` for a string continuation, which stands
+    /// for nothing.
+    pub character: Option<char>,
+    /// The rest of the content after the unit.
+    pub rest: &'a str,
+}
+
+/// Returns the first unit of a content, or `None` if the text begins with no unit: it is empty or
+/// begins with a quote, a CR or a wrong escape.
 ///
 /// The rule is that of string literals in the Rust Reference. Does not allocate.
-pub fn split_first_unit(content: &str) -> Option<(Option<char>, &str)>
-    ensures { option_map (λ x. (at_most_one x.0, chars x.1.now)) result
+pub fn split_first_unit(content: &str) -> Option<FirstUnit<'_>>
+    ensures { option_map (λ x. (at_most_one x.character, chars x.rest.now)) result
         ≡ meaning (unit_at (chars content.now)) }
 {
     let mut rest = Rest::new(content);
-    let value = read_unit(&mut rest)?;
-    Some((value, rest.text()))
+    let character = read_unit(&mut rest)?;
+    Some(FirstUnit {
+        character,
+        rest: rest.text(),
+    })
 }
 
-/// Returns the characters that a content stands for, each with its byte range in the content, or
-/// `None` if the text is no content, as `content_characters` computes them. Returns `Err` if an
-/// allocation fails.
+/// A character that a content stands for.
+#[derive(Drop)]
+pub struct ContentCharacter {
+    /// The byte range of the content that the character comes from.
+    pub span: Range<usize>,
+    /// The character.
+    pub character: char,
+}
+
+/// Returns the characters that a content stands for, or `None` if the text is no content, as
+/// `content_characters` computes them. Returns `Err` if an allocation fails.
 fn read_characters(
     alloc: Global,
     content: &str,
-) -> Result<Option<Vec<(Range<usize>, char)>>, AllocError>
+) -> Result<Option<Vec<ContentCharacter>>, AllocError>
     ensures computed { IfOk result (λ o. option_map (λ v. seen_characters v.items) o
         ≡ content_characters 0 (chars content.now)) }
     ensures empty { chars content.now ≡ [] → IsOk result }
@@ -64,16 +83,18 @@ fn read_characters(
         };
         let end = total - rest.len();
         if let Some(c) = value {
-            found.push((at..end, c))?;
+            found.push(ContentCharacter {
+                span: at..end,
+                character: c,
+            })?;
         }
         at = end;
     }
     Ok(Some(found))
 }
 
-/// Returns the characters that the content of an ordinary string literal stands for, each with the
-/// byte range of the content that it comes from, or `None` if the text is not the content of such a
-/// literal.
+/// Returns the characters that the content of an ordinary string literal stands for, in order, or
+/// `None` if the text is not the content of such a literal.
 ///
 /// The rule is that of string literals in the Rust Reference. A string continuation, a backslash
 /// before an LF with all HT, LF, CR and space after it, stands for nothing. The list is allocated
@@ -81,7 +102,7 @@ fn read_characters(
 pub fn read_content(
     alloc: Global,
     content: &str,
-) -> Result<Option<Vec<(Range<usize>, char)>>, AllocError>
+) -> Result<Option<Vec<ContentCharacter>>, AllocError>
     ensures found { IfOk result
         (λ o. IfSome o (λ v. IsReadAs (chars content.now) (seen_characters v.items))) }
     ensures none { IfOk result (λ o. IfNone o (IsNoContent (chars content.now))) }

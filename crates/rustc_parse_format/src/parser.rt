@@ -9,7 +9,7 @@ use crate::cursor::Cursor;
 use crate::lists::Lists;
 use crate::reader::Reader;
 use crate::source::{quote_offset, source_of};
-use crate::types::{Argument, ParseError, ParseMode, Piece, PieceKind};
+use crate::types::{Argument, NextPiece, ParseError, ParseMode, Piece};
 use ahead::Ahead;
 use std::alloc::{AllocError, Global};
 use std::marker::Model;
@@ -240,8 +240,8 @@ impl<'input> Parser<'input> {
     }
 
     /// Returns the next piece as [`Parser::next`] does, but reads a placeholder into `argument`
-    /// instead of allocating one. Also returns the number of errors of this call that come before
-    /// all earlier ones; its other errors come after them.
+    /// instead of allocating one. An error of the call that is not counted in `front_errors` comes
+    /// after all earlier ones.
     ///
     /// Returns `Err` if an allocation fails, and the parser is then unchanged. A call allocates
     /// only to keep an error, the place of a placeholder or a line; any other call always returns
@@ -250,10 +250,10 @@ impl<'input> Parser<'input> {
     pub fn next_into(
         &mut self,
         argument: &mut Argument<'input>,
-    ) -> Result<(Option<PieceKind<'input>>, usize), AllocError>
-        ensures piece { IfOk result (λ x. option_map (seen_taken argument.new) x.0
+    ) -> Result<NextPiece<'input>, AllocError>
+        ensures piece { IfOk result (λ x. option_map (seen_taken argument.new) x.piece
             ≡ option_map (piece_in self.old.world) (next_call self.old).piece) }
-        ensures fronts { IfOk result (λ x. x.1
+        ensures fronts { IfOk result (λ x. x.front_errors
             ≡ length (filter is_front (next_call self.old).faults)) }
         ensures state { OnOk result (self.new ≡ after self.old (next_call self.old)) }
         ensures err { OnErr result (IsPutBack self.old self.new) }
@@ -263,13 +263,19 @@ impl<'input> Parser<'input> {
         self.steps_are_few();
         if self.reader.is_at_end() {
             self.end_line()?;
-            return Ok((None, 0));
+            return Ok(NextPiece {
+                piece: None,
+                front_errors: 0,
+            });
         }
         let start = self.reader.call_start();
         if let Ok(piece) = self.reader.piece_into(self.mode, argument) {
-            if let Ok(fronts) = self.lists.take_over(self.alloc, &mut self.reader) {
+            if let Ok(front_errors) = self.lists.take_over(self.alloc, &mut self.reader) {
                 self.steps_are_few();
-                return Ok((piece, fronts));
+                return Ok(NextPiece {
+                    piece,
+                    front_errors,
+                });
             }
         }
         self.reader.rewind(self.alloc, start);

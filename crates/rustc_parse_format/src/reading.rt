@@ -62,11 +62,20 @@ fn read_pieces<'input>(
     Ok(pieces)
 }
 
-/// Reads a whole input, and returns its pieces and the parser after them. The arguments are those
-/// of [`Parser::new`]: `style` is `None` for an ordinary literal and `Some(n)` for a raw one with n
-/// hashes, `snippet` is the literal as it is in the source, and `appended_newline` is whether the
-/// input ends in a newline that the source does not have. The number of hashes, the byte length of
-/// the input and 2 must add up to less than 2^64.
+/// An input that was read up to the first call of [`Parser::next`] that returns `None`.
+#[derive(Drop)]
+pub struct Reading<'input> {
+    /// The pieces, in order.
+    pub pieces: Vec<Piece<'input>>,
+    /// The parser after the pieces, with the errors of the input.
+    pub parser: Parser<'input>,
+}
+
+/// Reads a whole input. The arguments are those of [`Parser::new`]: `style` is `None` for an
+/// ordinary literal and `Some(n)` for a raw one with n hashes, `snippet` is the literal as it is in
+/// the source, and `appended_newline` is whether the input ends in a newline that the source does
+/// not have. The number of hashes, the byte length of the input and 2 must add up to less than
+/// 2^64.
 ///
 /// The pieces are those up to the first call of [`Parser::next`] that returns `None`. This call may
 /// be one for an unmatched `}`: then the rest of the input is not read, and the parser has an error
@@ -79,7 +88,7 @@ pub fn read_all<'input>(
     snippet: Option<String>,
     appended_newline: bool,
     mode: ParseMode,
-) -> Result<(Vec<Piece<'input>>, Parser<'input>), AllocError>
+) -> Result<Reading<'input>, AllocError>
     requires { hashes style + length input.now + 2 < 2 ^ 64 }
 
     // The pieces and the parser are those of the calls of a new parser up to the first `None`, with
@@ -87,43 +96,43 @@ pub fn read_all<'input>(
     ensures walk { IfOk result (λ x.
         let s = first_state (seen_mode mode) (chars input.now) style
         (seen_snippet snippet) appended_newline in
-        (map seen x.0.items ≡ pieces_in s.world (pieces_of (calls s)))
-        × (x.1 ≡ after_all s (calls s))) }
+        (map seen x.pieces.items ≡ pieces_in s.world (pieces_of (calls s)))
+        × (x.parser ≡ after_all s (calls s))) }
 
     ensures walks { IfOk result (λ x. Walks
         (first_state (seen_mode mode) (chars input.now) style
         (seen_snippet snippet) appended_newline)
-        (map seen x.0.items) x.1) }
+        (map seen x.pieces.items) x.parser) }
 
     // Few steps are taken, those of the last call included: at most two for each character of the
     // input.
-    ensures few { IfOk result (λ x. AreFew x.1.input x.1.rest x.1.back) }
+    ensures few { IfOk result (λ x. AreFew x.parser.input x.parser.rest x.parser.back) }
 
-    ensures source { IfOk result (λ x. IsTrue x.1.world.has_source
+    ensures source { IfOk result (λ x. IsTrue x.parser.world.has_source
         ↔ HasSource (chars input.now) style (seen_snippet snippet) appended_newline) }
 
     // There is no error exactly if the input is in the grammar, and then the pieces are its one
     // reading.
-    ensures clean { IfOk result (λ x. (x.1.errors ≡ [])
+    ensures clean { IfOk result (λ x. (x.parser.errors ≡ [])
         ↔ IsInGrammar (seen_mode mode) (chars input.now)) }
-    ensures reading { IfOk result (λ x. x.1.errors ≡ []
-        → Reads (seen_mode mode) 0 (chars input.now) (map bare (map seen x.0.items))) }
-    ensures round_trip { IfOk result (λ x. x.1.errors ≡ []
-        → IsSpelled (seen_mode mode) 0 (chars input.now) (map bare (map seen x.0.items))) }
+    ensures reading { IfOk result (λ x. x.parser.errors ≡ []
+        → Reads (seen_mode mode) 0 (chars input.now) (map bare (map seen x.pieces.items))) }
+    ensures round_trip { IfOk result (λ x. x.parser.errors ≡ []
+        → IsSpelled (seen_mode mode) 0 (chars input.now) (map bare (map seen x.pieces.items))) }
     ensures one_reading { (m : Mode) (c : ℕ) (t : Text) (ps qs : List (BarePiece (Unit {0})))
         → Reads m c t ps → Reads m c t qs → ps ≡ qs }
     ensures one_cut { (m : Mode) (t : Text) → (a : FieldText) × (r : Text) × IsOnlyCut m t a r }
 
     // With an error, the first pieces read the input up to a character inside it at which no piece
     // of the grammar begins.
-    ensures first_fault { IfOk result (λ x. x.1.errors ≢ []
-        → StopsInside (seen_mode mode) 0 (chars input.now) (map bare (map seen x.0.items))) }
+    ensures first_fault { IfOk result (λ x. x.parser.errors ≢ []
+        → StopsInside (seen_mode mode) 0 (chars input.now) (map bare (map seen x.pieces.items))) }
 
     // Apart from their spans, pieces and errors do not depend on style, snippet or appended
     // newline.
     ensures worlds { IfOk result (λ x. let ks = walk (seen_mode mode) 0 (chars input.now) in
-        (map bare (map seen x.0.items) ≡ map bare (pieces_of ks))
-        × (map bare_message x.1.errors ≡ add_errors [] (map bare_fault (faults_of ks)))) }
+        (map bare (map seen x.pieces.items) ≡ map bare (pieces_of ks))
+        × (map bare_message x.parser.errors ≡ add_errors [] (map bare_fault (faults_of ks)))) }
 
     // With a source literal, the part of the snippet in each span, with its escapes decoded, is the
     // characters that the span was read from. And each span is a byte range of the snippet.
@@ -141,7 +150,7 @@ pub fn read_all<'input>(
         AllByRecursion (AllSpans (λ m. IsInside source (place_of s.world m))) (calls s)) }
     ensures lies_inside { IfOk result (λ x. (source : Text) → seen_snippet snippet ≡ Some source
         → IsSource (chars input.now) style source appended_newline
-        → LiesInside source appended_newline x.1) }
+        → LiesInside source appended_newline x.parser) }
 
     // With a source literal the lines are those of all that was read as text, with the last one
     // exactly if the end was reached, and each placeholder that a brace closed has its place.
@@ -149,14 +158,14 @@ pub fn read_all<'input>(
     ensures lines { IfOk result
         (λ x. HasSource (chars input.now) style (seen_snippet snippet) appended_newline
         → (let s = first_state (seen_mode mode) (chars input.now) style
-        (seen_snippet snippet) appended_newline in AreLines s (calls s) x.1)) }
+        (seen_snippet snippet) appended_newline in AreLines s (calls s) x.parser)) }
     ensures places { IfOk result
         (λ x. let s = first_state (seen_mode mode) (chars input.now) style
         (seen_snippet snippet) appended_newline in
-        x.1.arg_places ≡ closed_of s.world (calls s)) }
+        x.parser.arg_places ≡ closed_of s.world (calls s)) }
     ensures sourceless { IfOk result
         (λ x. (HasSource (chars input.now) style (seen_snippet snippet) appended_newline → ⊥)
-        → (x.1.arg_places ≡ []) × (x.1.line_spans ≡ [])) }
+        → (x.parser.arg_places ≡ []) × (x.parser.line_spans ≡ [])) }
 
     // An empty input without a source literal is read even if every allocation fails: it has no
     // line to keep.
@@ -166,5 +175,5 @@ pub fn read_all<'input>(
 {
     let mut parser = Parser::new(alloc, input, style, snippet, appended_newline, mode)?;
     let pieces = read_pieces(alloc, input.len(), &mut parser)?;
-    Ok((pieces, parser))
+    Ok(Reading { pieces, parser })
 }

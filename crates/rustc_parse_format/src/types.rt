@@ -32,14 +32,22 @@ pub enum Piece<'input> {
     NextArgument(Box<Argument<'input>>),
 }
 
-/// A piece as returned by `Parser::next_into`, which reads a placeholder into an argument of the
-/// caller.
+/// A piece as `Parser::next_into` reads it: a placeholder is read into an argument of the caller.
 #[derive(Clone, Copy)]
 pub enum PieceKind<'input> {
     /// Literal text, borrowed from the input. An escaped brace, `{{` or `}}`, is one brace.
     Lit(&'input str),
     /// A placeholder, which is in the argument of the caller.
     NextArgument,
+}
+
+/// The next piece, as returned by `Parser::next_into`.
+#[derive(Drop)]
+pub struct NextPiece<'input> {
+    /// The piece, or `None` at the end of the input and for an unmatched `}`.
+    pub piece: Option<PieceKind<'input>>,
+    /// The number of errors of the call that come before all earlier ones.
+    pub front_errors: usize,
 }
 
 /// The contents of a placeholder: the argument that it refers to, and the format of that argument.

@@ -3,7 +3,7 @@
 use crate::rows::{NUMBERED, ROWS};
 use call_faults::FormatString;
 use inlined_arguments::{Argument, Call, Inlined, Left, inlined};
-use piece_listing::literal::literal_text;
+use piece_listing::literal::{LiteralText, literal_text};
 use std::alloc::{AllocError, Global};
 use std::test::Fail;
 
@@ -91,7 +91,7 @@ const FORMAT: Case = Case {
 /// Returns what stands between the parentheses of a call after it was inlined, or the reason why it
 /// is left.
 fn said(alloc: Global, case: Case, literal: &str, list: &str) -> Result<String, AllocError> {
-    let Some((mut text, style)) = literal_text(alloc, literal)? else {
+    let Some(LiteralText { mut text, style }) = literal_text(alloc, literal)? else {
         return String::from_str(alloc, "no literal");
     };
     if case.appended_newline {

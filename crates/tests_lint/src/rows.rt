@@ -415,7 +415,8 @@ const ANSWERS: &[(Result<usize, RunFault>, &str, u8)] = &[
 
 #[test]
 fn gives_each_answer(rt: HostRuntime) {
-    for (answer, text, status) in ANSWERS {
-        assert_eq!(rt; verdict(answer), (*text, *status));
+    for (answer, message, status) in ANSWERS {
+        let verdict = verdict(answer);
+        assert_eq!(rt; (verdict.message, verdict.status), (*message, *status));
     }
 }

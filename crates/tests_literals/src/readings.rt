@@ -4,7 +4,7 @@
 use crate::fixes::fixed_literal;
 use format_literal::Literal;
 use piece_listing::{put_piece, put_span};
-use rustc_parse_format::{ParseError, ParseMode, Piece};
+use rustc_parse_format::{ParseError, ParseMode, Piece, Reading};
 use std::alloc::{AllocError, Global};
 use std::test::Fail;
 
@@ -31,7 +31,7 @@ fn put_lines(
 fn lines(alloc: Global, source: &str, mode: ParseMode) -> Result<String, AllocError> {
     let mut out = String::new(alloc);
     if let Some(literal) = Literal::read(alloc, source, mode)? {
-        let (pieces, parser) = literal.read_all(alloc)?;
+        let Reading { pieces, parser } = literal.read_all(alloc)?;
         put_lines(&mut out, &pieces, parser.errors())?;
     }
     Ok(out)

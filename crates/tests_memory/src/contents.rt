@@ -1,7 +1,7 @@
 //! The characters that the content of a literal stands for.
 
 use crate::spare::check_spare;
-use rustc_parse_format::literal::read_content;
+use rustc_parse_format::literal::{ContentCharacter, read_content};
 use std::alloc::Global;
 use std::io::Print;
 use std::ops::Range;
@@ -13,7 +13,7 @@ fn content_again(
     rt: &(impl Abort + Print),
     alloc: Global,
     content: &str,
-) -> Result<Option<Vec<(Range<usize>, char)>>, Fail> {
+) -> Result<Option<Vec<ContentCharacter>>, Fail> {
     if let Ok(read) = read_content(alloc, content) {
         return Ok(read);
     }
@@ -23,15 +23,11 @@ fn content_again(
 }
 
 /// Characters with their places are those that are wanted.
-fn check_characters(
-    rt: &impl Abort,
-    found: &[(Range<usize>, char)],
-    wanted: &[(Range<usize>, char)],
-) {
+fn check_characters(rt: &impl Abort, found: &[ContentCharacter], wanted: &[(Range<usize>, char)]) {
     assert_eq!(rt; found.len(), wanted.len());
     for (one, other) in found.iter().zip(wanted.iter()) {
-        assert!(rt; one.0 == other.0);
-        assert!(rt; one.1 == other.1);
+        assert!(rt; one.span == other.0);
+        assert!(rt; one.character == other.1);
     }
 }
 

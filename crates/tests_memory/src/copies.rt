@@ -49,5 +49,5 @@ fn check_pieces(
 #[test]
 fn clone_out_of_memory_is_called_again(rt: HostRuntime) -> Result<(), Fail> {
     let read = read_again(&rt, rt.alloc(), STAR)?;
-    check_pieces(&rt, rt.alloc(), read.0.as_slice())
+    check_pieces(&rt, rt.alloc(), read.pieces.as_slice())
 }

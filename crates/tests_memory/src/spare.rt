@@ -79,7 +79,7 @@ fn check_nothing(rt: &impl Abort, alloc: Global) -> Result<(), Fail> {
     let mut parser = Parser::new(alloc, "", None, None, false, ParseMode::Format)?;
     check_no_piece(rt, &mut parser)?;
     let read = read_all(alloc, "", None, None, false, ParseMode::Diagnostic)?;
-    check_empty(rt, read.0.as_slice(), &read.1);
+    check_empty(rt, read.pieces.as_slice(), &read.parser);
     Ok(())
 }
 
@@ -94,8 +94,8 @@ fn named() -> Argument<'static> {
 
 /// The next piece is a placeholder without a fault in front, which is read into an argument.
 pub fn next_is_read(parser: &mut Parser<'_>) -> Result<bool, AllocError> {
-    let (taken, fronts) = parser.next_into(&mut Argument::default())?;
-    Ok(matches!(taken, Some(PieceKind::NextArgument)) && fronts == 0)
+    let next = parser.next_into(&mut Argument::default())?;
+    Ok(matches!(next.piece, Some(PieceKind::NextArgument)) && next.front_errors == 0)
 }
 
 /// The next piece of such a parser is one.

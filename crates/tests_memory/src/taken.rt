@@ -30,9 +30,9 @@ fn second_call<'input>(
     argument: &mut Argument<'input>,
 ) -> Result<Option<PieceKind<'input>>, Fail> {
     let before = kept(parser);
-    let (taken, _) = parser.next_into(argument)?;
+    let next = parser.next_into(argument)?;
     assert!(rt; kept(parser) != before);
-    Ok(taken)
+    Ok(next.piece)
 }
 
 /// One call, and one more where it is refused memory, which changes nothing.
@@ -44,8 +44,8 @@ fn call_again<'input>(
 ) -> Result<Option<PieceKind<'input>>, Fail> {
     let before = shown(parser)?;
     check_unchanged(rt, alloc, parser, &before)?;
-    if let Ok((taken, _)) = parser.next_into(argument) {
-        return Ok(taken);
+    if let Ok(next) = parser.next_into(argument) {
+        return Ok(next.piece);
     }
     println!(rt; "refused")?;
     check_unchanged(rt, alloc, parser, &before)?;

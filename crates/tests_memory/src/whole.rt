@@ -5,22 +5,19 @@ use crate::rows::{Row, rows};
 use crate::sheet::Sheet;
 use crate::spare::check_spare;
 use crate::start::{check_row, snippet_again};
-use rustc_parse_format::{Parser, Piece, read_all};
+use rustc_parse_format::{Parser, Piece, Reading, read_all};
 use std::alloc::{AllocError, Global};
 use std::fmt;
 use std::io::Print;
 use std::process::Abort;
 use std::test::Fail;
 
-/// All pieces of a row, and the parser after them.
-type Read = (Vec<Piece<'static>>, Parser<'static>);
-
 fn read(
     rt: &impl Abort,
     alloc: Global,
     row: Row,
     snippet: Option<String>,
-) -> Result<Read, AllocError> {
+) -> Result<Reading<'static>, AllocError> {
     assert!(rt; row.input.len() < 10000 && row.style.unwrap_or(0) < 10000);
     read_all(alloc, row.input, row.style, snippet, false, row.mode)
 }
@@ -30,14 +27,18 @@ fn try_read(
     rt: &(impl Abort + Print),
     alloc: Global,
     row: Row,
-) -> Result<Result<Read, AllocError>, Fail> {
+) -> Result<Result<Reading<'static>, AllocError>, Fail> {
     check_spare(rt, alloc)?;
     let snippet = snippet_again(rt, alloc, row)?;
     Ok(read(rt, alloc, row, snippet))
 }
 
 /// Reads a row, and once more where that is refused memory.
-pub fn read_again(rt: &(impl Abort + Print), alloc: Global, row: Row) -> Result<Read, Fail> {
+pub fn read_again(
+    rt: &(impl Abort + Print),
+    alloc: Global,
+    row: Row,
+) -> Result<Reading<'static>, Fail> {
     if let Ok(read) = try_read(rt, alloc, row)? {
         return Ok(read);
     }
@@ -66,7 +67,7 @@ fn check_parts(
 
 /// The pieces and errors that are read of a row are its own.
 fn check_read(rt: &(impl Abort + Print), alloc: Global, row: Row) -> Result<(), Fail> {
-    let (pieces, mut parser) = read_again(rt, alloc, row)?;
+    let Reading { pieces, mut parser } = read_again(rt, alloc, row)?;
     check_parts(rt, row, pieces.as_slice(), &mut parser)
 }
 

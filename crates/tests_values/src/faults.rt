@@ -1,6 +1,6 @@
 //! Very many errors in one input.
 
-use rustc_parse_format::{ParseError, ParseMode, read_all};
+use rustc_parse_format::{ParseError, ParseMode, Reading, read_all};
 use std::alloc::{AllocError, Global};
 use std::process::Abort;
 use std::test::Fail;
@@ -24,7 +24,7 @@ fn check_many(rt: &impl Abort, errors: &[ParseError], count: usize, first: usize
 
 fn check_many_faults(rt: &impl Abort, alloc: Global, input: &str) -> Result<(), Fail> {
     assert!(rt; input.len() < 1_000_000);
-    let (pieces, parser) = read_all(alloc, input, None, None, false, ParseMode::Format)?;
+    let Reading { pieces, parser } = read_all(alloc, input, None, None, false, ParseMode::Format)?;
     assert_eq!(rt; pieces.len(), 5_000);
     check_many(rt, parser.errors(), 5_000, 24_997, 2);
     Ok(())

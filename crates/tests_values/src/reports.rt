@@ -1,7 +1,7 @@
 //! Reports on texts: worked cases, allocation failures, and many uses.
 
-use placeholder_check::{Report, Uses, check, check_uses, read_and_check};
-use rustc_parse_format::{ParseMode, Parser, Piece, read_all};
+use placeholder_check::{CheckedReading, Report, Uses, check, check_uses, read_and_check};
+use rustc_parse_format::{ParseMode, Piece, Reading, read_all};
 use std::alloc::{AllocError, Global};
 use std::io::Print;
 use std::process::Abort;
@@ -52,8 +52,8 @@ fn check_report(rt: &impl Abort, report: &Report<'_>, row: Row) {
 
 /// The pieces of a text.
 fn pieces_of(alloc: Global, input: &'static str) -> Result<Vec<Piece<'static>>, AllocError> {
-    let (pieces, _parser) = read_all(alloc, input, None, None, false, ParseMode::Format)?;
-    Ok(pieces)
+    let read = read_all(alloc, input, None, None, false, ParseMode::Format)?;
+    Ok(read.pieces)
 }
 
 /// The uses of pieces, added placeholder by placeholder.
@@ -177,10 +177,8 @@ fn names_are_reported(rt: HostRuntime) -> Result<(), Fail> {
     Ok(())
 }
 
-/// The pieces and the parser of a row, and the report.
-type Read = (Vec<Piece<'static>>, Parser<'static>, Report<'static>);
-
-fn read_row(alloc: Global, row: Row) -> Result<Read, AllocError> {
+/// The reading of a row.
+fn read_row(alloc: Global, row: Row) -> Result<CheckedReading<'static>, AllocError> {
     read_and_check(
         alloc,
         row.input,
@@ -194,10 +192,10 @@ fn read_row(alloc: Global, row: Row) -> Result<Read, AllocError> {
 }
 
 /// The reading of the row: two pieces, no error, and the report.
-fn check_read(rt: &impl Abort, read: &Read, row: Row) {
-    assert!(rt; read.0.len() == 2);
-    assert!(rt; read.1.errors().is_empty());
-    check_report(rt, &read.2, row);
+fn check_read(rt: &impl Abort, read: &CheckedReading<'_>, row: Row) {
+    assert!(rt; read.pieces.len() == 2);
+    assert!(rt; read.parser.errors().is_empty());
+    check_report(rt, &read.report, row);
 }
 
 #[test]

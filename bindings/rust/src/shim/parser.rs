@@ -1,7 +1,7 @@
 //! The parser, with the calls by which other extracted modules read it.
 use crate::faults::error_of;
 use crate::proved::rustc_parse_format::faults::Fault;
-use crate::proved::rustc_parse_format::types::PieceKind;
+use crate::proved::rustc_parse_format::types::{NextPiece, PieceKind};
 use crate::shim::alloc::AllocError;
 use crate::{Argument, ParseError, ParseMode, Piece};
 use alloc::string::String;
@@ -34,12 +34,14 @@ impl<'input> Parser<'input> {
         })
     }
 
-    /// Makes errors of the faults of the last call. `is_last` is whether it returned no piece.
-    fn add_errors(&mut self, is_last: bool) {
+    /// Makes errors of the faults of the last call, and returns how many of them come before all
+    /// earlier ones. `is_last` is whether it returned no piece.
+    fn add_errors(&mut self, is_last: bool) -> usize {
         let faults = &mut self.parser.reader.faults;
-        let mut index = 0;
+        let (mut index, mut front_errors) = (0, 0);
         while let Some(fault) = faults.get(index) {
             let errors = if fault.is_front() {
+                front_errors += 1;
                 &mut self.front
             } else {
                 &mut self.parser.errors
@@ -54,6 +56,7 @@ impl<'input> Parser<'input> {
             errors.append(&mut self.parser.errors);
             self.parser.errors = errors;
         }
+        front_errors
     }
 
     /// Returns the next piece, and reads a placeholder into `argument`. The faults stay in the
@@ -74,15 +77,17 @@ impl<'input> Parser<'input> {
         self.parser.is_source_literal
     }
 
-    /// Returns the next piece, and reads a placeholder into `argument`. The number of errors that
-    /// were put before all others is left out.
+    /// Returns the next piece, and reads a placeholder into `argument`.
     pub fn next_into(
         &mut self,
         argument: &mut Argument<'input>,
-    ) -> Result<(Option<PieceKind<'input>>, ()), AllocError> {
-        let taken = self.read_into(argument);
-        self.add_errors(taken.is_none());
-        Ok((taken, ()))
+    ) -> Result<NextPiece<'input>, AllocError> {
+        let piece = self.read_into(argument);
+        let front_errors = self.add_errors(piece.is_none());
+        Ok(NextPiece {
+            piece,
+            front_errors,
+        })
     }
 
     /// Returns the next piece as `next_into` does, but moves the faults of this call to the end of
@@ -130,14 +135,22 @@ impl<'input> Parser<'input> {
     }
 }
 
-/// Returns the pieces of an input up to the first call that returns none, and the parser after them.
+/// The pieces of an input, and the parser after them.
+pub struct Reading<'input> {
+    /// The pieces, in order.
+    pub pieces: Vec<Piece<'input>>,
+    /// The parser after the pieces.
+    pub parser: Parser<'input>,
+}
+
+/// Reads an input up to the first call that returns no piece.
 pub fn read_all<'input>(
     input: &'input str,
     style: Option<usize>,
     snippet: Option<String>,
     appended_newline: bool,
     mode: ParseMode,
-) -> Result<(Vec<Piece<'input>>, Parser<'input>), AllocError> {
+) -> Result<Reading<'input>, AllocError> {
     let mut parser = Parser::new(input, style, snippet, appended_newline, mode)?;
     let mut pieces = Vec::new();
     while let Some(piece) = parser.parser.next() {
@@ -145,5 +158,5 @@ pub fn read_all<'input>(
         pieces.push(piece);
     }
     parser.add_errors(true);
-    Ok((pieces, parser))
+    Ok(Reading { pieces, parser })
 }

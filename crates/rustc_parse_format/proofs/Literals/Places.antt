@@ -2,7 +2,7 @@
 use Rattle.std.proofs.Common.{◌≡◌, ◌≢◌, ℕ, ◌+◌, ◌++◌, List, [], ◌∷◌, refl, sym, ap, ◌∙◌, arith}
 use Rattle.std.proofs.Common.{Option, Some, None, option_map, append-nil, Result, Ok, Err}
 use Rattle.std.proofs.Common.{IfOk, IfSome, IfNone}
-use Rattle.std.specs.declared.ops.Range.{Range}
+use Rattle.rustc_parse_format.specs.declared.literal.ContentCharacter.{ContentCharacter}
 use Rattle.std.proofs.lemmas.Option.{same_Some, none-some}
 use Rattle.rustc_parse_format.specs.Characters.{Text, byte_length}
 use Rattle.rustc_parse_format.specs.World.{Place}
@@ -69,36 +69,40 @@ placed-nil : (at : ℕ) → content_characters at [] ≡ Some []
 unfolding content_characters
 placed-nil at = ap (option_map (placed_characters at)) units-nil
 
+-- a character with its byte range
+abbrev pub character_at : ℕ → ℕ → ℕ → ContentCharacter
+character_at at end c = record { span = record { start = at; end = end }; character = c }
+
 -- one more character that was found
-found-push : (xs : List (Range ℕ × ℕ)) (x : Range ℕ × ℕ) (o : Option (List (Place × ℕ))) →
+found-push : (xs : List ContentCharacter) (x : ContentCharacter) (o : Option (List (Place × ℕ))) →
     option_map (λ ps. seen_characters (xs ++ x ∷ []) ++ ps) o
     ≡ option_map (λ ps. seen_characters xs ++ ps)
-    (option_map (λ ps. (pair x.0, x.1) ∷ ps) o)
+    (option_map (λ ps. (pair x.span, x.character) ∷ ps) o)
 found-push xs x None = refl
 found-push xs x (Some ps) = ap Some (by_list xs)
   where
-    by_list : (xs : List (Range ℕ × ℕ)) → seen_characters (xs ++ x ∷ []) ++ ps
-        ≡ seen_characters xs ++ ((pair x.0, x.1) ∷ ps)
+    by_list : (xs : List ContentCharacter) → seen_characters (xs ++ x ∷ []) ++ ps
+        ≡ seen_characters xs ++ ((pair x.span, x.character) ∷ ps)
     by_list [] = refl
-    by_list (y ∷ ys) = ap (λ s. (pair y.0, y.1) ∷ s) (by_list ys)
+    by_list (y ∷ ys) = ap (λ s. (pair y.span, y.character) ∷ s) (by_list ys)
 
 -- The characters that a reader has found and then those that it will find are those of the whole.
-abbrev pub IsSoFar : List (Range ℕ × ℕ) → ℕ → Text → Text → Type 0
+abbrev pub IsSoFar : List ContentCharacter → ℕ → Text → Text → Type 0
 IsSoFar xs at t whole = option_map (λ ps. seen_characters xs ++ ps) (content_characters at t)
     ≡ content_characters 0 whole
 
-pub found-character : (at end c : ℕ) (t r whole : Text) (v : Option ℕ) (xs ys : List (Range ℕ × ℕ))
+pub found-character : (at end c : ℕ) (t r whole : Text) (v : Option ℕ) (xs ys : List ContentCharacter)
     → IsSoFar xs at t whole →
     meaning (unit_at t) ≡ Some (at_most_one v, r) → v ≡ Some c →
-    at + byte_length t ≡ end + byte_length r → ys ≡ xs ++ (record { start = at; end = end }, c) ∷ []
+    at + byte_length t ≡ end + byte_length r → ys ≡ xs ++ character_at at end c ∷ []
     → IsSoFar ys end r whole
 found-character at end c t r whole v xs ys so_far e f l g =
     ap (λ zs. option_map (λ ps. seen_characters zs ++ ps) (content_characters end r)) g
-    ∙ (found-push xs (record { start = at; end = end }, c) (content_characters end r)
+    ∙ (found-push xs (character_at at end c) (content_characters end r)
     ∙ (ap (option_map (λ ps. seen_characters xs ++ ps)) (sym (placed-character at end t r c (e
     ∙ ap (λ x. Some (at_most_one x, r)) f) l)) ∙ so_far))
 
-pub found-nothing : (at end : ℕ) (t r whole : Text) (v : Option ℕ) (xs : List (Range ℕ × ℕ))
+pub found-nothing : (at end : ℕ) (t r whole : Text) (v : Option ℕ) (xs : List ContentCharacter)
     → IsSoFar xs at t whole →
     meaning (unit_at t) ≡ Some (at_most_one v, r) → v ≡ None →
     at + byte_length t ≡ end + byte_length r → IsSoFar xs end r whole
@@ -106,7 +110,7 @@ found-nothing at end t r whole v xs so_far e f l =
     ap (option_map (λ ps. seen_characters xs ++ ps)) (sym (placed-nothing at end t r (e
     ∙ ap (λ x. Some (at_most_one x, r)) f) l)) ∙ so_far
 
-pub found-all : (at : ℕ) (t whole : Text) (xs : List (Range ℕ × ℕ)) → IsSoFar xs at t whole
+pub found-all : (at : ℕ) (t whole : Text) (xs : List ContentCharacter) → IsSoFar xs at t whole
     → t ≡ [] →
     Some (seen_characters xs) ≡ content_characters 0 whole
 found-all at t whole xs so_far e =
@@ -115,7 +119,7 @@ found-all at t whole xs so_far e =
     ∙ placed-nil at))
     ∙ so_far)
 
-pub found-none : (at : ℕ) (t whole : Text) (xs : List (Range ℕ × ℕ)) → IsSoFar xs at t whole
+pub found-none : (at : ℕ) (t whole : Text) (xs : List ContentCharacter) → IsSoFar xs at t whole
     → t ≢ [] →
     meaning (unit_at t) ≡ None → None ≡ content_characters 0 whole
 found-none at t whole xs so_far n e =

@@ -133,7 +133,9 @@ fn words_again(rt: &impl Print, alloc: Global, row: Row) -> Result<Vec<String>, 
 /// Nothing was written where memory was refused.
 fn check_refused(rt: &impl Abort, answer: &Result<bool, RunFault>, sheet: &Sheet) {
     assert_eq!(rt; *answer, Err(RunFault::Memory));
-    assert_eq!(rt; verdict(answer), ("formatread: out of memory", 3));
+    let verdict = verdict(answer);
+    assert_eq!(rt; verdict.message, "formatread: out of memory");
+    assert_eq!(rt; verdict.status, 3);
     assert!(rt; sheet.text().is_empty());
 }
 

@@ -16,8 +16,8 @@ fn check_verdict(
     written: &[u8],
     wanted: Answer<'_>,
 ) {
-    let (text, status) = verdict(answer);
-    assert_eq!(rt; (written, text, status), wanted);
+    let verdict = verdict(answer);
+    assert_eq!(rt; (written, verdict.message, verdict.status), wanted);
 }
 
 /// A run with these words on this input gives the answer.

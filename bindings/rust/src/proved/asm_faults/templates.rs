@@ -9,7 +9,7 @@ use crate::proved::asm_faults::lookups::{push_pieces, Walk};
 use crate::proved::rustc_parse_format::{Fault, ParseMode};
 use crate::proved::text_faults::text_fault;
 use crate::shim::alloc::AllocError;
-use crate::shim::parser::{read_all, Parser};
+use crate::shim::parser::{read_all, Parser, Reading};
 use crate::shim::prelude::*;
 
 /// A template of a call.
@@ -67,7 +67,7 @@ fn push_template<'a>(
     template: Template<'a>,
 ) -> Result<(), AllocError> {
     let snippet = owned(template.snippet)?;
-    let (pieces, parser) = read_all(
+    let Reading { pieces, parser } = read_all(
         template.text,
         template.style,
         snippet,

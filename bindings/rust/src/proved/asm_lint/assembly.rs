@@ -211,8 +211,7 @@ fn read_unless<'c>(read: &'c [Read<'_>], are_raw: bool) -> Result<Vec<Template<'
     if are_raw {
         return Ok(Vec::new());
     }
-    let found = templates_of(read)?;
-    Ok(found)
+    templates_of(read)
 }
 
 /// Reads a call whose templates are arguments, with the other arguments after them, and adds its

@@ -4,7 +4,7 @@
 // That source is proved, and each contract here is its. That this text means the same is tested:
 // by results from outside, and beside what is proved (.ci/bindings) and the original (tools/agree).
 
-use crate::proved::piece_listing::literal::literal_text;
+use crate::proved::piece_listing::literal::{literal_text, LiteralText};
 use crate::proved::rust_tokens::split_first;
 use crate::shim::alloc::AllocError;
 use crate::shim::prelude::*;
@@ -82,7 +82,7 @@ fn put_newline(text: &mut String, appended: bool) -> Result<(), AllocError> {
 #[inline]
 pub fn read_literal(token: &str, appended_newline: bool) -> Result<Option<Literal>, AllocError> {
     let snippet = without_crs(token)?;
-    let Some((mut text, style)) = literal_text(snippet.as_str())? else {
+    let Some(LiteralText { mut text, style }) = literal_text(snippet.as_str())? else {
         return Ok(None);
     };
     put_newline(&mut text, appended_newline)?;

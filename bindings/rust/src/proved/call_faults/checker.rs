@@ -12,7 +12,7 @@ use crate::proved::call_faults::spots::counts_before;
 use crate::proved::rustc_parse_format::{Fault, ParseMode, Piece};
 use crate::proved::text_faults::text_fault;
 use crate::shim::alloc::AllocError;
-use crate::shim::parser::{read_all, Parser};
+use crate::shim::parser::{read_all, Parser, Reading};
 use crate::shim::prelude::*;
 
 /// The format string of a call.
@@ -140,7 +140,7 @@ pub fn call_faults<'a>(
     given: &'a [FormatArgument<'a>],
 ) -> Result<CallReport<'a>, AllocError> {
     let snippet = owned(string.snippet)?;
-    let (pieces, parser) = read_all(
+    let Reading { pieces, parser } = read_all(
         string.text,
         string.style,
         snippet,

@@ -149,8 +149,7 @@ fn by_index_help(
     let text = String::made_from(says)?;
     let new = name_in(reference.part, name_of(call.given, index))?;
     let spot = index_spot(&call.pieces, reference);
-    let help = single(text, spot, new)?;
-    Ok(help)
+    single(text, spot, new)
 }
 
 /// Returns the help that replaces a text.
@@ -161,8 +160,7 @@ fn replacing(spot: Spot, new: &str) -> Result<CallHelp, AllocError> {
     text.try_push_str(new)?;
     text.try_push_str("`?")?;
     let new = String::made_from(new)?;
-    let help = single(text, spot, new)?;
-    Ok(help)
+    single(text, spot, new)
 }
 
 /// Returns how many of arguments stand before the first one with a name.

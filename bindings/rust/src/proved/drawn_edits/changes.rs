@@ -350,8 +350,7 @@ fn edited_parts<'a>(
 ) -> Result<Vec<Part<'a>>, AllocError> {
     let source = frame.picture.source;
     let text = after_lines(source, number);
-    let parts = parts_of(source.len() - text.len(), text, edits)?;
-    Ok(parts)
+    parts_of(source.len() - text.len(), text, edits)
 }
 
 /// Adds the rows of edits from a line on.

@@ -154,8 +154,7 @@ fn marks_of<'a>(frame: &Frame<'_>, labels: &[Label<'a>]) -> Result<Vec<Mark<'a>>
     for label in labels {
         list.try_push(mark_in(frame, label))?;
     }
-    let marks = from_right(&list)?;
-    Ok(marks)
+    from_right(&list)
 }
 
 /// Returns those of labels that begin in a line.

@@ -235,8 +235,7 @@ fn inline_one(
     match call.rule {
         Rule::Templates => Ok(left_for(CallInlining::Assembly)),
         Rule::At(_) | Rule::IndexByEdition(_) | Rule::FirstLiteral => {
-            let made = inline_at(file, part, call, arguments, index, allows_mixed)?;
-            Ok(made)
+            inline_at(file, part, call, arguments, index, allows_mixed)
         }
     }
 }

@@ -105,8 +105,7 @@ fn literal_edits(literal: Token<'_>, made: &Inlined) -> Result<Option<Vec<Edit>>
     if !is_literal(new.as_str(), made.literal.as_str())? {
         return Ok(None);
     }
-    let found = each_moved(inside.as_slice(), literal.start)?;
-    Ok(found)
+    each_moved(inside.as_slice(), literal.start)
 }
 
 /// Returns the edits that inline a call, with this token as its literal and these arguments after

@@ -5,7 +5,7 @@
 // by results from outside, and beside what is proved (.ci/bindings) and the original (tools/agree).
 
 use super::findings::Findings;
-use crate::proved::format_tokens::{label, place_labels, Kind, Token};
+use crate::proved::format_tokens::{label, place_labels, Label, Token};
 use crate::proved::rustc_parse_format::{Argument, ParseMode};
 use crate::shim::alloc::AllocError;
 use crate::shim::parser::Parser;
@@ -42,8 +42,8 @@ fn faults_of<'a>(parser: &mut Parser<'a>) -> Result<Findings<'a>, AllocError> {
     Ok(faults)
 }
 
-/// Returns the tokens of a source's text, each with its number of characters, and the faults, by
-/// the calls of a parser at its start. Returns `Err` as `faults_of` does.
+/// Returns the labels of a source's text and its faults, by the calls of a parser at its start.
+/// Returns `Err` as `faults_of` does.
 // requires { parser.old ≡ start (seen_mode mode) (seen_source source) }
 // ensures labels { IfOk result (λ x. x.0.items
 //     ≡ map sized (read_tokens (seen_mode mode) (chars source.entry.text.now))) }
@@ -54,7 +54,7 @@ fn labels_of<'a>(
     parser: &mut Parser<'a>,
     mode: ParseMode,
     source: Source<'a>,
-) -> Result<(Vec<(Kind, usize)>, Findings<'a>), AllocError> {
+) -> Result<(Vec<Label>, Findings<'a>), AllocError> {
     let text = source.text;
     let mut argument = Argument::default();
     let mut labels = Vec::new();

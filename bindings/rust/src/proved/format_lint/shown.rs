@@ -12,7 +12,7 @@ use crate::proved::drawn_faults::put_drawing;
 use crate::proved::drawn_lines::Picture;
 use crate::proved::fault_fixes::fix;
 use crate::proved::literal_faults::snippet_of;
-use crate::proved::piece_listing::literal::literal_text;
+use crate::proved::piece_listing::literal::{literal_text, LiteralText};
 use crate::proved::piece_listing::verdict::RunFault;
 use crate::proved::rustc_parse_format::ParseMode;
 use crate::shim::alloc::AllocError;
@@ -276,7 +276,7 @@ fn shown_of(source: Source<'_>, task: Task<'_>) -> Result<Shown, AllocError> {
 #[inline]
 fn shown_of_literal(input: &str, task: Task<'_>) -> Result<Shown, RunFault> {
     let snippet = snippet_of(input);
-    let Some((text, style)) = literal_text(snippet.text)? else {
+    let Some(LiteralText { text, style }) = literal_text(snippet.text)? else {
         return Err(RunFault::NotLiteral);
     };
     let source = Source {

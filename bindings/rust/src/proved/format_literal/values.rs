@@ -5,7 +5,7 @@
 // by results from outside, and beside what is proved (.ci/bindings) and the original (tools/agree).
 
 use crate::proved::format_literal::written::is_written;
-use crate::proved::piece_listing::literal::literal_text;
+use crate::proved::piece_listing::literal::{literal_text, LiteralText};
 use crate::proved::rustc_parse_format::ParseMode;
 use crate::shim::alloc::AllocError;
 use crate::shim::prelude::*;
@@ -39,7 +39,7 @@ impl<'a> Literal<'a> {
         source: &'a str,
         mode: ParseMode,
     ) -> Result<Option<Literal<'a>>, AllocError> {
-        let Some((text, style)) = literal_text(source)? else {
+        let Some(LiteralText { text, style }) = literal_text(source)? else {
             return Ok(None);
         };
         if !is_written(source, style, &text) {

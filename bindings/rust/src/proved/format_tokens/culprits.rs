@@ -4,7 +4,7 @@
 // That source is proved, and each contract here is its. That this text means the same is tested:
 // by results from outside, and beside what is proved (.ci/bindings) and the original (tools/agree).
 
-use crate::proved::format_tokens::kinds::Kind;
+use crate::proved::format_tokens::kinds::{Kind, Label};
 
 /// The part of a token among those of a placeholder.
 #[derive(Clone, Copy)]
@@ -54,11 +54,11 @@ pub fn role_of(kind: Kind) -> Role {
 }
 
 /// Returns whether the first brace that stands alone is a closing one.
-// ensures { result ≡ closes labels.now }
+// ensures { result ≡ closes (pairs labels.now) }
 #[inline]
-fn closes(labels: &[(Kind, usize)]) -> bool {
+fn closes(labels: &[Label]) -> bool {
     for label in labels {
-        match role_of(label.0) {
+        match role_of(label.kind) {
             Role::Open => return false,
             Role::Close => return true,
             Role::Text | Role::Name | Role::Number | Role::Message | Role::Other => {}
@@ -78,17 +78,17 @@ fn is_argument(role: Role) -> bool {
 }
 
 /// Returns whether the first token is that of an argument.
-// ensures { result ≡ has_argument labels.now }
+// ensures { result ≡ has_argument (pairs labels.now) }
 #[inline]
-fn has_argument(labels: &[(Kind, usize)]) -> bool {
-    !labels.is_empty() && is_argument(role_of(labels[0].0))
+fn has_argument(labels: &[Label]) -> bool {
+    !labels.is_empty() && is_argument(role_of(labels[0].kind))
 }
 
 /// Returns whether a token is in place before `others`. `names` says that only names are accepted,
 /// `inside` that the token is inside a pair of braces.
-// ensures { result ≡ fits names inside others.now role }
+// ensures { result ≡ fits names inside (pairs others.now) role }
 #[inline]
-pub fn fits(names: bool, inside: bool, role: Role, others: &[(Kind, usize)]) -> bool {
+pub fn fits(names: bool, inside: bool, role: Role, others: &[Label]) -> bool {
     match role {
         Role::Open => closes(others) && (!names || has_argument(others)),
         Role::Close => inside,

@@ -6,17 +6,16 @@
 
 use crate::proved::format_tokens::kinds::{Kind, Token};
 use crate::proved::format_tokens::parts::{after_first, begins, width_of};
-use crate::proved::rustc_parse_format::literal::split_first_unit;
+use crate::proved::rustc_parse_format::literal::{split_first_unit, FirstUnit};
 use crate::shim::alloc::AllocError;
 use crate::shim::prelude::*;
 use core::ops::Range;
 
-/// Returns the character that the escape at the start of a text stands for, if any, and the rest of
-/// the text after it, or `None` if the text begins with no escape.
-// ensures { option_map (λ x. (at_most_one x.0, chars x.1.now)) result
+/// Returns the escape at the start of a text, or `None` if the text begins with no escape.
+// ensures { option_map (λ x. (at_most_one x.character, chars x.rest.now)) result
 //     ≡ escape_at (chars text.now) }
 #[inline]
-fn escape_at(text: &str) -> Option<(Option<char>, &str)> {
+fn escape_at(text: &str) -> Option<FirstUnit<'_>> {
     if begins(text, '\\') {
         split_first_unit(text)
     } else {
@@ -103,7 +102,10 @@ fn put_parts(tokens: &mut Vec<Token>, token: &Token, text: &str) -> Result<(), A
     while !rest.is_empty() {
         match escape_at(rest) {
             None => rest = after_first(rest),
-            Some((character, others)) => {
+            Some(FirstUnit {
+                character,
+                rest: others,
+            }) => {
                 if is_apart(token.kind, character) {
                     let at = end.saturating_sub(width_of(rest));
                     let to = end.saturating_sub(width_of(others));

@@ -67,6 +67,15 @@ pub enum Kind {
     EscapeSequence,
 }
 
+/// A token without its place.
+#[derive(Clone, Copy, Debug, Eq, PartialEq)]
+pub struct Label {
+    /// The kind.
+    pub kind: Kind,
+    /// The number of characters.
+    pub width: usize,
+}
+
 /// A token: a kind and a byte range of the source.
 #[derive(Clone, Debug, Eq, PartialEq, Hash)]
 pub struct Token {

@@ -5,7 +5,7 @@
 // by results from outside, and beside what is proved (.ci/bindings) and the original (tools/agree).
 
 use crate::proved::format_tokens::escapes::cut_escapes;
-use crate::proved::format_tokens::kinds::{Kind, Token};
+use crate::proved::format_tokens::kinds::{Kind, Label, Token};
 use crate::proved::format_tokens::parts::{length_of, width_of};
 use crate::proved::format_tokens::places::{ordinary_starts, place, plain_starts};
 use crate::proved::format_tokens::walk::labels;
@@ -84,7 +84,7 @@ fn place_whole(
     literal: &str,
     appended_newline: bool,
     names: bool,
-    labels: &[(Kind, usize)],
+    labels: &[Label],
 ) -> Result<Vec<Token>, AllocError> {
     let kept = length_of(input).saturating_sub(usize::from(appended_newline));
     let offsets = literal_starts(input, style, literal, appended_newline)?;
@@ -102,8 +102,8 @@ fn place_whole(
     Ok(tokens)
 }
 
-/// Returns the tokens of an input with their byte ranges. `labels` has the kind of each, as `label`
-/// adds them, and its number of characters; the other arguments are those of `tokens`.
+/// Returns the tokens of an input with their byte ranges. `labels` are those that `label` adds; the
+/// other arguments are those of `tokens`.
 // requires { hashes style + length input.now + 2 < 2 ^ 64 }
 // ensures { IfOk result (λ v.
 //     labels.now ≡ map sized (read_tokens (seen_mode mode) (chars input.now))
@@ -116,7 +116,7 @@ pub fn place_labels(
     snippet: Option<&str>,
     appended_newline: bool,
     mode: ParseMode,
-    labels: &[(Kind, usize)],
+    labels: &[Label],
 ) -> Result<Vec<Token>, AllocError> {
     let names = wants_names(mode);
     let Some(literal) = source_of(input, style, snippet, appended_newline) else {

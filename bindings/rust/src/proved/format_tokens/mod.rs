@@ -12,6 +12,8 @@ pub(crate) mod parts;
 pub(crate) mod places;
 pub(crate) mod walk;
 
+#[cfg(feature = "std")]
+pub use kinds::Label;
 pub use kinds::{Kind, Token};
 #[cfg(feature = "std")]
 pub use lexer::place_labels;

@@ -6,7 +6,7 @@
 // That source is proved, and each contract here is its. That this text means the same is tested:
 // by results from outside, and beside what is proved (.ci/bindings) and the original (tools/agree).
 
-use crate::proved::format_tokens::kinds::Kind;
+use crate::proved::format_tokens::kinds::{Kind, Label};
 use crate::proved::rustc_parse_format::{
     Alignment, Count, DebugHex, FormatSpec, ParseMode, Position, Sign,
 };
@@ -26,7 +26,7 @@ pub fn length_of(text: &str) -> usize {
 //     → Took (token kind u) r labels.old.items labels.new.items left.now) }
 #[inline]
 pub fn take<'a>(
-    labels: &mut Vec<(Kind, usize)>,
+    labels: &mut Vec<Label>,
     kind: Kind,
     bytes: usize,
     text: &'a str,
@@ -36,7 +36,10 @@ pub fn take<'a>(
     }
     match text.parts_at(bytes) {
         Some((front, left)) => {
-            labels.try_push((kind, length_of(front)))?;
+            labels.try_push(Label {
+                kind,
+                width: length_of(front),
+            })?;
             Ok(left)
         }
         None => Ok(""),
@@ -176,7 +179,7 @@ fn is_raw(text: &str, name: &str) -> bool {
 //     → Took (position_tokens p) r labels.old.items labels.new.items left.now) }
 #[inline]
 pub fn position<'a>(
-    labels: &mut Vec<(Kind, usize)>,
+    labels: &mut Vec<Label>,
     position: &Position<'_>,
     text: &'a str,
 ) -> Result<&'a str, AllocError> {
@@ -213,7 +216,7 @@ pub fn position<'a>(
 //     → Took [] (chars text.now) labels.old.items labels.new.items left.now) }
 #[inline]
 fn count<'a>(
-    labels: &mut Vec<(Kind, usize)>,
+    labels: &mut Vec<Label>,
     count: &Count<'_>,
     text: &'a str,
 ) -> Result<&'a str, AllocError> {
@@ -258,7 +261,7 @@ fn count<'a>(
 //     → Took (width_tokens k) r labels.old.items labels.new.items left.now) }
 #[inline]
 fn width<'a>(
-    labels: &mut Vec<(Kind, usize)>,
+    labels: &mut Vec<Label>,
     zero_pad: bool,
     width: &Count<'_>,
     text: &'a str,
@@ -275,7 +278,7 @@ fn width<'a>(
 //     → Took (precision_tokens k) r labels.old.items labels.new.items left.now) }
 #[inline]
 fn precision<'a>(
-    labels: &mut Vec<(Kind, usize)>,
+    labels: &mut Vec<Label>,
     precision: &Count<'_>,
     text: &'a str,
 ) -> Result<&'a str, AllocError> {
@@ -332,7 +335,7 @@ fn type_width(debug_hex: Option<DebugHex>, ty: &str) -> usize {
 //     → Took (format_tokens p) r labels.old.items labels.new.items left.now) }
 #[inline]
 fn format<'a>(
-    labels: &mut Vec<(Kind, usize)>,
+    labels: &mut Vec<Label>,
     format: &FormatSpec<'_>,
     text: &'a str,
 ) -> Result<&'a str, AllocError> {
@@ -363,7 +366,7 @@ fn format<'a>(
 //     → Took (spec_tokens k) r labels.old.items labels.new.items left.now) }
 #[inline]
 pub fn specification<'a>(
-    labels: &mut Vec<(Kind, usize)>,
+    labels: &mut Vec<Label>,
     mode: ParseMode,
     spec: &FormatSpec<'_>,
     text: &'a str,

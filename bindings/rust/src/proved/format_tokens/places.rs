@@ -5,7 +5,7 @@
 // by results from outside, and beside what is proved (.ci/bindings) and the original (tools/agree).
 
 use crate::proved::format_tokens::culprits::{fits, inside_after, marked_kind, role_of};
-use crate::proved::format_tokens::kinds::{Kind, Token};
+use crate::proved::format_tokens::kinds::{Label, Token};
 use crate::proved::format_tokens::parts::length_of;
 use crate::proved::rustc_parse_format::literal::{quoted_content, read_content};
 use crate::shim::alloc::AllocError;
@@ -45,8 +45,8 @@ pub fn ordinary_starts(snippet: &str, appended_newline: bool) -> Result<Vec<usiz
     let mut starts = Vec::made_for(characters.len().saturating_add(2))?;
     let mut end = 1;
     for character in &characters {
-        starts.try_push(character.0.start + 1)?;
-        end = character.0.end + 1;
+        starts.try_push(character.span.start + 1)?;
+        end = character.span.end + 1;
     }
     if appended_newline {
         starts.try_push(end)?;
@@ -56,17 +56,16 @@ pub fn ordinary_starts(snippet: &str, appended_newline: bool) -> Result<Vec<usiz
 }
 
 /// Adds the tokens of the first `kept` characters, with those marked that are out of place. `names`
-/// says whether only names are accepted, `labels` has the kind of each token and its number of
-/// characters, `starts` where the characters start.
+/// says whether only names are accepted, `starts` where the characters start.
 // requires { kept < length starts.now }
 // ensures { OnOk result ((w : World) → starts.now ≡ starts_of w
 //     → map seen_token tokens.new.items ≡ map seen_token tokens.old.items
-//     ++ placed_sizes w (length w.places) kept (marked names false labels.now)) }
+//     ++ placed_sizes w (length w.places) kept (marked names false (pairs labels.now))) }
 #[inline]
 pub fn place(
     tokens: &mut Vec<Token>,
     names: bool,
-    labels: &[(Kind, usize)],
+    labels: &[Label],
     starts: &[usize],
     kept: usize,
 ) -> Result<(), AllocError> {
@@ -74,12 +73,12 @@ pub fn place(
     let mut inside = false;
     let mut rest = labels;
     while let Some((label, others)) = rest.split_first() {
-        let role = role_of(label.0);
+        let role = role_of(label.kind);
         let fits = fits(names, inside, role, others);
-        let to = at + label.1.min(kept - at);
+        let to = at + label.width.min(kept - at);
         if at < to {
             tokens.try_push(Token {
-                kind: marked_kind(label.0, fits),
+                kind: marked_kind(label.kind, fits),
                 span: starts[at]..starts[to],
             })?;
         }

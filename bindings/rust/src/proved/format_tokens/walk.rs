@@ -4,11 +4,11 @@
 // That source is proved, and each contract here is its. That this text means the same is tested:
 // by results from outside, and beside what is proved (.ci/bindings) and the original (tools/agree).
 
-use crate::proved::format_tokens::kinds::Kind;
+use crate::proved::format_tokens::kinds::{Kind, Label};
 use crate::proved::format_tokens::parts::{
     begins, position, run_width, specification, take, width_of, Run,
 };
-use crate::proved::rustc_parse_format::{Argument, ParseMode, PieceKind};
+use crate::proved::rustc_parse_format::{Argument, NextPiece, ParseMode, PieceKind};
 use crate::shim::alloc::AllocError;
 use crate::shim::parser::Parser;
 use crate::shim::prelude::*;
@@ -39,7 +39,7 @@ fn is_closed(bytes: usize, text: &str) -> bool {
 //     → Took (skipped_tokens u) r labels.old.items labels.new.items left.now) }
 #[inline]
 fn skipped<'a>(
-    labels: &mut Vec<(Kind, usize)>,
+    labels: &mut Vec<Label>,
     bytes: usize,
     text: &'a str,
 ) -> Result<&'a str, AllocError> {
@@ -60,7 +60,7 @@ fn skipped<'a>(
 //     labels.old.items labels.new.items after.now)) }
 #[inline]
 fn placeholder<'a>(
-    labels: &mut Vec<(Kind, usize)>,
+    labels: &mut Vec<Label>,
     mode: ParseMode,
     argument: &Argument<'_>,
     left: usize,
@@ -106,11 +106,7 @@ fn escape_width(text: &str) -> usize {
 //     → Took (call_tokens mode (chars text.now) k.rest) k.rest
 //     labels.old.items labels.new.items after.now)) }
 #[inline]
-fn literal<'a>(
-    labels: &mut Vec<(Kind, usize)>,
-    left: usize,
-    text: &'a str,
-) -> Result<&'a str, AllocError> {
+fn literal<'a>(labels: &mut Vec<Label>, left: usize, text: &'a str) -> Result<&'a str, AllocError> {
     let rest = take(labels, Kind::Escape, escape_width(text), text)?;
     let after = take(
         labels,
@@ -121,10 +117,10 @@ fn literal<'a>(
     Ok(after)
 }
 
-/// Adds the kinds of the tokens of a call at the start of a text and the number of characters of
-/// each, and returns the rest of the text after it: `left` bytes. `taken` is the piece that
-/// `Parser::next_into` returned, and `argument` the one into which it read a placeholder. Returns
-/// `Err` if an allocation fails; the list may then have some of the tokens.
+/// Adds the labels of a call at the start of a text, and returns the rest of the text after it:
+/// `left` bytes. `taken` is the piece that `Parser::next_into` returned, and `argument` the one into
+/// which it read a placeholder. Returns `Err` if an allocation fails; the list may then have some of
+/// the labels.
 // ensures { IfOk result (λ after. (w : World) (n : ℕ) →
 //     (let k = call (seen_mode mode) n (chars text.now) in
 //     option_map (seen_taken argument.now) taken.entry ≡ option_map (piece_in w) k.piece
@@ -133,7 +129,7 @@ fn literal<'a>(
 //     labels.old.items labels.new.items after.now)) }
 #[inline]
 pub fn label<'a>(
-    labels: &mut Vec<(Kind, usize)>,
+    labels: &mut Vec<Label>,
     mode: ParseMode,
     taken: Option<PieceKind<'_>>,
     argument: &Argument<'_>,
@@ -170,27 +166,29 @@ fn labels_by<'a>(
     parser: &mut Parser<'a>,
     mode: ParseMode,
     input: &'a str,
-) -> Result<Vec<(Kind, usize)>, AllocError> {
+) -> Result<Vec<Label>, AllocError> {
     let mut labels = Vec::new();
     let mut argument = Argument::default();
     let mut rest = input;
     while !rest.is_empty() {
-        let (taken, _) = parser.next_into(&mut argument)?;
+        let NextPiece {
+            piece,
+            front_errors: _,
+        } = parser.next_into(&mut argument)?;
         // (the errors are not needed, and are freed while they are in the caches)
         parser.take_errors();
         let left = width_of(input).saturating_sub(parser.position());
-        rest = label(&mut labels, mode, taken, &argument, left, rest)?;
+        rest = label(&mut labels, mode, piece, &argument, left, rest)?;
     }
     Ok(labels)
 }
 
-/// Returns the kinds of the tokens of a text, none of them marked, and the number of characters of
-/// each.
+/// Returns the labels of a text, none of them marked.
 // requires { length input.now + 2 < 2 ^ 64 }
 // ensures { IfOk result (λ v. v.items
 //     ≡ map sized (read_tokens (seen_mode mode) (chars input.now))) }
 #[inline]
-pub fn labels(input: &str, mode: ParseMode) -> Result<Vec<(Kind, usize)>, AllocError> {
+pub fn labels(input: &str, mode: ParseMode) -> Result<Vec<Label>, AllocError> {
     let mut parser = Parser::new(input, None, None, false, mode)?;
     labels_by(&mut parser, mode, input)
 }

@@ -33,9 +33,9 @@ fn answer(rt: &crate::shim::host::HostRuntime) -> Result<bool, RunFault> {
 
 #[inline]
 pub fn main(rt: crate::shim::host::HostRuntime) -> ExitCode {
-    let (text, status) = verdict(&answer(&rt));
-    if !text.is_empty() {
-        let _ = rt.eprintln(text);
+    let verdict = verdict(&answer(&rt));
+    if !verdict.message.is_empty() {
+        let _ = rt.eprintln(verdict.message);
     }
-    ExitCode::from(status)
+    ExitCode::from(verdict.status)
 }

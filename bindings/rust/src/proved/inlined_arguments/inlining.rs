@@ -14,7 +14,7 @@ use crate::proved::inlined_arguments::reading::read;
 use crate::proved::inlined_arguments::slots::{givens, kept, slots, Slot};
 use crate::proved::inlined_arguments::values::values_of;
 use crate::proved::inlined_arguments::variables::gone;
-use crate::proved::piece_listing::literal::literal_text;
+use crate::proved::piece_listing::literal::{literal_text, LiteralText};
 use crate::shim::alloc::AllocError;
 use crate::shim::prelude::*;
 
@@ -76,7 +76,7 @@ fn means_same_with<'c>(
 //     → MeansSame (seen_call call.entry) (map seen old.entry.pieces.now) (chars literal.now)) }
 #[inline]
 fn keeps_meaning(call: Call<'_>, old: Meant<'_, '_>, literal: &str) -> Result<bool, AllocError> {
-    let Some((mut text, style)) = literal_text(literal)? else {
+    let Some(LiteralText { mut text, style }) = literal_text(literal)? else {
         return Ok(false);
     };
     if !is_same_style(style, call.string.style) {
@@ -92,8 +92,7 @@ fn keeps_meaning(call: Call<'_>, old: Meant<'_, '_>, literal: &str) -> Result<bo
     };
     let kept = kept(old.values.slots)?;
     let given = givens(&kept)?;
-    let is_same = means_same_with(old, string, &kept, given.as_slice())?;
-    Ok(is_same)
+    means_same_with(old, string, &kept, given.as_slice())
 }
 
 /// Returns a call with its arguments that are variables in its format string, or why it is left as
@@ -157,6 +156,5 @@ pub fn inlined(call: Call<'_>, allows_mixed: bool) -> Result<Result<Inlined, Lef
     }
     let slots = slots(call.arguments)?;
     let given = givens(&slots)?;
-    let made = inlined_with(call, &slots, given.as_slice())?;
-    Ok(made)
+    inlined_with(call, &slots, given.as_slice())
 }

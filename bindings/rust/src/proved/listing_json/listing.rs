@@ -6,12 +6,12 @@
 
 use super::calls::put_calls;
 use super::report::put_report;
-use crate::proved::piece_listing::literal::{literal_text, strip_newline};
+use crate::proved::piece_listing::literal::{literal_text, strip_newline, LiteralText};
 use crate::proved::piece_listing::verdict::RunFault;
 use crate::proved::piece_listing::{has_entries, report_for, task_of, Task};
 use crate::proved::placeholder_check::{uses_of, Report, Uses};
 use crate::shim::alloc::AllocError;
-use crate::shim::parser::{read_all, Parser};
+use crate::shim::parser::{read_all, Parser, Reading};
 use crate::shim::prelude::*;
 
 /// The most bytes that an input may have.
@@ -53,7 +53,7 @@ fn used_by<'a>(
     if task.given.is_none() {
         return Ok(Uses::new());
     }
-    let (pieces, _) = read_all(text, style, snippet, false, task.mode)?;
+    let Reading { pieces, parser: _ } = read_all(text, style, snippet, false, task.mode)?;
     let used = uses_of(pieces.as_slice())?;
     Ok(used)
 }
@@ -124,7 +124,7 @@ fn list_source(
 #[inline]
 fn list_literal(input: &str, task: Task<'_>) -> Result<Listing, RunFault> {
     let literal = strip_newline(input);
-    let Some((text, style)) = literal_text(literal)? else {
+    let Some(LiteralText { text, style }) = literal_text(literal)? else {
         return Err(RunFault::NotLiteral);
     };
     Ok(list_source(text.as_str(), style, Some(literal), task)?)

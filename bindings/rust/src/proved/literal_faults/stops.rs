@@ -4,7 +4,7 @@
 // That source is proved, and each contract here is its. That this text means the same is tested:
 // by results from outside, and beside what is proved (.ci/bindings) and the original (tools/agree).
 
-use crate::proved::rustc_parse_format::literal::split_first_unit;
+use crate::proved::rustc_parse_format::literal::{split_first_unit, FirstUnit};
 
 /// Returns the rest of a text after the characters and escapes of an ordinary string literal that
 /// it begins with.
@@ -12,7 +12,11 @@ use crate::proved::rustc_parse_format::literal::split_first_unit;
 #[inline]
 pub fn after_units(content: &str) -> &str {
     let mut rest = content;
-    while let Some((_, more)) = split_first_unit(rest) {
+    while let Some(FirstUnit {
+        character: _,
+        rest: more,
+    }) = split_first_unit(rest)
+    {
         rest = more;
     }
     rest

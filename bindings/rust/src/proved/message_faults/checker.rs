@@ -8,7 +8,7 @@ use crate::proved::message_faults::faults::MessageFault;
 use crate::proved::rustc_parse_format::{Argument, Fault, ParseMode, Piece, Position};
 use crate::proved::text_faults::{text_fault, Spot};
 use crate::shim::alloc::AllocError;
-use crate::shim::parser::{read_all, Parser};
+use crate::shim::parser::{read_all, Parser, Reading};
 use crate::shim::prelude::*;
 use alloc::collections::BTreeSet;
 use core::ops::Range;
@@ -194,7 +194,8 @@ fn push_placeholders<'a>(
     message: Message<'a, '_, '_>,
 ) -> Result<(), AllocError> {
     let snippet = owned(message.snippet)?;
-    let (pieces, parser) = read_all(message.text, None, snippet, false, ParseMode::Diagnostic)?;
+    let Reading { pieces, parser } =
+        read_all(message.text, None, snippet, false, ParseMode::Diagnostic)?;
     let is_known = parser.is_source_literal();
     push_pieces(faults, message.parameters, is_known, &pieces)?;
     Ok(())

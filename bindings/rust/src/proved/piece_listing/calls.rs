@@ -7,7 +7,7 @@
 
 use super::listing::{put_argument, put_literal};
 use crate::proved::placeholder_check::Uses;
-use crate::proved::rustc_parse_format::{Argument, FormatSpec, PieceKind, Position};
+use crate::proved::rustc_parse_format::{Argument, FormatSpec, NextPiece, PieceKind, Position};
 use crate::shim::alloc::AllocError;
 use crate::shim::parser::Parser;
 use crate::shim::prelude::*;
@@ -22,8 +22,11 @@ fn next_piece<'a>(
     parser: &mut Parser<'a>,
     argument: &mut Argument<'a>,
 ) -> Result<Option<PieceKind<'a>>, AllocError> {
-    let (taken, _) = parser.next_into(argument)?;
-    Ok(taken)
+    let NextPiece {
+        piece,
+        front_errors: _,
+    } = parser.next_into(argument)?;
+    Ok(piece)
 }
 
 /// Appends the line of a piece.

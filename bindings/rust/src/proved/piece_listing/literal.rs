@@ -76,18 +76,26 @@ fn without_last_hashes(text: &str, count: usize) -> Option<&str> {
     Some(rest)
 }
 
-/// Returns the number of hashes of a raw string literal and the text between its quotes, or `None`
-/// if it is no raw string literal.
+/// The parts of a raw string literal.
+#[derive(Clone, Copy)]
+pub struct RawText<'a> {
+    /// The number of hashes on each side of the quotes.
+    pub hashes: usize,
+    /// The text between the quotes.
+    pub text: &'a str,
+}
+
+/// Returns the parts of a raw string literal, or `None` if it is no raw string literal.
 // ensures text { MatchOption result
 //     ((n : ℕ) (t : Text) → chars literal.now ≡ raw_frame n t → ⊥)
-//     (λ x. chars literal.now ≡ raw_frame x.0 (chars x.1.now)) }
-// ensures few { IfSome result (λ x. x.0 ≤ length literal.now) }
+//     (λ x. chars literal.now ≡ raw_frame x.hashes (chars x.text.now)) }
+// ensures few { IfSome result (λ x. x.hashes ≤ length literal.now) }
 #[inline]
-pub fn raw_text(literal: &str) -> Option<(usize, &str)> {
+pub fn raw_text(literal: &str) -> Option<RawText<'_>> {
     let (hashes, rest) = leading_hashes(without_first(literal, 'r')?);
     let rest = without_first(rest, '"')?;
     let text = without_last(without_last_hashes(rest, hashes)?, '"')?;
-    Some((hashes, text))
+    Some(RawText { hashes, text })
 }
 
 /// Returns the text that an ordinary string literal stands for, or `None` if it is no ordinary
@@ -104,21 +112,31 @@ fn ordinary_text(literal: &str) -> Result<Option<String>, AllocError> {
     content_text(content)
 }
 
-/// Returns the text that a string literal stands for, and its style: the number of hashes of a raw
-/// one, or `None` for an ordinary one. Returns `None` if it is no string literal, and `Err` if an
-/// allocation fails. The rules are those of the Rust Reference.
+/// The text that a string literal stands for.
+pub struct LiteralText {
+    /// The text, without quotes and with its escapes decoded.
+    pub text: String,
+    /// The number of hashes of a raw literal, or `None` for an ordinary one.
+    pub style: Option<usize>,
+}
+
+/// Returns the text that a string literal stands for, or `None` if it is no string literal. Returns
+/// `Err` if an allocation fails. The rules are those of the Rust Reference.
 // ensures found { IfOk result (λ o. MatchOption o
 //     ((style : Option ℕ) (t : Text) → IsLiteral style (chars literal.now) t → ⊥)
-//     (λ x. IsLiteral x.1 (chars literal.now) (chars (string_bytes x.0)))) }
-// ensures few { IfOk result (λ o. IfSome o (λ x. hashes x.1 ≤ length literal.now)) }
+//     (λ x. IsLiteral x.style (chars literal.now) (chars (string_bytes x.text)))) }
+// ensures few { IfOk result (λ o. IfSome o (λ x. hashes x.style ≤ length literal.now)) }
 // ensures empty { literal.now ≡ [] → IsOk result }
 #[inline]
-pub fn literal_text(literal: &str) -> Result<Option<(String, Option<usize>)>, AllocError> {
-    if let Some((hashes, text)) = raw_text(literal) {
-        return Ok(Some((String::made_from(text)?, Some(hashes))));
+pub fn literal_text(literal: &str) -> Result<Option<LiteralText>, AllocError> {
+    if let Some(RawText { hashes, text }) = raw_text(literal) {
+        return Ok(Some(LiteralText {
+            text: String::made_from(text)?,
+            style: Some(hashes),
+        }));
     }
     match ordinary_text(literal)? {
-        Some(text) => Ok(Some((text, None))),
+        Some(text) => Ok(Some(LiteralText { text, style: None })),
         None => Ok(None),
     }
 }

@@ -4,7 +4,7 @@
 // That source is proved, and each contract here is its. That this text means the same is tested:
 // by results from outside, and beside what is proved (.ci/bindings) and the original (tools/agree).
 
-use super::input::list_input;
+use super::input::{list_input, Listing};
 use super::task::task_of;
 use super::verdict::RunFault;
 use crate::shim::prelude::*;
@@ -113,7 +113,7 @@ pub fn run<R: Read, W: Write>(
     let Ok(text) = core::str::from_utf8(input.as_slice()) else {
         return Err(RunFault::NotText);
     };
-    let (lines, has_ends) = list_input(text, task)?;
+    let Listing { lines, has_ends } = list_input(text, task)?;
     write_whole(writer, lines.as_bytes())?;
     Ok(has_ends)
 }

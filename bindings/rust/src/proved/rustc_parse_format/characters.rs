@@ -12,8 +12,6 @@ use crate::proved::rustc_parse_format::blocks::{front_width, Stops};
 pub enum Class {
     /// Characters that can continue a word: `XID_Continue`.
     Continue,
-    /// ASCII digits, `0` to `9`.
-    Digit,
     /// White space, as in `char::is_whitespace`.
     White,
     /// All characters but braces.
@@ -37,7 +35,6 @@ impl Class {
     pub fn passes(self, c: char) -> bool {
         match self {
             Class::Continue => crate::shim::unicode_ident::is_xid_continue(c),
-            Class::Digit => c.is_ascii_digit(),
             Class::White => c.is_whitespace(),
             Class::Text => c != '{' && c != '}',
             Class::Line => c != '{' && c != '}' && c != '\n',

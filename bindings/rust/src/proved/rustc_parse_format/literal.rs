@@ -17,28 +17,47 @@ pub(crate) use rest::Rest;
 use unit::byte_escape;
 pub(crate) use unit::{is_newline_escape, read_unit};
 
-/// Returns the character that the first unit of a content stands for, and the rest of the content
-/// after the unit. The character is `None` for a string continuation, which stands for nothing.
-/// Returns `None` if the text begins with no unit: it is empty or begins with a quote, a CR or a
-/// wrong escape.
-///
-/// The rule is that of string literals in the Rust Reference. Does not allocate.
-// ensures { option_map (λ x. (at_most_one x.0, chars x.1.now)) result
-//     ≡ meaning (unit_at (chars content.now)) }
-#[inline]
-pub fn split_first_unit(content: &str) -> Option<(Option<char>, &str)> {
-    let mut rest = Rest::new(content);
-    let value = read_unit(&mut rest)?;
-    Some((value, rest.text()))
+/// The first unit of a content, a plain character or an escape, and the text after it.
+pub struct FirstUnit<'a> {
+    /// The character that the unit stands for, or `None` for a string continuation, which stands
+    /// for nothing.
+    pub character: Option<char>,
+    /// The rest of the content after the unit.
+    pub rest: &'a str,
 }
 
-/// Returns the characters that a content stands for, each with its byte range in the content, or
-/// `None` if the text is no content, as `content_characters` computes them.
+/// Returns the first unit of a content, or `None` if the text begins with no unit: it is empty or
+/// begins with a quote, a CR or a wrong escape.
+///
+/// The rule is that of string literals in the Rust Reference. Does not allocate.
+// ensures { option_map (λ x. (at_most_one x.character, chars x.rest.now)) result
+//     ≡ meaning (unit_at (chars content.now)) }
+#[inline]
+pub fn split_first_unit(content: &str) -> Option<FirstUnit<'_>> {
+    let mut rest = Rest::new(content);
+    let character = read_unit(&mut rest)?;
+    Some(FirstUnit {
+        character,
+        rest: rest.text(),
+    })
+}
+
+/// A character that a content stands for.
+#[derive(Clone, Debug, Eq, PartialEq)]
+pub struct ContentCharacter {
+    /// The byte range of the content that the character comes from.
+    pub span: Range<usize>,
+    /// The character.
+    pub character: char,
+}
+
+/// Returns the characters that a content stands for, or `None` if the text is no content, as
+/// `content_characters` computes them.
 // ensures computed { IfOk result (λ o. option_map (λ v. seen_characters v.items) o
 //     ≡ content_characters 0 (chars content.now)) }
 // ensures empty { chars content.now ≡ [] → IsOk result }
 #[inline]
-fn read_characters(content: &str) -> Result<Option<Vec<(Range<usize>, char)>>, AllocError> {
+fn read_characters(content: &str) -> Result<Option<Vec<ContentCharacter>>, AllocError> {
     let mut found = Vec::new();
     let mut rest = Rest::new(content);
     let total = rest.len();
@@ -49,16 +68,18 @@ fn read_characters(content: &str) -> Result<Option<Vec<(Range<usize>, char)>>, A
         };
         let end = total - rest.len();
         if let Some(c) = value {
-            found.try_push((at..end, c))?;
+            found.try_push(ContentCharacter {
+                span: at..end,
+                character: c,
+            })?;
         }
         at = end;
     }
     Ok(Some(found))
 }
 
-/// Returns the characters that the content of an ordinary string literal stands for, each with the
-/// byte range of the content that it comes from, or `None` if the text is not the content of such a
-/// literal.
+/// Returns the characters that the content of an ordinary string literal stands for, in order, or
+/// `None` if the text is not the content of such a literal.
 ///
 /// The rule is that of string literals in the Rust Reference. A string continuation, a backslash
 /// before an LF with all HT, LF, CR and space after it, stands for nothing. The list is allocated
@@ -75,7 +96,7 @@ fn read_characters(content: &str) -> Result<Option<Vec<(Range<usize>, char)>>, A
 //     ++ newline_places w.end appended))) }
 // ensures empty { content.now ≡ [] → IsOk result }
 #[inline]
-pub fn read_content(content: &str) -> Result<Option<Vec<(Range<usize>, char)>>, AllocError> {
+pub fn read_content(content: &str) -> Result<Option<Vec<ContentCharacter>>, AllocError> {
     read_characters(content)
 }
 

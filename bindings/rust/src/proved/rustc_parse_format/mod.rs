@@ -47,8 +47,8 @@ pub(crate) mod written;
 pub use blocks::{front_width, Stops};
 pub use faults::Fault;
 pub use types::{
-    Alignment, Argument, Count, DebugHex, FormatSpec, ParseError, ParseMode, Piece, PieceKind,
-    Position, Sign, Suggestion,
+    Alignment, Argument, Count, DebugHex, FormatSpec, NextPiece, ParseError, ParseMode, Piece,
+    PieceKind, Position, Sign, Suggestion,
 };
 #[cfg(feature = "std")]
 #[doc(hidden)]

@@ -33,8 +33,7 @@ fn counted_givens<'a>(
     if !is_counted {
         return Ok(Vec::new());
     }
-    let found = givens(tokens, arguments)?;
-    Ok(found)
+    givens(tokens, arguments)
 }
 
 /// Checks a call with this format string and these arguments, and adds its findings.
@@ -242,13 +241,9 @@ fn read_one<'a>(
     index: usize,
 ) -> Result<CallReading, AllocError> {
     match call.rule {
-        Rule::Templates => {
-            let reading = read_asm(findings, file.text, part, call, arguments)?;
-            Ok(reading)
-        }
+        Rule::Templates => read_asm(findings, file.text, part, call, arguments),
         Rule::At(_) | Rule::IndexByEdition(_) | Rule::FirstLiteral => {
-            let reading = read_at(findings, file, part, call, arguments, index)?;
-            Ok(reading)
+            read_at(findings, file, part, call, arguments, index)
         }
     }
 }

@@ -20,10 +20,12 @@ returns c =
     c.args.string.appended_newline ≡ s
     = ap (λ t. first_state Format (chars c.args.string.text.now) c.args.string.style t
     c.args.string.appended_newline) c.in_ok-snippet.ensures in
-    let pieces : map seen c.in_ok-pieces.pieces.items ≡ pieces_in s.world (pieces_of (calls s))
+    let pieces : map seen c.in_ok-pieces.field-0.pieces.items
+    ≡ pieces_in s.world (pieces_of (calls s))
     = c.in_ok-pieces.ensures.walk.0
     ∙ ap (λ (p : State). pieces_in p.world (pieces_of (calls p))) at_start in
-    let parser : c.in_ok-pieces.parser ≡ after_all s (calls s) = c.in_ok-pieces.ensures.walk.1
+    let parser : c.in_ok-pieces.field-0.parser ≡ after_all s (calls s) =
+    c.in_ok-pieces.ensures.walk.1
     ∙ ap (λ (p : State). after_all p (calls p)) at_start in
     let errors : map seen_error c.errors.result.now ≡ (after_all s (calls s)).errors
     = c.errors.ensures ∙ ap (λ (p : State). p.errors) parser in
@@ -32,7 +34,7 @@ returns c =
     (λ e. sym errors ∙ ap (map seen_error) e)
     (λ e. map-nil seen_error c.errors.result.now (errors ∙ e)) ∙ sym c.is_empty-is_read.ensures in
     let faults : map seen_fault c.in_ok-faults.faults.items ≡ call_faults c.args.string.captures
-    (map seen_given c.args.given.now) (text_fault s) (map seen c.in_ok-pieces.pieces.items)
+    (map seen_given c.args.given.now) (text_fault s) (map seen c.in_ok-pieces.field-0.pieces.items)
     = rw c.deref.ensures.value at (c.in_ok-faults.ensures.faults read) in
     record {
       walk = (pieces, parser);
@@ -42,8 +44,8 @@ returns c =
           ∙ ap (counts_before 0) (ap (map seen) c.deref-2.ensures.value);
       faults = faults;
       clean = clean-is c.args.string.captures (map seen_given c.args.given.now)
-          (chars c.args.string.text.now) s (map seen c.in_ok-pieces.pieces.items)
-          (map seen_fault c.in_ok-faults.faults.items) c.in_ok-pieces.parser refl parser
+          (chars c.args.string.text.now) s (map seen c.in_ok-pieces.field-0.pieces.items)
+          (map seen_fault c.in_ok-faults.faults.items) c.in_ok-pieces.field-0.parser refl parser
           c.in_ok-pieces.ensures.clean c.in_ok-pieces.ensures.reading
           c.in_ok-pieces.ensures.one_reading faults;
     }

@@ -6,15 +6,15 @@ pub argument_texts-requires : goal.argument_texts-requires
 argument_texts-requires c =
     (found c.args.input.now c.range_from.result.now (seen_mode c.args.mode) c.args.start
     c.args.next c.in_ok-parser.parser c.set_curarg.new.self c.requires.read.0
-    c.next_into.new.argument c.in_ok-_taken._taken.0 c.utf8.input c.requires.read.1
+    c.next_into.new.argument c.in_ok-_next._next.piece c.utf8.input c.requires.read.1
     c.range_from.ensures.value c.in_ok-parser.ensures.start c.set_curarg.ensures.state
-    c.in_ok-_taken.ensures.piece).stands
+    c.in_ok-_next.ensures.piece).stands
 
 pub returns : goal.returns
 returns c = λ a read.
     (found c.args.input.now c.range_from.result.now (seen_mode c.args.mode) c.args.start
     c.args.next c.in_ok-parser.parser c.set_curarg.new.self a
-    c.next_into.new.argument c.in_ok-_taken._taken.0 c.utf8.input read
+    c.next_into.new.argument c.in_ok-_next._next.piece c.utf8.input read
     c.range_from.ensures.value c.in_ok-parser.ensures.start c.set_curarg.ensures.state
-    c.in_ok-_taken.ensures.piece).same c.argument_texts.result
+    c.in_ok-_next.ensures.piece).same c.argument_texts.result
     c.argument_texts.ensures.position c.argument_texts.ensures.format

@@ -7,7 +7,7 @@ returns-clause-shown c =
     let snippet = c.snippet_of-snippet.result in (
       record {
         text = c.as_str.result.now;
-        style = c.in-Some.style;
+        style = c.in-Some.field-0.style;
         literal = Some snippet.text.now;
         lines = snippet.source.now;
         line_start = 1;

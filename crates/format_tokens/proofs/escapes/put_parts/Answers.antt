@@ -35,7 +35,7 @@ loop-rest-preserved-in_ok-put_escape-in-Some c =
     let end = c.args.token.now.span.end in
     let at : c.saturating_sub-at.result ≡ end - byte_length (chars c.loop-rest.rest.now) =
     c.saturating_sub-at.ensures ∙ ap (λ n. end - n) c.width_of.ensures in
-    let to : c.saturating_sub-to.result ≡ end - byte_length (chars c.in-Some.others.now) =
+    let to : c.saturating_sub-to.result ≡ end - byte_length (chars c.in-Some.field-0.rest.now) =
     c.saturating_sub-to.ensures ∙ ap (λ n. end - n) c.width_of-then-is_apart.ensures in (
       search rules,
       rw to (so_far-cut _ _ _ _ _ _ _ _ _ h

@@ -10,7 +10,7 @@ use Rattle.format_tokens.specs.Placed.{cut_in, tokens, whole_tokens}
 use Rattle.format_tokens.proofs.Covering.{whole-cover}
 use Rattle.format_tokens.proofs.CutCovering.{source-cut}
 use Rattle.format_tokens.specs.Seen.{seen_text, seen_token}
-use Rattle.format_tokens.specs.Starts.{placed_sizes, starts_of}
+use Rattle.format_tokens.specs.Starts.{pairs, placed_sizes, starts_of}
 use Rattle.format_tokens.proofs.Lexing.{kept-is, kept-small}
 use Rattle.format_tokens.proofs.Lexing.{plain-tokens}
 use Rattle.format_tokens.proofs.lexer.place_labels.Goals as goal
@@ -38,7 +38,8 @@ returns-in_default c labels =
     c.saturating_sub-kept.result _ kept c.in_default.ensures
     (c.in_ok-place.ensures w starts
     ∙ (ap (λ l. map seen_token l ++ placed_sizes w (length w.places) c.saturating_sub-kept.result
-    (marked c.wants_names-names.result false c.args.labels.now)) c.in_ok-tokens.ensures.items
+    (marked c.wants_names-names.result false (pairs c.args.labels.now)))
+    c.in_ok-tokens.ensures.items
     ∙ rw (c.wants_names-names.ensures, labels) refl))
 
 pub returns-in-Some-style : goal.returns-in-Some-style

@@ -4,7 +4,7 @@ use Rattle.rustc_parse_format.specs.Types.{wants_names}
 use Rattle.rustc_parse_format.specs.World.{world}
 use Rattle.format_tokens.specs.Culprits.{marked}
 use Rattle.format_tokens.specs.Seen.{seen_token}
-use Rattle.format_tokens.specs.Starts.{placed_sizes}
+use Rattle.format_tokens.specs.Starts.{pairs, placed_sizes}
 use Rattle.format_tokens.proofs.Lexing.{assembled, kept-is, kept-small, literal-places}
 use Rattle.format_tokens.proofs.Lexing.{quoted-tokens}
 use Rattle.format_tokens.proofs.lexer.place_whole.Goals as goal
@@ -31,8 +31,8 @@ returns c mode labels names =
     let placed = c.in_ok-place.ensures w starts
     ∙ ap (λ l. map seen_token c.push.new.self.items
     ++ placed_sizes w (length w.places) c.saturating_sub-kept.result l)
-    (ap (λ b. marked b false c.args.labels.now) names
-    ∙ ap (marked (wants_names mode) false) labels) in
+    (ap (λ b. marked b false (pairs c.args.labels.now)) names
+    ∙ ap (λ ls. marked (wants_names mode) false (pairs ls)) labels) in
     quoted-tokens mode input c.args.style literal c.args.appended_newline
     c.saturating_sub-kept.result _ _ _ kept c.requires.source starts c.width_of.ensures
     (assembled _ _ _ _ _ _ _ c.in_ok-tokens.ensures.items

@@ -24,7 +24,7 @@ overflow_add-end c =
 pub loop-character-preserved : goal.loop-character-preserved
 loop-character-preserved c =
     let x = get_or c.deref-character-items.result.now c.loop-character.character-index no_read in
-    read-next _ c.loop-character.character-index _ _ _ (x.0.start + 1) (x.0.end + 1)
+    read-next _ c.loop-character.character-index _ _ _ (x.span.start + 1) (x.span.end + 1)
     no_read c.loop-character.invariant
     c.loop-character-test.true c.in_ok-push.ensures.items (omega arith) (omega arith)
 

@@ -2,6 +2,7 @@ use Rattle.std.proofs.Common.{◌≡◌, ◌∙◌, ap, map, arith, if◌then◌
 use Rattle.std.proofs.lemmas.List.{map-append}
 use Rattle.format_tokens.specs.Culprits.{fits, inside_after, role_of}
 use Rattle.format_tokens.specs.Seen.{seen_token}
+use Rattle.format_tokens.specs.Starts.{pairs}
 use Rattle.format_tokens.specs.declared.kinds.Kind.TheVariants.{Unexpected}
 use Rattle.format_tokens.proofs.Starts.{place-none, place-some}
 use Rattle.format_tokens.proofs.places.place.Goals as goal
@@ -10,15 +11,16 @@ use Rattle.format_tokens.proofs.places.place.Goals.{then-at-to+in_ok-push, else-
 pub loop-label-preserved : goal.loop-label-preserved
 loop-label-preserved c =
     let label = c.in-Some.label.now in
-    let others = c.in-Some.others.now in
+    let others = pairs c.in-Some.others.now in
     let inside = c.loop-label.inside in
-    let fit : c.fits-fits.result ≡ fits c.args.names inside others (role_of label.0) =
+    let fit : c.fits-fits.result ≡ fits c.args.names inside others (role_of label.kind) =
     c.fits-fits.ensures ∙ ap (fits c.args.names inside others) c.role_of-role.ensures in
     let after : c.inside_after-inside.result
-    ≡ inside_after inside (fits c.args.names inside others (role_of label.0)) (role_of label.0) =
+    ≡ inside_after inside (fits c.args.names inside others (role_of label.kind))
+    (role_of label.kind) =
     c.inside_after-inside.ensures
     ∙ (ap (λ f. inside_after inside f c.role_of-role.result) fit
-    ∙ ap (inside_after inside (fits c.args.names inside others (role_of label.0)))
+    ∙ ap (inside_after inside (fits c.args.names inside others (role_of label.kind)))
     c.role_of-role.ensures) in
     elim c.if-at-to.branch [
       | then-at-to+in_ok-push v ↦ record {
@@ -28,7 +30,7 @@ loop-label-preserved c =
             let tokens = ap (map seen_token) v.in_ok-push.ensures.items
             ∙ map-append seen_token c.loop-label.tokens.items _ in
             let kind = v.marked_kind.ensures
-            ∙ ap (λ f. if f then label.0 else Unexpected) fit in
+            ∙ ap (λ f. if f then label.kind else Unexpected) fit in
             rw (v.tokens-is, tokens, kind, after)
             (place-some w _ c.loop-label.at c.args.kept _ _ _ _ _ e c.loop-label.invariant.kept
             c.requires c.min.ensures v.if-at-to.true x)

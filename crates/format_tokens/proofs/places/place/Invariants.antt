@@ -2,7 +2,7 @@ use Rattle.std.proofs.Common.{◌≡◌, ◌-◌, ◌≤◌, ◌++◌, false, le
 use Rattle.rustc_parse_format.specs.World.{World}
 use Rattle.format_tokens.specs.Culprits.{marked}
 use Rattle.format_tokens.specs.Seen.{seen_token}
-use Rattle.format_tokens.specs.Starts.{placed_sizes, starts_of}
+use Rattle.format_tokens.specs.Starts.{pairs, placed_sizes, starts_of}
 use Rattle.format_tokens.proofs.places.place.Given as goal
 
 abbrev pub invariant-loop-label : goal.invariant-loop-label
@@ -10,9 +10,10 @@ invariant-loop-label l = record {
   kept : l.at ≤ l.kept;
   so_far : (w : World) → l.starts ≡ starts_of w
       → map seen_token l.tokens.items
-      ++ placed_sizes w (length w.places - l.at) (l.kept - l.at) (marked l.names l.inside l.rest)
+      ++ placed_sizes w (length w.places - l.at) (l.kept - l.at)
+      (marked l.names l.inside (pairs l.rest))
       ≡ map seen_token l.fn.tokens.items
-      ++ placed_sizes w (length w.places) l.kept (marked l.names false l.labels);
+      ++ placed_sizes w (length w.places) l.kept (marked l.names false (pairs l.labels));
 }
 
 abbrev pub decreases-loop-label : goal.decreases-loop-label

@@ -23,12 +23,12 @@ loop-argument-smaller c =
     let some = some_chars _ c.loop-argument.invariant.0
     (sym c.is_empty.ensures ∙ c.loop-argument-test.true) in
     smaller _ _ _ _ _ _ c.loop-argument.invariant.1
-    (c.take_errors.ensures.state ∙ ap forgotten c.in_ok-taken.ensures.state) some
+    (c.take_errors.ensures.state ∙ ap forgotten c.in_ok-piece.ensures.state) some
 
 pub loop-argument-preserved : goal.loop-argument-preserved
 loop-argument-preserved c =
     let h = c.loop-argument.invariant.1 in
-    let new = c.take_errors.ensures.state ∙ ap forgotten c.in_ok-taken.ensures.state in
+    let new = c.take_errors.ensures.state ∙ ap forgotten c.in_ok-piece.ensures.state in
     let some = some_chars _ c.loop-argument.invariant.0
     (sym c.is_empty.ensures ∙ c.loop-argument-test.true) in
     let left = left_after _ _ _ _ _ _ _ _ _ h new c.saturating_sub-left.ensures
@@ -36,7 +36,7 @@ loop-argument-preserved c =
       search rules,
       so_far-next _ _ _ _ _ c.in_ok-rest.rest.now _ _ h new some
           (c.in_ok-rest.ensures c.loop-argument.parser.world c.loop-argument.parser.next
-          (c.in_ok-taken.ensures.piece ∙ ap (λ (k : Call). option_map
+          (c.in_ok-piece.ensures.piece ∙ ap (λ (k : Call). option_map
           (piece_in c.loop-argument.parser.world) k.piece) (piece_so_far _ _ _ _ _ h)) left),
     )
 

@@ -7,7 +7,7 @@ pub returns-then-is_some-clause-literal : goal.returns-then-is_some-clause-liter
 returns-then-is_some-clause-literal c =
     let x = some-matched c.raw_text.result _ _ (sym c.is_some.ensures ∙ c.if-is_some.true)
     c.raw_text.ensures.text in
-    (λ _. (Some x.0.0, chars x.0.1.now, x.1), λ _. refl)
+    (λ _. (Some x.0.hashes, chars x.0.text.now, x.1), λ _. refl)
 
 pub returns-in-None-clause-boundary : goal.returns-in-None-clause-boundary
 returns-in-None-clause-boundary c = IsCharBoundary-start c.args.text.now c.utf8.text

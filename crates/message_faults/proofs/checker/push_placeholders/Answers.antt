@@ -17,10 +17,11 @@ returns c =
     let at_start : first_state Diagnostic (chars c.args.message.text.now) None _ false ≡ s
     = ap (λ t. first_state Diagnostic (chars c.args.message.text.now) None t false)
     c.in_ok-snippet.ensures in
-    let read : map seen c.in_ok-pieces.pieces.items ≡ pieces s
+    let read : map seen c.in_ok-pieces.field-0.pieces.items ≡ pieces s
     = c.in_ok-pieces.ensures.walk.0
     ∙ ap (λ (p : State). pieces_in p.world (pieces_of (calls p))) at_start in
-    let parser : c.in_ok-pieces.parser ≡ after_all s (calls s) = c.in_ok-pieces.ensures.walk.1
+    let parser : c.in_ok-pieces.field-0.parser ≡ after_all s (calls s) =
+    c.in_ok-pieces.ensures.walk.1
     ∙ ap (λ (p : State). after_all p (calls p)) at_start in
     let known : c.is_source_literal-is_known.result ≡ s.world.has_source
     = c.is_source_literal-is_known.ensures ∙ ap (λ (p : State). p.world.has_source) parser

@@ -49,7 +49,7 @@ returns-in_err-write_whole-clause-empty g c mode literal a e =
     let asks = task_of-literal c.task_of.result task mode literal _ c.task_of.ensures
     c.in-Some.is a in
     let listed =
-    empty-listed task c.in_ok-lines.lines c.in_ok-lines.has_ends c.in-Ok.text.now none asks.1
+    empty-listed task c.in_ok-lines.field-0 c.in-Ok.text.now none asks.1
     c.in_ok-lines.ensures.empty_literal c.in_ok-lines.ensures.lines in
     absurd (false≢true (c.in_err-write_whole.ensures.empty (c.as_bytes.ensures.value ∙ listed.1)).0)
 
@@ -63,7 +63,7 @@ returns-clause-empty g c mode literal a e =
     let asks = task_of-literal c.task_of.result task mode literal _ c.task_of.ensures
     c.in-Some.is a in
     let listed =
-    empty-listed task c.in_ok-lines.lines c.in_ok-lines.has_ends c.in-Ok.text.now none asks.1
+    empty-listed task c.in_ok-lines.field-0 c.in-Ok.text.now none asks.1
     c.in_ok-lines.ensures.empty_literal c.in_ok-lines.ensures.lines in (
       (c.in_ok-write_whole.ensures.empty (c.as_bytes.ensures.value ∙ listed.1)).1,
       inl (ap Ok listed.2 ∙ ap empty_answer (sym listed.0 ∙ asks.0)),

@@ -12,19 +12,19 @@ use Rattle.placeholder_check.proofs.reading.read_and_check.Goals as goal
 
 pub returns-clause-reading : goal.returns-clause-reading
 returns-clause-reading c = λ clean. record {
-  pieces = map bare (map seen c.in_ok-pieces.pieces.items);
+  pieces = map bare (map seen c.in_ok-pieces.field-0.pieces.items);
   are_read = c.in_ok-pieces.ensures.reading clean;
   are_only = λ others r. c.read_all.ensures.one_reading _ _ _ _ _ r
       (c.in_ok-pieces.ensures.reading clean);
   is_report = rw (
-    uses-bare (map seen c.in_ok-pieces.pieces.items),
+    uses-bare (map seen c.in_ok-pieces.field-0.pieces.items),
     ← c.as_slice.ensures.value,
   ) c.in_ok-report.ensures.report;
 }
 
 pub returns-clause-uses_are_by_name : goal.returns-clause-uses_are_by_name
 returns-clause-uses_are_by_name c = λ named. λ clean.
-    let ps = map seen c.in_ok-pieces.pieces.items in
+    let ps = map seen c.in_ok-pieces.field-0.pieces.items in
     let read = rw named at c.in_ok-pieces.ensures.reading clean in
     let report : IsReport (uses (map bare ps)) c.args.positional (texts c.args.names.now)
     (seen_report c.in_ok-report.report) =
@@ -37,7 +37,7 @@ pub returns-in_err-report-clause-empty : goal.returns-in_err-report-clause-empty
 returns-in_err-report-clause-empty c = λ e without zero unnamed.
     let w = world (chars c.args.input.now) c.args.style
     (seen_snippet c.args.snippet) c.args.appended_newline in
-    let none = no_pieces seen c.in_ok-pieces.pieces.items (seen_mode c.args.mode) w
+    let none = no_pieces seen c.in_ok-pieces.field-0.pieces.items (seen_mode c.args.mode) w
     (quote_offset c.args.style) c.args.input.now e
     c.in_ok-pieces.ensures.walk.0 in
     absurd (let made = c.in_err-report.ensures.empty (c.as_slice.ensures.value

@@ -5,7 +5,7 @@ use Rattle.rustc_parse_format.specs.Bytes.{IsOfAscii}
 use Rattle.rustc_parse_format.specs.Characters.{is_id_continue}
 use Rattle.rustc_parse_format.specs.Classes.{passes}
 use Rattle.rustc_parse_format.specs.declared.characters.Class.{Class}
-use Rattle.rustc_parse_format.specs.declared.characters.Class.TheVariants.{Continue, Digit, White}
+use Rattle.rustc_parse_format.specs.declared.characters.Class.TheVariants.{Continue, White}
 use Rattle.rustc_parse_format.specs.declared.characters.Class.TheVariants.{Text, Line, Unescaped}
 use Rattle.rustc_parse_format.specs.declared.characters.Class.TheVariants.{Plain, Unchanged}
 use Rattle.rustc_parse_format.proofs.characters.run_width.Goals as goal
@@ -18,7 +18,6 @@ no_continue = refl
 other : (k : Class) → IsOfAscii (passes k) → k ≢ Text → k ≢ Line → k ≢ Unescaped → k ≢ Plain
     → k ≢ Unchanged → ⊥
 other Continue h a b d e f = false≢true (sym no_continue ∙ h 128 (omega arith))
-other Digit h a b d e f = false≢true (h 128 (omega arith))
 other White h a b d e f = false≢true (h 128 (omega arith))
 other Text h a b d e f = a refl
 other Line h a b d e f = b refl

@@ -13,17 +13,17 @@ use Rattle.flat_reading.proofs.walk.Walker.step.Goals as goal
 pub put_given-requires-clause-last : goal.put_given-requires-clause-last
 put_given-requires-clause-last c =
     let read = c.put_state.ensures.read
-    ∙ ap (λ (s : State). position s.input s.rest) c.in_ok-given.ensures.state in
+    ∙ ap (λ (s : State). position s.input s.rest) c.in_ok-piece.ensures.state in
     let w = c.args.self.now in
     let ready = c.requires.ready in
-    last w.input.now w.parser _ _ ready.utf8 ready.input ready.left read c.in_ok-given.ensures.piece
+    last w.input.now w.parser _ _ ready.utf8 ready.input ready.left read c.in_ok-piece.ensures.piece
 
 pub put_given-requires-clause-stands : goal.put_given-requires-clause-stands
 put_given-requires-clause-stands c =
     let w = c.args.self.now in
     let ready = c.requires.ready in
     stands w.input.now w.parser w.offset w.escapes _ ready.utf8 ready.input ready.left ready.plain
-    c.in_ok-given.ensures.piece
+    c.in_ok-piece.ensures.piece
 
 pub put_given-requires-clause-read : goal.put_given-requires-clause-read
 put_given-requires-clause-read c =
@@ -31,14 +31,14 @@ put_given-requires-clause-read c =
     let ready = c.requires.ready in
     read_at w.input.now w.parser w.escapes _ _ _ ready.utf8 ready.input ready.left ready.mode
     c.position-start.ensures c.curarg-next.ensures.value
-    c.curarg-next.ensures.fits c.in_ok-given.ensures.piece
+    c.curarg-next.ensures.fits c.in_ok-piece.ensures.piece
 
 pub overflow_sub-errors : goal.overflow_sub-errors
 overflow_sub-errors c =
     let before = sym (length-map c.errors-faults.result.now seen_error)
     ∙ ap length c.errors-faults.ensures in
     let rest_after = sym (length-map c.errors.result.now seen_error) ∙ ap length c.errors.ensures in
-    let grown = ap (λ (s : State). length s.errors) c.in_ok-given.ensures.state
+    let grown = ap (λ (s : State). length s.errors) c.in_ok-piece.ensures.state
     ∙ length-after c.args.self.now.parser (next_call c.args.self.now.parser) in
     omega (arith, before, rest_after, grown)
 
@@ -47,23 +47,23 @@ add-requires c =
     let before = sym (length-map c.errors-faults.result.now seen_error)
     ∙ ap length c.errors-faults.ensures in
     let rest_after = sym (length-map c.errors.result.now seen_error) ∙ ap length c.errors.ensures in
-    let grown = ap (λ (s : State). length s.errors) c.in_ok-given.ensures.state
+    let grown = ap (λ (s : State). length s.errors) c.in_ok-piece.ensures.state
     ∙ length-after c.args.self.now.parser (next_call c.args.self.now.parser) in
     let few = few_fronts (next_call c.args.self.now.parser).faults in
-    let fronts : c.in_ok-given.fronts ≡ fronts_in (next_call c.args.self.now.parser) =
-    c.in_ok-given.ensures.fronts in
+    let fronts : c.in_ok-piece.field-0.front_errors ≡ fronts_in (next_call c.args.self.now.parser) =
+    c.in_ok-piece.ensures.fronts in
     omega (arith, before, rest_after, grown, few, fronts)
 
 pub returns-clause-described : goal.returns-clause-described
 returns-clause-described c = λ room.
     let w = c.args.self.now in
     let s = w.parser in
-    let state = c.in_ok-given.ensures.state in
+    let state = c.in_ok-piece.ensures.state in
     let kept = c.in_ok-put_given.ensures.others in
     let place = rw state at c.closed_place-step.ensures in
     let t = c.next_into.new.self in
     described w.peeks w.input.now c.put_given.new.specs.records.now c.put_given.new.step s t state
-    (c.in_ok-put_given.ensures.described room ∙ c.in_ok-given.ensures.piece)
+    (c.in_ok-put_given.ensures.described room ∙ c.in_ok-piece.ensures.piece)
     (ap maybe_place kept.0
     ∙ place s.arg_places (next_call s).closes (sym (length-map c.arg_places-places.result.now pair)
     ∙ ap length c.arg_places-places.ensures) refl)
@@ -80,15 +80,15 @@ returns-clause-call c =
     let before = sym (length-map c.errors-faults.result.now seen_error)
     ∙ ap length c.errors-faults.ensures in
     let rest_after = sym (length-map c.errors.result.now seen_error) ∙ ap length c.errors.ensures in
-    let grown = ap (λ (s : State). length s.errors) c.in_ok-given.ensures.state
+    let grown = ap (λ (s : State). length s.errors) c.in_ok-piece.ensures.state
     ∙ length-after old.parser (next_call old.parser) in
     let fs = (next_call old.parser).faults in
-    let fronts : c.in_ok-given.fronts ≡ fronts_in (next_call old.parser) =
-    c.in_ok-given.ensures.fronts in
+    let fronts : c.in_ok-piece.field-0.front_errors ≡ fronts_in (next_call old.parser) =
+    c.in_ok-piece.ensures.fronts in
     let found : length c.errors.result.now - length c.errors-faults.result.now
     ≡ length fs = omega (arith, before, rest_after, grown) in
     let t = c.next_into.new.self in
-    let state = c.in_ok-given.ensures.state in
+    let state = c.in_ok-piece.ensures.state in
     record {
       state = state;
       ready = record {

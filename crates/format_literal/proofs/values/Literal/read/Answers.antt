@@ -13,9 +13,9 @@ returns-in_default c = λ style t h.
 pub returns-then-not-is_written : goal.returns-then-not-is_written
 returns-then-not-is_written c =
     let found = rw c.in-Some.is at c.in_ok-text.ensures.found in
-    no-other c.in-Some.style _ (chars (string_bytes c.in-Some.text)) found
+    no-other c.in-Some.field-0.style _ (chars (string_bytes c.in-Some.field-0.text)) found
     (λ w. false≢true (sym c.if-not-is_written.true ∙ c.is_written.ensures.1
-    (subst (λ v. IsWritten c.in-Some.style (chars c.args.source.now) (chars v))
+    (subst (λ v. IsWritten c.in-Some.field-0.style (chars c.args.source.now) (chars v))
     (sym c.deref.ensures) w)))
 
 pub invariant_of-result : goal.invariant_of-result
