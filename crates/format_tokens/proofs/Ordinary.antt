@@ -92,7 +92,8 @@ last-after b [] o = omega arith
 last-after b (p ∷ ps) (s, t, rest) = omega (arith, last-after p.1 ps rest)
 
 in_order-at : (b e : ℕ) (xs : List ContentCharacter) (i : ℕ) (d : ContentCharacter)
-    → InOrder b (places_of xs) → i < length xs → (suc (get_or xs i d).span.end ≤ last_stop e (places_of xs))
+    → InOrder b (places_of xs) → i < length xs
+    → (suc (get_or xs i d).span.end ≤ last_stop e (places_of xs))
     × ((get_or xs i d).span.start < (get_or xs i d).span.end)
 in_order-at b e [] i d o h = absurd (omega arith)
 in_order-at b e (x ∷ xs) zero d (s, t, rest) h =

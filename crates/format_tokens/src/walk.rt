@@ -121,9 +121,9 @@ fn literal<'a>(labels: &mut Vec<Label>, left: usize, text: &'a str) -> Result<&'
 }
 
 /// Adds the labels of a call at the start of a text, and returns the rest of the text after it:
-/// `left` bytes. `taken` is the piece that `Parser::next_into` returned, and `argument` the one into
-/// which it read a placeholder. Returns `Err` if an allocation fails; the list may then have some of
-/// the labels.
+/// `left` bytes. `taken` is the piece that `Parser::next_into` returned, and `argument` the one
+/// into which it read a placeholder. Returns `Err` if an allocation fails; the list may then have
+/// some of the labels.
 pub fn label<'a>(
     labels: &mut Vec<Label>,
     mode: ParseMode,

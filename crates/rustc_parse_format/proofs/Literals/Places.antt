@@ -91,8 +91,8 @@ abbrev pub IsSoFar : List ContentCharacter → ℕ → Text → Text → Type 0
 IsSoFar xs at t whole = option_map (λ ps. seen_characters xs ++ ps) (content_characters at t)
     ≡ content_characters 0 whole
 
-pub found-character : (at end c : ℕ) (t r whole : Text) (v : Option ℕ) (xs ys : List ContentCharacter)
-    → IsSoFar xs at t whole →
+pub found-character : (at end c : ℕ) (t r whole : Text) (v : Option ℕ)
+    (xs ys : List ContentCharacter) → IsSoFar xs at t whole →
     meaning (unit_at t) ≡ Some (at_most_one v, r) → v ≡ Some c →
     at + byte_length t ≡ end + byte_length r → ys ≡ xs ++ character_at at end c ∷ []
     → IsSoFar ys end r whole

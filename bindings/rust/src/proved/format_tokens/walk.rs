@@ -118,9 +118,9 @@ fn literal<'a>(labels: &mut Vec<Label>, left: usize, text: &'a str) -> Result<&'
 }
 
 /// Adds the labels of a call at the start of a text, and returns the rest of the text after it:
-/// `left` bytes. `taken` is the piece that `Parser::next_into` returned, and `argument` the one into
-/// which it read a placeholder. Returns `Err` if an allocation fails; the list may then have some of
-/// the labels.
+/// `left` bytes. `taken` is the piece that `Parser::next_into` returned, and `argument` the one
+/// into which it read a placeholder. Returns `Err` if an allocation fails; the list may then have
+/// some of the labels.
 // ensures { IfOk result (λ after. (w : World) (n : ℕ) →
 //     (let k = call (seen_mode mode) n (chars text.now) in
 //     option_map (seen_taken argument.now) taken.entry ≡ option_map (piece_in w) k.piece

@@ -8,13 +8,15 @@ use Rattle.rustc_parse_format.proofs.literal.read_content.Goals as goal
 
 pub returns-clause-found : goal.returns-clause-found
 returns-clause-found c =
-    read-found c.read_characters.result (λ (v : Vec ContentCharacter Global). seen_characters v.items)
-    (chars c.args.content.now) c.read_characters.ensures.computed
+    read-found c.read_characters.result
+    (λ (v : Vec ContentCharacter Global). seen_characters v.items) (chars c.args.content.now)
+    c.read_characters.ensures.computed
 
 pub returns-clause-none : goal.returns-clause-none
 returns-clause-none c =
-    read-none c.read_characters.result (λ (v : Vec ContentCharacter Global). seen_characters v.items)
-    (chars c.args.content.now) c.read_characters.ensures.computed
+    read-none c.read_characters.result
+    (λ (v : Vec ContentCharacter Global). seen_characters v.items) (chars c.args.content.now)
+    c.read_characters.ensures.computed
 
 pub returns-clause-empty : goal.returns-clause-empty
 returns-clause-empty c e = c.read_characters.ensures.empty (ap chars e ∙ chars-nil)
