@@ -14,7 +14,9 @@ use crate::listing::{put_error, put_line, put_range};
 use crate::names::names;
 use crate::{Row, read, start};
 use rustc_parse_format::literal::content_text;
-use rustc_parse_format::{Argument, ParseError, Parser, Piece, PieceKind, put_all_written};
+use rustc_parse_format::{
+    Argument, ParseError, Parser, Piece, PieceKind, Reading, put_all_written,
+};
 use std::alloc::{AllocError, Global};
 use std::ops::Range;
 
@@ -305,7 +307,7 @@ pub fn follow(alloc: Global, row: &Row<'_>) -> Result<String, AllocError> {
     if put_of_input(alloc, &mut result, call, row.input.as_str())? {
         put_call(&mut out, call, result.as_str())?;
     } else if first.starts_with("read_all ") {
-        if let Some((pieces, mut parser)) = read(alloc, row)? {
+        if let Some(Reading { pieces, mut parser }) = read(alloc, row)? {
             let count = pieces.len();
             write!(out, "read_all {count}\n")?;
             put_calls(alloc, &mut out, &mut parser, others)?;
