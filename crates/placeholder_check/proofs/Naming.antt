@@ -1,6 +1,6 @@
 -- How names are collected.
-use Rattle.std.proofs.Common.{◌≡◌, ℕ, zero, suc, ◌+◌, ◌<◌, ◌≤◌, Bool, true, false, cond, ◌||◌, List}
-use Rattle.std.proofs.Common.{inl, length-append}
+use Rattle.std.proofs.Common.{◌≡◌, ℕ, zero, suc, ◌+◌, ◌<◌, ◌≤◌, Bool, true, false, cond, ◌||◌, ◌&&◌}
+use Rattle.std.proofs.Common.{List, inl, inr, length-append, not}
 use Rattle.std.proofs.Common.{[], ◌∷◌, ◌++◌, length, take, get_or, chars, refl, arith}
 use Rattle.std.proofs.Common.{sym, ap, ◌∙◌, IsUtf8}
 use Rattle.std.specs.BTreeSet.{BTreeSet, UpdatesBy}
@@ -56,7 +56,7 @@ has_text-added old new w u h t = h.0 (record { ref_ptr = (0, 0); now = encode_ut
     (is_eq-slice_cmp w.now (encode_utf8_all t) ∙ same_text t w.now u)
 
 -- one name more
-texts-next : (ws : List (Bor (List ℕ))) (i : ℕ) (d : Bor (List ℕ)) → i < length ws →
+pub texts-next : (ws : List (Bor (List ℕ))) (i : ℕ) (d : Bor (List ℕ)) → i < length ws →
     texts (take (i + 1) ws) ≡ texts (take i ws) ++ chars (get_or ws i d).now ∷ []
 texts-next ws i d h = rw (take_more ws i d h) (map-append text (take i ws) (get_or ws i d ∷ []))
 
@@ -101,35 +101,76 @@ pub any-found : (t : Text) (ws : List (Bor (List ℕ))) (i j : ℕ) (d : Bor (Li
 any-found t ws i j d h k e = any-more t (i + 1) j ws (omega arith)
     (any-next t ws i d h ∙ ap (λ b. b || list_any (bytes_eq t) (texts (take i ws))) e)
 
--- a name that is there already
-known-same : (b : Bool) (t u : Text) (s : Names) → Decides b (t ≡ u) → is_known s u ≡ true
-    → is_known s t ≡ (b || is_known s t)
-known-same true t u s d e = ap (is_known s) (d.0 refl) ∙ e
-known-same false t u s d e = refl
+-- whether a text is among names, if one more text was looked at
+and-left : (a b : Bool) → true ≡ (a && b) → true ≡ a
+and-left true b e = refl
+and-left false b e = e
 
-pub Follows-had : (ts : List Text) (s : Names) (u : Text) → is_known s u ≡ true → Follows ts s
-    → Follows (ts ++ u ∷ []) s
-Follows-had ts s u e f = record {
-  firsts = AreFirsts-skip ts [] u (texts s.list.items)
-      (inl ((is_member-Decides bytes_eq-Decides ts u).0 (sym (f.same u) ∙ e))) f.firsts;
-  same = λ t. known-same (bytes_eq t u) t u s (bytes_eq-Decides t u) e
-      ∙ ap (λ b. bytes_eq t u || b) (f.same t) ∙ sym (any-last t u ts);
+and-false : (a : Bool) → (a && false) ≡ false
+and-false true = refl
+and-false false = refl
+
+next-by : (b a n known : Bool) {P : Type 0} → Decides b P → (P → known ≡ n)
+    → (b ≡ false → known ≡ (a && n)) → known ≡ ((b || a) && n)
+next-by true a n known d here there = here (d.0 refl)
+next-by false a n known d here there = there refl
+
+next-same : (t u : Text) (ts ys : List Text) (known : Bool)
+    → (t ≡ u → known ≡ not (list_any (bytes_eq t) ys))
+    → (bytes_eq t u ≡ false → known
+    ≡ (list_any (bytes_eq t) ts && not (list_any (bytes_eq t) ys)))
+    → known ≡ (list_any (bytes_eq t) (ts ++ u ∷ []) && not (list_any (bytes_eq t) ys))
+next-same t u ts ys known here there = rw (any-last t u ts)
+    (next-by (bytes_eq t u) (list_any (bytes_eq t) ts) (not (list_any (bytes_eq t) ys)) known
+    (bytes_eq-Decides t u) here there)
+
+-- a name that ys has
+pub Follows-skip : (ts ys : List Text) (s : Names) (u : Text) → list_any (bytes_eq u) ys ≡ true
+    → Follows ts ys s → Follows (ts ++ u ∷ []) ys s
+Follows-skip ts ys s u e f = record {
+  firsts = AreFirsts-skip ts ys u (texts s.list.items)
+      (inr ((is_member-Decides bytes_eq-Decides ys u).0 e)) f.firsts;
+  same = λ t. next-same t u ts ys (is_known s t)
+      (λ h. let has : list_any (bytes_eq t) ys ≡ true = rw h e in
+      f.same t ∙ rw has (and-false (list_any (bytes_eq t) ts)))
+      (λ h. f.same t);
+}
+
+-- a name that is there already
+pub Follows-had : (ts ys : List Text) (s : Names) (u : Text) → list_any (bytes_eq u) ys ≡ false
+    → is_known s u ≡ true → Follows ts ys s → Follows (ts ++ u ∷ []) ys s
+Follows-had ts ys s u lacked e f = record {
+  firsts = AreFirsts-skip ts ys u (texts s.list.items)
+      (inl ((is_member-Decides bytes_eq-Decides ts u).0
+      (sym (and-left (list_any (bytes_eq u) ts) _ (sym e ∙ f.same u))))) f.firsts;
+  same = λ t. next-same t u ts ys (is_known s t)
+      (λ h. rw (h, lacked, e) refl)
+      (λ h. f.same t);
 }
 
 -- a name that is new
-pub Follows-new : (ts : List Text) (old new : Names) (w : Bor (List ℕ))
+pub Follows-new : (ts ys : List Text) (old new : Names) (w : Bor (List ℕ))
+    → list_any (bytes_eq (chars w.now)) ys ≡ false
     → is_known old (chars w.now) ≡ false → new.list.items ≡ old.list.items ++ w ∷ []
     → ((t : Text) → is_known new t ≡ (bytes_eq t (chars w.now) || is_known old t))
-    → Follows ts old → Follows (ts ++ chars w.now ∷ []) new
-Follows-new ts old new w e pushed known f = record {
+    → Follows ts ys old → Follows (ts ++ chars w.now ∷ []) ys new
+Follows-new ts ys old new w lacked e pushed known f = record {
   firsts = rw (pushed, map-append text old.list.items (w ∷ []))
-      (AreFirsts-push ts [] (chars w.now) (texts old.list.items)
+      (AreFirsts-push ts ys (chars w.now) (texts old.list.items)
       (not_from_Decides _ (is_member-Decides bytes_eq-Decides ts (chars w.now))
-      (sym (f.same (chars w.now)) ∙ e))
-      (not_from_Decides _ (is_member-Decides bytes_eq-Decides [] (chars w.now)) refl) f.firsts);
-  same = λ t. known t ∙ ap (λ b. bytes_eq t (chars w.now) || b) (f.same t)
-      ∙ sym (any-last t (chars w.now) ts);
+      (and-only (list_any (bytes_eq (chars w.now)) ts)
+      (sym (f.same (chars w.now)
+      ∙ ap (λ b. list_any (bytes_eq (chars w.now)) ts && not b) lacked) ∙ e)))
+      (not_from_Decides _ (is_member-Decides bytes_eq-Decides ys (chars w.now)) lacked) f.firsts);
+  same = λ t. next-same t (chars w.now) ts ys (is_known new t)
+      (λ h. known t ∙ ap (λ b. b || is_known old t) ((bytes_eq-Decides t (chars w.now)).1 h)
+      ∙ sym (rw (h, lacked) refl))
+      (λ h. known t ∙ ap (λ b. b || is_known old t) h ∙ f.same t);
 }
+  where
+    and-only : (a : Bool) → (a && true) ≡ false → a ≡ false
+    and-only true e = e
+    and-only false e = refl
 
 -- one of the first names
 pub known-early : (t : Text) (ws : List (Bor (List ℕ))) (w : Bor (List ℕ)) (n : ℕ) (later : Bool)
@@ -142,7 +183,7 @@ known-early t ws w n later h = rw (
   any-last t (chars w.now) (texts ws),
 ) (or_assoc (bytes_eq t (chars w.now)) (list_any (bytes_eq t) (texts ws)) later)
 
-or-swap : (a b c : Bool) → (a || (b || c)) ≡ (b || (a || c))
+pub or-swap : (a b c : Bool) → (a || (b || c)) ≡ (b || (a || c))
 or-swap true true c = refl
 or-swap true false c = refl
 or-swap false b c = refl

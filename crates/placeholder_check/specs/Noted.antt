@@ -1,5 +1,6 @@
 -- The uses of arguments while they are collected.
-use Rattle.std.specs.Prelude.{◌≡◌, ℕ, Bool, false, ◌||◌, ◌==◌, List, [], ◌++◌, get_or, take}
+use Rattle.std.specs.Prelude.{◌≡◌, ℕ, Bool, false, ◌||◌, ◌&&◌, ◌==◌, List, [], ◌++◌, get_or, not}
+use Rattle.std.specs.Prelude.{take}
 use Rattle.std.specs.BTreeSet.{BTreeSet, contains, contains_by}
 use Rattle.std.specs.Ordering.{nat_cmp}
 use Rattle.std.specs.Cmp.Lexicographic.{slice_cmp}
@@ -31,14 +32,20 @@ is_noted s n = get_or s.marks.items n false || contains nat_cmp s.others n
 abbrev pub has_text : BTreeSet (Bor (List ℕ)) → Text → Bool
 has_text s t = contains_by (λ k. slice_cmp nat_cmp (encode_utf8_all t) k.now) s
 
+-- This text is among names, of which the set has those after the first 16.
+abbrev pub is_among : List (Bor (List ℕ)) → BTreeSet (Bor (List ℕ)) → Text → Bool
+is_among ws s t = list_any (bytes_eq t) (texts (take 16 ws)) || has_text s t
+
 -- This text is among the names.
 abbrev pub is_known : Names → Text → Bool
-is_known s t = list_any (bytes_eq t) (texts (take 16 s.list.items)) || has_text s.later t
+is_known s t = is_among s.list.items s.later t
 
--- The names are those texts, each once, in the order of their first entries.
-pub record Follows (ts : List Text) (s : Names) : Type 0 where
-  pub firsts : AreFirsts ts [] (texts s.list.items)
-  pub same : (t : Text) → is_known s t ≡ list_any (bytes_eq t) ts
+-- The names are those of the texts ts that ys does not have, each once, in the order of their first
+-- entries.
+pub record Follows (ts ys : List Text) (s : Names) : Type 0 where
+  pub firsts : AreFirsts ts ys (texts s.list.items)
+  pub same : (t : Text) → is_known s t
+      ≡ (list_any (bytes_eq t) ts && not (list_any (bytes_eq t) ys))
 
 -- The collection is as it was made: it has no use.
 abbrev pub IsNew : Uses → Type 0
@@ -48,9 +55,10 @@ IsNew u = (u.indices.marks.items ≡ []) × (u.indices.others.keys ≡ [])
 -- The collection has exactly these uses.
 pub record Holds (us : List Use) (u : Uses) : Type 0 where
   pub indices : (n : ℕ) → is_noted u.indices n ≡ has_index us n
-  pub names : Follows (used_names us) u.names
+  pub names : Follows (used_names us) [] u.names
 
 -- These uses were added to the collection.
 pub record Adds (us : List Use) (old new : Uses) : Type 0 where
   pub indices : (n : ℕ) → is_noted new.indices n ≡ (is_noted old.indices n || has_index us n)
-  pub names : (ts : List Text) → Follows ts old.names → Follows (ts ++ used_names us) new.names
+  pub names : (ts : List Text) → Follows ts [] old.names
+      → Follows (ts ++ used_names us) [] new.names

@@ -8,7 +8,7 @@ ghost use Rattle.placeholder_check.specs.Report.{IsReport, Report as ReportOf};
 ghost use Rattle.placeholder_check.specs.Seen.{seen_report, texts};
 
 use crate::indices::{lacked_below, members_from};
-use crate::names::{lacked_by, names_of};
+use crate::names::{lacked_by, later_names, unused_names};
 use crate::uses::{Uses, uses_of};
 use rustc_parse_format::Piece;
 use std::alloc::{AllocError, Global};
@@ -46,9 +46,9 @@ pub fn check_uses<'a>(
     let used_below = used.indices.count.saturating_sub(missing_index.len());
     let room = positional.saturating_sub(used_below);
     let unused_index = lacked_below(alloc, &used.indices, positional, room)?;
-    let given = names_of(alloc, names)?;
-    let missing_name = lacked_by(alloc, &used.names.list, &given)?;
-    let unused_name = lacked_by(alloc, &given.list, &used.names)?;
+    let later = later_names(alloc, names)?;
+    let missing_name = lacked_by(alloc, &used.names.list, names, &later)?;
+    let unused_name = unused_names(alloc, names, &used.names)?;
     Ok(Report {
         missing_index,
         missing_name,

@@ -1,12 +1,13 @@
 //! Sets of names, in the order in which they were added. The names after the first few are in an
 //! ordered set too, since a text may be hostile and the kit's hash has a fixed seed.
 
-ghost use Rattle.std.specs.Prelude.{◌≡◌, ◌∷◌, ◌++◌, ◌<◌, ◌≤◌, ◌||◌, List, [], chars, filter, not};
-ghost use Rattle.std.specs.Prelude.{take, IfOk, IsOk, OnOk};
+ghost use Rattle.std.specs.Prelude.{◌≡◌, ◌∷◌, ◌++◌, ◌<◌, ◌≤◌, ◌||◌, List, [], chars, false, filter};
+ghost use Rattle.std.specs.Prelude.{not, take, IfOk, IsOk, OnOk};
 ghost use Rattle.std.specs.List.{list_any};
 ghost use Rattle.std.specs.Str.{bytes_eq};
 ghost use Rattle.rustc_parse_format.specs.Characters.{Text};
-ghost use Rattle.placeholder_check.specs.Noted.{Follows, has_text, is_known};
+ghost use Rattle.placeholder_check.specs.Entries.{AreFirsts};
+ghost use Rattle.placeholder_check.specs.Noted.{Follows, has_text, is_among, is_known};
 ghost use Rattle.placeholder_check.specs.Seen.{texts};
 
 use std::alloc::{AllocError, Global};
@@ -27,7 +28,7 @@ pub struct Names<'a> {
 /// Returns the empty set. Allocates nothing.
 pub fn no_names<'a>(alloc: Global) -> Names<'a>
     ensures empty { result.list.items ≡ [] }
-    ensures none { Follows [] result }
+    ensures none { (ys : List Text) → Follows [] ys result }
 {
     Names {
         list: Vec::new(alloc),
@@ -61,11 +62,11 @@ fn is_later<'a>(later: &BTreeSet<&'a str>, name: &'a str) -> bool
     later.contains(&name)
 }
 
-/// Returns whether a name is among others.
-pub fn has_name<'a>(names: &Names<'a>, name: &'a str) -> bool
-    ensures { result ≡ is_known names.now (chars name.now) }
+/// Returns whether a name is among others, of which `later` has those after the first [`FEW`].
+fn has_name<'a>(names: &[&'a str], later: &BTreeSet<&'a str>, name: &'a str) -> bool
+    ensures { result ≡ is_among names.now later.now (chars name.now) }
 {
-    is_early(&names.list, name) || is_later(&names.later, name)
+    is_early(names, name) || is_later(later, name)
 }
 
 /// Inserts a name into a set. Returns `Err` if an allocation fails.
@@ -79,10 +80,10 @@ fn insert_later<'a>(set: &mut BTreeSet<&'a str>, name: &'a str) -> Result<(), Al
 
 /// Adds a name to others, if it is not yet there. Returns `Err` if an allocation fails.
 pub fn insert_name<'a>(names: &mut Names<'a>, name: &'a str) -> Result<(), AllocError>
-    ensures { OnOk result ((before : List Text) → Follows before names.old
-        → Follows (before ++ chars name.now ∷ []) names.new) }
+    ensures { OnOk result ((before ys : List Text) → list_any (bytes_eq (chars name.now)) ys ≡ false
+        → Follows before ys names.old → Follows (before ++ chars name.now ∷ []) ys names.new) }
 {
-    if has_name(names, name) {
+    if has_name(&names.list, &names.later, name) {
         return Ok(());
     }
     if names.list.len() >= FEW {
@@ -92,34 +93,58 @@ pub fn insert_name<'a>(names: &mut Names<'a>, name: &'a str) -> Result<(), Alloc
     Ok(())
 }
 
-/// Returns the names of a list. Returns `Err` if an allocation fails.
-pub fn names_of<'a>(alloc: Global, list: &[&'a str]) -> Result<Names<'a>, AllocError>
-    ensures names { IfOk result (λ s. Follows (texts list.now) s) }
-    ensures empty { list.now ≡ [] → IfOk result (λ s. s.list.items ≡ []) × IsOk result }
+/// Returns the names of a list after the first [`FEW`]. Returns `Err` if an allocation fails.
+pub fn later_names<'a>(alloc: Global, names: &[&'a str]) -> Result<BTreeSet<&'a str>, AllocError>
+    ensures known { IfOk result (λ s. (t : Text)
+        → is_among names.now s t ≡ list_any (bytes_eq t) (texts names.now)) }
+    ensures empty { names.now ≡ [] → IsOk result }
 {
-    let mut names = no_names(alloc);
-    for name in list {
-        insert_name(&mut names, name)?;
+    let mut later = BTreeSet::new(alloc);
+    for i in FEW..names.len() {
+        insert_later(&mut later, names[i])?;
     }
-    Ok(names)
+    Ok(later)
 }
 
-/// Returns the names of a list that are not among others, in their order. Returns `Err` if an
-/// allocation fails.
+/// Returns the names of a list that are not among others, in their order; `later` has those of the
+/// others after the first [`FEW`]. Returns `Err` if an allocation fails.
 pub fn lacked_by<'a>(
     alloc: Global,
     names: &[&'a str],
-    others: &Names<'a>,
+    others: &[&'a str],
+    later: &BTreeSet<&'a str>,
 ) -> Result<Vec<&'a str>, AllocError>
-    ensures lacked { IfOk result
-        (λ v. texts v.items ≡ filter (λ t. not (is_known others.now t)) (texts names.now)) }
+    ensures lacked { IfOk result (λ v. texts v.items
+        ≡ filter (λ t. not (is_among others.now later.now t)) (texts names.now)) }
     ensures empty { names.now ≡ [] → IsOk result }
 {
     let mut lacked = Vec::new(alloc);
     for name in names {
-        if !has_name(others, name) {
+        if !has_name(others, later, name) {
             lacked.push(*name)?;
         }
     }
     Ok(lacked)
+}
+
+/// Returns the names of a list that are not in a set, each once, in the order of their first
+/// entries. Returns `Err` if an allocation fails.
+pub fn unused_names<'a>(
+    alloc: Global,
+    names: &[&'a str],
+    used: &Names<'a>,
+) -> Result<Vec<&'a str>, AllocError>
+    ensures unused { IfOk result (λ v. (ys : List Text)
+        → ((t : Text) → is_known used.now t ≡ list_any (bytes_eq t) ys)
+        → AreFirsts (texts names.now) ys (texts v.items)) }
+    ensures empty { names.now ≡ [] → IsOk result }
+{
+    let mut unused = no_names(alloc);
+    for name in names {
+        if !has_name(&used.list, &used.later, name) {
+            insert_name(&mut unused, name)?;
+        }
+    }
+    let Names { list, later: _ } = unused;
+    Ok(list)
 }

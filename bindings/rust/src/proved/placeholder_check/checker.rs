@@ -5,7 +5,7 @@
 // by results from outside, and beside what is proved (.ci/bindings) and the original (tools/agree).
 
 use crate::proved::placeholder_check::indices::{lacked_below, members_from};
-use crate::proved::placeholder_check::names::{lacked_by, names_of};
+use crate::proved::placeholder_check::names::{lacked_by, later_names, unused_names};
 use crate::proved::placeholder_check::uses::{uses_of, Uses};
 use crate::proved::rustc_parse_format::Piece;
 use crate::shim::alloc::AllocError;
@@ -43,9 +43,9 @@ pub fn check_uses<'a>(
     let used_below = used.indices.count.saturating_sub(missing_index.len());
     let room = positional.saturating_sub(used_below);
     let unused_index = lacked_below(&used.indices, positional, room)?;
-    let given = names_of(names)?;
-    let missing_name = lacked_by(&used.names.list, &given)?;
-    let unused_name = lacked_by(&given.list, &used.names)?;
+    let later = later_names(names)?;
+    let missing_name = lacked_by(&used.names.list, names, &later)?;
+    let unused_name = unused_names(names, &used.names)?;
     Ok(Report {
         missing_index,
         missing_name,

@@ -22,7 +22,7 @@ pub struct Names<'a> {
 
 /// Returns the empty set. Allocates nothing.
 // ensures empty { result.list.items ≡ [] }
-// ensures none { Follows [] result }
+// ensures none { (ys : List Text) → Follows [] ys result }
 #[inline]
 pub fn no_names<'a>() -> Names<'a> {
     Names {
@@ -57,11 +57,11 @@ fn is_later<'a>(later: &BTreeSet<&'a str>, name: &'a str) -> bool {
     later.contains(&name)
 }
 
-/// Returns whether a name is among others.
-// ensures { result ≡ is_known names.now (chars name.now) }
+/// Returns whether a name is among others, of which `later` has those after the first [`FEW`].
+// ensures { result ≡ is_among names.now later.now (chars name.now) }
 #[inline]
-pub fn has_name<'a>(names: &Names<'a>, name: &'a str) -> bool {
-    is_early(&names.list, name) || is_later(&names.later, name)
+fn has_name<'a>(names: &[&'a str], later: &BTreeSet<&'a str>, name: &'a str) -> bool {
+    is_early(names, name) || is_later(later, name)
 }
 
 /// Inserts a name into a set.
@@ -74,11 +74,11 @@ fn insert_later<'a>(set: &mut BTreeSet<&'a str>, name: &'a str) -> Result<(), Al
 }
 
 /// Adds a name to others, if it is not yet there.
-// ensures { OnOk result ((before : List Text) → Follows before names.old
-//     → Follows (before ++ chars name.now ∷ []) names.new) }
+// ensures { OnOk result ((before ys : List Text) → list_any (bytes_eq (chars name.now)) ys ≡ false
+//     → Follows before ys names.old → Follows (before ++ chars name.now ∷ []) ys names.new) }
 #[inline]
 pub fn insert_name<'a>(names: &mut Names<'a>, name: &'a str) -> Result<(), AllocError> {
-    if has_name(names, name) {
+    if has_name(&names.list, &names.later, name) {
         return Ok(());
     }
     if names.list.len() >= FEW {
@@ -88,29 +88,53 @@ pub fn insert_name<'a>(names: &mut Names<'a>, name: &'a str) -> Result<(), Alloc
     Ok(())
 }
 
-/// Returns the names of a list.
-// ensures names { IfOk result (λ s. Follows (texts list.now) s) }
-// ensures empty { list.now ≡ [] → IfOk result (λ s. s.list.items ≡ []) × IsOk result }
-#[inline]
-pub fn names_of<'a>(list: &[&'a str]) -> Result<Names<'a>, AllocError> {
-    let mut names = no_names();
-    for name in list {
-        insert_name(&mut names, name)?;
-    }
-    Ok(names)
-}
-
-/// Returns the names of a list that are not among others, in their order.
-// ensures lacked { IfOk result
-//     (λ v. texts v.items ≡ filter (λ t. not (is_known others.now t)) (texts names.now)) }
+/// Returns the names of a list after the first [`FEW`].
+// ensures known { IfOk result (λ s. (t : Text)
+//     → is_among names.now s t ≡ list_any (bytes_eq t) (texts names.now)) }
 // ensures empty { names.now ≡ [] → IsOk result }
 #[inline]
-pub fn lacked_by<'a>(names: &[&'a str], others: &Names<'a>) -> Result<Vec<&'a str>, AllocError> {
+pub fn later_names<'a>(names: &[&'a str]) -> Result<BTreeSet<&'a str>, AllocError> {
+    let mut later = BTreeSet::new();
+    for i in FEW..names.len() {
+        insert_later(&mut later, names[i])?;
+    }
+    Ok(later)
+}
+
+/// Returns the names of a list that are not among others, in their order; `later` has those of the
+/// others after the first [`FEW`].
+// ensures lacked { IfOk result (λ v. texts v.items
+//     ≡ filter (λ t. not (is_among others.now later.now t)) (texts names.now)) }
+// ensures empty { names.now ≡ [] → IsOk result }
+#[inline]
+pub fn lacked_by<'a>(
+    names: &[&'a str],
+    others: &[&'a str],
+    later: &BTreeSet<&'a str>,
+) -> Result<Vec<&'a str>, AllocError> {
     let mut lacked = Vec::new();
     for name in names {
-        if !has_name(others, name) {
+        if !has_name(others, later, name) {
             lacked.try_push(*name)?;
         }
     }
     Ok(lacked)
+}
+
+/// Returns the names of a list that are not in a set, each once, in the order of their first
+/// entries.
+// ensures unused { IfOk result (λ v. (ys : List Text)
+//     → ((t : Text) → is_known used.now t ≡ list_any (bytes_eq t) ys)
+//     → AreFirsts (texts names.now) ys (texts v.items)) }
+// ensures empty { names.now ≡ [] → IsOk result }
+#[inline]
+pub fn unused_names<'a>(names: &[&'a str], used: &Names<'a>) -> Result<Vec<&'a str>, AllocError> {
+    let mut unused = no_names();
+    for name in names {
+        if !has_name(&used.list, &used.later, name) {
+            insert_name(&mut unused, name)?;
+        }
+    }
+    let Names { list, later: _ } = unused;
+    Ok(list)
 }

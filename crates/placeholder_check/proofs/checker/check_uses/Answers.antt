@@ -4,11 +4,11 @@ use Rattle.placeholder_check.proofs.checker.check_uses.Goals as goal
 
 pub returns-clause-report : goal.returns-clause-report
 returns-clause-report c us held =
-    reported us c.args.used.now c.in_ok-given.given c.args.positional c.args.names.now _ _ _ _
-    held c.in_ok-given.ensures.names
+    reported us c.args.used.now c.in_ok-later.later c.args.positional c.args.names.now _ _ _ _
+    held c.in_ok-later.ensures.known
     c.in_ok-missing_index.ensures.members c.in_ok-unused_index.ensures.lacked
     (rw c.deref.ensures.value at c.in_ok-missing_name.ensures.lacked)
-    (rw c.deref-2.ensures.value at c.in_ok-unused_name.ensures.lacked)
+    c.in_ok-unused_name.ensures.unused
 
 pub returns-clause-only : goal.returns-clause-only
 returns-clause-only c us held s h = one-report _ _ _ s _ h (returns-clause-report c us held)

@@ -6,13 +6,14 @@ use Rattle.placeholder_check.proofs.names.insert_name.Goals.{then-len-ge-FEW+in_
 use Rattle.placeholder_check.proofs.names.insert_name.Goals.{else-len-ge-FEW}
 
 pub returns-then-has_name : goal.returns-then-has_name
-returns-then-has_name c = λ ts f.
-    Follows-had ts c.args.names.now (chars c.args.name.now) (sym c.if-has_name.ensures) f
+returns-then-has_name c = λ ts ys lacked f.
+    Follows-had ts ys c.args.names.now (chars c.args.name.now) lacked
+    (sym (rw c.deref.ensures.value at c.if-has_name.ensures)) f
 
 pub returns : goal.returns
-returns c = λ ts f.
+returns c = λ ts ys lacked f.
     let is_new : is_known c.args.names.now (chars c.args.name.now) ≡ false = cc in
-    Follows-new ts c.args.names.now _ c.args.name is_new
+    Follows-new ts ys c.args.names.now _ c.args.name lacked is_new
     (elim c.if-len-ge-FEW.branch [
       | then-len-ge-FEW+in_ok-insert_later w ↦ rw (w.names-is) at c.in_ok-push.ensures.items
       | else-len-ge-FEW w ↦ rw (w.names-is) at c.in_ok-push.ensures.items
