@@ -59,23 +59,27 @@ fn is_settled(marks: &[bool], index: usize, slot: &Operand<'_>) -> bool
 /// Adds the index of an operand, unless it is marked or has a register of its own. Returns `Err` if
 /// an allocation fails.
 fn push_unmarked(
-    left: &mut Vec<usize>,
+    unused: &mut Vec<usize>,
     marks: &[bool],
     index: usize,
     slot: &Operand<'_>,
 ) -> Result<(), AllocError>
-    ensures { OnOk result (left.new.items ≡ left.old.items
+    ensures { OnOk result (unused.new.items ≡ unused.old.items
         ++ unused_one (λ i. get_or marks.now i false) index (seen_operand slot.now)) }
 {
     if !is_settled(marks, index, slot) {
-        left.push(index)?;
+        unused.push(index)?;
     }
     Ok(())
 }
 
 /// Returns the indices of the operands that are not marked, but for those with a register of their
 /// own. Returns `Err` if an allocation fails.
-fn unmarked(alloc: Global, slots: &[Operand<'_>], marks: &[bool]) -> Result<Vec<usize>, AllocError>
+fn unmarked_operands(
+    alloc: Global,
+    slots: &[Operand<'_>],
+    marks: &[bool],
+) -> Result<Vec<usize>, AllocError>
     ensures { IfOk result (λ v. v.items
         ≡ unused_from (λ i. get_or marks.now i false) 0 (map seen_operand slots.now)) }
 {
@@ -158,7 +162,7 @@ pub(crate) fn check_unused<'a>(
         ++ unused_faults (unused ss (map seen_lookup lookups.now))) }
 {
     let marks = marks(alloc, operands, lookups)?;
-    let unused = unmarked(alloc, &operands.slots, &marks)?;
+    let unused = unmarked_operands(alloc, &operands.slots, &marks)?;
     push_unused(faults, unused)?;
     Ok(())
 }

@@ -235,14 +235,14 @@ pub(crate) fn count_unnamed(operands: &[Operand<'_>]) -> usize
 pub(crate) fn operands_of<'a>(
     alloc: Global,
     faults: &mut Vec<AsmFault<'a>>,
-    given: &[Operand<'a>],
+    list: &[Operand<'a>],
 ) -> Result<Operands<'a>, AllocError>
-    ensures held { IfOk result (λ a. Holds (slots_after [] (map seen_operand given.now)) a) }
+    ensures held { IfOk result (λ a. Holds (slots_after [] (map seen_operand list.now)) a) }
     ensures outcome { OnOk result (map seen_fault faults.new.items ≡ map seen_fault faults.old.items
-        ++ faults_from [] 0 (map seen_operand given.now)) }
+        ++ faults_from [] 0 (map seen_operand list.now)) }
 {
     let mut operands = no_operands(alloc);
-    for (index, operand) in given.iter().enumerate() {
+    for (index, operand) in list.iter().enumerate() {
         add(&mut operands, faults, index, *operand)?;
     }
     Ok(operands)

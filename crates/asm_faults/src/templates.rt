@@ -30,7 +30,7 @@ pub struct Template<'a> {
 }
 
 /// Returns a text as a string. Returns `Err` if an allocation fails.
-fn owned(alloc: Global, text: Option<&str>) -> Result<Option<String>, AllocError>
+fn owned_string(alloc: Global, text: Option<&str>) -> Result<Option<String>, AllocError>
     ensures { IfOk result (λ o. seen_snippet o ≡ option_map seen_text text.entry) }
 {
     match text {
@@ -46,7 +46,7 @@ fn fault_of<'a>(alloc: Global, template: Template<'a>) -> Result<Option<Fault<'a
     ensures { IfOk result (λ o. option_map seen_text_fault o
         ≡ text_fault (start (seen_template template.entry))) }
 {
-    let snippet = owned(alloc, template.snippet)?;
+    let snippet = owned_string(alloc, template.snippet)?;
     let mut parser = Parser::new(
         alloc,
         template.text,
@@ -75,7 +75,7 @@ fn push_template<'a>(
         ≡ next_after_template walk.old.next (seen_template template.entry)) }
     ensures few { OnOk result (walk.new.next ≤ length walk.new.lookups.items) }
 {
-    let snippet = owned(alloc, template.snippet)?;
+    let snippet = owned_string(alloc, template.snippet)?;
     let Reading { pieces, parser } = read_all(
         alloc,
         template.text,

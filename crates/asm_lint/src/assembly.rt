@@ -72,23 +72,27 @@ struct Operands<'a> {
 }
 
 /// Adds an argument after the templates. Returns `Err` if an allocation fails.
-fn add<'a>(found: &mut Operands<'a>, part: &Part<'a>, argument: &Argument) -> Result<(), AllocError>
+fn add<'a>(
+    operands: &mut Operands<'a>,
+    part: &Part<'a>,
+    argument: &Argument,
+) -> Result<(), AllocError>
     requires { argument.now.start < length part.now }
-    ensures list { OnOk result (map seen_operand found.new.list.items
-        ≡ map seen_operand found.old.list.items
+    ensures list { OnOk result (map seen_operand operands.new.list.items
+        ≡ map seen_operand operands.old.list.items
         ++ operands part.now (argument.now ∷ [])) }
-    ensures raw { OnOk result (found.new.are_raw
-        ≡ (found.old.are_raw || is_raw_part (asm_part part.now argument.now))) }
-    ensures unknown { OnOk result (found.new.is_unknown
-        ≡ (found.old.is_unknown || is_unknown_part (asm_part part.now argument.now))) }
+    ensures raw { OnOk result (operands.new.are_raw
+        ≡ (operands.old.are_raw || is_raw_part (asm_part part.now argument.now))) }
+    ensures unknown { OnOk result (operands.new.is_unknown
+        ≡ (operands.old.is_unknown || is_unknown_part (asm_part part.now argument.now))) }
 {
     let kind = asm_part(part, argument);
     if let Some(operand) = operand_of(part.tokens(), argument, kind) {
-        found.list.push(operand)?;
-        found.arguments.push(*argument)?;
+        operands.list.push(operand)?;
+        operands.arguments.push(*argument)?;
     }
-    found.are_raw = found.are_raw || matches!(kind, AsmPart::Raw);
-    found.is_unknown = found.is_unknown || matches!(kind, AsmPart::Unknown);
+    operands.are_raw = operands.are_raw || matches!(kind, AsmPart::Raw);
+    operands.is_unknown = operands.is_unknown || matches!(kind, AsmPart::Unknown);
     Ok(())
 }
 

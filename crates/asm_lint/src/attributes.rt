@@ -17,7 +17,7 @@ ghost use Rattle.source_report.specs.declared.report.Finding.{Finding as Finding
 
 use crate::messages::{Item, read_text};
 use call_forms::parameters;
-use format_calls::{Argument, arguments, closing, is_mark, is_text, is_text_leaf, token_at};
+use format_calls::{Argument, arguments, closing_token, is_mark, is_text, is_text_leaf, token_at};
 use message_faults::names_of;
 use rust_trees::{Source, Token};
 use source_report::Finding;
@@ -57,7 +57,7 @@ fn attribute_at(source: &Source<'_>, index: usize) -> Option<usize>
     if !begins_attribute(source.tokens(), index) {
         return None;
     }
-    closing(source, index + 6)
+    closing_token(source, index + 6)
 }
 
 /// Returns whether two tokens from one on are of the front of an item, of which the second opens a
@@ -90,7 +90,7 @@ fn after_front(source: &Source<'_>, index: usize) -> Option<usize>
 {
     let tokens = source.tokens();
     if opens_front(tokens, index) {
-        return match closing(source, index + 1) {
+        return match closing_token(source, index + 1) {
             Some(close) => Some(close + 1),
             None => None,
         };
@@ -154,20 +154,20 @@ fn counts(tokens: &[Token<'_>], has_message: bool, has_label: bool, option: &Arg
 
 /// Adds the literal that an option sets, if it counts. Returns `Err` if an allocation fails.
 fn put_literal<'a>(
-    found: &mut Vec<Token<'a>>,
+    literals: &mut Vec<Token<'a>>,
     tokens: &[Token<'a>],
     has_message: bool,
     has_label: bool,
     option: &Argument,
 ) -> Result<(), AllocError>
     requires { option.now.start < length tokens.now }
-    ensures { OnOk result (map leaf found.new.items ≡ map leaf found.old.items
+    ensures { OnOk result (map leaf literals.new.items ≡ map leaf literals.old.items
         ++ literal_list (counts (map leaf tokens.now) has_message has_label option.now)
         (literal_of (map leaf tokens.now) option.now)) }
 {
     if let Some(literal) = literal_of(tokens, option) {
         if counts(tokens, has_message, has_label, option) {
-            found.push(literal)?;
+            literals.push(literal)?;
         }
     }
     Ok(())

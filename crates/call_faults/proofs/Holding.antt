@@ -100,7 +100,7 @@ or-false true = refl
 or-false false = refl
 
 pub Holds-named : (ks : List Kept) (old new : Arguments) (k : DeclaredKept) (w : Bor (List ℕ))
-    → Holds ks old → k.given.name ≡ Some w → first_of ks (seen_given k.given) ≡ None
+    → Holds ks old → k.argument.name ≡ Some w → first_of ks (seen_given k.argument) ≡ None
     → new.list.items ≡ old.list.items ++ k ∷ []
     → ((t : Text) → found_in new.indices t
     ≡ cond (bytes_eq t (chars w.now)) (Some k.index) (found_in old.indices t))
@@ -119,7 +119,7 @@ Holds-named ks old new k w h n f l m b =
     }
 
 pub Holds-unnamed : (ks : List Kept) (old new : Arguments) (k : DeclaredKept)
-    → Holds ks old → k.given.name ≡ None
+    → Holds ks old → k.argument.name ≡ None
     → new.list.items ≡ old.list.items ++ k ∷ [] → new.indices ≡ old.indices
     → new.has_names ≡ old.has_names → Holds (ks ++ seen_kept k ∷ []) new
 Holds-unnamed ks old new k h n l m b =

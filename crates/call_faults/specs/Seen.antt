@@ -55,7 +55,7 @@ seen_given g = record { name = option_map text g.name; variable = option_map tex
 
 -- An argument that counts, as a contract sees it.
 abbrev pub seen_kept : DeclaredKept → Kept
-seen_kept k = record { index = k.index; given = seen_given k.given }
+seen_kept k = record { index = k.index; given = seen_given k.argument }
 
 -- A fault as a contract sees it.
 abbrev pub seen_fault : DeclaredFault → CallFault
@@ -100,7 +100,7 @@ pub record Holds (ks : List Kept) (a : Arguments) : Type 0 where
 -- A call as its titles need it, with the numbers that are too large.
 abbrev pub title_parts : CallReport → List ℕ → TitleParts Place
 title_parts c numbers = record {
-  given = map seen_given c.given.now;
+  given = map seen_given c.arguments.now;
   count = length c.kept.items;
   pieces = map seen c.pieces.items;
   total = c.parser.next;
@@ -116,7 +116,7 @@ abbrev pub seen_edit : CallEdit → Edit
 seen_edit e = record {
   spot = e.spot;
   text = string_bytes e.text;
-  copied = e.copied;
+  copied = e.copied_spot;
   rest = e.rest.now;
 }
 
@@ -127,7 +127,7 @@ seen_help h = record { text = string_bytes h.text; edits = map seen_edit h.edits
 -- A call that was checked, as the messages of its faults need it.
 abbrev pub seen_call : CallReport → Call
 seen_call c = record {
-  given = map seen_given c.given.now;
+  given = map seen_given c.arguments.now;
   kept = c.kept.items;
   pieces = map seen c.pieces.items;
   counts = c.counts.items;

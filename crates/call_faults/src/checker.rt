@@ -45,7 +45,7 @@ pub struct FormatString<'a> {
 #[derive(Drop)]
 pub struct CallReport<'a> {
     /// The arguments that are given.
-    pub given: &'a [FormatArgument<'a>],
+    pub arguments: &'a [FormatArgument<'a>],
     /// The indices of the arguments that count: of those whose name is not that of an earlier one.
     /// Empty if an argument without a name after one with a name ended the check.
     pub kept: Vec<usize>,
@@ -60,7 +60,7 @@ pub struct CallReport<'a> {
 }
 
 /// Returns a text as a string. Returns `Err` if an allocation fails.
-fn owned(alloc: Global, text: Option<&str>) -> Result<Option<String>, AllocError>
+fn owned_string(alloc: Global, text: Option<&str>) -> Result<Option<String>, AllocError>
     ensures { IfOk result (λ o. seen_snippet o ≡ option_map seen_text text.entry) }
 {
     match text {
@@ -75,7 +75,7 @@ fn fault_of<'a>(alloc: Global, string: FormatString<'a>) -> Result<Option<Fault<
     requires { hashes string.style + length string.text.now + 2 < 2 ^ 64 }
     ensures { IfOk result (λ o. option_map seen_text_fault o ≡ text_fault (start string.entry)) }
 {
-    let snippet = owned(alloc, string.snippet)?;
+    let snippet = owned_string(alloc, string.snippet)?;
     let mut parser = Parser::new(
         alloc,
         string.text,
@@ -96,18 +96,19 @@ fn faults_of<'a>(
     string: FormatString<'a>,
     is_read: bool,
     pieces: &[Piece<'a>],
-    given: &[FormatArgument<'a>],
+    call_arguments: &[FormatArgument<'a>],
     kept: &mut Vec<usize>,
 ) -> Result<Vec<CallFault<'a>>, AllocError>
     requires { hashes string.style + length string.text.now + 2 < 2 ^ 64 }
     ensures kept { OnOk result (kept.old.items ≡ []
-        → kept.new.items ≡ kept_indices (map seen_given given.now)) }
+        → kept.new.items ≡ kept_indices (map seen_given call_arguments.now)) }
     ensures faults { IfOk result (λ v. is_none (text_fault (start string.entry)) ≡ is_read
-        → map seen_fault v.items ≡ call_faults string.entry.captures (map seen_given given.now)
-        (text_fault (start string.entry)) (map seen pieces.now)) }
+        → map seen_fault v.items ≡ call_faults string.entry.captures
+        (map seen_given call_arguments.now) (text_fault (start string.entry))
+        (map seen pieces.now)) }
 {
     let mut faults = Vec::new(alloc);
-    let Some(mut arguments) = arguments_of(alloc, &mut faults, given)? else {
+    let Some(mut arguments) = arguments_of(alloc, &mut faults, call_arguments)? else {
         return Ok(faults);
     };
     *kept = indices_of(alloc, &arguments.list)?;
@@ -123,7 +124,7 @@ fn faults_of<'a>(
         &mut faults,
         string.captures,
         &mut arguments,
-        given.len(),
+        call_arguments.len(),
         &lookups,
     )?;
     Ok(faults)
@@ -138,7 +139,7 @@ fn faults_of<'a>(
 pub fn call_faults<'a>(
     alloc: Global,
     string: FormatString<'a>,
-    given: &'a [FormatArgument<'a>],
+    arguments: &'a [FormatArgument<'a>],
 ) -> Result<CallReport<'a>, AllocError>
     requires { hashes string.style + length string.text.now + 2 < 2 ^ 64 }
     // The pieces and the parser are those of the calls of a parser at the start of the string, and
@@ -146,19 +147,20 @@ pub fn call_faults<'a>(
     ensures walk { IfOk result (λ x. let s = start string.entry in
         (map seen x.pieces.items ≡ pieces_in s.world (pieces_of (calls s)))
         × (x.parser ≡ after_all s (calls s))) }
-    ensures given { IfOk result (λ x. x.given ≡ given.entry) }
-    ensures kept { IfOk result (λ x. x.kept.items ≡ kept_indices (map seen_given given.now)) }
+    ensures given { IfOk result (λ x. x.arguments ≡ arguments.entry) }
+    ensures kept { IfOk result (λ x. x.kept.items ≡ kept_indices (map seen_given arguments.now)) }
     ensures counts { IfOk result (λ x. x.counts.items ≡ counts_before 0 (map seen x.pieces.items)) }
     ensures faults { IfOk result (λ x. map seen_fault x.faults.items
-        ≡ call_faults string.entry.captures (map seen_given given.now)
+        ≡ call_faults string.entry.captures (map seen_given arguments.now)
         (text_fault (start string.entry)) (map seen x.pieces.items)) }
 
     // Nothing but warnings is found exactly if the call is clean.
     ensures clean { IfOk result (λ x. All (λ f. IsTrue (is_warning f)) (map seen_fault
         x.faults.items)
-        ↔ IsClean string.entry.captures (map seen_given given.now) (chars string.entry.text.now)) }
+        ↔ IsClean string.entry.captures (map seen_given arguments.now)
+        (chars string.entry.text.now)) }
 {
-    let snippet = owned(alloc, string.snippet)?;
+    let snippet = owned_string(alloc, string.snippet)?;
     let Reading { pieces, parser } = read_all(
         alloc,
         string.text,
@@ -169,10 +171,10 @@ pub fn call_faults<'a>(
     )?;
     let is_read = parser.errors().is_empty();
     let mut kept = Vec::new(alloc);
-    let faults = faults_of(alloc, string, is_read, &pieces, given, &mut kept)?;
+    let faults = faults_of(alloc, string, is_read, &pieces, arguments, &mut kept)?;
     let counts = counts_before(alloc, &pieces)?;
     Ok(CallReport {
-        given,
+        arguments,
         kept,
         pieces,
         counts,

@@ -61,7 +61,7 @@ fn marks<'a>(
 }
 
 /// Returns the reference of a lookup, if it is one by an index that is at least `count`.
-fn beyond(count: usize, lookup: &Lookup<'_>) -> Option<Missing>
+fn reference_beyond(count: usize, lookup: &Lookup<'_>) -> Option<Missing>
     ensures { result ≡ beyond count (seen_lookup lookup.now) }
 {
     match *lookup {
@@ -84,7 +84,7 @@ fn references_from(
 {
     let mut missing = Vec::new(alloc);
     for lookup in lookups {
-        if let Some(reference) = beyond(count, lookup) {
+        if let Some(reference) = reference_beyond(count, lookup) {
             missing.push(reference)?;
         }
     }
@@ -92,7 +92,7 @@ fn references_from(
 }
 
 /// Returns the arguments that are not marked. Returns `Err` if an allocation fails.
-fn unmarked<'a>(
+fn unmarked_arguments<'a>(
     alloc: Global,
     arguments: &[Kept<'a>],
     marks: &[bool],
@@ -191,7 +191,7 @@ fn is_redundant<'a>(positions: &BTreeMap<&'a str, usize>, kept: &Kept<'a>) -> bo
     ensures { result ≡ (is_none (seen_kept kept.now).given.name && option_map_or
         (λ w. is_some (found_in positions.now w)) (seen_kept kept.now).given.variable false) }
 {
-    match (kept.given.name, kept.given.variable) {
+    match (kept.argument.name, kept.argument.variable) {
         (None, Some(variable)) => index_of(positions, variable).is_some(),
         _ => false,
     }
@@ -201,18 +201,18 @@ fn is_redundant<'a>(positions: &BTreeMap<&'a str, usize>, kept: &Kept<'a>) -> bo
 /// allocation fails.
 fn redundant_of<'a>(
     alloc: Global,
-    left: &[Kept<'a>],
+    unused: &[Kept<'a>],
     lookups: &[Lookup<'a>],
 ) -> Result<Vec<usize>, AllocError>
     ensures { IfOk result (λ v. v.items ≡ indices
-        (filter (is_redundant (map seen_lookup lookups.now)) (map seen_kept left.now))) }
+        (filter (is_redundant (map seen_lookup lookups.now)) (map seen_kept unused.now))) }
 {
     let mut redundant = Vec::new(alloc);
-    if left.is_empty() {
+    if unused.is_empty() {
         return Ok(redundant);
     }
     let positions = positions_of(alloc, lookups)?;
-    for kept in left {
+    for kept in unused {
         if is_redundant(&positions, kept) {
             redundant.push(kept.index)?;
         }
@@ -233,22 +233,22 @@ pub(crate) fn indices_of(alloc: Global, arguments: &[Kept<'_>]) -> Result<Vec<us
 
 /// Adds the fault of arguments that no lookup means: of the redundant ones, or else of all. Returns
 /// `Err` if an allocation fails.
-fn tell_left<'a>(
+fn tell_unused<'a>(
     alloc: Global,
     faults: &mut Vec<CallFault<'a>>,
-    left: &[Kept<'a>],
+    unused: &[Kept<'a>],
     lookups: &[Lookup<'a>],
 ) -> Result<(), AllocError>
     ensures { OnOk result (map seen_fault faults.new.items ≡ map seen_fault faults.old.items
         ++ left_faults (indices (filter (is_redundant (map seen_lookup lookups.now))
-        (map seen_kept left.now))) (indices (map seen_kept left.now))) }
+        (map seen_kept unused.now))) (indices (map seen_kept unused.now))) }
 {
-    let redundant = redundant_of(alloc, left, lookups)?;
+    let redundant = redundant_of(alloc, unused, lookups)?;
     if !redundant.is_empty() {
         faults.push(CallFault::RedundantArguments(redundant))?;
         return Ok(());
     }
-    let unused = indices_of(alloc, left)?;
+    let unused = indices_of(alloc, unused)?;
     if !unused.is_empty() {
         faults.push(CallFault::UnusedArguments(unused))?;
     }
@@ -262,7 +262,7 @@ fn by_index<'a>(arguments: &[Kept<'a>], lookup: &Lookup<'a>) -> Option<CallFault
 {
     match *lookup {
         Lookup::Refer(reference, Wanted::Index(n)) => match arguments.get(n) {
-            Some(kept) if kept.given.name.is_some() => Some(CallFault::NameUsedByIndex {
+            Some(kept) if kept.argument.name.is_some() => Some(CallFault::NameUsedByIndex {
                 reference,
                 index: kept.index,
             }),
@@ -303,10 +303,11 @@ fn tell_missing(faults: &mut Vec<CallFault<'_>>, missing: Vec<Missing>) -> Resul
 }
 
 /// Returns whether neither a name is missing, nor an argument, nor is one unused.
-fn is_settled(found: &[CallFault<'_>], missing: &[Missing], left: &[Kept<'_>]) -> bool
-    ensures { result ≡ is_settled (map seen_fault found.now) missing.now (map seen_kept left.now) }
+fn is_settled(faults: &[CallFault<'_>], missing: &[Missing], unused: &[Kept<'_>]) -> bool
+    ensures { result
+        ≡ is_settled (map seen_fault faults.now) missing.now (map seen_kept unused.now) }
 {
-    !misses_name(found) && missing.is_empty() && left.is_empty()
+    !misses_name(faults) && missing.is_empty() && unused.is_empty()
 }
 
 /// Adds what is wrong between the arguments that count, whose indices are below `count`, and
@@ -325,14 +326,14 @@ pub(crate) fn compare<'a>(
         ++ compared captures ks (map seen_lookup lookups.now)) }
 {
     let marks = marks(alloc, arguments, count, lookups)?;
-    let left = unmarked(alloc, &arguments.list, &marks)?;
+    let left = unmarked_arguments(alloc, &arguments.list, &marks)?;
     let missing = references_from(alloc, arguments.list.len(), lookups)?;
     let mut found = Vec::new(alloc);
     look_up(&mut found, &mut arguments.indices, captures, lookups)?;
     let is_settled = is_settled(&found, &missing, &left);
     faults.append(&mut found)?;
     tell_missing(faults, missing)?;
-    tell_left(alloc, faults, &left, lookups)?;
+    tell_unused(alloc, faults, &left, lookups)?;
     if !is_settled {
         return Ok(());
     }

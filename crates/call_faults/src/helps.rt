@@ -32,7 +32,7 @@ fn plain_edit(spot: Spot, text: String) -> CallEdit
     CallEdit {
         spot,
         text,
-        copied: None,
+        copied_spot: None,
         rest: "",
     }
 }
@@ -84,10 +84,10 @@ fn unused_help(
 }
 
 /// Returns where the text is that is removed with an argument.
-fn removed_spot(given: &[FormatArgument<'_>], index: usize) -> Spot
-    ensures { result ≡ removed_spot (map seen_given given.now) index }
+fn removed_spot(arguments: &[FormatArgument<'_>], index: usize) -> Spot
+    ensures { result ≡ removed_spot (map seen_given arguments.now) index }
 {
-    if is_last(given, index) {
+    if is_last(arguments, index) {
         Spot::Value(index)
     } else {
         Spot::ValueUpToNext(index)
@@ -97,17 +97,17 @@ fn removed_spot(given: &[FormatArgument<'_>], index: usize) -> Spot
 /// Adds the edits that remove arguments.
 fn push_removals(
     edits: &mut Vec<CallEdit>,
-    given: &[FormatArgument<'_>],
+    arguments: &[FormatArgument<'_>],
     indices: &[usize],
 ) -> Result<(), AllocError>
     ensures { OnOk result (map seen_edit edits.new.items ≡ map seen_edit edits.old.items
-        ++ map (removal (map seen_given given.now)) indices.now) }
+        ++ map (removal (map seen_given arguments.now)) indices.now) }
 {
     let alloc = *edits.allocator();
     let mut rest = indices;
     while let Some((index, others)) = rest.split_first() {
         let text = String::new(alloc);
-        let spot = removed_spot(given, *index);
+        let spot = removed_spot(arguments, *index);
         edits.push(plain_edit(spot, text))?;
         rest = others;
     }
@@ -118,17 +118,17 @@ fn push_removals(
 /// allocation fails.
 fn redundant_help(
     alloc: Global,
-    given: &[FormatArgument<'_>],
+    arguments: &[FormatArgument<'_>],
     redundant: &[usize],
 ) -> Result<Option<CallHelp>, AllocError>
     ensures { IfOk result (λ o. option_map seen_help o
-        ≡ redundant_help (map seen_given given.now) redundant.now) }
+        ≡ redundant_help (map seen_given arguments.now) redundant.now) }
 {
-    if redundant.len() <= 1 || have_names(given) {
+    if redundant.len() <= 1 || have_names(arguments) {
         return Ok(None);
     }
     let mut edits = Vec::new(alloc);
-    push_removals(&mut edits, given, redundant)?;
+    push_removals(&mut edits, arguments, redundant)?;
     let text = String::from_str(alloc, "this can be removed")?;
     Ok(Some(CallHelp { text, edits }))
 }
@@ -166,13 +166,13 @@ fn by_index_help(
 {
     let says = "use the named argument by name to avoid ambiguity";
     let text = String::from_str(alloc, says)?;
-    let new = name_in(alloc, reference.part, name_of(call.given, index))?;
+    let new = name_in(alloc, reference.part, name_of(call.arguments, index))?;
     let spot = index_spot(&call.pieces, reference);
     single(alloc, text, spot, new)
 }
 
 /// Returns the help that replaces a text. Returns `Err` if an allocation fails.
-fn replacing(alloc: Global, spot: Spot, new: &str) -> Result<CallHelp, AllocError>
+fn replacement_help(alloc: Global, spot: Spot, new: &str) -> Result<CallHelp, AllocError>
     ensures { IfOk result (λ h. seen_help h ≡ replacing spot new.now) }
 {
     let mut text = String::from_str(alloc, "did you mean `")?;
@@ -183,15 +183,15 @@ fn replacing(alloc: Global, spot: Spot, new: &str) -> Result<CallHelp, AllocErro
 }
 
 /// Returns how many of arguments stand before the first one with a name.
-fn unnamed_count(given: &[FormatArgument<'_>]) -> usize
-    ensures { result ≡ unnamed_count (map seen_given given.now) }
+fn unnamed_count(arguments: &[FormatArgument<'_>]) -> usize
+    ensures { result ≡ unnamed_count (map seen_given arguments.now) }
 {
-    for (index, argument) in given.iter().enumerate() {
+    for (index, argument) in arguments.iter().enumerate() {
         if argument.name.is_some() {
             return index;
         }
     }
-    given.len()
+    arguments.len()
 }
 
 /// Returns where an argument without a name is added, if there are so many already.
@@ -209,13 +209,13 @@ fn added_spot(count: usize) -> Spot
 /// fails.
 fn positional_help(
     alloc: Global,
-    given: &[FormatArgument<'_>],
+    arguments: &[FormatArgument<'_>],
     span: &Range<usize>,
 ) -> Result<CallHelp, AllocError>
     ensures { IfOk result (λ h. seen_help h
-        ≡ positional_help (map seen_given given.now) (pair span.now)) }
+        ≡ positional_help (map seen_given arguments.now) (pair span.now)) }
 {
-    let count = unnamed_count(given);
+    let count = unnamed_count(arguments);
     let spot = bytes_at(span);
     let mut index = String::new(alloc);
     put_number(&mut index, count)?;
@@ -225,7 +225,7 @@ fn positional_help(
     edits.push(CallEdit {
         spot: added_spot(count),
         text: comma,
-        copied: Some(spot),
+        copied_spot: Some(spot),
         rest: "",
     })?;
     let says = "consider using a positional formatting argument instead";
@@ -247,7 +247,7 @@ fn debug_help(alloc: Global, kept: &[usize]) -> Result<Option<CallHelp>, AllocEr
     edits.push(CallEdit {
         spot: Spot::Call,
         text: opening,
-        copied: Some(Spot::Value(*index)),
+        copied_spot: Some(Spot::Value(*index)),
         rest: ")",
     })?;
     Ok(Some(CallHelp { text, edits }))
@@ -266,11 +266,11 @@ fn text_help(
     let error = fault.error(alloc)?;
     match &error.suggestion {
         Suggestion::ReorderFormatParameter(span, text) => {
-            let help = replacing(alloc, bytes_at(span), text)?;
+            let help = replacement_help(alloc, bytes_at(span), text)?;
             Ok(Some(help))
         }
         Suggestion::UsePositional => {
-            let help = positional_help(alloc, call.given, &error.span)?;
+            let help = positional_help(alloc, call.arguments, &error.span)?;
             Ok(Some(help))
         }
         Suggestion::UseRustDebugPrintingMacro => debug_help(alloc, &call.kept),
@@ -302,7 +302,7 @@ impl<'a> CallReport<'a> {
             CallFault::Text(fault) => text_help(alloc, self, fault),
             CallFault::UnusedArguments(unused) => unused_help(alloc, self, unused.len()),
             CallFault::RedundantArguments(redundant) => {
-                redundant_help(alloc, self.given, redundant)
+                redundant_help(alloc, self.arguments, redundant)
             }
             CallFault::NameUsedByIndex { reference, index } => {
                 let help = by_index_help(alloc, self, *reference, *index)?;

@@ -127,15 +127,15 @@ fn push_text(
 /// Adds the labels of arguments that are not used.
 fn push_unused(
     labels: &mut Vec<CallLabel>,
-    given: &[FormatArgument<'_>],
+    arguments: &[FormatArgument<'_>],
     unused: &[usize],
 ) -> Result<(), AllocError>
     ensures { OnOk result (map seen_label labels.new.items ≡ map seen_label labels.old.items
-        ++ unused_labels (map seen_given given.now) unused.now) }
+        ++ unused_labels (map seen_given arguments.now) unused.now) }
 {
     let mut rest = unused;
     while let Some((index, others)) = rest.split_first() {
-        push_primary(labels, Spot::Value(*index), never_used(given, *index))?;
+        push_primary(labels, Spot::Value(*index), never_used(arguments, *index))?;
         rest = others;
     }
     Ok(())
@@ -153,13 +153,13 @@ fn single_text() -> &'static str
 #[tactic(auto, using(std::proofs::Common::append_assoc))]
 fn push_one_unused(
     labels: &mut Vec<CallLabel>,
-    given: &[FormatArgument<'_>],
+    arguments: &[FormatArgument<'_>],
     index: usize,
 ) -> Result<(), AllocError>
     ensures { OnOk result (map seen_label labels.new.items ≡ map seen_label labels.old.items
-        ++ one_unused (map seen_given given.now) index) }
+        ++ one_unused (map seen_given arguments.now) index) }
 {
-    push_primary(labels, Spot::Value(index), never_used(given, index))?;
+    push_primary(labels, Spot::Value(index), never_used(arguments, index))?;
     push_secondary(labels, Spot::Literal, single_text())?;
     Ok(())
 }
@@ -176,45 +176,45 @@ fn several_text() -> &'static str
 #[tactic(auto, using(std::proofs::Common::append_assoc))]
 fn push_many_unused(
     labels: &mut Vec<CallLabel>,
-    given: &[FormatArgument<'_>],
+    arguments: &[FormatArgument<'_>],
     unused: &[usize],
 ) -> Result<(), AllocError>
     ensures { OnOk result (map seen_label labels.new.items ≡ map seen_label labels.old.items
-        ++ many_unused (map seen_given given.now) unused.now) }
+        ++ many_unused (map seen_given arguments.now) unused.now) }
 {
     push_secondary(labels, Spot::Literal, several_text())?;
-    push_unused(labels, given, unused)?;
+    push_unused(labels, arguments, unused)?;
     Ok(())
 }
 
 /// Adds the labels of arguments that are not used, and that of the literal.
 fn push_unused_and_literal(
     labels: &mut Vec<CallLabel>,
-    given: &[FormatArgument<'_>],
+    arguments: &[FormatArgument<'_>],
     unused: &[usize],
 ) -> Result<(), AllocError>
     ensures { OnOk result (map seen_label labels.new.items ≡ map seen_label labels.old.items
-        ++ unused_and_literal (map seen_given given.now) unused.now) }
+        ++ unused_and_literal (map seen_given arguments.now) unused.now) }
 {
     match unused {
-        [index] => push_one_unused(labels, given, *index)?,
-        _ => push_many_unused(labels, given, unused)?,
+        [index] => push_one_unused(labels, arguments, *index)?,
+        _ => push_many_unused(labels, arguments, unused)?,
     }
     Ok(())
 }
 
 /// Returns whether an argument is the last one.
-pub(crate) fn is_last(given: &[FormatArgument<'_>], index: usize) -> bool
-    ensures { result ≡ is_last (map seen_given given.now) index }
+pub(crate) fn is_last(arguments: &[FormatArgument<'_>], index: usize) -> bool
+    ensures { result ≡ is_last (map seen_given arguments.now) index }
 {
-    given.len().saturating_sub(index) == 1
+    arguments.len().saturating_sub(index) == 1
 }
 
 /// Returns whether one of these arguments has a name.
-pub(crate) fn have_names(given: &[FormatArgument<'_>]) -> bool
-    ensures { result ≡ have_names (map seen_given given.now) }
+pub(crate) fn have_names(arguments: &[FormatArgument<'_>]) -> bool
+    ensures { result ≡ have_names (map seen_given arguments.now) }
 {
-    for first in given {
+    for first in arguments {
         if first.name.is_some() {
             return true;
         }
@@ -244,13 +244,13 @@ fn push_removal_up_to_next(labels: &mut Vec<CallLabel>, index: usize) -> Result<
 /// Adds the labels of an argument that is left out.
 fn push_removal(
     labels: &mut Vec<CallLabel>,
-    given: &[FormatArgument<'_>],
+    arguments: &[FormatArgument<'_>],
     index: usize,
 ) -> Result<(), AllocError>
     ensures { OnOk result (map seen_label labels.new.items ≡ map seen_label labels.old.items
-        ++ removal_labels (map seen_given given.now) index) }
+        ++ removal_labels (map seen_given arguments.now) index) }
 {
-    if is_last(given, index) {
+    if is_last(arguments, index) {
         push_primary(labels, Spot::Value(index), removal_text())?;
     } else {
         push_removal_up_to_next(labels, index)?;
@@ -274,15 +274,15 @@ fn push_bare(labels: &mut Vec<CallLabel>, indices: &[usize]) -> Result<(), Alloc
 /// Adds the labels of redundant arguments.
 fn push_redundant(
     labels: &mut Vec<CallLabel>,
-    given: &[FormatArgument<'_>],
+    arguments: &[FormatArgument<'_>],
     redundant: &[usize],
 ) -> Result<(), AllocError>
     ensures { OnOk result (map seen_label labels.new.items ≡ map seen_label labels.old.items
-        ++ redundant_labels (map seen_given given.now) redundant.now) }
+        ++ redundant_labels (map seen_given arguments.now) redundant.now) }
 {
     if let [index] = redundant {
-        if !have_names(given) {
-            return push_removal(labels, given, *index);
+        if !have_names(arguments) {
+            return push_removal(labels, arguments, *index);
         }
     }
     push_bare(labels, redundant)
@@ -319,7 +319,7 @@ fn push_by_index(
     ensures { OnOk result (map seen_label labels.new.items ≡ map seen_label labels.old.items
         ++ by_index_labels (seen_call call.now) reference index) }
 {
-    let text = use_text(*labels.allocator(), name_of(call.given, index))?;
+    let text = use_text(*labels.allocator(), name_of(call.arguments, index))?;
     let places = call.parser.arg_places();
     let spot = use_spot(&call.pieces, &call.counts, places, reference);
     push_primary(labels, Spot::Name(index), by_index_text())?;
@@ -366,10 +366,10 @@ impl<'a> CallReport<'a> {
                 push_missing(&mut labels, &self.pieces, missing)?;
             }
             CallFault::UnusedArguments(unused) => {
-                push_unused_and_literal(&mut labels, self.given, unused)?;
+                push_unused_and_literal(&mut labels, self.arguments, unused)?;
             }
             CallFault::RedundantArguments(redundant) => {
-                push_redundant(&mut labels, self.given, redundant)?;
+                push_redundant(&mut labels, self.arguments, redundant)?;
             }
             CallFault::NameUsedByIndex { reference, index } => {
                 push_by_index(&mut labels, self, *reference, *index)?;

@@ -254,10 +254,10 @@ fn push_unused(
 }
 
 /// Returns the variable that an argument is, or `None` if it is no variable.
-fn variable_of<'a>(given: &[FormatArgument<'a>], index: usize) -> Option<&'a str>
-    ensures { option_map text result ≡ variable_of (map seen_given given.now) index }
+fn variable_of<'a>(arguments: &[FormatArgument<'a>], index: usize) -> Option<&'a str>
+    ensures { option_map text result ≡ variable_of (map seen_given arguments.now) index }
 {
-    match given.get(index) {
+    match arguments.get(index) {
         Some(argument) => argument.variable,
         None => None,
     }
@@ -267,15 +267,15 @@ fn variable_of<'a>(given: &[FormatArgument<'a>], index: usize) -> Option<&'a str
 /// allocation fails.
 fn variables_of<'a>(
     alloc: Global,
-    given: &[FormatArgument<'a>],
+    arguments: &[FormatArgument<'a>],
     indices: &[usize],
 ) -> Result<BTreeMap<&'a str, usize>, AllocError>
     ensures { IfOk result (λ m. (w : Text) → is_some (found_in m w)
-        ≡ list_any (is_variable (map seen_given given.now) w) indices.now) }
+        ≡ list_any (is_variable (map seen_given arguments.now) w) indices.now) }
 {
     let mut names = BTreeMap::new(alloc);
     for index in indices {
-        if let Some(variable) = variable_of(given, *index) {
+        if let Some(variable) = variable_of(arguments, *index) {
             insert(&mut names, variable, 0)?;
         }
     }
@@ -348,7 +348,7 @@ fn push_redundant<'a>(
     ensures { OnOk result (map seen_note notes.new.items ≡ map seen_note notes.old.items
         ++ redundant_note (seen_call call.now) redundant.now ∷ []) }
 {
-    let names = variables_of(alloc, call.given, redundant)?;
+    let names = variables_of(alloc, call.arguments, redundant)?;
     let spots = named_positions(alloc, &names, &call.pieces)?;
     let text = String::from_str(alloc, redundant_text(redundant.len()))?;
     notes.push(CallNote { text, spots })?;

@@ -135,15 +135,15 @@ fn put_named(out: &mut String, text: &str, name: &str) -> Result<(), AllocError>
 /// Adds a name between backquotes, between two texts.
 pub(crate) fn put_name_between(
     out: &mut String,
-    before: &str,
+    prefix: &str,
     name: &str,
-    after: &str,
+    suffix: &str,
 ) -> Result<(), AllocError>
     ensures { OnOk result (string_bytes out.new ≡ string_bytes out.old
-        ++ (before.now ++ (quoted (chars name.now) ++ after.now))) }
+        ++ (prefix.now ++ (quoted (chars name.now) ++ suffix.now))) }
 {
-    put_named(out, before, name)?;
-    out.push_str(after)?;
+    put_named(out, prefix, name)?;
+    out.push_str(suffix)?;
     Ok(())
 }
 
@@ -214,11 +214,11 @@ fn put_few_title(out: &mut String, total: usize, count: usize) -> Result<(), All
 }
 
 /// Returns the name of an argument, or an empty text if it has none.
-pub(crate) fn name_of<'a>(given: &[FormatArgument<'a>], index: usize) -> &'a str
-    ensures { chars result.now ≡ name_of (slice_get (map seen_given given.now) index) }
+pub(crate) fn name_of<'a>(arguments: &[FormatArgument<'a>], index: usize) -> &'a str
+    ensures { chars result.now ≡ name_of (slice_get (map seen_given arguments.now) index) }
 {
-    match given.get(index) {
-        Some(given) => match given.name {
+    match arguments.get(index) {
+        Some(argument) => match argument.name {
             Some(name) => name,
             None => "",
         },
@@ -227,20 +227,20 @@ pub(crate) fn name_of<'a>(given: &[FormatArgument<'a>], index: usize) -> &'a str
 }
 
 /// Returns whether an argument has a name.
-fn is_named(given: &[FormatArgument<'_>], index: usize) -> bool
-    ensures { result ≡ is_named (slice_get (map seen_given given.now) index) }
+fn is_named(arguments: &[FormatArgument<'_>], index: usize) -> bool
+    ensures { result ≡ is_named (slice_get (map seen_given arguments.now) index) }
 {
-    match given.get(index) {
-        Some(given) => given.name.is_some(),
+    match arguments.get(index) {
+        Some(argument) => argument.name.is_some(),
         None => false,
     }
 }
 
 /// Returns the label of an argument that is not used.
-pub(crate) fn never_used(given: &[FormatArgument<'_>], index: usize) -> &'static str
-    ensures { result.now ≡ never_used (slice_get (map seen_given given.now) index) }
+pub(crate) fn never_used(arguments: &[FormatArgument<'_>], index: usize) -> &'static str
+    ensures { result.now ≡ never_used (slice_get (map seen_given arguments.now) index) }
 {
-    if is_named(given, index) {
+    if is_named(arguments, index) {
         "named argument never used"
     } else {
         "argument never used"
@@ -248,11 +248,11 @@ pub(crate) fn never_used(given: &[FormatArgument<'_>], index: usize) -> &'static
 }
 
 /// Returns the title of arguments that are not used.
-fn unused_title(given: &[FormatArgument<'_>], unused: &[usize]) -> &'static str
-    ensures { result.now ≡ unused_title (map seen_given given.now) unused.now }
+fn unused_title(arguments: &[FormatArgument<'_>], unused: &[usize]) -> &'static str
+    ensures { result.now ≡ unused_title (map seen_given arguments.now) unused.now }
 {
     match unused {
-        [index] => never_used(given, *index),
+        [index] => never_used(arguments, *index),
         _ => "multiple unused formatting arguments",
     }
 }
@@ -311,7 +311,7 @@ impl<'a> CallReport<'a> {
             CallFault::RepeatedName { index, .. } => put_named(
                 out,
                 "duplicate argument named ",
-                name_of(self.given, *index),
+                name_of(self.arguments, *index),
             ),
             CallFault::Text(fault) => put_text_title(*self.pieces.allocator(), out, fault),
             CallFault::MissingName { name, .. } => {
@@ -327,7 +327,7 @@ impl<'a> CallReport<'a> {
                 Ok(())
             }
             CallFault::UnusedArguments(unused) => {
-                out.push_str(unused_title(self.given, unused))?;
+                out.push_str(unused_title(self.arguments, unused))?;
                 Ok(())
             }
             CallFault::RedundantArguments(redundant) => {
@@ -337,7 +337,7 @@ impl<'a> CallReport<'a> {
                 put_name_between(
                     out,
                     "named argument ",
-                    name_of(self.given, *index),
+                    name_of(self.arguments, *index),
                     " is not used by name",
                 )
             }

@@ -72,16 +72,16 @@ fn is_period(token: Option<Token<'_>>) -> bool
 
 /// Returns what rustc expects after an operand, from its last three tokens.
 fn expected_by(
-    before: Option<Token<'_>>,
+    previous: Option<Token<'_>>,
     second: Option<Token<'_>>,
     last: Option<Token<'_>>,
 ) -> Expected
-    ensures { result ≡ expected_by (option_map leaf before.entry) (option_map leaf second.entry)
+    ensures { result ≡ expected_by (option_map leaf previous.entry) (option_map leaf second.entry)
         (option_map leaf last.entry) }
 {
     match last {
         Some(last) if is_word(&last) => {
-            if !is_period(second) || is_period(before) {
+            if !is_period(second) || is_period(previous) {
                 Expected::Path
             } else if is_text(&last, "await") {
                 Expected::Value

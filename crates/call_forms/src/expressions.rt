@@ -12,7 +12,7 @@ ghost use Rattle.call_forms.specs.Expressions.{has_variable, is_literal, is_oper
 ghost use Rattle.call_forms.specs.Expressions.{is_path, joined, next_operand};
 
 use crate::keywords::{is_control, is_modifier, is_special};
-use format_calls::{Argument, Part, closing, is_mark_of, token_at};
+use format_calls::{Argument, Part, closing_token, is_mark_of, token_at};
 use rust_tokens::Kind;
 use rust_trees::{Delimiter, Side, Source, Token};
 
@@ -115,7 +115,7 @@ fn closing_before(source: &Source<'_>, index: usize, token: &Token<'_>, end: usi
     if !matches!(token.kind, Kind::Punct) {
         return None;
     }
-    match closing(source, index) {
+    match closing_token(source, index) {
         Some(close) if close < end => Some(close),
         _ => None,
     }
@@ -157,7 +157,7 @@ fn next_operand(source: &Source<'_>, argument: &Argument) -> Option<usize>
 
 /// Returns the index in an argument of its first operand that stands right after another one, or
 /// `None` if there is none or a variable of a macro stands there.
-pub fn joined(part: &Part<'_>, argument: &Argument) -> Option<usize>
+pub fn extra_operand(part: &Part<'_>, argument: &Argument) -> Option<usize>
     ensures { result ≡ joined (tokens_of part.now argument.now) }
 {
     if part.has_variable(argument) {
@@ -202,7 +202,7 @@ pub fn have_joined(part: &Part<'_>, arguments: &[Argument]) -> bool
     ensures { result ≡ list_any (λ p. is_some (joined p)) (map (tokens_of part.now) arguments.now) }
 {
     for argument in arguments {
-        if joined(part, argument).is_some() {
+        if extra_operand(part, argument).is_some() {
             return true;
         }
     }

@@ -12,7 +12,7 @@ ghost use Rattle.call_forms.specs.Forms.{starts_well};
 ghost use Rattle.call_forms.specs.Operators.{operator_at, seen_operator};
 
 use crate::commas::{Expected, are_unknown, expected_at, has_more};
-use crate::expressions::{are_path, have_variables, is_operand, joined, tokens_of};
+use crate::expressions::{are_path, extra_operand, have_variables, is_operand, tokens_of};
 use crate::operators::{Operator, lacks_left, lacks_operand, operator_at};
 use format_calls::{Argument, Part, Rule, is_standard};
 use rust_tokens::Kind;
@@ -103,7 +103,7 @@ fn lacks_expression(tokens: &[Token<'_>]) -> bool
 fn is_bad(part: &Part<'_>, argument: &Argument) -> bool
     ensures { result ≡ is_bad (tokens_of part.now argument.now) }
 {
-    lacks_expression(tokens_of(part.tokens(), argument)) || joined(part, argument).is_some()
+    lacks_expression(tokens_of(part.tokens(), argument)) || extra_operand(part, argument).is_some()
 }
 
 /// Returns the index of the first argument that is no expression, or `None` if there is none.
@@ -173,7 +173,7 @@ fn bad_form<'a>(
     if lacks_left(tokens) {
         return operand_form(tokens);
     }
-    match joined(part, argument) {
+    match extra_operand(part, argument) {
         Some(operand) => joined_form(tokens, operand, is_string),
         None => Some(Form::NoExpression { index, is_last }),
     }

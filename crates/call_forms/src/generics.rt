@@ -77,7 +77,7 @@ fn with_opens(place: Place, opens: usize) -> Place
 }
 
 /// Returns the place where a list has ended.
-fn ended() -> Place
+fn end_place() -> Place
     ensures { result ≡ ended }
 {
     Place {
@@ -95,14 +95,14 @@ fn place_after(place: Place, token: &Token<'_>) -> Place
     ensures { result ≡ place_after place (leaf token.now) }
 {
     if is_text(token, "trait") {
-        return ended();
+        return end_place();
     }
     if is_opening(token.side()) {
         return with_opens(place, place.opens + 1);
     }
     if matches!(token.side(), Side::Closes(_)) {
         if place.opens == 0 {
-            return ended();
+            return end_place();
         }
         return with_opens(place, place.opens - 1);
     }
@@ -116,15 +116,15 @@ fn place_after(place: Place, token: &Token<'_>) -> Place
 /// Adds the name of the parameter that a token is, if it is one. Returns `Err` if an allocation
 /// fails.
 fn put_parameter<'a>(
-    found: &mut Vec<&'a str>,
+    list: &mut Vec<&'a str>,
     place: Place,
     token: &Token<'a>,
 ) -> Result<(), AllocError>
-    ensures { OnOk result (map (λ w. w.now) found.new.items ≡ map (λ w. w.now) found.old.items
+    ensures { OnOk result (map (λ w. w.now) list.new.items ≡ map (λ w. w.now) list.old.items
         ++ parameter place (leaf token.now)) }
 {
     if names(place, token) {
-        found.push(token.text)?;
+        list.push(token.text)?;
     }
     Ok(())
 }

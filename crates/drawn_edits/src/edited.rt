@@ -32,7 +32,7 @@ pub struct Edit<'a> {
 }
 
 /// Returns an edit with its place in the source.
-pub fn placed<'a>(picture: &Picture<'_>, text: &'a str, range: &Range<usize>) -> Edit<'a>
+pub fn placed_edit<'a>(picture: &Picture<'_>, text: &'a str, range: &Range<usize>) -> Edit<'a>
     requires { length picture.now.source.now < 2 ^ 59 }
     ensures value { seen_edit result ≡ placed (seen_picture picture.now) text.now (pair range.now) }
     ensures small { result.extent.end.line < 2 ^ 59 }

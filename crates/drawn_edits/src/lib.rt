@@ -7,5 +7,5 @@ mod edited;
 mod suggestions;
 
 pub use changes::put_edits;
-pub use edited::{Edit, placed};
+pub use edited::{Edit, placed_edit};
 pub use suggestions::{put_edit, put_help_word};

@@ -12,7 +12,7 @@ ghost use Rattle.drawn_faults.specs.SeenDiagnostics.{seen_help, seen_source_edit
 
 use crate::marked::last_edit_line;
 use crate::notes::put_indented;
-use drawn_edits::{Edit, placed, put_edits, put_help_word};
+use drawn_edits::{Edit, placed_edit, put_edits, put_help_word};
 use drawn_lines::{Frame, Gutter, Picture, Style, put_glyphs, put_painted, put_run};
 use fault_fixes::Edit as SourceEdit;
 use std::alloc::{AllocError, Global};
@@ -38,7 +38,7 @@ fn placed_edits<'a>(
 {
     let mut list = Vec::new(alloc);
     for edit in edits {
-        list.push(placed(picture, edit.text, &edit.span))?;
+        list.push(placed_edit(picture, edit.text, &edit.span))?;
     }
     Ok(list)
 }

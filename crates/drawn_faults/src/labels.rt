@@ -10,7 +10,7 @@ ghost use Rattle.drawn_edits.specs.Edited.{seen_edit};
 ghost use Rattle.drawn_faults.specs.Labels.{edit_line, edit_of, frame, last_line, least};
 ghost use Rattle.drawn_faults.specs.Labels.{other_line, second, second_text, text_name};
 
-use drawn_edits::{Edit, placed};
+use drawn_edits::{Edit, placed_edit};
 use drawn_labels::{Label, window_of};
 use drawn_lines::{Frame, Gutter, Palette, Picture, digits, extent_of, line_indent, palette_of};
 use fault_fixes::is_offered;
@@ -89,7 +89,7 @@ pub fn edit_of<'a>(
     let Suggestion::ReorderFormatParameter(span, text) = suggestion else {
         return None;
     };
-    Some(placed(picture, text.as_str(), span))
+    Some(placed_edit(picture, text.as_str(), span))
 }
 
 /// Returns the last line of a label, or 0 without one.

@@ -111,28 +111,28 @@ fn is_before(s: Spot, t: Spot) -> bool
 }
 
 /// Returns whether a place is in front of the one found before, if there is one.
-fn is_first(found: Option<Spot>, start: Spot) -> bool
-    ensures { result ≡ option_map_or (is_before start) found true }
+fn is_first(first: Option<Spot>, start: Spot) -> bool
+    ensures { result ≡ option_map_or (is_before start) first true }
 {
-    match found {
+    match first {
         None => true,
         Some(spot) => is_before(start, spot),
     }
 }
 
-/// Returns where a label begins, if it is primary and that is in front of `found`, and else
-/// `found`.
-fn earlier(found: Option<Spot>, label: &Label<'_>) -> Option<Spot>
-    requires line { IfSome found (λ s. s.line < 2 ^ 59) }
-    requires chars { IfSome found (λ s. s.chars < 2 ^ 59) }
-    ensures value { result ≡ earlier found (seen_label label.now) }
+/// Returns where a label begins, if it is primary and that is in front of `first`, and else
+/// `first`.
+fn earlier(first: Option<Spot>, label: &Label<'_>) -> Option<Spot>
+    requires line { IfSome first (λ s. s.line < 2 ^ 59) }
+    requires chars { IfSome first (λ s. s.chars < 2 ^ 59) }
+    ensures value { result ≡ earlier first (seen_label label.now) }
     ensures line { IfSome result (λ s. s.line < 2 ^ 59) }
     ensures chars { IfSome result (λ s. s.chars < 2 ^ 59) }
 {
-    if label.sign == '^' && is_first(found, label.extent.start) {
+    if label.sign == '^' && is_first(first, label.extent.start) {
         Some(label.extent.start)
     } else {
-        found
+        first
     }
 }
 
@@ -190,16 +190,16 @@ fn in_line<'a>(
 fn put_gap_after(
     out: &mut String,
     frame: &Frame<'_>,
-    before: Option<usize>,
+    previous: Option<usize>,
     number: usize,
 ) -> Result<(), AllocError>
     requires source { length frame.now.picture.now.source.now < 2 ^ 59 }
-    requires before { IfSome before (λ n. n < 2 ^ 59) }
+    requires before { IfSome previous (λ n. n < 2 ^ 59) }
     ensures { OnOk result (string_bytes out.new ≡ string_bytes out.old
-        ++ gap_after (seen_frame frame.now) before number) }
+        ++ gap_after (seen_frame frame.now) previous number) }
 {
-    if let Some(before) = before {
-        put_gap(out, frame, before, number)?;
+    if let Some(previous) = previous {
+        put_gap(out, frame, previous, number)?;
     }
     Ok(())
 }
@@ -223,10 +223,10 @@ fn put_line_rows(
 }
 
 /// Returns whether a line was drawn before.
-fn is_drawn(before: Option<usize>, number: usize) -> bool
-    ensures { result ≡ option_map_or (λ m. m == number) before false }
+fn is_drawn(previous: Option<usize>, number: usize) -> bool
+    ensures { result ≡ option_map_or (λ m. m == number) previous false }
 {
-    match before {
+    match previous {
         None => false,
         Some(line) => line == number,
     }
@@ -236,20 +236,20 @@ fn is_drawn(before: Option<usize>, number: usize) -> bool
 fn put_next_line(
     out: &mut String,
     frame: &Frame<'_>,
-    before: Option<usize>,
+    previous: Option<usize>,
     number: usize,
     marks: &[Mark<'_>],
 ) -> Result<(), AllocError>
     requires source { length frame.now.picture.now.source.now < 2 ^ 59 }
-    requires before { IfSome before (λ n. n < 2 ^ 59) }
+    requires before { IfSome previous (λ n. n < 2 ^ 59) }
     requires number { number < 2 ^ 59 }
     ensures { OnOk result (string_bytes out.new ≡ string_bytes out.old
-        ++ next_line (seen_frame frame.now) before number (map seen_mark marks.now)) }
+        ++ next_line (seen_frame frame.now) previous number (map seen_mark marks.now)) }
 {
-    if is_drawn(before, number) {
+    if is_drawn(previous, number) {
         return Ok(());
     }
-    put_gap_after(out, frame, before, number)?;
+    put_gap_after(out, frame, previous, number)?;
     put_line_rows(out, frame, number, marks)?;
     Ok(())
 }

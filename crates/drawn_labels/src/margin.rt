@@ -67,7 +67,7 @@ fn mark_reach(source: &str, mark: &Mark<'_>) -> Reach
 
 /// Returns two reaches as one.
 #[tactic(auto, unfolding(crate::specs::Margins::joined))]
-fn joined(r: Reach, s: Reach) -> Reach
+fn join_reaches(r: Reach, s: Reach) -> Reach
     requires first { r.to < 2 ^ 62 }
     requires first_end { r.end < 2 ^ 63 }
     requires second { s.to < 2 ^ 62 }
@@ -139,7 +139,7 @@ fn reach_on(source: &str, first: Reach, labels: &[Label<'_>]) -> Reach
 {
     let mut reach = first;
     for label in labels {
-        reach = joined(reach, short_reach(source, label));
+        reach = join_reaches(reach, short_reach(source, label));
     }
     reach
 }
@@ -199,7 +199,7 @@ fn window_at(left: usize, columns: usize) -> Window
 
 /// Returns the window around labels, of lines that do not fit into `room` columns.
 #[tactic(auto, unfolding(crate::specs::Margins::around))]
-fn around(room: usize, indent: usize, reach: Reach) -> Window
+fn window_around(room: usize, indent: usize, reach: Reach) -> Window
     requires to { reach.to < 2 ^ 62 }
     requires texts { reach.end < 2 ^ 63 }
     ensures value { result ≡ around room indent reach }
@@ -232,7 +232,7 @@ fn window(room: usize, indent: usize, reach: Reach) -> Window
     let left = cut_of(indent);
     let most = reach.longest.saturating_sub(left);
     if most > room {
-        return around(room, indent, reach);
+        return window_around(room, indent, reach);
     }
     Window { left, room, most }
 }

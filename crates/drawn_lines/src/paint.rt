@@ -126,17 +126,17 @@ pub fn put_reset(out: &mut String, style: Style) -> Result<(), AllocError>
 pub fn put_change(
     out: &mut String,
     palette: Palette,
-    before: Style,
-    after: Style,
+    old: Style,
+    new: Style,
 ) -> Result<(), AllocError>
     ensures { OnOk result (string_bytes out.new
-        ≡ string_bytes out.old ++ change palette before after) }
+        ≡ string_bytes out.old ++ change palette old new) }
 {
-    if rank(before) == rank(after) {
+    if rank(old) == rank(new) {
         return Ok(());
     }
-    put_reset(out, before)?;
-    out.push_str(escape(palette, after))?;
+    put_reset(out, old)?;
+    out.push_str(escape(palette, new))?;
     Ok(())
 }
 

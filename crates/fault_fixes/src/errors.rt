@@ -37,31 +37,31 @@ fn add_each(alloc: Global, errors: &mut Errors, faults: &[Fault<'_>]) -> Result<
     Ok(())
 }
 
-/// Makes a call of a parser, and adds the errors of its faults. `found` is empty before and after
+/// Makes a call of a parser, and adds the errors of its faults. `faults` is empty before and after
 /// the call. Returns `Err` if an allocation fails.
 fn add_next<'a>(
     alloc: Global,
     errors: &mut Errors,
     parser: &mut Parser<'a>,
     argument: &mut Argument<'a>,
-    found: &mut Vec<Fault<'a>>,
+    faults: &mut Vec<Fault<'a>>,
 ) -> Result<(), AllocError>
     requires none { parser.old.errors ≡ [] }
-    requires empty { found.old.items ≡ [] }
+    requires empty { faults.old.items ≡ [] }
     ensures state { OnOk result (parser.new
         ≡ record (after parser.old (next_call parser.old)) { errors = [] }) }
     ensures errors { OnOk result (seen_errors errors.new ≡ add_errors (seen_errors errors.old)
         (faults_in parser.old.world (next_call parser.old).faults)) }
-    ensures added { OnOk result (found.new.items ≡ []) }
+    ensures added { OnOk result (faults.new.items ≡ []) }
 {
-    parser.next_with_faults(argument, found)?;
-    add_each(alloc, errors, found.as_slice())?;
-    found.clear();
+    parser.next_with_faults(argument, faults)?;
+    add_each(alloc, errors, faults.as_slice())?;
+    faults.clear();
     Ok(())
 }
 
 /// Returns errors as one list. Returns `Err` if an allocation fails.
-fn joined(errors: Errors) -> Result<Vec<ParseError>, AllocError>
+fn into_list(errors: Errors) -> Result<Vec<ParseError>, AllocError>
     ensures { IfOk result (λ v. map seen_error v.items ≡ seen_errors errors) }
 {
     let mut list = errors.fronts;
@@ -101,5 +101,5 @@ pub fn errors_of(
     while !parser.is_at_end() {
         add_next(alloc, &mut errors, &mut parser, &mut argument, &mut found)?;
     }
-    joined(errors)
+    into_list(errors)
 }

@@ -23,7 +23,7 @@ use crate::sources::with_sources;
 use asm_lint::{appends_newline, read_literal};
 use call_faults::FormatString;
 use format_calls::{Argument, Call, Part, Rule, arguments, extent_of, is_standard, token_at};
-use inlined_arguments::{Call as FormatCall, Edit, Left, inlined};
+use inlined_arguments::{Call as FormatCall, Edit, Left, inline_arguments};
 use rust_trees::Token;
 use source_lint::{
     File, argument_at, arguments_before, captures, ends_early, index_or, name_at, other_macro,
@@ -96,29 +96,29 @@ struct Found<'s, 'a> {
     arguments: &'s [Argument],
 }
 
-/// Returns what inlining makes of this call, which `found` is in its file. Returns `Err` if an
+/// Returns what inlining makes of this call, which `site` is in its file. Returns `Err` if an
 /// allocation fails.
 fn inlined_as(
     alloc: Global,
-    found: Found<'_, '_>,
+    site: Found<'_, '_>,
     call: FormatCall<'_>,
     allows_mixed: bool,
 ) -> Result<InlinedCall, AllocError>
     requires { hashes call.string.style + length call.string.text.now + 2 < 2 ^ 64 }
     ensures { IfOk result (λ x. Makes allows_mixed (seen_call call.entry)
-        (AreEdits found.entry.text.now (map leaf found.entry.tokens.now) (leaf found.entry.literal)
-        found.entry.arguments.now) x.inlining (map seen_edit x.edits.items)) }
+        (AreEdits site.entry.text.now (map leaf site.entry.tokens.now) (leaf site.entry.literal)
+        site.entry.arguments.now) x.inlining (map seen_edit x.edits.items)) }
 {
-    let made = match inlined(alloc, call, allows_mixed)? {
+    let made = match inline_arguments(alloc, call, allows_mixed)? {
         Ok(made) => made,
         Err(left) => return Ok(left_for(alloc, CallInlining::Left(left))),
     };
     let edits = edits_of(
         alloc,
-        found.text,
-        found.tokens,
-        found.literal,
-        found.arguments,
+        site.text,
+        site.tokens,
+        site.literal,
+        site.arguments,
         &made,
     )?;
     match edits {
@@ -145,7 +145,7 @@ fn left_for(alloc: Global, reason: CallInlining) -> InlinedCall
 /// are all or not. Returns `Err` if an allocation fails.
 fn inline_found(
     alloc: Global,
-    found: Found<'_, '_>,
+    site: Found<'_, '_>,
     rule: Rule,
     name: &[u8],
     is_counted: bool,
@@ -153,14 +153,14 @@ fn inline_found(
     allows_mixed: bool,
 ) -> Result<InlinedCall, AllocError>
     ensures { IfOk result (λ x. InlinesLiteral is_from_2021 allows_mixed rule name.now
-        found.entry.text.now (map leaf found.entry.tokens.now) (leaf found.entry.literal)
-        found.entry.arguments.now is_counted x.inlining (map seen_edit x.edits.items)) }
+        site.entry.text.now (map leaf site.entry.tokens.now) (leaf site.entry.literal)
+        site.entry.arguments.now is_counted x.inlining (map seen_edit x.edits.items)) }
 {
     let appended_newline = appends_newline(name);
-    let Some(literal) = read_literal(alloc, found.literal.text, appended_newline)? else {
+    let Some(literal) = read_literal(alloc, site.literal.text, appended_newline)? else {
         return Ok(left_for(alloc, CallInlining::Unread(CallReading::Malformed)));
     };
-    let arguments = with_sources(alloc, found.text, found.tokens, found.arguments)?;
+    let arguments = with_sources(alloc, site.text, site.tokens, site.arguments)?;
     let text = literal.text.as_str();
     let snippet = literal.snippet.as_str();
     let list = arguments.as_slice();
@@ -178,7 +178,7 @@ fn inline_found(
         is_format_alone: is_format_alone(rule, name, is_from_2021),
         has_const_form: has_const_form(rule),
     };
-    let made = inlined_as(alloc, found, call, allows_mixed)?;
+    let made = inlined_as(alloc, site, call, allows_mixed)?;
     Ok(made)
 }
 
@@ -293,7 +293,7 @@ fn inline_call<'a>(
 /// allocation fails.
 pub(crate) fn inline_calls<'a>(
     alloc: Global,
-    made: &mut InlinedCalls,
+    results: &mut InlinedCalls,
     file: File<'_, 'a>,
     part: &Part<'a>,
     calls: &[Call],
@@ -301,16 +301,16 @@ pub(crate) fn inline_calls<'a>(
 ) -> Result<(), AllocError>
     requires { (c : CallValue) → Contains calls.now c → IsPair part.now (c.name + 2) c.close }
     ensures { OnOk result ((rs : List InliningValue) × (es : List EditValue)
-        × (made.new.inlinings.items ≡ made.old.inlinings.items ++ rs)
-        × (map seen_edit made.new.edits.items ≡ map seen_edit made.old.edits.items ++ es)
+        × (results.new.inlinings.items ≡ results.old.inlinings.items ++ rs)
+        × (map seen_edit results.new.edits.items ≡ map seen_edit results.old.edits.items ++ es)
         × Gives (Inlines (scope file.entry) file.entry.is_from_2021 allows_mixed part.now)
         calls.now rs es) }
 {
     let mut rest = calls;
     while let Some((call, others)) = rest.split_first() {
         let mut one = inline_call(alloc, file, part, call, allows_mixed)?;
-        made.inlinings.push(one.inlining)?;
-        made.edits.append(&mut one.edits)?;
+        results.inlinings.push(one.inlining)?;
+        results.edits.append(&mut one.edits)?;
         rest = others;
     }
     Ok(())

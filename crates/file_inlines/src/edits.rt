@@ -8,7 +8,7 @@ ghost use Rattle.asm_lint.specs.Literals.{without_crs};
 ghost use Rattle.inlined_arguments.specs.Seen.{seen_edit, seen_inlined};
 ghost use Rattle.file_inlines.specs.CallInlines.{AreEdits, AreLiteralEdits, moved, removal};
 
-use crate::sources::removed;
+use crate::sources::removal_range;
 use asm_lint::{dropped_crs, offset_in, without_crs};
 use format_calls::Argument;
 use inlined_arguments::{Edit, Inlined, apply_edits};
@@ -34,12 +34,12 @@ fn in_token(alloc: Global, crs: &[usize], edits: &[Edit]) -> Result<Vec<Edit>, A
 
 /// Returns an edit that stands some bytes further on, or `None` if an offset is too large. Returns
 /// `Err` if an allocation fails.
-fn moved(alloc: Global, edit: &Edit, by: usize) -> Result<Option<Edit>, AllocError>
-    ensures { IfOk result (λ o. IfSome o (λ e. seen_edit e ≡ moved by (seen_edit edit.now))) }
+fn move_edit(alloc: Global, edit: &Edit, offset: usize) -> Result<Option<Edit>, AllocError>
+    ensures { IfOk result (λ o. IfSome o (λ e. seen_edit e ≡ moved offset (seen_edit edit.now))) }
 {
     let (Some(start), Some(end)) = (
-        by.checked_add(edit.span.start),
-        by.checked_add(edit.span.end),
+        offset.checked_add(edit.span.start),
+        offset.checked_add(edit.span.end),
     ) else {
         return Ok(None);
     };
@@ -51,13 +51,13 @@ fn moved(alloc: Global, edit: &Edit, by: usize) -> Result<Option<Edit>, AllocErr
 
 /// Returns edits that stand some bytes further on, or `None` if an offset is too large. Returns
 /// `Err` if an allocation fails.
-fn each_moved(alloc: Global, edits: &[Edit], by: usize) -> Result<Option<Vec<Edit>>, AllocError>
+fn move_edits(alloc: Global, edits: &[Edit], offset: usize) -> Result<Option<Vec<Edit>>, AllocError>
     ensures { IfOk result (λ o. IfSome o (λ v. map seen_edit v.items
-        ≡ map (moved by) (map seen_edit edits.now))) }
+        ≡ map (moved offset) (map seen_edit edits.now))) }
 {
     let mut found = Vec::new(alloc);
     for edit in edits {
-        let Some(edit) = moved(alloc, edit, by)? else {
+        let Some(edit) = move_edit(alloc, edit, offset)? else {
             return Ok(None);
         };
         found.push(edit)?;
@@ -73,16 +73,16 @@ fn push_removals(
     text: &str,
     tokens: &[Token<'_>],
     arguments: &[Argument],
-    gone: &[usize],
+    indices: &[usize],
 ) -> Result<(), AllocError>
     ensures { OnOk result (map seen_edit edits.new.items ≡ map seen_edit edits.old.items
         ++ filter_map (λ n. option_map (removal text.now (map leaf tokens.now))
-        (slice_get arguments.now n)) gone.now) }
+        (slice_get arguments.now n)) indices.now) }
 {
-    for index in gone {
+    for index in indices {
         if let Some(argument) = argument_at(arguments, *index) {
             edits.push(Edit {
-                span: removed(text, tokens, &argument),
+                span: removal_range(text, tokens, &argument),
                 text: String::new(alloc),
             })?;
         }
@@ -104,20 +104,20 @@ fn is_literal(alloc: Global, token: &str, literal: &str) -> Result<bool, AllocEr
 fn literal_edits(
     alloc: Global,
     literal: Token<'_>,
-    made: &Inlined,
+    inlining: &Inlined,
 ) -> Result<Option<Vec<Edit>>, AllocError>
     ensures { IfOk result (λ o. IfSome o (λ v.
-        AreLiteralEdits (leaf literal.entry) (seen_inlined made.now) (map seen_edit v.items))) }
+        AreLiteralEdits (leaf literal.entry) (seen_inlined inlining.now) (map seen_edit v.items))) }
 {
     let crs = dropped_crs(alloc, literal.text)?;
-    let inside = in_token(alloc, &crs, made.edits.as_slice())?;
+    let inside = in_token(alloc, &crs, inlining.edits.as_slice())?;
     let Some(new) = apply_edits(alloc, literal.text, &inside)? else {
         return Ok(None);
     };
-    if !is_literal(alloc, new.as_str(), made.literal.as_str())? {
+    if !is_literal(alloc, new.as_str(), inlining.literal.as_str())? {
         return Ok(None);
     }
-    each_moved(alloc, inside.as_slice(), literal.start)
+    move_edits(alloc, inside.as_slice(), literal.start)
 }
 
 /// Returns the edits that inline a call, with this token as its literal and these arguments after
@@ -129,12 +129,12 @@ pub(crate) fn edits_of(
     tokens: &[Token<'_>],
     literal: Token<'_>,
     arguments: &[Argument],
-    made: &Inlined,
+    inlining: &Inlined,
 ) -> Result<Option<Vec<Edit>>, AllocError>
     ensures { IfOk result (λ o. IfSome o (λ v. AreEdits text.now (map leaf tokens.now)
-        (leaf literal.entry) arguments.now (seen_inlined made.now) (map seen_edit v.items))) }
+        (leaf literal.entry) arguments.now (seen_inlined inlining.now) (map seen_edit v.items))) }
 {
-    let Some(mut edits) = literal_edits(alloc, literal, made)? else {
+    let Some(mut edits) = literal_edits(alloc, literal, inlining)? else {
         return Ok(None);
     };
     push_removals(
@@ -143,7 +143,7 @@ pub(crate) fn edits_of(
         text,
         tokens,
         arguments,
-        made.gone.as_slice(),
+        inlining.gone.as_slice(),
     )?;
     Ok(Some(edits))
 }

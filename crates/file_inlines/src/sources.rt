@@ -25,7 +25,7 @@ fn end_at(text: &str, tokens: &[Token<'_>], index: usize) -> usize
 
 /// Returns the bytes of a file that go with an argument: from the end of the token before its comma
 /// to its own end.
-pub(crate) fn removed(text: &str, tokens: &[Token<'_>], argument: &Argument) -> Range<usize>
+pub(crate) fn removal_range(text: &str, tokens: &[Token<'_>], argument: &Argument) -> Range<usize>
     ensures { pair result ≡ removed text.now (map leaf tokens.now) argument.now }
 {
     let start = end_at(text, tokens, argument.start.saturating_sub(2));
@@ -66,7 +66,7 @@ fn word_of<'a>(tokens: &[Token<'a>], argument: &Argument) -> Option<&'a str>
 fn with_source<'a>(text: &'a str, tokens: &[Token<'a>], argument: &Argument) -> FormatArgument<'a>
     ensures { seen_argument result ≡ with_source text.now (map leaf tokens.now) argument.now }
 {
-    let range = removed(text, tokens, argument);
+    let range = removal_range(text, tokens, argument);
     FormatArgument {
         name: name_of(tokens, argument),
         word: word_of(tokens, argument),

@@ -201,14 +201,14 @@ one_more peeks input s0 s new todo count used used' found found' steps steps' sp
     }
 
 -- From the start on.
-pub added_on : (m : ℕ) (a b c : SpecBuffer) → a.used ≡ 0 → Adds b.used a b → Adds m b c
-    → Adds c.used a c
+pub added_on : (m : ℕ) (a b c : SpecBuffer) → a.count ≡ 0 → Adds b.count a b → Adds m b c
+    → Adds c.count a c
 added_on m a b c e h k = record {
   same = k.same ∙ h.same;
   room = k.room ∙ h.room;
   used = omega (arith, e);
   front = rw e refl;
-  kept = k.kept ∙ still_after b.records.now a.records.now b.used c.used
+  kept = k.kept ∙ still_after b.records.now a.records.now b.count c.count
       (omega (arith, k.used)) h.kept;
 }
 

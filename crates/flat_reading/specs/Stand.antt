@@ -148,9 +148,9 @@ EndsWith input rest = (front : Text) × (input ≡ front ++ rest)
 pub record Adds (n : ℕ) (old new : SpecBuffer) : Type 0 where
   pub same : new.records.ghost_name ≡ old.records.ghost_name
   pub room : length new.records.now ≡ length old.records.now
-  pub used : new.used ≡ old.used + n
-  pub front : take old.used new.records.now ≡ take old.used old.records.now
-  pub kept : drop new.used new.records.now ≡ drop new.used old.records.now
+  pub used : new.count ≡ old.count + n
+  pub front : take old.count new.records.now ≡ take old.count old.records.now
+  pub kept : drop new.count new.records.now ≡ drop new.count old.records.now
 
 -- The rest of a walker's input is a suffix of the whole, and the places of its parser are those in
 -- the input, moved by its offset, or its mode is known.

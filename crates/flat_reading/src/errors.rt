@@ -19,17 +19,17 @@ use crate::records::{
 use rustc_parse_format::{ParseError, Suggestion};
 use std::ops::Range;
 
-/// Writes a text after the first `used` bytes of `texts` if it fits, and adds its length to `used`
+/// Writes a text after the first `size` bytes of `texts` if it fits, and adds its length to `size`
 /// even if it does not. Returns its byte range there.
-fn put(texts: &mut [u8], used: &mut usize, text: &str) -> Extent
-    ensures grows { Grows texts.old texts.new used.old used.new }
-    ensures counted { used.new ≡ min (used.old + length text.now) usize.MAX }
-    ensures holds { used.new ≤ length texts.old
-        → Holds (take used.new texts.new) result.from result.to text.now }
+fn put(texts: &mut [u8], size: &mut usize, text: &str) -> Extent
+    ensures grows { Grows texts.old texts.new size.old size.new }
+    ensures counted { size.new ≡ min (size.old + length text.now) usize.MAX }
+    ensures holds { size.new ≤ length texts.old
+        → Holds (take size.new texts.new) result.from result.to text.now }
 {
-    let from = *used;
+    let from = *size;
     let to = from.saturating_add(text.len());
-    *used = to;
+    *size = to;
     if to <= texts.len() {
         texts[from..to].copy_from_slice(text.as_bytes());
     }
@@ -37,17 +37,17 @@ fn put(texts: &mut [u8], used: &mut usize, text: &str) -> Extent
 }
 
 /// Writes a note as `put` does, if there is one, and returns its byte range there.
-fn put_note(texts: &mut [u8], used: &mut usize, note: &Option<String>) -> MaybeExtent
-    requires { used.old ≤ usize.MAX }
-    ensures grows { Grows texts.old texts.new used.old used.new }
-    ensures counted { used.new
-        ≡ min (used.old + maybe_len (option_map string_bytes note.now)) usize.MAX }
-    ensures holds { used.new ≤ length texts.old
-        → HoldsMaybe (take used.new texts.new) result (option_map string_bytes note.now) }
+fn put_note(texts: &mut [u8], size: &mut usize, note: &Option<String>) -> MaybeExtent
+    requires { size.old ≤ usize.MAX }
+    ensures grows { Grows texts.old texts.new size.old size.new }
+    ensures counted { size.new
+        ≡ min (size.old + maybe_len (option_map string_bytes note.now)) usize.MAX }
+    ensures holds { size.new ≤ length texts.old
+        → HoldsMaybe (take size.new texts.new) result (option_map string_bytes note.now) }
 {
     match note {
         Some(note) => {
-            let at = put(texts, used, note.as_str());
+            let at = put(texts, size, note.as_str());
             MaybeExtent {
                 is_present: 1,
                 from: at.from,
@@ -62,21 +62,21 @@ fn put_note(texts: &mut [u8], used: &mut usize, note: &Option<String>) -> MaybeE
 /// label's span in the source.
 fn put_second(
     texts: &mut [u8],
-    used: &mut usize,
+    size: &mut usize,
     second: &Option<(String, Range<usize>)>,
 ) -> (MaybeExtent, Extent)
-    requires { used.old ≤ usize.MAX }
-    ensures grows { Grows texts.old texts.new used.old used.new }
-    ensures counted { used.new
-        ≡ min (used.old + second_len (option_map (λ x. (string_bytes x.0, pair x.1)) second.now))
+    requires { size.old ≤ usize.MAX }
+    ensures grows { Grows texts.old texts.new size.old size.new }
+    ensures counted { size.new
+        ≡ min (size.old + second_len (option_map (λ x. (string_bytes x.0, pair x.1)) second.now))
         usize.MAX }
-    ensures holds { used.new ≤ length texts.old
-        → HoldsSecond (take used.new texts.new) result.0 result.1
+    ensures holds { size.new ≤ length texts.old
+        → HoldsSecond (take size.new texts.new) result.0 result.1
         (option_map (λ x. (string_bytes x.0, pair x.1)) second.now) }
 {
     match second {
         Some((label, span)) => {
-            let at = put(texts, used, label.as_str());
+            let at = put(texts, size, label.as_str());
             let label = MaybeExtent {
                 is_present: 1,
                 from: at.from,
@@ -92,15 +92,15 @@ fn put_second(
 /// suggestion's span in the source, and the byte range of its text in `texts`.
 fn put_suggestion(
     texts: &mut [u8],
-    used: &mut usize,
+    size: &mut usize,
     suggestion: &Suggestion,
 ) -> (u32, Extent, Extent)
-    requires { used.old ≤ usize.MAX }
-    ensures grows { Grows texts.old texts.new used.old used.new }
-    ensures counted { used.new
-        ≡ min (used.old + suggestion_len (seen_suggestion suggestion.now)) usize.MAX }
-    ensures holds { used.new ≤ length texts.old
-        → HoldsSuggestion (take used.new texts.new) result.0 result.1 result.2
+    requires { size.old ≤ usize.MAX }
+    ensures grows { Grows texts.old texts.new size.old size.new }
+    ensures counted { size.new
+        ≡ min (size.old + suggestion_len (seen_suggestion suggestion.now)) usize.MAX }
+    ensures holds { size.new ≤ length texts.old
+        → HoldsSuggestion (take size.new texts.new) result.0 result.1 result.2
         (seen_suggestion suggestion.now) }
 {
     match suggestion {
@@ -108,7 +108,7 @@ fn put_suggestion(
         Suggestion::UsePositional => (MEND_USE_POSITIONAL, NOWHERE, NOWHERE),
         Suggestion::RemoveRawIdent(span) => (MEND_REMOVE_RAW_IDENT, extent(span), NOWHERE),
         Suggestion::ReorderFormatParameter(span, text) => {
-            let at = put(texts, used, text.as_str());
+            let at = put(texts, size, text.as_str());
             (MEND_REORDER_FORMAT_PARAMETER, extent(span), at)
         }
         Suggestion::AddMissingColon(span) => (MEND_ADD_MISSING_COLON, extent(span), NOWHERE),
@@ -120,20 +120,20 @@ fn put_suggestion(
 
 /// Returns the record of an error that was found by the step with the index `step`, and writes its
 /// texts as `put` does.
-fn put_error(texts: &mut [u8], used: &mut usize, error: &ParseError, step: usize) -> Fault
-    ensures grows { Grows texts.old texts.new used.old used.new }
-    ensures counted { used.new ≡ min (used.old + message_len (seen_error error.now)) usize.MAX }
-    ensures holds { used.new ≤ length texts.old
-        → HoldsError (take used.new texts.new) result (seen_error error.now) }
+fn put_error(texts: &mut [u8], size: &mut usize, error: &ParseError, step: usize) -> Fault
+    ensures grows { Grows texts.old texts.new size.old size.new }
+    ensures counted { size.new ≡ min (size.old + message_len (seen_error error.now)) usize.MAX }
+    ensures holds { size.new ≤ length texts.old
+        → HoldsError (take size.new texts.new) result (seen_error error.now) }
     ensures step { result.step ≡ step }
 {
-    let description = put(texts, used, error.description.as_str());
-    let note = put_note(texts, used, &error.note);
-    let label = put(texts, used, error.label.as_str());
-    let (second_label, second_span) = put_second(texts, used, &error.secondary_label);
+    let description = put(texts, size, error.description.as_str());
+    let note = put_note(texts, size, &error.note);
+    let label = put(texts, size, error.label.as_str());
+    let (second_label, second_span) = put_second(texts, size, &error.secondary_label);
     let (suggestion, suggestion_span, suggestion_text) = put_suggestion(
         texts,
-        used,
+        size,
         &error.suggestion,
     );
     Fault {

@@ -50,17 +50,17 @@ impl Finders {
         }
     }
 
-    /// Adds the call `number`, which found `found` errors, of which `fronts` were put at the front
+    /// Adds the call `number`, which found `count` errors, of which `fronts` were put at the front
     /// of the list. Returns `Err` if an allocation fails.
-    pub fn add(&mut self, number: usize, fronts: usize, found: usize) -> Result<(), AllocError>
-        requires { fronts ≤ found }
+    pub fn add(&mut self, number: usize, fronts: usize, count: usize) -> Result<(), AllocError>
+        requires { fronts ≤ count }
         ensures calls { OnOk result (self.new.calls ≡ replicate fronts number
-            ++ (self.old.calls ++ replicate (found - fronts) number)) }
+            ++ (self.old.calls ++ replicate (count - fronts) number)) }
         ensures fronts { OnOk result (self.new.fronts ≡ self.old.fronts + fronts) }
     {
-        if found > 0 {
+        if count > 0 {
             repeat(&mut self.fronts, number, fronts)?;
-            repeat(&mut self.backs, number, found - fronts)?;
+            repeat(&mut self.backs, number, count - fronts)?;
         }
         Ok(())
     }

@@ -70,10 +70,10 @@ fn maybe_extent(range: &Option<Range<usize>>) -> MaybeExtent
 }
 
 /// Returns 1 for true and 0 for false.
-pub fn flag(given: bool) -> u32
-    ensures { is_set result ≡ given }
+pub fn flag(condition: bool) -> u32
+    ensures { is_set result ≡ condition }
 {
-    if given { 1 } else { 0 }
+    if condition { 1 } else { 0 }
 }
 
 /// Returns the code of a fill character, or `NO_FILL`.
@@ -239,7 +239,7 @@ fn no_spec(spec: &FormatSpec<'_>) -> usize
 pub struct SpecBuffer<'a> {
     records: &'a mut [Spec],
     /// The number of specifications, including those that do not fit.
-    used: usize,
+    count: usize,
 }
 
 impl<'a> SpecBuffer<'a> {
@@ -247,44 +247,44 @@ impl<'a> SpecBuffer<'a> {
     pub fn new(records: &'a mut [Spec]) -> SpecBuffer<'a>
         ensures same { result.records.ghost_name ≡ records.entry.ghost_name }
         ensures records { result.records.now ≡ records.old }
-        ensures used { result.used ≡ 0 }
+        ensures used { result.count ≡ 0 }
     {
-        SpecBuffer { records, used: 0 }
+        SpecBuffer { records, count: 0 }
     }
 
     /// Returns the number of specifications, including those that do not fit.
-    pub fn used(&self) -> usize
-        ensures { result ≡ self.now.used }
+    pub fn count(&self) -> usize
+        ensures { result ≡ self.now.count }
     {
-        self.used
+        self.count
     }
 
     /// Adds a specification, which is written if it fits, and returns its number, from 1.
     #[inline(never)]
     fn add(&mut self, spec: &FormatSpec<'_>, texts: &Texts) -> usize
-        requires room { self.old.used < usize.MAX }
+        requires room { self.old.count < usize.MAX }
         ensures described { (input : List ℕ) → SpecAt input texts.now (seen_spec spec.now)
-            → self.new.used ≤ length self.old.records.now
+            → self.new.count ≤ length self.old.records.now
             → spec_at input self.new.records.now result ≡ seen_spec spec.now }
-        ensures number { result ≡ self.new.used }
+        ensures number { result ≡ self.new.count }
         ensures adds { Adds 1 self.old self.new }
     {
-        if self.used < self.records.len() {
-            self.records[self.used] = spec_record(spec, texts);
+        if self.count < self.records.len() {
+            self.records[self.count] = spec_record(spec, texts);
         }
-        self.used += 1;
-        self.used
+        self.count += 1;
+        self.count
     }
 
     /// Adds a specification unless it is the default one. Returns its number, from 1, or 0 for the
     /// default one.
     #[inline(always)]
     fn put(&mut self, spec: &FormatSpec<'_>, texts: &Texts) -> usize
-        requires room { self.old.used < usize.MAX }
+        requires room { self.old.count < usize.MAX }
         ensures described { (input : List ℕ) → SpecAt input texts.now (seen_spec spec.now)
-            → self.new.used ≤ length self.old.records.now
+            → self.new.count ≤ length self.old.records.now
             → spec_at input self.new.records.now result ≡ seen_spec spec.now }
-        ensures number { result ≤ self.new.used }
+        ensures number { result ≤ self.new.count }
         ensures adds { Adds (if is_default (seen_spec spec.now) then 0 else 1) self.old self.new }
     {
         if is_default(spec) {
@@ -318,14 +318,14 @@ pub fn put_argument(
     specs: &mut SpecBuffer<'_>,
     step: &mut Step,
 )
-    requires room { specs.old.used < usize.MAX }
+    requires room { specs.old.count < usize.MAX }
     ensures described { (input : List ℕ)
         → PositionAt (text_at input texts.now.text) (seen_position argument.now.position)
-        → SpecAt input texts.now (seen_spec argument.now.format) → specs.new.used
+        → SpecAt input texts.now (seen_spec argument.now.format) → specs.new.count
         ≤ length specs.old.records.now
         → piece_meant input (spec_at input specs.new.records.now step.new.spec) step.new
         ≡ Some (NextArgument (seen_argument argument.now)) }
-    ensures number { step.new.spec ≤ specs.new.used }
+    ensures number { step.new.spec ≤ specs.new.count }
     ensures adds { Adds (if is_default (seen_spec argument.now.format)
         then 0 else 1) specs.old specs.new }
     ensures others { SameAfter step.old step.new }
@@ -390,11 +390,11 @@ pub fn put_plain_argument(
     step: &mut Step,
 )
     requires stands { ArgumentStands input.now offset (seen_argument argument.now) }
-    requires room { specs.old.used < usize.MAX }
-    ensures described { specs.new.used ≤ length specs.old.records.now
+    requires room { specs.old.count < usize.MAX }
+    ensures described { specs.new.count ≤ length specs.old.records.now
         → piece_meant input.now (spec_at input.now specs.new.records.now step.new.spec) step.new
         ≡ Some (NextArgument (seen_argument argument.now)) }
-    ensures number { step.new.spec ≤ specs.new.used }
+    ensures number { step.new.spec ≤ specs.new.count }
     ensures adds { Adds (if is_default (seen_spec argument.now.format)
         then 0 else 1) specs.old specs.new }
     ensures others { SameAfter step.old step.new }

@@ -146,7 +146,7 @@ fn read_by<'a>(
     put_lines(spans, lines);
     *answer = Answer {
         steps: count,
-        specs: specs.used(),
+        specs: specs.count(),
         faults: errors.len(),
         texts: put_errors(errors, &walker.finders, faults, texts),
         lines: spans.len(),

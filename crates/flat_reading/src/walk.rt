@@ -86,18 +86,18 @@ fn put_peeks(parser: &Parser<'_>, peeks: bool, peek: &mut MaybeExtent, peek_ahea
     }
 }
 
-/// Returns the byte range in the source of the placeholder that a call closed, or none. `before` is
-/// the number of such ranges before the call; only a source literal has any.
+/// Returns the byte range in the source of the placeholder that a call closed, or none. `old_count`
+/// is the number of such ranges before the call; only a source literal has any.
 #[inline(always)]
-fn closed_place(parser: &Parser<'_>, before: usize) -> MaybeExtent
-    ensures { (old : List Place) (k : Option Span) → before ≡ length old
+fn closed_place(parser: &Parser<'_>, old_count: usize) -> MaybeExtent
+    ensures { (old : List Place) (k : Option Span) → old_count ≡ length old
         → parser.now.arg_places ≡ old ++ place_list (closed_in parser.now.world k)
         → maybe_place result ≡ closed_in parser.now.world k }
 {
     if !parser.is_source_literal() {
         return NO_EXTENT;
     }
-    match parser.arg_places().get(before) {
+    match parser.arg_places().get(old_count) {
         Some(place) => some_extent(place),
         None => NO_EXTENT,
     }
@@ -180,12 +180,12 @@ impl<'a> Walker<'a> {
     ) -> Result<(), AllocError>
         requires read { IsReadAt self.now.input.now (seen_mode mode) next start
             (Some (NextArgument (seen_argument self.now.argument))) }
-        requires room { specs.old.used < usize.MAX }
-        ensures described { OnOk result (specs.new.used ≤ length specs.old.records.now
+        requires room { specs.old.count < usize.MAX }
+        ensures described { OnOk result (specs.new.count ≤ length specs.old.records.now
             → piece_meant self.now.input.now
             (spec_at self.now.input.now specs.new.records.now step.new.spec) step.new
             ≡ Some (NextArgument (seen_argument self.now.argument))) }
-        ensures number { OnOk result (step.new.spec ≤ specs.new.used) }
+        ensures number { OnOk result (step.new.spec ≤ specs.new.count) }
         ensures adds { OnOk result (Adds (if is_default (seen_spec self.now.argument.format)
             then 0 else 1) specs.old specs.new) }
         ensures others { OnOk result (SameAfter step.old step.new) }
@@ -205,32 +205,32 @@ impl<'a> Walker<'a> {
     #[inline(always)]
     fn put_given(
         &self,
-        given: &Option<PieceKind<'_>>,
+        piece: &Option<PieceKind<'_>>,
         start: usize,
         next: usize,
         specs: &mut SpecBuffer<'_>,
         step: &mut Step,
     ) -> Result<(), AllocError>
         requires last { RunStands self.now.input.now step.old.read
-            (option_map (seen_taken self.now.argument) given.now) }
+            (option_map (seen_taken self.now.argument) piece.now) }
         requires stands { IfNone self.now.escapes
             (PlaceholderStands self.now.input.now self.now.offset
-            (option_map (seen_taken self.now.argument) given.now)) }
+            (option_map (seen_taken self.now.argument) piece.now)) }
         requires read { IfSome self.now.escapes
             (λ m. IsReadAt self.now.input.now (seen_mode m) next start
-            (option_map (seen_taken self.now.argument) given.now)) }
-        requires room { specs.old.used < usize.MAX }
-        ensures described { OnOk result (specs.new.used ≤ length specs.old.records.now
+            (option_map (seen_taken self.now.argument) piece.now)) }
+        requires room { specs.old.count < usize.MAX }
+        ensures described { OnOk result (specs.new.count ≤ length specs.old.records.now
             → piece_meant self.now.input.now
             (spec_at self.now.input.now specs.new.records.now step.new.spec) step.new
-            ≡ option_map (seen_taken self.now.argument) given.now) }
-        ensures number { OnOk result (step.new.spec ≤ specs.new.used) }
+            ≡ option_map (seen_taken self.now.argument) piece.now) }
+        ensures number { OnOk result (step.new.spec ≤ specs.new.count) }
         ensures adds { OnOk result
-            (Adds (specs_in (option_map (seen_taken self.now.argument) given.now)) specs.old
+            (Adds (specs_in (option_map (seen_taken self.now.argument) piece.now)) specs.old
             specs.new) }
         ensures others { OnOk result (SameAfter step.old step.new) }
     {
-        match given {
+        match piece {
             None => put_bare_piece(PIECE_NONE, NOWHERE, step),
             Some(PieceKind::Lit(text)) => put_bare_piece(
                 PIECE_TEXT,
@@ -255,11 +255,11 @@ impl<'a> Walker<'a> {
         step: &mut Step,
     ) -> Result<(), AllocError>
         requires ready { IsOnItsWay self.old }
-        requires room { specs.old.used < usize.MAX }
-        ensures described { OnOk result (specs.new.used ≤ length specs.old.records.now
+        requires room { specs.old.count < usize.MAX }
+        ensures described { OnOk result (specs.new.count ≤ length specs.old.records.now
             → step_meant self.old.input.now specs.new.records.now step.new
             ≡ event self.old.peeks self.old.parser) }
-        ensures number { OnOk result (step.new.spec ≤ specs.new.used) }
+        ensures number { OnOk result (step.new.spec ≤ specs.new.count) }
         ensures adds { OnOk result (Adds (specs_in (given self.old.parser)) specs.old specs.new) }
         ensures call { OnOk result (MakesCall number self.old self.new) }
         ensures read { OnOk result (step.new.read
@@ -296,10 +296,10 @@ impl<'a> Walker<'a> {
         specs: &mut SpecBuffer<'_>,
     ) -> Result<usize, AllocError>
         requires ready { IsOnItsWay self.old }
-        requires room { specs.old.used < usize.MAX }
+        requires room { specs.old.count < usize.MAX }
         ensures added { OnOk result ((full : List StepRecord) → length full ≤ number
             → IsAdded self.old.input.now
-            (event self.old.peeks self.old.parser) number specs.new.used full full
+            (event self.old.peeks self.old.parser) number specs.new.count full full
             specs.new.records.now) }
         ensures adds { OnOk result (Adds (specs_in (given self.old.parser)) specs.old specs.new) }
         ensures call { OnOk result (MakesCall number self.old self.new) }
@@ -321,10 +321,10 @@ impl<'a> Walker<'a> {
         specs: &mut SpecBuffer<'_>,
     ) -> Result<usize, AllocError>
         requires ready { IsOnItsWay self.old }
-        requires room { specs.old.used < usize.MAX }
+        requires room { specs.old.count < usize.MAX }
         ensures added { OnOk result
             (IsAdded self.old.input.now
-            (event self.old.peeks self.old.parser) number specs.new.used steps.old steps.new
+            (event self.old.peeks self.old.parser) number specs.new.count steps.old steps.new
             specs.new.records.now) }
         ensures adds { OnOk result (Adds (specs_in (given self.old.parser)) specs.old specs.new) }
         ensures call { OnOk result (MakesCall number self.old self.new) }
@@ -392,12 +392,12 @@ impl<'a> Walker<'a> {
         requires small { length self.old.parser.rest < 2 ^ 63 }
         requires none { self.old.finders ≡ record { calls = []; fronts = 0 } }
         requires start { self.old.parser.rest ≡ self.old.parser.input }
-        requires empty { specs.old.used ≡ 0 }
+        requires empty { specs.old.count ≡ 0 }
         ensures count { IfOk result (λ k. k ≡ length (states self.old.parser)) }
         ensures specs { OnOk result (Adds (spec_count self.old.parser) specs.old specs.new) }
-        ensures written { IfOk result (λ k. k ≤ length steps.old → specs.new.used
+        ensures written { IfOk result (λ k. k ≤ length steps.old → specs.new.count
             ≤ length specs.old.records.now
-            → map (step_meant self.old.input.now (take specs.new.used specs.new.records.now))
+            → map (step_meant self.old.input.now (take specs.new.count specs.new.records.now))
             (take k steps.new) ≡ events self.old.peeks self.old.parser) }
         ensures state { OnOk result (self.new.parser ≡ end_of self.old.parser) }
         ensures finders { OnOk result (self.new.finders.calls ≡ found_by self.old.parser) }

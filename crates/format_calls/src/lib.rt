@@ -19,6 +19,6 @@ pub use marks::{is_mark, is_mark_of, is_word, token_at, word};
 pub use modes::{is_joint, is_text};
 pub use part::Part;
 pub use parts::next_part;
-pub use split::{Argument, arguments, closing};
+pub use split::{Argument, arguments, closing_token};
 pub use strings::{Reason, format_string, is_text_leaf};
 pub use table::{Row, Rule, Table, is_of_crates, is_standard};

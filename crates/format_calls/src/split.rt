@@ -45,7 +45,7 @@ pub fn is_named(tokens: &[Token<'_>], index: usize) -> bool
 }
 
 /// Returns the token that closes the pair that a token opens, or `None` if it opens none.
-pub fn closing(source: &Source<'_>, index: usize) -> Option<usize>
+pub fn closing_token(source: &Source<'_>, index: usize) -> Option<usize>
     ensures some { IfSome result (λ j. IsPair source.now index j) }
     ensures none { IsNone result → (j : ℕ) → IsPair source.now index j → ⊥ }
 {
@@ -60,7 +60,7 @@ pub fn after_tree(source: &Source<'_>, index: usize) -> usize
     requires { (o c : ℕ) × IsPair source.now o c × (o < index) × (index < c) × (c < 2 ^ 64) }
     ensures { IsTree source.now index result }
 {
-    match closing(source, index) {
+    match closing_token(source, index) {
         Some(close) => close + 1,
         None => index + 1,
     }
@@ -86,7 +86,7 @@ fn argument_end(source: &Source<'_>, opening: usize, from: usize, to: usize) -> 
 
 /// Returns the arguments between two delimiters that are a pair. Returns `Err` if an allocation
 /// fails.
-fn between(
+fn arguments_between(
     alloc: Global,
     source: &Source<'_>,
     opening: usize,
@@ -128,7 +128,7 @@ pub fn arguments(
     match source.partner(close) {
         Some(opening) => {
             if opening < close {
-                let found = between(alloc, source, opening, close)?;
+                let found = arguments_between(alloc, source, opening, close)?;
                 Ok(Some(found))
             } else {
                 Ok(None)

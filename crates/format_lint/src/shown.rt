@@ -324,7 +324,7 @@ fn shown_of_literal(alloc: Global, input: &str, task: Task<'_>) -> Result<Shown,
 }
 
 /// Returns a text that is in no literal, with the lines that it is drawn in.
-fn bare<'a>(text: &'a str, lines: &'a str) -> Source<'a>
+fn text_source<'a>(text: &'a str, lines: &'a str) -> Source<'a>
     ensures value { lines.now ≡ codes "\n" ++ text.now → seen_source result ≡ bare text.now }
     ensures style { result.style ≡ None }
 {
@@ -356,5 +356,5 @@ pub fn shown_of_input(alloc: Global, input: &str, task: Task<'_>) -> Result<Show
     }
     // without a literal a span is one more than in the text, and so is the place in these lines
     let lines = format!(in alloc; "\n{input}")?;
-    Ok(shown_of(alloc, bare(input, lines.as_str()), task)?)
+    Ok(shown_of(alloc, text_source(input, lines.as_str()), task)?)
 }

@@ -18,7 +18,7 @@ ghost use Rattle.format_tokens.specs.Walk.{IsWritten, tokens_of};
 
 /// States that the characters of the tokens of an input, one after the other, are the input without
 /// an appended newline, even if it has faults. Does nothing.
-pub fn joined()
+pub fn tokens_join()
     ensures { (mode : Mode) (input : Text) (appended : Bool)
         → joined (shown mode input appended) ≡ unappended appended input }
 {}
@@ -26,7 +26,7 @@ pub fn joined()
 /// States that the tokens of a text that is in the grammar are its parts as they are written: of
 /// any pieces that it is written as, which need not be clean, and so of those of its reading. Does
 /// nothing.
-pub fn spelled()
+pub fn tokens_are_parts()
     ensures written { (mode : Mode) (t : Text) (xs : List PieceText) → IsWritten mode t xs
         → tokens_of mode t ≡ marked (wants_names mode) false (pieces_tokens xs) }
     ensures reading { (mode : Mode) (t : Text) (ps : List (Piece (Unit {0}))) → Reads mode 0 t ps

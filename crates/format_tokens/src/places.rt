@@ -70,20 +70,20 @@ pub fn ordinary_starts(
     Ok(starts)
 }
 
-/// Adds the tokens of the first `kept` characters, with those marked that are out of place. `names`
-/// says whether only names are accepted, `starts` where the characters start. Returns `Err` if an
-/// allocation fails.
+/// Adds the tokens of the first `count` characters, with those marked that are out of place.
+/// `names` says whether only names are accepted, `starts` where the characters start. Returns `Err`
+/// if an allocation fails.
 pub fn place(
     tokens: &mut Vec<Token>,
     names: bool,
     labels: &[Label],
     starts: &[usize],
-    kept: usize,
+    count: usize,
 ) -> Result<(), AllocError>
-    requires { kept < length starts.now }
+    requires { count < length starts.now }
     ensures { OnOk result ((w : World) → starts.now ≡ starts_of w
         → map seen_token tokens.new.items ≡ map seen_token tokens.old.items
-        ++ placed_sizes w (length w.places) kept (marked names false (pairs labels.now))) }
+        ++ placed_sizes w (length w.places) count (marked names false (pairs labels.now))) }
 {
     let mut at = 0;
     let mut inside = false;
@@ -91,7 +91,7 @@ pub fn place(
     while let Some((label, others)) = rest.split_first() {
         let role = role_of(label.kind);
         let fits = fits(names, inside, role, others);
-        let to = at + label.width.min(kept - at);
+        let to = at + label.width.min(count - at);
         if at < to {
             tokens.push(Token {
                 kind: marked_kind(label.kind, fits),

@@ -131,21 +131,34 @@ enum Extent {
     Front,
 }
 
+/// The text at the start of a file.
+struct FileText<'a> {
+    text: &'a str,
+    extent: Extent,
+}
+
 /// Returns the text at the start of a file, and how much of it that is.
-fn text_of(bytes: &[u8]) -> (&str, Extent) {
+fn text_of(bytes: &[u8]) -> FileText<'_> {
     let is_cut = bytes.len() > MOST;
     let read = bytes.get(..MOST).unwrap_or(bytes);
     match str::from_utf8(read) {
-        Ok(text) if is_cut => (text, Extent::Front),
-        Ok(text) => (text, Extent::Whole),
+        Ok(text) if is_cut => FileText {
+            text,
+            extent: Extent::Front,
+        },
+        Ok(text) => FileText {
+            text,
+            extent: Extent::Whole,
+        },
         Err(error) => {
             let front = read.get(..error.valid_up_to()).unwrap_or(&[]);
             let text = str::from_utf8(front).unwrap_or("");
-            if is_cut && error.error_len().is_none() {
-                (text, Extent::Front)
+            let extent = if is_cut && error.error_len().is_none() {
+                Extent::Front
             } else {
-                (text, Extent::Text)
-            }
+                Extent::Text
+            };
+            FileText { text, extent }
         }
     }
 }
@@ -215,9 +228,9 @@ impl<'a> Run<'a> {
         path: &str,
         origin: Origin,
         change: Change,
-        texts: (&str, &str),
+        old: &str,
+        new: &str,
     ) -> Result<bool, Failure> {
-        let (old, new) = texts;
         self.totals.clear_progress(rt);
         match change {
             Change::Diff => {
@@ -259,7 +272,7 @@ impl<'a> Run<'a> {
             self.totals.add_inlinings(&made);
             return self.put_report(rt, path, text, Extent::Whole, &made.report);
         };
-        if !self.put_rewritten(rt, path, origin, change, (text, new.as_str()))? {
+        if !self.put_rewritten(rt, path, origin, change, text, new.as_str())? {
             return self.report(rt, path, text, Extent::Whole);
         }
         self.totals.add(&made.report);
@@ -289,7 +302,7 @@ impl<'a> Run<'a> {
         bytes: &[u8],
         origin: Origin,
     ) -> Result<(), Failure> {
-        let (text, extent) = text_of(bytes);
+        let FileText { text, extent } = text_of(bytes);
         self.options.is_from_2021 = match self.editions.is_from_2021(rt, path) {
             Ok(known) => known,
             Err(error) => return Err(Failure::of(error)),

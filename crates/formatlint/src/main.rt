@@ -221,7 +221,7 @@ fn status(rt: &HostRuntime, words: &[String]) -> Result<u8, Error> {
 }
 
 /// Writes to standard error why the arguments cannot be read, and returns this exit status.
-fn ended(rt: &HostRuntime, why: &str, status: u8) -> ExitCode {
+fn fail(rt: &HostRuntime, why: &str, status: u8) -> ExitCode {
     let _ = eprintln!(rt; "formatlint: {why}");
     ExitCode::from(status)
 }
@@ -230,9 +230,9 @@ fn main(rt: HostRuntime) -> ExitCode {
     let words: Vec<String> = match env::args(&rt) {
         Ok(words) => match words.collect(rt.alloc()) {
             Ok(words) => words,
-            Err(_) => return ended(&rt, "out of memory", 3),
+            Err(_) => return fail(&rt, "out of memory", 3),
         },
-        Err(_) => return ended(&rt, "an argument is not UTF-8", 2),
+        Err(_) => return fail(&rt, "an argument is not UTF-8", 2),
     };
     match status(&rt, words.as_slice()) {
         Ok(status) => ExitCode::from(status),

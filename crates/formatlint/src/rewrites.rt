@@ -32,7 +32,7 @@ pub struct Rewritten {
 }
 
 /// Returns a text with suggestions applied. Returns `Err` if an allocation fails.
-fn fixed(alloc: Global, text: &str, options: &Options<'_>) -> Result<Rewritten, AllocError> {
+fn fix_text(alloc: Global, text: &str, options: &Options<'_>) -> Result<Rewritten, AllocError> {
     let fixed = fixes(alloc, text, options)?;
     Ok(Rewritten {
         text: fixed.text,
@@ -44,7 +44,7 @@ fn fixed(alloc: Global, text: &str, options: &Options<'_>) -> Result<Rewritten, 
 }
 
 /// Returns a text with calls inlined. Returns `Err` if an allocation fails.
-fn inlined(
+fn inline_text(
     alloc: Global,
     text: &str,
     options: &Options<'_>,
@@ -69,15 +69,15 @@ pub fn apply_rewrite(
     rewrite: Rewrite,
 ) -> Result<Rewritten, AllocError> {
     if !rewrite.fixes {
-        return inlined(alloc, text, options, rewrite);
+        return inline_text(alloc, text, options, rewrite);
     }
-    let fixed = fixed(alloc, text, options)?;
+    let fixed = fix_text(alloc, text, options)?;
     if !rewrite.inlines {
         return Ok(fixed);
     }
     let mut made = match &fixed.text {
-        Some(text) => inlined(alloc, text.as_str(), options, rewrite)?,
-        None => inlined(alloc, text, options, rewrite)?,
+        Some(text) => inline_text(alloc, text.as_str(), options, rewrite)?,
+        None => inline_text(alloc, text, options, rewrite)?,
     };
     made.fixes = fixed.fixes;
     if made.text.is_none() {

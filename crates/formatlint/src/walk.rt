@@ -60,7 +60,7 @@ impl<'a> Walk<'a> {
         rt: &HostRuntime,
         folder: &str,
         entry: &DirEntry<HostRuntime>,
-        found: &mut Vec<Entry>,
+        entries: &mut Vec<Entry>,
     ) -> io::Result<()> {
         let name = entry.file_name();
         if self.excluded.contains(&name) {
@@ -75,7 +75,7 @@ impl<'a> Walk<'a> {
         };
         if is_read {
             let path = join(rt.alloc(), folder, name)?;
-            found.push(Entry { path, is_folder })?;
+            entries.push(Entry { path, is_folder })?;
         }
         Ok(())
     }

@@ -18,9 +18,9 @@ use crate::edited::apply_edits;
 use crate::edits::edits_of;
 use crate::meaning::{Meant, means_same};
 use crate::reading::read;
-use crate::slots::{Slot, givens, kept, slots};
+use crate::slots::{Slot, expression_slots, givens, slots};
 use crate::values::values_of;
-use crate::variables::gone;
+use crate::variables::variable_indices;
 use call_faults::{FormatArgument, FormatString};
 use piece_listing::literal::{LiteralText, literal_text};
 use std::alloc::{AllocError, Global};
@@ -58,15 +58,15 @@ fn means_same_with<'c>(
     old: Meant<'_, '_>,
     string: FormatString<'c>,
     slots: &[Slot<'c>],
-    given: &'c [FormatArgument<'c>],
+    arguments: &'c [FormatArgument<'c>],
 ) -> Result<bool, AllocError>
     requires { hashes string.style + length string.text.now + 2 < 2 ^ 64 }
     ensures { IfOk result (λ b. Knows old.entry.values.now
-        → map seen_given given.now ≡ map given_of (map seen_slot slots.now) → IsTrue b
+        → map seen_given arguments.now ≡ map given_of (map seen_slot slots.now) → IsTrue b
         → IsCleanAs string.entry.captures (seen_slots old.entry.values.now)
         (map seen old.entry.pieces.now) (map seen_slot slots.now) (chars string.entry.text.now)) }
 {
-    let Some(pieces) = read(alloc, string, given)? else {
+    let Some(pieces) = read(alloc, string, arguments)? else {
         return Ok(false);
     };
     let values = values_of(alloc, slots)?;
@@ -104,7 +104,7 @@ fn keeps_meaning(
         appended_newline: call.string.appended_newline,
         captures: call.string.captures,
     };
-    let kept = kept(alloc, old.values.slots)?;
+    let kept = expression_slots(alloc, old.values.slots)?;
     let given = givens(alloc, &kept)?;
     means_same_with(alloc, old, string, &kept, given.as_slice())
 }
@@ -112,15 +112,15 @@ fn keeps_meaning(
 /// Returns a call with its arguments that are variables in its format string, or why it is left as
 /// it is, if it is not for a reason that is seen without reading its string. The slots and the
 /// given arguments are those of the call. Returns `Err` if an allocation fails.
-fn inlined_with<'c>(
+fn inline_with<'c>(
     alloc: Global,
     call: Call<'c>,
     slots: &[Slot<'c>],
-    given: &'c [FormatArgument<'c>],
+    arguments: &'c [FormatArgument<'c>],
 ) -> Result<Result<Inlined, Left>, AllocError>
     requires fits { hashes call.string.style + length call.string.text.now + 2 < 2 ^ 64 }
     requires slots { map seen_slot slots.now ≡ slots_of (map seen_argument call.arguments.now) }
-    requires given { map seen_given given.now ≡ map given_of (map seen_slot slots.now) }
+    requires given { map seen_given arguments.now ≡ map given_of (map seen_slot slots.now) }
     ensures inlined { IfOk result (λ r. IfOk r (λ x. (mixed : Bool)
         → condition mixed (seen_call call.entry) ≡ None
         → IsInlined mixed (seen_call call.entry) (seen_inlined x))) }
@@ -131,7 +131,7 @@ fn inlined_with<'c>(
     let Some(snippet) = call.string.snippet else {
         return Ok(Err(Left::NoLiteral));
     };
-    let Some(pieces) = read(alloc, call.string, given)? else {
+    let Some(pieces) = read(alloc, call.string, arguments)? else {
         return Ok(Err(Left::Faulty));
     };
     let values = values_of(alloc, slots)?;
@@ -146,7 +146,7 @@ fn inlined_with<'c>(
     if !keeps_meaning(alloc, call, old, &literal)? {
         return Ok(Err(Left::OtherMeaning));
     }
-    let gone = gone(alloc, call.arguments)?;
+    let gone = variable_indices(alloc, call.arguments)?;
     Ok(Ok(Inlined {
         edits,
         literal,
@@ -159,7 +159,7 @@ fn inlined_with<'c>(
 /// Returns `Err` if an allocation fails.
 ///
 /// The number of hashes, the length of the text in bytes, and 2 must together fit into a `usize`.
-pub fn inlined(
+pub fn inline_arguments(
     alloc: Global,
     call: Call<'_>,
     allows_mixed: bool,
@@ -175,5 +175,5 @@ pub fn inlined(
     }
     let slots = slots(alloc, call.arguments)?;
     let given = givens(alloc, &slots)?;
-    inlined_with(alloc, call, &slots, given.as_slice())
+    inline_with(alloc, call, &slots, given.as_slice())
 }

@@ -1,4 +1,4 @@
-//! Arguments of a call that are variables, moved into its format string ([`inlined`]).
+//! Arguments of a call that are variables, moved into its format string ([`inline_arguments`]).
 #![tactic(auto)]
 
 mod call;
@@ -15,4 +15,4 @@ mod variables;
 
 pub use call::{Argument, Call, Edit, Inlined, Left};
 pub use edited::apply_edits;
-pub use inlining::inlined;
+pub use inlining::inline_arguments;

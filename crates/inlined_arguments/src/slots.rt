@@ -74,7 +74,10 @@ pub(crate) fn slots<'a>(
 
 /// Returns the slots that stay: those of arguments that are no variables. Returns `Err` if an
 /// allocation fails.
-pub(crate) fn kept<'a>(alloc: Global, slots: &[Slot<'a>]) -> Result<Vec<Slot<'a>>, AllocError>
+pub(crate) fn expression_slots<'a>(
+    alloc: Global,
+    slots: &[Slot<'a>],
+) -> Result<Vec<Slot<'a>>, AllocError>
     ensures { IfOk result (λ v. map seen_slot v.items ≡ kept (map seen_slot slots.now)) }
 {
     let mut kept = Vec::new(alloc);

@@ -117,7 +117,10 @@ pub(crate) fn has_comment(argument: &Argument<'_>) -> bool
 }
 
 /// Returns the indices of the arguments that are variables. Returns `Err` if an allocation fails.
-pub(crate) fn gone(alloc: Global, arguments: &[Argument<'_>]) -> Result<Vec<usize>, AllocError>
+pub(crate) fn variable_indices(
+    alloc: Global,
+    arguments: &[Argument<'_>],
+) -> Result<Vec<usize>, AllocError>
     ensures { IfOk result (λ v. v.items ≡ gone_from 0 (map seen_argument arguments.now)) }
 {
     let mut gone = Vec::new(alloc);

@@ -41,14 +41,14 @@ pub fn end_line(out: &mut Vec<u8>, writer: Writer) -> Result<(), AllocError>
 fn put_piece_line(
     alloc: Global,
     out: &mut Vec<u8>,
-    taken: &PieceKind<'_>,
+    piece: &PieceKind<'_>,
     argument: &Argument<'_>,
 ) -> Result<(), AllocError>
-    ensures { OnOk result (Adds (piece_value (seen_taken argument.now taken.now) ∷ [])
+    ensures { OnOk result (Adds (piece_value (seen_taken argument.now piece.now) ∷ [])
         out.old.items out.new.items) }
 {
     let mut writer = begin_line(alloc, out);
-    put_piece(alloc, &mut writer, taken, argument)?;
+    put_piece(alloc, &mut writer, piece, argument)?;
     end_line(out, writer)?;
     Ok(())
 }
@@ -57,14 +57,14 @@ fn put_piece_line(
 fn put_given(
     alloc: Global,
     out: &mut Vec<u8>,
-    taken: &Option<PieceKind<'_>>,
+    piece: &Option<PieceKind<'_>>,
     argument: &Argument<'_>,
 ) -> Result<(), AllocError>
-    ensures { OnOk result (Adds (given_values (option_map (seen_taken argument.now) taken.now))
+    ensures { OnOk result (Adds (given_values (option_map (seen_taken argument.now) piece.now))
         out.old.items out.new.items) }
 {
-    match taken {
-        Some(taken) => put_piece_line(alloc, out, taken, argument),
+    match piece {
+        Some(piece) => put_piece_line(alloc, out, piece, argument),
         None => Ok(()),
     }
 }

@@ -60,14 +60,14 @@ fn used_by<'a>(
     task: Task<'_>,
 ) -> Result<Uses<'a>, AllocError>
     requires { hashes style + length text.now + 2 < 2 ^ 64 }
-    ensures { IfOk result (λ u. IsSome task.entry.given
+    ensures { IfOk result (λ u. IsSome task.entry.arguments
         → Holds (uses (pieces (seen_mode task.entry.mode) (record {
           text = chars text.now;
           style = style;
           snippet = seen_snippet snippet;
         }))) u) }
 {
-    if task.given.is_none() {
+    if task.arguments.is_none() {
         return Ok(Uses::new(alloc));
     }
     let Reading { pieces, parser: _ } = read_all(alloc, text, style, snippet, false, task.mode)?;
@@ -85,7 +85,7 @@ fn report_of<'a>(
     task: Task<'a>,
 ) -> Result<Report<'a>, AllocError>
     requires { hashes style + length text.now + 2 < 2 ^ 64 }
-    ensures { IfOk result (λ r. IsReportFor (option_map seen_given task.entry.given)
+    ensures { IfOk result (λ r. IsReportFor (option_map seen_given task.entry.arguments)
         (pieces (seen_mode task.entry.mode) (record {
           text = chars text.now;
           style = style;
@@ -93,7 +93,7 @@ fn report_of<'a>(
         })) (seen_report r)) }
 {
     let used = used_by(alloc, text, style, snippet, task)?;
-    report_for(alloc, &used, task.given)
+    report_for(alloc, &used, task.arguments)
 }
 
 /// Returns the lines of the calls of a parser and of a report. Returns `Err` if an allocation

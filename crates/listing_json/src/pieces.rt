@@ -220,14 +220,14 @@ fn put_placeholder(
 pub fn put_piece(
     alloc: Global,
     writer: &mut Writer,
-    taken: &PieceKind<'_>,
+    piece: &PieceKind<'_>,
     argument: &Argument<'_>,
 ) -> Result<(), AllocError>
     ensures tokens { OnOk result (writer.new.tokens ≡ writer.old.tokens
-        ++ json_tokens (piece_value (seen_taken argument.now taken.now))) }
+        ++ json_tokens (piece_value (seen_taken argument.now piece.now))) }
     ensures before { OnOk result (writer.new.before ≡ writer.old.before) }
 {
-    match taken {
+    match piece {
         PieceKind::Lit(text) => put_run(writer, text),
         PieceKind::NextArgument => put_placeholder(alloc, writer, argument),
     }

@@ -36,7 +36,7 @@ pub struct Message<'a, 's, 'p> {
 }
 
 /// Returns a text as a string. Returns `Err` if an allocation fails.
-fn owned(alloc: Global, text: Option<&str>) -> Result<Option<String>, AllocError>
+fn owned_string(alloc: Global, text: Option<&str>) -> Result<Option<String>, AllocError>
     ensures { IfOk result (λ o. seen_snippet o ≡ option_map seen_text text.entry) }
 {
     match text {
@@ -55,7 +55,7 @@ fn fault_of<'a>(
     ensures { IfOk result (λ o. option_map seen_text_fault o
         ≡ text_fault (start message.entry)) }
 {
-    let snippet = owned(alloc, message.snippet)?;
+    let snippet = owned_string(alloc, message.snippet)?;
     let mut parser = Parser::new(
         alloc,
         message.text,
@@ -216,7 +216,7 @@ fn push_placeholders<'a>(
     ensures { OnOk result (map seen_fault faults.new.items ≡ map seen_fault faults.old.items
         ++ faults_or (known_names message.entry.parameters) (start message.entry) None) }
 {
-    let snippet = owned(alloc, message.snippet)?;
+    let snippet = owned_string(alloc, message.snippet)?;
     let Reading { pieces, parser } = read_all(
         alloc,
         message.text,

@@ -65,11 +65,12 @@ nothing-seen (Some g) e = absurd cc
 pub task_of-literal : (o : Option DeclaredTask) (t : DeclaredTask) (mode : Mode) (literal : Bool)
     (a : Option Task) → option_map seen_task o ≡ a → o ≡ Some t
     → a ≡ Some (record { mode = mode; is_literal = literal; given = None })
-    → (t.is_literal ≡ literal) × (t.given ≡ None)
+    → (t.is_literal ≡ literal) × (t.arguments ≡ None)
 task_of-literal o t mode literal a seen is task_of =
     let same = same_Some (seen_task t) (record { mode = mode; is_literal = literal; given = None })
     (ap (option_map seen_task) (sym is) ∙ seen ∙ task_of) in
-    (ap (λ (a : Task). a.is_literal) same, nothing-seen t.given (ap (λ (a : Task). a.given) same))
+    (ap (λ (a : Task). a.is_literal) same,
+    nothing-seen t.arguments (ap (λ (a : Task). a.given) same))
 
 pub empty-read : (remaining : Option (List ℕ)) (items slice text : List ℕ) → remaining ≡ Some []
     → IfSome remaining (λ input. items ≡ input)
@@ -90,7 +91,7 @@ nothing_found (Some y) x bs literal e short found is =
 -- the result of the program
 pub empty-listed : (t : DeclaredTask) (x : Listing) (bs : List ℕ)
     → bs ≡ []
-    → t.given ≡ None
+    → t.arguments ≡ None
     → (bs ≡ [] → t.is_literal ≡ true
     → ◌≡◌ {A = Result Listing RunFault} (Ok x) (Err NotLiteral))
     → (s : Source) × IsSourceOf t.is_literal (chars bs) s

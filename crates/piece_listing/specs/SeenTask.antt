@@ -22,5 +22,5 @@ abbrev pub seen_task : DeclaredTask → Task
 seen_task t = record {
   mode = seen_mode t.mode;
   is_literal = t.is_literal;
-  given = option_map seen_given t.given;
+  given = option_map seen_given t.arguments;
 }

@@ -37,13 +37,13 @@ fn next_piece<'a>(
 /// Appends the line of a piece. Returns `Err` if an allocation fails.
 fn put_taken(
     out: &mut String,
-    taken: &PieceKind<'_>,
+    piece: &PieceKind<'_>,
     argument: &Argument<'_>,
 ) -> Result<(), AllocError>
     ensures { OnOk result (string_bytes out.new ≡ string_bytes out.old
-        ++ piece_line (seen_taken argument.now taken.now)) }
+        ++ piece_line (seen_taken argument.now piece.now)) }
 {
-    match taken {
+    match piece {
         PieceKind::Lit(text) => put_literal(out, text)?,
         PieceKind::NextArgument => put_argument(out, argument)?,
     }
@@ -55,32 +55,32 @@ fn put_taken(
 fn add_uses<'a>(
     uses: &mut Uses<'a>,
     compares: bool,
-    taken: &PieceKind<'a>,
+    piece: &PieceKind<'a>,
     argument: &Argument<'a>,
 ) -> Result<(), AllocError>
     ensures { OnOk result (IsTrue compares → (us : List Use) → Holds us uses.old
-        → Holds (us ++ piece_uses (seen_taken argument.now taken.now)) uses.new) }
+        → Holds (us ++ piece_uses (seen_taken argument.now piece.now)) uses.new) }
 {
-    if compares && matches!(taken, PieceKind::NextArgument) {
+    if compares && matches!(piece, PieceKind::NextArgument) {
         uses.add(argument)?;
     }
     Ok(())
 }
 
 /// Appends the lines of the pieces of a parser up to the first call that returns `None`, and adds
-/// the arguments that they use to `used` if `compares` is set. Returns `Err` if an allocation
+/// the arguments that they use to `all_uses` if `compares` is set. Returns `Err` if an allocation
 /// fails.
 pub fn put_calls<'a>(
     out: &mut String,
-    used: &mut Uses<'a>,
+    all_uses: &mut Uses<'a>,
     compares: bool,
     parser: &mut Parser<'a>,
 ) -> Result<(), AllocError>
     ensures lines { OnOk result (string_bytes out.new ≡ string_bytes out.old
         ++ flat_map piece_line (pieces_in parser.old.world (pieces_of (calls parser.old)))) }
-    ensures used { OnOk result (IsTrue compares → (us : List Use) → Holds us used.old
+    ensures used { OnOk result (IsTrue compares → (us : List Use) → Holds us all_uses.old
         → Holds (us ++ uses (pieces_in parser.old.world (pieces_of (calls parser.old))))
-        used.new) }
+        all_uses.new) }
     ensures state { OnOk result (parser.new ≡ after_all parser.old (calls parser.old)) }
     ensures empty { parser.old.rest ≡ [] → parser.old.world.has_source ≡ false → IsOk result }
 {
@@ -91,7 +91,7 @@ pub fn put_calls<'a>(
     };
     while let Some(taken) = next_piece(parser, &mut argument)? {
         put_taken(out, &taken, &argument)?;
-        add_uses(used, compares, &taken, &argument)?;
+        add_uses(all_uses, compares, &taken, &argument)?;
     }
     Ok(())
 }

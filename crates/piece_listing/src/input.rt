@@ -64,22 +64,22 @@ fn put_ends(
 fn list_calls<'a>(
     alloc: Global,
     parser: &mut Parser<'a>,
-    given: Option<GivenArguments<'a>>,
+    arguments: Option<GivenArguments<'a>>,
 ) -> Result<Listing, AllocError>
     ensures lines { IfOk result (λ x.
         let ps = pieces_in parser.old.world (pieces_of (calls parser.old)) in
         let es = (after_all parser.old (calls parser.old)).errors in
-        (r : ReportValue) × IsReportFor (option_map seen_given given.entry) ps r
+        (r : ReportValue) × IsReportFor (option_map seen_given arguments.entry) ps r
         × ◌≡◌ {A = List ℕ × Bool} (string_bytes x.lines, x.has_ends)
         (listing ps es r, nat_lt 0 (length es) || has_entries r)) }
     ensures empty { parser.old.rest ≡ [] → parser.old.world.has_source ≡ false
-        → (after_all parser.old (calls parser.old)).errors ≡ [] → given.entry ≡ None
+        → (after_all parser.old (calls parser.old)).errors ≡ [] → arguments.entry ≡ None
         → IsOk result }
 {
     let mut lines = String::new(alloc);
     let mut used = Uses::new(alloc);
-    put_calls(&mut lines, &mut used, given.is_some(), parser)?;
-    let report = report_for(alloc, &used, given)?;
+    put_calls(&mut lines, &mut used, arguments.is_some(), parser)?;
+    let report = report_for(alloc, &used, arguments)?;
     let has_ends = put_ends(&mut lines, parser.errors(), &report)?;
     Ok(Listing { lines, has_ends })
 }
@@ -100,10 +100,10 @@ fn list_source(
     // For an empty text, only the last line of a source literal and a report may allocate.
     ensures empty { text.now ≡ []
         → (HasSource (chars text.now) style (seen_snippet snippet) false → ⊥)
-        → task.entry.given ≡ None → IsOk result }
+        → task.entry.arguments ≡ None → IsOk result }
 {
     let mut parser = Parser::new(alloc, text, style, snippet, false, task.mode)?;
-    let listed = list_calls(alloc, &mut parser, task.given)?;
+    let listed = list_calls(alloc, &mut parser, task.arguments)?;
     Ok(listed)
 }
 
@@ -157,7 +157,7 @@ pub fn list_input(alloc: Global, input: &str, task: Task<'_>) -> Result<Listing,
     ensures not_words { IfErr result (λ fault. fault ≢ Words) }
     ensures not_long { IfErr result (λ fault. fault ≢ TooLong) }
     ensures is_text { IfErr result (λ fault. fault ≢ NotText) }
-    ensures empty { input.now ≡ [] → task.entry.is_literal ≡ false → task.entry.given ≡ None
+    ensures empty { input.now ≡ [] → task.entry.is_literal ≡ false → task.entry.arguments ≡ None
         → IsOk result }
     ensures empty_literal { input.now ≡ [] → task.entry.is_literal ≡ true
         → result ≡ Err NotLiteral }

@@ -16,7 +16,7 @@ pub struct Task<'a> {
     /// Whether the input is a string literal.
     pub is_literal: bool,
     /// The list of arguments to compare the pieces with, if there is one.
-    pub given: Option<GivenArguments<'a>>,
+    pub arguments: Option<GivenArguments<'a>>,
 }
 
 /// Returns the mode that a word names, or `None` if it names none.
@@ -38,15 +38,19 @@ fn mode_named(word: &str) -> Option<ParseMode>
 }
 
 /// Returns the task with the mode that `word` names, or `None` if it names none.
-fn task_in<'a>(word: &str, is_literal: bool, given: Option<GivenArguments<'a>>) -> Option<Task<'a>>
+fn task_in<'a>(
+    word: &str,
+    is_literal: bool,
+    arguments: Option<GivenArguments<'a>>,
+) -> Option<Task<'a>>
     ensures { option_map seen_task result
-        ≡ task is_literal (option_map seen_given given.entry) (mode_named word.now) }
+        ≡ task is_literal (option_map seen_given arguments.entry) (mode_named word.now) }
 {
     let mode = mode_named(word)?;
     Some(Task {
         mode,
         is_literal,
-        given,
+        arguments,
     })
 }
 

@@ -132,16 +132,16 @@ pub fn lacked_by<'a>(
 pub fn unused_names<'a>(
     alloc: Global,
     names: &[&'a str],
-    used: &Names<'a>,
+    uses: &Names<'a>,
 ) -> Result<Vec<&'a str>, AllocError>
     ensures unused { IfOk result (λ v. (ys : List Text)
-        → ((t : Text) → is_known used.now t ≡ list_any (bytes_eq t) ys)
+        → ((t : Text) → is_known uses.now t ≡ list_any (bytes_eq t) ys)
         → AreFirsts (texts names.now) ys (texts v.items)) }
     ensures empty { names.now ≡ [] → IsOk result }
 {
     let mut unused = no_names(alloc);
     for name in names {
-        if !has_name(&used.list, &used.later, name) {
+        if !has_name(&uses.list, &uses.later, name) {
             insert_name(&mut unused, name)?;
         }
     }

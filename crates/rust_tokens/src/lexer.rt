@@ -178,15 +178,15 @@ pub fn skip_head(text: &str) -> &str
 
 /// Adds a token of this kind unless it is empty. Returns `Err` if an allocation fails.
 fn add_unless_empty(
-    found: &mut Vec<Token>,
+    tokens: &mut Vec<Token>,
     kind: Kind,
     start: usize,
     end: usize,
 ) -> Result<(), AllocError>
-    ensures { IfOk result (λ _. found.new.items ≡ found.old.items ++ between kind start end) }
+    ensures { IfOk result (λ _. tokens.new.items ≡ tokens.old.items ++ between kind start end) }
 {
     if start < end {
-        found.push(Token {
+        tokens.push(Token {
             kind,
             span: start..end,
             suffix_start: end,

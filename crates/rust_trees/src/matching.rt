@@ -39,48 +39,48 @@ pub struct Matching {
 }
 
 /// Adds a closing delimiter. Returns `Err` if an allocation fails.
-fn close(found: &mut Matching, delimiter: Delimiter) -> Result<(), AllocError>
-    requires { (w : List Leaf) × IsMatched w found.old }
-    ensures { IfOk result (λ _. (w : List Leaf) (x : Leaf) → IsMatched w found.old
-        → side x ≡ Side.Closes delimiter → IsMatched (w ++ x ∷ []) found.new) }
+fn close(matching: &mut Matching, delimiter: Delimiter) -> Result<(), AllocError>
+    requires { (w : List Leaf) × IsMatched w matching.old }
+    ensures { IfOk result (λ _. (w : List Leaf) (x : Leaf) → IsMatched w matching.old
+        → side x ≡ Side.Closes delimiter → IsMatched (w ++ x ∷ []) matching.new) }
 {
-    let index = found.partners.len();
-    if let Some(top) = found.openings.pop() {
+    let index = matching.partners.len();
+    if let Some(top) = matching.openings.pop() {
         if is_same(top.delimiter, delimiter) {
-            found.partners[top.at] = Some(index);
-            found.partners.push(Some(top.at))?;
+            matching.partners[top.at] = Some(index);
+            matching.partners.push(Some(top.at))?;
             return Ok(());
         }
     }
-    found.openings.clear();
-    found.unexpected = found.unexpected.or(Some(index));
-    found.partners.push(None)?;
+    matching.openings.clear();
+    matching.unexpected = matching.unexpected.or(Some(index));
+    matching.partners.push(None)?;
     Ok(())
 }
 
 /// Adds a token. Returns `Err` if an allocation fails.
-pub fn add(found: &mut Matching, token: &Token<'_>) -> Result<(), AllocError>
-    requires { (w : List Leaf) × IsMatched w found.old }
-    ensures { IfOk result (λ _. (w : List Leaf) → IsMatched w found.old
-        → IsMatched (w ++ leaf token.now ∷ []) found.new) }
+pub fn add(matching: &mut Matching, token: &Token<'_>) -> Result<(), AllocError>
+    requires { (w : List Leaf) × IsMatched w matching.old }
+    ensures { IfOk result (λ _. (w : List Leaf) → IsMatched w matching.old
+        → IsMatched (w ++ leaf token.now ∷ []) matching.new) }
 {
     match token.side() {
-        Side::Neither => found.partners.push(None)?,
+        Side::Neither => matching.partners.push(None)?,
         Side::Opens(delimiter) => {
-            let at = found.partners.len();
-            found.openings.push(Opening { at, delimiter })?;
-            found.partners.push(None)?;
+            let at = matching.partners.len();
+            matching.openings.push(Opening { at, delimiter })?;
+            matching.partners.push(None)?;
         }
-        Side::Closes(delimiter) => close(found, delimiter)?,
+        Side::Closes(delimiter) => close(matching, delimiter)?,
     }
     Ok(())
 }
 
 /// Returns whether no delimiter may still be closed.
-pub fn is_closed(found: &Matching) -> bool
-    ensures { IsTrue result → found.now.openings.items ≡ [] }
+pub fn is_closed(matching: &Matching) -> bool
+    ensures { IsTrue result → matching.now.openings.items ≡ [] }
 {
-    found.openings.is_empty()
+    matching.openings.is_empty()
 }
 
 /// Returns the pairs of delimiters in these tokens. Returns `Err` if an allocation fails.

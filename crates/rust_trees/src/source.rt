@@ -33,14 +33,14 @@ impl<'a> Model for Source<'a> {
 }
 
 /// Returns tokens with the pairs that were found among them.
-fn source_of<'a>(tokens: Vec<Token<'a>>, found: Matching) -> Source<'a>
-    requires { IsMatched (map leaf tokens.items) found }
+fn source_of<'a>(tokens: Vec<Token<'a>>, matching: Matching) -> Source<'a>
+    requires { IsMatched (map leaf tokens.items) matching }
     ensures { result ≡ map leaf tokens.entry.items }
 {
-    let first_break = break_of(found.unexpected, found.openings);
+    let first_break = break_of(matching.unexpected, matching.openings);
     Source {
         tokens,
-        partners: found.partners,
+        partners: matching.partners,
         first_break,
     }
 }

@@ -34,7 +34,7 @@ fn copies(edits: &[CallEdit]) -> bool
     ensures { result ≡ copies (map seen_edit edits.now) }
 {
     for edit in edits {
-        if edit.copied.is_some() {
+        if edit.copied_spot.is_some() {
             return true;
         }
     }

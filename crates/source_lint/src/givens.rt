@@ -59,7 +59,7 @@ fn variable_of<'a>(tokens: &[Token<'a>], argument: &Argument) -> Option<&'a str>
 }
 
 /// Returns an argument as placeholders refer to it.
-fn given<'a>(tokens: &[Token<'a>], argument: &Argument) -> FormatArgument<'a>
+fn format_argument<'a>(tokens: &[Token<'a>], argument: &Argument) -> FormatArgument<'a>
     ensures { seen_given result ≡ given (map leaf tokens.now) argument.now }
 {
     FormatArgument {
@@ -79,7 +79,7 @@ pub fn givens<'a>(
 {
     let mut found = Vec::new(alloc);
     for argument in arguments {
-        found.push(given(tokens, argument))?;
+        found.push(format_argument(tokens, argument))?;
     }
     Ok(found)
 }

@@ -55,11 +55,11 @@ pub fn notes(
 }
 
 /// Appends the source of a place of a call, if there is one. Returns `Err` if an allocation fails.
-fn put_copied(out: &mut String, site: Site<'_, '_>, copied: Option<Spot>) -> Result<(), AllocError>
+fn put_copied(out: &mut String, site: Site<'_, '_>, spot: Option<Spot>) -> Result<(), AllocError>
     ensures { OnOk result ((s : List ℕ) × (string_bytes out.new ≡ string_bytes out.old ++ s)
-        × Copies copied s) }
+        × Copies spot s) }
 {
-    if let Some(spot) = copied {
+    if let Some(spot) = spot {
         let range = spot_range(site, spot);
         out.push_str(&site.text[range.start..range.end])?;
     }
@@ -72,7 +72,7 @@ fn edit_text(site: Site<'_, '_>, edit: CallEdit) -> Result<String, AllocError>
     ensures { IfOk result (λ t. HasText (seen_edit edit) (string_bytes t)) }
 {
     let mut text = edit.text;
-    put_copied(&mut text, site, edit.copied)?;
+    put_copied(&mut text, site, edit.copied_spot)?;
     text.push_str(edit.rest)?;
     Ok(text)
 }

@@ -37,24 +37,24 @@ pub struct Readings {
 /// findings. Returns `Err` if an allocation fails.
 pub fn read_calls<'a>(
     alloc: Global,
-    found: &mut Readings,
+    readings: &mut Readings,
     file: File<'_, 'a>,
     part: &Part<'a>,
     calls: &[Call],
 ) -> Result<(), AllocError>
     requires { (c : CallValue) → Contains calls.now c → IsPair part.now (c.name + 2) c.close }
     ensures read { OnOk result ((rs : List ReadingValue) × (xs : List FindingValue)
-        × (found.new.calls.items ≡ found.old.calls.items ++ rs)
-        × (found.new.findings.items ≡ found.old.findings.items ++ xs)
+        × (readings.new.calls.items ≡ readings.old.calls.items ++ rs)
+        × (readings.new.findings.items ≡ readings.old.findings.items ++ xs)
         × Gives (Reads (scope file.entry) file.entry.is_from_2021 part.now) calls.now rs xs) }
     ensures spans { OnOk result (All (HasSpans file.entry.text.now)
-        found.old.findings.items
-        → All (HasSpans file.entry.text.now) found.new.findings.items) }
+        readings.old.findings.items
+        → All (HasSpans file.entry.text.now) readings.new.findings.items) }
 {
     let mut rest = calls;
     while let Some((call, others)) = rest.split_first() {
-        let reading = read_call(alloc, &mut found.findings, file, part, call)?;
-        found.calls.push(reading)?;
+        let reading = read_call(alloc, &mut readings.findings, file, part, call)?;
+        readings.calls.push(reading)?;
         rest = others;
     }
     Ok(())

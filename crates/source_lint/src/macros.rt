@@ -48,18 +48,18 @@ fn begins_definition(word: Option<Token<'_>>, mark: Option<Token<'_>>) -> bool
 /// Adds the name of the macro that a token defines after two others, if it does. Returns `Err` if
 /// an allocation fails.
 fn put_definition<'a>(
-    found: &mut BTreeSet<&'a [u8]>,
-    before: Option<Token<'a>>,
+    names: &mut BTreeSet<&'a [u8]>,
+    previous: Option<Token<'a>>,
     last: Option<Token<'a>>,
     token: &Token<'a>,
 ) -> Result<(), AllocError>
-    ensures { OnOk result ((n : List ℕ) → list_any (bytes_eq n) (names_in found.new)
-        ≡ (list_any (bytes_eq n) (names_in found.old) || list_any (bytes_eq n)
-        (definition (option_map leaf before.entry) (option_map leaf last.entry)
+    ensures { OnOk result ((n : List ℕ) → list_any (bytes_eq n) (names_in names.new)
+        ≡ (list_any (bytes_eq n) (names_in names.old) || list_any (bytes_eq n)
+        (definition (option_map leaf previous.entry) (option_map leaf last.entry)
         (leaf token.now)))) }
 {
-    if begins_definition(before, last) && is_word(token) {
-        found.insert(word(token))?;
+    if begins_definition(previous, last) && is_word(token) {
+        names.insert(word(token))?;
     }
     Ok(())
 }

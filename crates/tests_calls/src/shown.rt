@@ -143,7 +143,7 @@ fn put_help(
     for edit in &help.edits {
         out.push(' ')?;
         put_spot(out, literal, places, edit.spot)?;
-        let (start, end) = match edit.copied {
+        let (start, end) = match edit.copied_spot {
             Some(spot) => range_of(literal, places, spot),
             None => (0, 0),
         };

@@ -8,7 +8,7 @@ use std::test::Fail;
 
 /// Returns a file of the edition 2021 with its calls inlined, or an empty text if it stays as it
 /// is.
-fn inlined(alloc: Global, text: &str) -> Result<String, AllocError> {
+fn inline_text(alloc: Global, text: &str) -> Result<String, AllocError> {
     let options = Options {
         table: Table::standard(alloc)?,
         is_from_2021: true,
@@ -43,9 +43,9 @@ fn files_with_calls_inlined(rt: HostRuntime) -> Result<(), Fail> {
         ),
     ];
     for (text, expected) in rows {
-        let made = inlined(alloc, text)?;
+        let made = inline_text(alloc, text)?;
         assert_eq!(&rt; made.as_str(), expected, "{text}");
-        let again = inlined(alloc, expected)?;
+        let again = inline_text(alloc, expected)?;
         assert_eq!(&rt; again.as_str(), "", "{text}");
     }
     Ok(())
@@ -72,7 +72,7 @@ fn files_that_stay(rt: HostRuntime) -> Result<(), Fail> {
         "print!(\"{}\"a, x);",
     ];
     for text in rows {
-        let made = inlined(alloc, text)?;
+        let made = inline_text(alloc, text)?;
         assert_eq!(&rt; made.as_str(), "", "{text}");
     }
     Ok(())
@@ -82,11 +82,11 @@ fn files_that_stay(rt: HostRuntime) -> Result<(), Fail> {
 fn a_file_out_of_memory_is_inlined_again(rt: HostRuntime) -> Result<(), Fail> {
     let alloc = rt.alloc();
     let text = "print!(\"{}\r\n{} {}\", x, format!(\"{}\", y), z);";
-    let made = match inlined(alloc, text) {
+    let made = match inline_text(alloc, text) {
         Ok(made) => made,
         Err(_) => {
             println!(rt; "refused")?;
-            inlined(alloc, text)?
+            inline_text(alloc, text)?
         }
     };
     let expected = "print!(\"{x}\r\n{} {z}\", format!(\"{y}\"));";

@@ -2,7 +2,7 @@
 
 use crate::rows::{NUMBERED, ROWS};
 use call_faults::FormatString;
-use inlined_arguments::{Argument, Call, Inlined, Left, inlined};
+use inlined_arguments::{Argument, Call, Inlined, Left, inline_arguments};
 use piece_listing::literal::{LiteralText, literal_text};
 use std::alloc::{AllocError, Global};
 use std::test::Fail;
@@ -112,7 +112,7 @@ fn said(alloc: Global, case: Case, literal: &str, list: &str) -> Result<String, 
         is_format_alone: case.is_format_alone,
         has_const_form: case.has_const_form,
     };
-    match inlined(alloc, call, case.allows_mixed)? {
+    match inline_arguments(alloc, call, case.allows_mixed)? {
         Ok(made) => after(alloc, &made, &arguments),
         Err(left) => String::from_str(alloc, name_of(left)),
     }

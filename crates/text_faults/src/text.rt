@@ -12,7 +12,7 @@ use std::alloc::{AllocError, Global};
 
 /// Returns the fault that is shown of those of a call up to `fault`, where `shown` is that of those
 /// before it.
-fn chosen<'a>(shown: Option<Fault<'a>>, fault: Fault<'a>) -> Option<Fault<'a>>
+fn choose<'a>(shown: Option<Fault<'a>>, fault: Fault<'a>) -> Option<Fault<'a>>
     ensures { (fs : List (FaultValue Place)) → option_map seen_fault shown.entry ≡ fault_shown fs
         → option_map seen_fault result ≡ fault_shown (fs ++ seen_fault fault.entry ∷ []) }
 {
@@ -25,12 +25,12 @@ fn chosen<'a>(shown: Option<Fault<'a>>, fault: Fault<'a>) -> Option<Fault<'a>>
 
 /// Returns of the faults of a call the one whose error comes first in the list of a parser, or
 /// `None` if there is none.
-fn shown(faults: Vec<Fault<'_>>) -> Option<Fault<'_>>
+fn shown_fault(faults: Vec<Fault<'_>>) -> Option<Fault<'_>>
     ensures { option_map seen_fault result ≡ fault_shown (map seen_fault faults.entry.items) }
 {
     let mut shown = None;
     for fault in faults {
-        shown = chosen(shown, fault);
+        shown = choose(shown, fault);
     }
     shown
 }
@@ -59,5 +59,5 @@ pub fn text_fault<'a>(
     ensures { IfOk result (λ o. option_map seen_fault o ≡ text_fault parser.old) }
 {
     let faults = first_faults(alloc, parser)?;
-    Ok(shown(faults))
+    Ok(shown_fault(faults))
 }

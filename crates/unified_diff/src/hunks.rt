@@ -48,7 +48,7 @@ fn is_shared(side: Side) -> bool
 /// Returns how many rows are before the first one that is in one text alone, or `None` if all are
 /// in both.
 #[tactic(auto, using(crate::proofs::Counts::shared_front))]
-fn unchanged(rows: &[Row<'_>]) -> Option<usize>
+fn first_change(rows: &[Row<'_>]) -> Option<usize>
     ensures { MatchOption result (are_shared rows.now ≡ true)
         (λ n. (n < length rows.now) × (are_shared (take n rows.now) ≡ true)) }
 {
@@ -87,11 +87,12 @@ fn put_number(out: &mut String, number: usize) -> Result<(), AllocError>
 /// Appends where the lines of a hunk are in a text: the number of the first line, and how many
 /// there are. Without a line the number is that of the line before. Returns `Err` if an allocation
 /// fails.
-fn put_extent(out: &mut String, before: usize, count: usize) -> Result<(), AllocError>
-    requires { before + count < 2 ^ 64 }
-    ensures { OnOk result (string_bytes out.new ≡ string_bytes out.old ++ extent before count) }
+fn put_extent(out: &mut String, lines_before: usize, count: usize) -> Result<(), AllocError>
+    requires { lines_before + count < 2 ^ 64 }
+    ensures { OnOk result (string_bytes out.new
+        ≡ string_bytes out.old ++ extent lines_before count) }
 {
-    let first = if count == 0 { before } else { before + 1 };
+    let first = if count == 0 { lines_before } else { lines_before + 1 };
     put_number(out, first)?;
     out.push_str(",")?;
     put_number(out, count)
@@ -141,33 +142,33 @@ fn put_rows(out: &mut String, rows: &[Row<'_>]) -> Result<(), AllocError>
 
 /// Appends a hunk of rows, with these numbers of lines before it. Returns `Err` if an allocation
 /// fails.
-fn put_hunk(out: &mut String, before: Numbers, rows: &[Row<'_>]) -> Result<(), AllocError>
-    requires old { before.old + old_count rows.now < 2 ^ 64 }
-    requires new { before.new + new_count rows.now < 2 ^ 64 }
+fn put_hunk(out: &mut String, numbers: Numbers, rows: &[Row<'_>]) -> Result<(), AllocError>
+    requires old { numbers.old + old_count rows.now < 2 ^ 64 }
+    requires new { numbers.new + new_count rows.now < 2 ^ 64 }
     ensures { OnOk result (string_bytes out.new
-        ≡ string_bytes out.old ++ hunk_text before.old before.new rows.now) }
+        ≡ string_bytes out.old ++ hunk_text numbers.old numbers.new rows.now) }
 {
     let inside = count(rows);
     out.push_str("@@ -")?;
-    put_extent(out, before.old, inside.old)?;
+    put_extent(out, numbers.old, inside.old)?;
     out.push_str(" +")?;
-    put_extent(out, before.new, inside.new)?;
+    put_extent(out, numbers.new, inside.new)?;
     out.push_str(" @@\n")?;
     put_rows(out, rows)
 }
 
 /// Returns the numbers of lines after rows.
 #[tactic(auto, using(crate::proofs::Counts::counts_fit))]
-fn after(before: Numbers, rows: &[Row<'_>]) -> Numbers
-    requires old { before.old + old_count rows.now < 2 ^ 64 }
-    requires new { before.new + new_count rows.now < 2 ^ 64 }
-    ensures old { result.old ≡ before.old + old_count rows.now }
-    ensures new { result.new ≡ before.new + new_count rows.now }
+fn numbers_after(numbers: Numbers, rows: &[Row<'_>]) -> Numbers
+    requires old { numbers.old + old_count rows.now < 2 ^ 64 }
+    requires new { numbers.new + new_count rows.now < 2 ^ 64 }
+    ensures old { result.old ≡ numbers.old + old_count rows.now }
+    ensures new { result.new ≡ numbers.new + new_count rows.now }
 {
     let inside = count(rows);
     Numbers {
-        old: before.old + inside.old,
-        new: before.new + inside.new,
+        old: numbers.old + inside.old,
+        new: numbers.new + inside.new,
     }
 }
 
@@ -178,14 +179,14 @@ fn put_hunks(out: &mut String, rows: &[Row<'_>]) -> Result<(), AllocError>
 {
     let mut rest = rows;
     let mut before = Numbers { old: 0, new: 0 };
-    while let Some(shared) = unchanged(rest) {
+    while let Some(shared) = first_change(rest) {
         let left_out = shared.saturating_sub(CONTEXT);
         let others = rest_after(rest, left_out);
         let length = hunk_len(others);
         let hunk = front(others, length);
-        let start = after(before, front(rest, left_out));
+        let start = numbers_after(before, front(rest, left_out));
         put_hunk(out, start, hunk)?;
-        before = after(start, hunk);
+        before = numbers_after(start, hunk);
         rest = rest_after(others, length);
     }
     Ok(())

@@ -120,7 +120,7 @@ fn read_unicode(rest: &mut Rest<'_>) -> Option<char>
 /// Returns the character that a backslash and this letter stand for, or `None` if they stand for
 /// none.
 #[inline(always)]
-fn escaped(letter: char) -> Option<char>
+fn simple_escape(letter: char) -> Option<char>
     ensures { result ≡ escaped letter }
 {
     match letter {
@@ -147,7 +147,7 @@ fn read_escape(rest: &mut Rest<'_>) -> Option<Option<char>>
         }
         'x' => Some(Some(read_byte(rest)?)),
         'u' => Some(Some(read_unicode(rest)?)),
-        letter => Some(Some(escaped(letter)?)),
+        letter => Some(Some(simple_escape(letter)?)),
     }
 }
 

@@ -57,16 +57,16 @@ fn compare<'a>(
 // requires { AllByRecursion (λ t. hashes t.style + length t.text.now + 2 < 2 ^ 64)
 //     templates.now }
 // ensures operands { IfOk result (λ x. map seen_operand x.operands.items
-//     ≡ slots_after [] (map seen_operand given.now)) }
+//     ≡ slots_after [] (map seen_operand operands.now)) }
 // ensures faults { IfOk result (λ x. map seen_fault x.faults.items
-//     ≡ asm_faults (map seen_template templates.now) (map seen_operand given.now)) }
+//     ≡ asm_faults (map seen_template templates.now) (map seen_operand operands.now)) }
 #[inline]
 pub fn asm_faults<'a>(
     templates: &[Template<'a>],
-    given: &[Operand<'a>],
+    operands: &[Operand<'a>],
 ) -> Result<AsmCall<'a>, AllocError> {
     let mut faults = Vec::new();
-    let operands = operands_of(&mut faults, given)?;
+    let operands = operands_of(&mut faults, operands)?;
     compare(&mut faults, templates, &operands)?;
     Ok(AsmCall {
         operands: operands.slots,

@@ -49,17 +49,17 @@ fn is_settled(marks: &[bool], index: usize, slot: &Operand<'_>) -> bool {
 }
 
 /// Adds the index of an operand, unless it is marked or has a register of its own.
-// ensures { OnOk result (left.new.items ≡ left.old.items
+// ensures { OnOk result (unused.new.items ≡ unused.old.items
 //     ++ unused_one (λ i. get_or marks.now i false) index (seen_operand slot.now)) }
 #[inline]
 fn push_unmarked(
-    left: &mut Vec<usize>,
+    unused: &mut Vec<usize>,
     marks: &[bool],
     index: usize,
     slot: &Operand<'_>,
 ) -> Result<(), AllocError> {
     if !is_settled(marks, index, slot) {
-        left.try_push(index)?;
+        unused.try_push(index)?;
     }
     Ok(())
 }
@@ -69,7 +69,7 @@ fn push_unmarked(
 // ensures { IfOk result (λ v. v.items
 //     ≡ unused_from (λ i. get_or marks.now i false) 0 (map seen_operand slots.now)) }
 #[inline]
-fn unmarked(slots: &[Operand<'_>], marks: &[bool]) -> Result<Vec<usize>, AllocError> {
+fn unmarked_operands(slots: &[Operand<'_>], marks: &[bool]) -> Result<Vec<usize>, AllocError> {
     let mut left = Vec::new();
     for (index, slot) in slots.iter().enumerate() {
         push_unmarked(&mut left, marks, index, slot)?;
@@ -147,7 +147,7 @@ pub(crate) fn check_unused<'a>(
     lookups: &[Lookup<'a>],
 ) -> Result<(), AllocError> {
     let marks = marks(operands, lookups)?;
-    let unused = unmarked(&operands.slots, &marks)?;
+    let unused = unmarked_operands(&operands.slots, &marks)?;
     push_unused(faults, unused)?;
     Ok(())
 }

@@ -224,16 +224,16 @@ pub(crate) fn count_unnamed(operands: &[Operand<'_>]) -> usize {
 }
 
 /// Returns operands as placeholders refer to them, and adds the faults of their list.
-// ensures held { IfOk result (λ a. Holds (slots_after [] (map seen_operand given.now)) a) }
+// ensures held { IfOk result (λ a. Holds (slots_after [] (map seen_operand list.now)) a) }
 // ensures outcome { OnOk result (map seen_fault faults.new.items ≡ map seen_fault faults.old.items
-//     ++ faults_from [] 0 (map seen_operand given.now)) }
+//     ++ faults_from [] 0 (map seen_operand list.now)) }
 #[inline]
 pub(crate) fn operands_of<'a>(
     faults: &mut Vec<AsmFault<'a>>,
-    given: &[Operand<'a>],
+    list: &[Operand<'a>],
 ) -> Result<Operands<'a>, AllocError> {
     let mut operands = no_operands();
-    for (index, operand) in given.iter().enumerate() {
+    for (index, operand) in list.iter().enumerate() {
         add(&mut operands, faults, index, *operand)?;
     }
     Ok(operands)

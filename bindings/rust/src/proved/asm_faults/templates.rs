@@ -26,7 +26,7 @@ pub struct Template<'a> {
 /// Returns a text as a string.
 // ensures { IfOk result (λ o. seen_snippet o ≡ option_map seen_text text.entry) }
 #[inline]
-fn owned(text: Option<&str>) -> Result<Option<String>, AllocError> {
+fn owned_string(text: Option<&str>) -> Result<Option<String>, AllocError> {
     match text {
         None => Ok(None),
         Some(text) => Ok(Some(String::made_from(text)?)),
@@ -39,7 +39,7 @@ fn owned(text: Option<&str>) -> Result<Option<String>, AllocError> {
 //     ≡ text_fault (start (seen_template template.entry))) }
 #[inline]
 fn fault_of<'a>(template: Template<'a>) -> Result<Option<Fault<'a>>, AllocError> {
-    let snippet = owned(template.snippet)?;
+    let snippet = owned_string(template.snippet)?;
     let mut parser = Parser::new(
         template.text,
         template.style,
@@ -66,7 +66,7 @@ fn push_template<'a>(
     index: usize,
     template: Template<'a>,
 ) -> Result<(), AllocError> {
-    let snippet = owned(template.snippet)?;
+    let snippet = owned_string(template.snippet)?;
     let Reading { pieces, parser } = read_all(
         template.text,
         template.style,

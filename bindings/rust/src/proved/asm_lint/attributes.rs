@@ -7,7 +7,7 @@
 use crate::proved::asm_lint::messages::{read_text, Item};
 use crate::proved::call_forms::parameters;
 use crate::proved::format_calls::{
-    arguments, closing, is_mark, is_text, is_text_leaf, token_at, Argument,
+    arguments, closing_token, is_mark, is_text, is_text_leaf, token_at, Argument,
 };
 use crate::proved::message_faults::names_of;
 use crate::proved::rust_trees::{Source, Token};
@@ -49,7 +49,7 @@ fn attribute_at(source: &Source<'_>, index: usize) -> Option<usize> {
     if !begins_attribute(source.tokens(), index) {
         return None;
     }
-    closing(source, index + 6)
+    closing_token(source, index + 6)
 }
 
 /// Returns whether two tokens from one on are of the front of an item, of which the second opens a
@@ -82,7 +82,7 @@ fn is_modifier(tokens: &[Token<'_>], index: usize) -> bool {
 fn after_front(source: &Source<'_>, index: usize) -> Option<usize> {
     let tokens = source.tokens();
     if opens_front(tokens, index) {
-        return match closing(source, index + 1) {
+        return match closing_token(source, index + 1) {
             Some(close) => Some(close + 1),
             None => None,
         };
@@ -145,12 +145,12 @@ fn counts(tokens: &[Token<'_>], has_message: bool, has_label: bool, option: &Arg
 
 /// Adds the literal that an option sets, if it counts.
 // requires { option.now.start < length tokens.now }
-// ensures { OnOk result (map leaf found.new.items ≡ map leaf found.old.items
+// ensures { OnOk result (map leaf literals.new.items ≡ map leaf literals.old.items
 //     ++ literal_list (counts (map leaf tokens.now) has_message has_label option.now)
 //     (literal_of (map leaf tokens.now) option.now)) }
 #[inline]
 fn put_literal<'a>(
-    found: &mut Vec<Token<'a>>,
+    literals: &mut Vec<Token<'a>>,
     tokens: &[Token<'a>],
     has_message: bool,
     has_label: bool,
@@ -158,7 +158,7 @@ fn put_literal<'a>(
 ) -> Result<(), AllocError> {
     if let Some(literal) = literal_of(tokens, option) {
         if counts(tokens, has_message, has_label, option) {
-            found.try_push(literal)?;
+            literals.try_push(literal)?;
         }
     }
     Ok(())

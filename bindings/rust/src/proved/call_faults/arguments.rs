@@ -24,7 +24,7 @@ pub struct FormatArgument<'a> {
 pub(crate) struct Kept<'a> {
     /// Its index among all that are given.
     pub index: usize,
-    pub given: FormatArgument<'a>,
+    pub argument: FormatArgument<'a>,
 }
 
 /// The arguments that count.
@@ -70,10 +70,10 @@ pub(crate) fn insert<'a>(
 /// Returns the index of the argument with the name that an argument has, or `None` if it has none
 /// or there is none.
 // ensures { (ks : List KeptValue) → Holds ks arguments.now
-//     → result ≡ first_of ks (seen_given given.now) }
+//     → result ≡ first_of ks (seen_given argument.now) }
 #[inline]
-fn first_of<'a>(arguments: &Arguments<'a>, given: &FormatArgument<'a>) -> Option<usize> {
-    match given.name {
+fn first_of<'a>(arguments: &Arguments<'a>, argument: &FormatArgument<'a>) -> Option<usize> {
+    match argument.name {
         None => None,
         Some(name) => index_of(&arguments.indices, name),
     }
@@ -81,49 +81,49 @@ fn first_of<'a>(arguments: &Arguments<'a>, given: &FormatArgument<'a>) -> Option
 
 /// Adds an argument to those that count.
 // ensures { OnOk result ((ks : List KeptValue) → Holds ks arguments.old
-//     → first_of ks (seen_given given.entry) ≡ None
-//     → Holds (ks ++ record { index = index; given = seen_given given.entry } ∷ [])
+//     → first_of ks (seen_given argument.entry) ≡ None
+//     → Holds (ks ++ record { index = index; given = seen_given argument.entry } ∷ [])
 //     arguments.new) }
 #[inline]
 fn keep<'a>(
     arguments: &mut Arguments<'a>,
     index: usize,
-    given: FormatArgument<'a>,
+    argument: FormatArgument<'a>,
 ) -> Result<(), AllocError> {
-    if let Some(name) = given.name {
+    if let Some(name) = argument.name {
         insert(&mut arguments.indices, name, index)?;
         arguments.has_names = true;
     }
-    arguments.list.try_push(Kept { index, given })?;
+    arguments.list.try_push(Kept { index, argument })?;
     Ok(())
 }
 
 /// Adds an argument to those that count, unless an earlier one has its name, which is then a fault.
 // ensures kept { OnOk result ((ks : List KeptValue) → Holds ks arguments.old
-//     → Holds (with_given ks index (seen_given given.entry)) arguments.new) }
+//     → Holds (with_given ks index (seen_given argument.entry)) arguments.new) }
 // ensures outcome { OnOk result ((ks : List KeptValue) → Holds ks arguments.old
 //     → map seen_fault faults.new.items ≡ map seen_fault faults.old.items
-//     ++ repeated index (first_of ks (seen_given given.entry))) }
+//     ++ repeated index (first_of ks (seen_given argument.entry))) }
 #[inline]
 fn add<'a>(
     arguments: &mut Arguments<'a>,
     faults: &mut Vec<CallFault<'a>>,
     index: usize,
-    given: FormatArgument<'a>,
+    argument: FormatArgument<'a>,
 ) -> Result<(), AllocError> {
-    match first_of(arguments, &given) {
+    match first_of(arguments, &argument) {
         Some(first) => faults.try_push(CallFault::RepeatedName { index, first })?,
-        None => keep(arguments, index, given)?,
+        None => keep(arguments, index, argument)?,
     }
     Ok(())
 }
 
 /// Returns whether an argument has no name, although one that counts has one.
 // ensures { (ks : List KeptValue) → Holds ks arguments.now
-//     → result ≡ is_late ks (seen_given given.now) }
+//     → result ≡ is_late ks (seen_given argument.now) }
 #[inline]
-fn is_late<'a>(arguments: &Arguments<'a>, given: &FormatArgument<'a>) -> bool {
-    given.name.is_none() && arguments.has_names
+fn is_late<'a>(arguments: &Arguments<'a>, argument: &FormatArgument<'a>) -> bool {
+    argument.name.is_none() && arguments.has_names
 }
 
 /// Returns the indices of those of arguments that have a name.
@@ -132,7 +132,7 @@ fn is_late<'a>(arguments: &Arguments<'a>, given: &FormatArgument<'a>) -> bool {
 fn named_of(list: &[Kept<'_>]) -> Result<Vec<usize>, AllocError> {
     let mut named = Vec::new();
     for kept in list {
-        if kept.given.name.is_some() {
+        if kept.argument.name.is_some() {
             named.try_push(kept.index)?;
         }
     }
@@ -142,18 +142,18 @@ fn named_of(list: &[Kept<'_>]) -> Result<Vec<usize>, AllocError> {
 /// Returns the arguments that count, or `None` if the first one without a name after one with a
 /// name ends the list. Adds the faults of the list.
 // ensures outcome { OnOk result (map seen_fault faults.new.items ≡ map seen_fault faults.old.items
-//     ++ list_faults [] 0 (map seen_given given.now)) }
+//     ++ list_faults [] 0 (map seen_given call_arguments.now)) }
 // ensures some { IfOk result (λ o. IfSome o (λ a.
-//     Holds (kept_after [] 0 (map seen_given given.now)) a)) }
+//     Holds (kept_after [] 0 (map seen_given call_arguments.now)) a)) }
 // ensures ends { IfOk result (λ o.
-//     list_any is_last (list_faults [] 0 (map seen_given given.now)) ≡ not (is_some o)) }
+//     list_any is_last (list_faults [] 0 (map seen_given call_arguments.now)) ≡ not (is_some o)) }
 #[inline]
 pub(crate) fn arguments_of<'a>(
     faults: &mut Vec<CallFault<'a>>,
-    given: &[FormatArgument<'a>],
+    call_arguments: &[FormatArgument<'a>],
 ) -> Result<Option<Arguments<'a>>, AllocError> {
     let mut arguments = no_arguments();
-    for (index, argument) in given.iter().enumerate() {
+    for (index, argument) in call_arguments.iter().enumerate() {
         if is_late(&arguments, argument) {
             let named = named_of(&arguments.list)?;
             faults.try_push(CallFault::PositionalAfterNamed { index, named })?;

@@ -34,7 +34,7 @@ pub struct FormatString<'a> {
 /// A call that was checked.
 pub struct CallReport<'a> {
     /// The arguments that are given.
-    pub given: &'a [FormatArgument<'a>],
+    pub arguments: &'a [FormatArgument<'a>],
     /// The indices of the arguments that count: of those whose name is not that of an earlier one.
     /// Empty if an argument without a name after one with a name ended the check.
     pub kept: Vec<usize>,
@@ -51,7 +51,7 @@ pub struct CallReport<'a> {
 /// Returns a text as a string.
 // ensures { IfOk result (λ o. seen_snippet o ≡ option_map seen_text text.entry) }
 #[inline]
-fn owned(text: Option<&str>) -> Result<Option<String>, AllocError> {
+fn owned_string(text: Option<&str>) -> Result<Option<String>, AllocError> {
     match text {
         None => Ok(None),
         Some(text) => Ok(Some(String::made_from(text)?)),
@@ -63,7 +63,7 @@ fn owned(text: Option<&str>) -> Result<Option<String>, AllocError> {
 // ensures { IfOk result (λ o. option_map seen_text_fault o ≡ text_fault (start string.entry)) }
 #[inline]
 fn fault_of<'a>(string: FormatString<'a>) -> Result<Option<Fault<'a>>, AllocError> {
-    let snippet = owned(string.snippet)?;
+    let snippet = owned_string(string.snippet)?;
     let mut parser = Parser::new(
         string.text,
         string.style,
@@ -79,20 +79,21 @@ fn fault_of<'a>(string: FormatString<'a>) -> Result<Option<Fault<'a>>, AllocErro
 /// the arguments that count into `kept`. `is_read` is whether the string is in the grammar.
 // requires { hashes string.style + length string.text.now + 2 < 2 ^ 64 }
 // ensures kept { OnOk result (kept.old.items ≡ []
-//     → kept.new.items ≡ kept_indices (map seen_given given.now)) }
+//     → kept.new.items ≡ kept_indices (map seen_given call_arguments.now)) }
 // ensures faults { IfOk result (λ v. is_none (text_fault (start string.entry)) ≡ is_read
-//     → map seen_fault v.items ≡ call_faults string.entry.captures (map seen_given given.now)
-//     (text_fault (start string.entry)) (map seen pieces.now)) }
+//     → map seen_fault v.items ≡ call_faults string.entry.captures
+//     (map seen_given call_arguments.now) (text_fault (start string.entry))
+//     (map seen pieces.now)) }
 #[inline]
 fn faults_of<'a>(
     string: FormatString<'a>,
     is_read: bool,
     pieces: &[Piece<'a>],
-    given: &[FormatArgument<'a>],
+    call_arguments: &[FormatArgument<'a>],
     kept: &mut Vec<usize>,
 ) -> Result<Vec<CallFault<'a>>, AllocError> {
     let mut faults = Vec::new();
-    let Some(mut arguments) = arguments_of(&mut faults, given)? else {
+    let Some(mut arguments) = arguments_of(&mut faults, call_arguments)? else {
         return Ok(faults);
     };
     *kept = indices_of(&arguments.list)?;
@@ -107,7 +108,7 @@ fn faults_of<'a>(
         &mut faults,
         string.captures,
         &mut arguments,
-        given.len(),
+        call_arguments.len(),
         &lookups,
     )?;
     Ok(faults)
@@ -124,22 +125,23 @@ fn faults_of<'a>(
 // ensures walk { IfOk result (λ x. let s = start string.entry in
 //     (map seen x.pieces.items ≡ pieces_in s.world (pieces_of (calls s)))
 //     × (x.parser ≡ after_all s (calls s))) }
-// ensures given { IfOk result (λ x. x.given ≡ given.entry) }
-// ensures kept { IfOk result (λ x. x.kept.items ≡ kept_indices (map seen_given given.now)) }
+// ensures given { IfOk result (λ x. x.arguments ≡ arguments.entry) }
+// ensures kept { IfOk result (λ x. x.kept.items ≡ kept_indices (map seen_given arguments.now)) }
 // ensures counts { IfOk result (λ x. x.counts.items ≡ counts_before 0 (map seen x.pieces.items)) }
 // ensures faults { IfOk result (λ x. map seen_fault x.faults.items
-//     ≡ call_faults string.entry.captures (map seen_given given.now)
+//     ≡ call_faults string.entry.captures (map seen_given arguments.now)
 //     (text_fault (start string.entry)) (map seen x.pieces.items)) }
 // Nothing but warnings is found exactly if the call is clean.
 // ensures clean { IfOk result (λ x. All (λ f. IsTrue (is_warning f)) (map seen_fault
 //     x.faults.items)
-//     ↔ IsClean string.entry.captures (map seen_given given.now) (chars string.entry.text.now)) }
+//     ↔ IsClean string.entry.captures (map seen_given arguments.now)
+//     (chars string.entry.text.now)) }
 #[inline]
 pub fn call_faults<'a>(
     string: FormatString<'a>,
-    given: &'a [FormatArgument<'a>],
+    arguments: &'a [FormatArgument<'a>],
 ) -> Result<CallReport<'a>, AllocError> {
-    let snippet = owned(string.snippet)?;
+    let snippet = owned_string(string.snippet)?;
     let Reading { pieces, parser } = read_all(
         string.text,
         string.style,
@@ -149,10 +151,10 @@ pub fn call_faults<'a>(
     )?;
     let is_read = parser.errors().is_empty();
     let mut kept = Vec::new();
-    let faults = faults_of(string, is_read, &pieces, given, &mut kept)?;
+    let faults = faults_of(string, is_read, &pieces, arguments, &mut kept)?;
     let counts = counts_before(&pieces)?;
     Ok(CallReport {
-        given,
+        arguments,
         kept,
         pieces,
         counts,

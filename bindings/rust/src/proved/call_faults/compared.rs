@@ -47,7 +47,7 @@ fn marks<'a>(
 /// Returns the reference of a lookup, if it is one by an index that is at least `count`.
 // ensures { result ≡ beyond count (seen_lookup lookup.now) }
 #[inline]
-fn beyond(count: usize, lookup: &Lookup<'_>) -> Option<Missing> {
+fn reference_beyond(count: usize, lookup: &Lookup<'_>) -> Option<Missing> {
     match *lookup {
         Lookup::Refer(reference, Wanted::Index(index)) if index >= count => {
             Some(Missing { reference, index })
@@ -63,7 +63,7 @@ fn beyond(count: usize, lookup: &Lookup<'_>) -> Option<Missing> {
 fn references_from(count: usize, lookups: &[Lookup<'_>]) -> Result<Vec<Missing>, AllocError> {
     let mut missing = Vec::new();
     for lookup in lookups {
-        if let Some(reference) = beyond(count, lookup) {
+        if let Some(reference) = reference_beyond(count, lookup) {
             missing.try_push(reference)?;
         }
     }
@@ -74,7 +74,10 @@ fn references_from(count: usize, lookups: &[Lookup<'_>]) -> Result<Vec<Missing>,
 // ensures { IfOk result (λ v. map seen_kept v.items
 //     ≡ filter (λ k. not (get_or marks.now k.index false)) (map seen_kept arguments.now)) }
 #[inline]
-fn unmarked<'a>(arguments: &[Kept<'a>], marks: &[bool]) -> Result<Vec<Kept<'a>>, AllocError> {
+fn unmarked_arguments<'a>(
+    arguments: &[Kept<'a>],
+    marks: &[bool],
+) -> Result<Vec<Kept<'a>>, AllocError> {
     let mut left = Vec::new();
     for kept in arguments {
         if !matches!(marks.get(kept.index), Some(true)) {
@@ -161,7 +164,7 @@ fn positions_of<'a>(lookups: &[Lookup<'a>]) -> Result<BTreeMap<&'a str, usize>, 
 //     (λ w. is_some (found_in positions.now w)) (seen_kept kept.now).given.variable false) }
 #[inline]
 fn is_redundant<'a>(positions: &BTreeMap<&'a str, usize>, kept: &Kept<'a>) -> bool {
-    match (kept.given.name, kept.given.variable) {
+    match (kept.argument.name, kept.argument.variable) {
         (None, Some(variable)) => index_of(positions, variable).is_some(),
         _ => false,
     }
@@ -169,15 +172,15 @@ fn is_redundant<'a>(positions: &BTreeMap<&'a str, usize>, kept: &Kept<'a>) -> bo
 
 /// Returns the indices of the redundant ones of arguments that no lookup means.
 // ensures { IfOk result (λ v. v.items ≡ indices
-//     (filter (is_redundant (map seen_lookup lookups.now)) (map seen_kept left.now))) }
+//     (filter (is_redundant (map seen_lookup lookups.now)) (map seen_kept unused.now))) }
 #[inline]
-fn redundant_of<'a>(left: &[Kept<'a>], lookups: &[Lookup<'a>]) -> Result<Vec<usize>, AllocError> {
+fn redundant_of<'a>(unused: &[Kept<'a>], lookups: &[Lookup<'a>]) -> Result<Vec<usize>, AllocError> {
     let mut redundant = Vec::new();
-    if left.is_empty() {
+    if unused.is_empty() {
         return Ok(redundant);
     }
     let positions = positions_of(lookups)?;
-    for kept in left {
+    for kept in unused {
         if is_redundant(&positions, kept) {
             redundant.try_push(kept.index)?;
         }
@@ -199,19 +202,19 @@ pub(crate) fn indices_of(arguments: &[Kept<'_>]) -> Result<Vec<usize>, AllocErro
 /// Adds the fault of arguments that no lookup means: of the redundant ones, or else of all.
 // ensures { OnOk result (map seen_fault faults.new.items ≡ map seen_fault faults.old.items
 //     ++ left_faults (indices (filter (is_redundant (map seen_lookup lookups.now))
-//     (map seen_kept left.now))) (indices (map seen_kept left.now))) }
+//     (map seen_kept unused.now))) (indices (map seen_kept unused.now))) }
 #[inline]
-fn tell_left<'a>(
+fn tell_unused<'a>(
     faults: &mut Vec<CallFault<'a>>,
-    left: &[Kept<'a>],
+    unused: &[Kept<'a>],
     lookups: &[Lookup<'a>],
 ) -> Result<(), AllocError> {
-    let redundant = redundant_of(left, lookups)?;
+    let redundant = redundant_of(unused, lookups)?;
     if !redundant.is_empty() {
         faults.try_push(CallFault::RedundantArguments(redundant))?;
         return Ok(());
     }
-    let unused = indices_of(left)?;
+    let unused = indices_of(unused)?;
     if !unused.is_empty() {
         faults.try_push(CallFault::UnusedArguments(unused))?;
     }
@@ -225,7 +228,7 @@ fn tell_left<'a>(
 fn by_index<'a>(arguments: &[Kept<'a>], lookup: &Lookup<'a>) -> Option<CallFault<'a>> {
     match *lookup {
         Lookup::Refer(reference, Wanted::Index(n)) => match arguments.get(n) {
-            Some(kept) if kept.given.name.is_some() => Some(CallFault::NameUsedByIndex {
+            Some(kept) if kept.argument.name.is_some() => Some(CallFault::NameUsedByIndex {
                 reference,
                 index: kept.index,
             }),
@@ -264,10 +267,11 @@ fn tell_missing(faults: &mut Vec<CallFault<'_>>, missing: Vec<Missing>) -> Resul
 }
 
 /// Returns whether neither a name is missing, nor an argument, nor is one unused.
-// ensures { result ≡ is_settled (map seen_fault found.now) missing.now (map seen_kept left.now) }
+// ensures { result
+//     ≡ is_settled (map seen_fault faults.now) missing.now (map seen_kept unused.now) }
 #[inline]
-fn is_settled(found: &[CallFault<'_>], missing: &[Missing], left: &[Kept<'_>]) -> bool {
-    !misses_name(found) && missing.is_empty() && left.is_empty()
+fn is_settled(faults: &[CallFault<'_>], missing: &[Missing], unused: &[Kept<'_>]) -> bool {
+    !misses_name(faults) && missing.is_empty() && unused.is_empty()
 }
 
 /// Adds what is wrong between the arguments that count, whose indices are below `count`, and
@@ -285,14 +289,14 @@ pub(crate) fn compare<'a>(
     lookups: &[Lookup<'a>],
 ) -> Result<(), AllocError> {
     let marks = marks(arguments, count, lookups)?;
-    let left = unmarked(&arguments.list, &marks)?;
+    let left = unmarked_arguments(&arguments.list, &marks)?;
     let missing = references_from(arguments.list.len(), lookups)?;
     let mut found = Vec::new();
     look_up(&mut found, &mut arguments.indices, captures, lookups)?;
     let is_settled = is_settled(&found, &missing, &left);
     faults.try_append(&mut found)?;
     tell_missing(faults, missing)?;
-    tell_left(faults, &left, lookups)?;
+    tell_unused(faults, &left, lookups)?;
     if !is_settled {
         return Ok(());
     }

@@ -24,7 +24,7 @@ fn plain_edit(spot: Spot, text: String) -> CallEdit {
     CallEdit {
         spot,
         text,
-        copied: None,
+        copied_spot: None,
         rest: "",
     }
 }
@@ -71,10 +71,10 @@ fn unused_help(call: &CallReport<'_>, count: usize) -> Result<Option<CallHelp>, 
 }
 
 /// Returns where the text is that is removed with an argument.
-// ensures { result ≡ removed_spot (map seen_given given.now) index }
+// ensures { result ≡ removed_spot (map seen_given arguments.now) index }
 #[inline]
-fn removed_spot(given: &[FormatArgument<'_>], index: usize) -> Spot {
-    if is_last(given, index) {
+fn removed_spot(arguments: &[FormatArgument<'_>], index: usize) -> Spot {
+    if is_last(arguments, index) {
         Spot::Value(index)
     } else {
         Spot::ValueUpToNext(index)
@@ -83,17 +83,17 @@ fn removed_spot(given: &[FormatArgument<'_>], index: usize) -> Spot {
 
 /// Adds the edits that remove arguments.
 // ensures { OnOk result (map seen_edit edits.new.items ≡ map seen_edit edits.old.items
-//     ++ map (removal (map seen_given given.now)) indices.now) }
+//     ++ map (removal (map seen_given arguments.now)) indices.now) }
 #[inline]
 fn push_removals(
     edits: &mut Vec<CallEdit>,
-    given: &[FormatArgument<'_>],
+    arguments: &[FormatArgument<'_>],
     indices: &[usize],
 ) -> Result<(), AllocError> {
     let mut rest = indices;
     while let Some((index, others)) = rest.split_first() {
         let text = String::new();
-        let spot = removed_spot(given, *index);
+        let spot = removed_spot(arguments, *index);
         edits.try_push(plain_edit(spot, text))?;
         rest = others;
     }
@@ -102,17 +102,17 @@ fn push_removals(
 
 /// Returns the help for redundant arguments, or `None` if there is none.
 // ensures { IfOk result (λ o. option_map seen_help o
-//     ≡ redundant_help (map seen_given given.now) redundant.now) }
+//     ≡ redundant_help (map seen_given arguments.now) redundant.now) }
 #[inline]
 fn redundant_help(
-    given: &[FormatArgument<'_>],
+    arguments: &[FormatArgument<'_>],
     redundant: &[usize],
 ) -> Result<Option<CallHelp>, AllocError> {
-    if redundant.len() <= 1 || have_names(given) {
+    if redundant.len() <= 1 || have_names(arguments) {
         return Ok(None);
     }
     let mut edits = Vec::new();
-    push_removals(&mut edits, given, redundant)?;
+    push_removals(&mut edits, arguments, redundant)?;
     let text = String::made_from("this can be removed")?;
     Ok(Some(CallHelp { text, edits }))
 }
@@ -147,7 +147,7 @@ fn by_index_help(
 ) -> Result<CallHelp, AllocError> {
     let says = "use the named argument by name to avoid ambiguity";
     let text = String::made_from(says)?;
-    let new = name_in(reference.part, name_of(call.given, index))?;
+    let new = name_in(reference.part, name_of(call.arguments, index))?;
     let spot = index_spot(&call.pieces, reference);
     single(text, spot, new)
 }
@@ -155,7 +155,7 @@ fn by_index_help(
 /// Returns the help that replaces a text.
 // ensures { IfOk result (λ h. seen_help h ≡ replacing spot new.now) }
 #[inline]
-fn replacing(spot: Spot, new: &str) -> Result<CallHelp, AllocError> {
+fn replacement_help(spot: Spot, new: &str) -> Result<CallHelp, AllocError> {
     let mut text = String::made_from("did you mean `")?;
     text.try_push_str(new)?;
     text.try_push_str("`?")?;
@@ -164,15 +164,15 @@ fn replacing(spot: Spot, new: &str) -> Result<CallHelp, AllocError> {
 }
 
 /// Returns how many of arguments stand before the first one with a name.
-// ensures { result ≡ unnamed_count (map seen_given given.now) }
+// ensures { result ≡ unnamed_count (map seen_given arguments.now) }
 #[inline]
-fn unnamed_count(given: &[FormatArgument<'_>]) -> usize {
-    for (index, argument) in given.iter().enumerate() {
+fn unnamed_count(arguments: &[FormatArgument<'_>]) -> usize {
+    for (index, argument) in arguments.iter().enumerate() {
         if argument.name.is_some() {
             return index;
         }
     }
-    given.len()
+    arguments.len()
 }
 
 /// Returns where an argument without a name is added, if there are so many already.
@@ -188,13 +188,13 @@ fn added_spot(count: usize) -> Spot {
 
 /// Returns the help for an expression at this place of the string.
 // ensures { IfOk result (λ h. seen_help h
-//     ≡ positional_help (map seen_given given.now) (pair span.now)) }
+//     ≡ positional_help (map seen_given arguments.now) (pair span.now)) }
 #[inline]
 fn positional_help(
-    given: &[FormatArgument<'_>],
+    arguments: &[FormatArgument<'_>],
     span: &Range<usize>,
 ) -> Result<CallHelp, AllocError> {
-    let count = unnamed_count(given);
+    let count = unnamed_count(arguments);
     let spot = bytes_at(span);
     let mut index = String::new();
     put_number(&mut index, count)?;
@@ -204,7 +204,7 @@ fn positional_help(
     edits.try_push(CallEdit {
         spot: added_spot(count),
         text: comma,
-        copied: Some(spot),
+        copied_spot: Some(spot),
         rest: "",
     })?;
     let says = "consider using a positional formatting argument instead";
@@ -225,7 +225,7 @@ fn debug_help(kept: &[usize]) -> Result<Option<CallHelp>, AllocError> {
     edits.try_push(CallEdit {
         spot: Spot::Call,
         text: opening,
-        copied: Some(Spot::Value(*index)),
+        copied_spot: Some(Spot::Value(*index)),
         rest: ")",
     })?;
     Ok(Some(CallHelp { text, edits }))
@@ -239,11 +239,11 @@ fn text_help(call: &CallReport<'_>, fault: &Fault<'_>) -> Result<Option<CallHelp
     let error = fault.error()?;
     match &error.suggestion {
         Suggestion::ReorderFormatParameter(span, text) => {
-            let help = replacing(bytes_at(span), text)?;
+            let help = replacement_help(bytes_at(span), text)?;
             Ok(Some(help))
         }
         Suggestion::UsePositional => {
-            let help = positional_help(call.given, &error.span)?;
+            let help = positional_help(call.arguments, &error.span)?;
             Ok(Some(help))
         }
         Suggestion::UseRustDebugPrintingMacro => debug_help(&call.kept),
@@ -268,7 +268,7 @@ impl<'a> CallReport<'a> {
             | CallFault::MissingArguments(_) => Ok(None),
             CallFault::Text(fault) => text_help(self, fault),
             CallFault::UnusedArguments(unused) => unused_help(self, unused.len()),
-            CallFault::RedundantArguments(redundant) => redundant_help(self.given, redundant),
+            CallFault::RedundantArguments(redundant) => redundant_help(self.arguments, redundant),
             CallFault::NameUsedByIndex { reference, index } => {
                 let help = by_index_help(self, *reference, *index)?;
                 Ok(Some(help))

@@ -232,10 +232,10 @@ fn push_unused(
 }
 
 /// Returns the variable that an argument is, or `None` if it is no variable.
-// ensures { option_map text result ≡ variable_of (map seen_given given.now) index }
+// ensures { option_map text result ≡ variable_of (map seen_given arguments.now) index }
 #[inline]
-fn variable_of<'a>(given: &[FormatArgument<'a>], index: usize) -> Option<&'a str> {
-    match given.get(index) {
+fn variable_of<'a>(arguments: &[FormatArgument<'a>], index: usize) -> Option<&'a str> {
+    match arguments.get(index) {
         Some(argument) => argument.variable,
         None => None,
     }
@@ -243,15 +243,15 @@ fn variable_of<'a>(given: &[FormatArgument<'a>], index: usize) -> Option<&'a str
 
 /// Returns the variables that arguments are, as the names that a map has.
 // ensures { IfOk result (λ m. (w : Text) → is_some (found_in m w)
-//     ≡ list_any (is_variable (map seen_given given.now) w) indices.now) }
+//     ≡ list_any (is_variable (map seen_given arguments.now) w) indices.now) }
 #[inline]
 fn variables_of<'a>(
-    given: &[FormatArgument<'a>],
+    arguments: &[FormatArgument<'a>],
     indices: &[usize],
 ) -> Result<BTreeMap<&'a str, usize>, AllocError> {
     let mut names = BTreeMap::new();
     for index in indices {
-        if let Some(variable) = variable_of(given, *index) {
+        if let Some(variable) = variable_of(arguments, *index) {
             insert(&mut names, variable, 0)?;
         }
     }
@@ -321,7 +321,7 @@ fn push_redundant<'a>(
     call: &CallReport<'a>,
     redundant: &[usize],
 ) -> Result<(), AllocError> {
-    let names = variables_of(call.given, redundant)?;
+    let names = variables_of(call.arguments, redundant)?;
     let spots = named_positions(&names, &call.pieces)?;
     let text = String::made_from(redundant_text(redundant.len()))?;
     notes.try_push(CallNote { text, spots })?;

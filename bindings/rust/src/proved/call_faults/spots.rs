@@ -30,7 +30,7 @@ pub struct CallEdit {
     /// removed.
     pub text: String,
     /// The place whose source the new text copies, if it copies any.
-    pub copied: Option<Spot>,
+    pub copied_spot: Option<Spot>,
     /// The end of the new text, after the copied source.
     pub rest: &'static str,
 }

@@ -119,16 +119,16 @@ fn put_named(out: &mut String, text: &str, name: &str) -> Result<(), AllocError>
 
 /// Adds a name between backquotes, between two texts.
 // ensures { OnOk result (string_bytes out.new ≡ string_bytes out.old
-//     ++ (before.now ++ (quoted (chars name.now) ++ after.now))) }
+//     ++ (prefix.now ++ (quoted (chars name.now) ++ suffix.now))) }
 #[inline]
 pub(crate) fn put_name_between(
     out: &mut String,
-    before: &str,
+    prefix: &str,
     name: &str,
-    after: &str,
+    suffix: &str,
 ) -> Result<(), AllocError> {
-    put_named(out, before, name)?;
-    out.try_push_str(after)?;
+    put_named(out, prefix, name)?;
+    out.try_push_str(suffix)?;
     Ok(())
 }
 
@@ -199,11 +199,11 @@ fn put_few_title(out: &mut String, total: usize, count: usize) -> Result<(), All
 }
 
 /// Returns the name of an argument, or an empty text if it has none.
-// ensures { chars result.now ≡ name_of (slice_get (map seen_given given.now) index) }
+// ensures { chars result.now ≡ name_of (slice_get (map seen_given arguments.now) index) }
 #[inline]
-pub(crate) fn name_of<'a>(given: &[FormatArgument<'a>], index: usize) -> &'a str {
-    match given.get(index) {
-        Some(given) => match given.name {
+pub(crate) fn name_of<'a>(arguments: &[FormatArgument<'a>], index: usize) -> &'a str {
+    match arguments.get(index) {
+        Some(argument) => match argument.name {
             Some(name) => name,
             None => "",
         },
@@ -212,20 +212,20 @@ pub(crate) fn name_of<'a>(given: &[FormatArgument<'a>], index: usize) -> &'a str
 }
 
 /// Returns whether an argument has a name.
-// ensures { result ≡ is_named (slice_get (map seen_given given.now) index) }
+// ensures { result ≡ is_named (slice_get (map seen_given arguments.now) index) }
 #[inline]
-fn is_named(given: &[FormatArgument<'_>], index: usize) -> bool {
-    match given.get(index) {
-        Some(given) => given.name.is_some(),
+fn is_named(arguments: &[FormatArgument<'_>], index: usize) -> bool {
+    match arguments.get(index) {
+        Some(argument) => argument.name.is_some(),
         None => false,
     }
 }
 
 /// Returns the label of an argument that is not used.
-// ensures { result.now ≡ never_used (slice_get (map seen_given given.now) index) }
+// ensures { result.now ≡ never_used (slice_get (map seen_given arguments.now) index) }
 #[inline]
-pub(crate) fn never_used(given: &[FormatArgument<'_>], index: usize) -> &'static str {
-    if is_named(given, index) {
+pub(crate) fn never_used(arguments: &[FormatArgument<'_>], index: usize) -> &'static str {
+    if is_named(arguments, index) {
         "named argument never used"
     } else {
         "argument never used"
@@ -233,11 +233,11 @@ pub(crate) fn never_used(given: &[FormatArgument<'_>], index: usize) -> &'static
 }
 
 /// Returns the title of arguments that are not used.
-// ensures { result.now ≡ unused_title (map seen_given given.now) unused.now }
+// ensures { result.now ≡ unused_title (map seen_given arguments.now) unused.now }
 #[inline]
-fn unused_title(given: &[FormatArgument<'_>], unused: &[usize]) -> &'static str {
+fn unused_title(arguments: &[FormatArgument<'_>], unused: &[usize]) -> &'static str {
     match unused {
-        [index] => never_used(given, *index),
+        [index] => never_used(arguments, *index),
         _ => "multiple unused formatting arguments",
     }
 }
@@ -291,7 +291,7 @@ impl<'a> CallReport<'a> {
             CallFault::RepeatedName { index, .. } => put_named(
                 out,
                 "duplicate argument named ",
-                name_of(self.given, *index),
+                name_of(self.arguments, *index),
             ),
             CallFault::Text(fault) => put_text_title(out, fault),
             CallFault::MissingName { name, .. } => {
@@ -307,7 +307,7 @@ impl<'a> CallReport<'a> {
                 Ok(())
             }
             CallFault::UnusedArguments(unused) => {
-                out.try_push_str(unused_title(self.given, unused))?;
+                out.try_push_str(unused_title(self.arguments, unused))?;
                 Ok(())
             }
             CallFault::RedundantArguments(redundant) => {
@@ -316,7 +316,7 @@ impl<'a> CallReport<'a> {
             CallFault::NameUsedByIndex { index, .. } => put_name_between(
                 out,
                 "named argument ",
-                name_of(self.given, *index),
+                name_of(self.arguments, *index),
                 " is not used by name",
             ),
         }

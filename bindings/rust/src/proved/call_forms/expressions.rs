@@ -5,7 +5,7 @@
 // by results from outside, and beside what is proved (.ci/bindings) and the original (tools/agree).
 
 use crate::proved::call_forms::keywords::{is_control, is_modifier, is_special};
-use crate::proved::format_calls::{closing, is_mark_of, token_at, Argument, Part};
+use crate::proved::format_calls::{closing_token, is_mark_of, token_at, Argument, Part};
 use crate::proved::rust_tokens::Kind;
 use crate::proved::rust_trees::{Delimiter, Side, Source, Token};
 
@@ -113,7 +113,7 @@ fn closing_before(
     if !matches!(token.kind, Kind::Punct) {
         return None;
     }
-    match closing(source, index) {
+    match closing_token(source, index) {
         Some(close) if close < end => Some(close),
         _ => None,
     }
@@ -157,7 +157,7 @@ fn next_operand(source: &Source<'_>, argument: &Argument) -> Option<usize> {
 /// `None` if there is none or a variable of a macro stands there.
 // ensures { result ≡ joined (tokens_of part.now argument.now) }
 #[inline]
-pub fn joined(part: &Part<'_>, argument: &Argument) -> Option<usize> {
+pub fn extra_operand(part: &Part<'_>, argument: &Argument) -> Option<usize> {
     if part.has_variable(argument) {
         return None;
     }
@@ -200,7 +200,7 @@ pub fn have_variables(part: &Part<'_>, arguments: &[Argument]) -> bool {
 #[inline]
 pub fn have_joined(part: &Part<'_>, arguments: &[Argument]) -> bool {
     for argument in arguments {
-        if joined(part, argument).is_some() {
+        if extra_operand(part, argument).is_some() {
             return true;
         }
     }

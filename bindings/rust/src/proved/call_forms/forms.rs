@@ -6,7 +6,7 @@
 
 use crate::proved::call_forms::commas::{are_unknown, expected_at, has_more, Expected};
 use crate::proved::call_forms::expressions::{
-    are_path, have_variables, is_operand, joined, tokens_of,
+    are_path, extra_operand, have_variables, is_operand, tokens_of,
 };
 use crate::proved::call_forms::operators::{lacks_left, lacks_operand, operator_at, Operator};
 use crate::proved::format_calls::{is_standard, Argument, Part, Rule};
@@ -97,7 +97,7 @@ fn lacks_expression(tokens: &[Token<'_>]) -> bool {
 // ensures { result ≡ is_bad (tokens_of part.now argument.now) }
 #[inline]
 fn is_bad(part: &Part<'_>, argument: &Argument) -> bool {
-    lacks_expression(tokens_of(part.tokens(), argument)) || joined(part, argument).is_some()
+    lacks_expression(tokens_of(part.tokens(), argument)) || extra_operand(part, argument).is_some()
 }
 
 /// Returns the index of the first argument that is no expression, or `None` if there is none.
@@ -166,7 +166,7 @@ fn bad_form<'a>(
     if lacks_left(tokens) {
         return operand_form(tokens);
     }
-    match joined(part, argument) {
+    match extra_operand(part, argument) {
         Some(operand) => joined_form(tokens, operand, is_string),
         None => Some(Form::NoExpression { index, is_last }),
     }

@@ -78,7 +78,7 @@ fn with_opens(place: Place, opens: usize) -> Place {
 /// Returns the place where a list has ended.
 // ensures { result ≡ ended }
 #[inline]
-fn ended() -> Place {
+fn end_place() -> Place {
     Place {
         angles: 0,
         opens: 0,
@@ -94,14 +94,14 @@ fn ended() -> Place {
 #[inline]
 fn place_after(place: Place, token: &Token<'_>) -> Place {
     if is_text(token, "trait") {
-        return ended();
+        return end_place();
     }
     if is_opening(token.side()) {
         return with_opens(place, place.opens + 1);
     }
     if matches!(token.side(), Side::Closes(_)) {
         if place.opens == 0 {
-            return ended();
+            return end_place();
         }
         return with_opens(place, place.opens - 1);
     }
@@ -113,16 +113,16 @@ fn place_after(place: Place, token: &Token<'_>) -> Place {
 }
 
 /// Adds the name of the parameter that a token is, if it is one.
-// ensures { OnOk result (map (λ w. w.now) found.new.items ≡ map (λ w. w.now) found.old.items
+// ensures { OnOk result (map (λ w. w.now) list.new.items ≡ map (λ w. w.now) list.old.items
 //     ++ parameter place (leaf token.now)) }
 #[inline]
 fn put_parameter<'a>(
-    found: &mut Vec<&'a str>,
+    list: &mut Vec<&'a str>,
     place: Place,
     token: &Token<'a>,
 ) -> Result<(), AllocError> {
     if names(place, token) {
-        found.try_push(token.text)?;
+        list.try_push(token.text)?;
     }
     Ok(())
 }

@@ -237,14 +237,14 @@ fn is_end(token: &Token<'_>) -> bool {
 
 /// Returns the number of characters of an operator after an operand that ends with the last of
 /// three tokens, or 0.
-// ensures { result ≡ operator_len (option_map leaf before.entry) (option_map leaf second.entry)
+// ensures { result ≡ operator_len (option_map leaf previous.entry) (option_map leaf second.entry)
 //     (leaf last.now) }
 #[inline]
-fn operator_len(before: Option<Token<'_>>, second: Option<Token<'_>>, last: &Token<'_>) -> usize {
+fn operator_len(previous: Option<Token<'_>>, second: Option<Token<'_>>, last: &Token<'_>) -> usize {
     match second {
         Some(token) => {
             if is_glued(&token, last) {
-                if is_double(&token, last) && is_operand_end(before) {
+                if is_double(&token, last) && is_operand_end(previous) {
                     2
                 } else {
                     0

@@ -32,7 +32,7 @@ pub struct Edit<'a> {
 // ensures small { result.extent.end.line < 2 ^ 59 }
 // ensures small_start { result.extent.start.line < 2 ^ 59 }
 #[inline]
-pub fn placed<'a>(picture: &Picture<'_>, text: &'a str, range: &Range<usize>) -> Edit<'a> {
+pub fn placed_edit<'a>(picture: &Picture<'_>, text: &'a str, range: &Range<usize>) -> Edit<'a> {
     let (from, to) = offsets(picture, range);
     Edit {
         text,

@@ -11,7 +11,7 @@ pub(crate) mod suggestions;
 
 #[cfg(feature = "std")]
 pub use changes::put_edits;
-pub use edited::{placed, Edit};
+pub use edited::{placed_edit, Edit};
 pub use suggestions::put_edit;
 #[cfg(feature = "std")]
 pub use suggestions::put_help_word;

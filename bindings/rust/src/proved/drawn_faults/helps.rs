@@ -5,7 +5,7 @@
 // That source is proved, and each contract here is its. That this text means the same is tested:
 // by results from outside, and beside what is proved (.ci/bindings) and the original (tools/agree).
 
-use crate::proved::drawn_edits::{placed, put_edits, put_help_word, Edit};
+use crate::proved::drawn_edits::{placed_edit, put_edits, put_help_word, Edit};
 use crate::proved::drawn_faults::marked::last_edit_line;
 use crate::proved::drawn_faults::notes::put_indented;
 use crate::proved::drawn_lines::{put_glyphs, put_painted, put_run, Frame, Gutter, Picture, Style};
@@ -33,7 +33,7 @@ fn placed_edits<'a>(
 ) -> Result<Vec<Edit<'a>>, AllocError> {
     let mut list = Vec::new();
     for edit in edits {
-        list.try_push(placed(picture, edit.text, &edit.span))?;
+        list.try_push(placed_edit(picture, edit.text, &edit.span))?;
     }
     Ok(list)
 }

@@ -4,7 +4,7 @@
 // That source is proved, and each contract here is its. That this text means the same is tested:
 // by results from outside, and beside what is proved (.ci/bindings) and the original (tools/agree).
 
-use crate::proved::drawn_edits::{placed, Edit};
+use crate::proved::drawn_edits::{placed_edit, Edit};
 use crate::proved::drawn_labels::{window_of, Label};
 use crate::proved::drawn_lines::{
     digits, extent_of, line_indent, palette_of, Frame, Gutter, Palette, Picture,
@@ -84,7 +84,7 @@ pub fn edit_of<'a>(
     let Suggestion::ReorderFormatParameter(span, text) = suggestion else {
         return None;
     };
-    Some(placed(picture, text.as_str(), span))
+    Some(placed_edit(picture, text.as_str(), span))
 }
 
 /// Returns the last line of a label, or 0 without one.

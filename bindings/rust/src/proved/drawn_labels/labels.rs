@@ -24,16 +24,16 @@ pub struct Label<'a> {
 
 /// Returns a label in the line in which it begins.
 // requires { label.now.extent.start.column < 2 ^ 61 }
-// ensures value { seen_mark result ≡ mark cut (seen_label label.now) }
+// ensures value { seen_mark result ≡ mark first (seen_label label.now) }
 // ensures line { result.line ≡ label.now.extent.start.line }
 // ensures columns { result.to < 2 ^ 62 }
 #[inline]
-pub fn mark_of<'a>(label: &Label<'a>, cut: usize) -> Mark<'a> {
+pub fn mark_of<'a>(label: &Label<'a>, first: usize) -> Mark<'a> {
     let start = label.extent.start;
     let end = label.extent.end;
-    let from = start.column.saturating_sub(cut);
+    let from = start.column.saturating_sub(first);
     let to = if end.line == start.line {
-        end.column.saturating_sub(cut)
+        end.column.saturating_sub(first)
     } else {
         0
     };

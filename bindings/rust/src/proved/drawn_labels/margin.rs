@@ -69,7 +69,7 @@ fn mark_reach(source: &str, mark: &Mark<'_>) -> Reach {
 // ensures to { result.to < 2 ^ 62 }
 // ensures end { result.end < 2 ^ 63 }
 #[inline]
-fn joined(r: Reach, s: Reach) -> Reach {
+fn join_reaches(r: Reach, s: Reach) -> Reach {
     Reach {
         from: r.from.min(s.from),
         to: r.to.max(s.to),
@@ -132,7 +132,7 @@ fn short_reach(source: &str, label: &Label<'_>) -> Reach {
 fn reach_on(source: &str, first: Reach, labels: &[Label<'_>]) -> Reach {
     let mut reach = first;
     for label in labels {
-        reach = joined(reach, short_reach(source, label));
+        reach = join_reaches(reach, short_reach(source, label));
     }
     reach
 }
@@ -202,7 +202,7 @@ fn window_at(left: usize, columns: usize) -> Window {
 // ensures start { indent ≤ reach.from → result.left ≤ reach.from - 6 }
 // ensures end { reach.to ≤ reach.end → reach.to + 6 ≤ result.left + result.most }
 #[inline]
-fn around(room: usize, indent: usize, reach: Reach) -> Window {
+fn window_around(room: usize, indent: usize, reach: Reach) -> Window {
     let from = reach.from.saturating_sub(6);
     let texts = (reach.end + 6).saturating_sub(from);
     let labels = (reach.to + 6).saturating_sub(from);
@@ -227,7 +227,7 @@ fn window(room: usize, indent: usize, reach: Reach) -> Window {
     let left = cut_of(indent);
     let most = reach.longest.saturating_sub(left);
     if most > room {
-        return around(room, indent, reach);
+        return window_around(room, indent, reach);
     }
     Window { left, room, most }
 }

@@ -151,59 +151,59 @@ pub fn put_run(out: &mut String, c: char, count: usize) -> Result<(), AllocError
     Ok(())
 }
 
-/// Adds the printable prefix of a text, without its first `skipped` characters. Returns what is
+/// Adds the printable prefix of a text, without its first `count` characters. Returns what is
 /// after the prefix, and how many characters are still to skip.
 // ensures whole { IfOk result (λ x. string_bytes out.new
 //     ++ encode_utf8_all (drop x.1 (glyphs (chars x.0.now)))
-//     ≡ string_bytes out.old ++ encode_utf8_all (drop skipped (glyphs (chars text.now)))) }
+//     ≡ string_bytes out.old ++ encode_utf8_all (drop count (glyphs (chars text.now)))) }
 // ensures short { IfOk result (λ x. length x.0.now ≤ length text.now) }
 #[inline]
 fn put_printable<'a>(
     out: &mut String,
     text: &'a str,
-    skipped: usize,
+    count: usize,
 ) -> Result<(&'a str, usize), AllocError> {
     let (front, rest) = split_printable(text, text.len());
-    let skip = skipped.min(front.len());
+    let skip = count.min(front.len());
     out.try_push_str(&front[skip..])?;
-    Ok((rest, skipped - skip))
+    Ok((rest, count - skip))
 }
 
-/// Adds a prefix of a text that is drawn as it is, without its first `skipped` characters. Returns
+/// Adds a prefix of a text that is drawn as it is, without its first `count` characters. Returns
 /// what is after the prefix, and how many characters are still to skip.
 // ensures whole { IfOk result (λ x. string_bytes out.new
 //     ++ encode_utf8_all (drop x.1 (glyphs (chars x.0.now)))
-//     ≡ string_bytes out.old ++ encode_utf8_all (drop skipped (glyphs (chars text.now)))) }
+//     ≡ string_bytes out.old ++ encode_utf8_all (drop count (glyphs (chars text.now)))) }
 // ensures short { IfOk result (λ x. length x.0.now ≤ length text.now) }
 #[inline]
 fn put_as_is<'a>(
     out: &mut String,
     text: &'a str,
-    skipped: usize,
+    count: usize,
 ) -> Result<(&'a str, usize), AllocError> {
-    if skipped > 0 {
-        return Ok(put_printable(out, text, skipped)?);
+    if count > 0 {
+        return Ok(put_printable(out, text, count)?);
     }
     let (front, rest) = split_as_is(text);
     out.try_push_str(front)?;
     Ok((rest, 0))
 }
 
-/// Appends a text as it is drawn in a terminal, without the first `skipped` characters of that, to
+/// Appends a text as it is drawn in a terminal, without the first `count` characters of that, to
 /// `out`: a tab becomes four spaces, another control character of ASCII but the line feed its
 /// picture, U+200D nothing, and a control character from U+0080 on and one that changes the
 /// direction of text U+FFFD. Returns `Err` if an allocation fails; a part of the text may then be
 /// in `out`.
 // ensures drawn { OnOk result (string_bytes out.new ≡ string_bytes out.old ++
-//     encode_utf8_all (drop skipped (glyphs (chars text.now)))) }
-// ensures harmless { IsHarmless (encode_utf8_all (drop skipped (glyphs (chars text.now)))) }
+//     encode_utf8_all (drop count (glyphs (chars text.now)))) }
+// ensures harmless { IsHarmless (encode_utf8_all (drop count (glyphs (chars text.now)))) }
 #[inline]
-pub fn put_glyphs(out: &mut String, text: &str, skipped: usize) -> Result<(), AllocError> {
+pub fn put_glyphs(out: &mut String, text: &str, count: usize) -> Result<(), AllocError> {
     let (front, rest_after) = split_printable(text, text.len());
-    if skipped == 0 && rest_after.is_empty() {
+    if count == 0 && rest_after.is_empty() {
         return Ok(out.try_push_str(front)?);
     }
-    let (mut rest, mut skip) = put_printable(out, text, skipped)?;
+    let (mut rest, mut skip) = put_printable(out, text, count)?;
     while let Some((c, tail)) = split_first(rest) {
         let count = glyph_count(c);
         put_run(out, glyph(c), count.saturating_sub(skip))?;
@@ -254,23 +254,23 @@ pub fn put_painted_run(
     Ok(())
 }
 
-/// Adds a text as it is drawn, in the style `after`, where a text of the style `before` is before
+/// Adds a text as it is drawn, in the style `new`, where a text of the style `old` is before
 /// it. Returns the style of the last text that is drawn.
 // ensures { IfOk result (λ s. (xs : List Piece) → string_bytes out.new
-//     ++ pieces_after palette s xs ≡ string_bytes out.old ++ pieces_after palette before
-//     (piece after (glyph_bytes text.now) ∷ xs)) }
+//     ++ pieces_after palette s xs ≡ string_bytes out.old ++ pieces_after palette old
+//     (piece new (glyph_bytes text.now) ∷ xs)) }
 #[inline]
 pub fn put_glyphs_after(
     out: &mut String,
     palette: Palette,
-    before: Style,
-    after: Style,
+    old: Style,
+    new: Style,
     text: &str,
 ) -> Result<Style, AllocError> {
     if draws_nothing(text) {
-        return Ok(before);
+        return Ok(old);
     }
-    put_change(out, palette, before, after)?;
+    put_change(out, palette, old, new)?;
     put_glyphs(out, text, 0)?;
-    Ok(after)
+    Ok(new)
 }

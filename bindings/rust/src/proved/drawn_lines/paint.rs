@@ -125,19 +125,19 @@ pub fn put_reset(out: &mut String, style: Style) -> Result<(), AllocError> {
 
 /// Adds the escapes between a text of one style and a text of another.
 // ensures { OnOk result (string_bytes out.new
-//     ≡ string_bytes out.old ++ change palette before after) }
+//     ≡ string_bytes out.old ++ change palette old new) }
 #[inline]
 pub fn put_change(
     out: &mut String,
     palette: Palette,
-    before: Style,
-    after: Style,
+    old: Style,
+    new: Style,
 ) -> Result<(), AllocError> {
-    if rank(before) == rank(after) {
+    if rank(old) == rank(new) {
         return Ok(());
     }
-    put_reset(out, before)?;
-    out.try_push_str(escape(palette, after))?;
+    put_reset(out, old)?;
+    out.try_push_str(escape(palette, new))?;
     Ok(())
 }
 

@@ -171,27 +171,27 @@ fn make_each(
     Ok(())
 }
 
-/// Makes a call of a parser, and the edits of its faults in a mode. `found` is empty before and
+/// Makes a call of a parser, and the edits of its faults in a mode. `faults` is empty before and
 /// after the call.
 // requires none { parser.old.errors ≡ [] }
-// requires empty { found.old.items ≡ [] }
+// requires empty { faults.old.items ≡ [] }
 // ensures state { OnOk result (parser.new
 //     ≡ record (after parser.old (next_call parser.old)) { errors = [] }) }
 // ensures edits { OnOk result ((es : List EditValue) → with_edits edited.new es ≡ with_edits
 //     edited.old (fault_edits (seen_mode mode)
 //     (faults_in parser.old.world (next_call parser.old).faults) ++ es)) }
-// ensures made { OnOk result (found.new.items ≡ []) }
+// ensures made { OnOk result (faults.new.items ≡ []) }
 #[inline]
 fn make_next<'a>(
     edited: &mut Edited<'_>,
     mode: ParseMode,
     parser: &mut Parser<'a>,
     argument: &mut Argument<'a>,
-    found: &mut Vec<Fault<'a>>,
+    faults: &mut Vec<Fault<'a>>,
 ) -> Result<(), AllocError> {
-    parser.next_with_faults(argument, found)?;
-    make_each(edited, mode, found.as_slice())?;
-    found.clear();
+    parser.next_with_faults(argument, faults)?;
+    make_each(edited, mode, faults.as_slice())?;
+    faults.clear();
     Ok(())
 }
 

@@ -11,7 +11,7 @@ use crate::proved::file_inlines::sources::with_sources;
 use crate::proved::format_calls::{
     arguments, extent_of, is_standard, token_at, Argument, Call, Part, Rule,
 };
-use crate::proved::inlined_arguments::{inlined, Call as FormatCall, Edit, Left};
+use crate::proved::inlined_arguments::{inline_arguments, Call as FormatCall, Edit, Left};
 use crate::proved::rust_trees::Token;
 use crate::proved::source_lint::{
     argument_at, arguments_before, captures, ends_early, index_or, name_at, other_macro, File,
@@ -83,28 +83,22 @@ struct Found<'s, 'a> {
     arguments: &'s [Argument],
 }
 
-/// Returns what inlining makes of this call, which `found` is in its file.
+/// Returns what inlining makes of this call, which `site` is in its file.
 // requires { hashes call.string.style + length call.string.text.now + 2 < 2 ^ 64 }
 // ensures { IfOk result (λ x. Makes allows_mixed (seen_call call.entry)
-//     (AreEdits found.entry.text.now (map leaf found.entry.tokens.now) (leaf found.entry.literal)
-//     found.entry.arguments.now) x.inlining (map seen_edit x.edits.items)) }
+//     (AreEdits site.entry.text.now (map leaf site.entry.tokens.now) (leaf site.entry.literal)
+//     site.entry.arguments.now) x.inlining (map seen_edit x.edits.items)) }
 #[inline]
 fn inlined_as(
-    found: Found<'_, '_>,
+    site: Found<'_, '_>,
     call: FormatCall<'_>,
     allows_mixed: bool,
 ) -> Result<InlinedCall, AllocError> {
-    let made = match inlined(call, allows_mixed)? {
+    let made = match inline_arguments(call, allows_mixed)? {
         Ok(made) => made,
         Err(left) => return Ok(left_for(CallInlining::Left(left))),
     };
-    let edits = edits_of(
-        found.text,
-        found.tokens,
-        found.literal,
-        found.arguments,
-        &made,
-    )?;
+    let edits = edits_of(site.text, site.tokens, site.literal, site.arguments, &made)?;
     match edits {
         Some(edits) => Ok(InlinedCall {
             inlining: CallInlining::Inlined,
@@ -128,11 +122,11 @@ fn left_for(reason: CallInlining) -> InlinedCall {
 /// Returns what inlining makes of a call of a macro with this rule and this name, whose arguments
 /// are all or not.
 // ensures { IfOk result (λ x. InlinesLiteral is_from_2021 allows_mixed rule name.now
-//     found.entry.text.now (map leaf found.entry.tokens.now) (leaf found.entry.literal)
-//     found.entry.arguments.now is_counted x.inlining (map seen_edit x.edits.items)) }
+//     site.entry.text.now (map leaf site.entry.tokens.now) (leaf site.entry.literal)
+//     site.entry.arguments.now is_counted x.inlining (map seen_edit x.edits.items)) }
 #[inline]
 fn inline_found(
-    found: Found<'_, '_>,
+    site: Found<'_, '_>,
     rule: Rule,
     name: &[u8],
     is_counted: bool,
@@ -140,10 +134,10 @@ fn inline_found(
     allows_mixed: bool,
 ) -> Result<InlinedCall, AllocError> {
     let appended_newline = appends_newline(name);
-    let Some(literal) = read_literal(found.literal.text, appended_newline)? else {
+    let Some(literal) = read_literal(site.literal.text, appended_newline)? else {
         return Ok(left_for(CallInlining::Unread(CallReading::Malformed)));
     };
-    let arguments = with_sources(found.text, found.tokens, found.arguments)?;
+    let arguments = with_sources(site.text, site.tokens, site.arguments)?;
     let text = literal.text.as_str();
     let snippet = literal.snippet.as_str();
     let list = arguments.as_slice();
@@ -161,7 +155,7 @@ fn inline_found(
         is_format_alone: is_format_alone(rule, name, is_from_2021),
         has_const_form: has_const_form(rule),
     };
-    let made = inlined_as(found, call, allows_mixed)?;
+    let made = inlined_as(site, call, allows_mixed)?;
     Ok(made)
 }
 
@@ -270,13 +264,13 @@ fn inline_call<'a>(
 /// Adds what inlining makes of calls of a part of a file, one after the other.
 // requires { (c : CallValue) → Contains calls.now c → IsPair part.now (c.name + 2) c.close }
 // ensures { OnOk result ((rs : List InliningValue) × (es : List EditValue)
-//     × (made.new.inlinings.items ≡ made.old.inlinings.items ++ rs)
-//     × (map seen_edit made.new.edits.items ≡ map seen_edit made.old.edits.items ++ es)
+//     × (results.new.inlinings.items ≡ results.old.inlinings.items ++ rs)
+//     × (map seen_edit results.new.edits.items ≡ map seen_edit results.old.edits.items ++ es)
 //     × Gives (Inlines (scope file.entry) file.entry.is_from_2021 allows_mixed part.now)
 //     calls.now rs es) }
 #[inline]
 pub(crate) fn inline_calls<'a>(
-    made: &mut InlinedCalls,
+    results: &mut InlinedCalls,
     file: File<'_, 'a>,
     part: &Part<'a>,
     calls: &[Call],
@@ -285,8 +279,8 @@ pub(crate) fn inline_calls<'a>(
     let mut rest = calls;
     while let Some((call, others)) = rest.split_first() {
         let mut one = inline_call(file, part, call, allows_mixed)?;
-        made.inlinings.try_push(one.inlining)?;
-        made.edits.try_append(&mut one.edits)?;
+        results.inlinings.try_push(one.inlining)?;
+        results.edits.try_append(&mut one.edits)?;
         rest = others;
     }
     Ok(())

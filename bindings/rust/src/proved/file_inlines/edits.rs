@@ -5,7 +5,7 @@
 // by results from outside, and beside what is proved (.ci/bindings) and the original (tools/agree).
 
 use crate::proved::asm_lint::{dropped_crs, offset_in, without_crs};
-use crate::proved::file_inlines::sources::removed;
+use crate::proved::file_inlines::sources::removal_range;
 use crate::proved::format_calls::Argument;
 use crate::proved::inlined_arguments::{apply_edits, Edit, Inlined};
 use crate::proved::rust_trees::Token;
@@ -30,12 +30,12 @@ fn in_token(crs: &[usize], edits: &[Edit]) -> Result<Vec<Edit>, AllocError> {
 }
 
 /// Returns an edit that stands some bytes further on, or `None` if an offset is too large.
-// ensures { IfOk result (λ o. IfSome o (λ e. seen_edit e ≡ moved by (seen_edit edit.now))) }
+// ensures { IfOk result (λ o. IfSome o (λ e. seen_edit e ≡ moved offset (seen_edit edit.now))) }
 #[inline]
-fn moved(edit: &Edit, by: usize) -> Result<Option<Edit>, AllocError> {
+fn move_edit(edit: &Edit, offset: usize) -> Result<Option<Edit>, AllocError> {
     let (Some(start), Some(end)) = (
-        by.checked_add(edit.span.start),
-        by.checked_add(edit.span.end),
+        offset.checked_add(edit.span.start),
+        offset.checked_add(edit.span.end),
     ) else {
         return Ok(None);
     };
@@ -47,12 +47,12 @@ fn moved(edit: &Edit, by: usize) -> Result<Option<Edit>, AllocError> {
 
 /// Returns edits that stand some bytes further on, or `None` if an offset is too large.
 // ensures { IfOk result (λ o. IfSome o (λ v. map seen_edit v.items
-//     ≡ map (moved by) (map seen_edit edits.now))) }
+//     ≡ map (moved offset) (map seen_edit edits.now))) }
 #[inline]
-fn each_moved(edits: &[Edit], by: usize) -> Result<Option<Vec<Edit>>, AllocError> {
+fn move_edits(edits: &[Edit], offset: usize) -> Result<Option<Vec<Edit>>, AllocError> {
     let mut found = Vec::new();
     for edit in edits {
-        let Some(edit) = moved(edit, by)? else {
+        let Some(edit) = move_edit(edit, offset)? else {
             return Ok(None);
         };
         found.try_push(edit)?;
@@ -63,19 +63,19 @@ fn each_moved(edits: &[Edit], by: usize) -> Result<Option<Vec<Edit>>, AllocError
 /// Adds the edits that remove the arguments of these indices, with their source.
 // ensures { OnOk result (map seen_edit edits.new.items ≡ map seen_edit edits.old.items
 //     ++ filter_map (λ n. option_map (removal text.now (map leaf tokens.now))
-//     (slice_get arguments.now n)) gone.now) }
+//     (slice_get arguments.now n)) indices.now) }
 #[inline]
 fn push_removals(
     edits: &mut Vec<Edit>,
     text: &str,
     tokens: &[Token<'_>],
     arguments: &[Argument],
-    gone: &[usize],
+    indices: &[usize],
 ) -> Result<(), AllocError> {
-    for index in gone {
+    for index in indices {
         if let Some(argument) = argument_at(arguments, *index) {
             edits.try_push(Edit {
-                span: removed(text, tokens, &argument),
+                span: removal_range(text, tokens, &argument),
                 text: String::new(),
             })?;
         }
@@ -94,35 +94,41 @@ fn is_literal(token: &str, literal: &str) -> Result<bool, AllocError> {
 /// Returns the edits of the literal that a token is, as edits of its file, or `None` if the token
 /// with them is not the new literal.
 // ensures { IfOk result (λ o. IfSome o (λ v.
-//     AreLiteralEdits (leaf literal.entry) (seen_inlined made.now) (map seen_edit v.items))) }
+//     AreLiteralEdits (leaf literal.entry) (seen_inlined inlining.now) (map seen_edit v.items))) }
 #[inline]
-fn literal_edits(literal: Token<'_>, made: &Inlined) -> Result<Option<Vec<Edit>>, AllocError> {
+fn literal_edits(literal: Token<'_>, inlining: &Inlined) -> Result<Option<Vec<Edit>>, AllocError> {
     let crs = dropped_crs(literal.text)?;
-    let inside = in_token(&crs, made.edits.as_slice())?;
+    let inside = in_token(&crs, inlining.edits.as_slice())?;
     let Some(new) = apply_edits(literal.text, &inside)? else {
         return Ok(None);
     };
-    if !is_literal(new.as_str(), made.literal.as_str())? {
+    if !is_literal(new.as_str(), inlining.literal.as_str())? {
         return Ok(None);
     }
-    each_moved(inside.as_slice(), literal.start)
+    move_edits(inside.as_slice(), literal.start)
 }
 
 /// Returns the edits that inline a call, with this token as its literal and these arguments after
 /// it, or `None` if the token with its edits is not the new literal.
 // ensures { IfOk result (λ o. IfSome o (λ v. AreEdits text.now (map leaf tokens.now)
-//     (leaf literal.entry) arguments.now (seen_inlined made.now) (map seen_edit v.items))) }
+//     (leaf literal.entry) arguments.now (seen_inlined inlining.now) (map seen_edit v.items))) }
 #[inline]
 pub(crate) fn edits_of(
     text: &str,
     tokens: &[Token<'_>],
     literal: Token<'_>,
     arguments: &[Argument],
-    made: &Inlined,
+    inlining: &Inlined,
 ) -> Result<Option<Vec<Edit>>, AllocError> {
-    let Some(mut edits) = literal_edits(literal, made)? else {
+    let Some(mut edits) = literal_edits(literal, inlining)? else {
         return Ok(None);
     };
-    push_removals(&mut edits, text, tokens, arguments, made.gone.as_slice())?;
+    push_removals(
+        &mut edits,
+        text,
+        tokens,
+        arguments,
+        inlining.gone.as_slice(),
+    )?;
     Ok(Some(edits))
 }

@@ -26,7 +26,7 @@ fn end_at(text: &str, tokens: &[Token<'_>], index: usize) -> usize {
 /// to its own end.
 // ensures { pair result ≡ removed text.now (map leaf tokens.now) argument.now }
 #[inline]
-pub(crate) fn removed(text: &str, tokens: &[Token<'_>], argument: &Argument) -> Range<usize> {
+pub(crate) fn removal_range(text: &str, tokens: &[Token<'_>], argument: &Argument) -> Range<usize> {
     let start = end_at(text, tokens, argument.start.saturating_sub(2));
     let end = end_at(text, tokens, argument.end.saturating_sub(1));
     start..end
@@ -65,7 +65,7 @@ fn word_of<'a>(tokens: &[Token<'a>], argument: &Argument) -> Option<&'a str> {
 // ensures { seen_argument result ≡ with_source text.now (map leaf tokens.now) argument.now }
 #[inline]
 fn with_source<'a>(text: &'a str, tokens: &[Token<'a>], argument: &Argument) -> FormatArgument<'a> {
-    let range = removed(text, tokens, argument);
+    let range = removal_range(text, tokens, argument);
     FormatArgument {
         name: name_of(tokens, argument),
         word: word_of(tokens, argument),

@@ -34,7 +34,7 @@ struct Excerpt<'a> {
 
 /// Returns the smallest range that has two others.
 #[inline]
-fn joined(one: &Range<usize>, other: &Range<usize>) -> Range<usize> {
+fn join_ranges(one: &Range<usize>, other: &Range<usize>) -> Range<usize> {
     let start = if one.start < other.start {
         one.start
     } else {
@@ -53,16 +53,16 @@ fn joined(one: &Range<usize>, other: &Range<usize>) -> Range<usize> {
 fn extent(finding: &Finding) -> Range<usize> {
     let mut extent = finding.span.start..finding.span.end;
     for label in &finding.labels {
-        extent = joined(&extent, &label.range);
+        extent = join_ranges(&extent, &label.range);
     }
     for note in &finding.notes {
         for range in &note.ranges {
-            extent = joined(&extent, range);
+            extent = join_ranges(&extent, range);
         }
     }
     if let Some(help) = &finding.help {
         for edit in &help.edits {
-            extent = joined(&extent, &edit.range);
+            extent = join_ranges(&extent, &edit.range);
         }
     }
     extent

@@ -22,6 +22,6 @@ pub use marks::{is_mark, is_mark_of, is_word, token_at, word};
 pub use modes::{is_joint, is_text};
 pub use part::Part;
 pub use parts::next_part;
-pub use split::{arguments, closing, Argument};
+pub use split::{arguments, closing_token, Argument};
 pub use strings::{format_string, is_text_leaf, Reason};
 pub use table::{is_of_crates, is_standard, Row, Rule, Table};

@@ -47,7 +47,7 @@ pub fn is_named(tokens: &[Token<'_>], index: usize) -> bool {
 // ensures some { IfSome result (λ j. IsPair source.now index j) }
 // ensures none { IsNone result → (j : ℕ) → IsPair source.now index j → ⊥ }
 #[inline]
-pub fn closing(source: &Source<'_>, index: usize) -> Option<usize> {
+pub fn closing_token(source: &Source<'_>, index: usize) -> Option<usize> {
     match source.partner(index) {
         Some(partner) if partner > index => Some(partner),
         _ => None,
@@ -59,7 +59,7 @@ pub fn closing(source: &Source<'_>, index: usize) -> Option<usize> {
 // ensures { IsTree source.now index result }
 #[inline]
 pub fn after_tree(source: &Source<'_>, index: usize) -> usize {
-    match closing(source, index) {
+    match closing_token(source, index) {
         Some(close) => close + 1,
         None => index + 1,
     }
@@ -87,7 +87,11 @@ fn argument_end(source: &Source<'_>, opening: usize, from: usize, to: usize) -> 
 // requires { IsPair source.now opening close }
 // ensures { IfOk result (λ v. AreArguments source.now (opening + 1) v.items close) }
 #[inline]
-fn between(source: &Source<'_>, opening: usize, close: usize) -> Result<Vec<Argument>, AllocError> {
+fn arguments_between(
+    source: &Source<'_>,
+    opening: usize,
+    close: usize,
+) -> Result<Vec<Argument>, AllocError> {
     let tokens = source.tokens();
     let mut found = Vec::new();
     let mut start = opening + 1;
@@ -117,7 +121,7 @@ pub fn arguments(source: &Source<'_>, close: usize) -> Result<Option<Vec<Argumen
     match source.partner(close) {
         Some(opening) => {
             if opening < close {
-                let found = between(source, opening, close)?;
+                let found = arguments_between(source, opening, close)?;
                 Ok(Some(found))
             } else {
                 Ok(None)

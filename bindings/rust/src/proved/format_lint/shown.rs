@@ -294,7 +294,7 @@ fn shown_of_literal(input: &str, task: Task<'_>) -> Result<Shown, RunFault> {
 // ensures value { lines.now ≡ codes "\n" ++ text.now → seen_source result ≡ bare text.now }
 // ensures style { result.style ≡ None }
 #[inline]
-fn bare<'a>(text: &'a str, lines: &'a str) -> Source<'a> {
+fn text_source<'a>(text: &'a str, lines: &'a str) -> Source<'a> {
     Source {
         text,
         style: None,
@@ -323,5 +323,5 @@ pub fn shown_of_input(input: &str, task: Task<'_>) -> Result<Shown, RunFault> {
     }
     // without a literal a span is one more than in the text, and so is the place in these lines
     let lines = crate::shim::try_format!("\n{input}")?;
-    Ok(shown_of(bare(input, lines.as_str()), task)?)
+    Ok(shown_of(text_source(input, lines.as_str()), task)?)
 }

@@ -38,11 +38,7 @@ fn is_closed(bytes: usize, text: &str) -> bool {
 // ensures { IfOk result (λ left. (u r : Text) → chars text.now ≡ u ++ r → bytes ≡ byte_length u
 //     → Took (skipped_tokens u) r labels.old.items labels.new.items left.now) }
 #[inline]
-fn skipped<'a>(
-    labels: &mut Vec<Label>,
-    bytes: usize,
-    text: &'a str,
-) -> Result<&'a str, AllocError> {
+fn skip<'a>(labels: &mut Vec<Label>, bytes: usize, text: &'a str) -> Result<&'a str, AllocError> {
     let brace = usize::from(is_closed(bytes, text));
     let close = take(labels, Kind::Unexpected, bytes.saturating_sub(brace), text)?;
     let left = take(labels, Kind::Close, brace, close)?;
@@ -50,12 +46,12 @@ fn skipped<'a>(
 }
 
 /// Adds the tokens of a placeholder at the start of a text, and returns the rest of the text after
-/// the call that read it: `left` bytes.
+/// the call that read it: `rest_len` bytes.
 // ensures { IfOk result (λ after. (n : ℕ) (t : Text) → chars text.now ≡ codes "{" ++ t
 //     → bare_argument (seen_argument argument.now)
 //     ≡ argument_value n (cut (seen_mode mode) t).field
 //     → (let k = placeholder (seen_mode mode) n (chars text.now) t in
-//     left ≡ byte_length k.rest
+//     rest_len ≡ byte_length k.rest
 //     → Took (placeholder_tokens (seen_mode mode) t k.rest) k.rest
 //     labels.old.items labels.new.items after.now)) }
 #[inline]
@@ -63,7 +59,7 @@ fn placeholder<'a>(
     labels: &mut Vec<Label>,
     mode: ParseMode,
     argument: &Argument<'_>,
-    left: usize,
+    rest_len: usize,
     text: &'a str,
 ) -> Result<&'a str, AllocError> {
     let field = take(labels, Kind::Open, 1, text)?;
@@ -82,7 +78,7 @@ fn placeholder<'a>(
         last,
     )?;
     let rest = take(labels, Kind::Close, usize::from(begins(end, '}')), end)?;
-    let after = skipped(labels, width_of(rest).saturating_sub(left), rest)?;
+    let after = skip(labels, width_of(rest).saturating_sub(rest_len), rest)?;
     Ok(after)
 }
 
@@ -99,59 +95,63 @@ fn escape_width(text: &str) -> usize {
 }
 
 /// Adds the tokens of a piece of literal text at the start of a text, and returns the rest of the
-/// text after it: `left` bytes.
+/// text after it: `rest_len` bytes.
 // ensures { IfOk result (λ after. (mode : Mode) (n : ℕ) (l : Text) →
 //     (let k = call mode n (chars text.now) in
-//     k.piece ≡ Some (LitPiece l) → left ≡ byte_length k.rest
+//     k.piece ≡ Some (LitPiece l) → rest_len ≡ byte_length k.rest
 //     → Took (call_tokens mode (chars text.now) k.rest) k.rest
 //     labels.old.items labels.new.items after.now)) }
 #[inline]
-fn literal<'a>(labels: &mut Vec<Label>, left: usize, text: &'a str) -> Result<&'a str, AllocError> {
+fn literal<'a>(
+    labels: &mut Vec<Label>,
+    rest_len: usize,
+    text: &'a str,
+) -> Result<&'a str, AllocError> {
     let rest = take(labels, Kind::Escape, escape_width(text), text)?;
     let after = take(
         labels,
         Kind::Text,
-        width_of(rest).saturating_sub(left),
+        width_of(rest).saturating_sub(rest_len),
         rest,
     )?;
     Ok(after)
 }
 
 /// Adds the labels of a call at the start of a text, and returns the rest of the text after it:
-/// `left` bytes. `taken` is the piece that `Parser::next_into` returned, and `argument` the one
+/// `rest_len` bytes. `piece` is the piece that `Parser::next_into` returned, and `argument` the one
 /// into which it read a placeholder. Returns `Err` if an allocation fails; the list may then have
 /// some of the labels.
 // ensures { IfOk result (λ after. (w : World) (n : ℕ) →
 //     (let k = call (seen_mode mode) n (chars text.now) in
-//     option_map (seen_taken argument.now) taken.entry ≡ option_map (piece_in w) k.piece
-//     → left ≡ byte_length k.rest
+//     option_map (seen_taken argument.now) piece.entry ≡ option_map (piece_in w) k.piece
+//     → rest_len ≡ byte_length k.rest
 //     → Took (call_tokens (seen_mode mode) (chars text.now) k.rest) k.rest
 //     labels.old.items labels.new.items after.now)) }
 #[inline]
 pub fn label<'a>(
     labels: &mut Vec<Label>,
     mode: ParseMode,
-    taken: Option<PieceKind<'_>>,
+    piece: Option<PieceKind<'_>>,
     argument: &Argument<'_>,
-    left: usize,
+    rest_len: usize,
     text: &'a str,
 ) -> Result<&'a str, AllocError> {
-    let Some(piece) = taken else {
+    let Some(piece) = piece else {
         let after = take(
             labels,
             Kind::Close,
-            width_of(text).saturating_sub(left),
+            width_of(text).saturating_sub(rest_len),
             text,
         )?;
         return Ok(after);
     };
     match piece {
         PieceKind::Lit(_) => {
-            let after = literal(labels, left, text)?;
+            let after = literal(labels, rest_len, text)?;
             Ok(after)
         }
         PieceKind::NextArgument => {
-            let after = placeholder(labels, mode, argument, left, text)?;
+            let after = placeholder(labels, mode, argument, rest_len, text)?;
             Ok(after)
         }
     }

@@ -244,7 +244,7 @@ fn status(rt: &crate::shim::host::HostRuntime, words: &[String]) -> Result<u8, E
 
 /// Writes to standard error why the arguments cannot be read, and returns this exit status.
 #[inline]
-fn ended(rt: &crate::shim::host::HostRuntime, why: &str, status: u8) -> ExitCode {
+fn fail(rt: &crate::shim::host::HostRuntime, why: &str, status: u8) -> ExitCode {
     let _ = crate::shim::eprintln_in!(rt; "formatlint: {why}");
     ExitCode::from(status)
 }
@@ -254,9 +254,9 @@ pub fn main(rt: crate::shim::host::HostRuntime) -> ExitCode {
     let words: Vec<String> = match env::args(&rt) {
         Ok(words) => match words.collect_in() {
             Ok(words) => words,
-            Err(_) => return ended(&rt, "out of memory", 3),
+            Err(_) => return fail(&rt, "out of memory", 3),
         },
-        Err(_) => return ended(&rt, "an argument is not UTF-8", 2),
+        Err(_) => return fail(&rt, "an argument is not UTF-8", 2),
     };
     match status(&rt, words.as_slice()) {
         Ok(status) => ExitCode::from(status),

@@ -37,7 +37,7 @@ pub struct Rewritten {
 
 /// Returns a text with suggestions applied.
 #[inline]
-fn fixed(text: &str, options: &Options<'_>) -> Result<Rewritten, AllocError> {
+fn fix_text(text: &str, options: &Options<'_>) -> Result<Rewritten, AllocError> {
     let fixed = fixes(text, options)?;
     Ok(Rewritten {
         text: fixed.text,
@@ -50,7 +50,11 @@ fn fixed(text: &str, options: &Options<'_>) -> Result<Rewritten, AllocError> {
 
 /// Returns a text with calls inlined.
 #[inline]
-fn inlined(text: &str, options: &Options<'_>, rewrite: Rewrite) -> Result<Rewritten, AllocError> {
+fn inline_text(
+    text: &str,
+    options: &Options<'_>,
+    rewrite: Rewrite,
+) -> Result<Rewritten, AllocError> {
     let inlined = inlines(text, options, rewrite.allows_mixed)?;
     Ok(Rewritten {
         has_inlines: inlined.text.is_some(),
@@ -70,15 +74,15 @@ pub fn apply_rewrite(
     rewrite: Rewrite,
 ) -> Result<Rewritten, AllocError> {
     if !rewrite.fixes {
-        return inlined(text, options, rewrite);
+        return inline_text(text, options, rewrite);
     }
-    let fixed = fixed(text, options)?;
+    let fixed = fix_text(text, options)?;
     if !rewrite.inlines {
         return Ok(fixed);
     }
     let mut made = match &fixed.text {
-        Some(text) => inlined(text.as_str(), options, rewrite)?,
-        None => inlined(text, options, rewrite)?,
+        Some(text) => inline_text(text.as_str(), options, rewrite)?,
+        None => inline_text(text, options, rewrite)?,
     };
     made.fixes = fixed.fixes;
     if made.text.is_none() {

@@ -61,7 +61,7 @@ fn count(number: &mut usize) {
 
 /// Returns the plural of a noun, unless there is one.
 #[inline]
-fn ending(number: usize) -> &'static str {
+fn plural_ending(number: usize) -> &'static str {
     if number == 1 {
         ""
     } else {
@@ -289,11 +289,11 @@ impl Totals {
             sign = " and";
         }
         if inlined > 0 {
-            let of_calls = ending(inlined);
+            let of_calls = plural_ending(inlined);
             let word = if is_preview { "to inline" } else { "inlined" };
             let _ = crate::shim::eprint_in!(rt; "{sign} {inlined} call{of_calls} {word}");
         }
-        let of_changed = ending(changed);
+        let of_changed = plural_ending(changed);
         let _ = crate::shim::eprint_in!(rt; " in {changed} file{of_changed}");
     }
 
@@ -302,13 +302,13 @@ impl Totals {
     #[inline]
     pub fn sum_up(&self, rt: &crate::shim::host::HostRuntime, is_preview: bool) {
         let (files, strings, faults) = (self.files, self.strings(), self.faults);
-        let (of_files, of_strings) = (ending(files), ending(strings));
-        let of_faults = ending(faults);
+        let (of_files, of_strings) = (plural_ending(files), plural_ending(strings));
+        let of_faults = plural_ending(faults);
         let _ = crate::shim::eprint_in!(rt; "{files} file{of_files}, {strings} format string{of_strings}: ");
         let _ = crate::shim::eprint_in!(rt; "{faults} fault{of_faults}");
         if self.warnings > 0 {
             let warnings = self.warnings;
-            let of_warnings = ending(warnings);
+            let of_warnings = plural_ending(warnings);
             let _ = crate::shim::eprint_in!(rt; ", {warnings} warning{of_warnings}");
         }
         if self.changed > 0 {

@@ -64,7 +64,7 @@ impl<'a> Walk<'a> {
         rt: &crate::shim::host::HostRuntime,
         folder: &str,
         entry: &DirEntry<crate::shim::host::HostRuntime>,
-        found: &mut Vec<Entry>,
+        entries: &mut Vec<Entry>,
     ) -> io::Result<()> {
         let name = entry.file_name();
         if self.excluded.contains(&name) {
@@ -79,7 +79,7 @@ impl<'a> Walk<'a> {
         };
         if is_read {
             let path = join(folder, name)?;
-            found.try_push(Entry { path, is_folder })?;
+            entries.try_push(Entry { path, is_folder })?;
         }
         Ok(())
     }

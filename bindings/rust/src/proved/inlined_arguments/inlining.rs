@@ -11,9 +11,9 @@ use crate::proved::inlined_arguments::edited::apply_edits;
 use crate::proved::inlined_arguments::edits::edits_of;
 use crate::proved::inlined_arguments::meaning::{means_same, Meant};
 use crate::proved::inlined_arguments::reading::read;
-use crate::proved::inlined_arguments::slots::{givens, kept, slots, Slot};
+use crate::proved::inlined_arguments::slots::{expression_slots, givens, slots, Slot};
 use crate::proved::inlined_arguments::values::values_of;
-use crate::proved::inlined_arguments::variables::gone;
+use crate::proved::inlined_arguments::variables::variable_indices;
 use crate::proved::piece_listing::literal::{literal_text, LiteralText};
 use crate::shim::alloc::AllocError;
 use crate::shim::prelude::*;
@@ -47,7 +47,7 @@ fn is_same_style(left: Option<usize>, right: Option<usize>) -> bool {
 /// the old one does. The given arguments are those of the slots.
 // requires { hashes string.style + length string.text.now + 2 < 2 ^ 64 }
 // ensures { IfOk result (λ b. Knows old.entry.values.now
-//     → map seen_given given.now ≡ map given_of (map seen_slot slots.now) → IsTrue b
+//     → map seen_given arguments.now ≡ map given_of (map seen_slot slots.now) → IsTrue b
 //     → IsCleanAs string.entry.captures (seen_slots old.entry.values.now)
 //     (map seen old.entry.pieces.now) (map seen_slot slots.now) (chars string.entry.text.now)) }
 #[inline]
@@ -55,9 +55,9 @@ fn means_same_with<'c>(
     old: Meant<'_, '_>,
     string: FormatString<'c>,
     slots: &[Slot<'c>],
-    given: &'c [FormatArgument<'c>],
+    arguments: &'c [FormatArgument<'c>],
 ) -> Result<bool, AllocError> {
-    let Some(pieces) = read(string, given)? else {
+    let Some(pieces) = read(string, arguments)? else {
         return Ok(false);
     };
     let values = values_of(slots)?;
@@ -90,7 +90,7 @@ fn keeps_meaning(call: Call<'_>, old: Meant<'_, '_>, literal: &str) -> Result<bo
         appended_newline: call.string.appended_newline,
         captures: call.string.captures,
     };
-    let kept = kept(old.values.slots)?;
+    let kept = expression_slots(old.values.slots)?;
     let given = givens(&kept)?;
     means_same_with(old, string, &kept, given.as_slice())
 }
@@ -100,7 +100,7 @@ fn keeps_meaning(call: Call<'_>, old: Meant<'_, '_>, literal: &str) -> Result<bo
 /// given arguments are those of the call.
 // requires fits { hashes call.string.style + length call.string.text.now + 2 < 2 ^ 64 }
 // requires slots { map seen_slot slots.now ≡ slots_of (map seen_argument call.arguments.now) }
-// requires given { map seen_given given.now ≡ map given_of (map seen_slot slots.now) }
+// requires given { map seen_given arguments.now ≡ map given_of (map seen_slot slots.now) }
 // ensures inlined { IfOk result (λ r. IfOk r (λ x. (mixed : Bool)
 //     → condition mixed (seen_call call.entry) ≡ None
 //     → IsInlined mixed (seen_call call.entry) (seen_inlined x))) }
@@ -108,15 +108,15 @@ fn keeps_meaning(call: Call<'_>, old: Meant<'_, '_>, literal: &str) -> Result<bo
 //     → condition mixed (seen_call call.entry) ≡ None
 //     → IsLeft mixed (seen_call call.entry) l)) }
 #[inline]
-fn inlined_with<'c>(
+fn inline_with<'c>(
     call: Call<'c>,
     slots: &[Slot<'c>],
-    given: &'c [FormatArgument<'c>],
+    arguments: &'c [FormatArgument<'c>],
 ) -> Result<Result<Inlined, Left>, AllocError> {
     let Some(snippet) = call.string.snippet else {
         return Ok(Err(Left::NoLiteral));
     };
-    let Some(pieces) = read(call.string, given)? else {
+    let Some(pieces) = read(call.string, arguments)? else {
         return Ok(Err(Left::Faulty));
     };
     let values = values_of(slots)?;
@@ -131,7 +131,7 @@ fn inlined_with<'c>(
     if !keeps_meaning(call, old, &literal)? {
         return Ok(Err(Left::OtherMeaning));
     }
-    let gone = gone(call.arguments)?;
+    let gone = variable_indices(call.arguments)?;
     Ok(Ok(Inlined {
         edits,
         literal,
@@ -150,11 +150,14 @@ fn inlined_with<'c>(
 //     IsInlined allows_mixed (seen_call call.entry) (seen_inlined x))) }
 // ensures left { IfOk result (λ r. IfErr r (λ l. IsLeft allows_mixed (seen_call call.entry) l)) }
 #[inline]
-pub fn inlined(call: Call<'_>, allows_mixed: bool) -> Result<Result<Inlined, Left>, AllocError> {
+pub fn inline_arguments(
+    call: Call<'_>,
+    allows_mixed: bool,
+) -> Result<Result<Inlined, Left>, AllocError> {
     if let Some(left) = condition(&call, allows_mixed) {
         return Ok(Err(left));
     }
     let slots = slots(call.arguments)?;
     let given = givens(&slots)?;
-    inlined_with(call, &slots, given.as_slice())
+    inline_with(call, &slots, given.as_slice())
 }

@@ -1,4 +1,4 @@
-//! Arguments of a call that are variables, moved into its format string ([`inlined`]).
+//! Arguments of a call that are variables, moved into its format string ([`inline_arguments`]).
 
 // Extracted from crates/inlined_arguments/src/lib.rt by tools/extract: not to be edited.
 // That source is proved, and each contract here is its. That this text means the same is tested:
@@ -18,4 +18,4 @@ pub(crate) mod variables;
 
 pub use call::{Argument, Call, Edit, Inlined, Left};
 pub use edited::apply_edits;
-pub use inlining::inlined;
+pub use inlining::inline_arguments;

@@ -32,18 +32,18 @@ fn are_warnings(faults: &[CallFault<'_>]) -> bool {
 /// call.
 // requires { hashes string.style + length string.text.now + 2 < 2 ^ 64 }
 // ensures { IfOk result (λ o. MatchOption o
-//     (IsClean string.entry.captures (map seen_given given.now) (chars string.entry.text.now)
+//     (IsClean string.entry.captures (map seen_given arguments.now) (chars string.entry.text.now)
 //     → ⊥)
 //     (λ v. let s = start string.entry in
 //     (map seen v.items ≡ pieces_in s.world (pieces_of (calls s)))
-//     × ReadsClean string.entry.captures (map seen_given given.now) (chars string.entry.text.now)
-//     (map bare (map seen v.items)))) }
+//     × ReadsClean string.entry.captures (map seen_given arguments.now)
+//     (chars string.entry.text.now) (map bare (map seen v.items)))) }
 #[inline]
 pub(crate) fn read<'a>(
     string: FormatString<'a>,
-    given: &'a [FormatArgument<'a>],
+    arguments: &'a [FormatArgument<'a>],
 ) -> Result<Option<Vec<Piece<'a>>>, AllocError> {
-    let checked = call_faults(string, given)?;
+    let checked = call_faults(string, arguments)?;
     if are_warnings(&checked.faults) {
         Ok(Some(checked.pieces))
     } else {

@@ -72,7 +72,7 @@ pub(crate) fn slots<'a>(arguments: &[Argument<'a>]) -> Result<Vec<Slot<'a>>, All
 /// Returns the slots that stay: those of arguments that are no variables.
 // ensures { IfOk result (λ v. map seen_slot v.items ≡ kept (map seen_slot slots.now)) }
 #[inline]
-pub(crate) fn kept<'a>(slots: &[Slot<'a>]) -> Result<Vec<Slot<'a>>, AllocError> {
+pub(crate) fn expression_slots<'a>(slots: &[Slot<'a>]) -> Result<Vec<Slot<'a>>, AllocError> {
     let mut kept = Vec::new();
     for slot in slots {
         if is_expression(slot.value) {

@@ -118,7 +118,7 @@ pub(crate) fn has_comment(argument: &Argument<'_>) -> bool {
 /// Returns the indices of the arguments that are variables.
 // ensures { IfOk result (λ v. v.items ≡ gone_from 0 (map seen_argument arguments.now)) }
 #[inline]
-pub(crate) fn gone(arguments: &[Argument<'_>]) -> Result<Vec<usize>, AllocError> {
+pub(crate) fn variable_indices(arguments: &[Argument<'_>]) -> Result<Vec<usize>, AllocError> {
     let mut gone = Vec::new();
     for (index, argument) in arguments.iter().enumerate() {
         if is_variable(argument) {

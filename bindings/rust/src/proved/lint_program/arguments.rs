@@ -197,7 +197,7 @@ fn row_of(word: &str) -> Option<Row<'_>> {
 /// Returns the macros that are known: those of the standard library and of some crates, and those
 /// that are given. The error is the first word that means none, or `None` if an allocation fails.
 #[inline]
-pub fn table_of<'a>(given: &[&'a str]) -> Result<Table<'a>, Option<&'a str>> {
+pub fn table_of<'a>(words: &[&'a str]) -> Result<Table<'a>, Option<&'a str>> {
     let Ok(mut table) = Table::standard() else {
         return Err(None);
     };
@@ -209,7 +209,7 @@ pub fn table_of<'a>(given: &[&'a str]) -> Result<Table<'a>, Option<&'a str>> {
             return Err(None);
         }
     }
-    for word in given {
+    for word in words {
         let Some(row) = row_of(word) else {
             return Err(Some(*word));
         };

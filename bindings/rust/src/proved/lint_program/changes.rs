@@ -62,13 +62,19 @@ fn path_beside(
     }
 }
 
-/// Makes a new file beside another one, with a name that no file has. Returns its path too.
+/// A new file, and its path.
+struct NewFile {
+    path: String,
+    file: File,
+}
+
+/// Makes a new file beside another one, with a name that no file has.
 #[inline]
-fn create_beside(rt: &crate::shim::host::HostRuntime, path: &str) -> io::Result<(String, File)> {
+fn create_beside(rt: &crate::shim::host::HostRuntime, path: &str) -> io::Result<NewFile> {
     for number in 0..MOST_NAMES {
         let beside = path_beside(rt, path, number)?;
         match File::create_new(rt, beside.as_str()) {
-            Ok(file) => return Ok((beside, file)),
+            Ok(file) => return Ok(NewFile { path: beside, file }),
             Err(error) if error.kind() == ErrorKind::AlreadyExists => {}
             Err(error) => return Err(error),
         }
@@ -171,8 +177,9 @@ pub fn replace(
             error: None,
         });
     };
-    let (beside, file) = at_step("a new file beside it", create_beside(rt, target.as_str()))?;
-    let (from, to) = (beside.as_str(), target.as_str());
+    let beside = create_beside(rt, target.as_str());
+    let NewFile { path, file } = at_step("a new file beside it", beside)?;
+    let (from, to) = (path.as_str(), target.as_str());
     let answer = match fill(rt, file, to, from, new) {
         Ok(()) => put_in_place(rt, to, from, old),
         Err(failure) => Err(failure),

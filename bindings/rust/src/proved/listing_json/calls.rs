@@ -33,31 +33,31 @@ pub fn end_line(out: &mut Vec<u8>, writer: Writer) -> Result<(), AllocError> {
 }
 
 /// Appends the line of a piece. A placeholder is in `argument`.
-// ensures { OnOk result (Adds (piece_value (seen_taken argument.now taken.now) ∷ [])
+// ensures { OnOk result (Adds (piece_value (seen_taken argument.now piece.now) ∷ [])
 //     out.old.items out.new.items) }
 #[inline]
 fn put_piece_line(
     out: &mut Vec<u8>,
-    taken: &PieceKind<'_>,
+    piece: &PieceKind<'_>,
     argument: &Argument<'_>,
 ) -> Result<(), AllocError> {
     let mut writer = begin_line(out);
-    put_piece(&mut writer, taken, argument)?;
+    put_piece(&mut writer, piece, argument)?;
     end_line(out, writer)?;
     Ok(())
 }
 
 /// Appends the line of a piece, if there is one.
-// ensures { OnOk result (Adds (given_values (option_map (seen_taken argument.now) taken.now))
+// ensures { OnOk result (Adds (given_values (option_map (seen_taken argument.now) piece.now))
 //     out.old.items out.new.items) }
 #[inline]
 fn put_given(
     out: &mut Vec<u8>,
-    taken: &Option<PieceKind<'_>>,
+    piece: &Option<PieceKind<'_>>,
     argument: &Argument<'_>,
 ) -> Result<(), AllocError> {
-    match taken {
-        Some(taken) => put_piece_line(out, taken, argument),
+    match piece {
+        Some(piece) => put_piece_line(out, piece, argument),
         None => Ok(()),
     }
 }

@@ -37,7 +37,7 @@ fn snippet_of(literal: Option<&str>) -> Result<Option<String>, AllocError> {
 
 /// Returns the arguments that the placeholders of a text use, if the task has a list of arguments.
 // requires { hashes style + length text.now + 2 < 2 ^ 64 }
-// ensures { IfOk result (λ u. IsSome task.entry.given
+// ensures { IfOk result (λ u. IsSome task.entry.arguments
 //     → Holds (uses (pieces (seen_mode task.entry.mode) (record {
 //       text = chars text.now;
 //       style = style;
@@ -50,7 +50,7 @@ fn used_by<'a>(
     snippet: Option<String>,
     task: Task<'_>,
 ) -> Result<Uses<'a>, AllocError> {
-    if task.given.is_none() {
+    if task.arguments.is_none() {
         return Ok(Uses::new());
     }
     let Reading { pieces, parser: _ } = read_all(text, style, snippet, false, task.mode)?;
@@ -60,7 +60,7 @@ fn used_by<'a>(
 
 /// Returns the report on the arguments that are missing or unused in a text.
 // requires { hashes style + length text.now + 2 < 2 ^ 64 }
-// ensures { IfOk result (λ r. IsReportFor (option_map seen_given task.entry.given)
+// ensures { IfOk result (λ r. IsReportFor (option_map seen_given task.entry.arguments)
 //     (pieces (seen_mode task.entry.mode) (record {
 //       text = chars text.now;
 //       style = style;
@@ -74,7 +74,7 @@ fn report_of<'a>(
     task: Task<'a>,
 ) -> Result<Report<'a>, AllocError> {
     let used = used_by(text, style, snippet, task)?;
-    report_for(&used, task.given)
+    report_for(&used, task.arguments)
 }
 
 /// Returns the lines of the calls of a parser and of a report.

@@ -207,15 +207,15 @@ fn put_placeholder(writer: &mut Writer, argument: &Argument<'_>) -> Result<(), A
 
 /// Appends a piece. A placeholder is in `argument`.
 // ensures tokens { OnOk result (writer.new.tokens ≡ writer.old.tokens
-//     ++ json_tokens (piece_value (seen_taken argument.now taken.now))) }
+//     ++ json_tokens (piece_value (seen_taken argument.now piece.now))) }
 // ensures before { OnOk result (writer.new.before ≡ writer.old.before) }
 #[inline]
 pub fn put_piece(
     writer: &mut Writer,
-    taken: &PieceKind<'_>,
+    piece: &PieceKind<'_>,
     argument: &Argument<'_>,
 ) -> Result<(), AllocError> {
-    match taken {
+    match piece {
         PieceKind::Lit(text) => put_run(writer, text),
         PieceKind::NextArgument => put_placeholder(writer, argument),
     }

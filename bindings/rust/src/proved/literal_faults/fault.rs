@@ -73,7 +73,7 @@ fn is_id_start(c: char) -> bool {
 /// Returns the fault of a literal that is not alone.
 // ensures { result ≡ trailing is_suffix }
 #[inline]
-fn trailing(is_suffix: bool) -> FaultKind {
+fn trailing_fault(is_suffix: bool) -> FaultKind {
     if is_suffix {
         FaultKind::Suffix
     } else {
@@ -90,7 +90,7 @@ fn stop_fault(text: &str) -> Option<FaultKind> {
         None => Some(FaultKind::UnterminatedString),
         Some(('"', rest)) => {
             let (c, _) = split_first(rest)?;
-            Some(trailing(is_id_start(c)))
+            Some(trailing_fault(is_id_start(c)))
         }
         Some(('\\', rest)) => Some(escape_fault(rest)),
         Some(_) => Some(FaultKind::BareCarriageReturn),
@@ -122,7 +122,7 @@ fn token_fault(text: &str) -> Option<LiteralFault> {
     }
     Some(LiteralFault {
         kind: if token.is_ended {
-            trailing(token.suffix_start < token.span.end)
+            trailing_fault(token.suffix_start < token.span.end)
         } else {
             FaultKind::UnterminatedRawString
         },

@@ -29,7 +29,7 @@ pub struct Message<'a, 's, 'p> {
 /// Returns a text as a string.
 // ensures { IfOk result (λ o. seen_snippet o ≡ option_map seen_text text.entry) }
 #[inline]
-fn owned(text: Option<&str>) -> Result<Option<String>, AllocError> {
+fn owned_string(text: Option<&str>) -> Result<Option<String>, AllocError> {
     match text {
         None => Ok(None),
         Some(text) => Ok(Some(String::made_from(text)?)),
@@ -42,7 +42,7 @@ fn owned(text: Option<&str>) -> Result<Option<String>, AllocError> {
 //     ≡ text_fault (start message.entry)) }
 #[inline]
 fn fault_of<'a>(message: Message<'a, '_, '_>) -> Result<Option<Fault<'a>>, AllocError> {
-    let snippet = owned(message.snippet)?;
+    let snippet = owned_string(message.snippet)?;
     let mut parser = Parser::new(message.text, None, snippet, false, ParseMode::Diagnostic)?;
     let fault = text_fault(&mut parser)?;
     Ok(fault)
@@ -193,7 +193,7 @@ fn push_placeholders<'a>(
     faults: &mut Vec<MessageFault<'a>>,
     message: Message<'a, '_, '_>,
 ) -> Result<(), AllocError> {
-    let snippet = owned(message.snippet)?;
+    let snippet = owned_string(message.snippet)?;
     let Reading { pieces, parser } =
         read_all(message.text, None, snippet, false, ParseMode::Diagnostic)?;
     let is_known = parser.is_source_literal();

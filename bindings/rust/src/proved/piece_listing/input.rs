@@ -50,21 +50,21 @@ fn put_ends(
 // ensures lines { IfOk result (λ x.
 //     let ps = pieces_in parser.old.world (pieces_of (calls parser.old)) in
 //     let es = (after_all parser.old (calls parser.old)).errors in
-//     (r : ReportValue) × IsReportFor (option_map seen_given given.entry) ps r
+//     (r : ReportValue) × IsReportFor (option_map seen_given arguments.entry) ps r
 //     × ◌≡◌ {A = List ℕ × Bool} (string_bytes x.lines, x.has_ends)
 //     (listing ps es r, nat_lt 0 (length es) || has_entries r)) }
 // ensures empty { parser.old.rest ≡ [] → parser.old.world.has_source ≡ false
-//     → (after_all parser.old (calls parser.old)).errors ≡ [] → given.entry ≡ None
+//     → (after_all parser.old (calls parser.old)).errors ≡ [] → arguments.entry ≡ None
 //     → IsOk result }
 #[inline]
 fn list_calls<'a>(
     parser: &mut Parser<'a>,
-    given: Option<GivenArguments<'a>>,
+    arguments: Option<GivenArguments<'a>>,
 ) -> Result<Listing, AllocError> {
     let mut lines = String::new();
     let mut used = Uses::new();
-    put_calls(&mut lines, &mut used, given.is_some(), parser)?;
-    let report = report_for(&used, given)?;
+    put_calls(&mut lines, &mut used, arguments.is_some(), parser)?;
+    let report = report_for(&used, arguments)?;
     let has_ends = put_ends(&mut lines, parser.errors(), &report)?;
     Ok(Listing { lines, has_ends })
 }
@@ -77,7 +77,7 @@ fn list_calls<'a>(
 // For an empty text, only the last line of a source literal and a report may allocate.
 // ensures empty { text.now ≡ []
 //     → (HasSource (chars text.now) style (seen_snippet snippet) false → ⊥)
-//     → task.entry.given ≡ None → IsOk result }
+//     → task.entry.arguments ≡ None → IsOk result }
 #[inline]
 fn list_source(
     text: &str,
@@ -86,7 +86,7 @@ fn list_source(
     task: Task<'_>,
 ) -> Result<Listing, AllocError> {
     let mut parser = Parser::new(text, style, snippet, false, task.mode)?;
-    let listed = list_calls(&mut parser, task.given)?;
+    let listed = list_calls(&mut parser, task.arguments)?;
     Ok(listed)
 }
 
@@ -138,7 +138,7 @@ fn list_literal(input: &str, task: Task<'_>) -> Result<Listing, RunFault> {
 // ensures not_words { IfErr result (λ fault. fault ≢ Words) }
 // ensures not_long { IfErr result (λ fault. fault ≢ TooLong) }
 // ensures is_text { IfErr result (λ fault. fault ≢ NotText) }
-// ensures empty { input.now ≡ [] → task.entry.is_literal ≡ false → task.entry.given ≡ None
+// ensures empty { input.now ≡ [] → task.entry.is_literal ≡ false → task.entry.arguments ≡ None
 //     → IsOk result }
 // ensures empty_literal { input.now ≡ [] → task.entry.is_literal ≡ true
 //     → result ≡ Err NotLiteral }

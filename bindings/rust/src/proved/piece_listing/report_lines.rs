@@ -14,19 +14,19 @@ use crate::shim::prelude::*;
 /// Returns the report on the arguments that are used if these are given, or a report without
 /// entries for `None`.
 // ensures report { IfOk result (λ r. (ps : List (Piece Place))
-//     → (IsSome given.entry → Holds (uses ps) used.now)
-//     → IsReportFor (option_map seen_given given.entry) ps (seen_report r)) }
-// ensures none { given.entry ≡ None → IsOk result }
-// ensures no_entries { given.entry ≡ None → IfOk result (λ r. seen_report r ≡ no_entries) }
+//     → (IsSome arguments.entry → Holds (uses ps) all_uses.now)
+//     → IsReportFor (option_map seen_given arguments.entry) ps (seen_report r)) }
+// ensures none { arguments.entry ≡ None → IsOk result }
+// ensures no_entries { arguments.entry ≡ None → IfOk result (λ r. seen_report r ≡ no_entries) }
 #[inline]
 pub fn report_for<'a>(
-    used: &Uses<'a>,
-    given: Option<GivenArguments<'a>>,
+    all_uses: &Uses<'a>,
+    arguments: Option<GivenArguments<'a>>,
 ) -> Result<Report<'a>, AllocError> {
-    match given {
-        Some(given) => {
-            let names = names(given.names)?;
-            check_uses(used, given.positional, names.as_slice())
+    match arguments {
+        Some(arguments) => {
+            let names = names(arguments.names)?;
+            check_uses(all_uses, arguments.positional, names.as_slice())
         }
         None => Ok(Report {
             missing_index: Vec::new(),

@@ -26,26 +26,26 @@ pub struct Report<'a> {
 
 /// Compares the arguments that are used with those that are given, as [`check`] does with those
 /// that pieces use. Returns `Err` if an allocation fails; there is then no report.
-// ensures report { IfOk result (λ r. (us : List Use) → Holds us used.now
+// ensures report { IfOk result (λ r. (us : List Use) → Holds us uses.now
 //     → IsReport us positional (texts names.now) (seen_report r)) }
 // No other report satisfies this.
-// ensures only { IfOk result (λ r. (us : List Use) → Holds us used.now → (s : ReportOf)
+// ensures only { IfOk result (λ r. (us : List Use) → Holds us uses.now → (s : ReportOf)
 //     → IsReport us positional (texts names.now) s → s ≡ seen_report r) }
 // If there are no uses and no arguments, the call succeeds even if every allocation fails.
-// ensures empty { IsNew used.now → positional ≡ 0 → names.now ≡ [] → IsOk result }
+// ensures empty { IsNew uses.now → positional ≡ 0 → names.now ≡ [] → IsOk result }
 #[inline]
 pub fn check_uses<'a>(
-    used: &Uses<'a>,
+    uses: &Uses<'a>,
     positional: usize,
     names: &[&'a str],
 ) -> Result<Report<'a>, AllocError> {
-    let missing_index = members_from(&used.indices, positional)?;
-    let used_below = used.indices.count.saturating_sub(missing_index.len());
+    let missing_index = members_from(&uses.indices, positional)?;
+    let used_below = uses.indices.count.saturating_sub(missing_index.len());
     let room = positional.saturating_sub(used_below);
-    let unused_index = lacked_below(&used.indices, positional, room)?;
+    let unused_index = lacked_below(&uses.indices, positional, room)?;
     let later = later_names(names)?;
-    let missing_name = lacked_by(&used.names.list, names, &later)?;
-    let unused_name = unused_names(names, &used.names)?;
+    let missing_name = lacked_by(&uses.names.list, names, &later)?;
+    let unused_name = unused_names(names, &uses.names)?;
     Ok(Report {
         missing_index,
         missing_name,

@@ -124,14 +124,14 @@ pub fn lacked_by<'a>(
 /// Returns the names of a list that are not in a set, each once, in the order of their first
 /// entries.
 // ensures unused { IfOk result (λ v. (ys : List Text)
-//     → ((t : Text) → is_known used.now t ≡ list_any (bytes_eq t) ys)
+//     → ((t : Text) → is_known uses.now t ≡ list_any (bytes_eq t) ys)
 //     → AreFirsts (texts names.now) ys (texts v.items)) }
 // ensures empty { names.now ≡ [] → IsOk result }
 #[inline]
-pub fn unused_names<'a>(names: &[&'a str], used: &Names<'a>) -> Result<Vec<&'a str>, AllocError> {
+pub fn unused_names<'a>(names: &[&'a str], uses: &Names<'a>) -> Result<Vec<&'a str>, AllocError> {
     let mut unused = no_names();
     for name in names {
-        if !has_name(&used.list, &used.later, name) {
+        if !has_name(&uses.list, &uses.later, name) {
             insert_name(&mut unused, name)?;
         }
     }

@@ -169,16 +169,16 @@ pub fn skip_head(text: &str) -> &str {
 }
 
 /// Adds a token of this kind unless it is empty.
-// ensures { IfOk result (λ _. found.new.items ≡ found.old.items ++ between kind start end) }
+// ensures { IfOk result (λ _. tokens.new.items ≡ tokens.old.items ++ between kind start end) }
 #[inline]
 fn add_unless_empty(
-    found: &mut Vec<Token>,
+    tokens: &mut Vec<Token>,
     kind: Kind,
     start: usize,
     end: usize,
 ) -> Result<(), AllocError> {
     if start < end {
-        found.try_push(Token {
+        tokens.try_push(Token {
             kind,
             span: start..end,
             suffix_start: end,

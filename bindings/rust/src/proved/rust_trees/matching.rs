@@ -38,48 +38,48 @@ pub struct Matching {
 }
 
 /// Adds a closing delimiter.
-// requires { (w : List Leaf) × IsMatched w found.old }
-// ensures { IfOk result (λ _. (w : List Leaf) (x : Leaf) → IsMatched w found.old
-//     → side x ≡ Side.Closes delimiter → IsMatched (w ++ x ∷ []) found.new) }
+// requires { (w : List Leaf) × IsMatched w matching.old }
+// ensures { IfOk result (λ _. (w : List Leaf) (x : Leaf) → IsMatched w matching.old
+//     → side x ≡ Side.Closes delimiter → IsMatched (w ++ x ∷ []) matching.new) }
 #[inline]
-fn close(found: &mut Matching, delimiter: Delimiter) -> Result<(), AllocError> {
-    let index = found.partners.len();
-    if let Some(top) = found.openings.pop() {
+fn close(matching: &mut Matching, delimiter: Delimiter) -> Result<(), AllocError> {
+    let index = matching.partners.len();
+    if let Some(top) = matching.openings.pop() {
         if is_same(top.delimiter, delimiter) {
-            found.partners[top.at] = Some(index);
-            found.partners.try_push(Some(top.at))?;
+            matching.partners[top.at] = Some(index);
+            matching.partners.try_push(Some(top.at))?;
             return Ok(());
         }
     }
-    found.openings.clear();
-    found.unexpected = found.unexpected.or(Some(index));
-    found.partners.try_push(None)?;
+    matching.openings.clear();
+    matching.unexpected = matching.unexpected.or(Some(index));
+    matching.partners.try_push(None)?;
     Ok(())
 }
 
 /// Adds a token.
-// requires { (w : List Leaf) × IsMatched w found.old }
-// ensures { IfOk result (λ _. (w : List Leaf) → IsMatched w found.old
-//     → IsMatched (w ++ leaf token.now ∷ []) found.new) }
+// requires { (w : List Leaf) × IsMatched w matching.old }
+// ensures { IfOk result (λ _. (w : List Leaf) → IsMatched w matching.old
+//     → IsMatched (w ++ leaf token.now ∷ []) matching.new) }
 #[inline]
-pub fn add(found: &mut Matching, token: &Token<'_>) -> Result<(), AllocError> {
+pub fn add(matching: &mut Matching, token: &Token<'_>) -> Result<(), AllocError> {
     match token.side() {
-        Side::Neither => found.partners.try_push(None)?,
+        Side::Neither => matching.partners.try_push(None)?,
         Side::Opens(delimiter) => {
-            let at = found.partners.len();
-            found.openings.try_push(Opening { at, delimiter })?;
-            found.partners.try_push(None)?;
+            let at = matching.partners.len();
+            matching.openings.try_push(Opening { at, delimiter })?;
+            matching.partners.try_push(None)?;
         }
-        Side::Closes(delimiter) => close(found, delimiter)?,
+        Side::Closes(delimiter) => close(matching, delimiter)?,
     }
     Ok(())
 }
 
 /// Returns whether no delimiter may still be closed.
-// ensures { IsTrue result → found.now.openings.items ≡ [] }
+// ensures { IsTrue result → matching.now.openings.items ≡ [] }
 #[inline]
-pub fn is_closed(found: &Matching) -> bool {
-    found.openings.is_empty()
+pub fn is_closed(matching: &Matching) -> bool {
+    matching.openings.is_empty()
 }
 
 /// Returns the pairs of delimiters in these tokens.

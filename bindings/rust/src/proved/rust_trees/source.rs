@@ -20,14 +20,14 @@ pub struct Source<'a> {
 }
 
 /// Returns tokens with the pairs that were found among them.
-// requires { IsMatched (map leaf tokens.items) found }
+// requires { IsMatched (map leaf tokens.items) matching }
 // ensures { result ≡ map leaf tokens.entry.items }
 #[inline]
-fn source_of<'a>(tokens: Vec<Token<'a>>, found: Matching) -> Source<'a> {
-    let first_break = break_of(found.unexpected, found.openings);
+fn source_of<'a>(tokens: Vec<Token<'a>>, matching: Matching) -> Source<'a> {
+    let first_break = break_of(matching.unexpected, matching.openings);
     Source {
         tokens,
-        partners: found.partners,
+        partners: matching.partners,
         first_break,
     }
 }

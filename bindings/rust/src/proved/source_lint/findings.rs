@@ -30,7 +30,7 @@ fn is_text_fault(fault: &CallFault<'_>) -> bool {
 #[inline]
 fn copies(edits: &[CallEdit]) -> bool {
     for edit in edits {
-        if edit.copied.is_some() {
+        if edit.copied_spot.is_some() {
             return true;
         }
     }

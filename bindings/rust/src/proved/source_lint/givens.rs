@@ -58,7 +58,7 @@ fn variable_of<'a>(tokens: &[Token<'a>], argument: &Argument) -> Option<&'a str>
 /// Returns an argument as placeholders refer to it.
 // ensures { seen_given result ≡ given (map leaf tokens.now) argument.now }
 #[inline]
-fn given<'a>(tokens: &[Token<'a>], argument: &Argument) -> FormatArgument<'a> {
+fn format_argument<'a>(tokens: &[Token<'a>], argument: &Argument) -> FormatArgument<'a> {
     FormatArgument {
         name: name_of(tokens, argument),
         variable: variable_of(tokens, argument),
@@ -75,7 +75,7 @@ pub fn givens<'a>(
 ) -> Result<Vec<FormatArgument<'a>>, AllocError> {
     let mut found = Vec::new();
     for argument in arguments {
-        found.try_push(given(tokens, argument))?;
+        found.try_push(format_argument(tokens, argument))?;
     }
     Ok(found)
 }

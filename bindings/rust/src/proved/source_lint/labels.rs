@@ -46,14 +46,10 @@ pub fn notes(site: Site<'_, '_>, notes: Vec<CallNote>) -> Result<Vec<Note>, Allo
 
 /// Appends the source of a place of a call, if there is one.
 // ensures { OnOk result ((s : List ℕ) × (string_bytes out.new ≡ string_bytes out.old ++ s)
-//     × Copies copied s) }
+//     × Copies spot s) }
 #[inline]
-fn put_copied(
-    out: &mut String,
-    site: Site<'_, '_>,
-    copied: Option<Spot>,
-) -> Result<(), AllocError> {
-    if let Some(spot) = copied {
+fn put_copied(out: &mut String, site: Site<'_, '_>, spot: Option<Spot>) -> Result<(), AllocError> {
+    if let Some(spot) = spot {
         let range = spot_range(site, spot);
         out.try_push_str(&site.text[range.start..range.end])?;
     }
@@ -66,7 +62,7 @@ fn put_copied(
 #[inline]
 fn edit_text(site: Site<'_, '_>, edit: CallEdit) -> Result<String, AllocError> {
     let mut text = edit.text;
-    put_copied(&mut text, site, edit.copied)?;
+    put_copied(&mut text, site, edit.copied_spot)?;
     text.try_push_str(edit.rest)?;
     Ok(text)
 }

@@ -25,23 +25,23 @@ pub struct Readings {
 /// findings.
 // requires { (c : CallValue) → Contains calls.now c → IsPair part.now (c.name + 2) c.close }
 // ensures read { OnOk result ((rs : List ReadingValue) × (xs : List FindingValue)
-//     × (found.new.calls.items ≡ found.old.calls.items ++ rs)
-//     × (found.new.findings.items ≡ found.old.findings.items ++ xs)
+//     × (readings.new.calls.items ≡ readings.old.calls.items ++ rs)
+//     × (readings.new.findings.items ≡ readings.old.findings.items ++ xs)
 //     × Gives (Reads (scope file.entry) file.entry.is_from_2021 part.now) calls.now rs xs) }
 // ensures spans { OnOk result (All (HasSpans file.entry.text.now)
-//     found.old.findings.items
-//     → All (HasSpans file.entry.text.now) found.new.findings.items) }
+//     readings.old.findings.items
+//     → All (HasSpans file.entry.text.now) readings.new.findings.items) }
 #[inline]
 pub fn read_calls<'a>(
-    found: &mut Readings,
+    readings: &mut Readings,
     file: File<'_, 'a>,
     part: &Part<'a>,
     calls: &[Call],
 ) -> Result<(), AllocError> {
     let mut rest = calls;
     while let Some((call, others)) = rest.split_first() {
-        let reading = read_call(&mut found.findings, file, part, call)?;
-        found.calls.try_push(reading)?;
+        let reading = read_call(&mut readings.findings, file, part, call)?;
+        readings.calls.try_push(reading)?;
         rest = others;
     }
     Ok(())

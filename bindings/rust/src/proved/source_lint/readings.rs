@@ -40,7 +40,8 @@ fn counted_givens<'a>(
 // requires { hashes string.style + length string.text.now + 2 < 2 ^ 64 }
 // ensures outcome { OnOk result (let s = start string.entry in (xs : List FindingValue)
 //     × (findings.new.items ≡ findings.old.items ++ xs)
-//     × AreFindings is_counted (call_of string.entry.captures s (map seen_given given.now)) xs) }
+//     × AreFindings is_counted (call_of string.entry.captures s
+//     (map seen_given arguments.now)) xs) }
 // ensures spans { OnOk result (All (HasSpans site.entry.text.now) findings.old.items
 //     → All (HasSpans site.entry.text.now) findings.new.items) }
 #[inline]
@@ -48,10 +49,10 @@ fn check_string<'c>(
     findings: &mut Vec<Finding>,
     site: Site<'_, '_>,
     string: FormatString<'c>,
-    given: &'c [FormatArgument<'c>],
+    arguments: &'c [FormatArgument<'c>],
     is_counted: bool,
 ) -> Result<(), AllocError> {
-    let checked = call_faults(string, given)?;
+    let checked = call_faults(string, arguments)?;
     put_findings(findings, site, &checked, is_counted)?;
     Ok(())
 }

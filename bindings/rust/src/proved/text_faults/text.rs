@@ -14,7 +14,7 @@ use crate::shim::prelude::*;
 // ensures { (fs : List (FaultValue Place)) → option_map seen_fault shown.entry ≡ fault_shown fs
 //     → option_map seen_fault result ≡ fault_shown (fs ++ seen_fault fault.entry ∷ []) }
 #[inline]
-fn chosen<'a>(shown: Option<Fault<'a>>, fault: Fault<'a>) -> Option<Fault<'a>> {
+fn choose<'a>(shown: Option<Fault<'a>>, fault: Fault<'a>) -> Option<Fault<'a>> {
     if shown.is_some() && !fault.is_front() {
         shown
     } else {
@@ -26,10 +26,10 @@ fn chosen<'a>(shown: Option<Fault<'a>>, fault: Fault<'a>) -> Option<Fault<'a>> {
 /// `None` if there is none.
 // ensures { option_map seen_fault result ≡ fault_shown (map seen_fault faults.entry.items) }
 #[inline]
-fn shown(faults: Vec<Fault<'_>>) -> Option<Fault<'_>> {
+fn shown_fault(faults: Vec<Fault<'_>>) -> Option<Fault<'_>> {
     let mut shown = None;
     for fault in faults {
-        shown = chosen(shown, fault);
+        shown = choose(shown, fault);
     }
     shown
 }
@@ -54,5 +54,5 @@ fn first_faults<'a>(parser: &mut Parser<'a>) -> Result<Vec<Fault<'a>>, AllocErro
 #[inline]
 pub fn text_fault<'a>(parser: &mut Parser<'a>) -> Result<Option<Fault<'a>>, AllocError> {
     let faults = first_faults(parser)?;
-    Ok(shown(faults))
+    Ok(shown_fault(faults))
 }

@@ -48,7 +48,7 @@ fn is_shared(side: Side) -> bool {
 // ensures { MatchOption result (are_shared rows.now ≡ true)
 //     (λ n. (n < length rows.now) × (are_shared (take n rows.now) ≡ true)) }
 #[inline]
-fn unchanged(rows: &[Row<'_>]) -> Option<usize> {
+fn first_change(rows: &[Row<'_>]) -> Option<usize> {
     for (index, row) in rows.iter().enumerate() {
         if !is_shared(row.side) {
             return Some(index);
@@ -83,11 +83,16 @@ fn put_number(out: &mut String, number: usize) -> Result<(), AllocError> {
 
 /// Appends where the lines of a hunk are in a text: the number of the first line, and how many
 /// there are. Without a line the number is that of the line before.
-// requires { before + count < 2 ^ 64 }
-// ensures { OnOk result (string_bytes out.new ≡ string_bytes out.old ++ extent before count) }
+// requires { lines_before + count < 2 ^ 64 }
+// ensures { OnOk result (string_bytes out.new
+//     ≡ string_bytes out.old ++ extent lines_before count) }
 #[inline]
-fn put_extent(out: &mut String, before: usize, count: usize) -> Result<(), AllocError> {
-    let first = if count == 0 { before } else { before + 1 };
+fn put_extent(out: &mut String, lines_before: usize, count: usize) -> Result<(), AllocError> {
+    let first = if count == 0 {
+        lines_before
+    } else {
+        lines_before + 1
+    };
     put_number(out, first)?;
     out.try_push_str(",")?;
     put_number(out, count)
@@ -134,32 +139,32 @@ fn put_rows(out: &mut String, rows: &[Row<'_>]) -> Result<(), AllocError> {
 }
 
 /// Appends a hunk of rows, with these numbers of lines before it.
-// requires old { before.old + old_count rows.now < 2 ^ 64 }
-// requires new { before.new + new_count rows.now < 2 ^ 64 }
+// requires old { numbers.old + old_count rows.now < 2 ^ 64 }
+// requires new { numbers.new + new_count rows.now < 2 ^ 64 }
 // ensures { OnOk result (string_bytes out.new
-//     ≡ string_bytes out.old ++ hunk_text before.old before.new rows.now) }
+//     ≡ string_bytes out.old ++ hunk_text numbers.old numbers.new rows.now) }
 #[inline]
-fn put_hunk(out: &mut String, before: Numbers, rows: &[Row<'_>]) -> Result<(), AllocError> {
+fn put_hunk(out: &mut String, numbers: Numbers, rows: &[Row<'_>]) -> Result<(), AllocError> {
     let inside = count(rows);
     out.try_push_str("@@ -")?;
-    put_extent(out, before.old, inside.old)?;
+    put_extent(out, numbers.old, inside.old)?;
     out.try_push_str(" +")?;
-    put_extent(out, before.new, inside.new)?;
+    put_extent(out, numbers.new, inside.new)?;
     out.try_push_str(" @@\n")?;
     put_rows(out, rows)
 }
 
 /// Returns the numbers of lines after rows.
-// requires old { before.old + old_count rows.now < 2 ^ 64 }
-// requires new { before.new + new_count rows.now < 2 ^ 64 }
-// ensures old { result.old ≡ before.old + old_count rows.now }
-// ensures new { result.new ≡ before.new + new_count rows.now }
+// requires old { numbers.old + old_count rows.now < 2 ^ 64 }
+// requires new { numbers.new + new_count rows.now < 2 ^ 64 }
+// ensures old { result.old ≡ numbers.old + old_count rows.now }
+// ensures new { result.new ≡ numbers.new + new_count rows.now }
 #[inline]
-fn after(before: Numbers, rows: &[Row<'_>]) -> Numbers {
+fn numbers_after(numbers: Numbers, rows: &[Row<'_>]) -> Numbers {
     let inside = count(rows);
     Numbers {
-        old: before.old + inside.old,
-        new: before.new + inside.new,
+        old: numbers.old + inside.old,
+        new: numbers.new + inside.new,
     }
 }
 
@@ -170,14 +175,14 @@ fn after(before: Numbers, rows: &[Row<'_>]) -> Numbers {
 fn put_hunks(out: &mut String, rows: &[Row<'_>]) -> Result<(), AllocError> {
     let mut rest = rows;
     let mut before = Numbers { old: 0, new: 0 };
-    while let Some(shared) = unchanged(rest) {
+    while let Some(shared) = first_change(rest) {
         let left_out = shared.saturating_sub(CONTEXT);
         let others = rest_after(rest, left_out);
         let length = hunk_len(others);
         let hunk = front(others, length);
-        let start = after(before, front(rest, left_out));
+        let start = numbers_after(before, front(rest, left_out));
         put_hunk(out, start, hunk)?;
-        before = after(start, hunk);
+        before = numbers_after(start, hunk);
         rest = rest_after(others, length);
     }
     Ok(())

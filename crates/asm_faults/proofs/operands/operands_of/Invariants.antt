@@ -10,8 +10,8 @@ invariant-loop-index l = record {
   holds : Holds (map seen_operand l.operands.slots.items) l.operands;
   many : length l.operands.slots.items ≡ l.index;
   outcome : map seen_fault l.faults.items ++ faults_from (map seen_operand l.operands.slots.items)
-      l.index (map seen_operand (drop l.index l.given))
-      ≡ map seen_fault l.fn.faults.items ++ faults_from [] 0 (map seen_operand l.given);
+      l.index (map seen_operand (drop l.index l.list))
+      ≡ map seen_fault l.fn.faults.items ++ faults_from [] 0 (map seen_operand l.list);
   held : slots_after (map seen_operand l.operands.slots.items)
-      (map seen_operand (drop l.index l.given)) ≡ slots_after [] (map seen_operand l.given);
+      (map seen_operand (drop l.index l.list)) ≡ slots_after [] (map seen_operand l.list);
 }

@@ -12,11 +12,12 @@ invariant-loop-index l = record {
   holds : Holds (map seen_kept l.arguments.list.items) l.arguments;
   outcome : map seen_fault l.faults.items ++ list_faults (map seen_kept l.arguments.list.items)
       l.index
-      (map seen_given (drop l.index l.given))
-      ≡ map seen_fault l.fn.faults.items ++ list_faults [] 0 (map seen_given l.given);
+      (map seen_given (drop l.index l.call_arguments))
+      ≡ map seen_fault l.fn.faults.items ++ list_faults [] 0 (map seen_given l.call_arguments);
   kept : kept_after (map seen_kept l.arguments.list.items) l.index
-      (map seen_given (drop l.index l.given)) ≡ kept_after [] 0 (map seen_given l.given);
+      (map seen_given (drop l.index l.call_arguments))
+      ≡ kept_after [] 0 (map seen_given l.call_arguments);
   ends : list_any is_last (list_faults (map seen_kept l.arguments.list.items) l.index
-      (map seen_given (drop l.index l.given)))
-      ≡ list_any is_last (list_faults [] 0 (map seen_given l.given));
+      (map seen_given (drop l.index l.call_arguments)))
+      ≡ list_any is_last (list_faults [] 0 (map seen_given l.call_arguments));
 }

@@ -16,14 +16,14 @@ use Rattle.call_faults.proofs.checker.faults_of.Goals as goal
 
 pub returns-clause-faults : goal.returns-clause-faults
 returns-clause-faults c = λ e.
-    let gs = map seen_given c.args.given.now in
+    let gs = map seen_given c.args.call_arguments.now in
     let ks = kept_after [] 0 gs in
     let holds : Holds ks c.in-Some.arguments = rw c.in-Some.is at c.in_ok-arguments.ensures.some in
     let goes_on : list_any is_last (list_faults [] 0 gs) ≡ false
     = rw c.in-Some.is at c.in_ok-arguments.ensures.ends in
-    let count : 0 + length gs ≡ length c.args.given.now
-    = omega (arith, length-map c.args.given.now seen_given) in
-    let below : AllByRecursion (λ k. k.index < length c.args.given.now) ks
+    let count : 0 + length gs ≡ length c.args.call_arguments.now
+    = omega (arith, length-map c.args.call_arguments.now seen_given) in
+    let below : AllByRecursion (λ k. k.index < length c.args.call_arguments.now) ks
     = subst (λ (n : ℕ). AllByRecursion (λ k. k.index < n) ks) count (kept-below [] 0 gs tt) in
     let outcome : map seen_fault c.arguments_of.new.faults.items ≡ list_faults [] 0 gs
     = rw c.new-faults.ensures.items at c.in_ok-arguments.ensures.outcome in

@@ -20,12 +20,13 @@ returns-then-not-is_settled c = λ ks h a.
     ≡ lookup_faults c.args.captures (names ks) ls = rw c.new-found.ensures.items
     at (c.in_ok-look_up.ensures (names ks) (holds-knows ks c.args.arguments.now h)) in
     joined (map seen_fault c.args.faults.now.items) (map seen_fault c.append.new.self.items)
-    (map seen_fault c.tell_missing.new.faults.items) (map seen_fault c.tell_left.new.faults.items) _
+    (map seen_fault c.tell_missing.new.faults.items)
+    (map seen_fault c.tell_unused.new.faults.items) _
     (map seen_fault c.look_up.new.faults.items) _ _ [] _
     (ap (map seen_fault) c.in_ok-append.ensures.items
     ∙ map-append seen_fault c.args.faults.now.items c.look_up.new.faults.items)
-    c.in_ok-tell_missing.ensures (rw c.deref-6.ensures.value at c.in_ok-tell_left.ensures)
-    (sym (append-nil (map seen_fault c.tell_left.new.faults.items)))
+    c.in_ok-tell_missing.ensures (rw c.deref-6.ensures.value at c.in_ok-tell_unused.ensures)
+    (sym (append-nil (map seen_fault c.tell_unused.new.faults.items)))
     (compared-parts c.args.captures ks ls _ _ _ _ found lacked left
     (sym (rw (c.deref-3.ensures.value, c.deref-4.ensures.value, c.deref-5.ensures.value)
     at c.is_settled-is_settled.ensures) ∙ c.if-not-is_settled.true))
@@ -44,12 +45,12 @@ returns c = λ ks h a.
     ≡ lookup_faults c.args.captures (names ks) ls = rw c.new-found.ensures.items
     at (c.in_ok-look_up.ensures (names ks) (holds-knows ks c.args.arguments.now h)) in
     joined (map seen_fault c.args.faults.now.items) (map seen_fault c.append.new.self.items)
-    (map seen_fault c.tell_missing.new.faults.items) (map seen_fault c.tell_left.new.faults.items)
+    (map seen_fault c.tell_missing.new.faults.items) (map seen_fault c.tell_unused.new.faults.items)
     (map seen_fault c.tell_by_index.new.faults.items)
     (map seen_fault c.look_up.new.faults.items) _ _ _ _
     (ap (map seen_fault) c.in_ok-append.ensures.items
     ∙ map-append seen_fault c.args.faults.now.items c.look_up.new.faults.items)
-    c.in_ok-tell_missing.ensures (rw c.deref-6.ensures.value at c.in_ok-tell_left.ensures)
+    c.in_ok-tell_missing.ensures (rw c.deref-6.ensures.value at c.in_ok-tell_unused.ensures)
     (rw (c.deref-7.ensures.value, h.list) at c.in_ok-tell_by_index.ensures)
     (compared-parts c.args.captures ks ls _ _ _ _ found lacked left
     (sym (rw (c.deref-3.ensures.value, c.deref-4.ensures.value, c.deref-5.ensures.value)

@@ -11,7 +11,7 @@ use Rattle.call_faults.proofs.compared.redundant_of.Goals as goal
 pub loop-kept-preserved : goal.loop-kept-preserved
 loop-kept-preserved c =
     let ls = map seen_lookup c.args.lookups.now in
-    kept-next seen_kept (is_redundant ls) c.args.left.now c.loop-kept.kept-index _
+    kept-next seen_kept (is_redundant ls) c.args.unused.now c.loop-kept.kept-index _
     c.loop-kept.redundant.items c.if-is_redundant.redundant.items c.is_redundant.result
     c.loop-kept-test.true c.loop-kept.invariant
     (c.is_redundant.ensures ∙ redundant-is ls _ _ (λ w. is_some (found_in

@@ -5,4 +5,4 @@ use Rattle.call_faults.proofs.compared.redundant_of.Given as goal
 
 abbrev pub invariant-loop-kept : goal.invariant-loop-kept
 invariant-loop-kept l = l.redundant.items ≡ indices
-    (filter (is_redundant (map seen_lookup l.lookups)) (map seen_kept (take l.kept-index l.left)))
+    (filter (is_redundant (map seen_lookup l.lookups)) (map seen_kept (take l.kept-index l.unused)))

@@ -5,5 +5,5 @@ use Rattle.call_faults.proofs.labels.have_names.Given as goal
 
 -- The answer for what is left is the answer for all.
 abbrev pub invariant-loop-first : goal.invariant-loop-first
-invariant-loop-first l = have_names (map seen_given (drop l.first-index l.given))
-    ≡ have_names (map seen_given l.given)
+invariant-loop-first l = have_names (map seen_given (drop l.first-index l.arguments))
+    ≡ have_names (map seen_given l.arguments)

@@ -8,4 +8,4 @@ use Rattle.call_faults.proofs.notes.variables_of.Given as goal
 -- The map has the variables of the arguments so far.
 abbrev pub invariant-loop-index : goal.invariant-loop-index
 invariant-loop-index l = (w : Text) → is_some (found_in l.names w)
-    ≡ list_any (is_variable (map seen_given l.given) w) (take l.index-index l.indices)
+    ≡ list_any (is_variable (map seen_given l.arguments) w) (take l.index-index l.indices)

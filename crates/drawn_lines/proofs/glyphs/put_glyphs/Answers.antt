@@ -13,7 +13,7 @@ loop-c-preserved c = record {
 
 pub returns-then-is_empty-clause-drawn : goal.returns-then-is_empty-clause-drawn
 returns-then-is_empty-clause-drawn c =
-    let skipped : c.args.skipped ≡ 0 = cc in
+    let skipped : c.args.count ≡ 0 = cc in
     let parts = c.split_printable.ensures in
     let none : length c.split_printable.result.1.now ≡ 0 = grind (arith, nat_tests) in
     let drawn = whole-printable c.args.text.now _ _ parts.parts none parts.pass in

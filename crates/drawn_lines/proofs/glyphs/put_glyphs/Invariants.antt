@@ -9,7 +9,7 @@ abbrev pub invariant-loop-c : goal.invariant-loop-c
 invariant-loop-c l = record {
   is_text : shadow (Utf8 l.rest);
   whole : string_bytes l.out ++ encode_utf8_all (drop l.skip (glyphs (chars l.rest)))
-      ≡ string_bytes l.fn.out ++ encode_utf8_all (drop l.fn.skipped (glyphs (chars l.fn.text)));
+      ≡ string_bytes l.fn.out ++ encode_utf8_all (drop l.fn.count (glyphs (chars l.fn.text)));
 }
 
 abbrev pub decreases-loop-c : goal.decreases-loop-c

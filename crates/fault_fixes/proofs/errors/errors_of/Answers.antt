@@ -32,9 +32,9 @@ pub returns-clause-errors : goal.returns-clause-errors
 returns-clause-errors c =
     let l = c.loop-argument in
     let h : is_nil l.parser.rest ≡ true = cc in
-    subst (λ es. IfOk c.joined.result (λ v. map seen_error v.items ≡ es))
+    subst (λ es. IfOk c.into_list.result (λ v. map seen_error v.items ≡ es))
     (sym (all_errors-end (record l.parser { errors = seen_errors l.errors }) h) ∙ l.invariant.same
-    ∙ ap all_errors c.in_ok-parser.ensures.start) c.joined.ensures
+    ∙ ap all_errors c.in_ok-parser.ensures.start) c.into_list.ensures
 
 pub returns-then-is_empty-clause-errors : goal.returns-then-is_empty-clause-errors
 returns-then-is_empty-clause-errors c =

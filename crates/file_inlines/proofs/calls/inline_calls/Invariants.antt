@@ -11,8 +11,8 @@ use Rattle.file_inlines.proofs.calls.inline_calls.Given as goal
 abbrev pub invariant-loop-call : goal.invariant-loop-call
 invariant-loop-call l = record {
   inlines : Giving (Inlines (scope l.file) l.file.is_from_2021 l.allows_mixed l.part) l.calls
-      l.rest l.initial.made.inlinings.items l.made.inlinings.items
-      (map seen_edit l.initial.made.edits.items) (map seen_edit l.made.edits.items);
+      l.rest l.initial.results.inlinings.items l.results.inlinings.items
+      (map seen_edit l.initial.results.edits.items) (map seen_edit l.results.edits.items);
   are_calls : (c : Call) → Contains l.rest c → IsPair l.part (c.name + 2) c.close;
 }
 

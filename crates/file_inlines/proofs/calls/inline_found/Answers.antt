@@ -22,7 +22,7 @@ inlined_as-requires c =
 
 pub returns : goal.returns
 returns c =
-    let found = c.args.found in
+    let found = c.args.site in
     let xs = map leaf found.tokens.now in
     let lines = without_crs (chars found.literal.text.now) in
     let r = rw c.in-Some.is at c.in_ok-literal.ensures.read in

@@ -10,7 +10,7 @@ use Rattle.file_inlines.proofs.edits.push_removals.Given as goal
 abbrev pub invariant-loop-index : goal.invariant-loop-index
 invariant-loop-index l = map seen_edit l.edits.items
     ++ filter_map (λ n. option_map (removal l.text (map leaf l.tokens)) (slice_get l.arguments n))
-    (drop l.index-index l.gone)
+    (drop l.index-index l.indices)
     ≡ map seen_edit l.fn.edits.items
     ++ filter_map (λ n. option_map (removal l.text (map leaf l.tokens)) (slice_get l.arguments n))
-    l.gone
+    l.indices

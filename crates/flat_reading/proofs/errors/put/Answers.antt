@@ -6,21 +6,21 @@ pub returns-then-to-texts-clause-grows : goal.returns-then-to-texts-clause-grows
 returns-then-to-texts-clause-grows c =
     let fit = c.if-to-texts.true in
     let sum = c.saturating_add-to.ensures in
-    let forward : c.args.used.now ≤ c.saturating_add-to.result = omega (arith, sum) in
-    let size : length c.copy_from_slice.new.self ≡ c.saturating_add-to.result - c.args.used.now =
+    let forward : c.args.size.now ≤ c.saturating_add-to.result = omega (arith, sum) in
+    let size : length c.copy_from_slice.new.self ≡ c.saturating_add-to.result - c.args.size.now =
     c.copy_from_slice.ensures.len
-    ∙ length-take-le _ _ (omega (arith, length-drop c.args.used.now c.args.texts.now)) in
-    put_grows c.args.texts.now c.copy_from_slice.new.self c.args.used.now c.saturating_add-to.result
+    ∙ length-take-le _ _ (omega (arith, length-drop c.args.size.now c.args.texts.now)) in
+    put_grows c.args.texts.now c.copy_from_slice.new.self c.args.size.now c.saturating_add-to.result
     forward fit size
 
 pub returns-then-to-texts-clause-holds : goal.returns-then-to-texts-clause-holds
 returns-then-to-texts-clause-holds c = λ _.
     let fit = c.if-to-texts.true in
     let sum = c.saturating_add-to.ensures in
-    let forward : c.args.used.now ≤ c.saturating_add-to.result = omega (arith, sum) in
-    let size : length c.copy_from_slice.new.self ≡ c.saturating_add-to.result - c.args.used.now =
+    let forward : c.args.size.now ≤ c.saturating_add-to.result = omega (arith, sum) in
+    let size : length c.copy_from_slice.new.self ≡ c.saturating_add-to.result - c.args.size.now =
     c.copy_from_slice.ensures.len
-    ∙ length-take-le _ _ (omega (arith, length-drop c.args.used.now c.args.texts.now)) in
-    put_holds c.args.texts.now c.copy_from_slice.new.self c.args.text.now c.args.used.now
+    ∙ length-take-le _ _ (omega (arith, length-drop c.args.size.now c.args.texts.now)) in
+    put_holds c.args.texts.now c.copy_from_slice.new.self c.args.text.now c.args.size.now
     c.saturating_add-to.result forward fit size
     (c.copy_from_slice.ensures.after ∙ c.as_bytes.ensures.value)

@@ -1,8 +1,8 @@
 use Rattle.format_calls.proofs.Walking.{closes-before, closes-none, opens-front}
 use Rattle.format_calls.proofs.split.arguments.Goals as goal
 
-pub between-requires : goal.between-requires
-between-requires c =
+pub arguments_between-requires : goal.arguments_between-requires
+arguments_between-requires c =
     opens-front _ _ _ c.in-Some.ensures.is_partner c.if-opening-close.true
 
 pub returns-else-opening-close-clause-none : goal.returns-else-opening-close-clause-none

@@ -5,17 +5,17 @@ use Rattle.format_lint.proofs.shown.shown_of_input.Goals as goal
 
 pub returns-clause-shown : goal.returns-clause-shown
 returns-clause-shown c = (
-  seen_source c.bare.result,
-  rw c.if-task.false (c.bare.ensures.value
+  seen_source c.text_source.result,
+  rw c.if-task.false (c.text_source.ensures.value
       (c.as_str.ensures.value ∙ c.in_ok-lines.ensures.ok)),
   c.in_ok-shown_of.ensures,
 )
 
 pub returns-clause-harmless : goal.returns-clause-harmless
 returns-clause-harmless c =
-    shown-harmless (seen_task c.args.task) c.args.input.now (seen_source c.bare.result)
+    shown-harmless (seen_task c.args.task) c.args.input.now (seen_source c.text_source.result)
     (seen_shown c.in_ok-shown_of.field-0)
-    (rw c.if-task.false (c.bare.ensures.value
+    (rw c.if-task.false (c.text_source.ensures.value
     (c.as_str.ensures.value ∙ c.in_ok-lines.ensures.ok))) c.in_ok-shown_of.ensures
 
 pub returns-then-task-clause-harmless : goal.returns-then-task-clause-harmless

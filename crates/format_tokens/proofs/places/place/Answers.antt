@@ -32,7 +32,7 @@ loop-label-preserved c =
             let kind = v.marked_kind.ensures
             ∙ ap (λ f. if f then label.kind else Unexpected) fit in
             rw (v.tokens-is, tokens, kind, after)
-            (place-some w _ c.loop-label.at c.args.kept _ _ _ _ _ e c.loop-label.invariant.kept
+            (place-some w _ c.loop-label.at c.args.count _ _ _ _ _ e c.loop-label.invariant.kept
             c.requires c.min.ensures v.if-at-to.true x)
             );
       }
@@ -41,7 +41,7 @@ loop-label-preserved c =
         so_far = λ w e. (
             let x = rw c.in-Some.ensures.cases.0 at c.loop-label.invariant.so_far w e in
             rw (v.tokens-is, after)
-            (place-none w c.loop-label.at c.args.kept _ _ _ _ _ c.min.ensures v.if-at-to.false x)
+            (place-none w c.loop-label.at c.args.count _ _ _ _ _ c.min.ensures v.if-at-to.false x)
             );
       }
     ]

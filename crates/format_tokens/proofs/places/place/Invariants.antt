@@ -7,13 +7,13 @@ use Rattle.format_tokens.proofs.places.place.Given as goal
 
 abbrev pub invariant-loop-label : goal.invariant-loop-label
 invariant-loop-label l = record {
-  kept : l.at ≤ l.kept;
+  kept : l.at ≤ l.count;
   so_far : (w : World) → l.starts ≡ starts_of w
       → map seen_token l.tokens.items
-      ++ placed_sizes w (length w.places - l.at) (l.kept - l.at)
+      ++ placed_sizes w (length w.places - l.at) (l.count - l.at)
       (marked l.names l.inside (pairs l.rest))
       ≡ map seen_token l.fn.tokens.items
-      ++ placed_sizes w (length w.places) l.kept (marked l.names false (pairs l.labels));
+      ++ placed_sizes w (length w.places) l.count (marked l.names false (pairs l.labels));
 }
 
 abbrev pub decreases-loop-label : goal.decreases-loop-label

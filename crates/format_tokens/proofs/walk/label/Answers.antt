@@ -30,5 +30,5 @@ pub returns-in_default : goal.returns-in_default
 returns-in_default c w n e left =
     none-took (seen_mode c.args.mode) n (chars c.args.text.now) _ _ _ _ _ _ refl
     (none_given w _ (sym (ap (option_map (seen_taken c.args.argument.now)) c.in_default.is) ∙ e))
-    (c.saturating_sub.ensures ∙ ap (λ k. k - c.args.left) c.width_of.ensures)
+    (c.saturating_sub.ensures ∙ ap (λ k. k - c.args.rest_len) c.width_of.ensures)
     c.in_ok-after.ensures left

@@ -5,5 +5,6 @@ use Rattle.format_tokens.proofs.walk.literal.Goals as goal
 pub returns : goal.returns
 returns c mode n l given left =
     literal-took mode n _ l _ _ _ _ _ _ _ _ _ refl given c.escape_width.ensures
-    c.in_ok-rest.ensures (c.saturating_sub.ensures ∙ ap (λ k. k - c.args.left) c.width_of.ensures)
+    c.in_ok-rest.ensures
+    (c.saturating_sub.ensures ∙ ap (λ k. k - c.args.rest_len) c.width_of.ensures)
     c.in_ok-after.ensures left

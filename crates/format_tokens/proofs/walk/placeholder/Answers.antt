@@ -38,5 +38,6 @@ returns c n t e v i =
     ended (seen_mode c.args.mode) n (chars c.args.text.now) t _ _ _ _ _ _ _ _ _ _
     (then t1 (then (then t2 (then t3 t4)) t5)) (c.from.ensures ∙ ap from_bool c.begins.ensures)
     c.in_ok-rest.ensures
-    (c.saturating_sub.ensures ∙ ap (λ k. k - c.args.left) c.width_of.ensures) c.in_ok-after.ensures
+    (c.saturating_sub.ensures ∙ ap (λ k. k - c.args.rest_len) c.width_of.ensures)
+    c.in_ok-after.ensures
     i

@@ -107,7 +107,7 @@ returns-clause-lines c = c.loop-taken.invariant.lines
     c.loop-taken.invariant.pieces)
 
 pub returns-clause-used : goal.returns-clause-used
-returns-clause-used c b us h = subst (λ ps. Holds (us ++ uses ps) c.loop-taken.used)
+returns-clause-used c b us h = subst (λ ps. Holds (us ++ uses ps) c.loop-taken.all_uses)
     (pieces_end c.loop-taken.parser c.args.parser.now.world _ _ (all_done c)
     c.loop-taken.invariant.pieces) (c.loop-taken.invariant.held b us h)
 

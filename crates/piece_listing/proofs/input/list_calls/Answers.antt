@@ -27,7 +27,7 @@ returns-clause-lines c =
     ∙ ap (λ ms. flat_map piece_line ps ++ (flat_map fault_line ms ++ report_lines r)) errors in
     let has_ends : c.in_ok-has_ends.has_ends ≡ (nat_lt 0 (length es) || has_entries r) =
     c.in_ok-has_ends.ensures.has_ends ∙ ap (λ ms. nat_lt 0 (length ms) || has_entries r) errors in
-    let held = λ (some : IsSome c.args.given).
+    let held = λ (some : IsSome c.args.arguments).
     let given : IsTrue c.is_some.result = search rules in
     c.in_ok-put_calls.ensures.used given [] c.new-used.ensures.holds in
     (r, c.in_ok-report.ensures.report ps held, rw (lines, has_ends) refl)

@@ -17,11 +17,11 @@ loop-name-preserved c = λ ys same.
     rw (texts-next c.args.names.now i past c.loop-name-test.true)
     (elim c.if-not-has_name.branch [
       | then-not-has_name+in_ok-insert_name w ↦
-          let new : is_known c.args.used.now (chars name.now) ≡ false = cc in
+          let new : is_known c.args.uses.now (chars name.now) ≡ false = cc in
           rw w.unused-is (w.in_ok-insert_name.ensures (texts (take i c.args.names.now)) ys
           (sym (same (chars name.now)) ∙ new) (c.loop-name.invariant ys same))
       | else-not-has_name w ↦
-          let was : is_known c.args.used.now (chars name.now) ≡ true = cc in
+          let was : is_known c.args.uses.now (chars name.now) ≡ true = cc in
           rw w.unused-is (Follows-skip (texts (take i c.args.names.now)) ys c.loop-name.unused
           (chars name.now) (sym (same (chars name.now)) ∙ was) (c.loop-name.invariant ys same))
     ])

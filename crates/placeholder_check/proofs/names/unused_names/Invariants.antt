@@ -9,5 +9,5 @@ use Rattle.placeholder_check.proofs.names.unused_names.Given as goal
 -- The set has those of the names so far that are not used.
 abbrev pub invariant-loop-name : goal.invariant-loop-name
 invariant-loop-name l = (ys : List Text)
-    → ((t : Text) → is_known l.used t ≡ list_any (bytes_eq t) ys)
+    → ((t : Text) → is_known l.uses t ≡ list_any (bytes_eq t) ys)
     → Follows (texts (take l.name-index l.names)) ys l.unused

@@ -17,6 +17,6 @@ returns c w x h s =
     (elim c.match-pop.branch [
       | in-Some+else-is_same v ↦ mismatch-last _ _ _ _ v.in-Some.ensures.items
           (sym v.if-is_same.ensures)
-      | in_default v ↦ mismatch-none c.args.found.now.openings.items _ (search rules)
+      | in_default v ↦ mismatch-none c.args.matching.now.openings.items _ (search rules)
     ])
     c.in_ok-push-2.ensures.items c.clear.ensures.items (search rules)

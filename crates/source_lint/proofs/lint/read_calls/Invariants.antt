@@ -11,11 +11,11 @@ use Rattle.source_lint.proofs.lint.read_calls.Given as goal
 abbrev pub invariant-loop-call : goal.invariant-loop-call
 invariant-loop-call l = record {
   read : Giving (Reads (scope l.file) l.file.is_from_2021 l.part) l.calls l.rest
-      l.initial.found.calls.items l.found.calls.items l.initial.found.findings.items
-      l.found.findings.items;
+      l.initial.readings.calls.items l.readings.calls.items l.initial.readings.findings.items
+      l.readings.findings.items;
   are_calls : (c : Call) → Contains l.rest c → IsPair l.part (c.name + 2) c.close;
-  spans : All (HasSpans l.file.text.now) l.initial.found.findings.items
-      → All (HasSpans l.file.text.now) l.found.findings.items;
+  spans : All (HasSpans l.file.text.now) l.initial.readings.findings.items
+      → All (HasSpans l.file.text.now) l.readings.findings.items;
 }
 
 abbrev pub decreases-loop-call : goal.decreases-loop-call

@@ -18,15 +18,15 @@ loop-shared-init c = record {
   text = rw (hunks_text-none, append-nil) refl;
 }
 
-pub after-start-requires-clause-old : goal.after-start-requires-clause-old
-after-start-requires-clause-old c =
+pub numbers_after-start-requires-clause-old : goal.numbers_after-start-requires-clause-old
+numbers_after-start-requires-clause-old c =
     let it = c.loop-shared.invariant in
     let fits = old_fits (rows_of it.parts) c.loop-shared.rest.now c.args.rows.now
     c.saturating_sub-left_out.result 0 it.rows in
     rw (c.front.ensures, it.old_is) (omega arith)
 
-pub after-start-requires-clause-new : goal.after-start-requires-clause-new
-after-start-requires-clause-new c =
+pub numbers_after-start-requires-clause-new : goal.numbers_after-start-requires-clause-new
+numbers_after-start-requires-clause-new c =
     let it = c.loop-shared.invariant in
     let fits = new_fits (rows_of it.parts) c.loop-shared.rest.now c.args.rows.now
     c.saturating_sub-left_out.result 0 it.rows in
@@ -38,7 +38,7 @@ put_hunk-requires-clause-old c =
     let fits = old_fits (rows_of it.parts) c.loop-shared.rest.now c.args.rows.now
     c.saturating_sub-left_out.result c.hunk_len-length.result it.rows in
     rw (
-      c.after-start.ensures.old,
+      c.numbers_after-start.ensures.old,
       it.old_is,
       c.front-hunk.ensures,
       c.rest_after-others.ensures,
@@ -51,33 +51,33 @@ put_hunk-requires-clause-new c =
     let fits = new_fits (rows_of it.parts) c.loop-shared.rest.now c.args.rows.now
     c.saturating_sub-left_out.result c.hunk_len-length.result it.rows in
     rw (
-      c.after-start.ensures.new,
+      c.numbers_after-start.ensures.new,
       it.new_is,
       c.front-hunk.ensures,
       c.rest_after-others.ensures,
       c.front.ensures,
     ) (omega arith)
 
-pub after-before-requires-clause-old : goal.after-before-requires-clause-old
-after-before-requires-clause-old c =
+pub numbers_after-before-requires-clause-old : goal.numbers_after-before-requires-clause-old
+numbers_after-before-requires-clause-old c =
     let it = c.loop-shared.invariant in
     let fits = old_fits (rows_of it.parts) c.loop-shared.rest.now c.args.rows.now
     c.saturating_sub-left_out.result c.hunk_len-length.result it.rows in
     rw (
-      c.after-start.ensures.old,
+      c.numbers_after-start.ensures.old,
       it.old_is,
       c.front-hunk.ensures,
       c.rest_after-others.ensures,
       c.front.ensures,
     ) (omega arith)
 
-pub after-before-requires-clause-new : goal.after-before-requires-clause-new
-after-before-requires-clause-new c =
+pub numbers_after-before-requires-clause-new : goal.numbers_after-before-requires-clause-new
+numbers_after-before-requires-clause-new c =
     let it = c.loop-shared.invariant in
     let fits = new_fits (rows_of it.parts) c.loop-shared.rest.now c.args.rows.now
     c.saturating_sub-left_out.result c.hunk_len-length.result it.rows in
     rw (
-      c.after-start.ensures.new,
+      c.numbers_after-start.ensures.new,
       it.new_is,
       c.front-hunk.ensures,
       c.rest_after-others.ensures,
@@ -94,17 +94,17 @@ loop-shared-preserved c =
     (c.loop-shared.before.new + new_count (take n rest)) (take m (drop n rest)) =
     rw (
       c.in_ok-put_hunk.ensures,
-      c.after-start.ensures.old,
-      c.after-start.ensures.new,
+      c.numbers_after-start.ensures.old,
+      c.numbers_after-start.ensures.new,
       c.front-hunk.ensures,
       c.rest_after-others.ensures,
       c.front.ensures,
     ) refl in
     rw (
-      c.after-before.ensures.old,
-      c.after-before.ensures.new,
-      c.after-start.ensures.old,
-      c.after-start.ensures.new,
+      c.numbers_after-before.ensures.old,
+      c.numbers_after-before.ensures.new,
+      c.numbers_after-start.ensures.old,
+      c.numbers_after-start.ensures.new,
       c.rest_after-rest.ensures,
       c.front-hunk.ensures,
       c.rest_after-others.ensures,

@@ -106,7 +106,7 @@ fn read_unicode(rest: &mut Rest<'_>) -> Option<char> {
 /// none.
 // ensures { result ≡ escaped letter }
 #[inline(always)]
-fn escaped(letter: char) -> Option<char> {
+fn simple_escape(letter: char) -> Option<char> {
     match letter {
         'n' => Some('\n'),
         'r' => Some('\r'),
@@ -129,7 +129,7 @@ fn read_escape(rest: &mut Rest<'_>) -> Option<Option<char>> {
         }
         'x' => Some(Some(read_byte(rest)?)),
         'u' => Some(Some(read_unicode(rest)?)),
-        letter => Some(Some(escaped(letter)?)),
+        letter => Some(Some(simple_escape(letter)?)),
     }
 }
 

@@ -62,7 +62,7 @@ loop-read-preserved c =
       read = c.in_ok-read.ensures.read;
       room = omega (arith, invariant.room, fewer, ap (λ (s : State). length s.rest) call.state);
       up_to = one_more w0.peeks w0.input.now s0 s new.parser
-          (states new.parser) c.loop-read.count c.loop-read.specs.used c.add_step.new.specs.used
+          (states new.parser) c.loop-read.count c.loop-read.specs.count c.add_step.new.specs.count
           w.finders new.finders c.loop-read.steps c.add_step.new.steps c.loop-read.specs.records.now
           c.add_step.new.specs.records.now
           (rw (states-more s new.parser more call.state) at invariant.up_to) call.state adds.used
@@ -70,7 +70,7 @@ loop-read-preserved c =
       kept_steps =
           kept_put w0.input.now (event w0.peeks s) c.loop-read.steps c.add_step.new.steps
           c.args.steps.now c.add_step.new.specs.records.now
-          c.loop-read.count c.add_step.new.specs.used added invariant.kept_steps;
+          c.loop-read.count c.add_step.new.specs.count added invariant.kept_steps;
       specs = added_on (specs_in (given s)) c.args.specs.now c.loop-read.specs c.add_step.new.specs
           c.requires.empty invariant.specs adds;
     }
@@ -95,7 +95,7 @@ returns c =
     invariant.ready.input invariant.ready.left invariant.read
     c.loop-read-test.false in
     let state = c.in_ok-add_end.ensures.state in
-    let used = c.loop-read.specs.used in
+    let used = c.loop-read.specs.count in
     let specs = c.loop-read.specs.records.now in
     let found = w.finders in
     let added = c.in_ok-add_end.ensures.added w0.peeks w0.input.now used specs in

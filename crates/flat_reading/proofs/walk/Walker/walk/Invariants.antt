@@ -14,11 +14,11 @@ invariant-loop-read l = record {
   up_to : (
       let old = l.fn.self in
       IsUpTo old.peeks old.input.now old.parser
-      (states l.self.parser) l.self.parser l.count l.specs.used l.self.finders l.steps
+      (states l.self.parser) l.self.parser l.count l.specs.count l.self.finders l.steps
       l.specs.records.now
       );
   kept_steps : drop l.count l.steps ≡ drop l.count l.fn.steps;
-  specs : Adds l.specs.used l.fn.specs l.specs;
+  specs : Adds l.specs.count l.fn.specs l.specs;
 }
 
 abbrev pub decreases-loop-read : goal.decreases-loop-read

@@ -1,8 +1,0 @@
-use Rattle.std.proofs.Common.{◌≡◌, map, take}
-use Rattle.inlined_arguments.specs.Seen.{seen_slot}
-use Rattle.inlined_arguments.specs.Values.{kept}
-use Rattle.inlined_arguments.proofs.slots.kept.Given as goal
-
-abbrev pub invariant-loop-slot : goal.invariant-loop-slot
-invariant-loop-slot l = map seen_slot l.kept.items
-    ≡ kept (map seen_slot (take l.slot-index l.slots))

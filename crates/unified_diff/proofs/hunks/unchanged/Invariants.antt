@@ -1,6 +1,0 @@
-use Rattle.std.proofs.Common.{◌≡◌, take, true}
-use Rattle.unified_diff.specs.Diffs.{are_shared}
-use Rattle.unified_diff.proofs.hunks.unchanged.Given as goal
-
-abbrev pub invariant-loop-index : goal.invariant-loop-index
-invariant-loop-index l = are_shared (take l.index l.rows) ≡ true
