@@ -19,8 +19,7 @@ CRATES = ("rustc_parse_format", "placeholder_check", "format_tokens", "fault_fix
           "lint_program", "formatread", "formatlint")
 NOTICE = """\
 // Extracted from {place} by tools/extract: not to be edited.
-// That source is proved, and each contract here is its. That this text means the same is tested:
-// by results from outside, and beside what is proved (.ci/bindings) and the original (tools/agree).
+// That source has the contracts, and is proved. That this text means the same is only tested.
 
 """
 
@@ -332,7 +331,7 @@ def rust_of(source, needs, crates, empty, cloned):
             + body
         )
     notice = NOTICE.format(place=f"crates/{source.crate}/src/{source.name}")
-    return f"{source.top.rstrip()}\n\n{notice}{body}\n"
+    return f"{rules.unsaid_of_file(source.top.rstrip())}\n\n{notice}{body}\n"
 
 
 def item_rewritten(source, item, crates, empty, cloned):
@@ -359,8 +358,8 @@ def item_rewritten(source, item, crates, empty, cloned):
 
 
 def head_of(source, item):
-    """Puts the clauses of a function after its documentation, and lets it be inlined if no attribute
-    says otherwise: rustc compiles a crate in parts, and Rattle as a whole."""
+    """Lets a function be inlined if no attribute says otherwise: rustc compiles a crate in parts, and
+    Rattle as a whole."""
     if item.kind == "fn":
         if (source.name, item.name) == ("main.rt", "main"):
             # a program of the crate for Rust calls it
@@ -370,8 +369,8 @@ def head_of(source, item):
                 # what calls the crates stands outside of them
                 source.tokens[at].text = "crate"
         words = source.texts(item.start, item.head)
-        inline = "" if "inline" in words else "#[inline]\n"
-        source.tokens[item.start].text = item.clauses + inline + source.tokens[item.start].text
+        if "inline" not in words:
+            source.tokens[item.start].text = "#[inline]\n" + source.tokens[item.start].text
 
 
 def derives(source, item, cloned):

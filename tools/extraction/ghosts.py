@@ -1,7 +1,5 @@
 """Leaves out what is there for the prover alone: clauses, ghost items and members, attributes for
 the prover, and values of no size with what is done to them."""
-import textwrap
-
 from extraction.rules import ATTRIBUTES, OPENED
 
 NUMBERS = ("bool", "char", "u8", "u16", "u32", "u64", "usize")
@@ -16,8 +14,7 @@ KEYWORDS = ("as", "break", "const", "continue", "crate", "else", "fn", "for", "i
 
 
 def strip(source, items):
-    """Leaves out clauses, ghost items and members, and the attributes that are for the prover. The
-    clauses are kept as text."""
+    """Leaves out clauses, ghost items and members, and the attributes that are for the prover."""
     for item in items:
         if item.kind == "ghost":
             continue
@@ -27,7 +24,7 @@ def strip(source, items):
             continue
         attributes(source, item)
         if item.kind == "fn":
-            item.clauses = clauses(source, item)
+            clauses(source, item)
         elif item.kind == "struct" and source.text(item.open) == "{":
             members(source, item)
         elif item.kind == "impl":
@@ -51,21 +48,16 @@ def attributes(source, item):
 
 
 def clauses(source, item):
-    """Takes the clauses of a function out, and answers them as the lines of a comment."""
+    """Leaves out the clauses of a function, with the comments between them."""
     places = source.places(item.head, item.open - 1)
     first = next((at for at in places if source.tokens[at].is_word("requires", "ensures")), None)
     if first is None:
-        return ""
+        return
     if not all(source.tokens[at].is_word("requires", "ensures") or source.is_word(at)
                or source.tokens[at].kind == "ghost" for at in places if at >= first):
         source.refuse(first, "something after the clauses of a function that is no clause")
-    last = source.prev(item.open)
-    before = source.prev(first) + 1
-    text = source.span(before, last)
-    source.cut(before, item.open - 1)
+    source.cut(source.prev(first) + 1, item.open - 1)
     source.tokens[item.open - 1].kind, source.tokens[item.open - 1].text = "space", " "
-    lines = textwrap.dedent(text.strip("\n")).splitlines()
-    return "".join(f"// {line.removeprefix('// ')}\n" for line in lines if line.strip())
 
 
 def members(source, item):

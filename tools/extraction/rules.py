@@ -86,8 +86,8 @@ ADDED = {("placeholder_check", "Report"): ("Clone", *SHOWN),
             for name in ("Kind", "Token")}}
 # Members that what calls the crates has to write, for which they have no call.
 OPENED = {"Cursor": {"source"}}
-# What is said at the end of the documentation of a function, of an error that has no value in Rust.
-UNSAID = ("Returns `Err` if an allocation fails.",)
+# What is said of an error that has no value in Rust.
+UNSAID = "returns `Err` if an allocation fails"
 # Words after which an expression may begin.
 KEYWORDS = ("else", "if", "in", "match", "return", "while")
 # Methods of the library that do the same in both languages, and on each Unicode version but for
@@ -175,16 +175,25 @@ def rewrite(source, item, crate, crates):
 
 
 def unsaid(source, item):
-    """Leaves a sentence of UNSAID out of the documentation of a function with such an error, where
-    it is the last one."""
+    """Leaves the last sentence out of the documentation of a function with such an error, if it says
+    that alone, or also what is then so."""
     words = source.texts(item.head, item.open)
     if item.first < item.start and words[-4:-1] == [",", "AllocError", ">"]:
         text = source.span(item.first, item.start - 1)
-        for said in UNSAID:
-            words = re.escape(said).replace(r"\ ", r"( |\n\s*/// )")
-            text = re.sub(rf"((?<=\.) |(^|\n) */// ){words}(?=\s*\Z)", "", text)
+        said = spaced(f"R{UNSAID[1:]}", "///") + r"((;|, and)[^.]*\bthen\b[^.]*)?\.\s*\Z"
         source.cut(item.first, item.start - 1)
-        source.tokens[item.first].text = text
+        source.tokens[item.first].text = re.sub(rf"((?<=\.) |(^|\n) */// ){said}", "\n", text)
+
+
+def unsaid_of_file(text):
+    """Leaves out of the documentation of a file, at the end of a line, that its functions return such
+    an error too."""
+    return re.sub(spaced(f", and {UNSAID}.", "//!") + "$", ".", text, flags=re.M)
+
+
+def spaced(words, mark):
+    """A pattern of words that may go on in the next line of a comment."""
+    return re.escape(words).replace(r"\ ", rf"( |\n\s*{mark} )")
 
 
 def refuse_other(source, at, known):
@@ -234,8 +243,8 @@ def macro(source, at):
         if name == "vec" and not repeats(source, source.next(opening), source.close(opening)):
             source.refuse(at, "a `vec!` of other items than a plain one, again and again")
     texts = [it.text for it in source.tokens[opening : source.close(opening)] if it.kind == "string"]
-    if name != "matches" and any(re.search(r"\?\}", it) for it in texts):
-        source.refuse(at, f"a `{name}!` that shows a value as `Debug` does")
+    if name != "matches" and any(re.search(r"[?#]\}", it) for it in texts):
+        source.refuse(at, f"a `{name}!` that shows a value by `?` or `#`")
     if (name in ("eprint", "eprintln")
             and [source.text(inner), source.text(source.next(inner))] != ["rt", ";"]):
         source.refuse(at, f"an `{name}!` without the process")

@@ -15,7 +15,7 @@ class Item:
     def __init__(self, kind, first, start, head, last):
         self.kind, self.first, self.start, self.head, self.last = kind, first, start, head, last
         self.name = self.trait = self.open = self.of = None
-        self.parts, self.members, self.clauses, self.derive = [], [], "", None
+        self.parts, self.members, self.derive = [], [], None
         self.is_public = self.is_kept = self.has_members = False
         self.allocates = False  # a function with an allocator, or the error of an allocation
 

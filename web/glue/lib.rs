@@ -1,6 +1,6 @@
 //! The extracted parser for the page: a literal goes in, and its reading comes out as JSON.
 use dephungo::faults::{draw, edits, fix, Picture};
-use dephungo::{check, literal::read_content, tokens::*, ParseMode::*, *};
+use dephungo::{literal::read_content, report::check, tokens::*, ParseMode::*, *};
 use std::{fmt::Display, ops::Range, slice::from_ref, sync::Mutex};
 
 /// The most faults, or arguments of a kind, that are listed.

@@ -17,7 +17,7 @@ pub mod programs;
 #[allow(dead_code, unused_variables, irrefutable_let_patterns, clippy::all)]
 #[deny(clippy::incompatible_msrv)]
 mod proved;
-mod report;
+pub mod report;
 // Without the programs a part of it is unused.
 #[cfg_attr(not(feature = "std"), allow(dead_code, unused_imports, unused_macros))]
 mod shim;
@@ -29,7 +29,6 @@ pub use proved::rustc_parse_format::{
     Alignment, Argument, Count, DebugHex, FormatSpec, ParseError, ParseMode, Piece, Position, Sign,
     Suggestion,
 };
-pub use report::{check, Report};
 pub use Alignment::*;
 pub use Count::*;
 pub use Position::*;

@@ -3,9 +3,10 @@
 //! an input.
 use crate::faults::{errors_of, faults_of, fix, Fault, Fixed};
 use crate::proved::rustc_parse_format::literal::read_content as read_content_in;
+use crate::report::{check, Report};
 use crate::shim::alloc::answer;
 use crate::tokens::{tokens, Token};
-use crate::{check, ParseError, ParseMode, Parser, Piece, Report};
+use crate::{ParseError, ParseMode, Parser, Piece};
 use alloc::string::ToString;
 use alloc::vec::Vec;
 

@@ -1,4 +1,5 @@
-//! Compares the placeholders of a format string with the arguments that are given to it.
+//! The report on arguments: compares the placeholders of a format string with the arguments that are
+//! given to it.
 use crate::proved::placeholder_check::check as check_in;
 use crate::shim::alloc::answer;
 use crate::Piece;
@@ -16,7 +17,7 @@ pub use crate::proved::placeholder_check::Report;
 /// aborts, as elsewhere in Rust.
 ///
 /// ```
-/// use dephungo::{check, ParseMode, Parser, Piece};
+/// use dephungo::{report::check, ParseMode, Parser, Piece};
 ///
 /// let pieces: Vec<Piece> = Parser::new("{1} {x:w$}", None, None, false, ParseMode::Format).collect();
 /// let report = check(&pieces, 2, &["w", "z"]);

@@ -3,7 +3,7 @@ use dephungo::faults::{errors_of, faults_of, fix};
 use dephungo::literal::{is_source_literal, Literal};
 use dephungo::tokens::tokens;
 use dephungo::ParseMode::{Format, InlineAsm};
-use dephungo::{check, ParseMode, Parser, Piece};
+use dephungo::{report::check, ParseMode, Parser, Piece};
 
 /// Compares a literal of this text and style with what the calls say that take these.
 fn same(snippet: &str, text: &str, style: Option<usize>, newline: bool, mode: ParseMode) {

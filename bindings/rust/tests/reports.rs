@@ -1,5 +1,5 @@
 //! The report on placeholders and arguments, beside one that looks each of them up by itself.
-use dephungo::*;
+use dephungo::{report::check, *};
 
 /// Which numbers and which names pieces use, in order.
 fn uses<'a>(pieces: &[Piece<'a>]) -> (Vec<usize>, Vec<&'a str>) {

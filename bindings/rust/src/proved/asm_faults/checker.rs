@@ -1,8 +1,7 @@
 //! The check of a call.
 
 // Extracted from crates/asm_faults/src/checker.rt by tools/extract: not to be edited.
-// That source is proved, and each contract here is its. That this text means the same is tested:
-// by results from outside, and beside what is proved (.ci/bindings) and the original (tools/agree).
+// That source has the contracts, and is proved. That this text means the same is only tested.
 
 use crate::proved::asm_faults::compared::{check_unused, look_up};
 use crate::proved::asm_faults::faults::AsmFault;
@@ -22,12 +21,6 @@ pub struct AsmCall<'a> {
 }
 
 /// Adds the faults of templates and operands.
-// requires { AllByRecursion (λ t. hashes t.style + length t.text.now + 2 < 2 ^ 64)
-//     templates.now }
-// ensures { OnOk result ((ss : List OperandValue) → Holds ss operands.now
-//     → map seen_fault faults.new.items ≡ map seen_fault faults.old.items
-//     ++ compared ss (lookups_from 0 0 (map seen_template templates.now))
-//     (template_fault 0 (map seen_template templates.now))) }
 #[inline]
 fn compare<'a>(
     faults: &mut Vec<AsmFault<'a>>,
@@ -54,12 +47,6 @@ fn compare<'a>(
 /// With `options(raw)` the templates have no placeholders, so none is to be given here. For each
 /// template the number of hashes, the length of the text in bytes, and 2 must together fit into a
 /// `usize`.
-// requires { AllByRecursion (λ t. hashes t.style + length t.text.now + 2 < 2 ^ 64)
-//     templates.now }
-// ensures operands { IfOk result (λ x. map seen_operand x.operands.items
-//     ≡ slots_after [] (map seen_operand operands.now)) }
-// ensures faults { IfOk result (λ x. map seen_fault x.faults.items
-//     ≡ asm_faults (map seen_template templates.now) (map seen_operand operands.now)) }
 #[inline]
 pub fn asm_faults<'a>(
     templates: &[Template<'a>],

@@ -1,8 +1,7 @@
 //! The comparison of lookups with the operands.
 
 // Extracted from crates/asm_faults/src/compared.rt by tools/extract: not to be edited.
-// That source is proved, and each contract here is its. That this text means the same is tested:
-// by results from outside, and beside what is proved (.ci/bindings) and the original (tools/agree).
+// That source has the contracts, and is proved. That this text means the same is only tested.
 
 use crate::proved::asm_faults::faults::AsmFault;
 use crate::proved::asm_faults::lookups::Lookup;
@@ -11,8 +10,6 @@ use crate::shim::alloc::AllocError;
 use crate::shim::prelude::*;
 
 /// Returns the index of the operand that a lookup means, or `None` if it means none.
-// ensures { (ss : List OperandValue) → Holds ss operands.now → (i : ℕ)
-//     → option_map_or (λ j. i == j) result false ≡ means ss i (seen_lookup lookup.now) }
 #[inline]
 fn meant<'a>(operands: &Operands<'a>, lookup: &Lookup<'a>) -> Option<usize> {
     match *lookup {
@@ -26,8 +23,6 @@ fn meant<'a>(operands: &Operands<'a>, lookup: &Lookup<'a>) -> Option<usize> {
 }
 
 /// Returns of each operand whether a lookup means it.
-// ensures { IfOk result (λ v. (ss : List OperandValue) → Holds ss operands.now → (i : ℕ)
-//     → get_or v.items i false ≡ list_any (means ss i) (map seen_lookup lookups.now)) }
 #[inline]
 fn marks<'a>(operands: &Operands<'a>, lookups: &[Lookup<'a>]) -> Result<Vec<bool>, AllocError> {
     let mut marks = crate::shim::try_vec![false; operands.slots.len()]?;
@@ -42,15 +37,12 @@ fn marks<'a>(operands: &Operands<'a>, lookups: &[Lookup<'a>]) -> Result<Vec<bool
 }
 
 /// Returns whether an operand is marked, or has a register of its own.
-// ensures { result ≡ (is_register (seen_operand slot.now) || get_or marks.now index false) }
 #[inline]
 fn is_settled(marks: &[bool], index: usize, slot: &Operand<'_>) -> bool {
     matches!(slot, Operand::Register { .. }) || matches!(marks.get(index), Some(true))
 }
 
 /// Adds the index of an operand, unless it is marked or has a register of its own.
-// ensures { OnOk result (unused.new.items ≡ unused.old.items
-//     ++ unused_one (λ i. get_or marks.now i false) index (seen_operand slot.now)) }
 #[inline]
 fn push_unmarked(
     unused: &mut Vec<usize>,
@@ -66,8 +58,6 @@ fn push_unmarked(
 
 /// Returns the indices of the operands that are not marked, but for those with a register of their
 /// own.
-// ensures { IfOk result (λ v. v.items
-//     ≡ unused_from (λ i. get_or marks.now i false) 0 (map seen_operand slots.now)) }
 #[inline]
 fn unmarked_operands(slots: &[Operand<'_>], marks: &[bool]) -> Result<Vec<usize>, AllocError> {
     let mut left = Vec::new();
@@ -79,8 +69,6 @@ fn unmarked_operands(slots: &[Operand<'_>], marks: &[bool]) -> Result<Vec<usize>
 
 /// Returns the fault of a lookup, or `None` if there is none, where so many operands have neither a
 /// name nor a register of their own.
-// ensures { (ss : List OperandValue) → Holds ss operands.now
-//     → option_map seen_fault result ≡ fault_of ss positional_count (seen_lookup lookup.now) }
 #[inline]
 fn fault_of<'a>(
     operands: &Operands<'a>,
@@ -107,9 +95,6 @@ fn fault_of<'a>(
 }
 
 /// Adds the faults of lookups.
-// ensures { OnOk result ((ss : List OperandValue) → Holds ss operands.now
-//     → map seen_fault faults.new.items ≡ map seen_fault faults.old.items
-//     ++ filter_map (fault_of ss (count_unnamed ss)) (map seen_lookup lookups.now)) }
 #[inline]
 pub(crate) fn look_up<'a>(
     faults: &mut Vec<AsmFault<'a>>,
@@ -126,8 +111,6 @@ pub(crate) fn look_up<'a>(
 }
 
 /// Adds the fault of unused operands, if there are any.
-// ensures { OnOk result (map seen_fault faults.new.items ≡ map seen_fault faults.old.items
-//     ++ unused_faults unused.items) }
 #[inline]
 fn push_unused(faults: &mut Vec<AsmFault<'_>>, unused: Vec<usize>) -> Result<(), AllocError> {
     if !unused.is_empty() {
@@ -137,9 +120,6 @@ fn push_unused(faults: &mut Vec<AsmFault<'_>>, unused: Vec<usize>) -> Result<(),
 }
 
 /// Adds the fault of the operands that no lookup means, if there are any.
-// ensures { OnOk result ((ss : List OperandValue) → Holds ss operands.now
-//     → map seen_fault faults.new.items ≡ map seen_fault faults.old.items
-//     ++ unused_faults (unused ss (map seen_lookup lookups.now))) }
 #[inline]
 pub(crate) fn check_unused<'a>(
     faults: &mut Vec<AsmFault<'a>>,

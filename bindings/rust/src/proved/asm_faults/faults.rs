@@ -1,8 +1,7 @@
 //! The faults of a call with templates, as plain data.
 
 // Extracted from crates/asm_faults/src/faults.rt by tools/extract: not to be edited.
-// That source is proved, and each contract here is its. That this text means the same is tested:
-// by results from outside, and beside what is proved (.ci/bindings) and the original (tools/agree).
+// That source has the contracts, and is proved. That this text means the same is only tested.
 
 use crate::proved::rustc_parse_format::Fault;
 use crate::shim::prelude::*;

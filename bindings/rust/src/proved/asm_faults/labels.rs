@@ -1,9 +1,8 @@
 //! The labels of faults, in rustc's words. A function whose name begins with `push_` adds to the
-//! end of `labels`, and returns `Err` if an allocation fails.
+//! end of `labels`.
 
 // Extracted from crates/asm_faults/src/labels.rt by tools/extract: not to be edited.
-// That source is proved, and each contract here is its. That this text means the same is tested:
-// by results from outside, and beside what is proved (.ci/bindings) and the original (tools/agree).
+// That source has the contracts, and is proved. That this text means the same is only tested.
 
 use crate::proved::asm_faults::checker::AsmCall;
 use crate::proved::asm_faults::faults::{AsmFault, AsmSpot};
@@ -26,8 +25,6 @@ pub struct AsmLabel {
 }
 
 /// Adds a label.
-// ensures { OnOk result (map seen_label labels.new.items
-//     ≡ map seen_label labels.old.items ++ label spot is_primary text.now ∷ []) }
 #[inline]
 fn push_label(
     labels: &mut Vec<AsmLabel>,
@@ -45,8 +42,6 @@ fn push_label(
 }
 
 /// Adds the label of an operand that an index does not mean.
-// ensures { OnOk result (map seen_label labels.new.items
-//     ≡ map seen_label labels.old.items ++ kind_label index (seen_operand operand.now)) }
 #[inline]
 fn push_kind(
     labels: &mut Vec<AsmLabel>,
@@ -63,8 +58,6 @@ fn push_kind(
 }
 
 /// Adds the label of the operand of an index, if there is one, and an index does not mean it.
-// ensures { OnOk result (map seen_label labels.new.items ≡ map seen_label labels.old.items
-//     ++ kind_at index (option_map seen_operand operand.entry)) }
 #[inline]
 fn push_kind_at(
     labels: &mut Vec<AsmLabel>,
@@ -78,8 +71,6 @@ fn push_kind_at(
 }
 
 /// Adds the labels of the operands of these indices that an index does not mean.
-// ensures { OnOk result (map seen_label labels.new.items ≡ map seen_label labels.old.items
-//     ++ kinds_at (map seen_operand operands.now) indices.now) }
 #[inline]
 fn push_kinds(
     labels: &mut Vec<AsmLabel>,
@@ -95,8 +86,6 @@ fn push_kinds(
 }
 
 /// Adds the labels of an operand without a name, which stands after these others.
-// ensures { OnOk result (map seen_label labels.new.items ≡ map seen_label labels.old.items
-//     ++ late_labels (map seen_operand operands.now) index others.now) }
 #[inline]
 fn push_late(
     labels: &mut Vec<AsmLabel>,
@@ -110,8 +99,6 @@ fn push_late(
 }
 
 /// Adds the labels of a wrong index of the placeholder at `spot`.
-// ensures { OnOk result (map seen_label labels.new.items ≡ map seen_label labels.old.items
-//     ++ wrong_labels spot index (slice_get (map seen_operand operands.now) index)) }
 #[inline]
 fn push_wrong(
     labels: &mut Vec<AsmLabel>,
@@ -125,8 +112,6 @@ fn push_wrong(
 }
 
 /// Adds the label of the second range of an error of a template, if it has one.
-// ensures { OnOk result (map seen_label labels.new.items ≡ map seen_label labels.old.items
-//     ++ second_labels template (seen_error error.now).span (seen_error error.now).second) }
 #[inline]
 fn push_second(
     labels: &mut Vec<AsmLabel>,
@@ -141,8 +126,6 @@ fn push_second(
 }
 
 /// Returns the text of the place of an error of a template.
-// ensures { IfOk result (λ t. string_bytes t
-//     ≡ (seen_error error.now).label ++ codes " in asm template string") }
 #[inline]
 fn error_text(error: &ParseError) -> Result<String, AllocError> {
     let mut text = String::made_from(&error.label)?;
@@ -151,8 +134,6 @@ fn error_text(error: &ParseError) -> Result<String, AllocError> {
 }
 
 /// Adds the labels of an error of a template.
-// ensures { OnOk result (map seen_label labels.new.items ≡ map seen_label labels.old.items
-//     ++ text_labels template (seen_error error.now)) }
 #[inline]
 fn push_error(
     labels: &mut Vec<AsmLabel>,
@@ -166,8 +147,6 @@ fn push_error(
 }
 
 /// Adds the labels of a fault of a template.
-// ensures { OnOk result (map seen_label labels.new.items ≡ map seen_label labels.old.items
-//     ++ text_labels template (message (seen_text_fault fault.now))) }
 #[inline]
 fn push_text(
     labels: &mut Vec<AsmLabel>,
@@ -180,8 +159,6 @@ fn push_text(
 }
 
 /// Adds the labels of operands that are not used.
-// ensures { OnOk result (map seen_label labels.new.items ≡ map seen_label labels.old.items
-//     ++ unused_labels (map seen_operand operands.now) unused.now) }
 #[inline]
 fn push_unused(
     labels: &mut Vec<AsmLabel>,
@@ -199,8 +176,6 @@ fn push_unused(
 
 impl<'a> AsmCall<'a> {
     /// Returns the labels of one of the faults, in rustc's order.
-    // ensures { IfOk result (λ v. map seen_label v.items
-    //     ≡ labels (map seen_operand self.now.operands.items) (seen_fault fault.now)) }
     #[inline]
     pub(crate) fn labels(&self, fault: &AsmFault<'a>) -> Result<Vec<AsmLabel>, AllocError> {
         let mut labels = Vec::new();

@@ -1,8 +1,7 @@
 //! The lookups for the placeholders of a template, in rustc's order.
 
 // Extracted from crates/asm_faults/src/lookups.rt by tools/extract: not to be edited.
-// That source is proved, and each contract here is its. That this text means the same is tested:
-// by results from outside, and beside what is proved (.ci/bindings) and the original (tools/agree).
+// That source has the contracts, and is proved. That this text means the same is only tested.
 
 use crate::proved::asm_faults::faults::AsmSpot;
 use crate::proved::rustc_parse_format::{Argument, Piece, Position};
@@ -30,7 +29,6 @@ pub(crate) struct Walk<'a> {
 }
 
 /// Returns a range of a template.
-// ensures { result ≡ spot_of template (Some (pair span.now)) }
 #[inline]
 pub(crate) fn bytes_at(template: usize, span: &Range<usize>) -> AsmSpot {
     AsmSpot::Bytes {
@@ -41,7 +39,6 @@ pub(crate) fn bytes_at(template: usize, span: &Range<usize>) -> AsmSpot {
 }
 
 /// Returns a range of a template, or the whole template if there is none.
-// ensures { result ≡ spot_of template (option_map pair span.now) }
 #[inline]
 fn spot_of(template: usize, span: &Option<Range<usize>>) -> AsmSpot {
     match span {
@@ -51,7 +48,6 @@ fn spot_of(template: usize, span: &Option<Range<usize>>) -> AsmSpot {
 }
 
 /// Returns the first of the places of placeholders, or the whole template if there is none.
-// ensures { result ≡ first_spot template (map pair places.now) }
 #[inline]
 fn first_spot(template: usize, places: &[Range<usize>]) -> AsmSpot {
     match places.first() {
@@ -61,7 +57,6 @@ fn first_spot(template: usize, places: &[Range<usize>]) -> AsmSpot {
 }
 
 /// Returns the places after the first one.
-// ensures { map pair result.now ≡ drop 1 (map pair places.now) }
 #[inline]
 fn others(places: &[Range<usize>]) -> &[Range<usize>] {
     match places.split_first() {
@@ -71,7 +66,6 @@ fn others(places: &[Range<usize>]) -> &[Range<usize>] {
 }
 
 /// Returns whether a position is that of a placeholder without one.
-// ensures { result ≡ is_next (seen_position position.now) }
 #[inline]
 fn is_next(position: &Position<'_>) -> bool {
     matches!(position, Position::ArgumentImplicitlyIs(_))
@@ -79,8 +73,6 @@ fn is_next(position: &Position<'_>) -> bool {
 
 /// Returns the lookup of the position of a placeholder at a place, where one without a position
 /// means the operand of the index `next`.
-// ensures { seen_lookup result
-//     ≡ position_lookup template next spot (seen_argument argument.now) }
 #[inline]
 fn position_lookup<'a>(
     template: usize,
@@ -98,24 +90,18 @@ fn position_lookup<'a>(
 }
 
 /// Returns the number of characters of a text.
-// ensures { result ≡ length (chars text.now) }
 #[inline]
 fn length_of(text: &str) -> usize {
     text.chars().count()
 }
 
 /// Returns whether a modifier has several characters.
-// ensures { result ≡ is_long (chars ty.now) }
 #[inline]
 fn is_long(ty: &str) -> bool {
     length_of(ty) > 1
 }
 
 /// Adds the lookup for the modifier of a placeholder.
-// ensures lookups { OnOk result (map seen_lookup lookups.new.items
-//     ≡ map seen_lookup lookups.old.items
-//     ++ modifier_lookups template (seen_argument argument.now).format) }
-// ensures more { OnOk result (length lookups.old.items ≤ length lookups.new.items) }
 #[inline]
 fn push_modifier<'a>(
     lookups: &mut Vec<Lookup<'a>>,
@@ -132,13 +118,6 @@ fn push_modifier<'a>(
 }
 
 /// Adds the lookups for a placeholder at a place.
-// requires { walk.old.next ≤ length walk.old.lookups.items }
-// ensures lookups { OnOk result (map seen_lookup walk.new.lookups.items
-//     ≡ map seen_lookup walk.old.lookups.items
-//     ++ argument_lookups template walk.old.next spot (seen_argument argument.now)) }
-// ensures next { OnOk result (walk.new.next
-//     ≡ next_after walk.old.next (seen_position argument.now.position)) }
-// ensures few { OnOk result (walk.new.next ≤ length walk.new.lookups.items) }
 #[inline]
 fn push_argument<'a>(
     walk: &mut Walk<'a>,
@@ -157,12 +136,6 @@ fn push_argument<'a>(
 
 /// Adds the lookups for a piece, where `places` are those of its placeholder and of the later
 /// ones.
-// requires { walk.old.next ≤ length walk.old.lookups.items }
-// ensures lookups { OnOk result (map seen_lookup walk.new.lookups.items
-//     ≡ map seen_lookup walk.old.lookups.items
-//     ++ one_lookups template walk.old.next (map pair places.now) (seen piece.now)) }
-// ensures next { OnOk result (walk.new.next ≡ next_of walk.old.next (seen piece.now)) }
-// ensures few { OnOk result (walk.new.next ≤ length walk.new.lookups.items) }
 #[inline]
 fn push_piece<'a>(
     walk: &mut Walk<'a>,
@@ -179,7 +152,6 @@ fn push_piece<'a>(
 }
 
 /// Returns the places after that of a piece, if it is a placeholder.
-// ensures { map pair result.now ≡ places_after (map pair places.now) (seen piece.now) }
 #[inline]
 fn places_after<'p>(places: &'p [Range<usize>], piece: &Piece<'_>) -> &'p [Range<usize>] {
     match piece {
@@ -190,13 +162,6 @@ fn places_after<'p>(places: &'p [Range<usize>], piece: &Piece<'_>) -> &'p [Range
 
 /// Adds the lookups for the pieces of a template, whose placeholders have these places, in their
 /// order.
-// requires { walk.old.next ≤ length walk.old.lookups.items }
-// ensures lookups { OnOk result (map seen_lookup walk.new.lookups.items
-//     ≡ map seen_lookup walk.old.lookups.items
-//     ++ piece_lookups template walk.old.next (map pair places.now) (map seen pieces.now)) }
-// ensures next { OnOk result (walk.new.next
-//     ≡ next_after_pieces walk.old.next (map seen pieces.now)) }
-// ensures few { OnOk result (walk.new.next ≤ length walk.new.lookups.items) }
 #[inline]
 pub(crate) fn push_pieces<'a>(
     walk: &mut Walk<'a>,

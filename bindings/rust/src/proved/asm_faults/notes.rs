@@ -1,9 +1,8 @@
 //! The notes and helps of faults, in rustc's words. A function whose name begins with `push_` or
-//! `put_` adds to the end of a list or a text, and returns `Err` if an allocation fails.
+//! `put_` adds to the end of a list or a text.
 
 // Extracted from crates/asm_faults/src/notes.rt by tools/extract: not to be edited.
-// That source is proved, and each contract here is its. That this text means the same is tested:
-// by results from outside, and beside what is proved (.ci/bindings) and the original (tools/agree).
+// That source has the contracts, and is proved. That this text means the same is only tested.
 
 use crate::proved::asm_faults::checker::AsmCall;
 use crate::proved::asm_faults::faults::{AsmFault, AsmSpot};
@@ -24,8 +23,6 @@ pub struct AsmNote {
 }
 
 /// Adds a note.
-// ensures { OnOk result (map seen_note notes.new.items
-//     ≡ map seen_note notes.old.items ++ note text.now spot ∷ []) }
 #[inline]
 fn push_note(
     notes: &mut Vec<AsmNote>,
@@ -38,7 +35,6 @@ fn push_note(
 }
 
 /// Returns the noun for the operands that an index may mean, of which there are so many.
-// ensures { result.now ≡ noun (map seen_operand operands.now) count }
 #[inline]
 fn noun(operands: &[Operand<'_>], count: usize) -> &'static str {
     if count == operands.len() {
@@ -49,8 +45,6 @@ fn noun(operands: &[Operand<'_>], count: usize) -> &'static str {
 }
 
 /// Adds so many operands in words.
-// ensures { OnOk result (string_bytes out.new
-//     ≡ string_bytes out.old ++ count_text count word.now) }
 #[inline]
 fn put_count(out: &mut String, count: usize, word: &str) -> Result<(), AllocError> {
     if count == 0 {
@@ -73,8 +67,6 @@ fn put_count(out: &mut String, count: usize, word: &str) -> Result<(), AllocErro
 }
 
 /// Adds the note of the operand of an index, if there is one, and an index does not mean it.
-// ensures { OnOk result (map seen_note notes.new.items ≡ map seen_note notes.old.items
-//     ++ kind_notes index (option_map seen_operand operand.entry)) }
 #[inline]
 fn push_kind(
     notes: &mut Vec<AsmNote>,
@@ -97,7 +89,6 @@ fn push_kind(
 }
 
 /// Returns how many operands an index may mean, in words.
-// ensures { IfOk result (λ t. string_bytes t ≡ count_text count word.now) }
 #[inline]
 fn count_text(count: usize, word: &str) -> Result<String, AllocError> {
     let mut text = String::new();
@@ -106,8 +97,6 @@ fn count_text(count: usize, word: &str) -> Result<String, AllocError> {
 }
 
 /// Adds the notes of a wrong index, where an index may mean so many operands.
-// ensures { OnOk result (map seen_note notes.new.items ≡ map seen_note notes.old.items
-//     ++ wrong_notes (map seen_operand operands.now) index count) }
 #[inline]
 fn push_wrong(
     notes: &mut Vec<AsmNote>,
@@ -122,8 +111,6 @@ fn push_wrong(
 }
 
 /// Returns the help of a wrong index, or `None` if there is none.
-// ensures { IfOk result (λ o. option_map seen_note o
-//     ≡ wrong_help index (slice_get (map seen_operand operands.now) index)) }
 #[inline]
 fn wrong_help(operands: &[Operand<'_>], index: usize) -> Result<Option<AsmNote>, AllocError> {
     match operands.get(index) {
@@ -138,8 +125,6 @@ fn wrong_help(operands: &[Operand<'_>], index: usize) -> Result<Option<AsmNote>,
 }
 
 /// Adds the note of a fault of a template, if it has one.
-// ensures { OnOk result (map seen_note notes.new.items ≡ map seen_note notes.old.items
-//     ++ text_notes (message (seen_text_fault fault.now)).note) }
 #[inline]
 fn push_text(notes: &mut Vec<AsmNote>, fault: &Fault<'_>) -> Result<(), AllocError> {
     let error = fault.error()?;
@@ -150,8 +135,6 @@ fn push_text(notes: &mut Vec<AsmNote>, fault: &Fault<'_>) -> Result<(), AllocErr
 }
 
 /// Adds a name.
-// ensures { OnOk result (string_bytes out.new
-//     ≡ string_bytes out.old ++ encode_utf8_all (chars name.now)) }
 #[inline]
 fn put_name(out: &mut String, name: &str) -> Result<(), AllocError> {
     out.try_push_str(name)?;
@@ -159,8 +142,6 @@ fn put_name(out: &mut String, name: &str) -> Result<(), AllocError> {
 }
 
 /// Adds the position of a placeholder for an operand with this name or this index.
-// ensures { OnOk result (string_bytes out.new ≡ string_bytes out.old
-//     ++ reference index (option_map text name.entry)) }
 #[inline]
 fn put_reference(out: &mut String, index: usize, name: Option<&str>) -> Result<(), AllocError> {
     match name {
@@ -170,8 +151,6 @@ fn put_reference(out: &mut String, index: usize, name: Option<&str>) -> Result<(
 }
 
 /// Adds placeholders of operands.
-// ensures { OnOk result (string_bytes out.new ≡ string_bytes out.old
-//     ++ placeholders (map seen_operand operands.now) indices.now) }
 #[inline]
 fn put_placeholders(
     out: &mut String,
@@ -189,7 +168,6 @@ fn put_placeholders(
 }
 
 /// Returns how the help of so many operands that are not used begins.
-// ensures { result.now ≡ unused_start count }
 #[inline]
 fn unused_start(count: usize) -> &'static str {
     if count == 1 {
@@ -200,8 +178,6 @@ fn unused_start(count: usize) -> &'static str {
 }
 
 /// Returns the help of operands that are not used.
-// ensures { IfOk result (λ n. seen_note n
-//     ≡ unused_help (map seen_operand operands.now) unused.now) }
 #[inline]
 fn unused_help(operands: &[Operand<'_>], unused: &[usize]) -> Result<AsmNote, AllocError> {
     let mut text = String::made_from(unused_start(unused.len()))?;
@@ -212,8 +188,6 @@ fn unused_help(operands: &[Operand<'_>], unused: &[usize]) -> Result<AsmNote, Al
 
 impl<'a> AsmCall<'a> {
     /// Returns the notes of one of the faults, in rustc's order.
-    // ensures { IfOk result (λ v. map seen_note v.items
-    //     ≡ notes (map seen_operand self.now.operands.items) (seen_fault fault.now)) }
     #[inline]
     pub(crate) fn notes(&self, fault: &AsmFault<'a>) -> Result<Vec<AsmNote>, AllocError> {
         let mut notes = Vec::new();
@@ -238,8 +212,6 @@ impl<'a> AsmCall<'a> {
 
     /// Returns the help of one of the faults, or `None` if it has none. rustc says it after the
     /// notes.
-    // ensures { IfOk result (λ o. option_map seen_note o
-    //     ≡ help (map seen_operand self.now.operands.items) (seen_fault fault.now)) }
     #[inline]
     pub(crate) fn help(&self, fault: &AsmFault<'a>) -> Result<Option<AsmNote>, AllocError> {
         match fault {

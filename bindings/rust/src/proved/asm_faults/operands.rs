@@ -1,8 +1,7 @@
 //! The list of operands of a call.
 
 // Extracted from crates/asm_faults/src/operands.rt by tools/extract: not to be edited.
-// That source is proved, and each contract here is its. That this text means the same is tested:
-// by results from outside, and beside what is proved (.ci/bindings) and the original (tools/agree).
+// That source has the contracts, and is proved. That this text means the same is only tested.
 
 use crate::proved::asm_faults::faults::AsmFault;
 use crate::shim::alloc::AllocError;
@@ -40,7 +39,6 @@ pub(crate) struct Operands<'a> {
 }
 
 /// Returns no operands. Does not allocate.
-// ensures { Holds [] result }
 #[inline]
 fn no_operands<'a>() -> Operands<'a> {
     Operands {
@@ -52,15 +50,12 @@ fn no_operands<'a>() -> Operands<'a> {
 }
 
 /// Returns the index that a map has for a name, or `None` if it has none.
-// ensures { result ≡ found_in names.now (chars name.now) }
 #[inline]
 pub(crate) fn index_of<'a>(names: &BTreeMap<&'a str, usize>, name: &'a str) -> Option<usize> {
     names.get(&name).copied()
 }
 
 /// Puts a name into a map that does not have it.
-// ensures { OnOk result ((w : Text) → found_in names.new w
-//     ≡ (if bytes_eq w (chars name.now) then Some index else found_in names.old w)) }
 #[inline]
 fn insert<'a>(
     names: &mut BTreeMap<&'a str, usize>,
@@ -72,7 +67,6 @@ fn insert<'a>(
 }
 
 /// Returns the first [`MOST`] of indices.
-// ensures { result.now ≡ take 16 indices.now }
 #[inline]
 fn first_of(indices: &[usize]) -> &[usize] {
     &indices[..indices.len().min(MOST)]
@@ -80,8 +74,6 @@ fn first_of(indices: &[usize]) -> &[usize] {
 
 /// Returns the indices of the first operands that have a name, and then of the first that have a
 /// register of their own.
-// ensures { IfOk result (λ v. (ss : List OperandValue) → Holds ss operands.now
-//     → v.items ≡ others_of ss) }
 #[inline]
 fn others_of(operands: &Operands<'_>) -> Result<Vec<usize>, AllocError> {
     let mut others = Vec::new();
@@ -92,8 +84,6 @@ fn others_of(operands: &Operands<'_>) -> Result<Vec<usize>, AllocError> {
 
 /// Adds the fault of an operand without a name and without a register of its own, if these others
 /// stand in front of it.
-// ensures { OnOk result (map seen_fault faults.new.items ≡ map seen_fault faults.old.items
-//     ++ late_faults operand others.items) }
 #[inline]
 fn push_late(
     faults: &mut Vec<AsmFault<'_>>,
@@ -108,11 +98,6 @@ fn push_late(
 
 /// Adds an operand without a name and without a register of its own, and its fault if it stands
 /// after one that has one of them.
-// ensures held { OnOk result ((ss : List OperandValue) → Holds ss operands.old
-//     → Holds (ss ++ Unnamed ∷ []) operands.new) }
-// ensures outcome { OnOk result ((ss : List OperandValue) → Holds ss operands.old
-//     → map seen_fault faults.new.items ≡ map seen_fault faults.old.items
-//     ++ faults_of ss index Unnamed) }
 #[inline]
 fn add_unnamed<'a>(
     operands: &mut Operands<'a>,
@@ -127,12 +112,6 @@ fn add_unnamed<'a>(
 
 /// Adds an operand with a name, or its fault if that is the name of an earlier one, and the operand
 /// then counts as unnamed.
-// ensures held { OnOk result ((ss : List OperandValue) → Holds ss operands.old
-//     → index ≡ length ss
-//     → Holds (ss ++ slot ss (Named (chars name.now)) ∷ []) operands.new) }
-// ensures outcome { OnOk result ((ss : List OperandValue) → Holds ss operands.old
-//     → map seen_fault faults.new.items ≡ map seen_fault faults.old.items
-//     ++ faults_of ss index (Named (chars name.now))) }
 #[inline]
 fn add_named<'a>(
     operands: &mut Operands<'a>,
@@ -158,11 +137,6 @@ fn add_named<'a>(
 }
 
 /// Adds an operand with a register of its own, and its fault if it has a name.
-// ensures held { OnOk result ((ss : List OperandValue) → Holds ss operands.old
-//     → index ≡ length ss → Holds (ss ++ Register has_name ∷ []) operands.new) }
-// ensures outcome { OnOk result ((ss : List OperandValue) → Holds ss operands.old
-//     → map seen_fault faults.new.items ≡ map seen_fault faults.old.items
-//     ++ faults_of ss index (Register has_name)) }
 #[inline]
 fn add_register<'a>(
     operands: &mut Operands<'a>,
@@ -179,12 +153,6 @@ fn add_register<'a>(
 }
 
 /// Adds an operand, and its fault if it has one.
-// ensures held { OnOk result ((ss : List OperandValue) → Holds ss operands.old
-//     → index ≡ length ss
-//     → Holds (ss ++ slot ss (seen_operand operand.entry) ∷ []) operands.new) }
-// ensures outcome { OnOk result ((ss : List OperandValue) → Holds ss operands.old
-//     → map seen_fault faults.new.items ≡ map seen_fault faults.old.items
-//     ++ faults_of ss index (seen_operand operand.entry)) }
 #[inline]
 fn add<'a>(
     operands: &mut Operands<'a>,
@@ -201,7 +169,6 @@ fn add<'a>(
 }
 
 /// Returns the operand of an index, or `None` if there is none.
-// ensures { option_map seen_operand result ≡ slice_get (map seen_operand operands.now) index }
 #[inline]
 pub(crate) fn operand_at<'a>(operands: &[Operand<'a>], index: usize) -> Option<Operand<'a>> {
     match operands.get(index) {
@@ -211,7 +178,6 @@ pub(crate) fn operand_at<'a>(operands: &[Operand<'a>], index: usize) -> Option<O
 }
 
 /// Returns how many operands have neither a name nor a register of their own.
-// ensures { result ≡ count_unnamed (map seen_operand operands.now) }
 #[inline]
 pub(crate) fn count_unnamed(operands: &[Operand<'_>]) -> usize {
     let mut count = 0;
@@ -224,9 +190,6 @@ pub(crate) fn count_unnamed(operands: &[Operand<'_>]) -> usize {
 }
 
 /// Returns operands as placeholders refer to them, and adds the faults of their list.
-// ensures held { IfOk result (λ a. Holds (slots_after [] (map seen_operand list.now)) a) }
-// ensures outcome { OnOk result (map seen_fault faults.new.items ≡ map seen_fault faults.old.items
-//     ++ faults_from [] 0 (map seen_operand list.now)) }
 #[inline]
 pub(crate) fn operands_of<'a>(
     faults: &mut Vec<AsmFault<'a>>,

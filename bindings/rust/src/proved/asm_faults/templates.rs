@@ -1,8 +1,7 @@
 //! The templates of a call, one after the other.
 
 // Extracted from crates/asm_faults/src/templates.rt by tools/extract: not to be edited.
-// That source is proved, and each contract here is its. That this text means the same is tested:
-// by results from outside, and beside what is proved (.ci/bindings) and the original (tools/agree).
+// That source has the contracts, and is proved. That this text means the same is only tested.
 
 use crate::proved::asm_faults::faults::AsmFault;
 use crate::proved::asm_faults::lookups::{push_pieces, Walk};
@@ -24,7 +23,6 @@ pub struct Template<'a> {
 }
 
 /// Returns a text as a string.
-// ensures { IfOk result (λ o. seen_snippet o ≡ option_map seen_text text.entry) }
 #[inline]
 fn owned_string(text: Option<&str>) -> Result<Option<String>, AllocError> {
     match text {
@@ -34,9 +32,6 @@ fn owned_string(text: Option<&str>) -> Result<Option<String>, AllocError> {
 }
 
 /// Returns the fault of a template that rustc shows, or `None` if it is in the grammar.
-// requires { hashes template.style + length template.text.now + 2 < 2 ^ 64 }
-// ensures { IfOk result (λ o. option_map seen_text_fault o
-//     ≡ text_fault (start (seen_template template.entry))) }
 #[inline]
 fn fault_of<'a>(template: Template<'a>) -> Result<Option<Fault<'a>>, AllocError> {
     let snippet = owned_string(template.snippet)?;
@@ -52,14 +47,6 @@ fn fault_of<'a>(template: Template<'a>) -> Result<Option<Fault<'a>>, AllocError>
 }
 
 /// Adds the lookups for the placeholders of a template.
-// requires fits { hashes template.style + length template.text.now + 2 < 2 ^ 64 }
-// requires few { walk.old.next ≤ length walk.old.lookups.items }
-// ensures lookups { OnOk result (map seen_lookup walk.new.lookups.items
-//     ≡ map seen_lookup walk.old.lookups.items
-//     ++ template_lookups index walk.old.next (seen_template template.entry)) }
-// ensures next { OnOk result (walk.new.next
-//     ≡ next_after_template walk.old.next (seen_template template.entry)) }
-// ensures few { OnOk result (walk.new.next ≤ length walk.new.lookups.items) }
 #[inline]
 fn push_template<'a>(
     walk: &mut Walk<'a>,
@@ -80,14 +67,6 @@ fn push_template<'a>(
 
 /// Adds the lookups for the placeholders of templates, up to the first that is not in the grammar,
 /// and returns its fault, or `None` if there is none.
-// requires fits { AllByRecursion (λ t. hashes t.style + length t.text.now + 2 < 2 ^ 64)
-//     templates.now }
-// requires few { walk.old.next ≤ length walk.old.lookups.items }
-// ensures lookups { OnOk result (map seen_lookup walk.new.lookups.items
-//     ≡ map seen_lookup walk.old.lookups.items
-//     ++ lookups_from 0 walk.old.next (map seen_template templates.now)) }
-// ensures fault { IfOk result (λ o. option_map seen_fault o
-//     ≡ template_fault 0 (map seen_template templates.now)) }
 #[inline]
 pub(crate) fn push_templates<'a>(
     walk: &mut Walk<'a>,

@@ -1,9 +1,8 @@
 //! The ids and the titles of faults, in rustc's words. A function whose name begins with `put_`
-//! appends to `out`, and returns `Err` if an allocation fails.
+//! appends to `out`.
 
 // Extracted from crates/asm_faults/src/titles.rt by tools/extract: not to be edited.
-// That source is proved, and each contract here is its. That this text means the same is tested:
-// by results from outside, and beside what is proved (.ci/bindings) and the original (tools/agree).
+// That source has the contracts, and is proved. That this text means the same is only tested.
 
 use crate::proved::asm_faults::checker::AsmCall;
 use crate::proved::asm_faults::faults::AsmFault;
@@ -16,7 +15,6 @@ use crate::shim::prelude::*;
 impl AsmFault<'_> {
     /// Returns the id of the fault in kebab case, as `wrong-operand`: the same for all faults of a
     /// kind. A fault of a template has the id of its [`Fault`]. Does not allocate.
-    // ensures { result.now ≡ asm_id (seen_fault self.now) }
     #[inline]
     pub fn id(&self) -> &'static str {
         match self {
@@ -33,7 +31,6 @@ impl AsmFault<'_> {
 }
 
 /// Adds a number in decimal digits.
-// ensures { OnOk result (string_bytes out.new ≡ string_bytes out.old ++ decimal number) }
 #[inline]
 pub(crate) fn put_number(out: &mut String, number: usize) -> Result<(), AllocError> {
     let mut digits = Buffer::new();
@@ -42,8 +39,6 @@ pub(crate) fn put_number(out: &mut String, number: usize) -> Result<(), AllocErr
 }
 
 /// Adds a text and a name between backquotes.
-// ensures { OnOk result (string_bytes out.new
-//     ≡ string_bytes out.old ++ (text.now ++ quoted (chars name.now))) }
 #[inline]
 fn put_named(out: &mut String, text: &str, name: &str) -> Result<(), AllocError> {
     out.try_push_str(text)?;
@@ -54,8 +49,6 @@ fn put_named(out: &mut String, text: &str, name: &str) -> Result<(), AllocError>
 }
 
 /// Returns the name of an operand, or `None` if it has none or a register of its own.
-// ensures { option_map text result
-//     ≡ given_name (slice_get (map seen_operand operands.now) index) }
 #[inline]
 pub(crate) fn given_name<'a>(operands: &[Operand<'a>], index: usize) -> Option<&'a str> {
     match operands.get(index) {
@@ -65,7 +58,6 @@ pub(crate) fn given_name<'a>(operands: &[Operand<'a>], index: usize) -> Option<&
 }
 
 /// Returns the name of an operand, or an empty text if it has none.
-// ensures { chars result.now ≡ name_of (slice_get (map seen_operand operands.now) index) }
 #[inline]
 fn name_of<'a>(operands: &[Operand<'a>], index: usize) -> &'a str {
     match given_name(operands, index) {
@@ -75,7 +67,6 @@ fn name_of<'a>(operands: &[Operand<'a>], index: usize) -> &'a str {
 }
 
 /// Returns the label of an operand that is not used.
-// ensures { result.now ≡ never_used (slice_get (map seen_operand operands.now) index) }
 #[inline]
 pub(crate) fn never_used(operands: &[Operand<'_>], index: usize) -> &'static str {
     match operands.get(index) {
@@ -85,7 +76,6 @@ pub(crate) fn never_used(operands: &[Operand<'_>], index: usize) -> &'static str
 }
 
 /// Returns the title of operands that are not used.
-// ensures { result.now ≡ unused_title (map seen_operand operands.now) unused.now }
 #[inline]
 fn unused_title(operands: &[Operand<'_>], unused: &[usize]) -> &'static str {
     match unused {
@@ -95,9 +85,6 @@ fn unused_title(operands: &[Operand<'_>], unused: &[usize]) -> &'static str {
 }
 
 /// Adds the title of a fault of a template.
-// ensures { OnOk result (string_bytes out.new ≡ string_bytes out.old
-//     ++ (codes "invalid asm template string: "
-//     ++ (message (seen_text_fault fault.now)).description)) }
 #[inline]
 fn put_text_title(out: &mut String, fault: &Fault<'_>) -> Result<(), AllocError> {
     let error = fault.error()?;
@@ -107,8 +94,6 @@ fn put_text_title(out: &mut String, fault: &Fault<'_>) -> Result<(), AllocError>
 }
 
 /// Adds the title of a wrong index.
-// ensures { OnOk result (string_bytes out.new ≡ string_bytes out.old
-//     ++ (codes "invalid reference to argument at index " ++ decimal index)) }
 #[inline]
 fn put_index_title(out: &mut String, index: usize) -> Result<(), AllocError> {
     out.try_push_str("invalid reference to argument at index ")?;
@@ -117,10 +102,7 @@ fn put_index_title(out: &mut String, index: usize) -> Result<(), AllocError> {
 }
 
 impl<'a> AsmCall<'a> {
-    /// Adds the title of one of the faults to the end of `out`, as rustc has it. Returns `Err` if
-    /// an allocation fails; a part may then be at the end of `out`.
-    // ensures { OnOk result (string_bytes out.new ≡ string_bytes out.old
-    //     ++ title (map seen_operand self.now.operands.items) (seen_fault fault.now)) }
+    /// Adds the title of one of the faults to the end of `out`, as rustc has it.
     #[inline]
     pub(crate) fn put_title(
         &self,

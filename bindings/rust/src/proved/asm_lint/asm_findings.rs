@@ -2,8 +2,7 @@
 //! places in the file.
 
 // Extracted from crates/asm_lint/src/asm_findings.rt by tools/extract: not to be edited.
-// That source is proved, and each contract here is its. That this text means the same is tested:
-// by results from outside, and beside what is proved (.ci/bindings) and the original (tools/agree).
+// That source has the contracts, and is proved. That this text means the same is only tested.
 
 use crate::proved::asm_faults::{AsmCall, AsmFault, AsmLabel, AsmNote, AsmSpot};
 use crate::proved::asm_lint::literals::Literal;
@@ -40,7 +39,6 @@ pub struct AsmSite<'s, 'a> {
 }
 
 /// Returns the bytes of the file that a place of a call is.
-// ensures { IsSpan site.entry.text.now result }
 #[inline]
 fn asm_range(site: AsmSite<'_, '_>, spot: AsmSpot) -> Range<usize> {
     let (index, place) = match spot {
@@ -68,11 +66,6 @@ fn asm_range(site: AsmSite<'_, '_>, spot: AsmSpot) -> Range<usize> {
 }
 
 /// Returns labels with their ranges.
-// ensures primary { IfOk result (λ v. map (λ x. x.is_primary) v.items
-//     ≡ map (λ l. l.is_primary) (map seen_label labels.items)) }
-// ensures texts { IfOk result (λ v. map (λ x. string_bytes x.text) v.items
-//     ≡ map (λ l. l.text) (map seen_label labels.items)) }
-// ensures spans { IfOk result (λ v. All (λ x. IsSpan site.entry.text.now x.range) v.items) }
 #[inline]
 fn labels(site: AsmSite<'_, '_>, labels: Vec<AsmLabel>) -> Result<Vec<Label>, AllocError> {
     let mut found = Vec::new();
@@ -87,8 +80,6 @@ fn labels(site: AsmSite<'_, '_>, labels: Vec<AsmLabel>) -> Result<Vec<Label>, Al
 }
 
 /// Returns the range of a place, if there is one.
-// ensures count { IfOk result (λ v. length v.items ≡ shown_count spot) }
-// ensures spans { IfOk result (λ v. All (λ r. IsSpan site.entry.text.now r) v.items) }
 #[inline]
 fn ranges(site: AsmSite<'_, '_>, spot: Option<AsmSpot>) -> Result<Vec<Range<usize>>, AllocError> {
     let mut found = Vec::new();
@@ -99,12 +90,6 @@ fn ranges(site: AsmSite<'_, '_>, spot: Option<AsmSpot>) -> Result<Vec<Range<usiz
 }
 
 /// Returns notes with the ranges that they show.
-// ensures texts { IfOk result (λ v. map (λ x. string_bytes x.text) v.items
-//     ≡ map (λ n. n.text) (map seen_note notes.items)) }
-// ensures counts { IfOk result (λ v. map (λ x. length x.ranges.items) v.items
-//     ≡ map (λ n. shown_count n.spot) (map seen_note notes.items)) }
-// ensures spans { IfOk result (λ v. All (λ x. All (λ r. IsSpan site.entry.text.now r)
-//     x.ranges.items) v.items) }
 #[inline]
 fn notes(site: AsmSite<'_, '_>, notes: Vec<AsmNote>) -> Result<Vec<Note>, AllocError> {
     let mut found = Vec::new();
@@ -119,9 +104,6 @@ fn notes(site: AsmSite<'_, '_>, notes: Vec<AsmNote>) -> Result<Vec<Note>, AllocE
 }
 
 /// Returns a help, which has no edits. Does not allocate.
-// ensures text { option_map (λ x. string_bytes x.text) result
-//     ≡ option_map (λ n. n.text) (option_map seen_note help) }
-// ensures no_edits { IfSome result (λ x. x.edits.items ≡ []) }
 #[inline]
 fn help(help: Option<AsmNote>) -> Option<Help> {
     match help {
@@ -135,7 +117,6 @@ fn help(help: Option<AsmNote>) -> Option<Help> {
 
 /// Returns the range of the primary label that comes first in the file, or an empty one if there is
 /// none.
-// ensures { IsSpan site.entry.text.now result }
 #[inline]
 fn primary_span(site: AsmSite<'_, '_>, labels: &[Label]) -> Range<usize> {
     let mut start = 0;
@@ -152,9 +133,6 @@ fn primary_span(site: AsmSite<'_, '_>, labels: &[Label]) -> Range<usize> {
 }
 
 /// Returns the finding of a fault of a call.
-// ensures outcome { IfOk result (λ x. TellsAsm (map seen_operand call.now.operands.items)
-//     (seen_fault fault.now) x) }
-// ensures spans { IfOk result (λ x. HasSpans site.entry.text.now x) }
 #[inline]
 fn finding<'c>(
     site: AsmSite<'_, '_>,
@@ -179,19 +157,12 @@ fn finding<'c>(
 }
 
 /// Returns whether a fault is one of a template.
-// ensures { result ≡ is_template_fault (seen_fault fault.now) }
 #[inline]
 fn is_template_fault(fault: &AsmFault<'_>) -> bool {
     matches!(fault, AsmFault::Text { .. })
 }
 
 /// Adds the finding of a fault of a call, unless only that of a template counts.
-// ensures outcome { OnOk result ((xs : List FindingValue)
-//     × (findings.new.items ≡ findings.old.items ++ xs)
-//     × TellAllAsm (map seen_operand call.now.operands.items)
-//     (counted_asm is_whole (seen_fault fault.now ∷ [])) xs) }
-// ensures spans { OnOk result (All (HasSpans site.entry.text.now) findings.old.items
-//     → All (HasSpans site.entry.text.now) findings.new.items) }
 #[inline]
 fn put_finding<'c>(
     findings: &mut Vec<Finding>,
@@ -207,12 +178,6 @@ fn put_finding<'c>(
 }
 
 /// Adds the findings of the faults of a call, or only that of a template.
-// ensures outcome { OnOk result ((xs : List FindingValue)
-//     × (findings.new.items ≡ findings.old.items ++ xs)
-//     × TellAllAsm (map seen_operand call.now.operands.items)
-//     (counted_asm is_whole (map seen_fault call.now.faults.items)) xs) }
-// ensures spans { OnOk result (All (HasSpans site.entry.text.now) findings.old.items
-//     → All (HasSpans site.entry.text.now) findings.new.items) }
 #[inline]
 pub fn put_findings<'c>(
     findings: &mut Vec<Finding>,

@@ -1,8 +1,7 @@
 //! The reading of a call of a macro for inline assembly.
 
 // Extracted from crates/asm_lint/src/assembly.rt by tools/extract: not to be edited.
-// That source is proved, and each contract here is its. That this text means the same is tested:
-// by results from outside, and beside what is proved (.ci/bindings) and the original (tools/agree).
+// That source has the contracts, and is proved. That this text means the same is only tested.
 
 use crate::proved::asm_faults::{asm_faults, Operand, Template};
 use crate::proved::asm_lint::asm_findings::{put_findings, AsmSite, Read};
@@ -17,7 +16,6 @@ use crate::shim::alloc::AllocError;
 use crate::shim::prelude::*;
 
 /// Returns how much of a call is read where the number of its arguments is known, and where not.
-// ensures { result ≡ reading_of is_counted }
 #[inline]
 pub fn reading_of(is_counted: bool) -> CallReading {
     if is_counted {
@@ -28,8 +26,6 @@ pub fn reading_of(is_counted: bool) -> CallReading {
 }
 
 /// Returns the operand that an argument is, or `None` if it is none.
-// ensures { option_map seen_operand result
-//     ≡ operand_of (map leaf tokens.now) argument.now part }
 #[inline]
 fn operand_of<'a>(tokens: &[Token<'a>], argument: &Argument, part: AsmPart) -> Option<Operand<'a>> {
     match part {
@@ -57,14 +53,6 @@ struct Operands<'a> {
 }
 
 /// Adds an argument after the templates.
-// requires { argument.now.start < length part.now }
-// ensures list { OnOk result (map seen_operand operands.new.list.items
-//     ≡ map seen_operand operands.old.list.items
-//     ++ operands part.now (argument.now ∷ [])) }
-// ensures raw { OnOk result (operands.new.are_raw
-//     ≡ (operands.old.are_raw || is_raw_part (asm_part part.now argument.now))) }
-// ensures unknown { OnOk result (operands.new.is_unknown
-//     ≡ (operands.old.is_unknown || is_unknown_part (asm_part part.now argument.now))) }
 #[inline]
 fn add<'a>(
     operands: &mut Operands<'a>,
@@ -82,12 +70,6 @@ fn add<'a>(
 }
 
 /// Returns the arguments after the templates.
-// requires { AllByRecursion (λ a. a.start < length part.now) arguments.now }
-// ensures list { IfOk result (λ o. map seen_operand o.list.items
-//     ≡ operands part.now arguments.now) }
-// ensures raw { IfOk result (λ o. o.are_raw ≡ are_raw part.now arguments.now) }
-// ensures unknown { IfOk result (λ o. o.is_unknown
-//     ≡ is_unknown part.now arguments.now) }
 #[inline]
 fn operands_of<'a>(part: &Part<'a>, arguments: &[Argument]) -> Result<Operands<'a>, AllocError> {
     let mut found = Operands {
@@ -103,8 +85,6 @@ fn operands_of<'a>(part: &Part<'a>, arguments: &[Argument]) -> Result<Operands<'
 }
 
 /// Returns the first token of an argument, which is there.
-// requires { argument.now.start < length tokens.now }
-// ensures { slice_get (map leaf tokens.now) argument.now.start ≡ Some (leaf result) }
 #[inline]
 fn first_token<'a>(tokens: &[Token<'a>], argument: &Argument) -> Token<'a> {
     tokens[argument.start]
@@ -112,12 +92,6 @@ fn first_token<'a>(tokens: &[Token<'a>], argument: &Argument) -> Token<'a> {
 
 /// Reads the template that an argument is. Returns `None` if its literal stands for no text, and
 /// `Err` if an allocation fails.
-// requires { argument.now.start < length tokens.now }
-// ensures read { IfOk result (λ o. MatchOption o
-//     (HasNoText (map leaf tokens.now) argument.now)
-//     (λ t. IsTemplate (map leaf tokens.now) argument.now (seen_read t))) }
-// ensures short { IfOk result (λ o. IfSome o (λ t.
-//     hashes t.literal.style + length (string_bytes t.literal.text) + 2 < 2 ^ 64)) }
 #[inline]
 fn read_template<'a>(
     tokens: &[Token<'a>],
@@ -137,12 +111,6 @@ fn read_template<'a>(
 
 /// Reads the templates that arguments are. Returns `None` if a literal of them stands for no text,
 /// and `Err` if an allocation fails.
-// requires { AllByRecursion (λ a. a.start < length tokens.now) arguments.now }
-// ensures read { IfOk result (λ o. MatchOption o
-//     (HaveNoText (map leaf tokens.now) arguments.now)
-//     (λ v. AreTemplates (map leaf tokens.now) arguments.now (map seen_read v.items))) }
-// ensures short { IfOk result (λ o. IfSome o (λ v. AllByRecursion (λ t.
-//     hashes t.literal.style + length (string_bytes t.literal.text) + 2 < 2 ^ 64) v.items)) }
 #[inline]
 fn read_templates<'a>(
     tokens: &[Token<'a>],
@@ -159,11 +127,6 @@ fn read_templates<'a>(
 }
 
 /// Returns templates as placeholders are read in them.
-// requires { AllByRecursion (λ t.
-//     hashes t.literal.style + length (string_bytes t.literal.text) + 2 < 2 ^ 64) read.now }
-// ensures seen { IfOk result (λ v. map seen_template v.items ≡ map seen_read read.now) }
-// ensures short { IfOk result (λ v. AllByRecursion (λ t.
-//     hashes t.style + length t.text.now + 2 < 2 ^ 64) v.items) }
 #[inline]
 fn templates_of<'c>(read: &'c [Read<'_>]) -> Result<Vec<Template<'c>>, AllocError> {
     let mut found = Vec::new();
@@ -178,14 +141,6 @@ fn templates_of<'c>(read: &'c [Read<'_>]) -> Result<Vec<Template<'c>>, AllocErro
 }
 
 /// Checks a call with these templates and operands, and adds its findings.
-// requires { AllByRecursion (λ t. hashes t.style + length t.text.now + 2 < 2 ^ 64)
-//     templates.now }
-// ensures outcome { OnOk result ((xs : List FindingValue)
-//     × (findings.new.items ≡ findings.old.items ++ xs)
-//     × TellAllAsm (slots_after [] (map seen_operand operands.now)) (counted_asm is_whole
-//     (asm_faults (map seen_template templates.now) (map seen_operand operands.now))) xs) }
-// ensures spans { OnOk result (All (HasSpans site.entry.text.now) findings.old.items
-//     → All (HasSpans site.entry.text.now) findings.new.items) }
 #[inline]
 fn check_call<'c>(
     findings: &mut Vec<Finding>,
@@ -200,12 +155,6 @@ fn check_call<'c>(
 }
 
 /// Returns the templates whose placeholders count: none with `options(raw)`.
-// requires { AllByRecursion (λ t.
-//     hashes t.literal.style + length (string_bytes t.literal.text) + 2 < 2 ^ 64) read.now }
-// ensures seen { IfOk result (λ v. map seen_template v.items
-//     ≡ read_templates are_raw (map seen_read read.now)) }
-// ensures short { IfOk result (λ v. AllByRecursion (λ t.
-//     hashes t.style + length t.text.now + 2 < 2 ^ 64) v.items) }
 #[inline]
 fn read_unless<'c>(read: &'c [Read<'_>], are_raw: bool) -> Result<Vec<Template<'c>>, AllocError> {
     if are_raw {
@@ -216,13 +165,6 @@ fn read_unless<'c>(read: &'c [Read<'_>], are_raw: bool) -> Result<Vec<Template<'
 
 /// Reads a call whose templates are arguments, with the other arguments after them, and adds its
 /// findings.
-// requires { AllByRecursion (λ a. a.start < length tokens.now) templates.now }
-// ensures read { IfOk result (λ r. (xs : List FindingValue)
-//     × (findings.new.items ≡ findings.old.items ++ xs)
-//     × ReadsLiterals (map leaf tokens.now) templates.now operands.now.are_raw is_whole
-//     (map seen_operand operands.now.list.items) r xs) }
-// ensures spans { OnOk result (All (HasSpans text.now) findings.old.items
-//     → All (HasSpans text.now) findings.new.items) }
 #[inline]
 fn read_literals<'s, 'a>(
     findings: &mut Vec<Finding>,
@@ -248,21 +190,12 @@ fn read_literals<'s, 'a>(
 
 /// Returns whether the operands and options of a call are known: each argument is one, and the
 /// number of arguments is known.
-// ensures { result ≡ (not is_unknown && is_counted) }
 #[inline]
 fn are_known(is_unknown: bool, is_counted: bool) -> bool {
     !is_unknown && is_counted
 }
 
 /// Reads a call of a macro for inline assembly, and adds its findings.
-// requires pair { IsPair part.now (call.now.name + 2) call.now.close }
-// requires split { AreArguments part.now (call.now.name + 3) arguments.now call.now.close }
-// ensures read { IfOk result (λ r. (xs : List FindingValue)
-//     × (findings.new.items ≡ findings.old.items ++ xs)
-//     × ReadsTemplates part.now call.now arguments.now
-//     (template_count part.now arguments.now) r xs) }
-// ensures spans { OnOk result (All (HasSpans text.now) findings.old.items
-//     → All (HasSpans text.now) findings.new.items) }
 #[inline]
 pub fn read_asm<'a>(
     findings: &mut Vec<Finding>,

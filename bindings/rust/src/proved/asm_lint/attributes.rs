@@ -1,8 +1,7 @@
 //! The texts of the attributes `diagnostic::on_unimplemented` of a file.
 
 // Extracted from crates/asm_lint/src/attributes.rt by tools/extract: not to be edited.
-// That source is proved, and each contract here is its. That this text means the same is tested:
-// by results from outside, and beside what is proved (.ci/bindings) and the original (tools/agree).
+// That source has the contracts, and is proved. That this text means the same is only tested.
 
 use crate::proved::asm_lint::messages::{read_text, Item};
 use crate::proved::call_forms::parameters;
@@ -16,8 +15,6 @@ use crate::shim::alloc::AllocError;
 use crate::shim::prelude::*;
 
 /// Returns whether the token of an index is this word.
-// ensures value { result ≡ is_word_there (map leaf tokens.now) index word.now }
-// ensures within { IsTrue result → index < length tokens.now }
 #[inline]
 fn is_word_there(tokens: &[Token<'_>], index: usize, word: &str) -> bool {
     match token_at(tokens, index) {
@@ -27,8 +24,6 @@ fn is_word_there(tokens: &[Token<'_>], index: usize, word: &str) -> bool {
 }
 
 /// Returns whether `#[diagnostic::on_unimplemented(` stands from a token on.
-// ensures value { result ≡ begins_attribute (map leaf tokens.now) index }
-// ensures within { IsTrue result → index + 6 < length tokens.now }
 #[inline]
 fn begins_attribute(tokens: &[Token<'_>], index: usize) -> bool {
     is_mark(tokens, index, b'#')
@@ -42,8 +37,6 @@ fn begins_attribute(tokens: &[Token<'_>], index: usize) -> bool {
 
 /// Returns the token that closes the list of the attribute that stands at a token, or `None` if no
 /// attribute does.
-// ensures some { IfSome result (λ c. IsAttribute source.now index c) }
-// ensures none { IsNone result → (c : ℕ) → IsAttribute source.now index c → ⊥ }
 #[inline]
 fn attribute_at(source: &Source<'_>, index: usize) -> Option<usize> {
     if !begins_attribute(source.tokens(), index) {
@@ -54,8 +47,6 @@ fn attribute_at(source: &Source<'_>, index: usize) -> Option<usize> {
 
 /// Returns whether two tokens from one on are of the front of an item, of which the second opens a
 /// pair.
-// ensures value { result ≡ opens_front (map leaf tokens.now) index }
-// ensures within { IsTrue result → index + 1 < length tokens.now }
 #[inline]
 fn opens_front(tokens: &[Token<'_>], index: usize) -> bool {
     is_mark(tokens, index, b'#') && is_mark(tokens, index + 1, b'[')
@@ -63,8 +54,6 @@ fn opens_front(tokens: &[Token<'_>], index: usize) -> bool {
 }
 
 /// Returns whether a token is a word of the front of an item.
-// ensures value { result ≡ is_modifier (map leaf tokens.now) index }
-// ensures within { IsTrue result → index < length tokens.now }
 #[inline]
 fn is_modifier(tokens: &[Token<'_>], index: usize) -> bool {
     is_word_there(tokens, index, "pub")
@@ -75,9 +64,6 @@ fn is_modifier(tokens: &[Token<'_>], index: usize) -> bool {
 
 /// Returns the token after the part of the front of an item that stands at a token, or `None` if no
 /// such part does.
-// ensures some { IfSome result (λ j. IsFront source.now index j) }
-// ensures forward { IfSome result (λ j. (index < j) × (j ≤ length source.now)) }
-// ensures none { IsNone result → (j : ℕ) → IsFront source.now index j → ⊥ }
 #[inline]
 fn after_front(source: &Source<'_>, index: usize) -> Option<usize> {
     let tokens = source.tokens();
@@ -102,9 +88,6 @@ struct Front {
 }
 
 /// Returns the front of the item that starts at a token.
-// requires { start ≤ length source.now }
-// ensures item { IfOk result (λ f. IsItem source.now start f.starts.items f.end) }
-// ensures forward { IfOk result (λ f. (start ≤ f.end) × (f.end ≤ length source.now)) }
 #[inline]
 fn front_at(source: &Source<'_>, start: usize) -> Result<Front, AllocError> {
     let mut starts = Vec::new();
@@ -117,15 +100,12 @@ fn front_at(source: &Source<'_>, start: usize) -> Result<Front, AllocError> {
 }
 
 /// Returns whether an option sets this word.
-// ensures { result ≡ sets (map leaf tokens.now) option.now word.now }
 #[inline]
 fn sets(tokens: &[Token<'_>], option: &Argument, word: &str) -> bool {
     option.is_named && is_word_there(tokens, option.start, word)
 }
 
 /// Returns the literal that an option sets, or `None` if it sets none.
-// requires { option.now.start < length tokens.now }
-// ensures { option_map leaf result ≡ literal_of (map leaf tokens.now) option.now }
 #[inline]
 fn literal_of<'a>(tokens: &[Token<'a>], option: &Argument) -> Option<Token<'a>> {
     match token_at(tokens, option.start + 2) {
@@ -135,7 +115,6 @@ fn literal_of<'a>(tokens: &[Token<'a>], option: &Argument) -> Option<Token<'a>> 
 }
 
 /// Returns whether an option counts, where a message and a label have been there or not.
-// ensures { result ≡ counts (map leaf tokens.now) has_message has_label option.now }
 #[inline]
 fn counts(tokens: &[Token<'_>], has_message: bool, has_label: bool, option: &Argument) -> bool {
     sets(tokens, option, "message") && !has_message
@@ -144,10 +123,6 @@ fn counts(tokens: &[Token<'_>], has_message: bool, has_label: bool, option: &Arg
 }
 
 /// Adds the literal that an option sets, if it counts.
-// requires { option.now.start < length tokens.now }
-// ensures { OnOk result (map leaf literals.new.items ≡ map leaf literals.old.items
-//     ++ literal_list (counts (map leaf tokens.now) has_message has_label option.now)
-//     (literal_of (map leaf tokens.now) option.now)) }
 #[inline]
 fn put_literal<'a>(
     literals: &mut Vec<Token<'a>>,
@@ -165,12 +140,6 @@ fn put_literal<'a>(
 }
 
 /// Reads these literals before a trait, and adds their findings.
-// requires { HasNames (map (λ p. p.now) item.parameters.now) item.names.now }
-// ensures read { OnOk result ((xs : List FindingValue)
-//     × (findings.new.items ≡ findings.old.items ++ xs) × ReadsTexts (chars item.entry.name.now)
-//     (map (λ p. p.now) item.entry.parameters.now) (map leaf literals.now) xs) }
-// ensures spans { OnOk result (All (HasSpans text.now) findings.old.items
-//     → All (HasSpans text.now) findings.new.items) }
 #[inline]
 fn read_texts<'a>(
     findings: &mut Vec<Finding>,
@@ -185,9 +154,6 @@ fn read_texts<'a>(
 }
 
 /// Returns the literals of the options that count, in their order.
-// requires { AllByRecursion (λ a. a.start < length tokens.now) options.now }
-// ensures { IfOk result (λ v. map leaf v.items
-//     ≡ texts_from (map leaf tokens.now) false false options.now) }
 #[inline]
 fn literals<'a>(tokens: &[Token<'a>], options: &[Argument]) -> Result<Vec<Token<'a>>, AllocError> {
     let mut found = Vec::new();
@@ -202,12 +168,6 @@ fn literals<'a>(tokens: &[Token<'a>], options: &[Argument]) -> Result<Vec<Token<
 }
 
 /// Reads the attribute of a trait that stands at a token, if one does, and adds its findings.
-// requires { HasNames (map (λ p. p.now) item.parameters.now) item.names.now }
-// ensures read { OnOk result ((xs : List FindingValue)
-//     × (findings.new.items ≡ findings.old.items ++ xs) × ReadsAt (chars item.entry.name.now)
-//     (map (λ p. p.now) item.entry.parameters.now) source.now index xs) }
-// ensures spans { OnOk result (All (HasSpans text.now) findings.old.items
-//     → All (HasSpans text.now) findings.new.items) }
 #[inline]
 fn read_at<'a>(
     findings: &mut Vec<Finding>,
@@ -229,12 +189,6 @@ fn read_at<'a>(
 
 /// Reads the attributes among the parts of the front of a trait, which start at these tokens, and
 /// adds their findings.
-// requires { HasNames (map (λ p. p.now) item.parameters.now) item.names.now }
-// ensures read { OnOk result ((xs : List FindingValue)
-//     × (findings.new.items ≡ findings.old.items ++ xs) × ReadsFronts (chars item.entry.name.now)
-//     (map (λ p. p.now) item.entry.parameters.now) source.now starts.now xs) }
-// ensures spans { OnOk result (All (HasSpans text.now) findings.old.items
-//     → All (HasSpans text.now) findings.new.items) }
 #[inline]
 fn read_fronts<'a>(
     findings: &mut Vec<Finding>,
@@ -250,7 +204,6 @@ fn read_fronts<'a>(
 }
 
 /// Returns the text of a token, or an empty one if there is no such token.
-// ensures { chars result.now ≡ name_text (slice_get (map leaf tokens.now) index) }
 #[inline]
 fn text_at<'a>(tokens: &[Token<'a>], index: usize) -> &'a str {
     match token_at(tokens, index) {
@@ -260,11 +213,6 @@ fn text_at<'a>(tokens: &[Token<'a>], index: usize) -> &'a str {
 }
 
 /// Reads the attributes of an item with this front, and adds their findings.
-// ensures read { OnOk result ((xs : List FindingValue)
-//     × (findings.new.items ≡ findings.old.items ++ xs)
-//     × ReadsItem source.now front.now.starts.items front.now.end xs) }
-// ensures spans { OnOk result (All (HasSpans text.now) findings.old.items
-//     → All (HasSpans text.now) findings.new.items) }
 #[inline]
 fn read_item<'a>(
     findings: &mut Vec<Finding>,
@@ -288,10 +236,6 @@ fn read_item<'a>(
 }
 
 /// Reads the attributes of a file, which has these tokens, and adds their findings.
-// ensures read { OnOk result ((ks : List ℕ) × (xs : List FindingValue)
-//     × (findings.new.items ≡ findings.old.items ++ xs) × ReadsItems source.now 0 ks xs) }
-// ensures spans { OnOk result (All (HasSpans text.now) findings.old.items
-//     → All (HasSpans text.now) findings.new.items) }
 #[inline]
 pub fn read_attributes<'a>(
     findings: &mut Vec<Finding>,

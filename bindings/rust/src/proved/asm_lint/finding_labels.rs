@@ -1,8 +1,7 @@
 //! The labels of findings, with their ranges in the file.
 
 // Extracted from crates/asm_lint/src/finding_labels.rt by tools/extract: not to be edited.
-// That source is proved, and each contract here is its. That this text means the same is tested:
-// by results from outside, and beside what is proved (.ci/bindings) and the original (tools/agree).
+// That source has the contracts, and is proved. That this text means the same is only tested.
 
 use crate::proved::asm_lint::spans::{range_in, spot_range, Site};
 use crate::proved::source_report::Label;
@@ -12,11 +11,6 @@ use crate::shim::prelude::*;
 use core::ops::Range;
 
 /// Returns labels of a call with their ranges.
-// ensures primary { IfOk result (λ v. map (λ x. x.is_primary) v.items
-//     ≡ map (λ l. l.is_primary) (map seen_label labels.items)) }
-// ensures texts { IfOk result (λ v. map (λ x. string_bytes x.text) v.items
-//     ≡ map (λ l. l.text) (map seen_label labels.items)) }
-// ensures spans { IfOk result (λ v. All (λ x. IsSpan site.entry.text.now x.range) v.items) }
 #[inline]
 pub fn labels(site: Site<'_, '_>, labels: Vec<CallLabel>) -> Result<Vec<Label>, AllocError> {
     let mut found = Vec::new();
@@ -32,7 +26,6 @@ pub fn labels(site: Site<'_, '_>, labels: Vec<CallLabel>) -> Result<Vec<Label>, 
 
 /// Returns the range of the primary label that comes first in the file, or an empty one if there is
 /// none.
-// ensures { IsSpan site.entry.text.now result }
 #[inline]
 pub fn primary_span(site: Site<'_, '_>, labels: &[Label]) -> Range<usize> {
     let mut start = 0;

@@ -1,8 +1,7 @@
 //! The string literals of a file, as rustc reads them: with lines that end with LF.
 
 // Extracted from crates/asm_lint/src/literals.rt by tools/extract: not to be edited.
-// That source is proved, and each contract here is its. That this text means the same is tested:
-// by results from outside, and beside what is proved (.ci/bindings) and the original (tools/agree).
+// That source has the contracts, and is proved. That this text means the same is only tested.
 
 use crate::proved::piece_listing::literal::{literal_text, LiteralText};
 use crate::proved::rust_tokens::split_first;
@@ -20,7 +19,6 @@ pub struct Literal {
 }
 
 /// Returns whether a text begins with LF.
-// ensures { result ≡ first_passes is_lf (chars text.now) }
 #[inline]
 fn begins_line(text: &str) -> bool {
     match split_first(text) {
@@ -30,14 +28,12 @@ fn begins_line(text: &str) -> bool {
 }
 
 /// Returns whether a character is a CR before an LF, where `rest` follows it.
-// ensures { result ≡ (c == 13 && first_passes is_lf (chars rest.now)) }
 #[inline]
 fn is_dropped(c: char, rest: &str) -> bool {
     c == '\r' && begins_line(rest)
 }
 
 /// Returns a text without the CR before each LF.
-// ensures { IfOk result (λ s. chars (string_bytes s) ≡ without_crs (chars text.now)) }
 #[inline]
 pub fn without_crs(text: &str) -> Result<String, AllocError> {
     let mut lines = String::new();
@@ -52,17 +48,12 @@ pub fn without_crs(text: &str) -> Result<String, AllocError> {
 }
 
 /// Returns whether a macro of this name appends a newline to its format string.
-// ensures { result ≡ appends_newline name.now }
 #[inline]
 pub fn appends_newline(name: &[u8]) -> bool {
     name == b"println".as_slice() || name == b"eprintln".as_slice() || name == b"writeln".as_slice()
 }
 
 /// Appends a newline to a text, or nothing.
-// ensures text { OnOk result (chars (string_bytes text.new)
-//     ≡ chars (string_bytes text.old) ++ newline appended) }
-// ensures short { OnOk result (length (string_bytes text.new)
-//     ≤ length (string_bytes text.old) + 1) }
 #[inline]
 fn put_newline(text: &mut String, appended: bool) -> Result<(), AllocError> {
     if appended {
@@ -74,11 +65,6 @@ fn put_newline(text: &mut String, appended: bool) -> Result<(), AllocError> {
 
 /// Reads the literal that a token is, and appends a newline to its text or not. Returns `None` if
 /// it stands for no text, and `Err` if an allocation fails.
-// ensures read { IfOk result (λ o. MatchOption o
-//     ((style : Option ℕ) (t : Text) → IsLiteral style (without_crs (chars token.now)) t → ⊥)
-//     (λ l. IsRead (chars token.now) appended_newline l)) }
-// ensures short { IfOk result (λ o. IfSome o (λ l.
-//     hashes l.style + length (string_bytes l.text) + 2 < 2 ^ 64)) }
 #[inline]
 pub fn read_literal(token: &str, appended_newline: bool) -> Result<Option<Literal>, AllocError> {
     let snippet = without_crs(token)?;

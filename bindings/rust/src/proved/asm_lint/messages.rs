@@ -2,8 +2,7 @@
 //! file.
 
 // Extracted from crates/asm_lint/src/messages.rt by tools/extract: not to be edited.
-// That source is proved, and each contract here is its. That this text means the same is tested:
-// by results from outside, and beside what is proved (.ci/bindings) and the original (tools/agree).
+// That source has the contracts, and is proved. That this text means the same is only tested.
 
 use crate::proved::asm_lint::finding_labels::{labels, primary_span};
 use crate::proved::asm_lint::literals::{dropped_crs, read_literal};
@@ -27,9 +26,6 @@ pub struct Item<'s, 'a> {
 }
 
 /// Returns a help, which has no edits.
-// ensures text { IfOk result (λ o. option_map (λ h. string_bytes h.text) o
-//     ≡ option_map (λ t. t.now) help.entry) }
-// ensures no_edits { IfOk result (λ o. IfSome o (λ h. h.edits.items ≡ [])) }
 #[inline]
 fn help(help: Option<&str>) -> Result<Option<Help>, AllocError> {
     match help {
@@ -43,8 +39,6 @@ fn help(help: Option<&str>) -> Result<Option<Help>, AllocError> {
 }
 
 /// Returns the finding of a fault, for a trait of this name.
-// ensures outcome { IfOk result (λ x. TellsMessage (chars name.now) (seen_fault fault.now) x) }
-// ensures spans { IfOk result (λ x. HasSpans site.entry.text.now x) }
 #[inline]
 fn finding(
     site: Site<'_, '_>,
@@ -68,11 +62,6 @@ fn finding(
 }
 
 /// Adds the findings of faults, for a trait of this name.
-// ensures outcome { OnOk result ((xs : List FindingValue)
-//     × (findings.new.items ≡ findings.old.items ++ xs)
-//     × TellMessages (chars name.now) (map seen_fault faults.now) xs) }
-// ensures spans { OnOk result (All (HasSpans site.entry.text.now) findings.old.items
-//     → All (HasSpans site.entry.text.now) findings.new.items) }
 #[inline]
 fn put_findings(
     findings: &mut Vec<Finding>,
@@ -87,13 +76,6 @@ fn put_findings(
 }
 
 /// Reads the text that a literal stands for, before a trait, and adds its findings.
-// requires { HasNames (map (λ p. p.now) item.parameters.now) item.names.now }
-// ensures read { OnOk result ((xs : List FindingValue)
-//     × (findings.new.items ≡ findings.old.items ++ xs)
-//     × ReadsText (chars item.entry.name.now) (map (λ p. p.now) item.entry.parameters.now)
-//     (without_crs (chars token.now.text.now)) xs) }
-// ensures spans { OnOk result (All (HasSpans text.now) findings.old.items
-//     → All (HasSpans text.now) findings.new.items) }
 #[inline]
 pub fn read_text<'a>(
     findings: &mut Vec<Finding>,

@@ -1,15 +1,13 @@
 //! The names of arguments.
 
 // Extracted from crates/asm_lint/src/names.rt by tools/extract: not to be edited.
-// That source is proved, and each contract here is its. That this text means the same is tested:
-// by results from outside, and beside what is proved (.ci/bindings) and the original (tools/agree).
+// That source has the contracts, and is proved. That this text means the same is only tested.
 
 use crate::proved::format_calls::{token_at, Argument};
 use crate::proved::rust_tokens::split_first;
 use crate::proved::rust_trees::Token;
 
 /// Returns a text without `r#` at its start.
-// ensures { chars result.now ≡ without_raw (chars text.now) }
 #[inline]
 pub fn without_raw(text: &str) -> &str {
     let Some(('r', rest)) = split_first(text) else {
@@ -22,7 +20,6 @@ pub fn without_raw(text: &str) -> &str {
 }
 
 /// Returns the name of an argument, without `r#`, or `None` if it has none.
-// ensures { option_map text result ≡ name_of (map leaf tokens.now) argument.now }
 #[inline]
 pub fn name_of<'a>(tokens: &[Token<'a>], argument: &Argument) -> Option<&'a str> {
     if !argument.is_named {

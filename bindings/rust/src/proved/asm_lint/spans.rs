@@ -1,8 +1,7 @@
 //! The places of a call in its file.
 
 // Extracted from crates/asm_lint/src/spans.rt by tools/extract: not to be edited.
-// That source is proved, and each contract here is its. That this text means the same is tested:
-// by results from outside, and beside what is proved (.ci/bindings) and the original (tools/agree).
+// That source has the contracts, and is proved. That this text means the same is only tested.
 
 use crate::proved::asm_lint::literals::offset_in;
 use crate::proved::call_forms::is_in_path;
@@ -33,7 +32,6 @@ pub struct Site<'s, 'a> {
 
 /// Returns the range between two byte offsets of a text. An offset within a character goes back to
 /// its start, and the range is empty if its end comes before its start.
-// ensures { IsSpan text.now result }
 #[inline]
 pub fn range_in(text: &str, from: usize, to: usize) -> Range<usize> {
     let start = text.boundary_at_most(from);
@@ -58,8 +56,6 @@ pub fn tokens_range(tokens: &[Token<'_>], from: usize, to: usize) -> Range<usize
 }
 
 /// Returns the offset of the word that ends at an offset of a text, or that offset if none does.
-// requires { end ≤ length bytes.now }
-// ensures { result ≤ end }
 #[inline]
 fn word_start(bytes: &[u8], end: usize) -> usize {
     let mut start = end;
@@ -173,7 +169,6 @@ fn literal_range(site: Site<'_, '_>, from: usize, to: usize) -> Range<usize> {
 }
 
 /// Returns the bytes of the file that a place of a call is.
-// ensures { IsSpan site.entry.text.now result }
 #[inline]
 pub fn spot_range(site: Site<'_, '_>, spot: Spot) -> Range<usize> {
     let literal = site.literal;

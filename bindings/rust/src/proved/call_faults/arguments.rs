@@ -1,8 +1,7 @@
 //! The list of arguments of a call.
 
 // Extracted from crates/call_faults/src/arguments.rt by tools/extract: not to be edited.
-// That source is proved, and each contract here is its. That this text means the same is tested:
-// by results from outside, and beside what is proved (.ci/bindings) and the original (tools/agree).
+// That source has the contracts, and is proved. That this text means the same is only tested.
 
 use crate::proved::call_faults::faults::CallFault;
 use crate::shim::alloc::AllocError;
@@ -37,7 +36,6 @@ pub(crate) struct Arguments<'a> {
 }
 
 /// Returns no arguments. Does not allocate.
-// ensures { Holds [] result }
 #[inline]
 pub(crate) fn no_arguments<'a>() -> Arguments<'a> {
     Arguments {
@@ -48,15 +46,12 @@ pub(crate) fn no_arguments<'a>() -> Arguments<'a> {
 }
 
 /// Returns the index that a map has for a name, or `None` if it has none.
-// ensures { result ≡ found_in indices.now (chars name.now) }
 #[inline]
 pub(crate) fn index_of<'a>(indices: &BTreeMap<&'a str, usize>, name: &'a str) -> Option<usize> {
     indices.get(&name).copied()
 }
 
 /// Puts a name into a map that does not have it.
-// ensures { OnOk result ((w : Text) → found_in indices.new w
-//     ≡ (if bytes_eq w (chars name.now) then Some index else found_in indices.old w)) }
 #[inline]
 pub(crate) fn insert<'a>(
     indices: &mut BTreeMap<&'a str, usize>,
@@ -69,8 +64,6 @@ pub(crate) fn insert<'a>(
 
 /// Returns the index of the argument with the name that an argument has, or `None` if it has none
 /// or there is none.
-// ensures { (ks : List KeptValue) → Holds ks arguments.now
-//     → result ≡ first_of ks (seen_given argument.now) }
 #[inline]
 fn first_of<'a>(arguments: &Arguments<'a>, argument: &FormatArgument<'a>) -> Option<usize> {
     match argument.name {
@@ -80,10 +73,6 @@ fn first_of<'a>(arguments: &Arguments<'a>, argument: &FormatArgument<'a>) -> Opt
 }
 
 /// Adds an argument to those that count.
-// ensures { OnOk result ((ks : List KeptValue) → Holds ks arguments.old
-//     → first_of ks (seen_given argument.entry) ≡ None
-//     → Holds (ks ++ record { index = index; given = seen_given argument.entry } ∷ [])
-//     arguments.new) }
 #[inline]
 fn keep<'a>(
     arguments: &mut Arguments<'a>,
@@ -99,11 +88,6 @@ fn keep<'a>(
 }
 
 /// Adds an argument to those that count, unless an earlier one has its name, which is then a fault.
-// ensures kept { OnOk result ((ks : List KeptValue) → Holds ks arguments.old
-//     → Holds (with_given ks index (seen_given argument.entry)) arguments.new) }
-// ensures outcome { OnOk result ((ks : List KeptValue) → Holds ks arguments.old
-//     → map seen_fault faults.new.items ≡ map seen_fault faults.old.items
-//     ++ repeated index (first_of ks (seen_given argument.entry))) }
 #[inline]
 fn add<'a>(
     arguments: &mut Arguments<'a>,
@@ -119,15 +103,12 @@ fn add<'a>(
 }
 
 /// Returns whether an argument has no name, although one that counts has one.
-// ensures { (ks : List KeptValue) → Holds ks arguments.now
-//     → result ≡ is_late ks (seen_given argument.now) }
 #[inline]
 fn is_late<'a>(arguments: &Arguments<'a>, argument: &FormatArgument<'a>) -> bool {
     argument.name.is_none() && arguments.has_names
 }
 
 /// Returns the indices of those of arguments that have a name.
-// ensures { IfOk result (λ v. v.items ≡ named_of (map seen_kept list.now)) }
 #[inline]
 fn named_of(list: &[Kept<'_>]) -> Result<Vec<usize>, AllocError> {
     let mut named = Vec::new();
@@ -141,12 +122,6 @@ fn named_of(list: &[Kept<'_>]) -> Result<Vec<usize>, AllocError> {
 
 /// Returns the arguments that count, or `None` if the first one without a name after one with a
 /// name ends the list. Adds the faults of the list.
-// ensures outcome { OnOk result (map seen_fault faults.new.items ≡ map seen_fault faults.old.items
-//     ++ list_faults [] 0 (map seen_given call_arguments.now)) }
-// ensures some { IfOk result (λ o. IfSome o (λ a.
-//     Holds (kept_after [] 0 (map seen_given call_arguments.now)) a)) }
-// ensures ends { IfOk result (λ o.
-//     list_any is_last (list_faults [] 0 (map seen_given call_arguments.now)) ≡ not (is_some o)) }
 #[inline]
 pub(crate) fn arguments_of<'a>(
     faults: &mut Vec<CallFault<'a>>,

@@ -1,8 +1,7 @@
 //! The check of a call.
 
 // Extracted from crates/call_faults/src/checker.rt by tools/extract: not to be edited.
-// That source is proved, and each contract here is its. That this text means the same is tested:
-// by results from outside, and beside what is proved (.ci/bindings) and the original (tools/agree).
+// That source has the contracts, and is proved. That this text means the same is only tested.
 
 use crate::proved::call_faults::arguments::{arguments_of, FormatArgument};
 use crate::proved::call_faults::compared::{compare, indices_of};
@@ -49,7 +48,6 @@ pub struct CallReport<'a> {
 }
 
 /// Returns a text as a string.
-// ensures { IfOk result (λ o. seen_snippet o ≡ option_map seen_text text.entry) }
 #[inline]
 fn owned_string(text: Option<&str>) -> Result<Option<String>, AllocError> {
     match text {
@@ -59,8 +57,6 @@ fn owned_string(text: Option<&str>) -> Result<Option<String>, AllocError> {
 }
 
 /// Returns the fault of a format string that rustc shows, or `None` if it is in the grammar.
-// requires { hashes string.style + length string.text.now + 2 < 2 ^ 64 }
-// ensures { IfOk result (λ o. option_map seen_text_fault o ≡ text_fault (start string.entry)) }
 #[inline]
 fn fault_of<'a>(string: FormatString<'a>) -> Result<Option<Fault<'a>>, AllocError> {
     let snippet = owned_string(string.snippet)?;
@@ -77,13 +73,6 @@ fn fault_of<'a>(string: FormatString<'a>) -> Result<Option<Fault<'a>>, AllocErro
 
 /// Returns the faults of a call whose format string has these pieces, and puts the indices of
 /// the arguments that count into `kept`. `is_read` is whether the string is in the grammar.
-// requires { hashes string.style + length string.text.now + 2 < 2 ^ 64 }
-// ensures kept { OnOk result (kept.old.items ≡ []
-//     → kept.new.items ≡ kept_indices (map seen_given call_arguments.now)) }
-// ensures faults { IfOk result (λ v. is_none (text_fault (start string.entry)) ≡ is_read
-//     → map seen_fault v.items ≡ call_faults string.entry.captures
-//     (map seen_given call_arguments.now) (text_fault (start string.entry))
-//     (map seen pieces.now)) }
 #[inline]
 fn faults_of<'a>(
     string: FormatString<'a>,
@@ -119,23 +108,6 @@ fn faults_of<'a>(
 /// faults, as rustc reports them. A placeholder's spans are those of the parser.
 ///
 /// The number of hashes, the length of the text in bytes, and 2 must together fit into a `usize`.
-// requires { hashes string.style + length string.text.now + 2 < 2 ^ 64 }
-// The pieces and the parser are those of the calls of a parser at the start of the string, and
-// the faults are those that the definition names, in its order.
-// ensures walk { IfOk result (λ x. let s = start string.entry in
-//     (map seen x.pieces.items ≡ pieces_in s.world (pieces_of (calls s)))
-//     × (x.parser ≡ after_all s (calls s))) }
-// ensures given { IfOk result (λ x. x.arguments ≡ arguments.entry) }
-// ensures kept { IfOk result (λ x. x.kept.items ≡ kept_indices (map seen_given arguments.now)) }
-// ensures counts { IfOk result (λ x. x.counts.items ≡ counts_before 0 (map seen x.pieces.items)) }
-// ensures faults { IfOk result (λ x. map seen_fault x.faults.items
-//     ≡ call_faults string.entry.captures (map seen_given arguments.now)
-//     (text_fault (start string.entry)) (map seen x.pieces.items)) }
-// Nothing but warnings is found exactly if the call is clean.
-// ensures clean { IfOk result (λ x. All (λ f. IsTrue (is_warning f)) (map seen_fault
-//     x.faults.items)
-//     ↔ IsClean string.entry.captures (map seen_given arguments.now)
-//     (chars string.entry.text.now)) }
 #[inline]
 pub fn call_faults<'a>(
     string: FormatString<'a>,

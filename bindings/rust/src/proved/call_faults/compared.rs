@@ -1,8 +1,7 @@
 //! The comparison of lookups with the arguments that count.
 
 // Extracted from crates/call_faults/src/compared.rt by tools/extract: not to be edited.
-// That source is proved, and each contract here is its. That this text means the same is tested:
-// by results from outside, and beside what is proved (.ci/bindings) and the original (tools/agree).
+// That source has the contracts, and is proved. That this text means the same is only tested.
 
 use crate::proved::call_faults::arguments::{index_of, insert, Arguments, Kept};
 use crate::proved::call_faults::faults::{CallFault, Missing, Part};
@@ -12,8 +11,6 @@ use crate::shim::prelude::*;
 use alloc::collections::BTreeMap;
 
 /// Returns the index of the argument that a lookup means, or `None` if it means none.
-// ensures { (ks : List KeptValue) → Holds ks arguments.now → (i : ℕ)
-//     → option_map_or (λ j. i == j) result false ≡ means ks i (seen_lookup lookup.now) }
 #[inline]
 fn meant<'a>(arguments: &Arguments<'a>, lookup: &Lookup<'a>) -> Option<usize> {
     match *lookup {
@@ -24,9 +21,6 @@ fn meant<'a>(arguments: &Arguments<'a>, lookup: &Lookup<'a>) -> Option<usize> {
 }
 
 /// Returns of each argument whether a lookup means it, if there are `count` ones.
-// ensures { IfOk result (λ v. (ks : List KeptValue) → Holds ks arguments.now
-//     → AllByRecursion (λ k. k.index < count) ks → (i : ℕ) → get_or v.items i false
-//     ≡ list_any (means ks i) (map seen_lookup lookups.now)) }
 #[inline]
 fn marks<'a>(
     arguments: &Arguments<'a>,
@@ -45,7 +39,6 @@ fn marks<'a>(
 }
 
 /// Returns the reference of a lookup, if it is one by an index that is at least `count`.
-// ensures { result ≡ beyond count (seen_lookup lookup.now) }
 #[inline]
 fn reference_beyond(count: usize, lookup: &Lookup<'_>) -> Option<Missing> {
     match *lookup {
@@ -57,8 +50,6 @@ fn reference_beyond(count: usize, lookup: &Lookup<'_>) -> Option<Missing> {
 }
 
 /// Returns the references by an index that is at least `count`.
-// ensures { IfOk result (λ v. v.items
-//     ≡ filter_map (beyond count) (map seen_lookup lookups.now)) }
 #[inline]
 fn references_from(count: usize, lookups: &[Lookup<'_>]) -> Result<Vec<Missing>, AllocError> {
     let mut missing = Vec::new();
@@ -71,8 +62,6 @@ fn references_from(count: usize, lookups: &[Lookup<'_>]) -> Result<Vec<Missing>,
 }
 
 /// Returns the arguments that are not marked.
-// ensures { IfOk result (λ v. map seen_kept v.items
-//     ≡ filter (λ k. not (get_or marks.now k.index false)) (map seen_kept arguments.now)) }
 #[inline]
 fn unmarked_arguments<'a>(
     arguments: &[Kept<'a>],
@@ -89,11 +78,6 @@ fn unmarked_arguments<'a>(
 
 /// Adds the fault of a lookup: of a trait that does not exist, or of a name that no variable is
 /// captured for and that `indices` does not have, which it is then put into.
-// ensures { OnOk result ((known : List Text) → KnowsNames known indices.old
-//     → (now : List Text) × KnowsNames now indices.new × ((ls : List LookupValue)
-//     → map seen_fault faults.new.items ++ lookup_faults captures now ls
-//     ≡ map seen_fault faults.old.items
-//     ++ lookup_faults captures known (seen_lookup lookup.now ∷ ls))) }
 #[inline]
 fn look_up_one<'a>(
     faults: &mut Vec<CallFault<'a>>,
@@ -115,9 +99,6 @@ fn look_up_one<'a>(
 }
 
 /// Adds the faults of lookups, one after the other.
-// ensures { OnOk result ((known : List Text) → KnowsNames known indices.old
-//     → map seen_fault faults.new.items ≡ map seen_fault faults.old.items
-//     ++ lookup_faults captures known (map seen_lookup lookups.now)) }
 #[inline]
 fn look_up<'a>(
     faults: &mut Vec<CallFault<'a>>,
@@ -132,7 +113,6 @@ fn look_up<'a>(
 }
 
 /// Returns whether a name is missing.
-// ensures { result ≡ list_any is_missing_name (map seen_fault faults.now) }
 #[inline]
 fn misses_name(faults: &[CallFault<'_>]) -> bool {
     for fault in faults {
@@ -144,8 +124,6 @@ fn misses_name(faults: &[CallFault<'_>]) -> bool {
 }
 
 /// Returns a map that has the names that are the positions of placeholders.
-// ensures { IfOk result (λ m. (w : Text) → is_some (found_in m w)
-//     ≡ list_any (is_position w) (map seen_lookup lookups.now)) }
 #[inline]
 fn positions_of<'a>(lookups: &[Lookup<'a>]) -> Result<BTreeMap<&'a str, usize>, AllocError> {
     let mut names = BTreeMap::new();
@@ -160,8 +138,6 @@ fn positions_of<'a>(lookups: &[Lookup<'a>]) -> Result<BTreeMap<&'a str, usize>, 
 }
 
 /// Returns whether an argument has no name, and is a variable whose name a map has.
-// ensures { result ≡ (is_none (seen_kept kept.now).given.name && option_map_or
-//     (λ w. is_some (found_in positions.now w)) (seen_kept kept.now).given.variable false) }
 #[inline]
 fn is_redundant<'a>(positions: &BTreeMap<&'a str, usize>, kept: &Kept<'a>) -> bool {
     match (kept.argument.name, kept.argument.variable) {
@@ -171,8 +147,6 @@ fn is_redundant<'a>(positions: &BTreeMap<&'a str, usize>, kept: &Kept<'a>) -> bo
 }
 
 /// Returns the indices of the redundant ones of arguments that no lookup means.
-// ensures { IfOk result (λ v. v.items ≡ indices
-//     (filter (is_redundant (map seen_lookup lookups.now)) (map seen_kept unused.now))) }
 #[inline]
 fn redundant_of<'a>(unused: &[Kept<'a>], lookups: &[Lookup<'a>]) -> Result<Vec<usize>, AllocError> {
     let mut redundant = Vec::new();
@@ -189,7 +163,6 @@ fn redundant_of<'a>(unused: &[Kept<'a>], lookups: &[Lookup<'a>]) -> Result<Vec<u
 }
 
 /// Returns the indices of arguments.
-// ensures { IfOk result (λ v. v.items ≡ indices (map seen_kept arguments.now)) }
 #[inline]
 pub(crate) fn indices_of(arguments: &[Kept<'_>]) -> Result<Vec<usize>, AllocError> {
     let mut indices = Vec::new();
@@ -200,9 +173,6 @@ pub(crate) fn indices_of(arguments: &[Kept<'_>]) -> Result<Vec<usize>, AllocErro
 }
 
 /// Adds the fault of arguments that no lookup means: of the redundant ones, or else of all.
-// ensures { OnOk result (map seen_fault faults.new.items ≡ map seen_fault faults.old.items
-//     ++ left_faults (indices (filter (is_redundant (map seen_lookup lookups.now))
-//     (map seen_kept unused.now))) (indices (map seen_kept unused.now))) }
 #[inline]
 fn tell_unused<'a>(
     faults: &mut Vec<CallFault<'a>>,
@@ -222,8 +192,6 @@ fn tell_unused<'a>(
 }
 
 /// Returns the fault of a lookup, if it means an argument with a name by its index.
-// ensures { option_map seen_fault result
-//     ≡ by_index (map seen_kept arguments.now) (seen_lookup lookup.now) }
 #[inline]
 fn by_index<'a>(arguments: &[Kept<'a>], lookup: &Lookup<'a>) -> Option<CallFault<'a>> {
     match *lookup {
@@ -239,8 +207,6 @@ fn by_index<'a>(arguments: &[Kept<'a>], lookup: &Lookup<'a>) -> Option<CallFault
 }
 
 /// Adds the faults of lookups that mean an argument with a name by its index.
-// ensures { OnOk result (map seen_fault faults.new.items ≡ map seen_fault faults.old.items
-//     ++ filter_map (by_index (map seen_kept arguments.now)) (map seen_lookup lookups.now)) }
 #[inline]
 fn tell_by_index<'a>(
     faults: &mut Vec<CallFault<'a>>,
@@ -256,8 +222,6 @@ fn tell_by_index<'a>(
 }
 
 /// Adds the fault of references by an index that is too large, if there are any.
-// ensures { OnOk result (map seen_fault faults.new.items ≡ map seen_fault faults.old.items
-//     ++ missing_faults missing.items) }
 #[inline]
 fn tell_missing(faults: &mut Vec<CallFault<'_>>, missing: Vec<Missing>) -> Result<(), AllocError> {
     if !missing.is_empty() {
@@ -267,8 +231,6 @@ fn tell_missing(faults: &mut Vec<CallFault<'_>>, missing: Vec<Missing>) -> Resul
 }
 
 /// Returns whether neither a name is missing, nor an argument, nor is one unused.
-// ensures { result
-//     ≡ is_settled (map seen_fault faults.now) missing.now (map seen_kept unused.now) }
 #[inline]
 fn is_settled(faults: &[CallFault<'_>], missing: &[Missing], unused: &[Kept<'_>]) -> bool {
     !misses_name(faults) && missing.is_empty() && unused.is_empty()
@@ -276,10 +238,6 @@ fn is_settled(faults: &[CallFault<'_>], missing: &[Missing], unused: &[Kept<'_>]
 
 /// Adds what is wrong between the arguments that count, whose indices are below `count`, and
 /// lookups.
-// ensures { OnOk result ((ks : List KeptValue) → Holds ks arguments.old
-//     → AllByRecursion (λ k. k.index < count) ks
-//     → map seen_fault faults.new.items ≡ map seen_fault faults.old.items
-//     ++ compared captures ks (map seen_lookup lookups.now)) }
 #[inline]
 pub(crate) fn compare<'a>(
     faults: &mut Vec<CallFault<'a>>,

@@ -1,8 +1,7 @@
 //! The suggestions of rustc for faults, in its words.
 
 // Extracted from crates/call_faults/src/helps.rt by tools/extract: not to be edited.
-// That source is proved, and each contract here is its. That this text means the same is tested:
-// by results from outside, and beside what is proved (.ci/bindings) and the original (tools/agree).
+// That source has the contracts, and is proved. That this text means the same is only tested.
 
 use crate::proved::call_faults::arguments::FormatArgument;
 use crate::proved::call_faults::checker::CallReport;
@@ -18,7 +17,6 @@ use crate::shim::prelude::*;
 use core::ops::Range;
 
 /// Returns an edit that copies no source.
-// ensures { seen_edit result ≡ edit spot (string_bytes text) }
 #[inline]
 fn plain_edit(spot: Spot, text: String) -> CallEdit {
     CallEdit {
@@ -30,10 +28,6 @@ fn plain_edit(spot: Spot, text: String) -> CallEdit {
 }
 
 /// Returns a help with one edit.
-// ensures { IfOk result (λ h. seen_help h ≡ record {
-//   text = string_bytes text;
-//   edits = edit spot (string_bytes new) ∷ [];
-// }) }
 #[inline]
 fn single(text: String, spot: Spot, new: String) -> Result<CallHelp, AllocError> {
     let mut edits = Vec::new();
@@ -42,7 +36,6 @@ fn single(text: String, spot: Spot, new: String) -> Result<CallHelp, AllocError>
 }
 
 /// Adds this many placeholders.
-// ensures { OnOk result (string_bytes out.new ≡ string_bytes out.old ++ placeholders count) }
 #[inline]
 fn put_placeholders(out: &mut String, count: usize) -> Result<(), AllocError> {
     let mut left = count;
@@ -54,8 +47,6 @@ fn put_placeholders(out: &mut String, count: usize) -> Result<(), AllocError> {
 }
 
 /// Returns the help for so many unused arguments, or `None` if there is none.
-// ensures { IfOk result (λ o. option_map seen_help o
-//     ≡ unused_help (seen_call call.now) count) }
 #[inline]
 fn unused_help(call: &CallReport<'_>, count: usize) -> Result<Option<CallHelp>, AllocError> {
     if are_missing(&call.faults) || count != call.kept.len() {
@@ -71,7 +62,6 @@ fn unused_help(call: &CallReport<'_>, count: usize) -> Result<Option<CallHelp>, 
 }
 
 /// Returns where the text is that is removed with an argument.
-// ensures { result ≡ removed_spot (map seen_given arguments.now) index }
 #[inline]
 fn removed_spot(arguments: &[FormatArgument<'_>], index: usize) -> Spot {
     if is_last(arguments, index) {
@@ -82,8 +72,6 @@ fn removed_spot(arguments: &[FormatArgument<'_>], index: usize) -> Spot {
 }
 
 /// Adds the edits that remove arguments.
-// ensures { OnOk result (map seen_edit edits.new.items ≡ map seen_edit edits.old.items
-//     ++ map (removal (map seen_given arguments.now)) indices.now) }
 #[inline]
 fn push_removals(
     edits: &mut Vec<CallEdit>,
@@ -101,8 +89,6 @@ fn push_removals(
 }
 
 /// Returns the help for redundant arguments, or `None` if there is none.
-// ensures { IfOk result (λ o. option_map seen_help o
-//     ≡ redundant_help (map seen_given arguments.now) redundant.now) }
 #[inline]
 fn redundant_help(
     arguments: &[FormatArgument<'_>],
@@ -118,7 +104,6 @@ fn redundant_help(
 }
 
 /// Returns the text after a name in a part of a placeholder.
-// ensures { result.now ≡ after_name part }
 #[inline]
 fn after_name(part: Part) -> &'static str {
     match part {
@@ -128,7 +113,6 @@ fn after_name(part: Part) -> &'static str {
 }
 
 /// Returns the name of an argument as a part of a placeholder has it.
-// ensures { IfOk result (λ s. string_bytes s ≡ name_in part (chars name.now)) }
 #[inline]
 fn name_in(part: Part, name: &str) -> Result<String, AllocError> {
     let mut text = String::made_from(name)?;
@@ -137,8 +121,6 @@ fn name_in(part: Part, name: &str) -> Result<String, AllocError> {
 }
 
 /// Returns the help for a use by index of an argument with a name.
-// ensures { IfOk result (λ h. seen_help h
-//     ≡ by_index_help (seen_call call.now) reference index) }
 #[inline]
 fn by_index_help(
     call: &CallReport<'_>,
@@ -153,7 +135,6 @@ fn by_index_help(
 }
 
 /// Returns the help that replaces a text.
-// ensures { IfOk result (λ h. seen_help h ≡ replacing spot new.now) }
 #[inline]
 fn replacement_help(spot: Spot, new: &str) -> Result<CallHelp, AllocError> {
     let mut text = String::made_from("did you mean `")?;
@@ -164,7 +145,6 @@ fn replacement_help(spot: Spot, new: &str) -> Result<CallHelp, AllocError> {
 }
 
 /// Returns how many of arguments stand before the first one with a name.
-// ensures { result ≡ unnamed_count (map seen_given arguments.now) }
 #[inline]
 fn unnamed_count(arguments: &[FormatArgument<'_>]) -> usize {
     for (index, argument) in arguments.iter().enumerate() {
@@ -176,7 +156,6 @@ fn unnamed_count(arguments: &[FormatArgument<'_>]) -> usize {
 }
 
 /// Returns where an argument without a name is added, if there are so many already.
-// ensures { result ≡ added_spot count }
 #[inline]
 fn added_spot(count: usize) -> Spot {
     if count == 0 {
@@ -187,8 +166,6 @@ fn added_spot(count: usize) -> Spot {
 }
 
 /// Returns the help for an expression at this place of the string.
-// ensures { IfOk result (λ h. seen_help h
-//     ≡ positional_help (map seen_given arguments.now) (pair span.now)) }
 #[inline]
 fn positional_help(
     arguments: &[FormatArgument<'_>],
@@ -213,7 +190,6 @@ fn positional_help(
 }
 
 /// Returns the help for `=` after an argument, or `None` unless one argument counts.
-// ensures { IfOk result (λ o. option_map seen_help o ≡ debug_help kept.now) }
 #[inline]
 fn debug_help(kept: &[usize]) -> Result<Option<CallHelp>, AllocError> {
     let [index] = kept else {
@@ -232,8 +208,6 @@ fn debug_help(kept: &[usize]) -> Result<Option<CallHelp>, AllocError> {
 }
 
 /// Returns the help for a fault of the string, or `None` if it has none that is no label.
-// ensures { IfOk result (λ o. option_map seen_help o
-//     ≡ text_help (seen_call call.now) (message (seen_text_fault fault.now))) }
 #[inline]
 fn text_help(call: &CallReport<'_>, fault: &Fault<'_>) -> Result<Option<CallHelp>, AllocError> {
     let error = fault.error()?;
@@ -256,8 +230,6 @@ fn text_help(call: &CallReport<'_>, fault: &Fault<'_>) -> Result<Option<CallHelp
 impl<'a> CallReport<'a> {
     /// Returns the suggestion of rustc for one of the faults, or `None` if there is none or it is
     /// in a label. The suggestions for the directives of other languages are left out.
-    // ensures { IfOk result (λ o. option_map seen_help o
-    //     ≡ help (seen_call self.now) (seen_fault fault.now)) }
     #[inline]
     pub(crate) fn help(&self, fault: &CallFault<'a>) -> Result<Option<CallHelp>, AllocError> {
         match fault {

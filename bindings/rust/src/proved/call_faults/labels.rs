@@ -1,9 +1,8 @@
 //! The labels of faults, in rustc's words. A function whose name begins with `push_` adds to the
-//! end of `labels`, and returns `Err` if an allocation fails.
+//! end of `labels`.
 
 // Extracted from crates/call_faults/src/labels.rt by tools/extract: not to be edited.
-// That source is proved, and each contract here is its. That this text means the same is tested:
-// by results from outside, and beside what is proved (.ci/bindings) and the original (tools/agree).
+// That source has the contracts, and is proved. That this text means the same is only tested.
 
 use crate::proved::call_faults::arguments::FormatArgument;
 use crate::proved::call_faults::checker::CallReport;
@@ -20,15 +19,12 @@ use crate::shim::prelude::*;
 use core::ops::Range;
 
 /// Returns the label of an argument with a name in front of one without.
-// ensures { result.now ≡ named_text }
 #[inline]
 fn named_text() -> &'static str {
     "named argument"
 }
 
 /// Adds the labels of arguments that have a name.
-// ensures { OnOk result (map seen_label labels.new.items ≡ map seen_label labels.old.items
-//     ++ map (λ n. secondary (WholeArgument n) named_text) named.now) }
 #[inline]
 fn push_named(labels: &mut Vec<CallLabel>, named: &[usize]) -> Result<(), AllocError> {
     let mut rest = named;
@@ -40,8 +36,6 @@ fn push_named(labels: &mut Vec<CallLabel>, named: &[usize]) -> Result<(), AllocE
 }
 
 /// Adds the label of a second range of an error.
-// ensures { OnOk result (map seen_label labels.new.items ≡ map seen_label labels.old.items
-//     ++ second_label (seen_error error.now).span (pair span.now) text.now ∷ []) }
 #[inline]
 fn push_second_label(
     labels: &mut Vec<CallLabel>,
@@ -58,8 +52,6 @@ fn push_second_label(
 }
 
 /// Adds a help that is drawn as a label.
-// ensures { OnOk result (map seen_label labels.new.items ≡ map seen_label labels.old.items
-//     ++ inline_help (seen_error error.now).span (seen_error error.now).suggestion) }
 #[inline]
 fn push_inline_help(labels: &mut Vec<CallLabel>, error: &ParseError) -> Result<(), AllocError> {
     match &error.suggestion {
@@ -79,9 +71,6 @@ fn push_inline_help(labels: &mut Vec<CallLabel>, error: &ParseError) -> Result<(
 }
 
 /// Adds the second label of an error of the string.
-// ensures { OnOk result (map seen_label labels.new.items ≡ map seen_label labels.old.items
-//     ++ second_labels (seen_error error.now).span (seen_error error.now).second
-//     (seen_error error.now).suggestion) }
 #[inline]
 fn push_second(labels: &mut Vec<CallLabel>, error: &ParseError) -> Result<(), AllocError> {
     match &error.secondary_label {
@@ -92,8 +81,6 @@ fn push_second(labels: &mut Vec<CallLabel>, error: &ParseError) -> Result<(), Al
 }
 
 /// Adds the labels of a fault of the string.
-// ensures { OnOk result (map seen_label labels.new.items ≡ map seen_label labels.old.items
-//     ++ text_labels (message (seen_text_fault fault.now))) }
 #[inline]
 fn push_text(labels: &mut Vec<CallLabel>, fault: &Fault<'_>) -> Result<(), AllocError> {
     let error = fault.error()?;
@@ -105,8 +92,6 @@ fn push_text(labels: &mut Vec<CallLabel>, fault: &Fault<'_>) -> Result<(), Alloc
 }
 
 /// Adds the labels of arguments that are not used.
-// ensures { OnOk result (map seen_label labels.new.items ≡ map seen_label labels.old.items
-//     ++ unused_labels (map seen_given arguments.now) unused.now) }
 #[inline]
 fn push_unused(
     labels: &mut Vec<CallLabel>,
@@ -122,15 +107,12 @@ fn push_unused(
 }
 
 /// Returns the label of a literal that lacks a placeholder.
-// ensures { result.now ≡ single_text }
 #[inline]
 fn single_text() -> &'static str {
     "formatting specifier missing"
 }
 
 /// Adds the labels of an argument that is not used, and that of the literal.
-// ensures { OnOk result (map seen_label labels.new.items ≡ map seen_label labels.old.items
-//     ++ one_unused (map seen_given arguments.now) index) }
 #[inline]
 fn push_one_unused(
     labels: &mut Vec<CallLabel>,
@@ -143,15 +125,12 @@ fn push_one_unused(
 }
 
 /// Returns the label of a literal that lacks several placeholders.
-// ensures { result.now ≡ several_text }
 #[inline]
 fn several_text() -> &'static str {
     "multiple missing formatting specifiers"
 }
 
 /// Adds the labels of several arguments that are not used, and that of the literal.
-// ensures { OnOk result (map seen_label labels.new.items ≡ map seen_label labels.old.items
-//     ++ many_unused (map seen_given arguments.now) unused.now) }
 #[inline]
 fn push_many_unused(
     labels: &mut Vec<CallLabel>,
@@ -164,8 +143,6 @@ fn push_many_unused(
 }
 
 /// Adds the labels of arguments that are not used, and that of the literal.
-// ensures { OnOk result (map seen_label labels.new.items ≡ map seen_label labels.old.items
-//     ++ unused_and_literal (map seen_given arguments.now) unused.now) }
 #[inline]
 fn push_unused_and_literal(
     labels: &mut Vec<CallLabel>,
@@ -180,14 +157,12 @@ fn push_unused_and_literal(
 }
 
 /// Returns whether an argument is the last one.
-// ensures { result ≡ is_last (map seen_given arguments.now) index }
 #[inline]
 pub(crate) fn is_last(arguments: &[FormatArgument<'_>], index: usize) -> bool {
     arguments.len().saturating_sub(index) == 1
 }
 
 /// Returns whether one of these arguments has a name.
-// ensures { result ≡ have_names (map seen_given arguments.now) }
 #[inline]
 pub(crate) fn have_names(arguments: &[FormatArgument<'_>]) -> bool {
     for first in arguments {
@@ -199,15 +174,12 @@ pub(crate) fn have_names(arguments: &[FormatArgument<'_>]) -> bool {
 }
 
 /// Returns the label of an argument that is left out.
-// ensures { result.now ≡ removal_text }
 #[inline]
 fn removal_text() -> &'static str {
     "help: this can be removed"
 }
 
 /// Adds the labels of an argument that is left out, which is not the last one.
-// ensures { OnOk result (map seen_label labels.new.items
-//     ≡ map seen_label labels.old.items ++ removal_up_to_next index) }
 #[inline]
 fn push_removal_up_to_next(labels: &mut Vec<CallLabel>, index: usize) -> Result<(), AllocError> {
     push_secondary(labels, Spot::ValueUpToNext(index), removal_text())?;
@@ -216,8 +188,6 @@ fn push_removal_up_to_next(labels: &mut Vec<CallLabel>, index: usize) -> Result<
 }
 
 /// Adds the labels of an argument that is left out.
-// ensures { OnOk result (map seen_label labels.new.items ≡ map seen_label labels.old.items
-//     ++ removal_labels (map seen_given arguments.now) index) }
 #[inline]
 fn push_removal(
     labels: &mut Vec<CallLabel>,
@@ -233,8 +203,6 @@ fn push_removal(
 }
 
 /// Adds labels without a text of the values of redundant arguments.
-// ensures { OnOk result (map seen_label labels.new.items ≡ map seen_label labels.old.items
-//     ++ map (λ i. primary (Value i) []) indices.now) }
 #[inline]
 fn push_bare(labels: &mut Vec<CallLabel>, indices: &[usize]) -> Result<(), AllocError> {
     let mut rest = indices;
@@ -246,8 +214,6 @@ fn push_bare(labels: &mut Vec<CallLabel>, indices: &[usize]) -> Result<(), Alloc
 }
 
 /// Adds the labels of redundant arguments.
-// ensures { OnOk result (map seen_label labels.new.items ≡ map seen_label labels.old.items
-//     ++ redundant_labels (map seen_given arguments.now) redundant.now) }
 #[inline]
 fn push_redundant(
     labels: &mut Vec<CallLabel>,
@@ -263,14 +229,12 @@ fn push_redundant(
 }
 
 /// Returns the label of an argument with a name that is used by its index.
-// ensures { result.now ≡ by_index_text }
 #[inline]
 fn by_index_text() -> &'static str {
     "this named argument is referred to by position in formatting string"
 }
 
 /// Returns the label of the use by index of an argument with a name.
-// ensures { IfOk result (λ s. string_bytes s ≡ use_text (chars name.now)) }
 #[inline]
 fn use_text(name: &str) -> Result<String, AllocError> {
     let mut text = String::new();
@@ -280,8 +244,6 @@ fn use_text(name: &str) -> Result<String, AllocError> {
 }
 
 /// Adds the labels of the use by index of an argument with a name.
-// ensures { OnOk result (map seen_label labels.new.items ≡ map seen_label labels.old.items
-//     ++ by_index_labels (seen_call call.now) reference index) }
 #[inline]
 fn push_by_index(
     labels: &mut Vec<CallLabel>,
@@ -301,8 +263,6 @@ impl<'a> CallReport<'a> {
     /// Returns the labels of one of the faults, as rustc has them. The primary label that begins
     /// first in the source is where rustc says that the fault is. A fault of the string has the
     /// labels of its error.
-    // ensures { IfOk result (λ v. map seen_label v.items
-    //     ≡ labels (seen_call self.now) (seen_fault fault.now)) }
     #[inline]
     pub(crate) fn labels(&self, fault: &CallFault<'a>) -> Result<Vec<CallLabel>, AllocError> {
         let mut labels = Vec::new();

@@ -1,8 +1,7 @@
 //! The lookups for the placeholders of a format string, in rustc's order.
 
 // Extracted from crates/call_faults/src/lookups.rt by tools/extract: not to be edited.
-// That source is proved, and each contract here is its. That this text means the same is tested:
-// by results from outside, and beside what is proved (.ci/bindings) and the original (tools/agree).
+// That source has the contracts, and is proved. That this text means the same is only tested.
 
 use crate::proved::call_faults::faults::{Part, Reference};
 use crate::proved::rustc_parse_format::{Argument, Count, Piece, Position};
@@ -28,7 +27,6 @@ pub(crate) enum Lookup<'a> {
 }
 
 /// Returns the argument that a position wants.
-// ensures { seen_use result ≡ position_use (seen_position position.now) }
 #[inline]
 fn wanted_by<'a>(position: &Position<'a>) -> Wanted<'a> {
     match position {
@@ -38,8 +36,6 @@ fn wanted_by<'a>(position: &Position<'a>) -> Wanted<'a> {
 }
 
 /// Adds the reference of a precision or of a width, if it is one.
-// ensures { OnOk result (map seen_lookup list.new.items ≡ map seen_lookup list.old.items
-//     ++ refer reference.piece reference.part (count_uses (seen_count count.now))) }
 #[inline]
 fn push_count<'a>(
     list: &mut Vec<Lookup<'a>>,
@@ -59,14 +55,12 @@ fn push_count<'a>(
 }
 
 /// Returns whether a character is a type that names a trait.
-// ensures { result ≡ list_any (λ d. c == d) (codes "?oxXpbeE") }
 #[inline]
 fn names_trait(c: char) -> bool {
     matches!(c, '?' | 'o' | 'x' | 'X' | 'p' | 'b' | 'e' | 'E')
 }
 
 /// Returns whether the type of a format specification names a trait.
-// ensures { result ≡ is_known (chars ty.now) }
 #[inline]
 fn is_known(ty: &str) -> bool {
     let mut characters = ty.chars();
@@ -77,8 +71,6 @@ fn is_known(ty: &str) -> bool {
 }
 
 /// Adds the lookups for a placeholder.
-// ensures { OnOk result (map seen_lookup list.new.items ≡ map seen_lookup list.old.items
-//     ++ argument_lookups piece (seen_argument argument.now)) }
 #[inline]
 fn push_argument<'a>(
     list: &mut Vec<Lookup<'a>>,
@@ -102,8 +94,6 @@ fn push_argument<'a>(
 }
 
 /// Adds the lookups for a piece.
-// ensures { OnOk result (map seen_lookup list.new.items ≡ map seen_lookup list.old.items
-//     ++ piece_lookups index (seen piece.now)) }
 #[inline]
 fn push_piece<'a>(
     list: &mut Vec<Lookup<'a>>,
@@ -117,7 +107,6 @@ fn push_piece<'a>(
 }
 
 /// Returns the lookups for pieces.
-// ensures { IfOk result (λ v. map seen_lookup v.items ≡ lookups_from 0 (map seen pieces.now)) }
 #[inline]
 pub(crate) fn lookups_of<'a>(pieces: &[Piece<'a>]) -> Result<Vec<Lookup<'a>>, AllocError> {
     let mut list = Vec::new();

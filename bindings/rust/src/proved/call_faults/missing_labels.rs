@@ -1,9 +1,8 @@
 //! The labels of missing arguments. A function whose name begins with `push_` adds to the end of
-//! `labels`, and returns `Err` if an allocation fails.
+//! `labels`.
 
 // Extracted from crates/call_faults/src/missing_labels.rt by tools/extract: not to be edited.
-// That source is proved, and each contract here is its. That this text means the same is tested:
-// by results from outside, and beside what is proved (.ci/bindings) and the original (tools/agree).
+// That source has the contracts, and is proved. That this text means the same is only tested.
 
 use crate::proved::call_faults::checker::CallReport;
 use crate::proved::call_faults::faults::Missing;
@@ -18,8 +17,6 @@ use crate::shim::prelude::*;
 use core::ops::Range;
 
 /// Adds the labels of references by an index that is too large.
-// ensures { OnOk result (map seen_label labels.new.items ≡ map seen_label labels.old.items
-//     ++ map (λ m. primary (reference_spot (map seen pieces.now) m.reference) []) missing.now) }
 #[inline]
 pub(crate) fn push_missing(
     labels: &mut Vec<CallLabel>,
@@ -35,7 +32,6 @@ pub(crate) fn push_missing(
 }
 
 /// Returns the index of the argument that a precision takes by `*`, or `None` if it takes none.
-// ensures { result ≡ star_of (seen_count count.now) }
 #[inline]
 pub(crate) fn star_of(count: &Count<'_>) -> Option<usize> {
     match count {
@@ -48,15 +44,12 @@ pub(crate) fn star_of(count: &Count<'_>) -> Option<usize> {
 }
 
 /// Returns whether a position is the next argument.
-// ensures { result ≡ is_next (seen_position position.now) }
 #[inline]
 fn is_next(position: &Position<'_>) -> bool {
     matches!(position, Position::ArgumentImplicitlyIs(_))
 }
 
 /// Adds the label of a placeholder that takes the next argument, if the piece is one.
-// ensures { OnOk result (map seen_label labels.new.items ≡ map seen_label labels.old.items
-//     ++ next_label (seen piece.now) (map pair places.now)) }
 #[inline]
 fn push_next(
     labels: &mut Vec<CallLabel>,
@@ -73,8 +66,6 @@ fn push_next(
 }
 
 /// Adds the labels of those of pieces that take the next argument.
-// ensures { OnOk result (map seen_label labels.new.items ≡ map seen_label labels.old.items
-//     ++ next_labels (map seen pieces.now) (map pair places.now)) }
 #[inline]
 fn push_nexts(
     labels: &mut Vec<CallLabel>,
@@ -90,8 +81,6 @@ fn push_nexts(
 }
 
 /// Adds labels without a text of the values of arguments.
-// ensures { OnOk result (map seen_label labels.new.items ≡ map seen_label labels.old.items
-//     ++ map (λ i. secondary (Value i) []) indices.now) }
 #[inline]
 fn push_values(labels: &mut Vec<CallLabel>, indices: &[usize]) -> Result<(), AllocError> {
     let mut rest = indices;
@@ -103,7 +92,6 @@ fn push_values(labels: &mut Vec<CallLabel>, indices: &[usize]) -> Result<(), All
 }
 
 /// Adds how many arguments are expected.
-// ensures { OnOk result (string_bytes out.new ≡ string_bytes out.old ++ expected_count count) }
 #[inline]
 fn put_expected(out: &mut String, count: usize) -> Result<(), AllocError> {
     if count == 1 {
@@ -118,7 +106,6 @@ fn put_expected(out: &mut String, count: usize) -> Result<(), AllocError> {
 
 /// Adds the text of a precision that takes the argument `index` by `*`, where the
 /// placeholders take `total` in all.
-// ensures { OnOk result (string_bytes out.new ≡ string_bytes out.old ++ star_text index total) }
 #[inline]
 fn put_star(out: &mut String, index: usize, total: usize) -> Result<(), AllocError> {
     out.try_push_str("this precision flag adds an extra required argument at position ")?;
@@ -130,8 +117,6 @@ fn put_star(out: &mut String, index: usize, total: usize) -> Result<(), AllocErr
 }
 
 /// Adds the label of a precision that takes an argument by `*`, if the piece has one.
-// ensures { OnOk result (map seen_label labels.new.items ≡ map seen_label labels.old.items
-//     ++ star_label total (seen piece.now)) }
 #[inline]
 fn push_star(
     labels: &mut Vec<CallLabel>,
@@ -155,8 +140,6 @@ fn push_star(
 }
 
 /// Adds the labels of the precisions of pieces that take arguments by `*`.
-// ensures { OnOk result (map seen_label labels.new.items ≡ map seen_label labels.old.items
-//     ++ star_labels total (map seen pieces.now)) }
 #[inline]
 fn push_stars(
     labels: &mut Vec<CallLabel>,
@@ -170,7 +153,6 @@ fn push_stars(
 }
 
 /// Returns the labels of too few arguments, where none is referred to by a number that is written.
-// ensures { IfOk result (λ v. map seen_label v.items ≡ few_labels (seen_call call.now)) }
 #[inline]
 pub(crate) fn few_labels(call: &CallReport<'_>) -> Result<Vec<CallLabel>, AllocError> {
     let mut labels = Vec::new();

@@ -1,8 +1,7 @@
 //! The faults of a format string and of the arguments of its call, as rustc reports them.
 
 // Extracted from crates/call_faults/src/lib.rt by tools/extract: not to be edited.
-// That source is proved, and each contract here is its. That this text means the same is tested:
-// by results from outside, and beside what is proved (.ci/bindings) and the original (tools/agree).
+// That source has the contracts, and is proved. That this text means the same is only tested.
 
 pub(crate) mod arguments;
 pub(crate) mod checker;

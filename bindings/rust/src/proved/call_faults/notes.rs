@@ -1,9 +1,8 @@
 //! The notes of faults, in rustc's words. A function whose name begins with `push_` adds to the end
-//! of a list, and returns `Err` if an allocation fails.
+//! of a list.
 
 // Extracted from crates/call_faults/src/notes.rt by tools/extract: not to be edited.
-// That source is proved, and each contract here is its. That this text means the same is tested:
-// by results from outside, and beside what is proved (.ci/bindings) and the original (tools/agree).
+// That source has the contracts, and is proved. That this text means the same is only tested.
 
 use crate::proved::call_faults::arguments::{index_of, insert, FormatArgument};
 use crate::proved::call_faults::checker::CallReport;
@@ -18,8 +17,6 @@ use crate::shim::prelude::*;
 use alloc::collections::BTreeMap;
 
 /// Adds a note that shows no place.
-// ensures { OnOk result (map seen_note notes.new.items
-//     ≡ map seen_note notes.old.items ++ plain text.now ∷ []) }
 #[inline]
 fn push_plain(notes: &mut Vec<CallNote>, text: &str) -> Result<(), AllocError> {
     let text = String::made_from(text)?;
@@ -29,8 +26,6 @@ fn push_plain(notes: &mut Vec<CallNote>, text: &str) -> Result<(), AllocError> {
 }
 
 /// Adds a note that shows no place, if a test holds.
-// ensures { OnOk result (map seen_note notes.new.items
-//     ≡ map seen_note notes.old.items ++ note_if holds text.now) }
 #[inline]
 fn push_if(notes: &mut Vec<CallNote>, holds: bool, text: &str) -> Result<(), AllocError> {
     if holds {
@@ -40,8 +35,6 @@ fn push_if(notes: &mut Vec<CallNote>, holds: bool, text: &str) -> Result<(), All
 }
 
 /// Adds the note of a fault of the string.
-// ensures { OnOk result (map seen_note notes.new.items ≡ map seen_note notes.old.items
-//     ++ text_notes (message (seen_text_fault fault.now)).note) }
 #[inline]
 fn push_text(notes: &mut Vec<CallNote>, fault: &Fault<'_>) -> Result<(), AllocError> {
     let error = fault.error()?;
@@ -52,7 +45,6 @@ fn push_text(notes: &mut Vec<CallNote>, fault: &Fault<'_>) -> Result<(), AllocEr
 }
 
 /// Returns the first note of a name that no argument has.
-// ensures { IfOk result (λ s. string_bytes s ≡ capture_text (chars name.now)) }
 #[inline]
 fn capture_text(name: &str) -> Result<String, AllocError> {
     let mut text = String::new();
@@ -62,15 +54,12 @@ fn capture_text(name: &str) -> Result<String, AllocError> {
 }
 
 /// Returns the note of a name, where no variable is captured.
-// ensures { result.now ≡ ambiguity_text }
 #[inline]
 fn ambiguity_text() -> &'static str {
     "to avoid ambiguity, `format_args!` cannot capture variables when the format string is expanded from a macro"
 }
 
 /// Adds the notes of a name that no argument has.
-// ensures { OnOk result (map seen_note notes.new.items ≡ map seen_note notes.old.items
-//     ++ plain (capture_text (chars name.now)) ∷ plain ambiguity_text ∷ []) }
 #[inline]
 fn push_name(notes: &mut Vec<CallNote>, name: &str) -> Result<(), AllocError> {
     let text = capture_text(name)?;
@@ -80,7 +69,6 @@ fn push_name(notes: &mut Vec<CallNote>, name: &str) -> Result<(), AllocError> {
 }
 
 /// Returns the note on the traits that a placeholder may want, each on a line.
-// ensures { result.now ≡ traits_text }
 #[inline]
 fn traits_text() -> &'static str {
     "the only appropriate formatting traits are:\n\
@@ -96,21 +84,18 @@ fn traits_text() -> &'static str {
 }
 
 /// Returns whether a width or a precision is given.
-// ensures { result ≡ is_given (seen_count count.now) }
 #[inline]
 fn is_given(count: &Count<'_>) -> bool {
     !matches!(count, Count::CountImplied)
 }
 
 /// Returns whether an alignment is given.
-// ensures { result ≡ is_aligned (seen_alignment align) }
 #[inline]
 fn is_aligned(align: Alignment) -> bool {
     !matches!(align, Alignment::AlignUnknown)
 }
 
 /// Returns whether a specification has more than a trait.
-// ensures { result ≡ has_flags (seen_spec format.now) }
 #[inline]
 fn has_flags(format: &FormatSpec<'_>) -> bool {
     ((format.fill.is_some() || is_aligned(format.align))
@@ -120,7 +105,6 @@ fn has_flags(format: &FormatSpec<'_>) -> bool {
 }
 
 /// Returns whether a piece has more than a trait.
-// ensures { result ≡ is_flagged (seen piece.now) }
 #[inline]
 fn is_flagged(piece: &Piece<'_>) -> bool {
     match piece {
@@ -130,7 +114,6 @@ fn is_flagged(piece: &Piece<'_>) -> bool {
 }
 
 /// Returns whether one of these pieces has more than a trait.
-// ensures { result ≡ list_any is_flagged (map seen pieces.now) }
 #[inline]
 fn are_flagged(pieces: &[Piece<'_>]) -> bool {
     for piece in pieces {
@@ -142,7 +125,6 @@ fn are_flagged(pieces: &[Piece<'_>]) -> bool {
 }
 
 /// Returns whether a piece takes an argument by `*`.
-// ensures { result ≡ has_star (seen piece.now) }
 #[inline]
 fn has_star(piece: &Piece<'_>) -> bool {
     match piece {
@@ -152,7 +134,6 @@ fn has_star(piece: &Piece<'_>) -> bool {
 }
 
 /// Returns whether one of these pieces takes an argument by `*`.
-// ensures { result ≡ list_any has_star (map seen pieces.now) }
 #[inline]
 fn have_stars(pieces: &[Piece<'_>]) -> bool {
     for piece in pieces {
@@ -164,22 +145,18 @@ fn have_stars(pieces: &[Piece<'_>]) -> bool {
 }
 
 /// Returns the note on how arguments are counted.
-// ensures { result.now ≡ count_note }
 #[inline]
 fn count_note() -> &'static str {
     "positional arguments are zero-based"
 }
 
 /// Returns the note on the flags that a placeholder may have.
-// ensures { result.now ≡ flags_note }
 #[inline]
 fn flags_note() -> &'static str {
     "for information about formatting flags, visit https://doc.rust-lang.org/std/fmt/index.html"
 }
 
 /// Adds the notes of missing arguments.
-// ensures { OnOk result (map seen_note notes.new.items
-//     ≡ map seen_note notes.old.items ++ missing_notes (map seen pieces.now)) }
 #[inline]
 fn push_missing(notes: &mut Vec<CallNote>, pieces: &[Piece<'_>]) -> Result<(), AllocError> {
     let is_counted = have_numbers(pieces) || have_stars(pieces);
@@ -189,7 +166,6 @@ fn push_missing(notes: &mut Vec<CallNote>, pieces: &[Piece<'_>]) -> Result<(), A
 }
 
 /// Returns whether one of these faults is that arguments are missing.
-// ensures { result ≡ list_any are_missing (map seen_fault faults.now) }
 #[inline]
 pub(crate) fn are_missing(faults: &[CallFault<'_>]) -> bool {
     for fault in faults {
@@ -201,7 +177,6 @@ pub(crate) fn are_missing(faults: &[CallFault<'_>]) -> bool {
 }
 
 /// Adds so many placeholders, in words.
-// ensures { OnOk result (string_bytes out.new ≡ string_bytes out.old ++ specifiers count) }
 #[inline]
 pub(crate) fn put_specifiers(out: &mut String, count: usize) -> Result<(), AllocError> {
     if count == 1 {
@@ -214,8 +189,6 @@ pub(crate) fn put_specifiers(out: &mut String, count: usize) -> Result<(), Alloc
 }
 
 /// Adds the note of so many unused arguments, if there is one.
-// ensures { OnOk result (map seen_note notes.new.items
-//     ≡ map seen_note notes.old.items ++ unused_notes (seen_call call.now) count) }
 #[inline]
 fn push_unused(
     notes: &mut Vec<CallNote>,
@@ -232,7 +205,6 @@ fn push_unused(
 }
 
 /// Returns the variable that an argument is, or `None` if it is no variable.
-// ensures { option_map text result ≡ variable_of (map seen_given arguments.now) index }
 #[inline]
 fn variable_of<'a>(arguments: &[FormatArgument<'a>], index: usize) -> Option<&'a str> {
     match arguments.get(index) {
@@ -242,8 +214,6 @@ fn variable_of<'a>(arguments: &[FormatArgument<'a>], index: usize) -> Option<&'a
 }
 
 /// Returns the variables that arguments are, as the names that a map has.
-// ensures { IfOk result (λ m. (w : Text) → is_some (found_in m w)
-//     ≡ list_any (is_variable (map seen_given arguments.now) w) indices.now) }
 #[inline]
 fn variables_of<'a>(
     arguments: &[FormatArgument<'a>],
@@ -259,8 +229,6 @@ fn variables_of<'a>(
 }
 
 /// Returns whether a position is a name that a map has.
-// ensures { result ≡ is_name (λ w. is_some (found_in names.now w))
-//     (seen_position position.now) }
 #[inline]
 fn is_name<'a>(names: &BTreeMap<&'a str, usize>, position: &Position<'a>) -> bool {
     match position {
@@ -270,8 +238,6 @@ fn is_name<'a>(names: &BTreeMap<&'a str, usize>, position: &Position<'a>) -> boo
 }
 
 /// Adds the place of the position of a piece, if that is a name that a map has.
-// ensures { OnOk result (spots.new.items ≡ spots.old.items
-//     ++ named_position (λ w. is_some (found_in names.now w)) (seen piece.now)) }
 #[inline]
 fn push_position<'a>(
     spots: &mut Vec<Spot>,
@@ -287,8 +253,6 @@ fn push_position<'a>(
 }
 
 /// Returns the places of the positions of pieces that are names which a map has.
-// ensures { IfOk result (λ v. v.items
-//     ≡ named_positions (λ w. is_some (found_in names.now w)) (map seen pieces.now)) }
 #[inline]
 fn named_positions<'a>(
     names: &BTreeMap<&'a str, usize>,
@@ -302,7 +266,6 @@ fn named_positions<'a>(
 }
 
 /// Returns the text of the note of so many redundant arguments.
-// ensures { result.now ≡ redundant_text count }
 #[inline]
 fn redundant_text(count: usize) -> &'static str {
     if count == 1 {
@@ -313,8 +276,6 @@ fn redundant_text(count: usize) -> &'static str {
 }
 
 /// Adds the note of redundant arguments.
-// ensures { OnOk result (map seen_note notes.new.items ≡ map seen_note notes.old.items
-//     ++ redundant_note (seen_call call.now) redundant.now ∷ []) }
 #[inline]
 fn push_redundant<'a>(
     notes: &mut Vec<CallNote>,
@@ -331,8 +292,6 @@ fn push_redundant<'a>(
 impl<'a> CallReport<'a> {
     /// Returns the notes of one of the faults, as rustc has them, but for the note of a warning
     /// which says that it is on by default. A fault of the string has the note of its error.
-    // ensures { IfOk result (λ v. map seen_note v.items
-    //     ≡ notes (seen_call self.now) (seen_fault fault.now)) }
     #[inline]
     pub(crate) fn notes(&self, fault: &CallFault<'a>) -> Result<Vec<CallNote>, AllocError> {
         let mut notes = Vec::new();

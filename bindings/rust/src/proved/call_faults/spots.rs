@@ -1,8 +1,7 @@
 //! The notes and helps of a call, as plain data, and the places that messages show.
 
 // Extracted from crates/call_faults/src/spots.rt by tools/extract: not to be edited.
-// That source is proved, and each contract here is its. That this text means the same is tested:
-// by results from outside, and beside what is proved (.ci/bindings) and the original (tools/agree).
+// That source has the contracts, and is proved. That this text means the same is only tested.
 
 use crate::proved::call_faults::faults::{Part, Reference};
 use crate::proved::rustc_parse_format::{Argument, Count, Piece};
@@ -45,8 +44,6 @@ pub struct CallHelp {
 }
 
 /// Adds a label of a place that the fault is about.
-// ensures { OnOk result (map seen_label labels.new.items
-//     ≡ map seen_label labels.old.items ++ primary spot text.now ∷ []) }
 #[inline]
 pub(crate) fn push_primary(
     labels: &mut Vec<CallLabel>,
@@ -63,8 +60,6 @@ pub(crate) fn push_primary(
 }
 
 /// Adds a label without a text of a place that the fault is about.
-// ensures { OnOk result (map seen_label labels.new.items
-//     ≡ map seen_label labels.old.items ++ primary spot [] ∷ []) }
 #[inline]
 pub(crate) fn push_plain(labels: &mut Vec<CallLabel>, spot: Spot) -> Result<(), AllocError> {
     push_primary(labels, spot, "")?;
@@ -72,8 +67,6 @@ pub(crate) fn push_plain(labels: &mut Vec<CallLabel>, spot: Spot) -> Result<(), 
 }
 
 /// Adds a label of another place.
-// ensures { OnOk result (map seen_label labels.new.items
-//     ≡ map seen_label labels.old.items ++ secondary spot text.now ∷ []) }
 #[inline]
 pub(crate) fn push_secondary(
     labels: &mut Vec<CallLabel>,
@@ -90,7 +83,6 @@ pub(crate) fn push_secondary(
 }
 
 /// Returns a range of the literal.
-// ensures { result ≡ bytes_at (pair span.now) }
 #[inline]
 pub(crate) fn bytes_at(span: &Range<usize>) -> Spot {
     Spot::Bytes {
@@ -100,7 +92,6 @@ pub(crate) fn bytes_at(span: &Range<usize>) -> Spot {
 }
 
 /// Returns a range of the literal, or the whole literal if there is none.
-// ensures { result ≡ spot_of (option_map pair span.now) }
 #[inline]
 pub(crate) fn spot_of(span: &Option<Range<usize>>) -> Spot {
     match span {
@@ -110,8 +101,6 @@ pub(crate) fn spot_of(span: &Option<Range<usize>>) -> Spot {
 }
 
 /// Returns the placeholder with an index among pieces, or `None` if that is text or after the end.
-// ensures { option_map (λ a. seen_argument a.now) result
-//     ≡ placeholder_at (map seen pieces.now) index }
 #[inline]
 fn placeholder_at<'p, 'a>(pieces: &'p [Piece<'a>], index: usize) -> Option<&'p Argument<'a>> {
     match pieces.get(index) {
@@ -121,7 +110,6 @@ fn placeholder_at<'p, 'a>(pieces: &'p [Piece<'a>], index: usize) -> Option<&'p A
 }
 
 /// Returns where a part of a placeholder is.
-// ensures { result ≡ part_spot part (seen_argument argument.now) }
 #[inline]
 fn part_spot(argument: &Argument<'_>, part: Part) -> Spot {
     match part {
@@ -132,7 +120,6 @@ fn part_spot(argument: &Argument<'_>, part: Part) -> Spot {
 }
 
 /// Returns where a reference is.
-// ensures { result ≡ reference_spot (map seen pieces.now) reference }
 #[inline]
 pub(crate) fn reference_spot(pieces: &[Piece<'_>], reference: Reference) -> Spot {
     match placeholder_at(pieces, reference.piece) {
@@ -142,7 +129,6 @@ pub(crate) fn reference_spot(pieces: &[Piece<'_>], reference: Reference) -> Spot
 }
 
 /// Returns where the name of a width or a precision is.
-// ensures { result ≡ count_spot (seen_count count.now) }
 #[inline]
 fn count_spot(count: &Count<'_>) -> Spot {
     match count {
@@ -155,7 +141,6 @@ fn count_spot(count: &Count<'_>) -> Spot {
 }
 
 /// Returns where the name in a part of a placeholder is.
-// ensures { result ≡ name_spot part (seen_argument argument.now) }
 #[inline]
 fn name_spot(argument: &Argument<'_>, part: Part) -> Spot {
     match part {
@@ -166,7 +151,6 @@ fn name_spot(argument: &Argument<'_>, part: Part) -> Spot {
 }
 
 /// Returns where the name of a reference is.
-// ensures { result ≡ named_spot (map seen pieces.now) reference }
 #[inline]
 pub(crate) fn named_spot(pieces: &[Piece<'_>], reference: Reference) -> Spot {
     match placeholder_at(pieces, reference.piece) {
@@ -176,7 +160,6 @@ pub(crate) fn named_spot(pieces: &[Piece<'_>], reference: Reference) -> Spot {
 }
 
 /// Returns where the type of the placeholder with an index is.
-// ensures { result ≡ type_spot (map seen pieces.now) index }
 #[inline]
 pub(crate) fn type_spot(pieces: &[Piece<'_>], index: usize) -> Spot {
     match placeholder_at(pieces, index) {
@@ -186,7 +169,6 @@ pub(crate) fn type_spot(pieces: &[Piece<'_>], index: usize) -> Spot {
 }
 
 /// Returns the places of the placeholders after a piece, from those from that piece on.
-// ensures { map pair result.now ≡ rest_after (seen piece.now) (map pair places.now) }
 #[inline]
 pub(crate) fn rest_after<'p>(piece: &Piece<'_>, places: &'p [Range<usize>]) -> &'p [Range<usize>] {
     match piece {
@@ -199,8 +181,6 @@ pub(crate) fn rest_after<'p>(piece: &Piece<'_>, places: &'p [Range<usize>]) -> &
 }
 
 /// Returns the number of placeholders up to a piece, where so many stand before it.
-// requires { count + 1 < 2 ^ 64 }
-// ensures { result ≡ count_with count (seen piece.now) }
 #[inline]
 fn count_with(count: usize, piece: &Piece<'_>) -> usize {
     match piece {
@@ -210,7 +190,6 @@ fn count_with(count: usize, piece: &Piece<'_>) -> usize {
 }
 
 /// Returns of each of these pieces how many placeholders stand before it.
-// ensures { IfOk result (λ v. v.items ≡ counts_before 0 (map seen pieces.now)) }
 #[inline]
 pub(crate) fn counts_before(pieces: &[Piece<'_>]) -> Result<Vec<usize>, AllocError> {
     let mut counts = Vec::made_for(pieces.len())?;
@@ -223,7 +202,6 @@ pub(crate) fn counts_before(pieces: &[Piece<'_>]) -> Result<Vec<usize>, AllocErr
 }
 
 /// Returns the first one of places, or the whole literal if there is none.
-// ensures { result ≡ spot_of (slice_get (map pair places.now) 0) }
 #[inline]
 pub(crate) fn first_spot(places: &[Range<usize>]) -> Spot {
     match places.first() {
@@ -234,7 +212,6 @@ pub(crate) fn first_spot(places: &[Range<usize>]) -> Spot {
 
 /// Returns the place of the placeholder with an index among pieces, before each of which so many
 /// stand, or the whole literal if it has none.
-// ensures { result ≡ spot_of (place_of counts.now (map pair places.now) index) }
 #[inline]
 fn place_spot(counts: &[usize], places: &[Range<usize>], index: usize) -> Spot {
     let Some(count) = counts.get(index) else {
@@ -247,7 +224,6 @@ fn place_spot(counts: &[usize], places: &[Range<usize>], index: usize) -> Spot {
 }
 
 /// Returns a range without its first byte, which is the dot of a precision.
-// ensures { result ≡ after_dot (option_map pair span.now) }
 #[inline]
 fn after_dot(span: &Option<Range<usize>>) -> Spot {
     match span {
@@ -261,7 +237,6 @@ fn after_dot(span: &Option<Range<usize>>) -> Spot {
 
 /// Returns where a use by index is shown: the whole placeholder, or the width or the precision
 /// without its dot.
-// ensures { result ≡ use_spot (map seen pieces.now) counts.now (map pair places.now) reference }
 #[inline]
 pub(crate) fn use_spot(
     pieces: &[Piece<'_>],
@@ -281,7 +256,6 @@ pub(crate) fn use_spot(
 
 /// Returns where a reference has the index of its argument: its position, or its width or its
 /// precision without its dot.
-// ensures { result ≡ index_spot (map seen pieces.now) reference }
 #[inline]
 pub(crate) fn index_spot(pieces: &[Piece<'_>], reference: Reference) -> Spot {
     match placeholder_at(pieces, reference.piece) {

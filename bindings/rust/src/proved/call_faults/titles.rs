@@ -1,9 +1,8 @@
 //! The ids and the titles of faults, in rustc's words. A function whose name begins with `put_`
-//! appends to `out`, and returns `Err` if an allocation fails.
+//! appends to `out`.
 
 // Extracted from crates/call_faults/src/titles.rt by tools/extract: not to be edited.
-// That source is proved, and each contract here is its. That this text means the same is tested:
-// by results from outside, and beside what is proved (.ci/bindings) and the original (tools/agree).
+// That source has the contracts, and is proved. That this text means the same is only tested.
 
 use crate::proved::call_faults::arguments::FormatArgument;
 use crate::proved::call_faults::checker::CallReport;
@@ -17,7 +16,6 @@ use crate::shim::prelude::*;
 impl CallFault<'_> {
     /// Returns the id of the fault in kebab case, as `unused-argument`: the same for all faults of
     /// a kind. A fault of the format string has the id of its [`Fault`]. Does not allocate.
-    // ensures { result.now ≡ call_id (seen_fault self.now) }
     #[inline]
     pub fn id(&self) -> &'static str {
         match self {
@@ -35,7 +33,6 @@ impl CallFault<'_> {
 }
 
 /// Adds a number in decimal digits.
-// ensures { OnOk result (string_bytes out.new ≡ string_bytes out.old ++ decimal number) }
 #[inline]
 pub(crate) fn put_number(out: &mut String, number: usize) -> Result<(), AllocError> {
     let mut digits = Buffer::new();
@@ -44,7 +41,6 @@ pub(crate) fn put_number(out: &mut String, number: usize) -> Result<(), AllocErr
 }
 
 /// Adds how many arguments are given.
-// ensures { OnOk result (string_bytes out.new ≡ string_bytes out.old ++ count_text count) }
 #[inline]
 fn put_count(out: &mut String, count: usize) -> Result<(), AllocError> {
     if count == 0 {
@@ -62,7 +58,6 @@ fn put_count(out: &mut String, count: usize) -> Result<(), AllocError> {
 }
 
 /// Adds a noun, in the plural unless there is one.
-// ensures { OnOk result (string_bytes out.new ≡ string_bytes out.old ++ plural noun.now count) }
 #[inline]
 pub(crate) fn put_noun(out: &mut String, noun: &str, count: usize) -> Result<(), AllocError> {
     out.try_push_str(noun)?;
@@ -73,7 +68,6 @@ pub(crate) fn put_noun(out: &mut String, noun: &str, count: usize) -> Result<(),
 }
 
 /// Adds the text between a number and those after it.
-// ensures { OnOk result (string_bytes out.new ≡ string_bytes out.old ++ separator others.now) }
 #[inline]
 fn put_separator(out: &mut String, others: &[usize]) -> Result<(), AllocError> {
     match others {
@@ -85,7 +79,6 @@ fn put_separator(out: &mut String, others: &[usize]) -> Result<(), AllocError> {
 }
 
 /// Adds numbers one after the other.
-// ensures { OnOk result (string_bytes out.new ≡ string_bytes out.old ++ listed numbers.now) }
 #[inline]
 fn put_numbers(out: &mut String, numbers: &[usize]) -> Result<(), AllocError> {
     let mut rest = numbers;
@@ -98,7 +91,6 @@ fn put_numbers(out: &mut String, numbers: &[usize]) -> Result<(), AllocError> {
 }
 
 /// Adds a name between backquotes.
-// ensures { OnOk result (string_bytes out.new ≡ string_bytes out.old ++ quoted (chars name.now)) }
 #[inline]
 fn put_quoted(out: &mut String, name: &str) -> Result<(), AllocError> {
     out.try_push('`')?;
@@ -108,8 +100,6 @@ fn put_quoted(out: &mut String, name: &str) -> Result<(), AllocError> {
 }
 
 /// Adds a text and a name between backquotes.
-// ensures { OnOk result (string_bytes out.new
-//     ≡ string_bytes out.old ++ (text.now ++ quoted (chars name.now))) }
 #[inline]
 fn put_named(out: &mut String, text: &str, name: &str) -> Result<(), AllocError> {
     out.try_push_str(text)?;
@@ -118,8 +108,6 @@ fn put_named(out: &mut String, text: &str, name: &str) -> Result<(), AllocError>
 }
 
 /// Adds a name between backquotes, between two texts.
-// ensures { OnOk result (string_bytes out.new ≡ string_bytes out.old
-//     ++ (prefix.now ++ (quoted (chars name.now) ++ suffix.now))) }
 #[inline]
 pub(crate) fn put_name_between(
     out: &mut String,
@@ -133,21 +121,18 @@ pub(crate) fn put_name_between(
 }
 
 /// Returns whether a width or a precision is an argument by a number that is written.
-// ensures { result ≡ is_counted (seen_count count.now) }
 #[inline]
 fn is_counted(count: &Count<'_>) -> bool {
     matches!(count, Count::CountIsParam(_))
 }
 
 /// Returns whether a position is a number that is written.
-// ensures { result ≡ is_number (seen_position position.now) }
 #[inline]
 fn is_number(position: &Position<'_>) -> bool {
     matches!(position, Position::ArgumentIs(_))
 }
 
 /// Returns whether a piece refers to an argument by a number that is written.
-// ensures { result ≡ has_number (seen piece.now) }
 #[inline]
 fn has_number(piece: &Piece<'_>) -> bool {
     match piece {
@@ -161,7 +146,6 @@ fn has_number(piece: &Piece<'_>) -> bool {
 }
 
 /// Returns whether pieces refer to an argument by a number that is written.
-// ensures { result ≡ list_any has_number (map seen pieces.now) }
 #[inline]
 pub(crate) fn have_numbers(pieces: &[Piece<'_>]) -> bool {
     for piece in pieces {
@@ -173,8 +157,6 @@ pub(crate) fn have_numbers(pieces: &[Piece<'_>]) -> bool {
 }
 
 /// Adds the title of numbers that are too large, where `count` arguments are given.
-// ensures { OnOk result (string_bytes out.new
-//     ≡ string_bytes out.old ++ numbers_title numbers.now count) }
 #[inline]
 fn put_numbers_title(out: &mut String, numbers: &[usize], count: usize) -> Result<(), AllocError> {
     out.try_push_str("invalid reference to positional ")?;
@@ -188,7 +170,6 @@ fn put_numbers_title(out: &mut String, numbers: &[usize], count: usize) -> Resul
 }
 
 /// Adds the title of too few arguments, where `count` are given and the placeholders take `total`.
-// ensures { OnOk result (string_bytes out.new ≡ string_bytes out.old ++ few_title total count) }
 #[inline]
 fn put_few_title(out: &mut String, total: usize, count: usize) -> Result<(), AllocError> {
     put_number(out, total)?;
@@ -199,7 +180,6 @@ fn put_few_title(out: &mut String, total: usize, count: usize) -> Result<(), All
 }
 
 /// Returns the name of an argument, or an empty text if it has none.
-// ensures { chars result.now ≡ name_of (slice_get (map seen_given arguments.now) index) }
 #[inline]
 pub(crate) fn name_of<'a>(arguments: &[FormatArgument<'a>], index: usize) -> &'a str {
     match arguments.get(index) {
@@ -212,7 +192,6 @@ pub(crate) fn name_of<'a>(arguments: &[FormatArgument<'a>], index: usize) -> &'a
 }
 
 /// Returns whether an argument has a name.
-// ensures { result ≡ is_named (slice_get (map seen_given arguments.now) index) }
 #[inline]
 fn is_named(arguments: &[FormatArgument<'_>], index: usize) -> bool {
     match arguments.get(index) {
@@ -222,7 +201,6 @@ fn is_named(arguments: &[FormatArgument<'_>], index: usize) -> bool {
 }
 
 /// Returns the label of an argument that is not used.
-// ensures { result.now ≡ never_used (slice_get (map seen_given arguments.now) index) }
 #[inline]
 pub(crate) fn never_used(arguments: &[FormatArgument<'_>], index: usize) -> &'static str {
     if is_named(arguments, index) {
@@ -233,7 +211,6 @@ pub(crate) fn never_used(arguments: &[FormatArgument<'_>], index: usize) -> &'st
 }
 
 /// Returns the title of arguments that are not used.
-// ensures { result.now ≡ unused_title (map seen_given arguments.now) unused.now }
 #[inline]
 fn unused_title(arguments: &[FormatArgument<'_>], unused: &[usize]) -> &'static str {
     match unused {
@@ -243,8 +220,6 @@ fn unused_title(arguments: &[FormatArgument<'_>], unused: &[usize]) -> &'static 
 }
 
 /// Adds the title of a fault of the format string.
-// ensures { OnOk result (string_bytes out.new ≡ string_bytes out.old
-//     ++ (codes "invalid format string: " ++ (message (seen_text_fault fault.now)).description)) }
 #[inline]
 fn put_text_title(out: &mut String, fault: &Fault<'_>) -> Result<(), AllocError> {
     let error = fault.error()?;
@@ -254,11 +229,6 @@ fn put_text_title(out: &mut String, fault: &Fault<'_>) -> Result<(), AllocError>
 }
 
 /// Adds the title of missing arguments.
-// ensures { OnOk result ((r : Report) → IsReport (uses (map seen call.now.pieces.items))
-//     (length call.now.kept.items) [] r → string_bytes out.new ≡ string_bytes out.old
-//     ++ (if list_any has_number (map seen call.now.pieces.items)
-//     then numbers_title r.missing_index (length call.now.kept.items)
-//     else few_title call.now.parser.next (length call.now.kept.items))) }
 #[inline]
 fn put_missing(out: &mut String, call: &CallReport<'_>) -> Result<(), AllocError> {
     let count = call.kept.len();
@@ -272,11 +242,7 @@ fn put_missing(out: &mut String, call: &CallReport<'_>) -> Result<(), AllocError
 }
 
 impl<'a> CallReport<'a> {
-    /// Adds the title of one of the faults to the end of `out`, as rustc has it. Returns `Err` if
-    /// an allocation fails; a part may then be at the end of `out`.
-    // ensures { OnOk result ((r : Report) → IsReport (uses (map seen self.now.pieces.items))
-    //     (length self.now.kept.items) [] r → string_bytes out.new ≡ string_bytes out.old
-    //     ++ title (title_parts self.now r.missing_index) (seen_fault fault.now)) }
+    /// Adds the title of one of the faults to the end of `out`, as rustc has it.
     #[inline]
     pub(crate) fn put_title(
         &self,

@@ -1,8 +1,7 @@
 //! The commas that are missing, and the tokens that rustc expects instead of what stands there.
 
 // Extracted from crates/call_forms/src/commas.rt by tools/extract: not to be edited.
-// That source is proved, and each contract here is its. That this text means the same is tested:
-// by results from outside, and beside what is proved (.ci/bindings) and the original (tools/agree).
+// That source has the contracts, and is proved. That this text means the same is only tested.
 
 use crate::proved::call_forms::keywords::{is_control, is_modifier};
 use crate::proved::format_calls::{is_mark_of, is_text, is_word, token_at};
@@ -23,7 +22,6 @@ pub enum Expected {
 }
 
 /// Returns whether these tokens are a string literal, which may have a suffix, and others after it.
-// ensures { result ≡ has_more (map leaf tokens.now) }
 #[inline]
 pub fn has_more(tokens: &[Token<'_>]) -> bool {
     match tokens.first() {
@@ -36,7 +34,6 @@ pub fn has_more(tokens: &[Token<'_>]) -> bool {
 
 /// Returns whether it is not known what rustc expects after an operand, where this token stands in
 /// the argument.
-// ensures { result ≡ is_unknown (leaf token.now) }
 #[inline]
 fn is_unknown(token: &Token<'_>) -> bool {
     is_control(token.text)
@@ -47,7 +44,6 @@ fn is_unknown(token: &Token<'_>) -> bool {
 }
 
 /// Returns whether it is not known what rustc expects after an operand of an argument.
-// ensures { result ≡ list_any is_unknown (map leaf tokens.now) }
 #[inline]
 pub fn are_unknown(tokens: &[Token<'_>]) -> bool {
     for token in tokens {
@@ -59,7 +55,6 @@ pub fn are_unknown(tokens: &[Token<'_>]) -> bool {
 }
 
 /// Returns whether the token is a period.
-// ensures { result ≡ is_period (option_map leaf token.entry) }
 #[inline]
 fn is_period(token: Option<Token<'_>>) -> bool {
     match token {
@@ -69,8 +64,6 @@ fn is_period(token: Option<Token<'_>>) -> bool {
 }
 
 /// Returns what rustc expects after an operand, from its last three tokens.
-// ensures { result ≡ expected_by (option_map leaf previous.entry) (option_map leaf second.entry)
-//     (option_map leaf last.entry) }
 #[inline]
 fn expected_by(
     previous: Option<Token<'_>>,
@@ -92,7 +85,6 @@ fn expected_by(
 }
 
 /// Returns what rustc expects after the operand that ends before the token with an index.
-// ensures { result ≡ expected_at (map leaf tokens.now) index }
 #[inline]
 pub fn expected_at(tokens: &[Token<'_>], index: usize) -> Expected {
     let last = token_at(tokens, index.saturating_sub(1));

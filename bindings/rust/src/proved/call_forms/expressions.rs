@@ -1,8 +1,7 @@
 //! Whether the arguments of a call are expressions, as far as their tokens show.
 
 // Extracted from crates/call_forms/src/expressions.rt by tools/extract: not to be edited.
-// That source is proved, and each contract here is its. That this text means the same is tested:
-// by results from outside, and beside what is proved (.ci/bindings) and the original (tools/agree).
+// That source has the contracts, and is proved. That this text means the same is only tested.
 
 use crate::proved::call_forms::keywords::{is_control, is_modifier, is_special};
 use crate::proved::format_calls::{closing_token, is_mark_of, token_at, Argument, Part};
@@ -10,7 +9,6 @@ use crate::proved::rust_tokens::Kind;
 use crate::proved::rust_trees::{Delimiter, Side, Source, Token};
 
 /// Returns the tokens of an argument.
-// ensures { map leaf result.now ≡ tokens_of (map leaf tokens.now) argument.now }
 #[inline]
 pub fn tokens_of<'s, 'a>(tokens: &'s [Token<'a>], argument: &Argument) -> &'s [Token<'a>] {
     let rest = &tokens[argument.start.min(tokens.len())..];
@@ -19,7 +17,6 @@ pub fn tokens_of<'s, 'a>(tokens: &'s [Token<'a>], argument: &Argument) -> &'s [T
 }
 
 /// Returns whether tokens of this kind are literals.
-// ensures { result ≡ is_literal kind }
 #[inline]
 fn is_literal(kind: Kind) -> bool {
     matches!(
@@ -41,7 +38,6 @@ fn is_literal(kind: Kind) -> bool {
 }
 
 /// Returns whether a token is an operand: a word that is no keyword, or a literal.
-// ensures { result ≡ is_operand (leaf token.now) }
 #[inline]
 pub fn is_operand(token: &Token<'_>) -> bool {
     match token.kind {
@@ -55,8 +51,6 @@ pub fn is_operand(token: &Token<'_>) -> bool {
 
 /// Returns the number of delimiters that are open after a token, of which there are `depth` before
 /// it.
-// requires { depth + 1 < 2 ^ 64 }
-// ensures { result ≡ depth_after depth (leaf token.now) }
 #[inline]
 fn depth_after(depth: usize, token: &Token<'_>) -> usize {
     match token.side() {
@@ -67,14 +61,12 @@ fn depth_after(depth: usize, token: &Token<'_>) -> usize {
 }
 
 /// Returns whether a token is an operand after another one.
-// ensures { result ≡ (is_after && is_operand (leaf token.now)) }
 #[inline]
 fn is_second(is_after: bool, token: &Token<'_>) -> bool {
     is_after && is_operand(token)
 }
 
 /// Returns whether a token closes parentheses.
-// ensures { result ≡ closes_parentheses (side (leaf token.now)) }
 #[inline]
 fn closes_parentheses(token: &Token<'_>) -> bool {
     matches!(token.side(), Side::Closes(Delimiter::Parenthesis))
@@ -82,7 +74,6 @@ fn closes_parentheses(token: &Token<'_>) -> bool {
 
 /// Returns whether an operand outside delimiters ends with a token, before which `depth` are open:
 /// the token is one, or closes parentheses.
-// ensures { result ≡ ends_operand depth (leaf token.now) }
 #[inline]
 fn ends_operand(depth: usize, token: &Token<'_>) -> bool {
     depth == 0 && is_operand(token) || depth == 1 && closes_parentheses(token)
@@ -90,7 +81,6 @@ fn ends_operand(depth: usize, token: &Token<'_>) -> bool {
 
 /// Returns whether an operand ends with the pair of delimiters that the token with an index closes,
 /// before which `depth` are open.
-// ensures { result ≡ ends_pair depth (slice_get (map leaf tokens.now) close) }
 #[inline]
 fn ends_pair(depth: usize, tokens: &[Token<'_>], close: usize) -> bool {
     match token_at(tokens, close) {
@@ -101,8 +91,6 @@ fn ends_pair(depth: usize, tokens: &[Token<'_>], close: usize) -> bool {
 
 /// Returns the token before another one that closes the pair that a token opens, or `None` if it
 /// opens none.
-// ensures { IfSome result (λ j. IsPair source.now index j × (j < end)
-//     × (is_operand (leaf token.now) ≡ false)) }
 #[inline]
 fn closing_before(
     source: &Source<'_>,
@@ -121,7 +109,6 @@ fn closing_before(
 
 /// Returns the index in an argument of its first operand outside delimiters that stands right after
 /// another one, or `None` if there is none. Pairs of delimiters are passed at once.
-// ensures { result ≡ next_operand false 0 0 (tokens_of source.now argument.now) }
 #[inline]
 fn next_operand(source: &Source<'_>, argument: &Argument) -> Option<usize> {
     if argument.end.saturating_sub(argument.start) < 2 {
@@ -155,7 +142,6 @@ fn next_operand(source: &Source<'_>, argument: &Argument) -> Option<usize> {
 
 /// Returns the index in an argument of its first operand that stands right after another one, or
 /// `None` if there is none or a variable of a macro stands there.
-// ensures { result ≡ joined (tokens_of part.now argument.now) }
 #[inline]
 pub fn extra_operand(part: &Part<'_>, argument: &Argument) -> Option<usize> {
     if part.has_variable(argument) {
@@ -165,14 +151,12 @@ pub fn extra_operand(part: &Part<'_>, argument: &Argument) -> Option<usize> {
 }
 
 /// Returns whether a token may stand in a path or in the access to a field.
-// ensures { result ≡ is_path (leaf token.now) }
 #[inline]
 fn is_path(token: &Token<'_>) -> bool {
     is_operand(token) || is_mark_of(token, b'.') || is_mark_of(token, b':')
 }
 
 /// Returns whether all tokens may stand in a path or in the access to a field.
-// ensures { result ≡ not (list_any (λ x. not (is_path x)) (map leaf tokens.now)) }
 #[inline]
 pub fn are_path(tokens: &[Token<'_>]) -> bool {
     for token in tokens {
@@ -184,7 +168,6 @@ pub fn are_path(tokens: &[Token<'_>]) -> bool {
 }
 
 /// Returns whether a variable of a macro stands in one of these arguments.
-// ensures { result ≡ list_any has_variable (map (tokens_of part.now) arguments.now) }
 #[inline]
 pub fn have_variables(part: &Part<'_>, arguments: &[Argument]) -> bool {
     for argument in arguments {
@@ -196,7 +179,6 @@ pub fn have_variables(part: &Part<'_>, arguments: &[Argument]) -> bool {
 }
 
 /// Returns whether an argument that has tokens is no expression.
-// ensures { result ≡ list_any (λ p. is_some (joined p)) (map (tokens_of part.now) arguments.now) }
 #[inline]
 pub fn have_joined(part: &Part<'_>, arguments: &[Argument]) -> bool {
     for argument in arguments {

@@ -1,8 +1,7 @@
 //! The fault in the arguments of a call whose format string is not read.
 
 // Extracted from crates/call_forms/src/forms.rt by tools/extract: not to be edited.
-// That source is proved, and each contract here is its. That this text means the same is tested:
-// by results from outside, and beside what is proved (.ci/bindings) and the original (tools/agree).
+// That source has the contracts, and is proved. That this text means the same is only tested.
 
 use crate::proved::call_forms::commas::{are_unknown, expected_at, has_more, Expected};
 use crate::proved::call_forms::expressions::{
@@ -44,7 +43,6 @@ pub enum Form<'a> {
 }
 
 /// Returns whether an argument is a byte string literal.
-// ensures { result ≡ are_bytes (map leaf tokens.now) }
 #[inline]
 fn is_bytes(tokens: &[Token<'_>]) -> bool {
     match tokens {
@@ -55,7 +53,6 @@ fn is_bytes(tokens: &[Token<'_>]) -> bool {
 
 /// Returns what is wrong with an argument that should be the format string, where so many others
 /// stand after it, or `None` if nothing is known to be.
-// ensures { option_map seen_form result ≡ literal_form others (map leaf tokens.now) }
 #[inline]
 fn literal_form<'a>(tokens: &[Token<'a>], others: usize) -> Option<Form<'a>> {
     let Some(first) = tokens.first() else {
@@ -71,8 +68,6 @@ fn literal_form<'a>(tokens: &[Token<'a>], others: usize) -> Option<Form<'a>> {
 }
 
 /// Returns the tokens of the argument with an index, or `None` if there is none.
-// ensures { option_map (λ s. map leaf s.now) result
-//     ≡ slice_get (map (tokens_of (map leaf tokens.now)) arguments.now) index }
 #[inline]
 fn part_at<'s, 'a>(
     tokens: &'s [Token<'a>],
@@ -86,7 +81,6 @@ fn part_at<'s, 'a>(
 }
 
 /// Returns whether an argument has no token, or an operator lacks an operand.
-// ensures { result ≡ lacks_expression (map leaf tokens.now) }
 #[inline]
 fn lacks_expression(tokens: &[Token<'_>]) -> bool {
     tokens.is_empty() || lacks_operand(tokens)
@@ -94,14 +88,12 @@ fn lacks_expression(tokens: &[Token<'_>]) -> bool {
 
 /// Returns whether an argument is no expression, as far as its tokens show: it has none, an
 /// operator lacks an operand, or two operands stand next to each other.
-// ensures { result ≡ is_bad (tokens_of part.now argument.now) }
 #[inline]
 fn is_bad(part: &Part<'_>, argument: &Argument) -> bool {
     lacks_expression(tokens_of(part.tokens(), argument)) || extra_operand(part, argument).is_some()
 }
 
 /// Returns the index of the first argument that is no expression, or `None` if there is none.
-// ensures { result ≡ first_bad 0 (map (tokens_of part.now) arguments.now) }
 #[inline]
 fn first_bad(part: &Part<'_>, arguments: &[Argument]) -> Option<usize> {
     for (index, argument) in arguments.iter().enumerate() {
@@ -113,7 +105,6 @@ fn first_bad(part: &Part<'_>, arguments: &[Argument]) -> Option<usize> {
 }
 
 /// Returns the fault that no comma stands before a token, where rustc expects these tokens.
-// ensures { seen_form result ≡ NoComma expected (seen_operator found.entry) }
 #[inline]
 fn no_comma(expected: Expected, found: Operator<'_>) -> Form<'_> {
     Form::NoComma { expected, found }
@@ -121,8 +112,6 @@ fn no_comma(expected: Expected, found: Operator<'_>) -> Form<'_> {
 
 /// Returns what is wrong with an argument in which the operand with an index stands right after
 /// another one. `is_string` is whether it should be the format string.
-// ensures { option_map seen_form result
-//     ≡ joined_form is_string (map leaf tokens.now) (Some index) }
 #[inline]
 fn joined_form<'a>(tokens: &[Token<'a>], index: usize, is_string: bool) -> Option<Form<'a>> {
     if !is_string && are_unknown(tokens) {
@@ -140,8 +129,6 @@ fn joined_form<'a>(tokens: &[Token<'a>], index: usize, is_string: bool) -> Optio
 
 /// Returns what is wrong with an argument that begins with an operator which needs an operand
 /// before it, or `None` if there is no token.
-// ensures { option_map seen_form result
-//     ≡ option_map (λ o. NoOperand o) (operator_at (map leaf tokens.now) 0) }
 #[inline]
 fn operand_form<'a>(tokens: &[Token<'a>]) -> Option<Form<'a>> {
     match operator_at(tokens, 0) {
@@ -152,8 +139,6 @@ fn operand_form<'a>(tokens: &[Token<'a>]) -> Option<Form<'a>> {
 
 /// Returns what is wrong with the argument with an index, which is no expression. `is_string` is
 /// whether it should be the format string, and `is_last` whether the end of the call follows it.
-// ensures { option_map seen_form result
-//     ≡ bad_form index is_string is_last (tokens_of part.now argument.now) }
 #[inline]
 fn bad_form<'a>(
     part: &Part<'a>,
@@ -173,7 +158,6 @@ fn bad_form<'a>(
 }
 
 /// Returns whether the end of the call follows the argument with an index.
-// ensures { result ≡ flag (slice_get (ends close arguments.now) index) }
 #[inline]
 fn is_last(arguments: &[Argument], index: usize, close: usize) -> bool {
     match arguments.get(index) {
@@ -185,8 +169,6 @@ fn is_last(arguments: &[Argument], index: usize, close: usize) -> bool {
 /// Returns what is wrong with arguments of which the one with the index `bad` is no expression, and
 /// the one with the index `string` should be the format string. `is_last` is whether the end of the
 /// call follows the one that is no expression.
-// ensures { option_map seen_form result ≡ form_at is_last string bad
-//     (slice_get (map (tokens_of part.now) arguments.now) bad) }
 #[inline]
 fn form_at<'a>(
     part: &Part<'a>,
@@ -203,7 +185,6 @@ fn form_at<'a>(
 
 /// Returns whether all arguments before the one with an index are expressions, where the one with
 /// the index `bad`, if any, is the first that is none.
-// ensures { result ≡ starts_well index bad }
 #[inline]
 fn starts_well(bad: Option<usize>, index: usize) -> bool {
     match bad {
@@ -214,7 +195,6 @@ fn starts_well(bad: Option<usize>, index: usize) -> bool {
 
 /// Returns the fault of an argument that is a string literal and more tokens after it, if it is
 /// known.
-// ensures { option_map seen_form result ≡ comma_form (map leaf tokens.now) }
 #[inline]
 fn comma_form<'a>(tokens: &[Token<'a>]) -> Option<Form<'a>> {
     match operator_at(tokens, 1) {
@@ -224,7 +204,6 @@ fn comma_form<'a>(tokens: &[Token<'a>]) -> Option<Form<'a>> {
 }
 
 /// Returns how many arguments stand after the one with an index.
-// ensures { result ≡ length arguments.now - (index + 1) }
 #[inline]
 fn others_after(arguments: &[Argument], index: usize) -> usize {
     arguments.len().saturating_sub(index).saturating_sub(1)
@@ -233,8 +212,6 @@ fn others_after(arguments: &[Argument], index: usize) -> usize {
 /// Returns what is wrong with the arguments of a call of which the one with this index should be
 /// the format string, or `None` if nothing is known to be. `lacks_string` is whether it is a fault
 /// that there is none, and the list of arguments ends at a token.
-// ensures { option_map seen_form result ≡ form_of lacks_string (ends close arguments.now) index
-//     (map (tokens_of part.now) arguments.now) }
 #[inline]
 fn form_of<'a>(
     part: &Part<'a>,
@@ -269,7 +246,6 @@ fn form_of<'a>(
 
 /// Returns whether a macro of this name wants a format string, and has no other rule where none is
 /// given.
-// ensures { result ≡ needs_string name.now }
 #[inline]
 fn needs_string(name: &[u8]) -> bool {
     name == b"format".as_slice()
@@ -280,7 +256,6 @@ fn needs_string(name: &[u8]) -> bool {
 
 /// Returns whether it is a fault that a call of a macro of this name, with these arguments before
 /// the delimiter at `close`, has no format string.
-// ensures { result ≡ lacks_string name.now close arguments.now }
 #[inline]
 fn lacks_string(name: &[u8], arguments: &[Argument], close: usize) -> bool {
     match arguments {
@@ -292,7 +267,6 @@ fn lacks_string(name: &[u8], arguments: &[Argument], close: usize) -> bool {
 
 /// Returns the index of the argument that should be the format string of a macro of the standard
 /// library with this rule, or `None` if it may be any expression.
-// ensures { result ≡ index_of is_from_2021 rule }
 #[inline]
 fn index_of(rule: Rule, is_from_2021: bool) -> Option<usize> {
     match rule {
@@ -310,8 +284,6 @@ fn index_of(rule: Rule, is_from_2021: bool) -> Option<usize> {
 
 /// Returns what is wrong with the arguments of a call of a macro of this name and with this rule,
 /// or `None` if nothing is known to be, as of macros that are not those of the standard library.
-// ensures { option_map seen_form result ≡ form_here is_from_2021 name.now rule close
-//     arguments.now (map (tokens_of part.now) arguments.now) }
 #[inline]
 pub fn form_here<'a>(
     part: &Part<'a>,

@@ -1,8 +1,7 @@
 //! The parameters of a trait that are types or constants.
 
 // Extracted from crates/call_forms/src/generics.rt by tools/extract: not to be edited.
-// That source is proved, and each contract here is its. That this text means the same is tested:
-// by results from outside, and beside what is proved (.ci/bindings) and the original (tools/agree).
+// That source has the contracts, and is proved. That this text means the same is only tested.
 
 use crate::proved::format_calls::{is_mark, is_mark_of, is_text, is_word};
 use crate::proved::rust_trees::{is_opening, Side, Token};
@@ -23,15 +22,12 @@ pub struct Place {
 }
 
 /// Returns whether a token is the name of a parameter, where one may stand.
-// ensures { result ≡ names place (leaf token.now) }
 #[inline]
 fn names(place: Place, token: &Token<'_>) -> bool {
     place.opens == 0 && place.is_first && is_word(token) && !is_text(token, "const")
 }
 
 /// Returns how many angles are open after a token outside of delimiters.
-// requires { place.angles + 1 < 2 ^ 64 }
-// ensures { result ≡ angles_after place (leaf token.now) }
 #[inline]
 fn angles_after(place: Place, token: &Token<'_>) -> usize {
     if is_mark_of(token, b'<') {
@@ -44,15 +40,12 @@ fn angles_after(place: Place, token: &Token<'_>) -> usize {
 }
 
 /// Returns whether a parameter may begin after a token outside of delimiters.
-// ensures { result ≡ first_after place (leaf token.now) }
 #[inline]
 fn first_after(place: Place, token: &Token<'_>) -> bool {
     place.angles == 1 && is_mark_of(token, b',') || place.is_first && !names(place, token)
 }
 
 /// Returns the place after a token outside of delimiters, which is none itself.
-// requires { place.angles + 1 < 2 ^ 64 }
-// ensures { result ≡ plain_after place (leaf token.now) }
 #[inline]
 fn plain_after(place: Place, token: &Token<'_>) -> Place {
     Place {
@@ -64,7 +57,6 @@ fn plain_after(place: Place, token: &Token<'_>) -> Place {
 }
 
 /// Returns a place with this many open delimiters.
-// ensures { result ≡ with_opens place opens }
 #[inline]
 fn with_opens(place: Place, opens: usize) -> Place {
     Place {
@@ -76,7 +68,6 @@ fn with_opens(place: Place, opens: usize) -> Place {
 }
 
 /// Returns the place where a list has ended.
-// ensures { result ≡ ended }
 #[inline]
 fn end_place() -> Place {
     Place {
@@ -88,9 +79,6 @@ fn end_place() -> Place {
 }
 
 /// Returns the place after a token of a list, which ends at the latest before another trait.
-// requires angles { place.angles + 1 < 2 ^ 64 }
-// requires opens { place.opens + 1 < 2 ^ 64 }
-// ensures { result ≡ place_after place (leaf token.now) }
 #[inline]
 fn place_after(place: Place, token: &Token<'_>) -> Place {
     if is_text(token, "trait") {
@@ -113,8 +101,6 @@ fn place_after(place: Place, token: &Token<'_>) -> Place {
 }
 
 /// Adds the name of the parameter that a token is, if it is one.
-// ensures { OnOk result (map (λ w. w.now) list.new.items ≡ map (λ w. w.now) list.old.items
-//     ++ parameter place (leaf token.now)) }
 #[inline]
 fn put_parameter<'a>(
     list: &mut Vec<&'a str>,
@@ -129,8 +115,6 @@ fn put_parameter<'a>(
 
 /// Returns the names of the parameters whose list opens with the token of an index, or none if no
 /// list does.
-// ensures { IfOk result (λ v. map (λ w. w.now) v.items
-//     ≡ parameters (map leaf tokens.now) index) }
 #[inline]
 pub fn parameters<'a>(tokens: &[Token<'a>], index: usize) -> Result<Vec<&'a str>, AllocError> {
     let mut found = Vec::new();

@@ -1,11 +1,9 @@
 //! The keywords of Rust.
 
 // Extracted from crates/call_forms/src/keywords.rt by tools/extract: not to be edited.
-// That source is proved, and each contract here is its. That this text means the same is tested:
-// by results from outside, and beside what is proved (.ci/bindings) and the original (tools/agree).
+// That source has the contracts, and is proved. That this text means the same is only tested.
 
 /// Returns whether a word is a keyword around which expressions may stand.
-// ensures { result ≡ is_control word.now }
 #[inline]
 pub fn is_control(word: &str) -> bool {
     word == "as"
@@ -24,7 +22,6 @@ pub fn is_control(word: &str) -> bool {
 }
 
 /// Returns whether a word is a keyword in front of an expression, a pattern or a type.
-// ensures { result ≡ is_modifier word.now }
 #[inline]
 pub fn is_modifier(word: &str) -> bool {
     word == "async"
@@ -41,7 +38,6 @@ pub fn is_modifier(word: &str) -> bool {
 }
 
 /// Returns whether a word is a keyword that is an expression or begins a path.
-// ensures { result ≡ is_special word.now }
 #[inline]
 pub fn is_special(word: &str) -> bool {
     word == "_"
@@ -54,7 +50,6 @@ pub fn is_special(word: &str) -> bool {
 }
 
 /// Returns whether a word is a keyword that has no use so far.
-// ensures { result ≡ is_reserved word.now }
 #[inline]
 fn is_reserved(word: &str) -> bool {
     word == "abstract"
@@ -73,7 +68,6 @@ fn is_reserved(word: &str) -> bool {
 }
 
 /// Returns whether a word that is not reserved is a keyword.
-// ensures { result ≡ is_keyword word.now }
 #[inline]
 fn is_keyword(word: &str) -> bool {
     is_control(word)
@@ -91,7 +85,6 @@ fn is_keyword(word: &str) -> bool {
 }
 
 /// Returns the words of rustc before a token in a title, with the space after them.
-// ensures { result.now ≡ kind_word text.now }
 #[inline]
 pub fn kind_word(text: &str) -> &'static str {
     if text == "_" {

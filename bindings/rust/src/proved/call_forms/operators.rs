@@ -1,8 +1,7 @@
 //! Operators of one to three characters, and arguments in which one lacks an operand.
 
 // Extracted from crates/call_forms/src/operators.rt by tools/extract: not to be edited.
-// That source is proved, and each contract here is its. That this text means the same is tested:
-// by results from outside, and beside what is proved (.ci/bindings) and the original (tools/agree).
+// That source has the contracts, and is proved. That this text means the same is only tested.
 
 use crate::proved::call_forms::expressions::is_operand;
 use crate::proved::call_forms::keywords::is_special;
@@ -22,7 +21,6 @@ pub struct Operator<'a> {
 }
 
 /// Returns whether a token is a character that makes an operator with another one of its kind.
-// ensures { result ≡ doubles (leaf token.now) }
 #[inline]
 fn doubles(token: &Token<'_>) -> bool {
     is_mark_of(token, b'&')
@@ -34,7 +32,6 @@ fn doubles(token: &Token<'_>) -> bool {
 }
 
 /// Returns whether a token is a character that makes an operator with `=` after it.
-// ensures { result ≡ takes_equals (leaf token.now) }
 #[inline]
 fn takes_equals(token: &Token<'_>) -> bool {
     is_mark_of(token, b'=')
@@ -52,7 +49,6 @@ fn takes_equals(token: &Token<'_>) -> bool {
 }
 
 /// Returns whether two characters are an operator, or begin one.
-// ensures { result ≡ is_pair (leaf token.now) (leaf next.now) }
 #[inline]
 fn is_pair(token: &Token<'_>, next: &Token<'_>) -> bool {
     takes_equals(token) && is_mark_of(next, b'=')
@@ -63,7 +59,6 @@ fn is_pair(token: &Token<'_>, next: &Token<'_>) -> bool {
 }
 
 /// Returns whether two tokens are an operator, or begin one.
-// ensures { result ≡ is_glued (leaf token.now) (leaf next.now) }
 #[inline]
 fn is_glued(token: &Token<'_>, next: &Token<'_>) -> bool {
     is_joint(token, next) && is_pair(token, next)
@@ -71,7 +66,6 @@ fn is_glued(token: &Token<'_>, next: &Token<'_>) -> bool {
 
 /// Returns whether a character may be the third one of an operator that begins with another one
 /// twice.
-// ensures { result ≡ is_third (leaf first.now) (leaf token.now) }
 #[inline]
 fn is_third(first: &Token<'_>, token: &Token<'_>) -> bool {
     is_mark_of(token, b'=')
@@ -80,15 +74,12 @@ fn is_third(first: &Token<'_>, token: &Token<'_>) -> bool {
 }
 
 /// Returns whether the third of these tokens belongs to the operator that the others begin.
-// ensures { result ≡ ends_operator (leaf first.now) (leaf second.now) (leaf third.now) }
 #[inline]
 fn ends_operator(first: &Token<'_>, second: &Token<'_>, third: &Token<'_>) -> bool {
     is_joint(second, third) && (first.text == second.text && is_third(first, third))
 }
 
 /// Returns the third character of the operator that two tokens begin, or an empty text.
-// ensures { result.now ≡ third_text (leaf first.now) (leaf second.now)
-//     (option_map leaf third.entry) }
 #[inline]
 fn third_text<'a>(first: &Token<'_>, second: &Token<'_>, third: Option<Token<'a>>) -> &'a str {
     match third {
@@ -98,8 +89,6 @@ fn third_text<'a>(first: &Token<'_>, second: &Token<'_>, third: Option<Token<'a>
 }
 
 /// Returns the operator that a token begins, or the token alone.
-// ensures { seen_operator result ≡ operator_by (leaf first.entry) (option_map leaf second.entry)
-//     (option_map leaf third.entry) }
 #[inline]
 fn operator_by<'a>(
     first: Token<'a>,
@@ -121,7 +110,6 @@ fn operator_by<'a>(
 }
 
 /// Returns the token with an index as rustc has it, or `None` if there is none.
-// ensures { option_map seen_operator result ≡ operator_at (map leaf tokens.now) index }
 #[inline]
 pub fn operator_at<'a>(tokens: &[Token<'a>], index: usize) -> Option<Operator<'a>> {
     let Some(first) = token_at(tokens, index) else {
@@ -133,7 +121,6 @@ pub fn operator_at<'a>(tokens: &[Token<'a>], index: usize) -> Option<Operator<'a
 }
 
 /// Returns whether no expression begins with a character.
-// ensures { result ≡ is_infix (leaf token.now) }
 #[inline]
 fn is_infix(token: &Token<'_>) -> bool {
     is_mark_of(token, b'=')
@@ -147,7 +134,6 @@ fn is_infix(token: &Token<'_>) -> bool {
 }
 
 /// Returns whether tokens begin with an operator that needs an operand before it.
-// ensures { result ≡ lacks_left (map leaf tokens.now) }
 #[inline]
 pub fn lacks_left(tokens: &[Token<'_>]) -> bool {
     match tokens.first() {
@@ -165,7 +151,6 @@ pub fn lacks_left(tokens: &[Token<'_>]) -> bool {
 }
 
 /// Returns whether a token closes a pair of delimiters.
-// ensures { result ≡ is_closing (side (leaf token.now)) }
 #[inline]
 fn is_closing(token: &Token<'_>) -> bool {
     match token.side() {
@@ -175,7 +160,6 @@ fn is_closing(token: &Token<'_>) -> bool {
 }
 
 /// Returns whether an operand ends with a token.
-// ensures { result ≡ is_operand_end (option_map leaf token.entry) }
 #[inline]
 fn is_operand_end(token: Option<Token<'_>>) -> bool {
     match token {
@@ -190,7 +174,6 @@ fn is_operand_end(token: Option<Token<'_>>) -> bool {
 }
 
 /// Returns whether a token is an operator that needs an operand after it.
-// ensures { result ≡ is_single (leaf token.now) }
 #[inline]
 fn is_single(token: &Token<'_>) -> bool {
     is_mark_of(token, b'=')
@@ -204,21 +187,18 @@ fn is_single(token: &Token<'_>) -> bool {
 }
 
 /// Returns whether a character is an operator that needs an operand after it, alone and twice.
-// ensures { result ≡ is_either (leaf token.now) }
 #[inline]
 fn is_either(token: &Token<'_>) -> bool {
     is_mark_of(token, b'|') || is_mark_of(token, b'<') || is_mark_of(token, b'>')
 }
 
 /// Returns whether two characters of an operator are one that needs an operand after it.
-// ensures { result ≡ is_double (leaf token.now) (leaf next.now) }
 #[inline]
 fn is_double(token: &Token<'_>, next: &Token<'_>) -> bool {
     is_mark_of(next, b'=') || (is_mark_of(next, b'&') || is_either(next)) && token.text == next.text
 }
 
 /// Returns whether a token is an operator with which an expression begins.
-// ensures { result ≡ is_prefix (leaf token.now) }
 #[inline]
 fn is_prefix(token: &Token<'_>) -> bool {
     is_mark_of(token, b'*')
@@ -228,7 +208,6 @@ fn is_prefix(token: &Token<'_>) -> bool {
 }
 
 /// Returns whether a token is the last character of an operator that needs an operand after it.
-// ensures { result ≡ is_end (leaf token.now) }
 #[inline]
 fn is_end(token: &Token<'_>) -> bool {
     matches!(token.kind, Kind::Punct)
@@ -237,8 +216,6 @@ fn is_end(token: &Token<'_>) -> bool {
 
 /// Returns the number of characters of an operator after an operand that ends with the last of
 /// three tokens, or 0.
-// ensures { result ≡ operator_len (option_map leaf previous.entry) (option_map leaf second.entry)
-//     (leaf last.now) }
 #[inline]
 fn operator_len(previous: Option<Token<'_>>, second: Option<Token<'_>>, last: &Token<'_>) -> usize {
     match second {
@@ -261,7 +238,6 @@ fn operator_len(previous: Option<Token<'_>>, second: Option<Token<'_>>, last: &T
 
 /// Returns whether this token stands in a closure, a pattern or a type, where rustc says more of an
 /// operator after it, or reads it as another one.
-// ensures { result ≡ is_unclear (leaf token.now) }
 #[inline]
 fn is_unclear(token: &Token<'_>) -> bool {
     is_mark_of(token, b'|')
@@ -271,7 +247,6 @@ fn is_unclear(token: &Token<'_>) -> bool {
 }
 
 /// Returns whether rustc says more of an operator after these tokens, or may do so.
-// ensures { result ≡ list_any is_unclear (map leaf tokens.now) }
 #[inline]
 fn are_unclear(tokens: &[Token<'_>]) -> bool {
     for token in tokens {
@@ -284,7 +259,6 @@ fn are_unclear(tokens: &[Token<'_>]) -> bool {
 
 /// Returns whether tokens end with an operator of so many characters, and what stands before it is
 /// clear.
-// ensures { result ≡ ends_by (map leaf tokens.now) len }
 #[inline]
 fn ends_by(tokens: &[Token<'_>], len: usize) -> bool {
     len > 0 && !are_unclear(&tokens[..tokens.len().saturating_sub(len)])
@@ -292,7 +266,6 @@ fn ends_by(tokens: &[Token<'_>], len: usize) -> bool {
 
 /// Returns whether tokens, of which this is the last one, end with an operator that needs an
 /// operand after it.
-// ensures { result ≡ lacks_after (map leaf tokens.now) (Some (leaf last.now)) }
 #[inline]
 fn lacks_after(tokens: &[Token<'_>], last: &Token<'_>) -> bool {
     if !is_end(last) {
@@ -308,7 +281,6 @@ fn lacks_after(tokens: &[Token<'_>], last: &Token<'_>) -> bool {
 }
 
 /// Returns whether tokens end with an operator that needs an operand after it.
-// ensures { result ≡ lacks_right (map leaf tokens.now) }
 #[inline]
 pub fn lacks_right(tokens: &[Token<'_>]) -> bool {
     match tokens.get(tokens.len().saturating_sub(1)) {
@@ -318,7 +290,6 @@ pub fn lacks_right(tokens: &[Token<'_>]) -> bool {
 }
 
 /// Returns whether tokens are no expression, since an operator lacks an operand.
-// ensures { result ≡ lacks_operand (map leaf tokens.now) }
 #[inline]
 pub fn lacks_operand(tokens: &[Token<'_>]) -> bool {
     lacks_left(tokens) || lacks_right(tokens)

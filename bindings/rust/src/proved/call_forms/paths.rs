@@ -1,11 +1,9 @@
 //! The paths in front of the names of macros.
 
 // Extracted from crates/call_forms/src/paths.rt by tools/extract: not to be edited.
-// That source is proved, and each contract here is its. That this text means the same is tested:
-// by results from outside, and beside what is proved (.ci/bindings) and the original (tools/agree).
+// That source has the contracts, and is proved. That this text means the same is only tested.
 
 /// Returns whether a byte of a text may stand in a path beside `::`.
-// ensures { result ≡ is_in_path byte }
 #[inline]
 pub fn is_in_path(byte: u8) -> bool {
     byte.is_ascii_alphanumeric() || byte == b'_' || byte == b'$' || byte >= 0x80
@@ -13,7 +11,6 @@ pub fn is_in_path(byte: u8) -> bool {
 
 /// Returns whether a word shows that its path is one of log, tracing or slog, or one of the package
 /// itself.
-// ensures { result ≡ is_known word.now }
 #[inline]
 fn is_known(word: &[u8]) -> bool {
     word == b"log".as_slice()
@@ -26,7 +23,6 @@ fn is_known(word: &[u8]) -> bool {
 }
 
 /// Returns whether these bytes end with `::`.
-// ensures { result ≡ ends_path (reverse front.now) }
 #[inline]
 fn ends_path(front: &[u8]) -> bool {
     let count = front.len();
@@ -34,7 +30,6 @@ fn ends_path(front: &[u8]) -> bool {
 }
 
 /// Returns whether one of the words of the path with which these bytes end is known.
-// ensures { result ≡ has_known [] (reverse front.now) }
 #[inline]
 fn has_known(front: &[u8]) -> bool {
     let mut start = front.len();
@@ -57,7 +52,6 @@ fn has_known(front: &[u8]) -> bool {
 
 /// Returns whether the path in front of an offset of a text is one of another crate than log,
 /// tracing and slog. White space and comments are in no path.
-// ensures { result ≡ is_foreign text.now offset }
 #[inline]
 pub fn is_foreign(text: &str, offset: usize) -> bool {
     let bytes = text.as_bytes();

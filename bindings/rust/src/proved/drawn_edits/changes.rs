@@ -1,9 +1,7 @@
-//! The rows of edits. A function whose name begins with `put_` appends to `out`, and returns `Err`
-//! if an allocation fails.
+//! The rows of edits. A function whose name begins with `put_` appends to `out`.
 
 // Extracted from crates/drawn_edits/src/changes.rt by tools/extract: not to be edited.
-// That source is proved, and each contract here is its. That this text means the same is tested:
-// by results from outside, and beside what is proved (.ci/bindings) and the original (tools/agree).
+// That source has the contracts, and is proved. That this text means the same is only tested.
 
 use crate::proved::drawn_edits::edit_rows::{
     put_kept_lines, put_kept_row, put_sign_row, put_sign_rows,
@@ -21,7 +19,6 @@ use crate::shim::prelude::*;
 
 /// Returns the only addition of a line, or `None` if there are several, or a text of the line is in
 /// front of it.
-// ensures { option_map (λ s. s.now) result ≡ lone_addition (map seen_part parts.now) }
 #[inline]
 fn lone_addition<'a>(parts: &[Part<'a>]) -> Option<&'a str> {
     for (index, part) in parts.iter().enumerate() {
@@ -40,7 +37,6 @@ fn lone_addition<'a>(parts: &[Part<'a>]) -> Option<&'a str> {
 
 /// Returns how many cells a text takes, if a tab takes four of them, and another character one.
 /// Returns `Err` if it is too long for memory.
-// ensures { IfOk result (λ n. n ≡ cells_of 0 (chars text.now)) }
 #[inline]
 fn cells_of(text: &str) -> Result<usize, AllocError> {
     if text.len() >= 1 << (usize::BITS - 5) {
@@ -56,7 +52,6 @@ fn cells_of(text: &str) -> Result<usize, AllocError> {
 }
 
 /// Returns whether parts have so many bytes.
-// ensures { result ≡ have_bytes count (map seen_part parts.now) }
 #[inline]
 fn have_bytes(count: usize, parts: &[Part<'_>]) -> bool {
     let mut left = count;
@@ -70,8 +65,6 @@ fn have_bytes(count: usize, parts: &[Part<'_>]) -> bool {
 }
 
 /// Returns the sign of a changed line, or `None` if it has none.
-// ensures { IfOk result (λ o. option_map (λ s. s.now) o
-//     ≡ lone_sign (map seen_part parts.now) (lone_addition (map seen_part parts.now))) }
 #[inline]
 fn sign_of(parts: &[Part<'_>]) -> Result<Option<&'static str>, AllocError> {
     let Some(text) = lone_addition(parts) else {
@@ -88,10 +81,6 @@ fn sign_of(parts: &[Part<'_>]) -> Result<Option<&'static str>, AllocError> {
 }
 
 /// Adds the row of a changed line.
-// requires { number < 2 ^ 61 }
-// ensures { OnOk result (string_bytes out.new ≡ string_bytes out.old
-//     ++ changed_row (seen_frame frame.now) number (map seen_part parts.now)
-//     (lone_sign (map seen_part parts.now) (lone_addition (map seen_part parts.now)))) }
 #[inline]
 fn put_changed_row(
     out: &mut String,
@@ -107,9 +96,6 @@ fn put_changed_row(
 }
 
 /// Adds the rows of several new lines up to the last changed one, from a number on.
-// requires { number + length lines.now < 2 ^ 61 }
-// ensures { OnOk result (string_bytes out.new ≡ string_bytes out.old
-//     ++ changed_rows (seen_frame frame.now) number [] (map seen_line lines.now)) }
 #[inline]
 fn put_changed_rows(
     out: &mut String,
@@ -129,9 +115,6 @@ fn put_changed_rows(
 }
 
 /// Adds the row of a new line, unless it is blank.
-// requires { number < 2 ^ 61 }
-// ensures { OnOk result (string_bytes out.new ≡ string_bytes out.old
-//     ++ new_row (seen_frame frame.now) number (map seen_line lines.now)) }
 #[inline]
 fn put_new_row(
     out: &mut String,
@@ -148,10 +131,6 @@ fn put_new_row(
 }
 
 /// Adds the rows of old lines and of a new one.
-// requires { number + length old.now < 2 ^ 61 }
-// ensures { OnOk result (string_bytes out.new ≡ string_bytes out.old
-//     ++ replaced_rows (seen_frame frame.now) number (map seen_line old.now)
-//     (map seen_line new.now)) }
 #[inline]
 fn put_replaced(
     out: &mut String,
@@ -177,7 +156,6 @@ fn put_replaced(
 }
 
 /// Returns how many columns a text takes. Returns `Err` if it is too long for memory.
-// ensures { IfOk result (λ n. n ≡ columns_of 0 (chars text.now)) }
 #[inline]
 fn columns_of(text: &str) -> Result<usize, AllocError> {
     if text.len() >= 1 << (usize::BITS - 5) {
@@ -194,9 +172,6 @@ fn columns_of(text: &str) -> Result<usize, AllocError> {
 
 /// Adds the signs under an addition, after so many spaces. Returns how many columns after these
 /// signs the addition ends.
-// ensures added { OnOk result (string_bytes out.new
-//     ≡ string_bytes out.old ++ pluses palette gap text.now) }
-// ensures value { IfOk result (λ n. n ≡ after_pluses text.now) }
 #[inline]
 fn put_pluses(
     out: &mut String,
@@ -222,8 +197,6 @@ fn put_pluses(
 }
 
 /// Adds the signs under the additions of a line.
-// ensures { OnOk result (string_bytes out.new ≡ string_bytes out.old
-//     ++ plus_signs palette 0 (map seen_part parts.now)) }
 #[inline]
 fn put_plus_signs(
     out: &mut String,
@@ -246,8 +219,6 @@ fn put_plus_signs(
 }
 
 /// Adds the row of these signs.
-// ensures { OnOk result (string_bytes out.new ≡ string_bytes out.old
-//     ++ under gutter (plus_signs gutter.palette 0 (map seen_part parts.now))) }
 #[inline]
 fn put_plus_row(out: &mut String, gutter: Gutter, parts: &[Part<'_>]) -> Result<(), AllocError> {
     put_gutter(out, gutter)?;
@@ -257,7 +228,6 @@ fn put_plus_row(out: &mut String, gutter: Gutter, parts: &[Part<'_>]) -> Result<
 }
 
 /// Returns whether a line has nothing but an addition that ends it.
-// ensures { result ≡ is_whole (map seen_part parts.now) }
 #[inline]
 fn is_whole(parts: &[Part<'_>]) -> bool {
     match parts {
@@ -267,9 +237,6 @@ fn is_whole(parts: &[Part<'_>]) -> bool {
 }
 
 /// Adds the rows of a line in which something is added.
-// requires { number < 2 ^ 61 }
-// ensures { OnOk result (string_bytes out.new ≡ string_bytes out.old
-//     ++ inserted_rows (seen_frame frame.now) number (map seen_line lines.now)) }
 #[inline]
 fn put_inserted(
     out: &mut String,
@@ -291,10 +258,6 @@ fn put_inserted(
 }
 
 /// Adds the rows of parts in one new line.
-// requires { number < 2 ^ 59 }
-// ensures { OnOk result (string_bytes out.new ≡ string_bytes out.old
-//     ++ line_rows (seen_frame frame.now) number (map seen_part parts.now)
-//     (map seen_line new.now)) }
 #[inline]
 fn put_line_rows(
     out: &mut String,
@@ -316,10 +279,6 @@ fn put_line_rows(
 }
 
 /// Adds the rows of parts with these new lines.
-// requires { number < 2 ^ 59 }
-// ensures { OnOk result (string_bytes out.new ≡ string_bytes out.old
-//     ++ new_rows (seen_frame frame.now) number (map seen_part parts.now)
-//     (map seen_line new.now)) }
 #[inline]
 fn put_new_rows(
     out: &mut String,
@@ -340,8 +299,6 @@ fn put_new_rows(
 }
 
 /// Returns the parts of edits from a line on.
-// ensures { IfOk result (λ v. map seen_part v.items
-//     ≡ edited_parts (seen_frame frame.now) number (map seen_edit edits.now)) }
 #[inline]
 fn edited_parts<'a>(
     frame: &Frame<'a>,
@@ -354,9 +311,6 @@ fn edited_parts<'a>(
 }
 
 /// Adds the rows of edits from a line on.
-// requires { number < 2 ^ 59 }
-// ensures { OnOk result (string_bytes out.new ≡ string_bytes out.old
-//     ++ rows_from (seen_frame frame.now) number (map seen_edit edits.now)) }
 #[inline]
 fn put_from(
     out: &mut String,
@@ -372,8 +326,6 @@ fn put_from(
 }
 
 /// Adds the rows of edits.
-// ensures { OnOk result (string_bytes out.new ≡ string_bytes out.old
-//     ++ edits_rows (seen_frame frame.now) (map seen_edit edits.now)) }
 #[inline]
 pub fn put_edits(
     out: &mut String,

@@ -1,9 +1,7 @@
-//! Rows of lines with edits. A function whose name begins with `put_` appends to `out`, and returns
-//! `Err` if an allocation fails.
+//! Rows of lines with edits. A function whose name begins with `put_` appends to `out`.
 
 // Extracted from crates/drawn_edits/src/edit_rows.rt by tools/extract: not to be edited.
-// That source is proved, and each contract here is its. That this text means the same is tested:
-// by results from outside, and beside what is proved (.ci/bindings) and the original (tools/agree).
+// That source has the contracts, and is proved. That this text means the same is only tested.
 
 use crate::proved::drawn_edits::edited::{Line, Part};
 use crate::proved::drawn_lines::{
@@ -14,8 +12,6 @@ use crate::shim::alloc::AllocError;
 use crate::shim::prelude::*;
 
 /// Adds parts of a line without their colours.
-// ensures { OnOk result (string_bytes out.new ≡ string_bytes out.old
-//     ++ plain_text (drawn (map seen_part parts.now))) }
 #[inline]
 fn put_plain(out: &mut String, parts: &[Part<'_>]) -> Result<(), AllocError> {
     for part in parts {
@@ -25,9 +21,6 @@ fn put_plain(out: &mut String, parts: &[Part<'_>]) -> Result<(), AllocError> {
 }
 
 /// Adds parts of a line in colours, after a sign of this style.
-// requires { (length sign.now == 0) ≡ false }
-// ensures { OnOk result (string_bytes out.new ≡ string_bytes out.old
-//     ++ pieces_after palette Plain (piece style sign.now ∷ drawn (map seen_part parts.now))) }
 #[inline]
 fn put_coloured(
     out: &mut String,
@@ -46,9 +39,6 @@ fn put_coloured(
 }
 
 /// Adds parts of a line, after a sign of this style.
-// requires { (length sign.now == 0) ≡ false }
-// ensures { OnOk result (string_bytes out.new ≡ string_bytes out.old
-//     ++ pieces palette (piece style sign.now ∷ drawn (map seen_part parts.now))) }
 #[inline]
 fn put_parts(
     out: &mut String,
@@ -66,10 +56,6 @@ fn put_parts(
 }
 
 /// Adds the row of a line with a number, after a sign of this style.
-// requires number { number < 2 ^ 61 }
-// requires sign { (length sign.now == 0) ≡ false }
-// ensures { OnOk result (string_bytes out.new ≡ string_bytes out.old
-//     ++ sign_row (seen_frame frame.now) style sign.now number (map seen_part parts.now)) }
 #[inline]
 pub fn put_sign_row(
     out: &mut String,
@@ -87,10 +73,6 @@ pub fn put_sign_row(
 }
 
 /// Adds the rows of lines after a sign of this style, from a number on.
-// requires number { number + length lines.now < 2 ^ 61 }
-// requires sign { (length sign.now == 0) ≡ false }
-// ensures { OnOk result (string_bytes out.new ≡ string_bytes out.old
-//     ++ sign_rows (seen_frame frame.now) style sign.now number (map seen_line lines.now)) }
 #[inline]
 pub fn put_sign_rows(
     out: &mut String,
@@ -107,7 +89,6 @@ pub fn put_sign_rows(
 }
 
 /// Returns whether nothing is drawn of parts of a line.
-// ensures { result ≡ (length (plain_text (drawn (map seen_part parts.now))) == 0) }
 #[inline]
 fn draw_nothing(parts: &[Part<'_>]) -> bool {
     for part in parts {
@@ -119,8 +100,6 @@ fn draw_nothing(parts: &[Part<'_>]) -> bool {
 }
 
 /// Adds the text after the bar of a line.
-// ensures { OnOk result (string_bytes out.new ≡ string_bytes out.old
-//     ++ spaced (plain_text (drawn (map seen_part parts.now)))) }
 #[inline]
 fn put_spaced(out: &mut String, parts: &[Part<'_>]) -> Result<(), AllocError> {
     if !draw_nothing(parts) {
@@ -131,9 +110,6 @@ fn put_spaced(out: &mut String, parts: &[Part<'_>]) -> Result<(), AllocError> {
 }
 
 /// Adds the row of a line with a number that no edit changes.
-// requires { number < 2 ^ 61 }
-// ensures { OnOk result (string_bytes out.new ≡ string_bytes out.old
-//     ++ kept_row (seen_frame frame.now) number (map seen_part parts.now)) }
 #[inline]
 pub fn put_kept_row(
     out: &mut String,
@@ -148,9 +124,6 @@ pub fn put_kept_row(
 }
 
 /// Adds the rows of such lines, from a number on.
-// requires { number + length lines.now < 2 ^ 61 }
-// ensures { OnOk result (string_bytes out.new ≡ string_bytes out.old
-//     ++ kept_rows (seen_frame frame.now) number (map seen_line lines.now)) }
 #[inline]
 fn put_kept_rows(
     out: &mut String,
@@ -165,11 +138,6 @@ fn put_kept_rows(
 }
 
 /// Adds the rows of lines from the number `n` on, and of others from `m` on, and dots between them.
-// requires first { n + length first.now < 2 ^ 61 }
-// requires last { m + length last.now < 2 ^ 61 }
-// ensures { OnOk result (string_bytes out.new ≡ string_bytes out.old
-//     ++ kept_ends (seen_frame frame.now) n m (map seen_line first.now)
-//     (map seen_line last.now)) }
 #[inline]
 fn put_kept_ends(
     out: &mut String,
@@ -188,9 +156,6 @@ fn put_kept_ends(
 
 /// Adds the rows of such lines in front of a changed one: of more than three the first and the last
 /// one.
-// requires { number + length lines.now < 2 ^ 61 }
-// ensures { OnOk result (string_bytes out.new ≡ string_bytes out.old
-//     ++ kept_lines (seen_frame frame.now) number (map seen_line lines.now)) }
 #[inline]
 pub fn put_kept_lines(
     out: &mut String,

@@ -2,8 +2,7 @@
 //! fails.
 
 // Extracted from crates/drawn_edits/src/edited.rt by tools/extract: not to be edited.
-// That source is proved, and each contract here is its. That this text means the same is tested:
-// by results from outside, and beside what is proved (.ci/bindings) and the original (tools/agree).
+// That source has the contracts, and is proved. That this text means the same is only tested.
 
 use crate::proved::drawn_lines::{
     extent_of, offsets, rank, split_first, split_line, Extent, Picture, Style,
@@ -27,10 +26,6 @@ pub struct Edit<'a> {
 }
 
 /// Returns an edit with its place in the source.
-// requires { length picture.now.source.now < 2 ^ 59 }
-// ensures value { seen_edit result ≡ placed (seen_picture picture.now) text.now (pair range.now) }
-// ensures small { result.extent.end.line < 2 ^ 59 }
-// ensures small_start { result.extent.start.line < 2 ^ 59 }
 #[inline]
 pub fn placed_edit<'a>(picture: &Picture<'_>, text: &'a str, range: &Range<usize>) -> Edit<'a> {
     let (from, to) = offsets(picture, range);
@@ -59,8 +54,6 @@ pub struct Line<'a> {
 
 /// Returns the first characters of a text, as many as end within `width` bytes, and what is after
 /// them.
-// ensures front { result.0.now ≡ front width text.now }
-// ensures rest_after { result.1.now ≡ rest_after width text.now }
 #[inline]
 pub fn split_within(text: &str, width: usize) -> (&str, &str) {
     let mut rest = text;
@@ -77,8 +70,6 @@ pub fn split_within(text: &str, width: usize) -> (&str, &str) {
 
 /// Returns the parts of a text at the byte offset `start` of the source, from its first line to the
 /// end of the line in which the last edit ends.
-// ensures { IfOk result (λ v. map seen_part v.items
-//     ≡ parts start (map seen_edit edits.now) text.now) }
 #[inline]
 pub fn parts_of<'a>(
     start: usize,
@@ -117,9 +108,6 @@ pub fn parts_of<'a>(
 }
 
 /// Adds a part of a line, and ends the line.
-// ensures { OnOk result (seen_page lines.new.items row.new.items
-//     ≡ with_line part.entry.style part.entry.text.now
-//     (seen_page lines.old.items row.old.items)) }
 #[inline]
 fn end_line<'a>(
     lines: &mut Vec<Line<'a>>,
@@ -133,19 +121,12 @@ fn end_line<'a>(
 }
 
 /// Returns the first line of a text and the text after it, or `None` if the text has one line.
-// ensures lines { MatchOption result (slice_split is_line_feed text.now ≡ text.now ∷ [])
-//     (λ x. slice_split is_line_feed text.now
-//     ≡ x.0.now ∷ slice_split is_line_feed x.1.now) }
-// ensures shorter { IfSome result (λ x. length x.1.now < length text.now) }
 #[inline]
 fn split_feed(text: &str) -> Option<(&str, &str)> {
     text.split_once('\n')
 }
 
 /// Adds a text of a style after lines.
-// ensures { OnOk result (seen_page lines.new.items row.new.items
-//     ≡ with_texts style (slice_split is_line_feed text.now)
-//     (seen_page lines.old.items row.old.items)) }
 #[inline]
 fn push_text<'a>(
     lines: &mut Vec<Line<'a>>,
@@ -163,9 +144,6 @@ fn push_text<'a>(
 }
 
 /// Adds parts after lines, but for those of the style `style`.
-// ensures { OnOk result (seen_page lines.new.items row.new.items
-//     ≡ with_parts style (map seen_part parts.now)
-//     (seen_page lines.old.items row.old.items)) }
 #[inline]
 fn push_parts<'a>(
     lines: &mut Vec<Line<'a>>,
@@ -182,7 +160,6 @@ fn push_parts<'a>(
 }
 
 /// Returns whether parts have no text.
-// ensures { result ≡ have_no_text (map seen_part parts.now) }
 #[inline]
 fn have_no_text(parts: &[Part<'_>]) -> bool {
     for part in parts {
@@ -194,7 +171,6 @@ fn have_no_text(parts: &[Part<'_>]) -> bool {
 }
 
 /// Returns how many of lines there are up to the last one with a text.
-// ensures { result ≡ count_to_text 0 0 (map seen_line lines.now) }
 #[inline]
 fn count_to_text(lines: &[Line<'_>]) -> usize {
     let mut count = 0;
@@ -208,10 +184,6 @@ fn count_to_text(lines: &[Line<'_>]) -> usize {
 
 /// Adds the lines of parts without what they remove. Leaves out what is after the last edit if the
 /// text of that edit ends a line.
-// requires no_lines { lines.now.items ≡ [] }
-// requires no_row { row.now.items ≡ [] }
-// ensures { OnOk result (seen_page lines.new.items row.new.items
-//     ≡ new_page (map seen_part parts.now)) }
 #[inline]
 fn push_new<'a>(
     lines: &mut Vec<Line<'a>>,
@@ -228,7 +200,6 @@ fn push_new<'a>(
 }
 
 /// Returns the new lines of parts, without those at their end that have no text.
-// ensures { IfOk result (λ v. map seen_line v.items ≡ new_lines (map seen_part parts.now)) }
 #[inline]
 pub fn new_lines<'a>(parts: &[Part<'a>]) -> Result<Vec<Line<'a>>, AllocError> {
     let mut lines = Vec::new();
@@ -241,7 +212,6 @@ pub fn new_lines<'a>(parts: &[Part<'a>]) -> Result<Vec<Line<'a>>, AllocError> {
 }
 
 /// Returns the lines of parts without what they add.
-// ensures { IfOk result (λ v. map seen_line v.items ≡ old_lines (map seen_part parts.now)) }
 #[inline]
 pub fn old_lines<'a>(parts: &[Part<'a>]) -> Result<Vec<Line<'a>>, AllocError> {
     let mut lines = Vec::new();
@@ -252,7 +222,6 @@ pub fn old_lines<'a>(parts: &[Part<'a>]) -> Result<Vec<Line<'a>>, AllocError> {
 }
 
 /// Returns whether parts are white space.
-// ensures { result ≡ are_blank (map seen_part parts.now) }
 #[inline]
 pub fn are_blank(parts: &[Part<'_>]) -> bool {
     for part in parts {
@@ -264,14 +233,12 @@ pub fn are_blank(parts: &[Part<'_>]) -> bool {
 }
 
 /// Returns whether a part is an addition.
-// ensures { result ≡ is_added (seen_part part.now) }
 #[inline]
 pub fn is_added(part: &Part<'_>) -> bool {
     matches!(part.style, Style::Addition)
 }
 
 /// Returns whether one of parts is an addition.
-// ensures { result ≡ list_any is_added (map seen_part parts.now) }
 #[inline]
 pub fn have_addition(parts: &[Part<'_>]) -> bool {
     for part in parts {
@@ -283,7 +250,6 @@ pub fn have_addition(parts: &[Part<'_>]) -> bool {
 }
 
 /// Returns whether edits remove something that is no white space.
-// ensures { result ≡ do_remove (map seen_part parts.now) }
 #[inline]
 pub fn do_remove(parts: &[Part<'_>]) -> bool {
     for part in parts {
@@ -295,8 +261,6 @@ pub fn do_remove(parts: &[Part<'_>]) -> bool {
 }
 
 /// Adds the text of parts.
-// ensures { OnOk result (string_bytes out.new ≡ string_bytes out.old
-//     ++ plain_text (map seen_part parts.now)) }
 #[inline]
 fn put_text(out: &mut String, parts: &[Part<'_>]) -> Result<(), AllocError> {
     for part in parts {
@@ -306,7 +270,6 @@ fn put_text(out: &mut String, parts: &[Part<'_>]) -> Result<(), AllocError> {
 }
 
 /// Returns the text of lines.
-// ensures { IfOk result (λ s. string_bytes s ≡ text_of (map seen_line lines.now)) }
 #[inline]
 fn text_of(lines: &[Line<'_>]) -> Result<String, AllocError> {
     let mut text = String::new();
@@ -317,8 +280,6 @@ fn text_of(lines: &[Line<'_>]) -> Result<String, AllocError> {
 }
 
 /// Returns whether the text of the last old line is that of the only new one.
-// ensures { IfOk result (λ b. b
-//     ≡ is_same_end (map seen_line old.now) (map seen_line new.now)) }
 #[inline]
 pub fn is_same_end(old: &[Line<'_>], new: &[Line<'_>]) -> Result<bool, AllocError> {
     let [line, ..] = new else {

@@ -1,8 +1,7 @@
 //! Edits of a source as rustc draws them: the lines that they change, and the new ones.
 
 // Extracted from crates/drawn_edits/src/lib.rt by tools/extract: not to be edited.
-// That source is proved, and each contract here is its. That this text means the same is tested:
-// by results from outside, and beside what is proved (.ci/bindings) and the original (tools/agree).
+// That source has the contracts, and is proved. That this text means the same is only tested.
 
 pub(crate) mod changes;
 pub(crate) mod edit_rows;

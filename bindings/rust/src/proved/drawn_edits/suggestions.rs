@@ -1,9 +1,8 @@
 //! A suggestion with its old and its new lines. A function whose name begins with `put_` appends to
-//! `out`, and returns `Err` if an allocation fails.
+//! `out`.
 
 // Extracted from crates/drawn_edits/src/suggestions.rt by tools/extract: not to be edited.
-// That source is proved, and each contract here is its. That this text means the same is tested:
-// by results from outside, and beside what is proved (.ci/bindings) and the original (tools/agree).
+// That source has the contracts, and is proved. That this text means the same is only tested.
 
 use crate::proved::drawn_edits::changes::put_edits;
 use crate::proved::drawn_edits::edited::Edit;
@@ -12,7 +11,6 @@ use crate::shim::alloc::AllocError;
 use crate::shim::prelude::*;
 
 /// Adds the word that a help begins with.
-// ensures { OnOk result (string_bytes out.new ≡ string_bytes out.old ++ help_word palette) }
 #[inline]
 pub fn put_help_word(out: &mut String, palette: Palette) -> Result<(), AllocError> {
     put_painted(out, palette, Style::Help, "help")?;
@@ -21,8 +19,6 @@ pub fn put_help_word(out: &mut String, palette: Palette) -> Result<(), AllocErro
 }
 
 /// Adds the title of a suggestion.
-// ensures { OnOk result (string_bytes out.new
-//     ≡ string_bytes out.old ++ help_title palette text.now) }
 #[inline]
 fn put_help_title(out: &mut String, palette: Palette, text: &str) -> Result<(), AllocError> {
     put_help_word(out, palette)?;
@@ -33,8 +29,6 @@ fn put_help_title(out: &mut String, palette: Palette, text: &str) -> Result<(), 
 }
 
 /// Adds the rows of an edit.
-// ensures { OnOk result (string_bytes out.new ≡ string_bytes out.old
-//     ++ edit_rows (seen_frame frame.now) (seen_edit edit.now)) }
 #[inline]
 pub fn put_edit(out: &mut String, frame: &Frame<'_>, edit: &Edit<'_>) -> Result<(), AllocError> {
     put_help_title(out, frame.gutter.palette, edit.text)?;

@@ -1,10 +1,8 @@
 //! The drawing of a diagnostic under its source: a title, several labels, notes and helps. A
-//! function whose name begins with `put_` appends to `out`, and returns `Err` if an allocation
-//! fails.
+//! function whose name begins with `put_` appends to `out`.
 
 // Extracted from crates/drawn_faults/src/diagnostics.rt by tools/extract: not to be edited.
-// That source is proved, and each contract here is its. That this text means the same is tested:
-// by results from outside, and beside what is proved (.ci/bindings) and the original (tools/agree).
+// That source has the contracts, and is proved. That this text means the same is only tested.
 
 use crate::proved::drawn_faults::helps::{last_help_line, put_helps, SourceHelp};
 use crate::proved::drawn_faults::marked::{frame_of, last_label_line};
@@ -53,9 +51,6 @@ pub struct Diagnostic<'a> {
 }
 
 /// Returns a label with its place in the source.
-// requires { length picture.now.source.now < 2 ^ 59 }
-// ensures { seen_label result
-//     ≡ label_of (seen_picture picture.now) (seen_source_label label.now) }
 #[inline]
 fn label_of<'a>(picture: &Picture<'_>, label: &SourceLabel<'a>) -> Label<'a> {
     Label {
@@ -66,9 +61,6 @@ fn label_of<'a>(picture: &Picture<'_>, label: &SourceLabel<'a>) -> Label<'a> {
 }
 
 /// Returns labels with their places in the source.
-// requires { length picture.now.source.now < 2 ^ 59 }
-// ensures { IfOk result (λ v. map seen_label v.items
-//     ≡ map (label_of (seen_picture picture.now)) (map seen_source_label labels.now)) }
 #[inline]
 fn labels_of<'a>(
     picture: &Picture<'_>,
@@ -82,11 +74,6 @@ fn labels_of<'a>(
 }
 
 /// Returns the gutter of a diagnostic with these labels.
-// requires source { length picture.now.source.now < 2 ^ 59 }
-// requires labels { map seen_label labels.now ≡ map (label_of (seen_picture picture.now))
-//     (seen_diagnostic diagnostic.now).labels }
-// ensures { IfOk result (λ n. n
-//     ≡ gutter_of (seen_picture picture.now) (seen_diagnostic diagnostic.now)) }
 #[inline]
 fn gutter_of(
     picture: &Picture<'_>,
@@ -102,8 +89,6 @@ fn gutter_of(
 }
 
 /// Adds the row between the labels and what is below them, if there is anything.
-// ensures { OnOk result (string_bytes out.new ≡ string_bytes out.old
-//     ++ parting_above (seen_frame frame.now) (seen_diagnostic diagnostic.now)) }
 #[inline]
 fn put_parting_above(
     out: &mut String,
@@ -118,7 +103,6 @@ fn put_parting_above(
 }
 
 /// Returns the word that a title begins with.
-// ensures { result.now ≡ level_word (is_warning level) }
 #[inline]
 fn level_word(level: Level) -> &'static str {
     match level {
@@ -128,7 +112,6 @@ fn level_word(level: Level) -> &'static str {
 }
 
 /// Returns the level whose colours a diagnostic has.
-// ensures { result ≡ level_of (is_warning level) }
 #[inline]
 fn level_of(level: Level) -> Palette {
     match level {
@@ -138,10 +121,6 @@ fn level_of(level: Level) -> Palette {
 }
 
 /// Adds the drawing of a diagnostic with these labels in a layout.
-// requires source { length frame.now.picture.now.source.now < 2 ^ 59 }
-// ensures { OnOk result (string_bytes out.new ≡ string_bytes out.old
-//     ++ drawn_in (seen_frame frame.now) (seen_diagnostic diagnostic.now)
-//     (map seen_label labels.now)) }
 #[inline]
 fn put_drawn(
     out: &mut String,
@@ -165,9 +144,6 @@ fn put_drawn(
 }
 
 /// Adds the drawing of a diagnostic.
-// requires { length picture.now.source.now < 2 ^ 59 }
-// ensures { OnOk result (string_bytes out.new ≡ string_bytes out.old
-//     ++ diagnostic_text (seen_picture picture.now) (seen_diagnostic diagnostic.now)) }
 #[inline]
 fn put_diagnostic(
     out: &mut String,
@@ -183,13 +159,6 @@ fn put_diagnostic(
 
 /// Appends the text that [`draw_labels`] returns to `out`. Returns `Err` if an allocation fails, or
 /// if the source has 2^59 bytes or more; a part of the text may then be in `out`.
-// ensures drawn { OnOk result (string_bytes out.new ≡ string_bytes out.old
-//     ++ diagnostic_text (seen_picture picture.now) (seen_diagnostic diagnostic.now)) }
-// ensures coloured { IsColourOf
-//     (diagnostic_text (seen_picture picture.now) (seen_diagnostic diagnostic.now))
-//     (diagnostic_text (uncoloured (seen_picture picture.now)) (seen_diagnostic diagnostic.now)) }
-// ensures harmless { IsHarmlessWith picture.now.colours
-//     (diagnostic_text (seen_picture picture.now) (seen_diagnostic diagnostic.now)) }
 #[inline]
 pub fn put_labels(
     out: &mut String,

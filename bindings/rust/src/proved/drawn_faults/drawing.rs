@@ -1,9 +1,8 @@
 //! The text that shows a fault under its source. A function whose name begins with `put_` appends
-//! to `out`, and returns `Err` if an allocation fails.
+//! to `out`.
 
 // Extracted from crates/drawn_faults/src/drawing.rt by tools/extract: not to be edited.
-// That source is proved, and each contract here is its. That this text means the same is tested:
-// by results from outside, and beside what is proved (.ci/bindings) and the original (tools/agree).
+// That source has the contracts, and is proved. That this text means the same is only tested.
 
 use crate::proved::drawn_edits::{put_edit, Edit};
 use crate::proved::drawn_faults::labels::{edit_of, frame_for, second, text_name};
@@ -17,9 +16,6 @@ use crate::shim::alloc::AllocError;
 use crate::shim::prelude::*;
 
 /// Adds the start of all titles, up to the name of the text, in which the style goes on.
-// ensures { OnOk result (string_bytes out.new ≡ string_bytes out.old
-//     ++ (painted palette Primary (codes "error") ++ (opening palette Bold
-//     ++ codes ": invalid "))) }
 #[inline]
 fn put_title_start(out: &mut String, palette: Palette) -> Result<(), AllocError> {
     if !has_colours(palette) {
@@ -32,8 +28,6 @@ fn put_title_start(out: &mut String, palette: Palette) -> Result<(), AllocError>
 }
 
 /// Adds the title of the error.
-// ensures { OnOk result (string_bytes out.new ≡ string_bytes out.old
-//     ++ title palette (seen_mode mode) description.now) }
 #[inline]
 fn put_title(
     out: &mut String,
@@ -51,10 +45,6 @@ fn put_title(
 }
 
 /// Adds where the text is that the error is about.
-// requires line { at.line < 2 ^ 59 }
-// requires chars { at.chars < 2 ^ 59 }
-// ensures { OnOk result (string_bytes out.new ≡ string_bytes out.old
-//     ++ arrow (seen_frame frame.now) at) }
 #[inline]
 pub fn put_arrow(out: &mut String, frame: &Frame<'_>, at: Spot) -> Result<(), AllocError> {
     let line = frame.picture.line_start as usize + at.line;
@@ -71,10 +61,6 @@ pub fn put_arrow(out: &mut String, frame: &Frame<'_>, at: Spot) -> Result<(), Al
 }
 
 /// Adds the lines above the source.
-// requires line { at.line < 2 ^ 59 }
-// requires chars { at.chars < 2 ^ 59 }
-// ensures { OnOk result (string_bytes out.new ≡ string_bytes out.old
-//     ++ head (seen_mode mode) (seen_frame frame.now) description.now at) }
 #[inline]
 fn put_head(
     out: &mut String,
@@ -90,12 +76,6 @@ fn put_head(
 }
 
 /// Adds the lines of a label that is alone.
-// requires number { label.now.extent.start.line < 2 ^ 59 }
-// requires last { label.now.extent.end.line < 2 ^ 59 }
-// requires column { label.now.extent.start.column < 2 ^ 61 }
-// requires source { length frame.now.picture.now.source.now < 2 ^ 59 }
-// ensures { OnOk result (string_bytes out.new ≡ string_bytes out.old
-//     ++ labelled_rows (seen_frame frame.now) (seen_label label.now) None) }
 #[inline]
 fn put_label(out: &mut String, frame: &Frame<'_>, label: &Label<'_>) -> Result<(), AllocError> {
     if label.extent.start.line == label.extent.end.line {
@@ -107,15 +87,6 @@ fn put_label(out: &mut String, frame: &Frame<'_>, label: &Label<'_>) -> Result<(
 }
 
 /// Adds the lines with labels.
-// requires number { label.now.extent.start.line < 2 ^ 59 }
-// requires last { label.now.extent.end.line < 2 ^ 59 }
-// requires column { label.now.extent.start.column < 2 ^ 61 }
-// requires second_number { IfSome second.now (λ l. l.extent.start.line < 2 ^ 59) }
-// requires second_column { IfSome second.now (λ l. l.extent.start.column < 2 ^ 61) }
-// requires source { length frame.now.picture.now.source.now < 2 ^ 59 }
-// ensures { OnOk result (string_bytes out.new ≡ string_bytes out.old
-//     ++ labelled_rows (seen_frame frame.now) (seen_label label.now)
-//     (option_map seen_label second.now)) }
 #[inline]
 fn put_labels(
     out: &mut String,
@@ -134,7 +105,6 @@ fn put_labels(
 }
 
 /// Adds the start of a note.
-// ensures { OnOk result (string_bytes out.new ≡ string_bytes out.old ++ note_word gutter) }
 #[inline]
 pub fn put_note_word(out: &mut String, gutter: Gutter) -> Result<(), AllocError> {
     put_run(out, ' ', gutter.columns)?;
@@ -143,8 +113,6 @@ pub fn put_note_word(out: &mut String, gutter: Gutter) -> Result<(), AllocError>
 }
 
 /// Adds the row of a note, if there is one.
-// ensures { OnOk result (string_bytes out.new ≡ string_bytes out.old
-//     ++ note_row gutter (option_map string_bytes note.now)) }
 #[inline]
 fn put_note(out: &mut String, gutter: Gutter, note: &Option<String>) -> Result<(), AllocError> {
     if let Some(note) = note {
@@ -156,9 +124,6 @@ fn put_note(out: &mut String, gutter: Gutter, note: &Option<String>) -> Result<(
 }
 
 /// Adds the row between the labels and what is below them, if there is anything.
-// ensures { OnOk result (string_bytes out.new ≡ string_bytes out.old
-//     ++ parting_before (seen_frame frame.now) (option_map string_bytes note.now)
-//     (option_map seen_edit edit.now)) }
 #[inline]
 fn put_parting_before(
     out: &mut String,
@@ -173,10 +138,6 @@ fn put_parting_before(
 }
 
 /// Adds the rows of an edit, if there is one.
-// requires first { IfSome edit.now (λ e. e.extent.start.line < 2 ^ 59) }
-// requires last { IfSome edit.now (λ e. e.extent.end.line < 2 ^ 59) }
-// ensures { OnOk result (string_bytes out.new ≡ string_bytes out.old
-//     ++ help_rows (seen_frame frame.now) (option_map seen_edit edit.now)) }
 #[inline]
 fn put_help(
     out: &mut String,
@@ -190,11 +151,6 @@ fn put_help(
 }
 
 /// Adds the rows below the labels.
-// requires first { IfSome edit.now (λ e. e.extent.start.line < 2 ^ 59) }
-// requires last { IfSome edit.now (λ e. e.extent.end.line < 2 ^ 59) }
-// ensures { OnOk result (string_bytes out.new ≡ string_bytes out.old
-//     ++ below (seen_frame frame.now) (option_map string_bytes note.now)
-//     (option_map seen_edit edit.now)) }
 #[inline]
 fn put_below(
     out: &mut String,
@@ -209,15 +165,6 @@ fn put_below(
 }
 
 /// Adds the drawing of an error with this label.
-// requires source { length picture.now.source.now < 2 ^ 59 }
-// requires label { seen_label label.now
-//     ≡ primary (seen_mode mode) (seen_picture picture.now) (seen_error error.now) }
-// requires number { label.now.extent.start.line < 2 ^ 59 }
-// requires last { label.now.extent.end.line < 2 ^ 59 }
-// requires chars { label.now.extent.start.chars < 2 ^ 59 }
-// requires column { label.now.extent.start.column < 2 ^ 61 }
-// ensures { OnOk result (string_bytes out.new ≡ string_bytes out.old
-//     ++ drawing (seen_mode mode) (seen_picture picture.now) (seen_error error.now)) }
 #[inline]
 fn put_with_label(
     out: &mut String,
@@ -281,20 +228,6 @@ fn least_length(picture: &Picture<'_>, error: &ParseError) -> usize {
 /// A span that does not fit is drawn too: an offset inside a character means the start of that
 /// character, one after the source its end, and a range that ends before it begins is empty.
 /// Returns `Err` if an allocation fails, or if the source has 2^59 bytes or more.
-// ensures drawn { IfOk result (λ s. string_bytes s
-//     ≡ drawing (seen_mode mode) (seen_picture picture.now) (seen_error error.now)) }
-// Without its colours it is the drawing without colours, and a terminal obeys nothing of it but
-// these.
-// ensures coloured { IfOk result (λ s. IsColourOf (string_bytes s)
-//     (drawing (seen_mode mode) (uncoloured (seen_picture picture.now)) (seen_error error.now))) }
-// ensures harmless { IfOk result (λ s. IsHarmlessWith picture.now.colours (string_bytes s)) }
-// The line and the column that it names are those of the span's first character in the source.
-// ensures arrow { IfOk result (λ s. PointsAt (seen_mode mode) (seen_picture picture.now)
-//     (seen_error error.now) (string_bytes s)) }
-// It shows the lines of its labels, with their signs in their columns and no sign elsewhere.
-// ensures labels { IfOk result (λ s. picture.now.colours ≡ false
-//     → ShowsLabels (seen_mode mode) (seen_picture picture.now) (seen_error error.now)
-//     (string_bytes s)) }
 #[inline]
 pub fn draw(
     mode: ParseMode,
@@ -308,13 +241,6 @@ pub fn draw(
 
 /// Appends the text that [`draw`] returns to `out`. Returns `Err` if an allocation fails, or if the
 /// source has 2^59 bytes or more; a part of the text may then be in `out`.
-// ensures drawn { OnOk result (string_bytes out.new ≡ string_bytes out.old
-//     ++ drawing (seen_mode mode) (seen_picture picture.now) (seen_error error.now)) }
-// ensures coloured { IsColourOf
-//     (drawing (seen_mode mode) (seen_picture picture.now) (seen_error error.now))
-//     (drawing (seen_mode mode) (uncoloured (seen_picture picture.now)) (seen_error error.now)) }
-// ensures harmless { IsHarmlessWith picture.now.colours
-//     (drawing (seen_mode mode) (seen_picture picture.now) (seen_error error.now)) }
 #[inline]
 pub fn put_drawing(
     out: &mut String,

@@ -1,9 +1,7 @@
-//! Helps of a diagnostic. A function whose name begins with `put_` appends to `out`, and returns
-//! `Err` if an allocation fails.
+//! Helps of a diagnostic. A function whose name begins with `put_` appends to `out`.
 
 // Extracted from crates/drawn_faults/src/helps.rt by tools/extract: not to be edited.
-// That source is proved, and each contract here is its. That this text means the same is tested:
-// by results from outside, and beside what is proved (.ci/bindings) and the original (tools/agree).
+// That source has the contracts, and is proved. That this text means the same is only tested.
 
 use crate::proved::drawn_edits::{placed_edit, put_edits, put_help_word, Edit};
 use crate::proved::drawn_faults::marked::last_edit_line;
@@ -23,9 +21,6 @@ pub struct SourceHelp<'a> {
 }
 
 /// Returns edits with their places in the source.
-// requires { length picture.now.source.now < 2 ^ 59 }
-// ensures { IfOk result (λ v. map seen_edit v.items
-//     ≡ map (placed_edit (seen_picture picture.now)) (map seen_source_edit edits.now)) }
 #[inline]
 fn placed_edits<'a>(
     picture: &Picture<'_>,
@@ -39,11 +34,6 @@ fn placed_edits<'a>(
 }
 
 /// Returns the last line that helps edit, or `last` if that is further down.
-// requires source { length picture.now.source.now < 2 ^ 59 }
-// requires small { last < 2 ^ 59 }
-// ensures value { IfOk result (λ n. n
-//     ≡ last_help_line (seen_picture picture.now) last (map seen_help helps.now)) }
-// ensures small { IfOk result (λ n. n < 2 ^ 59) }
 #[inline]
 pub fn last_help_line(
     picture: &Picture<'_>,
@@ -59,7 +49,6 @@ pub fn last_help_line(
 }
 
 /// Adds the start of a help without edits.
-// ensures { OnOk result (string_bytes out.new ≡ string_bytes out.old ++ help_row_word gutter) }
 #[inline]
 fn put_help_row_word(out: &mut String, gutter: Gutter) -> Result<(), AllocError> {
     put_run(out, ' ', gutter.columns)?;
@@ -71,8 +60,6 @@ fn put_help_row_word(out: &mut String, gutter: Gutter) -> Result<(), AllocError>
 }
 
 /// Adds a help without edits, as a row.
-// ensures { OnOk result (string_bytes out.new ≡ string_bytes out.old
-//     ++ (help_row_word gutter ++ (indented gutter (chars text.now) ++ codes "\n"))) }
 #[inline]
 fn put_help_row(out: &mut String, gutter: Gutter, text: &str) -> Result<(), AllocError> {
     put_help_row_word(out, gutter)?;
@@ -82,9 +69,6 @@ fn put_help_row(out: &mut String, gutter: Gutter, text: &str) -> Result<(), Allo
 }
 
 /// Adds a help and its edits.
-// requires { length frame.now.picture.now.source.now < 2 ^ 59 }
-// ensures { OnOk result (string_bytes out.new ≡ string_bytes out.old
-//     ++ help_rows (seen_frame frame.now) (seen_help help.now)) }
 #[inline]
 fn put_help(out: &mut String, frame: &Frame<'_>, help: &SourceHelp<'_>) -> Result<(), AllocError> {
     if help.edits.is_empty() {
@@ -100,9 +84,6 @@ fn put_help(out: &mut String, frame: &Frame<'_>, help: &SourceHelp<'_>) -> Resul
 }
 
 /// Adds helps.
-// requires { length frame.now.picture.now.source.now < 2 ^ 59 }
-// ensures { OnOk result (string_bytes out.new ≡ string_bytes out.old
-//     ++ helps_rows (seen_frame frame.now) (map seen_help helps.now)) }
 #[inline]
 pub fn put_helps(
     out: &mut String,

@@ -1,8 +1,7 @@
 //! The labels and the edit of an error, with their places in the source.
 
 // Extracted from crates/drawn_faults/src/labels.rt by tools/extract: not to be edited.
-// That source is proved, and each contract here is its. That this text means the same is tested:
-// by results from outside, and beside what is proved (.ci/bindings) and the original (tools/agree).
+// That source has the contracts, and is proved. That this text means the same is only tested.
 
 use crate::proved::drawn_edits::{placed_edit, Edit};
 use crate::proved::drawn_labels::{window_of, Label};
@@ -14,7 +13,6 @@ use crate::proved::rustc_parse_format::{ParseError, ParseMode, Suggestion};
 use core::ops::Range;
 
 /// Returns the name of the compiler for the text of a literal in a mode.
-// ensures { result.now ≡ text_name (seen_mode mode) }
 #[inline]
 pub fn text_name(mode: ParseMode) -> &'static str {
     match mode {
@@ -24,9 +22,6 @@ pub fn text_name(mode: ParseMode) -> &'static str {
 }
 
 /// Returns the text and the range of the second label, or `None` if there is none.
-// ensures { option_map (λ x. (x.0.now, pair x.1.now)) result
-//     ≡ second_text (seen_error error.now).second
-//     (offered (seen_mode mode) (seen_error error.now).suggestion) }
 #[inline]
 fn second_text(mode: ParseMode, error: &ParseError) -> Option<(&str, &Range<usize>)> {
     if let Some((text, span)) = &error.secondary_label {
@@ -45,12 +40,6 @@ fn second_text(mode: ParseMode, error: &ParseError) -> Option<(&str, &Range<usiz
 }
 
 /// Returns the second label, or `None` if there is none.
-// requires { length picture.now.source.now < 2 ^ 59 }
-// ensures value { option_map seen_label result
-//     ≡ second (seen_mode mode) (seen_picture picture.now) (seen_error error.now) }
-// ensures small { IfSome result (λ l. l.extent.end.line < 2 ^ 59) }
-// ensures small_start { IfSome result (λ l. l.extent.start.line < 2 ^ 59) }
-// ensures small_column { IfSome result (λ l. l.extent.start.column < 2 ^ 61) }
 #[inline]
 pub fn second<'a>(
     mode: ParseMode,
@@ -67,11 +56,6 @@ pub fn second<'a>(
 }
 
 /// Returns the edit that is drawn, or `None` if there is none.
-// requires { length picture.now.source.now < 2 ^ 59 }
-// ensures value { option_map seen_edit result ≡ edit_of (seen_picture picture.now)
-//     (offered (seen_mode mode) (seen_suggestion suggestion.now)) }
-// ensures small { IfSome result (λ e. e.extent.end.line < 2 ^ 59) }
-// ensures small_start { IfSome result (λ e. e.extent.start.line < 2 ^ 59) }
 #[inline]
 pub fn edit_of<'a>(
     mode: ParseMode,
@@ -88,9 +72,6 @@ pub fn edit_of<'a>(
 }
 
 /// Returns the last line of a label, or 0 without one.
-// requires { IfSome label.now (λ l. l.extent.end.line < 2 ^ 59) }
-// ensures value { result ≡ last_line (option_map seen_label label.now) }
-// ensures small { result < 2 ^ 59 }
 #[inline]
 fn last_line(label: &Option<Label<'_>>) -> usize {
     match label {
@@ -100,9 +81,6 @@ fn last_line(label: &Option<Label<'_>>) -> usize {
 }
 
 /// Returns the last line of an edit, or 0 without one.
-// requires { IfSome edit.now (λ e. e.extent.end.line < 2 ^ 59) }
-// ensures value { result ≡ edit_line (option_map seen_edit edit.now) }
-// ensures small { result < 2 ^ 59 }
 #[inline]
 fn edit_line(edit: &Option<Edit<'_>>) -> usize {
     match edit {
@@ -112,7 +90,6 @@ fn edit_line(edit: &Option<Edit<'_>>) -> usize {
 }
 
 /// Returns the line of the second label, or else the last one of the first label.
-// ensures { result ≡ other_line (seen_label label.now) (option_map seen_label second.now) }
 #[inline]
 fn other_line(label: &Label<'_>, second: &Option<Label<'_>>) -> usize {
     match second {
@@ -122,10 +99,6 @@ fn other_line(label: &Label<'_>, second: &Option<Label<'_>>) -> usize {
 }
 
 /// Returns the least indent, where a blank line has none.
-// requires small_first { IfSome m (λ k. k < 2 ^ 62) }
-// requires small_second { IfSome n (λ k. k < 2 ^ 62) }
-// ensures value { result ≡ least m n }
-// ensures small { result < 2 ^ 62 }
 #[inline]
 fn least(m: Option<usize>, n: Option<usize>) -> usize {
     match (m, n) {
@@ -144,10 +117,6 @@ fn least(m: Option<usize>, n: Option<usize>) -> usize {
 
 /// Returns the least indent of two lines of the source, where a blank line has none. Mostly they
 /// are the same line, which is then looked for once.
-// requires { length picture.now.source.now < 2 ^ 59 }
-// ensures value { result ≡ least (line_indent (seen_picture picture.now) number)
-//     (line_indent (seen_picture picture.now) other) }
-// ensures small { result < 2 ^ 62 }
 #[inline]
 fn least_indent(picture: &Picture<'_>, number: usize, other: usize) -> usize {
     let indent = line_indent(picture, number);
@@ -158,13 +127,6 @@ fn least_indent(picture: &Picture<'_>, number: usize, other: usize) -> usize {
 }
 
 /// Returns the layout for labels and an edit.
-// requires source { length picture.now.source.now < 2 ^ 59 }
-// requires small { label.now.extent.end.line < 2 ^ 59 }
-// requires small_second { IfSome second.now (λ l. l.extent.end.line < 2 ^ 59) }
-// requires small_edit { IfSome edit.now (λ e. e.extent.end.line < 2 ^ 59) }
-// ensures value { seen_frame result ≡ frame (seen_picture picture.now)
-//     (seen_label label.now) (option_map seen_label second.now) (option_map seen_edit edit.now) }
-// ensures source { length result.picture.now.source.now < 2 ^ 59 }
 #[inline]
 pub fn frame_for<'a>(
     picture: &'a Picture<'a>,

@@ -1,9 +1,8 @@
 //! Lines of the source with several labels. A function whose name begins with `put_` appends to
-//! `out`, and returns `Err` if an allocation fails.
+//! `out`.
 
 // Extracted from crates/drawn_faults/src/marked.rt by tools/extract: not to be edited.
-// That source is proved, and each contract here is its. That this text means the same is tested:
-// by results from outside, and beside what is proved (.ci/bindings) and the original (tools/agree).
+// That source has the contracts, and is proved. That this text means the same is only tested.
 
 use crate::proved::drawn_edits::Edit;
 use crate::proved::drawn_labels::{
@@ -16,9 +15,6 @@ use crate::shim::alloc::AllocError;
 use crate::shim::prelude::*;
 
 /// Returns the last line in which one of labels ends, or `last` if that is further down.
-// requires { last < 2 ^ 59 }
-// ensures value { result ≡ last_label_line last (map seen_label labels.now) }
-// ensures small { result < 2 ^ 59 }
 #[inline]
 pub fn last_label_line(last: usize, labels: &[Label<'_>]) -> usize {
     let mut line = last;
@@ -29,9 +25,6 @@ pub fn last_label_line(last: usize, labels: &[Label<'_>]) -> usize {
 }
 
 /// Returns the last line in which one of edits ends, or `last` if that is further down.
-// requires { last < 2 ^ 59 }
-// ensures value { result ≡ last_edit_line last (map seen_edit edits.now) }
-// ensures small { result < 2 ^ 59 }
 #[inline]
 pub fn last_edit_line(last: usize, edits: &[Edit<'_>]) -> usize {
     let mut line = last;
@@ -42,9 +35,6 @@ pub fn last_edit_line(last: usize, edits: &[Edit<'_>]) -> usize {
 }
 
 /// Returns the lower of two indents, of which a blank line has none.
-// ensures value { result ≡ lower m n }
-// ensures small { IfSome m (λ k. k < 2 ^ 62) → IfSome n (λ k. k < 2 ^ 62)
-//     → IfSome result (λ k. k < 2 ^ 62) }
 #[inline]
 fn lower(m: Option<usize>, n: Option<usize>) -> Option<usize> {
     match (m, n) {
@@ -56,9 +46,6 @@ fn lower(m: Option<usize>, n: Option<usize>) -> Option<usize> {
 
 /// Returns the lowest indent of the lines in which labels begin and end, or `None` if these are
 /// blank.
-// requires { length picture.now.source.now < 2 ^ 59 }
-// ensures value { result ≡ lowest (seen_picture picture.now) None (map seen_label labels.now) }
-// ensures small { IfSome result (λ k. k < 2 ^ 62) }
 #[inline]
 fn lowest(picture: &Picture<'_>, labels: &[Label<'_>]) -> Option<usize> {
     let mut least = None;
@@ -71,10 +58,6 @@ fn lowest(picture: &Picture<'_>, labels: &[Label<'_>]) -> Option<usize> {
 }
 
 /// Returns the lowest indent of the lines in which labels begin and end, or 0 if these are blank.
-// requires { length picture.now.source.now < 2 ^ 59 }
-// ensures value { result
-//     ≡ unwrap_or (lowest (seen_picture picture.now) None (map seen_label labels.now)) 0 }
-// ensures small { result < 2 ^ 62 }
 #[inline]
 fn lowest_indent(picture: &Picture<'_>, labels: &[Label<'_>]) -> usize {
     match lowest(picture, labels) {
@@ -84,10 +67,6 @@ fn lowest_indent(picture: &Picture<'_>, labels: &[Label<'_>]) -> usize {
 }
 
 /// Returns the layout of labels.
-// requires { length picture.now.source.now < 2 ^ 59 }
-// ensures value { seen_frame result
-//     ≡ frame_of (seen_picture picture.now) gutter (map seen_label labels.now) }
-// ensures source { length result.picture.now.source.now < 2 ^ 59 }
 #[inline]
 pub fn frame_of<'a>(picture: &'a Picture<'a>, gutter: Gutter, labels: &[Label<'_>]) -> Frame<'a> {
     Frame {
@@ -98,14 +77,12 @@ pub fn frame_of<'a>(picture: &'a Picture<'a>, gutter: Gutter, labels: &[Label<'_
 }
 
 /// Returns whether a place is in a line above another one, or in front of it in the same line.
-// ensures { result ≡ is_before s t }
 #[inline]
 fn is_before(s: Spot, t: Spot) -> bool {
     s.line < t.line || (s.line == t.line && s.chars < t.chars)
 }
 
 /// Returns whether a place is in front of the one found before, if there is one.
-// ensures { result ≡ option_map_or (is_before start) first true }
 #[inline]
 fn is_first(first: Option<Spot>, start: Spot) -> bool {
     match first {
@@ -116,11 +93,6 @@ fn is_first(first: Option<Spot>, start: Spot) -> bool {
 
 /// Returns where a label begins, if it is primary and that is in front of `first`, and else
 /// `first`.
-// requires line { IfSome first (λ s. s.line < 2 ^ 59) }
-// requires chars { IfSome first (λ s. s.chars < 2 ^ 59) }
-// ensures value { result ≡ earlier first (seen_label label.now) }
-// ensures line { IfSome result (λ s. s.line < 2 ^ 59) }
-// ensures chars { IfSome result (λ s. s.chars < 2 ^ 59) }
 #[inline]
 fn earlier(first: Option<Spot>, label: &Label<'_>) -> Option<Spot> {
     if label.sign == '^' && is_first(first, label.extent.start) {
@@ -132,9 +104,6 @@ fn earlier(first: Option<Spot>, label: &Label<'_>) -> Option<Spot> {
 
 /// Returns the first place at which a primary one of labels begins, or the start of the source
 /// without one.
-// ensures value { result ≡ first_spot (map seen_label labels.now) }
-// ensures line { result.line < 2 ^ 59 }
-// ensures chars { result.chars < 2 ^ 59 }
 #[inline]
 pub fn first_spot(labels: &[Label<'_>]) -> Spot {
     let mut found = None;
@@ -145,9 +114,6 @@ pub fn first_spot(labels: &[Label<'_>]) -> Spot {
 }
 
 /// Returns labels in the lines in which they begin, in the order in which they are drawn.
-// requires { length frame.now.picture.now.source.now < 2 ^ 59 }
-// ensures { IfOk result (λ v. map seen_mark v.items ≡ sorted is_right_of []
-//     (map (mark_in (seen_frame frame.now)) (map seen_label labels.now))) }
 #[inline]
 fn marks_of<'a>(frame: &Frame<'_>, labels: &[Label<'a>]) -> Result<Vec<Mark<'a>>, AllocError> {
     let mut list = Vec::new();
@@ -158,8 +124,6 @@ fn marks_of<'a>(frame: &Frame<'_>, labels: &[Label<'a>]) -> Result<Vec<Mark<'a>>
 }
 
 /// Returns those of labels that begin in a line.
-// ensures { IfOk result (λ v. map seen_mark v.items
-//     ≡ in_line number (map seen_mark marks.now)) }
 #[inline]
 fn in_line<'a>(number: usize, marks: &[Mark<'a>]) -> Result<Vec<Mark<'a>>, AllocError> {
     let mut list = Vec::new();
@@ -172,10 +136,6 @@ fn in_line<'a>(number: usize, marks: &[Mark<'a>]) -> Result<Vec<Mark<'a>>, Alloc
 }
 
 /// Adds the rows between a line that was drawn, if there is one, and the next one.
-// requires source { length frame.now.picture.now.source.now < 2 ^ 59 }
-// requires before { IfSome previous (λ n. n < 2 ^ 59) }
-// ensures { OnOk result (string_bytes out.new ≡ string_bytes out.old
-//     ++ gap_after (seen_frame frame.now) previous number) }
 #[inline]
 fn put_gap_after(
     out: &mut String,
@@ -190,10 +150,6 @@ fn put_gap_after(
 }
 
 /// Adds a line and the rows under it.
-// requires source { length frame.now.picture.now.source.now < 2 ^ 59 }
-// requires number { number < 2 ^ 59 }
-// ensures { OnOk result (string_bytes out.new ≡ string_bytes out.old
-//     ++ line_rows (seen_frame frame.now) number (map seen_mark marks.now)) }
 #[inline]
 fn put_line_rows(
     out: &mut String,
@@ -208,7 +164,6 @@ fn put_line_rows(
 }
 
 /// Returns whether a line was drawn before.
-// ensures { result ≡ option_map_or (λ m. m == number) previous false }
 #[inline]
 fn is_drawn(previous: Option<usize>, number: usize) -> bool {
     match previous {
@@ -218,11 +173,6 @@ fn is_drawn(previous: Option<usize>, number: usize) -> bool {
 }
 
 /// Adds a line with labels, unless it was drawn before.
-// requires source { length frame.now.picture.now.source.now < 2 ^ 59 }
-// requires before { IfSome previous (λ n. n < 2 ^ 59) }
-// requires number { number < 2 ^ 59 }
-// ensures { OnOk result (string_bytes out.new ≡ string_bytes out.old
-//     ++ next_line (seen_frame frame.now) previous number (map seen_mark marks.now)) }
 #[inline]
 fn put_next_line(
     out: &mut String,
@@ -240,9 +190,6 @@ fn put_next_line(
 }
 
 /// Adds the lines of labels, which are in the order in which they are drawn.
-// requires { length frame.now.picture.now.source.now < 2 ^ 59 }
-// ensures { OnOk result (string_bytes out.new ≡ string_bytes out.old
-//     ++ marked_lines (seen_frame frame.now) None (map seen_mark marks.now)) }
 #[inline]
 fn put_marked_lines(
     out: &mut String,
@@ -258,9 +205,6 @@ fn put_marked_lines(
 }
 
 /// Adds the lines of labels, each in the line in which it begins.
-// requires { length frame.now.picture.now.source.now < 2 ^ 59 }
-// ensures { OnOk result (string_bytes out.new ≡ string_bytes out.old
-//     ++ each_in_line (seen_frame frame.now) (map seen_label labels.now)) }
 #[inline]
 fn put_each_in_line(
     out: &mut String,
@@ -273,9 +217,6 @@ fn put_each_in_line(
 }
 
 /// Adds the lines of a label that is alone.
-// requires { length frame.now.picture.now.source.now < 2 ^ 59 }
-// ensures { OnOk result (string_bytes out.new ≡ string_bytes out.old
-//     ++ single_rows (seen_frame frame.now) (seen_label label.now)) }
 #[inline]
 fn put_single(out: &mut String, frame: &Frame<'_>, label: &Label<'_>) -> Result<(), AllocError> {
     if label.extent.start.line == label.extent.end.line {
@@ -287,9 +228,6 @@ fn put_single(out: &mut String, frame: &Frame<'_>, label: &Label<'_>) -> Result<
 }
 
 /// Adds the lines of labels.
-// requires { length frame.now.picture.now.source.now < 2 ^ 59 }
-// ensures { OnOk result (string_bytes out.new ≡ string_bytes out.old
-//     ++ labels_rows (seen_frame frame.now) (map seen_label labels.now)) }
 #[inline]
 pub fn put_labels_rows(
     out: &mut String,

@@ -2,8 +2,7 @@
 //! source, as rustc does, and [`draw_labels`] a diagnostic with any number of labels.
 
 // Extracted from crates/drawn_faults/src/lib.rt by tools/extract: not to be edited.
-// That source is proved, and each contract here is its. That this text means the same is tested:
-// by results from outside, and beside what is proved (.ci/bindings) and the original (tools/agree).
+// That source has the contracts, and is proved. That this text means the same is only tested.
 
 #[cfg(feature = "std")]
 pub(crate) mod diagnostics;

@@ -1,9 +1,8 @@
 //! Notes of a diagnostic, and labels under a title. A function whose name begins with `put_`
-//! appends to `out`, and returns `Err` if an allocation fails.
+//! appends to `out`.
 
 // Extracted from crates/drawn_faults/src/notes.rt by tools/extract: not to be edited.
-// That source is proved, and each contract here is its. That this text means the same is tested:
-// by results from outside, and beside what is proved (.ci/bindings) and the original (tools/agree).
+// That source has the contracts, and is proved. That this text means the same is only tested.
 
 use crate::proved::drawn_faults::drawing::{put_arrow, put_note_word};
 use crate::proved::drawn_faults::marked::{first_spot, frame_of, last_label_line, put_labels_rows};
@@ -26,9 +25,6 @@ pub struct SourceNote<'a> {
 }
 
 /// Returns labels of ranges that a note shows.
-// requires { length picture.now.source.now < 2 ^ 59 }
-// ensures { IfOk result (λ v. map seen_label v.items
-//     ≡ map (shown_label (seen_picture picture.now)) (map pair spans.now)) }
 #[inline]
 fn shown_labels(
     picture: &Picture<'_>,
@@ -46,11 +42,6 @@ fn shown_labels(
 }
 
 /// Returns the last line that notes show, or `last` if that is further down.
-// requires source { length picture.now.source.now < 2 ^ 59 }
-// requires small { last < 2 ^ 59 }
-// ensures value { IfOk result (λ n. n
-//     ≡ last_note_line (seen_picture picture.now) last (map seen_note notes.now)) }
-// ensures small { IfOk result (λ n. n < 2 ^ 59) }
 #[inline]
 pub fn last_note_line(
     picture: &Picture<'_>,
@@ -66,9 +57,6 @@ pub fn last_note_line(
 }
 
 /// Adds a title, in these colours, after a word, and labels under it.
-// requires { length frame.now.picture.now.source.now < 2 ^ 59 }
-// ensures { OnOk result (string_bytes out.new ≡ string_bytes out.old
-//     ++ titled (seen_frame frame.now) palette word.now title.now (map seen_label labels.now)) }
 #[inline]
 pub fn put_titled(
     out: &mut String,
@@ -91,7 +79,6 @@ pub fn put_titled(
 }
 
 /// Adds the text after a character of a note: after a line feed the margin of the next line.
-// ensures { OnOk result (string_bytes out.new ≡ string_bytes out.old ++ margin gutter c) }
 #[inline]
 fn put_margin(out: &mut String, gutter: Gutter, c: char) -> Result<(), AllocError> {
     if c == '\n' {
@@ -102,8 +89,6 @@ fn put_margin(out: &mut String, gutter: Gutter, c: char) -> Result<(), AllocErro
 }
 
 /// Adds a text whose lines but the first one begin with a margin.
-// ensures { OnOk result (string_bytes out.new
-//     ≡ string_bytes out.old ++ indented gutter (chars text.now)) }
 #[inline]
 pub fn put_indented(out: &mut String, gutter: Gutter, text: &str) -> Result<(), AllocError> {
     let mut rest = text;
@@ -116,8 +101,6 @@ pub fn put_indented(out: &mut String, gutter: Gutter, text: &str) -> Result<(), 
 }
 
 /// Adds a note that shows nothing.
-// ensures { OnOk result (string_bytes out.new
-//     ≡ string_bytes out.old ++ plain_note gutter text.now) }
 #[inline]
 fn put_plain_note(out: &mut String, gutter: Gutter, text: &str) -> Result<(), AllocError> {
     put_note_word(out, gutter)?;
@@ -127,9 +110,6 @@ fn put_plain_note(out: &mut String, gutter: Gutter, text: &str) -> Result<(), Al
 }
 
 /// Adds a note with labels for what it shows.
-// requires { length picture.now.source.now < 2 ^ 59 }
-// ensures { OnOk result (string_bytes out.new ≡ string_bytes out.old
-//     ++ shown_note (seen_picture picture.now) gutter text.now (map seen_label labels.now)) }
 #[inline]
 fn put_shown_note(
     out: &mut String,
@@ -151,9 +131,6 @@ fn put_shown_note(
 }
 
 /// Adds notes.
-// requires { length picture.now.source.now < 2 ^ 59 }
-// ensures { OnOk result (string_bytes out.new ≡ string_bytes out.old
-//     ++ notes_rows (seen_picture picture.now) gutter (map seen_note notes.now)) }
 #[inline]
 pub fn put_notes(
     out: &mut String,

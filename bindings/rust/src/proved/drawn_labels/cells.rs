@@ -1,9 +1,8 @@
 //! A row as cells, into which texts are put over one another. A function whose name begins with
-//! `put_` writes into a row or appends to `out`, and returns `Err` if an allocation fails.
+//! `put_` writes into a row or appends to `out`.
 
 // Extracted from crates/drawn_labels/src/cells.rt by tools/extract: not to be edited.
-// That source is proved, and each contract here is its. That this text means the same is tested:
-// by results from outside, and beside what is proved (.ci/bindings) and the original (tools/agree).
+// That source has the contracts, and is proved. That this text means the same is only tested.
 
 use crate::proved::drawn_labels::mark::Mark;
 use crate::proved::drawn_lines::{
@@ -20,7 +19,6 @@ pub struct Cell {
 }
 
 /// Returns the style of the signs of a label, and of its bar.
-// ensures { result ≡ style_of (seen_mark mark.now) }
 #[inline]
 pub fn style_of(mark: &Mark<'_>) -> Style {
     if mark.sign == '^' {
@@ -31,7 +29,6 @@ pub fn style_of(mark: &Mark<'_>) -> Style {
 }
 
 /// Returns the style of the text of a label.
-// ensures { result ≡ text_style (seen_mark mark.now) }
 #[inline]
 pub fn text_style(mark: &Mark<'_>) -> Style {
     if mark.sign == '^' {
@@ -42,7 +39,6 @@ pub fn text_style(mark: &Mark<'_>) -> Style {
 }
 
 /// Returns a space.
-// ensures { result ≡ space }
 #[inline]
 pub fn space() -> Cell {
     Cell {
@@ -52,8 +48,6 @@ pub fn space() -> Cell {
 }
 
 /// Puts a cell into a column of a row.
-// ensures value { OnOk result (row.new.items ≡ put_at column cell row.old.items) }
-// ensures inside { OnOk result (column < length row.new.items) }
 #[inline]
 pub fn put_at(row: &mut Vec<Cell>, column: usize, cell: Cell) -> Result<(), AllocError> {
     while row.len() < column {
@@ -68,8 +62,6 @@ pub fn put_at(row: &mut Vec<Cell>, column: usize, cell: Cell) -> Result<(), Allo
 }
 
 /// Puts a cell into so many columns of a row. Returns the column after them.
-// ensures { IfOk result (λ n. (cs : List CellValue) → put_from n cs row.new.items
-//     ≡ put_from from (replicate count cell ++ cs) row.old.items) }
 #[inline]
 pub fn put_run_at(
     row: &mut Vec<Cell>,
@@ -88,8 +80,6 @@ pub fn put_run_at(
 }
 
 /// Puts a space and then a text, as it is drawn, into a row from a column on.
-// ensures { OnOk result (row.new.items
-//     ≡ put_from from (space ∷ cells style text.now) row.old.items) }
 #[inline]
 pub fn put_after(
     row: &mut Vec<Cell>,
@@ -103,7 +93,6 @@ pub fn put_after(
 }
 
 /// Puts a text, as it is drawn, into a row from a column on.
-// ensures { OnOk result (row.new.items ≡ put_from from (cells style text.now) row.old.items) }
 #[inline]
 pub fn put_from(
     row: &mut Vec<Cell>,
@@ -122,8 +111,6 @@ pub fn put_from(
 }
 
 /// Adds the characters of cells in their styles.
-// ensures { OnOk result (string_bytes out.new ≡ string_bytes out.old
-//     ++ pieces_after palette Plain (cell_pieces cells.now)) }
 #[inline]
 fn put_in_styles(out: &mut String, palette: Palette, cells: &[Cell]) -> Result<(), AllocError> {
     let mut style = Style::Plain;
@@ -137,8 +124,6 @@ fn put_in_styles(out: &mut String, palette: Palette, cells: &[Cell]) -> Result<(
 }
 
 /// Adds the characters of cells, in their styles if there are colours.
-// ensures { OnOk result (string_bytes out.new
-//     ≡ string_bytes out.old ++ written palette cells.now) }
 #[inline]
 pub fn put_written(out: &mut String, palette: Palette, cells: &[Cell]) -> Result<(), AllocError> {
     if has_colours(palette) {

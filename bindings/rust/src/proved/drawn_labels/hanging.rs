@@ -1,8 +1,7 @@
 //! How far below the signs of a line the texts of labels hang.
 
 // Extracted from crates/drawn_labels/src/hanging.rt by tools/extract: not to be edited.
-// That source is proved, and each contract here is its. That this text means the same is tested:
-// by results from outside, and beside what is proved (.ci/bindings) and the original (tools/agree).
+// That source has the contracts, and is proved. That this text means the same is only tested.
 
 use crate::proved::drawn_labels::mark::Mark;
 use crate::shim::alloc::AllocError;
@@ -17,21 +16,18 @@ pub struct Hung<'a> {
 }
 
 /// Returns whether a label has a text.
-// ensures { result ≡ has_text (seen_mark mark.now) }
 #[inline]
 pub fn has_text(mark: &Mark<'_>) -> bool {
     !mark.text.is_empty()
 }
 
 /// Returns whether one of two labels begins within the other.
-// ensures { result ≡ is_meeting 0 (seen_mark n.now) (seen_mark m.now) }
 #[inline]
 fn is_meeting(n: &Mark<'_>, m: &Mark<'_>) -> bool {
     (m.from <= n.from && n.from < m.to) || (n.from <= m.from && m.from < n.to)
 }
 
 /// Returns whether the label `n` has no text, and the columns of `m`.
-// ensures { result ≡ is_shadow (seen_mark n.now) (seen_mark m.now) }
 #[inline]
 fn is_shadow(n: &Mark<'_>, m: &Mark<'_>) -> bool {
     (n.from == m.from && n.to == m.to) && !has_text(n)
@@ -39,7 +35,6 @@ fn is_shadow(n: &Mark<'_>, m: &Mark<'_>) -> bool {
 
 /// Returns whether the text of a label cannot stand right of its signs, since it meets one of
 /// others.
-// ensures { result ≡ is_crossed (seen_mark mark.now) (map seen_mark others.now) }
 #[inline]
 fn is_crossed(mark: &Mark<'_>, others: &[Mark<'_>]) -> bool {
     if !has_text(mark) {
@@ -55,7 +50,6 @@ fn is_crossed(mark: &Mark<'_>, others: &[Mark<'_>]) -> bool {
 
 /// Returns whether the text of the label `n`, right of its signs, would come within a column of
 /// `m`.
-// ensures { result ≡ is_reaching (seen_mark n.now) (seen_mark m.now) }
 #[inline]
 fn is_reaching(n: &Mark<'_>, m: &Mark<'_>) -> bool {
     let columns = m.from.saturating_sub(n.to).saturating_sub(1);
@@ -65,7 +59,6 @@ fn is_reaching(n: &Mark<'_>, m: &Mark<'_>) -> bool {
 
 /// Returns whether the texts of labels hang a row below that of a label right of them, which hangs
 /// `down` rows below the signs.
-// ensures { result ≡ is_lowering down (seen_mark mark.now) (map seen_mark others.now) }
 #[inline]
 fn is_lowering(down: usize, mark: &Mark<'_>, others: &[Mark<'_>]) -> bool {
     for other in others {
@@ -77,8 +70,6 @@ fn is_lowering(down: usize, mark: &Mark<'_>, others: &[Mark<'_>]) -> bool {
 }
 
 /// Returns how far down the text of a label hangs, where those right of it hang `down` rows down.
-// ensures value { result ≡ depth_of down (seen_mark mark.now) (map seen_mark others.now) }
-// ensures near { result ≤ down + 1 }
 #[inline]
 fn depth_of(down: usize, mark: &Mark<'_>, others: &[Mark<'_>]) -> usize {
     if down == 0 && is_crossed(mark, others) {
@@ -89,9 +80,6 @@ fn depth_of(down: usize, mark: &Mark<'_>, others: &[Mark<'_>]) -> usize {
 }
 
 /// Returns how far down the texts of labels left of a label hang at least.
-// requires { down < 2 ^ 63 }
-// ensures value { result ≡ depth_after down (seen_mark mark.now) (map seen_mark others.now) }
-// ensures near { result ≤ down + 1 }
 #[inline]
 fn depth_after(down: usize, mark: &Mark<'_>, others: &[Mark<'_>]) -> usize {
     if is_lowering(down, mark, others) {
@@ -102,7 +90,6 @@ fn depth_after(down: usize, mark: &Mark<'_>, others: &[Mark<'_>]) -> usize {
 }
 
 /// Returns the labels of a line, from right to left, with how far down they hang.
-// ensures { IfOk result (λ v. map seen_hung v.items ≡ hang 0 (map seen_mark marks.now)) }
 #[inline]
 pub fn hang<'a>(marks: &[Mark<'a>]) -> Result<Vec<Hung<'a>>, AllocError> {
     if marks.len() >= 1 << (usize::BITS - 5) {
@@ -123,7 +110,6 @@ pub fn hang<'a>(marks: &[Mark<'a>]) -> Result<Vec<Hung<'a>>, AllocError> {
 }
 
 /// Returns how far down the text of a label hangs.
-// ensures { result ≡ text_depth (seen_hung hung.now) }
 #[inline]
 fn text_depth(hung: &Hung<'_>) -> usize {
     if has_text(&hung.mark) {
@@ -134,7 +120,6 @@ fn text_depth(hung: &Hung<'_>) -> usize {
 }
 
 /// Returns how far down the texts of labels hang at most.
-// ensures { result ≡ depth 0 (map seen_hung hung.now) }
 #[inline]
 pub fn depth(hung: &[Hung<'_>]) -> usize {
     let mut most = 0;

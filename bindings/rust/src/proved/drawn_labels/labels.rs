@@ -1,9 +1,8 @@
 //! Labels of ranges of the source, and lines with one or two of them. A function whose name begins
-//! with `put_` appends to `out`, and returns `Err` if an allocation fails.
+//! with `put_` appends to `out`.
 
 // Extracted from crates/drawn_labels/src/labels.rt by tools/extract: not to be edited.
-// That source is proved, and each contract here is its. That this text means the same is tested:
-// by results from outside, and beside what is proved (.ci/bindings) and the original (tools/agree).
+// That source has the contracts, and is proved. That this text means the same is only tested.
 
 use crate::proved::drawn_labels::mark::Mark;
 use crate::proved::drawn_labels::rows::{put_both, put_one};
@@ -23,10 +22,6 @@ pub struct Label<'a> {
 }
 
 /// Returns a label in the line in which it begins.
-// requires { label.now.extent.start.column < 2 ^ 61 }
-// ensures value { seen_mark result ≡ mark first (seen_label label.now) }
-// ensures line { result.line ≡ label.now.extent.start.line }
-// ensures columns { result.to < 2 ^ 62 }
 #[inline]
 pub fn mark_of<'a>(label: &Label<'a>, first: usize) -> Mark<'a> {
     let start = label.extent.start;
@@ -47,25 +42,12 @@ pub fn mark_of<'a>(label: &Label<'a>, first: usize) -> Mark<'a> {
 }
 
 /// Returns a label as it is drawn in the line in which it begins.
-// requires source { length frame.now.picture.now.source.now < 2 ^ 59 }
-// requires column { label.now.extent.start.column < 2 ^ 61 }
-// ensures value { seen_mark result ≡ mark_in (seen_frame frame.now) (seen_label label.now) }
-// ensures line { result.line ≡ label.now.extent.start.line }
 #[inline]
 pub fn mark_in<'a>(frame: &Frame<'_>, label: &Label<'a>) -> Mark<'a> {
     mark_of(label, shift(frame, label.extent.start.line))
 }
 
 /// Adds a line of the source with a label.
-// requires { mark.now.line < 2 ^ 61 }
-// ensures rows { OnOk result (string_bytes out.new ≡ string_bytes out.old
-//     ++ labelled (seen_frame frame.now) (seen_mark mark.now)) }
-// Without colours they are the line of the label, and under it the label's signs in its
-// columns, and no sign elsewhere.
-// ensures signs { OnOk result (has_colours frame.now.gutter.palette ≡ false
-//     → mark.now.from ≤ mark.now.to
-//     → AddsLabels (seen_frame frame.now) mark.now.line (seen_mark mark.now ∷ [])
-//     (string_bytes out.old) (string_bytes out.new)) }
 #[inline]
 pub fn put_labelled(
     out: &mut String,
@@ -78,10 +60,6 @@ pub fn put_labelled(
 }
 
 /// Adds two lines with labels, of which `m` is the first one.
-// requires number { m.now.line < 2 ^ 60 }
-// requires second_number { n.now.line < 2 ^ 60 }
-// ensures { OnOk result (string_bytes out.new ≡ string_bytes out.old
-//     ++ apart (seen_frame frame.now) (seen_mark m.now) (seen_mark n.now)) }
 #[inline]
 fn put_apart(
     out: &mut String,
@@ -96,17 +74,6 @@ fn put_apart(
 }
 
 /// Adds the lines with two labels.
-// requires number { m.now.line < 2 ^ 60 }
-// requires second_number { n.now.line < 2 ^ 60 }
-// ensures rows { OnOk result (string_bytes out.new ≡ string_bytes out.old
-//     ++ two_labels (seen_frame frame.now) (seen_mark m.now) (seen_mark n.now)) }
-// Without colours they are the lines of the labels, and under these the signs of the labels in
-// their columns, and no sign elsewhere.
-// ensures signs { OnOk result (has_colours frame.now.gutter.palette ≡ false
-//     → m.now.from ≤ m.now.to → n.now.from ≤ n.now.to
-//     → IsNarrow m.now.text.now → IsNarrow n.now.text.now
-//     → AddsTwo (seen_frame frame.now) (seen_mark m.now) (seen_mark n.now)
-//     (string_bytes out.old) (string_bytes out.new)) }
 #[inline]
 pub fn put_two_labels(
     out: &mut String,

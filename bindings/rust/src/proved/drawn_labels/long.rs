@@ -1,9 +1,7 @@
-//! A label over several lines. A function whose name begins with `put_` appends to `out`, and
-//! returns `Err` if an allocation fails.
+//! A label over several lines. A function whose name begins with `put_` appends to `out`.
 
 // Extracted from crates/drawn_labels/src/long.rt by tools/extract: not to be edited.
-// That source is proved, and each contract here is its. That this text means the same is tested:
-// by results from outside, and beside what is proved (.ci/bindings) and the original (tools/agree).
+// That source has the contracts, and is proved. That this text means the same is only tested.
 
 use crate::proved::drawn_labels::labels::Label;
 use crate::proved::drawn_lines::{
@@ -14,14 +12,12 @@ use crate::shim::alloc::AllocError;
 use crate::shim::prelude::*;
 
 /// Returns whether a character is a bracket.
-// ensures { result ≡ is_bracket c }
 #[inline]
 fn is_bracket(c: char) -> bool {
     c == '(' || c == ')' || c == '[' || c == ']' || c == '{' || c == '}'
 }
 
 /// Returns whether a line with this text after `//` is a comment, but no documentation.
-// ensures { result ≡ is_plain_comment (chars text.now) }
 #[inline]
 fn is_plain_comment(text: &str) -> bool {
     match split_first(text) {
@@ -31,7 +27,6 @@ fn is_plain_comment(text: &str) -> bool {
 }
 
 /// Returns whether a line with this text after `/` is a comment, but no documentation.
-// ensures { result ≡ is_comment (chars text.now) }
 #[inline]
 fn is_comment(text: &str) -> bool {
     match split_first(text) {
@@ -41,7 +36,6 @@ fn is_comment(text: &str) -> bool {
 }
 
 /// Returns whether a text is only white space.
-// ensures { result ≡ list_all is_whitespace (chars text.now) }
 #[inline]
 fn is_blank(text: &str) -> bool {
     let mut rest = text;
@@ -55,7 +49,6 @@ fn is_blank(text: &str) -> bool {
 }
 
 /// Returns whether a line is blank, a comment, or one bracket.
-// ensures { result ≡ is_bare (chars line.now) }
 #[inline]
 fn is_bare(line: &str) -> bool {
     let mut rest = line;
@@ -72,16 +65,12 @@ fn is_bare(line: &str) -> bool {
 }
 
 /// Returns whether the line of the source with a number is bare.
-// ensures { result ≡ is_bare_line (seen_frame frame.now) number }
 #[inline]
 fn is_bare_line(frame: &Frame<'_>, number: usize) -> bool {
     is_bare(line(frame.picture.source, number))
 }
 
 /// Returns how many of the lines after a line are left without the bare ones at their end.
-// requires { first + count < 2 ^ 61 }
-// ensures value { result ≡ without_bare (seen_frame frame.now) first count }
-// ensures few { result ≤ count }
 #[inline]
 fn without_bare(frame: &Frame<'_>, first: usize, count: usize) -> usize {
     let mut left = count;
@@ -92,9 +81,6 @@ fn without_bare(frame: &Frame<'_>, first: usize, count: usize) -> usize {
 }
 
 /// Adds a line of the source at the right of a sign of the label.
-// requires number { number < 2 ^ 61 }
-// ensures { OnOk result (string_bytes out.new ≡ string_bytes out.old
-//     ++ signed_row (seen_frame frame.now) sign.now number) }
 #[inline]
 fn put_signed_row(
     out: &mut String,
@@ -110,9 +96,6 @@ fn put_signed_row(
 }
 
 /// Adds a line between the first and the last one.
-// requires number { number < 2 ^ 61 }
-// ensures { OnOk result (string_bytes out.new ≡ string_bytes out.old
-//     ++ bar_row (seen_frame frame.now) number) }
 #[inline]
 fn put_bar_row(out: &mut String, frame: &Frame<'_>, number: usize) -> Result<(), AllocError> {
     put_signed_row(out, frame, "|", number)?;
@@ -120,9 +103,6 @@ fn put_bar_row(out: &mut String, frame: &Frame<'_>, number: usize) -> Result<(),
 }
 
 /// Adds so many lines after a line.
-// requires number { first + count < 2 ^ 60 }
-// ensures { OnOk result (string_bytes out.new ≡ string_bytes out.old
-//     ++ bar_rows (seen_frame frame.now) first count) }
 #[inline]
 fn put_bar_rows(
     out: &mut String,
@@ -137,9 +117,6 @@ fn put_bar_rows(
 }
 
 /// Adds the rows between two lines of the label that are drawn.
-// requires number { first < 2 ^ 60 }
-// ensures { OnOk result (string_bytes out.new ≡ string_bytes out.old
-//     ++ bar_gap (seen_frame frame.now) first last) }
 #[inline]
 fn put_bar_gap(
     out: &mut String,
@@ -159,9 +136,6 @@ fn put_bar_gap(
 }
 
 /// Adds a text, a line to a column after it, and the sign at its end.
-// requires { length front.now ≡ 1 }
-// ensures { OnOk result (string_bytes out.new
-//     ≡ string_bytes out.old ++ lead palette front.now columns) }
 #[inline]
 fn put_lead(
     out: &mut String,
@@ -178,8 +152,6 @@ fn put_lead(
 }
 
 /// Adds the row under the first line of a label.
-// ensures { OnOk result (string_bytes out.new ≡ string_bytes out.old
-//     ++ under gutter (lead gutter.palette (codes " ") columns)) }
 #[inline]
 fn put_start(out: &mut String, gutter: Gutter, columns: usize) -> Result<(), AllocError> {
     put_gutter(out, gutter)?;
@@ -189,11 +161,6 @@ fn put_start(out: &mut String, gutter: Gutter, columns: usize) -> Result<(), All
 }
 
 /// Adds the first line of a label.
-// requires source { length frame.now.picture.now.source.now < 2 ^ 59 }
-// requires number { label.now.extent.start.line < 2 ^ 60 }
-// requires column { label.now.extent.start.column < 2 ^ 62 }
-// ensures { OnOk result (string_bytes out.new ≡ string_bytes out.old
-//     ++ first_rows (seen_frame frame.now) (seen_label label.now)) }
 #[inline]
 fn put_first_rows(
     out: &mut String,
@@ -212,8 +179,6 @@ fn put_first_rows(
 }
 
 /// Adds the text of a label right of its sign, if it has one.
-// ensures { OnOk result (string_bytes out.new
-//     ≡ string_bytes out.old ++ end_text palette text.now) }
 #[inline]
 fn put_end_text(out: &mut String, palette: Palette, text: &str) -> Result<(), AllocError> {
     if text.is_empty() {
@@ -225,9 +190,6 @@ fn put_end_text(out: &mut String, palette: Palette, text: &str) -> Result<(), Al
 }
 
 /// Adds the row under the last line of a label.
-// ensures { OnOk result (string_bytes out.new ≡ string_bytes out.old
-//     ++ under gutter (lead gutter.palette (codes "|") columns
-//     ++ end_text gutter.palette text.now)) }
 #[inline]
 fn put_end(out: &mut String, gutter: Gutter, columns: usize, text: &str) -> Result<(), AllocError> {
     put_gutter(out, gutter)?;
@@ -238,10 +200,6 @@ fn put_end(out: &mut String, gutter: Gutter, columns: usize, text: &str) -> Resu
 }
 
 /// Adds the last line of a label.
-// requires source { length frame.now.picture.now.source.now < 2 ^ 59 }
-// requires number { label.now.extent.end.line < 2 ^ 60 }
-// ensures { OnOk result (string_bytes out.new ≡ string_bytes out.old
-//     ++ last_rows (seen_frame frame.now) (seen_label label.now)) }
 #[inline]
 fn put_last_rows(out: &mut String, frame: &Frame<'_>, label: &Label<'_>) -> Result<(), AllocError> {
     let end = label.extent.end;
@@ -252,10 +210,6 @@ fn put_last_rows(out: &mut String, frame: &Frame<'_>, label: &Label<'_>) -> Resu
 }
 
 /// Adds the rows between the first and the last line of a label.
-// requires first { first < 2 ^ 59 }
-// requires last { last < 2 ^ 60 }
-// ensures { OnOk result (string_bytes out.new ≡ string_bytes out.old
-//     ++ between (seen_frame frame.now) first last) }
 #[inline]
 fn put_between(
     out: &mut String,
@@ -276,18 +230,6 @@ fn put_between(
 }
 
 /// Adds the lines of a label over several lines.
-// requires source { length frame.now.picture.now.source.now < 2 ^ 59 }
-// requires number { label.now.extent.start.line < 2 ^ 59 }
-// requires last { label.now.extent.end.line < 2 ^ 59 }
-// requires column { label.now.extent.start.column < 2 ^ 62 }
-// ensures rows { OnOk result (string_bytes out.new ≡ string_bytes out.old
-//     ++ long_rows (seen_frame frame.now) (seen_label label.now)) }
-// Without colours a sign is under the first and the last character of the label, a bar is in
-// the margin of each row between them, and no sign is elsewhere.
-// ensures signs { OnOk result (has_colours frame.now.gutter.palette ≡ false
-//     → label.now.extent.start.line < label.now.extent.end.line
-//     → AddsLong (seen_frame frame.now) (seen_label label.now)
-//     (string_bytes out.old) (string_bytes out.new)) }
 #[inline]
 pub fn put_long(out: &mut String, frame: &Frame<'_>, label: &Label<'_>) -> Result<(), AllocError> {
     put_first_rows(out, frame, label)?;

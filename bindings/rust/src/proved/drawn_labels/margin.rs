@@ -1,8 +1,7 @@
 //! Which columns of the lines are drawn.
 
 // Extracted from crates/drawn_labels/src/margin.rt by tools/extract: not to be edited.
-// That source is proved, and each contract here is its. That this text means the same is tested:
-// by results from outside, and beside what is proved (.ci/bindings) and the original (tools/agree).
+// That source has the contracts, and is proved. That this text means the same is only tested.
 
 use crate::proved::drawn_labels::labels::{mark_of, Label};
 use crate::proved::drawn_labels::mark::Mark;
@@ -25,8 +24,6 @@ pub struct Reach {
 const MOST: usize = 1 << (usize::BITS - 4);
 
 /// Returns how many columns the text of a label is counted for, with the space in front of it.
-// ensures value { result ≡ text_columns text.now }
-// ensures few { result ≤ 2 ^ 60 + 1 }
 #[inline]
 fn text_columns(text: &str) -> usize {
     if text.is_empty() {
@@ -37,19 +34,12 @@ fn text_columns(text: &str) -> usize {
 }
 
 /// Returns how many columns a line of the source has.
-// requires { length source.now < 2 ^ 59 }
-// ensures { result ≡ line_columns source.now number }
 #[inline]
 fn line_columns(source: &str, number: usize) -> usize {
     columns(line(source, number))
 }
 
 /// Returns the reach of a label in one line.
-// requires small { length source.now < 2 ^ 59 }
-// requires column { mark.now.to < 2 ^ 62 }
-// ensures value { result ≡ mark_reach source.now (seen_mark mark.now) }
-// ensures to { result.to < 2 ^ 62 }
-// ensures end { result.end < 2 ^ 63 }
 #[inline]
 fn mark_reach(source: &str, mark: &Mark<'_>) -> Reach {
     Reach {
@@ -61,13 +51,6 @@ fn mark_reach(source: &str, mark: &Mark<'_>) -> Reach {
 }
 
 /// Returns two reaches as one.
-// requires first { r.to < 2 ^ 62 }
-// requires first_end { r.end < 2 ^ 63 }
-// requires second { s.to < 2 ^ 62 }
-// requires second_end { s.end < 2 ^ 63 }
-// ensures value { result ≡ joined r s }
-// ensures to { result.to < 2 ^ 62 }
-// ensures end { result.end < 2 ^ 63 }
 #[inline]
 fn join_reaches(r: Reach, s: Reach) -> Reach {
     Reach {
@@ -79,20 +62,12 @@ fn join_reaches(r: Reach, s: Reach) -> Reach {
 }
 
 /// Returns whether a label has more than one line.
-// ensures { result ≡ is_long (seen_label label.now) }
 #[inline]
 fn is_long(label: &Label<'_>) -> bool {
     label.extent.start.line != label.extent.end.line
 }
 
 /// Returns the reach of a label over several lines.
-// requires small { length source.now < 2 ^ 59 }
-// requires last { label.now.extent.end.line < 2 ^ 59 }
-// requires column { label.now.extent.start.column < 2 ^ 61 }
-// requires end_column { label.now.extent.end.column < 2 ^ 61 }
-// ensures value { result ≡ long_reach source.now (seen_label label.now) }
-// ensures to { result.to < 2 ^ 62 }
-// ensures end { result.end < 2 ^ 63 }
 #[inline]
 fn long_reach(source: &str, label: &Label<'_>) -> Reach {
     let start = label.extent.start;
@@ -112,22 +87,12 @@ fn long_reach(source: &str, label: &Label<'_>) -> Reach {
 }
 
 /// Returns the reach of a label in the line in which it begins.
-// requires { length source.now < 2 ^ 59 }
-// ensures value { result ≡ mark_reach source.now (mark 0 (seen_label label.now)) }
-// ensures to { result.to < 2 ^ 62 }
-// ensures end { result.end < 2 ^ 63 }
 #[inline]
 fn short_reach(source: &str, label: &Label<'_>) -> Reach {
     mark_reach(source, &mark_of(label, 0))
 }
 
 /// Returns the reach of labels, each in the line in which it begins, and of `first`.
-// requires small { length source.now < 2 ^ 59 }
-// requires to { first.to < 2 ^ 62 }
-// requires end { first.end < 2 ^ 63 }
-// ensures value { result ≡ reach_on source.now first (map seen_label labels.now) }
-// ensures to { result.to < 2 ^ 62 }
-// ensures end { result.end < 2 ^ 63 }
 #[inline]
 fn reach_on(source: &str, first: Reach, labels: &[Label<'_>]) -> Reach {
     let mut reach = first;
@@ -138,10 +103,6 @@ fn reach_on(source: &str, first: Reach, labels: &[Label<'_>]) -> Reach {
 }
 
 /// Returns the reach of labels.
-// requires { length source.now < 2 ^ 59 }
-// ensures value { result ≡ reach_of source.now (map seen_label labels.now) }
-// ensures to { result.to < 2 ^ 62 }
-// ensures end { result.end < 2 ^ 63 }
 #[inline]
 fn reach_of(source: &str, labels: &[Label<'_>]) -> Reach {
     match labels {
@@ -163,7 +124,6 @@ fn reach_of(source: &str, labels: &[Label<'_>]) -> Reach {
 }
 
 /// Returns how many columns are left beside what is in front of a line of the source.
-// ensures { result ≡ room columns (map seen_label labels.now) }
 #[inline]
 fn room(columns: usize, labels: &[Label<'_>]) -> usize {
     match labels {
@@ -173,7 +133,6 @@ fn room(columns: usize, labels: &[Label<'_>]) -> usize {
 }
 
 /// Returns how many columns are cut of lines with an indent.
-// ensures { result ≡ cut_of indent }
 #[inline]
 fn cut_of(indent: usize) -> usize {
     if indent > 26 {
@@ -184,7 +143,6 @@ fn cut_of(indent: usize) -> usize {
 }
 
 /// Returns the window that begins after `left` columns.
-// ensures { result ≡ window_at left columns }
 #[inline]
 fn window_at(left: usize, columns: usize) -> Window {
     Window {
@@ -195,12 +153,6 @@ fn window_at(left: usize, columns: usize) -> Window {
 }
 
 /// Returns the window around labels, of lines that do not fit into `room` columns.
-// requires to { reach.to < 2 ^ 62 }
-// requires texts { reach.end < 2 ^ 63 }
-// ensures value { result ≡ around room indent reach }
-// The labels are in the window, with room for dots at its start and at its end.
-// ensures start { indent ≤ reach.from → result.left ≤ reach.from - 6 }
-// ensures end { reach.to ≤ reach.end → reach.to + 6 ≤ result.left + result.most }
 #[inline]
 fn window_around(room: usize, indent: usize, reach: Reach) -> Window {
     let from = reach.from.saturating_sub(6);
@@ -219,9 +171,6 @@ fn window_around(room: usize, indent: usize, reach: Reach) -> Window {
 }
 
 /// Returns the window of so much room for lines with labels of a reach and an indent.
-// requires to { reach.to < 2 ^ 62 }
-// requires end { reach.end < 2 ^ 63 }
-// ensures { result ≡ window room indent reach }
 #[inline]
 fn window(room: usize, indent: usize, reach: Reach) -> Window {
     let left = cut_of(indent);
@@ -233,9 +182,6 @@ fn window(room: usize, indent: usize, reach: Reach) -> Window {
 }
 
 /// Returns the window for labels, of lines with this indent.
-// requires { length picture.now.source.now < 2 ^ 59 }
-// ensures { result
-//     ≡ window_of (seen_picture picture.now) gutter indent (map seen_label labels.now) }
 #[inline]
 pub fn window_of(
     picture: &Picture<'_>,

@@ -1,8 +1,7 @@
 //! A label as it is drawn in a line.
 
 // Extracted from crates/drawn_labels/src/mark.rt by tools/extract: not to be edited.
-// That source is proved, and each contract here is its. That this text means the same is tested:
-// by results from outside, and beside what is proved (.ci/bindings) and the original (tools/agree).
+// That source has the contracts, and is proved. That this text means the same is only tested.
 
 /// A label in one line.
 #[derive(Clone, Copy)]

@@ -1,9 +1,8 @@
 //! The rows under a line with several labels. A function whose name begins with `put_` appends to
-//! `out` or writes into a row, and returns `Err` if an allocation fails.
+//! `out` or writes into a row.
 
 // Extracted from crates/drawn_labels/src/marks.rt by tools/extract: not to be edited.
-// That source is proved, and each contract here is its. That this text means the same is tested:
-// by results from outside, and beside what is proved (.ci/bindings) and the original (tools/agree).
+// That source has the contracts, and is proved. That this text means the same is only tested.
 
 use crate::proved::drawn_labels::cells::{
     put_after, put_at, put_from, put_run_at, put_written, style_of, text_style, Cell,
@@ -16,7 +15,6 @@ use crate::shim::alloc::AllocError;
 use crate::shim::prelude::*;
 
 /// Puts the text of a label that stands right of its signs into a row.
-// ensures { OnOk result (row.new.items ≡ with_side_text (seen_hung hung.now) row.old.items) }
 #[inline]
 fn put_side_text(row: &mut Vec<Cell>, hung: &Hung<'_>) -> Result<(), AllocError> {
     let mark = &hung.mark;
@@ -27,8 +25,6 @@ fn put_side_text(row: &mut Vec<Cell>, hung: &Hung<'_>) -> Result<(), AllocError>
 }
 
 /// Puts the texts of labels that stand right of their signs into a row.
-// ensures { OnOk result (row.new.items
-//     ≡ side_texts (map seen_hung hung.now) row.old.items) }
 #[inline]
 fn put_side_texts(row: &mut Vec<Cell>, hung: &[Hung<'_>]) -> Result<(), AllocError> {
     for first in hung {
@@ -38,8 +34,6 @@ fn put_side_texts(row: &mut Vec<Cell>, hung: &[Hung<'_>]) -> Result<(), AllocErr
 }
 
 /// Puts the signs of a label into a row.
-// ensures { OnOk result (row.new.items
-//     ≡ put_from (seen_mark mark.now).from (signs_of (seen_mark mark.now)) row.old.items) }
 #[inline]
 fn put_signs_of(row: &mut Vec<Cell>, mark: &Mark<'_>) -> Result<(), AllocError> {
     let style = style_of(mark);
@@ -50,8 +44,6 @@ fn put_signs_of(row: &mut Vec<Cell>, mark: &Mark<'_>) -> Result<(), AllocError> 
 }
 
 /// Puts the signs of labels into a row, each over those before it.
-// ensures { OnOk result (row.new.items
-//     ≡ with_signs (map seen_mark marks.now) row.old.items) }
 #[inline]
 fn put_signs(row: &mut Vec<Cell>, marks: &[Mark<'_>]) -> Result<(), AllocError> {
     for mark in marks {
@@ -61,8 +53,6 @@ fn put_signs(row: &mut Vec<Cell>, marks: &[Mark<'_>]) -> Result<(), AllocError> 
 }
 
 /// Returns the row of signs of labels, with the texts right of them.
-// ensures { IfOk result (λ v. v.items
-//     ≡ sign_row (map seen_mark marks.now) (map seen_hung hung.now)) }
 #[inline]
 fn sign_row(marks: &[Mark<'_>], hung: &[Hung<'_>]) -> Result<Vec<Cell>, AllocError> {
     let mut row = Vec::new();
@@ -73,7 +63,6 @@ fn sign_row(marks: &[Mark<'_>], hung: &[Hung<'_>]) -> Result<Vec<Cell>, AllocErr
 }
 
 /// Puts the bar of a label that hangs more than `n` rows down into a row.
-// ensures { OnOk result (row.new.items ≡ with_bar n (seen_hung hung.now) row.old.items) }
 #[inline]
 fn put_bar(row: &mut Vec<Cell>, n: usize, hung: &Hung<'_>) -> Result<(), AllocError> {
     if has_text(&hung.mark) && n < hung.down {
@@ -85,7 +74,6 @@ fn put_bar(row: &mut Vec<Cell>, n: usize, hung: &Hung<'_>) -> Result<(), AllocEr
 }
 
 /// Puts the bars of labels into the row with `n` rows between it and the signs.
-// ensures { OnOk result (row.new.items ≡ bars n (map seen_hung hung.now) row.old.items) }
 #[inline]
 fn put_bars(row: &mut Vec<Cell>, n: usize, hung: &[Hung<'_>]) -> Result<(), AllocError> {
     for first in hung {
@@ -95,7 +83,6 @@ fn put_bars(row: &mut Vec<Cell>, n: usize, hung: &[Hung<'_>]) -> Result<(), Allo
 }
 
 /// Puts the text of a label that hangs `n` rows down into a row.
-// ensures { OnOk result (row.new.items ≡ with_hung_text n (seen_hung hung.now) row.old.items) }
 #[inline]
 fn put_hung_text(row: &mut Vec<Cell>, n: usize, hung: &Hung<'_>) -> Result<(), AllocError> {
     let mark = &hung.mark;
@@ -106,7 +93,6 @@ fn put_hung_text(row: &mut Vec<Cell>, n: usize, hung: &Hung<'_>) -> Result<(), A
 }
 
 /// Puts the texts of labels that hang `n` rows down into a row.
-// ensures { OnOk result (row.new.items ≡ hung_texts n (map seen_hung hung.now) row.old.items) }
 #[inline]
 fn put_hung_texts(row: &mut Vec<Cell>, n: usize, hung: &[Hung<'_>]) -> Result<(), AllocError> {
     for first in hung {
@@ -116,7 +102,6 @@ fn put_hung_texts(row: &mut Vec<Cell>, n: usize, hung: &[Hung<'_>]) -> Result<()
 }
 
 /// Returns the row with `n` rows between it and the signs.
-// ensures { IfOk result (λ v. v.items ≡ hung_row n (map seen_hung hung.now)) }
 #[inline]
 fn hung_row(n: usize, hung: &[Hung<'_>]) -> Result<Vec<Cell>, AllocError> {
     let mut row = Vec::new();
@@ -126,8 +111,6 @@ fn hung_row(n: usize, hung: &[Hung<'_>]) -> Result<Vec<Cell>, AllocError> {
 }
 
 /// Adds a row under a line.
-// ensures { OnOk result (string_bytes out.new
-//     ≡ string_bytes out.old ++ under gutter (written gutter.palette row.now)) }
 #[inline]
 fn put_row(out: &mut String, gutter: Gutter, row: &[Cell]) -> Result<(), AllocError> {
     put_gutter(out, gutter)?;
@@ -137,8 +120,6 @@ fn put_row(out: &mut String, gutter: Gutter, row: &[Cell]) -> Result<(), AllocEr
 }
 
 /// Adds so many rows below the signs.
-// ensures { OnOk result (string_bytes out.new
-//     ≡ string_bytes out.old ++ hung_rows gutter count (map seen_hung hung.now)) }
 #[inline]
 fn put_hung_rows(
     out: &mut String,
@@ -154,8 +135,6 @@ fn put_hung_rows(
 }
 
 /// Adds the rows below the signs, of labels that hang as far down as `most`.
-// ensures { OnOk result (string_bytes out.new
-//     ≡ string_bytes out.old ++ rows_below gutter most (map seen_hung hung.now)) }
 #[inline]
 fn put_rows_below(
     out: &mut String,
@@ -173,8 +152,6 @@ fn put_rows_below(
 }
 
 /// Adds the rows of hung labels.
-// ensures { OnOk result (string_bytes out.new ≡ string_bytes out.old
-//     ++ rows_of gutter (map seen_mark marks.now) (map seen_hung hung.now)) }
 #[inline]
 fn put_rows_of(
     out: &mut String,
@@ -189,11 +166,6 @@ fn put_rows_of(
 }
 
 /// Adds the rows under a line, of labels in it from right to left.
-// ensures rows { OnOk result (string_bytes out.new ≡ string_bytes out.old
-//     ++ mark_rows gutter (map seen_mark marks.now)) }
-// Under the columns of the labels are their signs, and no sign is elsewhere.
-// ensures signs { OnOk result (AddsRows gutter (map seen_mark marks.now)
-//     (string_bytes out.old) (string_bytes out.new)) }
 #[inline]
 pub fn put_mark_rows(
     out: &mut String,

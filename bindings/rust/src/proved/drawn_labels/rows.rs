@@ -1,9 +1,7 @@
-//! The rows under a line of the source. Each function appends to `out`, and returns `Err` if an
-//! allocation fails.
+//! The rows under a line of the source. Each function appends to `out`.
 
 // Extracted from crates/drawn_labels/src/rows.rt by tools/extract: not to be edited.
-// That source is proved, and each contract here is its. That this text means the same is tested:
-// by results from outside, and beside what is proved (.ci/bindings) and the original (tools/agree).
+// That source has the contracts, and is proved. That this text means the same is only tested.
 
 use crate::proved::drawn_labels::cells::{put_written, space, style_of, text_style, Cell};
 use crate::proved::drawn_labels::mark::Mark;
@@ -15,7 +13,6 @@ use crate::shim::alloc::AllocError;
 use crate::shim::prelude::*;
 
 /// Returns the sign in a column under two labels, of which `m` covers `n`.
-// ensures { result ≡ sign_at (seen_mark m.now) (seen_mark n.now) column }
 #[inline]
 fn sign_at(m: &Mark<'_>, n: &Mark<'_>, column: usize) -> Cell {
     if m.from <= column && column < m.to {
@@ -30,8 +27,6 @@ fn sign_at(m: &Mark<'_>, n: &Mark<'_>, column: usize) -> Cell {
 }
 
 /// Adds the first columns of a row of signs, where `m` covers `n`, in colours.
-// ensures { OnOk result (string_bytes out.new ≡ string_bytes out.old
-//     ++ signs palette (seen_mark m.now) (seen_mark n.now) columns) }
 #[inline]
 fn put_coloured_signs(
     out: &mut String,
@@ -49,8 +44,6 @@ fn put_coloured_signs(
 }
 
 /// Adds the first columns of a row of signs, where `m` covers `n`.
-// ensures { OnOk result (string_bytes out.new ≡ string_bytes out.old
-//     ++ signs palette (seen_mark m.now) (seen_mark n.now) columns) }
 #[inline]
 fn put_signs(
     out: &mut String,
@@ -71,8 +64,6 @@ fn put_signs(
 }
 
 /// Adds the first columns of a row with the bar of a label.
-// ensures { OnOk result (string_bytes out.new
-//     ≡ string_bytes out.old ++ bars palette (seen_mark m.now) columns) }
 #[inline]
 fn put_bars(
     out: &mut String,
@@ -91,8 +82,6 @@ fn put_bars(
 }
 
 /// Adds the text of a label.
-// ensures { OnOk result (string_bytes out.new
-//     ≡ string_bytes out.old ++ label_text palette (seen_mark m.now)) }
 #[inline]
 fn put_label_text(out: &mut String, palette: Palette, m: &Mark<'_>) -> Result<(), AllocError> {
     put_painted_glyphs(out, palette, text_style(m), m.text)?;
@@ -100,8 +89,6 @@ fn put_label_text(out: &mut String, palette: Palette, m: &Mark<'_>) -> Result<()
 }
 
 /// Adds the signs of a label and its text after them.
-// ensures { OnOk result (string_bytes out.new
-//     ≡ string_bytes out.old ++ pointed palette (seen_mark m.now)) }
 #[inline]
 fn put_pointed(out: &mut String, palette: Palette, m: &Mark<'_>) -> Result<(), AllocError> {
     let columns = m.to.saturating_sub(m.from);
@@ -112,8 +99,6 @@ fn put_pointed(out: &mut String, palette: Palette, m: &Mark<'_>) -> Result<(), A
 }
 
 /// Adds a label that is alone, from the first column on.
-// ensures { OnOk result (string_bytes out.new
-//     ≡ string_bytes out.old ++ alone palette (seen_mark m.now)) }
 #[inline]
 fn put_alone(out: &mut String, palette: Palette, m: &Mark<'_>) -> Result<(), AllocError> {
     put_run(out, ' ', m.from)?;
@@ -122,8 +107,6 @@ fn put_alone(out: &mut String, palette: Palette, m: &Mark<'_>) -> Result<(), All
 }
 
 /// Adds the row of a label that is alone in its line.
-// ensures { OnOk result (string_bytes out.new
-//     ≡ string_bytes out.old ++ under gutter (alone gutter.palette (seen_mark m.now))) }
 #[inline]
 pub fn put_one(out: &mut String, gutter: Gutter, m: &Mark<'_>) -> Result<(), AllocError> {
     put_gutter(out, gutter)?;
@@ -133,8 +116,6 @@ pub fn put_one(out: &mut String, gutter: Gutter, m: &Mark<'_>) -> Result<(), All
 }
 
 /// Adds a row with the bar of a label.
-// ensures { OnOk result (string_bytes out.new ≡ string_bytes out.old ++ under gutter
-//     (run m.now.from 32 ++ painted gutter.palette (style_of (seen_mark m.now)) (codes "|"))) }
 #[inline]
 fn put_bar_alone(out: &mut String, gutter: Gutter, m: &Mark<'_>) -> Result<(), AllocError> {
     put_gutter(out, gutter)?;
@@ -145,8 +126,6 @@ fn put_bar_alone(out: &mut String, gutter: Gutter, m: &Mark<'_>) -> Result<(), A
 }
 
 /// Adds a row with the text of a label.
-// ensures { OnOk result (string_bytes out.new ≡ string_bytes out.old ++ under gutter
-//     (run m.now.from 32 ++ label_text gutter.palette (seen_mark m.now))) }
 #[inline]
 fn put_text_alone(out: &mut String, gutter: Gutter, m: &Mark<'_>) -> Result<(), AllocError> {
     put_gutter(out, gutter)?;
@@ -157,7 +136,6 @@ fn put_text_alone(out: &mut String, gutter: Gutter, m: &Mark<'_>) -> Result<(), 
 }
 
 /// Returns the style of the bar of the label `r`, where there is one of `l` too.
-// ensures { result ≡ bar_style (seen_mark l.now) (seen_mark r.now) }
 #[inline]
 fn bar_style(l: &Mark<'_>, r: &Mark<'_>) -> Style {
     if l.from < r.from {
@@ -168,9 +146,6 @@ fn bar_style(l: &Mark<'_>, r: &Mark<'_>) -> Style {
 }
 
 /// Adds a row with the bars of two labels.
-// ensures { OnOk result (string_bytes out.new ≡ string_bytes out.old ++ under gutter
-//     (bars gutter.palette (seen_mark l.now) r.now.from ++ painted gutter.palette
-//     (bar_style (seen_mark l.now) (seen_mark r.now)) (codes "|"))) }
 #[inline]
 fn put_two_bars(
     out: &mut String,
@@ -186,9 +161,6 @@ fn put_two_bars(
 }
 
 /// Adds a row with the bar of the label `l`, and the text of `r`.
-// ensures { OnOk result (string_bytes out.new ≡ string_bytes out.old ++ under gutter
-//     (bars gutter.palette (seen_mark l.now) r.now.from
-//     ++ label_text gutter.palette (seen_mark r.now))) }
 #[inline]
 fn put_bar_and_text(
     out: &mut String,
@@ -204,7 +176,6 @@ fn put_bar_and_text(
 }
 
 /// Returns whether the label `m` is covered by the label `n`.
-// ensures { result ≡ is_covered (seen_mark m.now) (seen_mark n.now) }
 #[inline]
 pub fn is_covered(m: &Mark<'_>, n: &Mark<'_>) -> bool {
     let (long, short) = (m.to.saturating_sub(m.from), n.to.saturating_sub(n.from));
@@ -212,8 +183,6 @@ pub fn is_covered(m: &Mark<'_>, n: &Mark<'_>) -> bool {
 }
 
 /// Adds the signs of two labels that overlap, of which `l` begins first.
-// ensures { OnOk result (string_bytes out.new ≡ string_bytes out.old
-//     ++ covering palette (seen_mark l.now) (seen_mark r.now)) }
 #[inline]
 fn put_covering(
     out: &mut String,
@@ -231,8 +200,6 @@ fn put_covering(
 }
 
 /// Adds the row of these signs.
-// ensures { OnOk result (string_bytes out.new ≡ string_bytes out.old
-//     ++ under gutter (covering gutter.palette (seen_mark l.now) (seen_mark r.now))) }
 #[inline]
 fn put_covering_row(
     out: &mut String,
@@ -247,8 +214,6 @@ fn put_covering_row(
 }
 
 /// Adds the rows of two labels that overlap, of which `l` begins first.
-// ensures { OnOk result (string_bytes out.new ≡ string_bytes out.old
-//     ++ overlapping gutter (seen_mark l.now) (seen_mark r.now)) }
 #[inline]
 fn put_overlapping(
     out: &mut String,
@@ -264,9 +229,6 @@ fn put_overlapping(
 }
 
 /// Adds the row of the signs of two labels beside each other, with the text of the second one.
-// ensures { OnOk result (string_bytes out.new ≡ string_bytes out.old ++ under gutter
-//     (signs gutter.palette (seen_mark l.now) (seen_mark r.now) r.now.to
-//     ++ (codes " " ++ label_text gutter.palette (seen_mark r.now)))) }
 #[inline]
 fn put_signs_and_text(
     out: &mut String,
@@ -283,8 +245,6 @@ fn put_signs_and_text(
 }
 
 /// Adds the rows of two labels, of which the text of the first one, `l`, hangs.
-// ensures { OnOk result (string_bytes out.new ≡ string_bytes out.old
-//     ++ hanging gutter (seen_mark l.now) (seen_mark r.now)) }
 #[inline]
 fn put_hanging(
     out: &mut String,
@@ -299,7 +259,6 @@ fn put_hanging(
 }
 
 /// Returns how many columns are between the text of the label `l` and the label `r`.
-// ensures { result ≡ r.now.from - (l.now.to + 1 + length l.now.text.now) }
 #[inline]
 fn columns_between(l: &Mark<'_>, r: &Mark<'_>) -> usize {
     let rest_after = r.from.saturating_sub(l.to);
@@ -307,8 +266,6 @@ fn columns_between(l: &Mark<'_>, r: &Mark<'_>) -> usize {
 }
 
 /// Adds the row of two labels beside each other, of which `l` is the first one.
-// ensures { OnOk result (string_bytes out.new ≡ string_bytes out.old
-//     ++ beside gutter (seen_mark l.now) (seen_mark r.now)) }
 #[inline]
 fn put_beside(
     out: &mut String,
@@ -325,8 +282,6 @@ fn put_beside(
 }
 
 /// Adds the rows of two labels, of which `l` begins first.
-// ensures { OnOk result (string_bytes out.new ≡ string_bytes out.old
-//     ++ pair_rows gutter (seen_mark l.now) (seen_mark r.now)) }
 #[inline]
 fn put_pair(
     out: &mut String,
@@ -345,8 +300,6 @@ fn put_pair(
 }
 
 /// Adds the rows of two labels in a line.
-// ensures { OnOk result (string_bytes out.new ≡ string_bytes out.old
-//     ++ both gutter (seen_mark m.now) (seen_mark n.now)) }
 #[inline]
 pub fn put_both(
     out: &mut String,

@@ -1,8 +1,7 @@
 //! The layout of a picture.
 
 // Extracted from crates/drawn_lines/src/frame.rt by tools/extract: not to be edited.
-// That source is proved, and each contract here is its. That this text means the same is tested:
-// by results from outside, and beside what is proved (.ci/bindings) and the original (tools/agree).
+// That source has the contracts, and is proved. That this text means the same is only tested.
 
 use crate::proved::drawn_lines::glyphs::indent;
 use crate::proved::drawn_lines::paint::Gutter;
@@ -21,16 +20,12 @@ pub struct Frame<'a> {
 }
 
 /// Returns the indent of a line of the source, unless it is blank.
-// requires { length picture.now.source.now < 2 ^ 59 }
-// ensures value { result ≡ line_indent (seen_picture picture.now) number }
-// ensures small { IfSome result (λ n. n < 2 ^ 62) }
 #[inline]
 pub fn line_indent(picture: &Picture<'_>, number: usize) -> Option<usize> {
     indent(after_lines(picture.source, number))
 }
 
 /// Returns the number of digits of a number.
-// ensures { result ≡ length (decimal number) }
 #[inline]
 pub fn digits(number: usize) -> usize {
     let mut rest = number;

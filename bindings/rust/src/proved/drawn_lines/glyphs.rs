@@ -1,9 +1,8 @@
 //! Characters as they are drawn, and the columns that they take. A function whose name begins with
-//! `put_` appends to `out`, and returns `Err` if an allocation fails.
+//! `put_` appends to `out`.
 
 // Extracted from crates/drawn_lines/src/glyphs.rt by tools/extract: not to be edited.
-// That source is proved, and each contract here is its. That this text means the same is tested:
-// by results from outside, and beside what is proved (.ci/bindings) and the original (tools/agree).
+// That source has the contracts, and is proved. That this text means the same is only tested.
 
 use crate::proved::drawn_lines::paint::{
     has_colours, put_change, put_closing, put_opening, Palette, Style,
@@ -14,9 +13,6 @@ use crate::shim::prelude::*;
 use crate::shim::unicode_width::UnicodeWidthChar;
 
 /// Returns the first character and the text after it, or `None` if the text is empty.
-// ensures parts { MatchOption result (chars text.now ≡ [])
-//     (λ x. chars text.now ≡ x.0 ∷ chars x.1.now) }
-// ensures shorter { IfSome result (λ x. length x.1.now < length text.now) }
 #[inline]
 pub fn split_first(text: &str) -> Option<(char, &str)> {
     let mut rest = text.chars();
@@ -25,7 +21,6 @@ pub fn split_first(text: &str) -> Option<(char, &str)> {
 }
 
 /// Returns whether a character has Unicode's property `Bidi_Control`.
-// ensures { result ≡ is_bidi_control c }
 #[inline]
 fn is_bidi_control(c: char) -> bool {
     matches!(
@@ -35,7 +30,6 @@ fn is_bidi_control(c: char) -> bool {
 }
 
 /// Returns the character that is drawn for a character.
-// ensures { result ≡ glyph c }
 #[inline]
 pub fn glyph(c: char) -> char {
     match c {
@@ -50,8 +44,6 @@ pub fn glyph(c: char) -> char {
 }
 
 /// Returns how often the glyph of a character is drawn.
-// ensures value { result ≡ glyph_count c }
-// ensures few { result ≤ 4 }
 #[inline]
 pub fn glyph_count(c: char) -> usize {
     match c {
@@ -62,8 +54,6 @@ pub fn glyph_count(c: char) -> usize {
 }
 
 /// Returns how many columns a character takes.
-// ensures value { result ≡ width c }
-// ensures few { result ≤ 4 }
 #[inline]
 pub fn width(c: char) -> usize {
     match c {
@@ -75,9 +65,6 @@ pub fn width(c: char) -> usize {
 
 /// Returns how many columns of the first line of a text are its indent, or `None` if that line is
 /// blank. Reads no further than that line's first character that is no white space.
-// requires { length text.now < 2 ^ 60 }
-// ensures value { result ≡ indent 0 (chars (first_line text.now)) }
-// ensures few { IfSome result (λ n. n ≤ 4 * length text.now) }
 #[inline]
 pub fn indent(text: &str) -> Option<usize> {
     let mut rest = text;
@@ -96,7 +83,6 @@ pub fn indent(text: &str) -> Option<usize> {
 }
 
 /// Returns whether nothing is drawn of a text.
-// ensures { result ≡ (length (encode_utf8_all (glyphs (chars text.now))) == 0) }
 #[inline]
 pub fn draws_nothing(text: &str) -> bool {
     let mut rest = text;
@@ -110,15 +96,12 @@ pub fn draws_nothing(text: &str) -> bool {
 }
 
 /// Returns 64 spaces.
-// ensures { result.now ≡ run 64 32 }
 #[inline]
 fn row_of_spaces() -> &'static str {
     "                                                                "
 }
 
 /// Returns so many spaces.
-// requires { count ≤ 64 }
-// ensures { result.now ≡ run count 32 }
 #[inline]
 fn spaces(count: usize) -> &'static str {
     let row = row_of_spaces();
@@ -126,7 +109,6 @@ fn spaces(count: usize) -> &'static str {
 }
 
 /// Adds spaces.
-// ensures { OnOk result (string_bytes out.new ≡ string_bytes out.old ++ run count 32) }
 #[inline]
 fn put_spaces(out: &mut String, count: usize) -> Result<(), AllocError> {
     let mut left = count;
@@ -139,7 +121,6 @@ fn put_spaces(out: &mut String, count: usize) -> Result<(), AllocError> {
 }
 
 /// Adds a character again and again.
-// ensures { OnOk result (string_bytes out.new ≡ string_bytes out.old ++ run count c) }
 #[inline]
 pub fn put_run(out: &mut String, c: char, count: usize) -> Result<(), AllocError> {
     if c == ' ' {
@@ -153,10 +134,6 @@ pub fn put_run(out: &mut String, c: char, count: usize) -> Result<(), AllocError
 
 /// Adds the printable prefix of a text, without its first `count` characters. Returns what is
 /// after the prefix, and how many characters are still to skip.
-// ensures whole { IfOk result (λ x. string_bytes out.new
-//     ++ encode_utf8_all (drop x.1 (glyphs (chars x.0.now)))
-//     ≡ string_bytes out.old ++ encode_utf8_all (drop count (glyphs (chars text.now)))) }
-// ensures short { IfOk result (λ x. length x.0.now ≤ length text.now) }
 #[inline]
 fn put_printable<'a>(
     out: &mut String,
@@ -171,10 +148,6 @@ fn put_printable<'a>(
 
 /// Adds a prefix of a text that is drawn as it is, without its first `count` characters. Returns
 /// what is after the prefix, and how many characters are still to skip.
-// ensures whole { IfOk result (λ x. string_bytes out.new
-//     ++ encode_utf8_all (drop x.1 (glyphs (chars x.0.now)))
-//     ≡ string_bytes out.old ++ encode_utf8_all (drop count (glyphs (chars text.now)))) }
-// ensures short { IfOk result (λ x. length x.0.now ≤ length text.now) }
 #[inline]
 fn put_as_is<'a>(
     out: &mut String,
@@ -192,11 +165,7 @@ fn put_as_is<'a>(
 /// Appends a text as it is drawn in a terminal, without the first `count` characters of that, to
 /// `out`: a tab becomes four spaces, another control character of ASCII but the line feed its
 /// picture, U+200D nothing, and a control character from U+0080 on and one that changes the
-/// direction of text U+FFFD. Returns `Err` if an allocation fails; a part of the text may then be
-/// in `out`.
-// ensures drawn { OnOk result (string_bytes out.new ≡ string_bytes out.old ++
-//     encode_utf8_all (drop count (glyphs (chars text.now)))) }
-// ensures harmless { IsHarmless (encode_utf8_all (drop count (glyphs (chars text.now)))) }
+/// direction of text U+FFFD.
 #[inline]
 pub fn put_glyphs(out: &mut String, text: &str, count: usize) -> Result<(), AllocError> {
     let (front, rest_after) = split_printable(text, text.len());
@@ -215,8 +184,6 @@ pub fn put_glyphs(out: &mut String, text: &str, count: usize) -> Result<(), Allo
 }
 
 /// Adds a text as it is drawn, in a style.
-// ensures { OnOk result (string_bytes out.new
-//     ≡ string_bytes out.old ++ painted palette style (glyph_bytes text.now)) }
 #[inline]
 pub fn put_painted_glyphs(
     out: &mut String,
@@ -236,8 +203,6 @@ pub fn put_painted_glyphs(
 }
 
 /// Adds a character again and again, in a style.
-// ensures { OnOk result (string_bytes out.new
-//     ≡ string_bytes out.old ++ painted palette style (run count c)) }
 #[inline]
 pub fn put_painted_run(
     out: &mut String,
@@ -256,9 +221,6 @@ pub fn put_painted_run(
 
 /// Adds a text as it is drawn, in the style `new`, where a text of the style `old` is before
 /// it. Returns the style of the last text that is drawn.
-// ensures { IfOk result (λ s. (xs : List Piece) → string_bytes out.new
-//     ++ pieces_after palette s xs ≡ string_bytes out.old ++ pieces_after palette old
-//     (piece new (glyph_bytes text.now) ∷ xs)) }
 #[inline]
 pub fn put_glyphs_after(
     out: &mut String,

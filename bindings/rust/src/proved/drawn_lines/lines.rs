@@ -1,9 +1,7 @@
-//! Lines of the source, and the gutter. A function whose name begins with `put_` appends to `out`,
-//! and returns `Err` if an allocation fails.
+//! Lines of the source, and the gutter. A function whose name begins with `put_` appends to `out`.
 
 // Extracted from crates/drawn_lines/src/lines.rt by tools/extract: not to be edited.
-// That source is proved, and each contract here is its. That this text means the same is tested:
-// by results from outside, and beside what is proved (.ci/bindings) and the original (tools/agree).
+// That source has the contracts, and is proved. That this text means the same is only tested.
 
 use crate::proved::drawn_lines::frame::{digits, Frame};
 use crate::proved::drawn_lines::glyphs::{draws_nothing, put_run};
@@ -17,7 +15,6 @@ use crate::shim::itoa::Buffer;
 use crate::shim::prelude::*;
 
 /// Adds a number in decimal digits.
-// ensures { OnOk result (string_bytes out.new ≡ string_bytes out.old ++ decimal number) }
 #[inline]
 pub fn put_decimal(out: &mut String, number: usize) -> Result<(), AllocError> {
     let mut digits = Buffer::new();
@@ -26,7 +23,6 @@ pub fn put_decimal(out: &mut String, number: usize) -> Result<(), AllocError> {
 }
 
 /// Adds the gutter of a row that has no number.
-// ensures { OnOk result (string_bytes out.new ≡ string_bytes out.old ++ blank gutter) }
 #[inline]
 pub fn put_blank(out: &mut String, gutter: Gutter) -> Result<(), AllocError> {
     put_run(out, ' ', gutter.columns)?;
@@ -35,8 +31,6 @@ pub fn put_blank(out: &mut String, gutter: Gutter) -> Result<(), AllocError> {
 }
 
 /// Adds the gutter of a row under a line, and the space after it.
-// ensures { OnOk result (string_bytes out.new
-//     ≡ string_bytes out.old ++ (blank gutter ++ codes " ")) }
 #[inline]
 pub fn put_gutter(out: &mut String, gutter: Gutter) -> Result<(), AllocError> {
     put_blank(out, gutter)?;
@@ -45,8 +39,6 @@ pub fn put_gutter(out: &mut String, gutter: Gutter) -> Result<(), AllocError> {
 }
 
 /// Adds the row between two parts of the drawing.
-// ensures { OnOk result (string_bytes out.new ≡ string_bytes out.old
-//     ++ parting (seen_frame frame.now)) }
 #[inline]
 pub fn put_parting(out: &mut String, frame: &Frame<'_>) -> Result<(), AllocError> {
     put_blank(out, frame.gutter)?;
@@ -55,9 +47,6 @@ pub fn put_parting(out: &mut String, frame: &Frame<'_>) -> Result<(), AllocError
 }
 
 /// Adds the number of a line of the source, at the right of its gutter.
-// requires { line < 2 ^ 61 }
-// ensures { OnOk result (string_bytes out.new ≡ string_bytes out.old
-//     ++ numbered (seen_frame frame.now) line) }
 #[inline]
 pub fn put_line_number(out: &mut String, frame: &Frame<'_>, line: usize) -> Result<(), AllocError> {
     let number = frame.picture.line_start as usize + line;
@@ -73,9 +62,6 @@ pub fn put_line_number(out: &mut String, frame: &Frame<'_>, line: usize) -> Resu
 }
 
 /// Adds the number of a line of the source, and the bar after it.
-// requires { line < 2 ^ 61 }
-// ensures { OnOk result (string_bytes out.new ≡ string_bytes out.old
-//     ++ number_bar (seen_frame frame.now) line) }
 #[inline]
 pub fn put_number_bar(out: &mut String, frame: &Frame<'_>, line: usize) -> Result<(), AllocError> {
     put_line_number(out, frame, line)?;
@@ -84,8 +70,6 @@ pub fn put_number_bar(out: &mut String, frame: &Frame<'_>, line: usize) -> Resul
 }
 
 /// Adds the text after a bar: a line, after a text in front of it.
-// ensures { OnOk result (string_bytes out.new
-//     ≡ string_bytes out.old ++ after_bar palette front.now window (chars text.now)) }
 #[inline]
 fn put_after_bar(
     out: &mut String,
@@ -102,8 +86,6 @@ fn put_after_bar(
 }
 
 /// Adds a line of the source, after a text in front of it.
-// ensures { OnOk result (string_bytes out.new ≡ string_bytes out.old
-//     ++ source_line (seen_frame frame.now) front.now number) }
 #[inline]
 pub fn put_source_line(
     out: &mut String,
@@ -118,9 +100,6 @@ pub fn put_source_line(
 }
 
 /// Adds a line of the source with its number, after a text in front of it.
-// requires { number < 2 ^ 61 }
-// ensures { OnOk result (string_bytes out.new ≡ string_bytes out.old
-//     ++ source_row (seen_frame frame.now) front.now number) }
 #[inline]
 pub fn put_source(
     out: &mut String,
@@ -134,12 +113,6 @@ pub fn put_source(
 }
 
 /// Adds a line of the source.
-// requires { number < 2 ^ 61 }
-// ensures row { OnOk result (string_bytes out.new ≡ string_bytes out.old
-//     ++ code_row (seen_frame frame.now) number) }
-// The line that the row shows is that line of the source.
-// ensures line { OnOk result (AddsLine (seen_frame frame.now) (codes " ") number
-//     (string_bytes out.old) (string_bytes out.new)) }
 #[inline]
 pub fn put_code(out: &mut String, frame: &Frame<'_>, number: usize) -> Result<(), AllocError> {
     put_source(out, frame, " ", number)?;
@@ -147,9 +120,6 @@ pub fn put_code(out: &mut String, frame: &Frame<'_>, number: usize) -> Result<()
 }
 
 /// Adds the rows between two lines with labels.
-// requires { first < 2 ^ 60 }
-// ensures { OnOk result (string_bytes out.new ≡ string_bytes out.old
-//     ++ gap (seen_frame frame.now) first last) }
 #[inline]
 pub fn put_gap(
     out: &mut String,

@@ -1,9 +1,8 @@
 //! Texts in the styles that rustc gives them on a terminal. A function whose name begins with
-//! `put_` appends to `out`, and returns `Err` if an allocation fails.
+//! `put_` appends to `out`.
 
 // Extracted from crates/drawn_lines/src/paint.rt by tools/extract: not to be edited.
-// That source is proved, and each contract here is its. That this text means the same is tested:
-// by results from outside, and beside what is proved (.ci/bindings) and the original (tools/agree).
+// That source has the contracts, and is proved. That this text means the same is only tested.
 
 use crate::shim::alloc::AllocError;
 use crate::shim::prelude::*;
@@ -52,7 +51,6 @@ pub struct Gutter {
 }
 
 /// Returns the colours of this level, if there are colours.
-// ensures { result ≡ palette_of colours level }
 #[inline]
 pub fn palette_of(colours: bool, level: Palette) -> Palette {
     if colours {
@@ -63,14 +61,12 @@ pub fn palette_of(colours: bool, level: Palette) -> Palette {
 }
 
 /// Returns whether there are colours.
-// ensures { result ≡ has_colours palette }
 #[inline]
 pub fn has_colours(palette: Palette) -> bool {
     !matches!(palette, Palette::Colourless)
 }
 
 /// Returns the escapes that set the colour of a level.
-// ensures { result.now ≡ level_escape palette }
 #[inline]
 fn level_escape(palette: Palette) -> &'static str {
     match palette {
@@ -82,7 +78,6 @@ fn level_escape(palette: Palette) -> &'static str {
 }
 
 /// Returns the escapes that set a style.
-// ensures { result.now ≡ escape palette style }
 #[inline]
 pub fn escape(palette: Palette, style: Style) -> &'static str {
     match style {
@@ -97,7 +92,6 @@ pub fn escape(palette: Palette, style: Style) -> &'static str {
 }
 
 /// Returns a number of a style.
-// ensures { result ≡ rank style }
 #[inline]
 pub fn rank(style: Style) -> u8 {
     match style {
@@ -114,7 +108,6 @@ pub fn rank(style: Style) -> u8 {
 }
 
 /// Adds the escape that ends a style, if it has one.
-// ensures { OnOk result (string_bytes out.new ≡ string_bytes out.old ++ reset_of style) }
 #[inline]
 pub fn put_reset(out: &mut String, style: Style) -> Result<(), AllocError> {
     if rank(style) != 0 {
@@ -124,8 +117,6 @@ pub fn put_reset(out: &mut String, style: Style) -> Result<(), AllocError> {
 }
 
 /// Adds the escapes between a text of one style and a text of another.
-// ensures { OnOk result (string_bytes out.new
-//     ≡ string_bytes out.old ++ change palette old new) }
 #[inline]
 pub fn put_change(
     out: &mut String,
@@ -142,10 +133,6 @@ pub fn put_change(
 }
 
 /// Adds a text in a style, without its end.
-// requires { (length sign.now == 0) ≡ false }
-// ensures { OnOk result ((xs : List Piece) → string_bytes out.new
-//     ++ pieces_after palette style xs
-//     ≡ string_bytes out.old ++ pieces_after palette Plain (piece style sign.now ∷ xs)) }
 #[inline]
 pub fn put_sign(
     out: &mut String,
@@ -159,8 +146,6 @@ pub fn put_sign(
 }
 
 /// Adds the escapes before a text in a style.
-// ensures { OnOk result (string_bytes out.new
-//     ≡ string_bytes out.old ++ opening palette style) }
 #[inline]
 pub fn put_opening(out: &mut String, palette: Palette, style: Style) -> Result<(), AllocError> {
     if has_colours(palette) {
@@ -170,7 +155,6 @@ pub fn put_opening(out: &mut String, palette: Palette, style: Style) -> Result<(
 }
 
 /// Adds the escape after a text in a style.
-// ensures { OnOk result (string_bytes out.new ≡ string_bytes out.old ++ closing palette) }
 #[inline]
 pub fn put_closing(out: &mut String, palette: Palette) -> Result<(), AllocError> {
     if has_colours(palette) {
@@ -180,8 +164,6 @@ pub fn put_closing(out: &mut String, palette: Palette) -> Result<(), AllocError>
 }
 
 /// Adds a text in a style.
-// ensures { OnOk result (string_bytes out.new
-//     ≡ string_bytes out.old ++ painted palette style text.now) }
 #[inline]
 pub fn put_painted(
     out: &mut String,
@@ -198,8 +180,6 @@ pub fn put_painted(
 }
 
 /// Adds a space and the bar of a gutter.
-// ensures { OnOk result (string_bytes out.new
-//     ≡ string_bytes out.old ++ (codes " " ++ painted palette Secondary (codes "|"))) }
 #[inline]
 pub fn put_gutter_bar(out: &mut String, palette: Palette) -> Result<(), AllocError> {
     match palette {
@@ -212,9 +192,6 @@ pub fn put_gutter_bar(out: &mut String, palette: Palette) -> Result<(), AllocErr
 }
 
 /// Adds the start of a note, after the columns of the gutter.
-// ensures { OnOk result (string_bytes out.new ≡ string_bytes out.old
-//     ++ (codes " " ++ (painted palette Secondary (codes "= ")
-//     ++ (painted palette Bold (codes "note") ++ codes ": ")))) }
 #[inline]
 pub fn put_note_sign(out: &mut String, palette: Palette) -> Result<(), AllocError> {
     match palette {

@@ -1,8 +1,7 @@
 //! The source around a literal, its lines and places.
 
 // Extracted from crates/drawn_lines/src/places.rt by tools/extract: not to be edited.
-// That source is proved, and each contract here is its. That this text means the same is tested:
-// by results from outside, and beside what is proved (.ci/bindings) and the original (tools/agree).
+// That source has the contracts, and is proved. That this text means the same is only tested.
 
 use crate::proved::drawn_lines::extent::{Extent, Spot};
 use crate::proved::drawn_lines::glyphs::{split_first, width};
@@ -39,13 +38,6 @@ pub const ORIGIN: Spot = Spot {
 };
 
 /// Returns the place after a character.
-// requires small_line { spot.line < 2 ^ 62 }
-// requires small_chars { spot.chars < 2 ^ 62 }
-// requires small_column { spot.column < 2 ^ 61 }
-// ensures value { result ≡ past spot c }
-// ensures lines { result.line ≤ spot.line + 1 }
-// ensures chars { result.chars ≤ spot.chars + 1 }
-// ensures columns { result.column ≤ spot.column + 4 }
 #[inline]
 fn past(spot: Spot, c: char) -> Spot {
     if c == '\n' {
@@ -65,14 +57,6 @@ fn past(spot: Spot, c: char) -> Spot {
 }
 
 /// Returns the place after printable characters.
-// requires printable { list_all is_printable front.now ≡ true }
-// requires after_indent { spot.is_indent ≡ false }
-// requires small_chars { spot.chars + length front.now < 2 ^ 62 }
-// requires small_column { spot.column + length front.now < 2 ^ 62 }
-// ensures value { result ≡ fold past spot front.now }
-// ensures line { result.line ≡ spot.line }
-// ensures chars { result.chars ≡ spot.chars + length front.now }
-// ensures column { result.column ≡ spot.column + length front.now }
 #[inline]
 fn past_printable(spot: Spot, front: &str) -> Spot {
     Spot {
@@ -85,19 +69,6 @@ fn past_printable(spot: Spot, front: &str) -> Spot {
 
 /// Passes the printable characters at the start of a text that end within `width` bytes. Returns
 /// the place after them, what is left of the text, and how many of the bytes are left.
-// requires after_indent { from.is_indent ≡ false }
-// requires small_chars { from.chars + length text.now < 2 ^ 60 }
-// requires small_column { from.column + 4 * length text.now < 2 ^ 61 }
-// ensures value { fold past result.0 (within result.2 (chars result.1.now))
-//     ≡ fold past from (within width (chars text.now)) }
-// ensures on { (more : ℕ) → fold past from (within (width + more) (chars text.now))
-//     ≡ fold past result.0 (within (result.2 + more) (chars result.1.now)) }
-// ensures fewer { result.2 ≤ width }
-// ensures shorter { length result.1.now ≤ length text.now }
-// ensures lines { result.0.line + length result.1.now ≤ from.line + length text.now }
-// ensures chars { result.0.chars + length result.1.now ≤ from.chars + length text.now }
-// ensures columns { result.0.column + 4 * length result.1.now
-//     ≤ from.column + 4 * length text.now }
 #[inline]
 fn pass_printable(from: Spot, text: &str, width: usize) -> (Spot, &str, usize) {
     let (front, rest) = split_printable(text, width);
@@ -106,17 +77,6 @@ fn pass_printable(from: Spot, text: &str, width: usize) -> (Spot, &str, usize) {
 
 /// Passes the characters of a text that end within `width` bytes. Returns the place after them,
 /// what is left of the text, and how many of the bytes are left.
-// requires small_line { from.line + length text.now < 2 ^ 60 }
-// requires small_chars { from.chars + length text.now < 2 ^ 60 }
-// requires small_column { from.column + 4 * length text.now < 2 ^ 61 }
-// ensures value { result.0 ≡ fold past from (within width (chars text.now)) }
-// ensures on { (more : ℕ) → fold past from (within (width + more) (chars text.now))
-//     ≡ fold past result.0 (within (result.2 + more) (chars result.1.now)) }
-// ensures fewer { result.2 ≤ width }
-// ensures lines { result.0.line + length result.1.now ≤ from.line + length text.now }
-// ensures chars { result.0.chars + length result.1.now ≤ from.chars + length text.now }
-// ensures columns { result.0.column + 4 * length result.1.now
-//     ≤ from.column + 4 * length text.now }
 #[inline]
 fn pass(from: Spot, text: &str, width: usize) -> (Spot, &str, usize) {
     let mut at = from;
@@ -140,10 +100,6 @@ fn pass(from: Spot, text: &str, width: usize) -> (Spot, &str, usize) {
 }
 
 /// Returns the first line of a text, and the rest of the text after that line.
-// ensures line { result.0.now ≡ first_line text.now }
-// ensures rest { result.1.now ≡ after_lines 1 text.now }
-// ensures short_line { length result.0.now ≤ length text.now }
-// ensures short { length result.1.now ≤ length text.now }
 #[inline]
 pub fn split_line(text: &str) -> (&str, &str) {
     match text.split_once('\n') {
@@ -153,8 +109,6 @@ pub fn split_line(text: &str) -> (&str, &str) {
 }
 
 /// Returns the rest of a text after its first lines.
-// ensures value { result.now ≡ after_lines count text.now }
-// ensures short { length result.now ≤ length text.now }
 #[inline]
 pub fn after_lines(text: &str, count: usize) -> &str {
     let mut rest = text;
@@ -168,8 +122,6 @@ pub fn after_lines(text: &str, count: usize) -> &str {
 }
 
 /// Returns the line with a number, counted from 0, or an empty text after the last one.
-// ensures value { result.now ≡ line number text.now }
-// ensures short { length result.now ≤ length text.now }
 #[inline]
 pub fn line(text: &str, number: usize) -> &str {
     let (first, _) = split_line(after_lines(text, number));
@@ -177,9 +129,6 @@ pub fn line(text: &str, number: usize) -> &str {
 }
 
 /// Returns the byte offsets in the source at which a range of the literal begins and ends.
-// ensures start { result.0 ≡ offset (seen_picture picture.now) (pair range.now).0 }
-// ensures end { result.1 ≡ max (offset (seen_picture picture.now) (pair range.now).0)
-//     (offset (seen_picture picture.now) (pair range.now).1) }
 #[inline]
 pub fn offsets(picture: &Picture<'_>, range: &Range<usize>) -> (usize, usize) {
     let length = picture.source.len();
@@ -192,13 +141,6 @@ pub fn offsets(picture: &Picture<'_>, range: &Range<usize>) -> (usize, usize) {
 }
 
 /// Returns where a range of the literal begins and ends.
-// requires { length picture.now.source.now < 2 ^ 59 }
-// ensures value { seen_extent result ≡ extent (seen_picture picture.now) (pair range.now) }
-// ensures small_line { result.start.line < 2 ^ 59 }
-// ensures small_end { result.end.line < 2 ^ 59 }
-// ensures small_chars { result.start.chars < 2 ^ 59 }
-// ensures small_column { result.start.column < 2 ^ 61 }
-// ensures small_end_column { result.end.column < 2 ^ 61 }
 #[inline]
 pub fn extent_of(picture: &Picture<'_>, range: &Range<usize>) -> Extent {
     let (from, to) = offsets(picture, range);

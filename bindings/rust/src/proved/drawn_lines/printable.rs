@@ -2,8 +2,7 @@
 //! printable ones of ASCII take one column.
 
 // Extracted from crates/drawn_lines/src/printable.rt by tools/extract: not to be edited.
-// That source is proved, and each contract here is its. That this text means the same is tested:
-// by results from outside, and beside what is proved (.ci/bindings) and the original (tools/agree).
+// That source has the contracts, and is proved. That this text means the same is only tested.
 
 use crate::proved::rustc_parse_format::{front_width, Stops};
 use crate::shim::prelude::*;
@@ -50,10 +49,6 @@ const PRINTABLE: Stops = Stops {
 
 /// Returns the longest prefix of at most `most` characters that are printable, and what is after
 /// it.
-// ensures pass { list_all is_printable result.0.now ≡ true }
-// ensures parts { chars text.now ≡ result.0.now ++ chars result.1.now }
-// ensures within { length result.0.now ≤ most }
-// ensures lengths { length result.0.now + length result.1.now ≡ length text.now }
 #[inline]
 pub fn split_printable(text: &str, most: usize) -> (&str, &str) {
     let bytes = text.as_bytes();
@@ -62,9 +57,6 @@ pub fn split_printable(text: &str, most: usize) -> (&str, &str) {
 }
 
 /// Returns a prefix of a text that is drawn as it is, and what is after it.
-// ensures drawn { encode_utf8_all (glyphs (chars text.now))
-//     ≡ result.0.now ++ encode_utf8_all (glyphs (chars result.1.now)) }
-// ensures shorter { length result.1.now ≤ length text.now }
 #[inline]
 pub fn split_as_is(text: &str) -> (&str, &str) {
     let width = text.boundary_at_most(front_width(text.as_bytes(), AS_IS));
@@ -75,7 +67,6 @@ pub fn split_as_is(text: &str) -> (&str, &str) {
 /// as `push_str` does. For some texts of which that holds it returns `false`.
 ///
 /// [`put_glyphs`]: crate::put_glyphs
-// ensures { IsTrue result → list_all is_drawn_as_is text.now ≡ true }
 #[inline]
 pub fn is_drawn_as_is(text: &str) -> bool {
     front_width(text.as_bytes(), AS_IS) == text.len()
@@ -83,7 +74,6 @@ pub fn is_drawn_as_is(text: &str) -> bool {
 
 /// Returns `true` only if each part of a text without ASCII is drawn as it is. For some texts of
 /// which that holds it returns `false`.
-// ensures { IsTrue result → list_all is_drawn_as_it_is text.now ≡ true }
 #[inline]
 pub fn is_drawn_as_it_is(text: &str) -> bool {
     front_width(text.as_bytes(), BEYOND_ASCII) == text.len()

@@ -1,9 +1,8 @@
 //! How lines of the source are cut to a width. A function whose name begins with `put_` appends to
-//! `out`, and returns `Err` if an allocation fails.
+//! `out`.
 
 // Extracted from crates/drawn_lines/src/window.rt by tools/extract: not to be edited.
-// That source is proved, and each contract here is its. That this text means the same is tested:
-// by results from outside, and beside what is proved (.ci/bindings) and the original (tools/agree).
+// That source has the contracts, and is proved. That this text means the same is only tested.
 
 use crate::proved::drawn_lines::frame::Frame;
 use crate::proved::drawn_lines::glyphs::{
@@ -27,9 +26,6 @@ pub struct Window {
 }
 
 /// Returns how many columns a text takes.
-// requires { length text.now < 2 ^ 60 }
-// ensures value { result ≡ columns (chars text.now) }
-// ensures few { result ≤ 4 * length text.now }
 #[inline]
 pub fn columns(text: &str) -> usize {
     let (front, rest_after) = split_printable(text, text.len());
@@ -44,11 +40,6 @@ pub fn columns(text: &str) -> usize {
 }
 
 /// Returns a text without its first `count` columns, and how many columns are left out.
-// requires { length text.now < 2 ^ 60 }
-// ensures rest { chars result.0.now ≡ past_columns count (chars text.now) }
-// ensures bytes { result.0.now ≡ encode_utf8_all (past_columns count (chars text.now)) }
-// ensures columns { result.1 ≡ left_out count (chars text.now) }
-// ensures short { length result.0.now ≤ length text.now }
 #[inline]
 fn past_columns(text: &str, count: usize) -> (&str, usize) {
     let mut rest = text;
@@ -67,10 +58,6 @@ fn past_columns(text: &str, count: usize) -> (&str, usize) {
 
 /// Returns how many columns are left out, if the first `count` columns of a text are, of the same
 /// character so often at its start, and how many of these columns are then left.
-// requires { times ≤ 4 }
-// ensures value { (t : Text) → left_out count (replicate times character ++ t)
-//     ≡ result.0 + left_out result.1 t }
-// ensures few { result.0 ≤ 16 }
 #[inline]
 fn left_out_of_run(count: usize, times: usize, character: char) -> (usize, usize) {
     let mut left = count;
@@ -86,8 +73,6 @@ fn left_out_of_run(count: usize, times: usize, character: char) -> (usize, usize
 
 /// Returns how many columns are left out if the first `count` columns of a text, as it is drawn,
 /// are.
-// requires { length text.now < 2 ^ 59 }
-// ensures { result ≡ left_out count (glyphs (chars text.now)) }
 #[inline]
 fn left_out(text: &str, count: usize) -> usize {
     let mut rest = text;
@@ -106,8 +91,6 @@ fn left_out(text: &str, count: usize) -> usize {
 }
 
 /// Returns how many columns at the start of a line of the source are cut.
-// requires { length frame.now.picture.now.source.now < 2 ^ 59 }
-// ensures { result ≡ shift (seen_frame frame.now) number }
 #[inline]
 pub fn shift(frame: &Frame<'_>, number: usize) -> usize {
     if frame.window.left == 0 {
@@ -117,8 +100,6 @@ pub fn shift(frame: &Frame<'_>, number: usize) -> usize {
 }
 
 /// Adds the first characters of a text, as many as end within `count` columns.
-// ensures { OnOk result (string_bytes out.new
-//     ≡ string_bytes out.old ++ encode_utf8_all (within_columns count (chars text.now))) }
 #[inline]
 fn put_within(out: &mut String, text: &str, count: usize) -> Result<(), AllocError> {
     let mut rest = text;
@@ -135,9 +116,6 @@ fn put_within(out: &mut String, text: &str, count: usize) -> Result<(), AllocErr
 }
 
 /// Adds the part of a line in the window.
-// requires { length row.now < 2 ^ 60 }
-// ensures { OnOk result (string_bytes out.new
-//     ≡ string_bytes out.old ++ encode_utf8_all (in_window window is_wide (chars row.now))) }
 #[inline]
 fn put_in_window(
     out: &mut String,
@@ -156,11 +134,6 @@ fn put_in_window(
 
 /// Adds the dots over the first characters of a part of a line, if the line is cut in front of it.
 /// Returns the rest of the part.
-// requires { length part.now < 2 ^ 60 }
-// ensures dots { OnOk result (string_bytes out.new
-//     ≡ string_bytes out.old ++ dots_before palette window (chars part.now)) }
-// ensures rest { IfOk result (λ s. chars s.now ≡ after_dots window (chars part.now)) }
-// ensures short { IfOk result (λ s. length s.now ≤ length part.now) }
 #[inline]
 fn put_dots_before<'a>(
     out: &mut String,
@@ -178,9 +151,6 @@ fn put_dots_before<'a>(
 }
 
 /// Adds this rest, with dots over its last characters if the line goes on.
-// requires { length rest.now < 2 ^ 60 }
-// ensures { OnOk result (string_bytes out.new
-//     ≡ string_bytes out.old ++ up_to_dots palette is_wide (chars rest.now)) }
 #[inline]
 fn put_up_to_dots(
     out: &mut String,
@@ -197,9 +167,6 @@ fn put_up_to_dots(
 }
 
 /// Adds a part of a line.
-// requires { length part.now < 2 ^ 60 }
-// ensures { OnOk result (string_bytes out.new
-//     ≡ string_bytes out.old ++ dotted palette window is_wide (chars part.now)) }
 #[inline]
 fn put_dotted(
     out: &mut String,
@@ -214,8 +181,6 @@ fn put_dotted(
 }
 
 /// Adds a line, of which this is the text that is drawn, cut to the window.
-// ensures { OnOk result (string_bytes out.new ≡ string_bytes out.old
-//     ++ dotted palette window is_wide (in_window window is_wide (chars row.now))) }
 #[inline]
 fn put_cut(
     out: &mut String,
@@ -237,12 +202,6 @@ fn put_cut(
 }
 
 /// Adds a line as it is drawn.
-// ensures drawn { OnOk result (string_bytes out.new
-//     ≡ string_bytes out.old ++ shown palette window (chars text.now)) }
-// Between dots a part of the line is drawn. A line that is cut at its end takes with its dots
-// no more columns than it may, or a few if these are not enough for dots.
-// ensures part { IsPartOf (between_dots window (chars text.now)) (glyphs (chars text.now)) }
-// ensures narrow { cut_columns window (chars text.now) ≤ max window.most 3 + 3 }
 #[inline]
 pub fn put_shown(
     out: &mut String,

@@ -1,8 +1,7 @@
 //! The errors of all calls of a parser.
 
 // Extracted from crates/fault_fixes/src/errors.rt by tools/extract: not to be edited.
-// That source is proved, and each contract here is its. That this text means the same is tested:
-// by results from outside, and beside what is proved (.ci/bindings) and the original (tools/agree).
+// That source has the contracts, and is proved. That this text means the same is only tested.
 
 use crate::proved::rustc_parse_format::{Argument, Fault, ParseError, ParseMode};
 use crate::shim::alloc::AllocError;
@@ -18,8 +17,6 @@ struct Errors {
 }
 
 /// Adds the errors of faults.
-// ensures { OnOk result (seen_errors errors.new
-//     ≡ add_errors (seen_errors errors.old) (map seen_fault faults.now)) }
 #[inline]
 fn add_each(errors: &mut Errors, faults: &[Fault<'_>]) -> Result<(), AllocError> {
     for fault in faults {
@@ -35,13 +32,6 @@ fn add_each(errors: &mut Errors, faults: &[Fault<'_>]) -> Result<(), AllocError>
 
 /// Makes a call of a parser, and adds the errors of its faults. `faults` is empty before and after
 /// the call.
-// requires none { parser.old.errors ≡ [] }
-// requires empty { faults.old.items ≡ [] }
-// ensures state { OnOk result (parser.new
-//     ≡ record (after parser.old (next_call parser.old)) { errors = [] }) }
-// ensures errors { OnOk result (seen_errors errors.new ≡ add_errors (seen_errors errors.old)
-//     (faults_in parser.old.world (next_call parser.old).faults)) }
-// ensures added { OnOk result (faults.new.items ≡ []) }
 #[inline]
 fn add_next<'a>(
     errors: &mut Errors,
@@ -56,7 +46,6 @@ fn add_next<'a>(
 }
 
 /// Returns errors as one list.
-// ensures { IfOk result (λ v. map seen_error v.items ≡ seen_errors errors) }
 #[inline]
 fn into_list(errors: Errors) -> Result<Vec<ParseError>, AllocError> {
     let mut list = errors.fronts;
@@ -69,11 +58,6 @@ fn into_list(errors: Errors) -> Result<Vec<ParseError>, AllocError> {
 /// Returns the errors of all calls of a parser up to the end of an input, in its order. The
 /// arguments are those of [`Parser::new`]. The time grows with the input, whereas a parser moves
 /// all errors that it has where one is put before them.
-// requires { hashes style + length input.now + 2 < 2 ^ 64 }
-// ensures errors { IfOk result (λ v. map seen_error v.items
-//     ≡ all_errors (first_state (seen_mode mode) (chars input.now) style
-//     (seen_snippet snippet) appended_newline)) }
-// ensures empty { input.now ≡ [] → IsOk result }
 #[inline]
 pub fn errors_of(
     input: &str,

@@ -2,8 +2,7 @@
 //! literal with them applied.
 
 // Extracted from crates/fault_fixes/src/fixes.rt by tools/extract: not to be edited.
-// That source is proved, and each contract here is its. That this text means the same is tested:
-// by results from outside, and beside what is proved (.ci/bindings) and the original (tools/agree).
+// That source has the contracts, and is proved. That this text means the same is only tested.
 
 use crate::proved::rustc_parse_format::literal::is_source_literal;
 use crate::proved::rustc_parse_format::{Argument, Fault, ParseError, ParseMode, Suggestion};
@@ -32,8 +31,6 @@ pub struct Fixed {
 
 /// Returns whether a suggestion is made in a mode. The compiler makes none for a template of
 /// assembly, and where no placeholder may have a specification, none leads to one.
-// ensures { (if result then seen_suggestion suggestion.now else Nothing)
-//     ≡ offered (seen_mode mode) (seen_suggestion suggestion.now) }
 #[inline]
 pub fn is_offered(mode: ParseMode, suggestion: &Suggestion) -> bool {
     match mode {
@@ -44,7 +41,6 @@ pub fn is_offered(mode: ParseMode, suggestion: &Suggestion) -> bool {
 }
 
 /// Returns the edit of a suggestion, or `None` if it has none or needs the arguments of the call.
-// ensures { option_map seen_edit result ≡ suggested (seen_suggestion suggestion.now) }
 #[inline]
 fn edit_of(suggestion: &Suggestion) -> Option<Edit<'_>> {
     match suggestion {
@@ -68,8 +64,6 @@ fn edit_of(suggestion: &Suggestion) -> Option<Edit<'_>> {
 
 /// Returns the edit of a suggestion that is made in a mode, or `None` if there is none or it needs
 /// the arguments of the call.
-// ensures { option_map seen_edit result
-//     ≡ suggested (offered (seen_mode mode) (seen_suggestion suggestion.now)) }
 #[inline]
 fn offered_edit(mode: ParseMode, suggestion: &Suggestion) -> Option<Edit<'_>> {
     if !is_offered(mode, suggestion) {
@@ -86,10 +80,6 @@ fn offered_edit(mode: ParseMode, suggestion: &Suggestion) -> Option<Edit<'_>> {
 ///
 /// The errors are in the order of a parser, in which each error that has an edit comes before those
 /// of earlier places. An edit that does not start after the end of the one before it is left out.
-// ensures edits { IfOk result (λ v. map seen_edit v.items
-//     ≡ edits (seen_mode mode) (map seen_error errors.now)) }
-// ensures order { IfOk result (λ v. AreInOrder 0 (map seen_edit v.items)) }
-// ensures spare { edits (seen_mode mode) (map seen_error errors.now) ≡ [] → IsOk result }
 #[inline]
 pub fn edits<'e>(mode: ParseMode, errors: &'e [ParseError]) -> Result<Vec<Edit<'e>>, AllocError> {
     let mut found = Vec::new();
@@ -106,14 +96,12 @@ pub fn edits<'e>(mode: ParseMode, errors: &'e [ParseError]) -> Result<Vec<Edit<'
 }
 
 /// Returns the first n bytes, or all if there are fewer.
-// ensures { result.now ≡ take n bytes.now }
 #[inline]
 fn front(bytes: &[u8], n: usize) -> &[u8] {
     bytes.get(..n).unwrap_or(bytes)
 }
 
 /// Returns the bytes after the first n, or none if there are no more.
-// ensures { result.now ≡ drop n bytes.now }
 #[inline]
 fn rest_after(bytes: &[u8], n: usize) -> &[u8] {
     bytes.get(n..).unwrap_or(&[])
@@ -133,8 +121,6 @@ struct Edited<'t> {
 
 /// Makes the edit of a suggestion in a mode, if it has one that starts after the end of the last
 /// one.
-// ensures { OnOk result ((es : List EditValue) → with_edits edited.new es ≡ with_edits edited.old
-//     (cons_option (suggested (offered (seen_mode mode) (seen_suggestion suggestion.now))) es)) }
 #[inline]
 fn make(
     edited: &mut Edited<'_>,
@@ -156,8 +142,6 @@ fn make(
 }
 
 /// Makes the edits of faults in a mode, the first one first.
-// ensures { OnOk result ((es : List EditValue) → with_edits edited.new es ≡ with_edits edited.old
-//     (fault_edits (seen_mode mode) (map seen_fault faults.now) ++ es)) }
 #[inline]
 fn make_each(
     edited: &mut Edited<'_>,
@@ -173,14 +157,6 @@ fn make_each(
 
 /// Makes a call of a parser, and the edits of its faults in a mode. `faults` is empty before and
 /// after the call.
-// requires none { parser.old.errors ≡ [] }
-// requires empty { faults.old.items ≡ [] }
-// ensures state { OnOk result (parser.new
-//     ≡ record (after parser.old (next_call parser.old)) { errors = [] }) }
-// ensures edits { OnOk result ((es : List EditValue) → with_edits edited.new es ≡ with_edits
-//     edited.old (fault_edits (seen_mode mode)
-//     (faults_in parser.old.world (next_call parser.old).faults) ++ es)) }
-// ensures made { OnOk result (faults.new.items ≡ []) }
 #[inline]
 fn make_next<'a>(
     edited: &mut Edited<'_>,
@@ -197,11 +173,6 @@ fn make_next<'a>(
 
 /// Returns a text with the edits of the errors of all calls of a parser without errors, in a mode,
 /// and whether there are any. The text starts at the byte offset `at`.
-// requires { parser.old.errors ≡ [] }
-// ensures bytes { IfOk result (λ x. x.0.items
-//     ≡ applied at (edits (seen_mode mode) (all_errors parser.old)) text.now) }
-// ensures some { IfOk result (λ x. x.1
-//     ≡ not (is_empty (edits (seen_mode mode) (all_errors parser.old)))) }
 #[inline]
 fn edit_all(
     mode: ParseMode,
@@ -226,8 +197,6 @@ fn edit_all(
 }
 
 /// Returns bytes as a text, or `None` if they are not UTF-8.
-// ensures some { IfSome result (λ s. string_bytes s ≡ bytes.items) }
-// ensures none { IfNone result (IsUtf8 bytes.items → ⊥) }
 #[inline]
 fn text_of(bytes: Vec<u8>) -> Option<String> {
     String::from_utf8(bytes).ok()
@@ -235,16 +204,6 @@ fn text_of(bytes: Vec<u8>) -> Option<String> {
 
 /// Returns the literal of an input with the edits of its errors, or `None` if it has none or is
 /// then not UTF-8.
-// requires { hashes style + length input.now + 2 < 2 ^ 64 }
-// ensures edits { IfOk result (λ o. IfSome o (λ s. literal_edits (seen_mode mode)
-//     (chars input.now) style (chars snippet.now) appended_newline ≢ [])) }
-// ensures some { IfOk result (λ o. IfSome o (λ s. string_bytes s ≡ applied 0 (literal_edits
-//     (seen_mode mode) (chars input.now) style (chars snippet.now) appended_newline)
-//     snippet.now)) }
-// ensures none { IfOk result (λ o. IfNone o (literal_edits (seen_mode mode) (chars input.now)
-//     style (chars snippet.now) appended_newline ≢ [] → IsUtf8 (applied 0 (literal_edits
-//     (seen_mode mode) (chars input.now) style (chars snippet.now) appended_newline)
-//     snippet.now) → ⊥)) }
 #[inline]
 fn edited_literal(
     input: &str,
@@ -263,11 +222,6 @@ fn edited_literal(
 }
 
 /// Returns an input with the edits of its errors, or `None` if it is then not UTF-8.
-// requires { length input.now + 2 < 2 ^ 64 }
-// ensures some { IfOk result (λ o. IfSome o (λ s. string_bytes s
-//     ≡ applied 1 (text_edits (seen_mode mode) (chars input.now)) input.now)) }
-// ensures none { IfOk result (λ o. IfNone o
-//     (IsUtf8 (applied 1 (text_edits (seen_mode mode) (chars input.now)) input.now) → ⊥)) }
 #[inline]
 fn edited_text(input: &str, mode: ParseMode) -> Result<Option<String>, AllocError> {
     let mut parser = Parser::new(input, None, None, false, mode)?;
@@ -281,13 +235,6 @@ fn edited_text(input: &str, mode: ParseMode) -> Result<Option<String>, AllocErro
 /// Returns `None` if the snippet is not the source literal of the input, so that no edit is made in
 /// a foreign literal, if there is no edit, or if the literal with its edits would not stand for the
 /// text with its own.
-// requires { hashes style + length input.now + 2 < 2 ^ 64 }
-// ensures some { IfOk result (λ o. IfSome o (λ f. IsRound (seen_mode mode) input.now style
-//     snippet.now appended_newline (seen_fixed f))) }
-// ensures none { IfOk result (λ o. IfNone o ((f : FixedLiteral)
-//     → IsRound (seen_mode mode) input.now style snippet.now appended_newline f → ⊥)) }
-// ensures foreign { (IsSource (chars input.now) style (chars snippet.now) appended_newline → ⊥)
-//     → IsOk result }
 #[inline]
 pub fn round(
     input: &str,

@@ -1,8 +1,7 @@
 //! The literal that the suggestions of its faults make of it, round by round.
 
 // Extracted from crates/fault_fixes/src/rounds.rt by tools/extract: not to be edited.
-// That source is proved, and each contract here is its. That this text means the same is tested:
-// by results from outside, and beside what is proved (.ci/bindings) and the original (tools/agree).
+// That source has the contracts, and is proved. That this text means the same is only tested.
 
 use crate::proved::fault_fixes::fixes::{round, Fixed};
 use crate::proved::rustc_parse_format::{Argument, Fault, ParseMode};
@@ -23,9 +22,6 @@ struct Faults<'a> {
 
 /// Returns the faults of a text. Returns `Err` if an allocation fails, or if the text has 2^59
 /// bytes or more.
-// ensures ids { IfOk result (λ f. map fault_id (map seen_fault f.list.items)
-//     ≡ ids (seen_mode mode) text.now) }
-// ensures calls { IfOk result (λ f. f.calls ≡ faulty (seen_mode mode) text.now) }
 #[inline]
 fn faults_of(text: &str, mode: ParseMode) -> Result<Faults<'_>, AllocError> {
     if text.len() >= 1 << (usize::BITS - 5) {
@@ -46,8 +42,6 @@ fn faults_of(text: &str, mode: ParseMode) -> Result<Faults<'_>, AllocError> {
 }
 
 /// Returns whether faults are some of others, in their order, by their kinds alone.
-// ensures { result ≡ is_part (map fault_id (map seen_fault part.now))
-//     (map fault_id (map seen_fault whole.now)) }
 #[inline]
 fn is_part(part: &[Fault<'_>], whole: &[Fault<'_>]) -> bool {
     let mut count = 0;
@@ -64,8 +58,6 @@ fn is_part(part: &[Fault<'_>], whole: &[Fault<'_>]) -> bool {
 
 /// Returns how many calls over a text find a fault, or `None` if not all of these faults are old
 /// ones, in their order. Returns `Err` as `faults_of` does.
-// ensures { IfOk result (λ o. o ≡ count_left (map fault_id (map seen_fault old.now))
-//     (seen_mode mode) text.now) }
 #[inline]
 fn count_left(old: &[Fault<'_>], text: &str, mode: ParseMode) -> Result<Option<usize>, AllocError> {
     let found = faults_of(text, mode)?;
@@ -86,7 +78,6 @@ struct Best {
 
 /// Keeps a literal if it is better. `calls` is how many of its calls find a fault, or `None` if
 /// there is a new one.
-// ensures { seen_best best.new ≡ offered (seen_best best.old) (seen_fixed literal) calls }
 #[inline]
 fn offer(best: &mut Best, literal: Fixed, calls: Option<usize>) {
     if let Some(calls) = calls {
@@ -99,13 +90,6 @@ fn offer(best: &mut Best, literal: Fixed, calls: Option<usize>) {
 
 /// Returns what one more round of edits makes of a literal, or `None` if there is no edit. Returns
 /// `Err` if an allocation fails, or if the literal or its text has 2^59 bytes or more.
-// requires { hashes style ≤ length (seen_fixed reached.now).snippet }
-// ensures some { IfOk result (λ o. IfSome o (λ f. IsRound (seen_mode mode)
-//     (seen_fixed reached.now).text style (seen_fixed reached.now).snippet appended_newline
-//     (seen_fixed f))) }
-// ensures none { IfOk result (λ o. IfNone o ((f : FixedLiteral) → IsRound (seen_mode mode)
-//     (seen_fixed reached.now).text style (seen_fixed reached.now).snippet appended_newline f
-//     → ⊥)) }
 #[inline]
 fn next_round(
     reached: &Fixed,
@@ -138,13 +122,6 @@ fn next_round(
 /// literal. The arguments are those of [`Parser::new`]: the number of hashes, the byte length of
 /// the input and 2 must add up to less than 2^64. Returns `Err` if an allocation fails, or if there
 /// is an edit and a literal or its text has 2^59 bytes or more.
-// requires { hashes style + length input.now + 2 < 2 ^ 64 }
-// ensures some { IfOk result (λ o. IfSome o (λ f. IsFixed (seen_mode mode) input.now style
-//     snippet.now appended_newline (seen_fixed f))) }
-// ensures none { IfOk result (λ o. IfNone o ((f : FixedLiteral)
-//     → IsFixed (seen_mode mode) input.now style snippet.now appended_newline f → ⊥)) }
-// ensures foreign { (IsSource (chars input.now) style (chars snippet.now) appended_newline → ⊥)
-//     → IsOk result }
 #[inline]
 pub fn fix(
     input: &str,

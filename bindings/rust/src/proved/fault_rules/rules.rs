@@ -1,8 +1,7 @@
 //! The rules, one for each kind of fault.
 
 // Extracted from crates/fault_rules/src/rules.rt by tools/extract: not to be edited.
-// That source is proved, and each contract here is its. That this text means the same is tested:
-// by results from outside, and beside what is proved (.ci/bindings) and the original (tools/agree).
+// That source has the contracts, and is proved. That this text means the same is only tested.
 
 /// The rule of a kind of fault: its meaning, and an example.
 #[derive(Clone, Copy)]
@@ -307,8 +306,6 @@ pub const RULES: [Rule; COUNT] = [
 ];
 
 /// Returns the first of these rules that has an id, or `None` if none has it.
-// ensures some { is_some result ≡ is_id id.now (map (λ r. r.id.now) rules.now) }
-// ensures rule { IfSome result (λ r. r.id.now ≡ id.now) }
 #[inline]
 fn find(rules: &[Rule], id: &str) -> Option<Rule> {
     for rule in rules {
@@ -320,8 +317,6 @@ fn find(rules: &[Rule], id: &str) -> Option<Rule> {
 }
 
 /// Returns the rule with this id, or `None` if there is none.
-// ensures some { is_some result ≡ is_id id.now ids }
-// ensures rule { IfSome result (λ r. r.id.now ≡ id.now) }
 #[inline]
 pub fn rule_of(id: &str) -> Option<Rule> {
     find(RULES.as_slice(), id)

@@ -1,8 +1,7 @@
 //! A file with the suggestions to its faults applied, round after round.
 
 // Extracted from crates/file_fixes/src/rounds.rt by tools/extract: not to be edited.
-// That source is proved, and each contract here is its. That this text means the same is tested:
-// by results from outside, and beside what is proved (.ci/bindings) and the original (tools/agree).
+// That source has the contracts, and is proved. That this text means the same is only tested.
 
 use crate::proved::source_lint::file_faults;
 use crate::proved::source_report::{mend_each, Options, Report};
@@ -32,7 +31,6 @@ struct Round {
 
 /// Returns whether a report on a file is no worse than the old one: the file does not break, has as
 /// many calls, and no more faults.
-// ensures { IsTrue result ↔ IsNoWorse old.now new.now }
 #[inline]
 pub fn is_no_worse(old: &Report, new: &Report) -> bool {
     old.first_break.is_none()
@@ -43,14 +41,6 @@ pub fn is_no_worse(old: &Report, new: &Report) -> bool {
 
 /// Returns a file after one more round, or `None` if there is nothing to mend or the file with its
 /// edits is worse.
-// ensures round { IfOk result (λ o. IfSome o (λ x. IsRound
-//     (map entry options.now.table.rows.items) options.now.is_from_2021
-//     (bytes_or fixed.now.text text.now) fixed.now.report (string_bytes x.text) x.report
-//     (map (λ w. w.now) x.ids.items))) }
-// ensures last { IfOk result (λ o. IsNone o → IsLast (map entry options.now.table.rows.items)
-//     options.now.is_from_2021 (bytes_or fixed.now.text text.now) fixed.now.report) }
-// ensures spans { IfOk result (λ o. IfSome o (λ x. All (HasSpans (string_bytes x.text))
-//     x.report.findings.items)) }
 #[inline]
 fn next_round(
     text: &str,
@@ -80,9 +70,6 @@ fn next_round(
 }
 
 /// Returns fixes with those of one more round.
-// ensures text { IfOk result (λ x. x.text ≡ Some round.text) }
-// ensures ids { IfOk result (λ x. x.ids.items ≡ fixed.ids.items ++ round.ids.items) }
-// ensures report { IfOk result (λ x. x.report ≡ round.report) }
 #[inline]
 fn with_round(fixed: FileFixes, round: Round) -> Result<FileFixes, AllocError> {
     let mut ids = fixed.ids;
@@ -101,14 +88,6 @@ fn with_round(fixed: FileFixes, round: Round) -> Result<FileFixes, AllocError> {
 /// In a round the suggestions of all faults are applied whose edits follow each other, and then
 /// those of the new report, in at most sixteen rounds. A round is left out if the file then breaks,
 /// has another number of calls, or more faults. Nothing is fixed in a file that breaks.
-// ensures rounds { IfOk result (λ x. (r : ReportValue)
-//     × IsReport (map entry options.now.table.rows.items) options.now.is_from_2021 text.now r
-//     × AreRounds (map entry options.now.table.rows.items) options.now.is_from_2021 16 text.now r
-//     (bytes_or x.text text.now) x.report (map (λ w. w.now) x.ids.items)) }
-// ensures report { IfOk result (λ x. IsReport (map entry options.now.table.rows.items)
-//     options.now.is_from_2021 (bytes_or x.text text.now) x.report) }
-// ensures spans { IfOk result (λ x. All (HasSpans (bytes_or x.text text.now))
-//     x.report.findings.items) }
 #[inline]
 pub fn fixes(text: &str, options: &Options<'_>) -> Result<FileFixes, AllocError> {
     let mut fixed = FileFixes {

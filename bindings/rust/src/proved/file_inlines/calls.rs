@@ -1,8 +1,7 @@
 //! What inlining makes of a call.
 
 // Extracted from crates/file_inlines/src/calls.rt by tools/extract: not to be edited.
-// That source is proved, and each contract here is its. That this text means the same is tested:
-// by results from outside, and beside what is proved (.ci/bindings) and the original (tools/agree).
+// That source has the contracts, and is proved. That this text means the same is only tested.
 
 use crate::proved::asm_lint::{appends_newline, read_literal};
 use crate::proved::call_faults::FormatString;
@@ -51,7 +50,6 @@ pub(crate) struct InlinedCalls {
 
 /// Returns whether the string of a macro with this rule and this name is known to be a format
 /// string if no argument follows it.
-// ensures { result ≡ is_format_alone is_from_2021 rule name.now }
 #[inline]
 fn is_format_alone(rule: Rule, name: &[u8], is_from_2021: bool) -> bool {
     match rule {
@@ -64,7 +62,6 @@ fn is_format_alone(rule: Rule, name: &[u8], is_from_2021: bool) -> bool {
 
 /// Returns whether a `const fn` may call a macro with this rule, with one argument and the string
 /// `{}`.
-// ensures { result ≡ has_const_form rule }
 #[inline]
 fn has_const_form(rule: Rule) -> bool {
     matches!(rule, Rule::IndexByEdition(_))
@@ -84,10 +81,6 @@ struct Found<'s, 'a> {
 }
 
 /// Returns what inlining makes of this call, which `site` is in its file.
-// requires { hashes call.string.style + length call.string.text.now + 2 < 2 ^ 64 }
-// ensures { IfOk result (λ x. Makes allows_mixed (seen_call call.entry)
-//     (AreEdits site.entry.text.now (map leaf site.entry.tokens.now) (leaf site.entry.literal)
-//     site.entry.arguments.now) x.inlining (map seen_edit x.edits.items)) }
 #[inline]
 fn inlined_as(
     site: Found<'_, '_>,
@@ -109,8 +102,6 @@ fn inlined_as(
 }
 
 /// Returns a call that is left as it is, for this reason.
-// ensures reason { result.inlining ≡ reason }
-// ensures none { result.edits.items ≡ [] }
 #[inline]
 fn left_for(reason: CallInlining) -> InlinedCall {
     InlinedCall {
@@ -121,9 +112,6 @@ fn left_for(reason: CallInlining) -> InlinedCall {
 
 /// Returns what inlining makes of a call of a macro with this rule and this name, whose arguments
 /// are all or not.
-// ensures { IfOk result (λ x. InlinesLiteral is_from_2021 allows_mixed rule name.now
-//     site.entry.text.now (map leaf site.entry.tokens.now) (leaf site.entry.literal)
-//     site.entry.arguments.now is_counted x.inlining (map seen_edit x.edits.items)) }
 #[inline]
 fn inline_found(
     site: Found<'_, '_>,
@@ -160,12 +148,6 @@ fn inline_found(
 }
 
 /// Returns what inlining makes of a call whose format string begins the argument of this index.
-// requires pair { IsPair part.now (call.now.name + 2) call.now.close }
-// requires split { AreArguments part.now (call.now.name + 3) arguments.now call.now.close }
-// requires literal { (a : ArgumentValue) × (slice_get arguments.now index ≡ Some a)
-//     × IsTrue (is_string_by call.now.rule part.now a) }
-// ensures { IfOk result (λ x. InlinesAt file.entry.is_from_2021 allows_mixed file.entry.text.now
-//     part.now call.now arguments.now index x.inlining (map seen_edit x.edits.items)) }
 #[inline]
 fn inline_at(
     file: File<'_, '_>,
@@ -210,13 +192,6 @@ fn inline_at(
 
 /// Returns what inlining makes of a call whose format string is the argument of this index, or
 /// whose templates begin with it.
-// requires pair { IsPair part.now (call.now.name + 2) call.now.close }
-// requires split { AreArguments part.now (call.now.name + 3) arguments.now call.now.close }
-// requires literal { (a : ArgumentValue) × (slice_get arguments.now index ≡ Some a)
-//     × IsTrue (is_string_by call.now.rule part.now a) }
-// ensures { IfOk result (λ x. InlinesOne call.now.rule file.entry.is_from_2021 allows_mixed
-//     file.entry.text.now part.now call.now arguments.now index x.inlining
-//     (map seen_edit x.edits.items)) }
 #[inline]
 fn inline_one(
     file: File<'_, '_>,
@@ -235,9 +210,6 @@ fn inline_one(
 }
 
 /// Returns what inlining makes of a call.
-// requires { IsPair part.now (call.now.name + 2) call.now.close }
-// ensures { IfOk result (λ x. Inlines (scope file.entry) file.entry.is_from_2021 allows_mixed
-//     part.now call.now x.inlining (map seen_edit x.edits.items)) }
 #[inline]
 fn inline_call<'a>(
     file: File<'_, 'a>,
@@ -262,12 +234,6 @@ fn inline_call<'a>(
 }
 
 /// Adds what inlining makes of calls of a part of a file, one after the other.
-// requires { (c : CallValue) → Contains calls.now c → IsPair part.now (c.name + 2) c.close }
-// ensures { OnOk result ((rs : List InliningValue) × (es : List EditValue)
-//     × (results.new.inlinings.items ≡ results.old.inlinings.items ++ rs)
-//     × (map seen_edit results.new.edits.items ≡ map seen_edit results.old.edits.items ++ es)
-//     × Gives (Inlines (scope file.entry) file.entry.is_from_2021 allows_mixed part.now)
-//     calls.now rs es) }
 #[inline]
 pub(crate) fn inline_calls<'a>(
     results: &mut InlinedCalls,

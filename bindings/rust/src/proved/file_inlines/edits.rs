@@ -1,8 +1,7 @@
 //! The edits that inline a call in its file.
 
 // Extracted from crates/file_inlines/src/edits.rt by tools/extract: not to be edited.
-// That source is proved, and each contract here is its. That this text means the same is tested:
-// by results from outside, and beside what is proved (.ci/bindings) and the original (tools/agree).
+// That source has the contracts, and is proved. That this text means the same is only tested.
 
 use crate::proved::asm_lint::{dropped_crs, offset_in, without_crs};
 use crate::proved::file_inlines::sources::removal_range;
@@ -15,8 +14,6 @@ use crate::shim::prelude::*;
 
 /// Returns the edits of a literal with lines that end with LF as edits of its token, which has
 /// these CRs more.
-// ensures { IfOk result (λ v. map (λ e. e.text) (map seen_edit v.items)
-//     ≡ map (λ e. e.text) (map seen_edit edits.now)) }
 #[inline]
 fn in_token(crs: &[usize], edits: &[Edit]) -> Result<Vec<Edit>, AllocError> {
     let mut found = Vec::new();
@@ -30,7 +27,6 @@ fn in_token(crs: &[usize], edits: &[Edit]) -> Result<Vec<Edit>, AllocError> {
 }
 
 /// Returns an edit that stands some bytes further on, or `None` if an offset is too large.
-// ensures { IfOk result (λ o. IfSome o (λ e. seen_edit e ≡ moved offset (seen_edit edit.now))) }
 #[inline]
 fn move_edit(edit: &Edit, offset: usize) -> Result<Option<Edit>, AllocError> {
     let (Some(start), Some(end)) = (
@@ -46,8 +42,6 @@ fn move_edit(edit: &Edit, offset: usize) -> Result<Option<Edit>, AllocError> {
 }
 
 /// Returns edits that stand some bytes further on, or `None` if an offset is too large.
-// ensures { IfOk result (λ o. IfSome o (λ v. map seen_edit v.items
-//     ≡ map (moved offset) (map seen_edit edits.now))) }
 #[inline]
 fn move_edits(edits: &[Edit], offset: usize) -> Result<Option<Vec<Edit>>, AllocError> {
     let mut found = Vec::new();
@@ -61,9 +55,6 @@ fn move_edits(edits: &[Edit], offset: usize) -> Result<Option<Vec<Edit>>, AllocE
 }
 
 /// Adds the edits that remove the arguments of these indices, with their source.
-// ensures { OnOk result (map seen_edit edits.new.items ≡ map seen_edit edits.old.items
-//     ++ filter_map (λ n. option_map (removal text.now (map leaf tokens.now))
-//     (slice_get arguments.now n)) indices.now) }
 #[inline]
 fn push_removals(
     edits: &mut Vec<Edit>,
@@ -84,7 +75,6 @@ fn push_removals(
 }
 
 /// Returns whether a token, without the CR before each LF, is this literal.
-// ensures { IfOk result (λ b. IsTrue b → without_crs (chars token.now) ≡ chars literal.now) }
 #[inline]
 fn is_literal(token: &str, literal: &str) -> Result<bool, AllocError> {
     let found = without_crs(token)?;
@@ -93,8 +83,6 @@ fn is_literal(token: &str, literal: &str) -> Result<bool, AllocError> {
 
 /// Returns the edits of the literal that a token is, as edits of its file, or `None` if the token
 /// with them is not the new literal.
-// ensures { IfOk result (λ o. IfSome o (λ v.
-//     AreLiteralEdits (leaf literal.entry) (seen_inlined inlining.now) (map seen_edit v.items))) }
 #[inline]
 fn literal_edits(literal: Token<'_>, inlining: &Inlined) -> Result<Option<Vec<Edit>>, AllocError> {
     let crs = dropped_crs(literal.text)?;
@@ -110,8 +98,6 @@ fn literal_edits(literal: Token<'_>, inlining: &Inlined) -> Result<Option<Vec<Ed
 
 /// Returns the edits that inline a call, with this token as its literal and these arguments after
 /// it, or `None` if the token with its edits is not the new literal.
-// ensures { IfOk result (λ o. IfSome o (λ v. AreEdits text.now (map leaf tokens.now)
-//     (leaf literal.entry) arguments.now (seen_inlined inlining.now) (map seen_edit v.items))) }
 #[inline]
 pub(crate) fn edits_of(
     text: &str,

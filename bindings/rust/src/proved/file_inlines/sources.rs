@@ -1,8 +1,7 @@
 //! The arguments of a call in a file, each with the source that goes with it.
 
 // Extracted from crates/file_inlines/src/sources.rt by tools/extract: not to be edited.
-// That source is proved, and each contract here is its. That this text means the same is tested:
-// by results from outside, and beside what is proved (.ci/bindings) and the original (tools/agree).
+// That source has the contracts, and is proved. That this text means the same is only tested.
 
 use crate::proved::asm_lint::name_of;
 use crate::proved::format_calls::{is_word, token_at, Argument};
@@ -13,7 +12,6 @@ use crate::shim::prelude::*;
 use core::ops::Range;
 
 /// Returns the offset at which the token of an index ends in its file, or 0 if there is none.
-// ensures { result ≡ end_at text.now (map leaf tokens.now) index }
 #[inline]
 fn end_at(text: &str, tokens: &[Token<'_>], index: usize) -> usize {
     match token_at(tokens, index) {
@@ -24,7 +22,6 @@ fn end_at(text: &str, tokens: &[Token<'_>], index: usize) -> usize {
 
 /// Returns the bytes of a file that go with an argument: from the end of the token before its comma
 /// to its own end.
-// ensures { pair result ≡ removed text.now (map leaf tokens.now) argument.now }
 #[inline]
 pub(crate) fn removal_range(text: &str, tokens: &[Token<'_>], argument: &Argument) -> Range<usize> {
     let start = end_at(text, tokens, argument.start.saturating_sub(2));
@@ -33,7 +30,6 @@ pub(crate) fn removal_range(text: &str, tokens: &[Token<'_>], argument: &Argumen
 }
 
 /// Returns the bytes of a text in a range, or those of it that there are.
-// ensures { result.now ≡ take (range.now.end - range.now.start) (drop range.now.start text.now) }
 #[inline]
 fn bytes_in<'a>(text: &'a str, range: &Range<usize>) -> &'a [u8] {
     let rest = text.as_bytes().get(range.start..).unwrap_or(&[]);
@@ -42,7 +38,6 @@ fn bytes_in<'a>(text: &'a str, range: &Range<usize>) -> &'a [u8] {
 }
 
 /// Returns the value of an argument if that is one word.
-// ensures { option_map (λ s. s.now) result ≡ word_of (map leaf tokens.now) argument.now }
 #[inline]
 fn word_of<'a>(tokens: &[Token<'a>], argument: &Argument) -> Option<&'a str> {
     let count = if argument.is_named { 3 } else { 1 };
@@ -62,7 +57,6 @@ fn word_of<'a>(tokens: &[Token<'a>], argument: &Argument) -> Option<&'a str> {
 }
 
 /// Returns an argument of a call with its source.
-// ensures { seen_argument result ≡ with_source text.now (map leaf tokens.now) argument.now }
 #[inline]
 fn with_source<'a>(text: &'a str, tokens: &[Token<'a>], argument: &Argument) -> FormatArgument<'a> {
     let range = removal_range(text, tokens, argument);
@@ -74,8 +68,6 @@ fn with_source<'a>(text: &'a str, tokens: &[Token<'a>], argument: &Argument) -> 
 }
 
 /// Returns arguments of a call with their source.
-// ensures { IfOk result (λ v. map seen_argument v.items
-//     ≡ map (with_source text.now (map leaf tokens.now)) arguments.now) }
 #[inline]
 pub(crate) fn with_sources<'a>(
     text: &'a str,

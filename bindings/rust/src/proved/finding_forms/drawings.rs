@@ -1,8 +1,7 @@
 //! The drawing of a finding under the lines of its file.
 
 // Extracted from crates/finding_forms/src/drawings.rt by tools/extract: not to be edited.
-// That source is proved, and each contract here is its. That this text means the same is tested:
-// by results from outside, and beside what is proved (.ci/bindings) and the original (tools/agree).
+// That source has the contracts, and is proved. That this text means the same is only tested.
 
 use crate::proved::drawn_faults::{
     put_labels, Diagnostic, Level, SourceHelp, SourceLabel, SourceNote,
@@ -94,7 +93,6 @@ fn line_end(text: &str, offset: usize) -> Option<usize> {
 }
 
 /// Returns the lines of a range of a file, or `None` if they are too long for a drawing.
-// requires { file.now.places ≡ file.now.text.now }
 #[inline]
 fn excerpt_of<'a>(
     file: &File<'a>,
@@ -305,7 +303,6 @@ fn put_drawn<'x>(
 
 /// Appends the drawing of a finding, maybe in colours, and returns whether there is one: none is
 /// made of more than 20 labels, of more than 4,096 bytes, or of a line with more than that.
-// requires { file.now.places ≡ file.now.text.now }
 #[inline]
 pub fn put_drawing(
     out: &mut String,

@@ -1,8 +1,7 @@
 //! Findings in the forms of messages.
 
 // Extracted from crates/finding_forms/src/forms.rt by tools/extract: not to be edited.
-// That source is proved, and each contract here is its. That this text means the same is tested:
-// by results from outside, and beside what is proved (.ci/bindings) and the original (tools/agree).
+// That source has the contracts, and is proved. That this text means the same is only tested.
 
 use crate::proved::drawn_lines::WIDTH;
 use crate::proved::fault_rules::RULES;
@@ -76,7 +75,6 @@ fn lines_around(text: &str, start: usize, end: usize) -> &str {
 }
 
 /// Returns a range of a file as messages have it, without a label or a suggestion.
-// requires { file.now.places ≡ file.now.text.now }
 #[inline]
 fn span_of<'a>(file: &File<'a>, form: Form, range: &Range<usize>) -> Span<'a> {
     let byte_start = file.text.boundary_at_most(range.start);
@@ -109,7 +107,6 @@ fn level_of(finding: &Finding) -> Level {
 
 /// Returns the labels of a finding as ranges of its message. One that is a suggestion is a child of
 /// the message, and no label.
-// requires { file.now.places ≡ file.now.text.now }
 #[inline]
 fn label_spans<'a>(file: &File<'a>, finding: &'a Finding) -> Result<Vec<Span<'a>>, AllocError> {
     let mut spans = Vec::new();
@@ -137,7 +134,6 @@ fn is_sure(id: &str) -> bool {
 }
 
 /// Returns the edits of a help as ranges of its message.
-// requires { file.now.places ≡ file.now.text.now }
 #[inline]
 fn edit_spans<'a>(
     file: &File<'a>,
@@ -157,7 +153,6 @@ fn edit_spans<'a>(
 }
 
 /// Returns the range of a suggestion that is drawn as a label.
-// requires { file.now.places ≡ file.now.text.now }
 #[inline]
 fn suggestion_spans<'a>(
     file: &File<'a>,
@@ -176,7 +171,6 @@ fn suggestion_spans<'a>(
 
 /// Returns the ranges of the notes of a finding, then those of its suggestions that are not drawn,
 /// of those among its labels, and of its help.
-// requires { file.now.places ≡ file.now.text.now }
 #[inline]
 fn child_spans<'a>(
     file: &File<'a>,
@@ -257,7 +251,6 @@ fn children<'a, 's>(
 }
 
 /// Appends a message in the form for people: drawn, maybe in colours, or else in a line.
-// requires { file.now.places ≡ file.now.text.now }
 #[inline]
 fn put_human(
     out: &mut String,
@@ -274,7 +267,6 @@ fn put_human(
 }
 
 /// Appends a message as a line of JSON.
-// requires { file.now.places ≡ file.now.text.now }
 #[inline]
 fn put_line<'a>(
     out: &mut String,
@@ -297,7 +289,6 @@ fn put_line<'a>(
 }
 
 /// Appends a finding in a form.
-// requires { file.now.places ≡ file.now.text.now }
 #[inline]
 pub fn put_finding<'a>(
     out: &mut String,

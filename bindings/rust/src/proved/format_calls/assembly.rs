@@ -1,8 +1,7 @@
 //! The arguments of a macro for inline assembly: templates, and then operands and options.
 
 // Extracted from crates/format_calls/src/assembly.rt by tools/extract: not to be edited.
-// That source is proved, and each contract here is its. That this text means the same is tested:
-// by results from outside, and beside what is proved (.ci/bindings) and the original (tools/agree).
+// That source has the contracts, and is proved. That this text means the same is only tested.
 
 use crate::proved::format_calls::marks::{is_mark_of, token_at};
 use crate::proved::format_calls::modes::is_text as is_text_of;
@@ -29,8 +28,6 @@ pub enum AsmPart {
 
 /// Returns how many of arguments, from the first one on, are a string literal: these are the
 /// templates.
-// ensures value { result ≡ template_count (map leaf tokens.now) arguments.now }
-// ensures within { result ≤ length arguments.now }
 #[inline]
 pub fn template_count(tokens: &[Token<'_>], arguments: &[Argument]) -> usize {
     for (index, argument) in arguments.iter().enumerate() {
@@ -42,7 +39,6 @@ pub fn template_count(tokens: &[Token<'_>], arguments: &[Argument]) -> usize {
 }
 
 /// Returns whether a word is that of an operand that a register in parentheses follows.
-// ensures { result ≡ is_direction (leaf token.now) }
 #[inline]
 fn is_direction(token: &Token<'_>) -> bool {
     is_text_of(token, "in")
@@ -53,14 +49,12 @@ fn is_direction(token: &Token<'_>) -> bool {
 }
 
 /// Returns whether a word is that of an operand that has no register.
-// ensures { result ≡ is_value (leaf token.now) }
 #[inline]
 fn is_value(token: &Token<'_>) -> bool {
     is_text_of(token, "const") || is_text_of(token, "sym") || is_text_of(token, "label")
 }
 
 /// Returns whether there is a token, and it is a string literal, of whatever kind.
-// ensures { result ≡ is_string_at (option_map leaf token.entry) }
 #[inline]
 fn is_string(token: Option<Token<'_>>) -> bool {
     match token {
@@ -70,7 +64,6 @@ fn is_string(token: Option<Token<'_>>) -> bool {
 }
 
 /// Returns whether there is a token, and it is an opening parenthesis.
-// ensures { result ≡ is_parenthesis (option_map leaf token.entry) }
 #[inline]
 fn is_parenthesis(token: Option<Token<'_>>) -> bool {
     match token {
@@ -80,7 +73,6 @@ fn is_parenthesis(token: Option<Token<'_>>) -> bool {
 }
 
 /// Returns which operand has its register, in parentheses, at this token.
-// ensures { result ≡ register_at (option_map leaf token.entry) }
 #[inline]
 fn register_at(token: Option<Token<'_>>) -> AsmPart {
     if is_string(token) {
@@ -92,7 +84,6 @@ fn register_at(token: Option<Token<'_>>) -> AsmPart {
 
 /// Returns what an argument without a name is that begins with a token, and has the word `raw` or
 /// not.
-// ensures { result ≡ setting_of has_raw (leaf token.now) }
 #[inline]
 fn setting_of(has_raw: bool, token: &Token<'_>) -> AsmPart {
     if is_text_of(token, "options") {
@@ -109,7 +100,6 @@ fn setting_of(has_raw: bool, token: &Token<'_>) -> AsmPart {
 }
 
 /// Returns the token of an index, if it is one of an argument.
-// ensures { option_map leaf result ≡ token_in (map leaf tokens.now) argument.now index }
 #[inline]
 fn token_in<'a>(tokens: &[Token<'a>], argument: &Argument, index: usize) -> Option<Token<'a>> {
     if index < argument.end {
@@ -121,8 +111,6 @@ fn token_in<'a>(tokens: &[Token<'a>], argument: &Argument, index: usize) -> Opti
 
 /// Returns what an argument is whose value begins with the first one of these three tokens, if they
 /// are there. It has a name or not, and the word `raw` or not.
-// ensures { result ≡ part_of is_named has_raw (option_map leaf first.entry)
-//     (option_map leaf second.entry) (option_map leaf third.entry) }
 #[inline]
 fn part_of(
     is_named: bool,
@@ -147,8 +135,6 @@ fn part_of(
 }
 
 /// Returns what an argument after the templates is, which starts at one of the tokens.
-// requires { argument.now.start < length part.now }
-// ensures { result ≡ asm_part part.now argument.now }
 #[inline]
 pub fn asm_part(part: &Part<'_>, argument: &Argument) -> AsmPart {
     let tokens = part.tokens();

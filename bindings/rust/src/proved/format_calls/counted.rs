@@ -1,15 +1,13 @@
 //! Where arguments end, and whether their number is known.
 
 // Extracted from crates/format_calls/src/counted.rt by tools/extract: not to be edited.
-// That source is proved, and each contract here is its. That this text means the same is tested:
-// by results from outside, and beside what is proved (.ci/bindings) and the original (tools/agree).
+// That source has the contracts, and is proved. That this text means the same is only tested.
 
 use crate::proved::format_calls::marks::{is_mark, token_at};
 use crate::proved::format_calls::split::{after_tree, is_named};
 use crate::proved::rust_trees::{is_opening, Source, Token};
 
 /// Returns whether a token opens a pair.
-// ensures { result ≡ opens_at (map leaf tokens.now) index }
 #[inline]
 fn opens_at(tokens: &[Token<'_>], index: usize) -> bool {
     match token_at(tokens, index) {
@@ -20,8 +18,6 @@ fn opens_at(tokens: &[Token<'_>], index: usize) -> bool {
 
 /// Returns whether a token among arguments says that their number is not known: a macro repeats
 /// some of them or names one, or `;` begins something else.
-// requires { index + 1 < 2 ^ 64 }
-// ensures { result ≡ is_uncounted (map leaf tokens.now) index }
 #[inline]
 fn is_uncounted(tokens: &[Token<'_>], index: usize) -> bool {
     if is_mark(tokens, index, b'$') {
@@ -34,7 +30,6 @@ fn is_uncounted(tokens: &[Token<'_>], index: usize) -> bool {
 }
 
 /// Returns whether a token ends arguments: it is `;`, and `ends_early` says that one does.
-// ensures { result ≡ is_stop ends_early (map leaf tokens.now) index }
 #[inline]
 fn is_stop(tokens: &[Token<'_>], index: usize, ends_early: bool) -> bool {
     ends_early && is_mark(tokens, index, b';')
@@ -52,11 +47,6 @@ pub struct Extent {
 
 /// Returns where the arguments end that start at a token between delimiters: at the delimiter that
 /// closes the pair or, where `ends_early` says so, at the first `;` among them.
-// requires pair { IsPair source.now opening close }
-// requires start { (opening < from) × (from ≤ close) }
-// ensures trees { (ts : List ℕ) × AreUpTo ends_early source.now from ts result.end close
-//     × (result.is_counted ≡ not (list_any (is_uncounted source.now) ts)) }
-// ensures within { (from ≤ result.end) × (result.end ≤ close) }
 #[inline]
 pub fn extent_of(
     source: &Source<'_>,

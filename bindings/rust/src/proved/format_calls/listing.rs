@@ -1,8 +1,7 @@
 //! Calls of the macros of a table.
 
 // Extracted from crates/format_calls/src/listing.rt by tools/extract: not to be edited.
-// That source is proved, and each contract here is its. That this text means the same is tested:
-// by results from outside, and beside what is proved (.ci/bindings) and the original (tools/agree).
+// That source has the contracts, and is proved. That this text means the same is only tested.
 
 use crate::proved::format_calls::marks::{is_after, is_mark, is_word, token_at, word};
 use crate::proved::format_calls::table::{rule_of, Row, Rule, Table};
@@ -22,7 +21,6 @@ pub struct Call {
 }
 
 /// Returns the rule of a token that is a word of a table, or `None` if it is none.
-// ensures { result ≡ rule_of_leaf (map entry rows.now) (slice_get (map leaf tokens.now) name) }
 #[inline]
 fn rule_at(tokens: &[Token<'_>], rows: &[Row<'_>], name: usize) -> Option<Rule> {
     match token_at(tokens, name) {
@@ -38,11 +36,6 @@ fn rule_at(tokens: &[Token<'_>], rows: &[Row<'_>], name: usize) -> Option<Rule> 
 }
 
 /// Returns the call whose name is this token, or `None` if there is none.
-// requires { name < length source.now }
-// ensures is_call { IfSome result (λ c. IsCall (map entry rows.now) source.now c) }
-// ensures named { IfSome result (λ c. c.name ≡ name) }
-// ensures each { (c : Call) → IsCall (map entry rows.now) source.now c → c.name ≡ name
-//     → result ≡ Some c }
 #[inline]
 fn call_at(source: &Source<'_>, rows: &[Row<'_>], name: usize) -> Option<Call> {
     let tokens = source.tokens();
@@ -66,9 +59,6 @@ fn call_at(source: &Source<'_>, rows: &[Row<'_>], name: usize) -> Option<Call> {
 }
 
 /// Returns the calls of the macros of a table, in the order of their names.
-// ensures each { IfOk result (λ v. (c : Call) → Contains v.items c
-//     ↔ IsCall (map entry table.now.rows.items) source.now c) }
-// ensures in_order { IfOk result (λ v. Rises 0 v.items (length source.now)) }
 #[inline]
 pub fn calls(source: &Source<'_>, table: &Table<'_>) -> Result<Vec<Call>, AllocError> {
     let mut found = Vec::new();

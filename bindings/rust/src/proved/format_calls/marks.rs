@@ -1,15 +1,12 @@
 //! Tokens by their index.
 
 // Extracted from crates/format_calls/src/marks.rt by tools/extract: not to be edited.
-// That source is proved, and each contract here is its. That this text means the same is tested:
-// by results from outside, and beside what is proved (.ci/bindings) and the original (tools/agree).
+// That source has the contracts, and is proved. That this text means the same is only tested.
 
 use crate::proved::rust_tokens::Kind;
 use crate::proved::rust_trees::Token;
 
 /// Returns the token of an index, or `None` if there is none.
-// ensures value { option_map leaf result ≡ slice_get (map leaf tokens.now) index }
-// ensures within { IsTrue (is_some result) → index < length tokens.now }
 #[inline]
 pub fn token_at<'a>(tokens: &[Token<'a>], index: usize) -> Option<Token<'a>> {
     if index < tokens.len() {
@@ -20,7 +17,6 @@ pub fn token_at<'a>(tokens: &[Token<'a>], index: usize) -> Option<Token<'a>> {
 }
 
 /// Returns whether the token is this character of punctuation.
-// ensures { result ≡ is_mark_of mark (Some (leaf token.now)) }
 #[inline]
 pub fn is_mark_of(token: &Token<'_>, mark: u8) -> bool {
     if !matches!(token.kind, Kind::Punct) {
@@ -33,8 +29,6 @@ pub fn is_mark_of(token: &Token<'_>, mark: u8) -> bool {
 }
 
 /// Returns whether the token of an index is this character of punctuation.
-// ensures value { result ≡ is_mark mark (map leaf tokens.now) index }
-// ensures within { IsTrue result → index < length tokens.now }
 #[inline]
 pub fn is_mark(tokens: &[Token<'_>], index: usize, mark: u8) -> bool {
     match token_at(tokens, index) {
@@ -44,21 +38,18 @@ pub fn is_mark(tokens: &[Token<'_>], index: usize, mark: u8) -> bool {
 }
 
 /// Returns whether the token before the one of an index is this character of punctuation.
-// ensures { result ≡ is_after mark (map leaf tokens.now) index }
 #[inline]
 pub fn is_after(tokens: &[Token<'_>], index: usize, mark: u8) -> bool {
     index > 0 && is_mark(tokens, index - 1, mark)
 }
 
 /// Returns whether the token is a word or a raw word.
-// ensures { result ≡ is_word (leaf token.now) }
 #[inline]
 pub fn is_word(token: &Token<'_>) -> bool {
     matches!(token.kind, Kind::Ident | Kind::RawIdent)
 }
 
 /// Returns the bytes of a word, without the `r#` of a raw one.
-// ensures { result.now ≡ word (leaf token.now) }
 #[inline]
 pub fn word<'a>(token: &Token<'a>) -> &'a [u8] {
     let bytes = token.text.as_bytes();

@@ -1,8 +1,7 @@
 //! The commas that end an argument.
 
 // Extracted from crates/format_calls/src/modes.rt by tools/extract: not to be edited.
-// That source is proved, and each contract here is its. That this text means the same is tested:
-// by results from outside, and beside what is proved (.ci/bindings) and the original (tools/agree).
+// That source has the contracts, and is proved. That this text means the same is only tested.
 
 use crate::proved::format_calls::marks::{is_after, is_mark, is_mark_of, is_word, token_at};
 use crate::proved::rust_tokens::Kind;
@@ -25,14 +24,12 @@ pub enum Mode {
 }
 
 /// Returns whether a token follows another one without white space and comments.
-// ensures { result ≡ is_joint (leaf token.now) (leaf next.now) }
 #[inline]
 pub fn is_joint(token: &Token<'_>, next: &Token<'_>) -> bool {
     token.start <= next.start && next.start - token.start == token.text.len()
 }
 
 /// Returns whether this character of punctuation follows a token without white space and comments.
-// ensures { result ≡ is_followed mark (map leaf tokens.now) index }
 #[inline]
 pub fn is_followed(tokens: &[Token<'_>], index: usize, mark: u8) -> bool {
     match token_at(tokens, index) {
@@ -45,14 +42,12 @@ pub fn is_followed(tokens: &[Token<'_>], index: usize, mark: u8) -> bool {
 }
 
 /// Returns whether `<` opens a list in angles where one may stand: it does not begin `<=`.
-// ensures { result ≡ opens_list (map leaf tokens.now) index }
 #[inline]
 fn opens_list(tokens: &[Token<'_>], index: usize) -> bool {
     is_mark(tokens, index, b'<') && !is_followed(tokens, index, b'=')
 }
 
 /// Returns whether the token is the `>` of `->`.
-// ensures { result ≡ is_arrow (map leaf tokens.now) index }
 #[inline]
 fn is_arrow(tokens: &[Token<'_>], index: usize) -> bool {
     is_mark(tokens, index, b'>')
@@ -61,14 +56,12 @@ fn is_arrow(tokens: &[Token<'_>], index: usize) -> bool {
 }
 
 /// Returns whether `>` closes a list in angles: it is not the end of `->`.
-// ensures { result ≡ closes_list (map leaf tokens.now) index }
 #[inline]
 fn closes_list(tokens: &[Token<'_>], index: usize) -> bool {
     is_mark(tokens, index, b'>') && !is_arrow(tokens, index)
 }
 
 /// Returns whether the token is the first character of `||` or `<<`.
-// ensures { result ≡ is_double (map leaf tokens.now) index }
 #[inline]
 fn is_double(tokens: &[Token<'_>], index: usize) -> bool {
     is_mark(tokens, index, b'|') && is_followed(tokens, index, b'|')
@@ -76,7 +69,6 @@ fn is_double(tokens: &[Token<'_>], index: usize) -> bool {
 }
 
 /// Returns whether the token is this word, not a raw one.
-// ensures { result ≡ is_text (leaf token.now) word.now }
 #[inline]
 pub fn is_text(token: &Token<'_>, word: &str) -> bool {
     matches!(token.kind, Kind::Ident) && token.text == word
@@ -84,7 +76,6 @@ pub fn is_text(token: &Token<'_>, word: &str) -> bool {
 
 /// Returns whether the token is a keyword after which an expression starts, or after which a type
 /// goes on to start.
-// ensures { result ≡ is_keyword (leaf token.now) }
 #[inline]
 fn is_keyword(token: &Token<'_>) -> bool {
     is_text(token, "async")
@@ -103,7 +94,6 @@ fn is_keyword(token: &Token<'_>) -> bool {
 
 /// Returns whether a type that starts at this token still starts after it: it is `&`, `*`, a
 /// lifetime or a keyword.
-// ensures { result ≡ is_prefix (leaf token.now) }
 #[inline]
 fn is_prefix(token: &Token<'_>) -> bool {
     is_mark_of(token, b'&')
@@ -114,7 +104,6 @@ fn is_prefix(token: &Token<'_>) -> bool {
 
 /// Returns whether an expression starts after the token: it is punctuation, but no delimiter and no
 /// `?`.
-// ensures { result ≡ is_operator (leaf token.now) }
 #[inline]
 fn is_operator(token: &Token<'_>) -> bool {
     matches!(token.kind, Kind::Punct)
@@ -124,8 +113,6 @@ fn is_operator(token: &Token<'_>) -> bool {
 
 /// Returns the mode after a token, at the start of an expression or of a type or not, and in a type
 /// or not.
-// ensures { result ≡ mode_after_leaf (map leaf tokens.now) index
-//     (slice_get (map leaf tokens.now) index) is_start is_type }
 #[inline]
 fn mode_after_leaf(tokens: &[Token<'_>], index: usize, is_start: bool, is_type: bool) -> Mode {
     let Some(token) = token_at(tokens, index) else {
@@ -147,8 +134,6 @@ fn mode_after_leaf(tokens: &[Token<'_>], index: usize, is_start: bool, is_type: 
 }
 
 /// Returns the mode after the tree at a token.
-// requires { depth_of mode + 1 < 2 ^ 64 }
-// ensures { result ≡ mode_after (map leaf tokens.now) index mode }
 #[inline]
 pub fn mode_after(tokens: &[Token<'_>], index: usize, mode: Mode) -> Mode {
     match mode {

@@ -1,8 +1,7 @@
 //! A part of a file, whose arguments are searched for tokens.
 
 // Extracted from crates/format_calls/src/part.rt by tools/extract: not to be edited.
-// That source is proved, and each contract here is its. That this text means the same is tested:
-// by results from outside, and beside what is proved (.ci/bindings) and the original (tools/agree).
+// That source has the contracts, and is proved. That this text means the same is only tested.
 
 use crate::proved::format_calls::marks::is_mark_of;
 use crate::proved::format_calls::modes::is_text;
@@ -21,7 +20,6 @@ pub enum Wanted {
 }
 
 /// Returns whether arguments are searched for this token.
-// ensures { result ≡ is_wanted wanted (leaf token.now) }
 #[inline]
 fn is_wanted(wanted: Wanted, token: &Token<'_>) -> bool {
     match wanted {
@@ -31,7 +29,6 @@ fn is_wanted(wanted: Wanted, token: &Token<'_>) -> bool {
 }
 
 /// Returns whether one of these tokens is wanted.
-// ensures { result ≡ list_any (is_wanted wanted) (map leaf tokens.now) }
 #[inline]
 fn is_one_wanted(tokens: &[Token<'_>], wanted: Wanted) -> bool {
     for token in tokens {
@@ -44,7 +41,6 @@ fn is_one_wanted(tokens: &[Token<'_>], wanted: Wanted) -> bool {
 
 /// Returns for each number of tokens from the first one on how many of them end with the last one
 /// that is wanted, or nothing if none is.
-// ensures { IfOk result (λ v. AreLast wanted (map leaf tokens.now) v.items) }
 #[inline]
 fn last_ones(tokens: &[Token<'_>], wanted: Wanted) -> Result<Vec<usize>, AllocError> {
     let mut found = Vec::new();
@@ -64,8 +60,6 @@ fn last_ones(tokens: &[Token<'_>], wanted: Wanted) -> Result<Vec<usize>, AllocEr
 
 /// Returns whether one of the tokens of an argument is wanted, where `last_ones` are the numbers
 /// that are returned for them.
-// ensures { (wanted : Wanted) (xs : List Leaf) → AreLast wanted xs last_ones.now
-//     → result ≡ list_any (is_wanted wanted) (tokens_of xs argument.now) }
 #[inline]
 fn is_one_in(last_ones: &[usize], argument: &Argument) -> bool {
     let count = last_ones.len().saturating_sub(1);
@@ -85,7 +79,6 @@ pub struct Part<'a> {
 
 impl<'a> Part<'a> {
     /// Reads the tokens of a part.
-    // ensures { IfOk result (λ p. p ≡ source.entry) }
     #[inline]
     pub(crate) fn new(source: Source<'a>) -> Result<Self, AllocError> {
         let variables = last_ones(source.tokens(), Wanted::Variable)?;
@@ -98,28 +91,24 @@ impl<'a> Part<'a> {
     }
 
     /// Returns the tokens with their pairs of delimiters.
-    // ensures { result.now ≡ self.now }
     #[inline]
     pub fn source(&self) -> &Source<'a> {
         &self.source
     }
 
     /// Returns the tokens.
-    // ensures { map leaf result.now ≡ self.now }
     #[inline]
     pub fn tokens(&self) -> &[Token<'a>] {
         self.source.tokens()
     }
 
     /// Returns whether a variable of a macro stands in an argument.
-    // ensures { result ≡ list_any is_variable (tokens_of self.now argument.now) }
     #[inline]
     pub fn has_variable(&self, argument: &Argument) -> bool {
         is_one_in(&self.variables, argument)
     }
 
     /// Returns whether the word `raw` stands in an argument.
-    // ensures { result ≡ has_raw (tokens_of self.now argument.now) }
     #[inline]
     pub fn has_raw(&self, argument: &Argument) -> bool {
         is_one_in(&self.raws, argument)

@@ -1,8 +1,7 @@
 //! The parts of a file that have calls.
 
 // Extracted from crates/format_calls/src/parts.rt by tools/extract: not to be edited.
-// That source is proved, and each contract here is its. That this text means the same is tested:
-// by results from outside, and beside what is proved (.ci/bindings) and the original (tools/agree).
+// That source has the contracts, and is proved. That this text means the same is only tested.
 
 use crate::proved::format_calls::marks::{is_mark_of, is_word, word};
 use crate::proved::format_calls::table::{rule_of, Row, Table};
@@ -10,8 +9,6 @@ use crate::proved::rust_trees::{is_opening, Balance, Source, Token, Tokens};
 use crate::shim::alloc::AllocError;
 
 /// Returns whether three tokens are a word of a table, `!` and an opening delimiter.
-// ensures { result ≡ opens_call (map entry rows.now) (leaf name.now) (leaf mark.now)
-//     (leaf opening.now) }
 #[inline]
 fn opens_call(rows: &[Row<'_>], name: &Token<'_>, mark: &Token<'_>, opening: &Token<'_>) -> bool {
     is_mark_of(mark, b'!')
@@ -41,8 +38,6 @@ pub struct Front<'a> {
 
 /// Returns the first three tokens of a call, if the last two tokens and the one after them are
 /// these.
-// ensures { option_map seen_front result
-//     ≡ front_of (map entry rows.now) (seen_window last.entry) (leaf opening.entry) }
 #[inline]
 fn front_of<'a>(rows: &[Row<'_>], last: Window<'a>, opening: Token<'a>) -> Option<Front<'a>> {
     if last.is_after {
@@ -66,7 +61,6 @@ fn front_of<'a>(rows: &[Row<'_>], last: Window<'a>, opening: Token<'a>) -> Optio
 }
 
 /// Returns the last two tokens with one more.
-// ensures { seen_window result ≡ moved_on (seen_window last.entry) (leaf token.entry) }
 #[inline]
 fn moved_on<'a>(last: Window<'a>, token: Token<'a>) -> Window<'a> {
     let is_after = match last.name {
@@ -81,9 +75,6 @@ fn moved_on<'a>(last: Window<'a>, token: Token<'a>) -> Window<'a> {
 }
 
 /// Adds the tokens of a part after the first three.
-// requires { 3 ≤ length part.now }
-// ensures { OnOk result ((w : List Leaf) → IsBalanced w balance.old
-//     → IsBalanced (w ++ drop 3 part.now) balance.new) }
 #[inline]
 fn add_after_front(balance: &mut Balance, part: &Source<'_>) -> Result<(), AllocError> {
     let tokens = part.tokens();
@@ -98,16 +89,6 @@ fn add_after_front(balance: &mut Balance, part: &Source<'_>) -> Result<(), Alloc
 /// Only these tokens are in memory at a time, where a whole file takes some twenty times its bytes.
 /// Where the delimiters of a call do not match, its part ends at the first one that nothing allows,
 /// or with the file. All tokens that are read are added to `balance`.
-// ensures file { rest.new.whole ≡ rest.old.whole }
-// ensures fewer { IfOk result (λ o. IfSome o (λ _. length rest.new.rest < length rest.old.rest)) }
-// ensures some { IfOk result (λ o. IfSome o (λ s. (gap : List Leaf) × ((left : List Leaf)
-//     → AreLeft rest.new left → AreLeft rest.old (gap ++ (s ++ left))
-//     × IsPart (map entry table.now.rows.items) gap s left)
-//     × ((w : List Leaf) → IsBalanced w balance.old
-//     → IsBalanced (w ++ (gap ++ s)) balance.new))) }
-// ensures none { IfOk result (λ o. IsNone o → (left : List Leaf) × AreLeft rest.old left
-//     × ((c : Call) → IsCall (map entry table.now.rows.items) left c → ⊥)
-//     × ((w : List Leaf) → IsBalanced w balance.old → IsBalanced (w ++ left) balance.new)) }
 #[inline]
 pub fn next_part<'a>(
     rest: &mut Tokens<'a>,

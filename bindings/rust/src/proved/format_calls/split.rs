@@ -1,8 +1,7 @@
 //! The arguments of a call.
 
 // Extracted from crates/format_calls/src/split.rt by tools/extract: not to be edited.
-// That source is proved, and each contract here is its. That this text means the same is tested:
-// by results from outside, and beside what is proved (.ci/bindings) and the original (tools/agree).
+// That source has the contracts, and is proved. That this text means the same is only tested.
 
 use crate::proved::format_calls::marks::{is_mark, is_word, token_at};
 use crate::proved::format_calls::modes::{is_followed, mode_after, Mode};
@@ -22,14 +21,12 @@ pub struct Argument {
 }
 
 /// Returns whether a comma at this token ends an argument.
-// ensures { result ≡ is_end (map leaf tokens.now) index mode }
 #[inline]
 fn is_end(tokens: &[Token<'_>], index: usize, mode: Mode) -> bool {
     !matches!(mode, Mode::Angles(_) | Mode::Parameters) && is_mark(tokens, index, b',')
 }
 
 /// Returns whether an argument that starts at this token has a name.
-// ensures { result ≡ is_named (map leaf tokens.now) index }
 #[inline]
 pub fn is_named(tokens: &[Token<'_>], index: usize) -> bool {
     match token_at(tokens, index) {
@@ -44,8 +41,6 @@ pub fn is_named(tokens: &[Token<'_>], index: usize) -> bool {
 }
 
 /// Returns the token that closes the pair that a token opens, or `None` if it opens none.
-// ensures some { IfSome result (λ j. IsPair source.now index j) }
-// ensures none { IsNone result → (j : ℕ) → IsPair source.now index j → ⊥ }
 #[inline]
 pub fn closing_token(source: &Source<'_>, index: usize) -> Option<usize> {
     match source.partner(index) {
@@ -55,8 +50,6 @@ pub fn closing_token(source: &Source<'_>, index: usize) -> Option<usize> {
 }
 
 /// Returns the token after the tree at a token between two delimiters that are a pair.
-// requires { (o c : ℕ) × IsPair source.now o c × (o < index) × (index < c) × (c < 2 ^ 64) }
-// ensures { IsTree source.now index result }
 #[inline]
 pub fn after_tree(source: &Source<'_>, index: usize) -> usize {
     match closing_token(source, index) {
@@ -67,10 +60,6 @@ pub fn after_tree(source: &Source<'_>, index: usize) -> usize {
 
 /// Returns the end of the argument that starts at a token between delimiters, of which `to` closes
 /// the pair.
-// requires pair { IsPair source.now opening to }
-// requires start { (opening < from) × (from ≤ to) }
-// ensures is_argument { IsArgument source.now from result to }
-// ensures within { (from ≤ result) × (result ≤ to) }
 #[inline]
 fn argument_end(source: &Source<'_>, opening: usize, from: usize, to: usize) -> usize {
     let tokens = source.tokens();
@@ -84,8 +73,6 @@ fn argument_end(source: &Source<'_>, opening: usize, from: usize, to: usize) -> 
 }
 
 /// Returns the arguments between two delimiters that are a pair.
-// requires { IsPair source.now opening close }
-// ensures { IfOk result (λ v. AreArguments source.now (opening + 1) v.items close) }
 #[inline]
 fn arguments_between(
     source: &Source<'_>,
@@ -113,9 +100,6 @@ fn arguments_between(
 
 /// Returns the arguments of the call that ends with this closing delimiter, or `None` if the token
 /// closes no pair.
-// ensures some { IfOk result (λ o. IfSome o (λ v. (n : ℕ) × IsPair source.now n close
-//     × AreArguments source.now (n + 1) v.items close)) }
-// ensures none { IfOk result (λ o. IsNone o → (n : ℕ) → IsPair source.now n close → ⊥) }
 #[inline]
 pub fn arguments(source: &Source<'_>, close: usize) -> Result<Option<Vec<Argument>>, AllocError> {
     match source.partner(close) {

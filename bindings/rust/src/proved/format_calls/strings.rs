@@ -1,8 +1,7 @@
 //! The argument of a call that is its format string, or the reason why none is read.
 
 // Extracted from crates/format_calls/src/strings.rt by tools/extract: not to be edited.
-// That source is proved, and each contract here is its. That this text means the same is tested:
-// by results from outside, and beside what is proved (.ci/bindings) and the original (tools/agree).
+// That source has the contracts, and is proved. That this text means the same is only tested.
 
 use crate::proved::format_calls::marks::{is_mark, is_word, token_at};
 use crate::proved::format_calls::split::Argument;
@@ -28,14 +27,12 @@ pub enum Reason {
 }
 
 /// Returns whether a token is a string literal that has its end and no suffix.
-// ensures { result ≡ is_text_leaf (leaf token.now) }
 #[inline]
 pub fn is_text_leaf(token: &Token<'_>) -> bool {
     matches!(token.kind, Kind::Str | Kind::RawStr) && token.is_ended && !token.has_suffix
 }
 
 /// Returns whether an argument is one string literal.
-// ensures { result ≡ is_text (map leaf tokens.now) argument.now }
 #[inline]
 pub(crate) fn is_text(tokens: &[Token<'_>], argument: &Argument) -> bool {
     match token_at(tokens, argument.start) {
@@ -49,7 +46,6 @@ pub(crate) fn is_text(tokens: &[Token<'_>], argument: &Argument) -> bool {
 }
 
 /// Returns the reason why an argument is no string literal.
-// ensures { result ≡ reason_of (map leaf tokens.now) argument.now }
 #[inline]
 fn reason_of(tokens: &[Token<'_>], argument: &Argument) -> Reason {
     let start = argument.start;
@@ -68,7 +64,6 @@ fn reason_of(tokens: &[Token<'_>], argument: &Argument) -> Reason {
 }
 
 /// Returns whether an argument begins with a string literal that is all of it, or that `;` follows.
-// ensures { result ≡ begins_text (map leaf tokens.now) argument.now }
 #[inline]
 fn begins_text(tokens: &[Token<'_>], argument: &Argument) -> bool {
     match token_at(tokens, argument.start) {
@@ -82,7 +77,6 @@ fn begins_text(tokens: &[Token<'_>], argument: &Argument) -> bool {
 
 /// Returns the index of the first argument that begins with the format string, or `None` if there
 /// is none.
-// ensures { result ≡ first_text (map leaf tokens.now) arguments.now }
 #[inline]
 fn first_text(tokens: &[Token<'_>], arguments: &[Argument]) -> Option<usize> {
     arguments
@@ -92,10 +86,6 @@ fn first_text(tokens: &[Token<'_>], arguments: &[Argument]) -> Option<usize> {
 
 /// Returns this index if the argument with it is the format string, or the reason why none is read.
 /// The last argument may be none.
-// ensures value { result ≡ argument_or (map leaf tokens.now) index
-//     (slice_get arguments.now index) (is_last_none && (index + 1) == length arguments.now) }
-// ensures literal { IfOk result (λ n. (a : ArgumentValue) × (slice_get arguments.now n ≡ Some a)
-//     × IsTrue (is_text (map leaf tokens.now) a)) }
 #[inline]
 fn string_at(
     tokens: &[Token<'_>],
@@ -118,9 +108,6 @@ fn string_at(
 
 /// Returns the index of the argument that is the format string of a call, or the reason why none is
 /// read.
-// ensures value { result ≡ format_string source.now rule arguments.now is_from_2021 }
-// ensures literal { IfOk result (λ n. (a : ArgumentValue) × (slice_get arguments.now n ≡ Some a)
-//     × IsTrue (is_string_by rule source.now a)) }
 #[inline]
 pub fn format_string(
     source: &Source<'_>,

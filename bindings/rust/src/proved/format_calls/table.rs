@@ -1,8 +1,7 @@
 //! Macros that take a format string.
 
 // Extracted from crates/format_calls/src/table.rt by tools/extract: not to be edited.
-// That source is proved, and each contract here is its. That this text means the same is tested:
-// by results from outside, and beside what is proved (.ci/bindings) and the original (tools/agree).
+// That source has the contracts, and is proved. That this text means the same is only tested.
 
 use crate::shim::alloc::AllocError;
 use crate::shim::prelude::*;
@@ -191,7 +190,6 @@ const CRATES: [Row<'static>; 13] = [
 ];
 
 /// Adds rows to the end of a list.
-// ensures { OnOk result (rows.new.items ≡ rows.old.items ++ more.now) }
 #[inline]
 fn push_rows<'a>(rows: &mut Vec<Row<'a>>, more: &[Row<'static>]) -> Result<(), AllocError> {
     for row in more {
@@ -202,7 +200,6 @@ fn push_rows<'a>(rows: &mut Vec<Row<'a>>, more: &[Row<'static>]) -> Result<(), A
 
 impl<'a> Table<'a> {
     /// Returns the macros of the standard library.
-    // ensures { IfOk result (λ t. map entry t.rows.items ≡ standard) }
     #[inline]
     pub(crate) fn standard() -> Result<Self, AllocError> {
         let mut rows = Vec::new();
@@ -211,7 +208,6 @@ impl<'a> Table<'a> {
     }
 
     /// Returns macros of the crates log, tracing, slog, anyhow and eyre.
-    // ensures { IfOk result (λ t. map entry t.rows.items ≡ with_crates) }
     #[inline]
     pub(crate) fn with_crates() -> Result<Self, AllocError> {
         let mut rows = Vec::new();
@@ -219,12 +215,7 @@ impl<'a> Table<'a> {
         Ok(Table { rows })
     }
 
-    /// Adds a macro before the others. Returns `Err` if an allocation fails; the table is then as
-    /// it was.
-    // ensures ok { OnOk result (map entry self.new.rows.items
-    //     ≡ entry row.entry ∷ map entry self.old.rows.items) }
-    // ensures err { OnErr result (map entry self.new.rows.items
-    //     ≡ map entry self.old.rows.items) }
+    /// Adds a macro before the others.
     #[inline]
     pub(crate) fn add(&mut self, row: Row<'a>) -> Result<(), AllocError> {
         self.rows.insert_in(0, row)?;
@@ -233,7 +224,6 @@ impl<'a> Table<'a> {
 }
 
 /// Returns the rule of the first macro of this name, or `None` if there is none.
-// ensures { result ≡ rule_of (map entry rows.now) word.now }
 #[inline]
 pub fn rule_of(rows: &[Row<'_>], word: &[u8]) -> Option<Rule> {
     for row in rows {
@@ -245,14 +235,12 @@ pub fn rule_of(rows: &[Row<'_>], word: &[u8]) -> Option<Rule> {
 }
 
 /// Returns whether a macro of this name is one of the standard library that takes a format string.
-// ensures { result ≡ is_some (rule_of standard word.now) }
 #[inline]
 pub fn is_standard(word: &[u8]) -> bool {
     rule_of(&STANDARD, word).is_some()
 }
 
 /// Returns whether a macro of this name is one of log, tracing, slog, anyhow or eyre.
-// ensures { result ≡ is_some (rule_of with_crates word.now) }
 #[inline]
 pub fn is_of_crates(word: &[u8]) -> bool {
     rule_of(&CRATES, word).is_some()

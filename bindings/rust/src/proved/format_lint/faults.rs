@@ -1,8 +1,7 @@
 //! A source, its tokens and its faults.
 
 // Extracted from crates/format_lint/src/faults.rt by tools/extract: not to be edited.
-// That source is proved, and each contract here is its. That this text means the same is tested:
-// by results from outside, and beside what is proved (.ci/bindings) and the original (tools/agree).
+// That source has the contracts, and is proved. That this text means the same is only tested.
 
 use super::findings::Findings;
 use crate::proved::format_tokens::{label, place_labels, Label, Token};
@@ -28,8 +27,6 @@ pub struct Source<'a> {
 
 /// Returns the faults of all calls of a parser without errors. Returns `Err` if an allocation
 /// fails, or if there are more faults than a `usize` counts.
-// requires { parser.old.errors ≡ [] }
-// ensures { IfOk result (λ f. Keeps f (findings_from false parser.old)) }
 #[inline]
 fn faults_of<'a>(parser: &mut Parser<'a>) -> Result<Findings<'a>, AllocError> {
     let mut argument = Argument::default();
@@ -44,11 +41,6 @@ fn faults_of<'a>(parser: &mut Parser<'a>) -> Result<Findings<'a>, AllocError> {
 
 /// Returns the labels of a source's text and its faults, by the calls of a parser at its start.
 /// Returns `Err` as `faults_of` does.
-// requires { parser.old ≡ start (seen_mode mode) (seen_source source) }
-// ensures labels { IfOk result (λ x. x.0.items
-//     ≡ map sized (read_tokens (seen_mode mode) (chars source.entry.text.now))) }
-// ensures faults { IfOk result (λ x. Keeps x.1
-//     (findings (seen_mode mode) (seen_source source.entry))) }
 #[inline]
 fn labels_of<'a>(
     parser: &mut Parser<'a>,
@@ -71,8 +63,6 @@ fn labels_of<'a>(
 }
 
 /// Returns a parser at the start of a source.
-// requires { hashes source.style ≤ limit }
-// ensures { IfOk result (λ p. p ≡ start (seen_mode mode) (seen_source source.entry)) }
 #[inline]
 fn parser_of<'a>(mode: ParseMode, source: Source<'a>) -> Result<Parser<'a>, AllocError> {
     let snippet = match source.literal {
@@ -83,8 +73,6 @@ fn parser_of<'a>(mode: ParseMode, source: Source<'a>) -> Result<Parser<'a>, Allo
 }
 
 /// Returns the faults of a source. Returns `Err` as `faults_of` does.
-// requires { hashes source.style ≤ limit }
-// ensures { IfOk result (λ f. Keeps f (findings (seen_mode mode) (seen_source source.entry))) }
 #[inline]
 pub fn faults_in<'a>(mode: ParseMode, source: Source<'a>) -> Result<Findings<'a>, AllocError> {
     let mut parser = parser_of(mode, source)?;
@@ -93,11 +81,6 @@ pub fn faults_in<'a>(mode: ParseMode, source: Source<'a>) -> Result<Findings<'a>
 }
 
 /// Returns the tokens of a source, and its faults. Returns `Err` as `faults_of` does.
-// requires { hashes source.style ≤ limit }
-// ensures tokens { IfOk result (λ x. map seen_token x.0.items
-//     ≡ tokens_in (seen_mode mode) (seen_source source.entry)) }
-// ensures faults { IfOk result (λ x. Keeps x.1
-//     (findings (seen_mode mode) (seen_source source.entry))) }
 #[inline]
 pub fn tokens_in<'a>(
     mode: ParseMode,

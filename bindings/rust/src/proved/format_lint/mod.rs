@@ -2,8 +2,7 @@
 //! and exit status for each of its results (`verdict`).
 
 // Extracted from crates/format_lint/src/lib.rt by tools/extract: not to be edited.
-// That source is proved, and each contract here is its. That this text means the same is tested:
-// by results from outside, and beside what is proved (.ci/bindings) and the original (tools/agree).
+// That source has the contracts, and is proved. That this text means the same is only tested.
 
 pub(crate) mod faults;
 pub(crate) mod findings;

@@ -1,8 +1,7 @@
 //! The result of a task for an input in UTF-8.
 
 // Extracted from crates/format_lint/src/shown.rt by tools/extract: not to be edited.
-// That source is proved, and each contract here is its. That this text means the same is tested:
-// by results from outside, and beside what is proved (.ci/bindings) and the original (tools/agree).
+// That source has the contracts, and is proved. That this text means the same is only tested.
 
 use super::faults::{faults_in, tokens_in, Source};
 use super::findings::{Finding, Findings};
@@ -29,8 +28,6 @@ pub struct Shown {
 }
 
 /// Appends a line with the id of a fault, which says whether it follows from the one before.
-// ensures { OnOk result (string_bytes out.new ≡ string_bytes out.old
-//     ++ id_line finding.now.follows (fault_id (seen_fault finding.now.fault))) }
 #[inline]
 fn put_id(out: &mut String, finding: &Finding<'_>) -> Result<(), AllocError> {
     out.try_push_str(if finding.follows {
@@ -44,8 +41,6 @@ fn put_id(out: &mut String, finding: &Finding<'_>) -> Result<(), AllocError> {
 }
 
 /// Appends the drawing of a fault to a text.
-// ensures { OnOk result (string_bytes out.new ≡ string_bytes out.old ++ drawing (seen_mode mode)
-//     (seen_picture picture.now) (message (seen_finding finding.now).fault)) }
 #[inline]
 fn put_finding(
     out: &mut String,
@@ -59,9 +54,6 @@ fn put_finding(
 }
 
 /// Appends the drawings of faults to a text, each after a line with its id.
-// ensures { OnOk result (string_bytes out.new ≡ string_bytes out.old
-//     ++ flat_map (drawn_finding (seen_mode mode) (seen_picture picture.now))
-//     (map seen_finding findings.now)) }
 #[inline]
 fn put_each(
     out: &mut String,
@@ -77,7 +69,6 @@ fn put_each(
 }
 
 /// Appends a line that says how many faults are not drawn, if there are any.
-// ensures { OnOk result (string_bytes out.new ≡ string_bytes out.old ++ more count) }
 #[inline]
 fn put_more(out: &mut String, count: usize) -> Result<(), AllocError> {
     if count == 0 {
@@ -89,9 +80,6 @@ fn put_more(out: &mut String, count: usize) -> Result<(), AllocError> {
 }
 
 /// Appends the drawing of the first of these faults to a text, if there is one.
-// ensures { OnOk result (string_bytes out.new ≡ string_bytes out.old
-//     ++ first_drawing (seen_mode mode) (seen_picture picture.now)
-//     (map seen_finding findings.now)) }
 #[inline]
 fn put_first(
     out: &mut String,
@@ -108,12 +96,6 @@ fn put_first(
 /// Appends the drawing of the first fault to a text, or the drawings of those that are kept and the
 /// number of others. Returns how many faults are mistakes of their own, and `Err` if an allocation
 /// fails.
-// ensures drawn { OnOk result (string_bytes out.new ≡ string_bytes out.old
-//     ++ (if all then flat_map (drawn_finding (seen_mode mode) (seen_picture picture.now))
-//     (map seen_finding faults.now.first.items) ++ more faults.now.others
-//     else first_drawing (seen_mode mode) (seen_picture picture.now)
-//     (map seen_finding faults.now.first.items))) }
-// ensures report { IfOk result (λ report. report ≡ faults.now.mistakes) }
 #[inline]
 fn put_drawings(
     out: &mut String,
@@ -133,11 +115,6 @@ fn put_drawings(
 
 /// Appends the drawing of a source with these faults to a text. Returns how many of them are
 /// mistakes of their own, and `Err` if an allocation fails.
-// requires { Keeps faults.now (findings (seen_mode task.mode) (seen_source source)) }
-// ensures drawn { OnOk result (string_bytes out.new ≡ string_bytes out.old
-//     ++ drawing_of all (seen_task task.entry) (seen_source source.entry)) }
-// ensures report { IfOk result (λ report. report
-//     ≡ mistakes (findings (seen_mode task.entry.mode) (seen_source source.entry))) }
 #[inline]
 fn put_faults(
     out: &mut String,
@@ -158,9 +135,6 @@ fn put_faults(
 }
 
 /// Returns the drawing of a source as the output.
-// requires { hashes source.style ≤ limit }
-// ensures { IfOk result (λ x. seen_shown x
-//     ≡ drawn all (seen_task task.entry) (seen_source source.entry)) }
 #[inline]
 fn drawn_output(all: bool, task: Task<'_>, source: Source<'_>) -> Result<Shown, AllocError> {
     let faults = faults_in(task.mode, source)?;
@@ -174,9 +148,6 @@ fn drawn_output(all: bool, task: Task<'_>, source: Source<'_>) -> Result<Shown, 
 }
 
 /// Returns an output with the drawing of the first of a source's faults as the error output.
-// requires { Keeps faults.now (findings (seen_mode task.mode) (seen_source source)) }
-// ensures { IfOk result (λ x. seen_shown x
-//     ≡ with_drawing (string_bytes output) (seen_task task.entry) (seen_source source.entry)) }
 #[inline]
 fn with_drawing(
     output: String,
@@ -194,9 +165,6 @@ fn with_drawing(
 }
 
 /// Returns a source as it is written and a line end, with the drawing of its first fault.
-// requires { hashes source.style ≤ limit }
-// ensures { IfOk result (λ x. seen_shown x
-//     ≡ kept (seen_task task.entry) (seen_source source.entry)) }
 #[inline]
 fn kept_output(task: Task<'_>, source: Source<'_>) -> Result<Shown, AllocError> {
     let mut output = String::new();
@@ -208,10 +176,6 @@ fn kept_output(task: Task<'_>, source: Source<'_>) -> Result<Shown, AllocError> 
 
 /// Returns the literal of a source with the edits that its faults suggest, with the drawing of the
 /// first fault that it then has.
-// requires { hashes source.style ≤ limit }
-// ensures { IfOk result (λ x. (r : SourceValue)
-//     × IsMended (seen_mode task.entry.mode) (seen_source source.entry) r
-//     × (seen_shown x ≡ kept (seen_task task.entry) r)) }
 #[inline]
 fn fixed_output(task: Task<'_>, source: Source<'_>) -> Result<Shown, AllocError> {
     let Some(literal) = source.literal else {
@@ -235,9 +199,6 @@ fn fixed_output(task: Task<'_>, source: Source<'_>) -> Result<Shown, AllocError>
 
 /// Returns the tokens of a source, in colours with a line end after them or each in a line, with
 /// the drawing of its first fault.
-// requires { hashes source.style ≤ limit }
-// ensures { IfOk result (λ x. seen_shown x
-//     ≡ lexed (seen_task task.entry) (seen_source source.entry)) }
 #[inline]
 fn token_output(task: Task<'_>, source: Source<'_>) -> Result<Shown, AllocError> {
     let written = source.literal.unwrap_or(source.text);
@@ -251,9 +212,6 @@ fn token_output(task: Task<'_>, source: Source<'_>) -> Result<Shown, AllocError>
 }
 
 /// Returns the result of a task for a source.
-// requires { hashes source.style ≤ limit }
-// ensures { IfOk result (λ x. IsShown (seen_task task.entry) (seen_source source.entry)
-//     (seen_shown x)) }
 #[inline]
 fn shown_of(source: Source<'_>, task: Task<'_>) -> Result<Shown, AllocError> {
     match task.show {
@@ -267,12 +225,6 @@ fn shown_of(source: Source<'_>, task: Task<'_>) -> Result<Shown, AllocError> {
 /// Returns the result of a task for the input as a string literal, perhaps with a byte order mark
 /// before it and white space around it. Returns `Err` if the input is not a string literal or an
 /// allocation fails.
-// requires { IsShort input.now }
-// ensures shown { IfOk result (λ x. (s : SourceValue) × IsLiteralIn input.now s
-//     × IsShown (seen_task task.entry) s (seen_shown x)) }
-// ensures not_literal { IsErrOf result NotLiteral → (s : SourceValue) → IsLiteralIn input.now s
-//     → ⊥ }
-// ensures others { IfErr result (λ fault. fault ≢ NotLiteral → fault ≡ Memory) }
 #[inline]
 fn shown_of_literal(input: &str, task: Task<'_>) -> Result<Shown, RunFault> {
     let snippet = snippet_of(input);
@@ -291,8 +243,6 @@ fn shown_of_literal(input: &str, task: Task<'_>) -> Result<Shown, RunFault> {
 }
 
 /// Returns a text that is in no literal, with the lines that it is drawn in.
-// ensures value { lines.now ≡ codes "\n" ++ text.now → seen_source result ≡ bare text.now }
-// ensures style { result.style ≡ None }
 #[inline]
 fn text_source<'a>(text: &'a str, lines: &'a str) -> Source<'a> {
     Source {
@@ -307,15 +257,6 @@ fn text_source<'a>(text: &'a str, lines: &'a str) -> Source<'a> {
 
 /// Returns the result of a task for an input. Returns `Err` if the task needs a string literal and
 /// the input is none, or if an allocation fails.
-// requires { IsShort input.now }
-// ensures shown { IfOk result (λ x. (s : SourceValue)
-//     × IsSourceIn task.entry.is_literal input.now s
-//     × IsShown (seen_task task.entry) s (seen_shown x)) }
-// ensures harmless { IfOk result (λ x. IsHarmlessFor (seen_task task.entry) input.now
-//     (seen_shown x)) }
-// ensures not_literal { IsErrOf result NotLiteral → (s : SourceValue)
-//     → IsSourceIn task.entry.is_literal input.now s → ⊥ }
-// ensures others { IfErr result (λ fault. fault ≢ NotLiteral → fault ≡ Memory) }
 #[inline]
 pub fn shown_of_input(input: &str, task: Task<'_>) -> Result<Shown, RunFault> {
     if task.is_literal {

@@ -1,9 +1,8 @@
 //! The tokens of a source as they are shown. Each function whose name begins with `put_` appends to
-//! `out`, and returns `Err` if an allocation fails.
+//! `out`.
 
 // Extracted from crates/format_lint/src/tokens.rt by tools/extract: not to be edited.
-// That source is proved, and each contract here is its. That this text means the same is tested:
-// by results from outside, and beside what is proved (.ci/bindings) and the original (tools/agree).
+// That source has the contracts, and is proved. That this text means the same is only tested.
 
 use crate::proved::drawn_lines::{is_drawn_as_is, is_drawn_as_it_is, put_glyphs};
 use crate::proved::format_tokens::{Kind, Token};
@@ -12,7 +11,6 @@ use crate::shim::alloc::AllocError;
 use crate::shim::prelude::*;
 
 /// Returns the name of a kind in a list of tokens.
-// ensures { result.now ≡ kind_name kind }
 #[inline]
 fn kind_name(kind: Kind) -> &'static str {
     match kind {
@@ -44,9 +42,6 @@ fn kind_name(kind: Kind) -> &'static str {
 
 /// Returns the escape of SGR that sets the colour of a kind on a terminal, or `None` if the kind is
 /// only text.
-// ensures { MatchOption result
-//     ((u : List ℕ) → in_colour (colour kind) u ≡ u)
-//     (λ s. (u : List ℕ) → in_colour (colour kind) u ≡ s.now ++ (u ++ codes "\u{1b}[0m")) }
 #[inline]
 fn colour_escape(kind: Kind) -> Option<&'static str> {
     match kind {
@@ -62,8 +57,6 @@ fn colour_escape(kind: Kind) -> Option<&'static str> {
 }
 
 /// Adds a text as it is drawn. If `as_is`, each of its characters is drawn as it is.
-// requires { IsTrue as_is → list_all is_drawn_as_is text.now ≡ true }
-// ensures { OnOk result (string_bytes out.new ≡ string_bytes out.old ++ glyph_bytes text.now) }
 #[inline]
 fn put_drawn(out: &mut String, as_is: bool, text: &str) -> Result<(), AllocError> {
     if as_is {
@@ -75,9 +68,6 @@ fn put_drawn(out: &mut String, as_is: bool, text: &str) -> Result<(), AllocError
 
 /// Adds a text in the colour of a kind, if that has one. If `as_is`, each of its characters is
 /// drawn as it is.
-// requires { IsTrue as_is → list_all is_drawn_as_is text.now ≡ true }
-// ensures { OnOk result (string_bytes out.new ≡ string_bytes out.old
-//     ++ in_colour (colour kind) (glyph_bytes text.now)) }
 #[inline]
 fn put_in_colour(out: &mut String, as_is: bool, kind: Kind, text: &str) -> Result<(), AllocError> {
     match colour_escape(kind) {
@@ -93,9 +83,6 @@ fn put_in_colour(out: &mut String, as_is: bool, kind: Kind, text: &str) -> Resul
 
 /// Adds a text in quotes as that is drawn. If `as_is`, each of its characters beyond ASCII is drawn
 /// as it is.
-// requires { IsTrue as_is → list_all is_drawn_as_it_is text.now ≡ true }
-// ensures { OnOk result (string_bytes out.new
-//     ≡ string_bytes out.old ++ glyph_bytes (quoted (chars text.now))) }
 #[inline]
 fn put_drawn_quoted(out: &mut String, as_is: bool, text: &str) -> Result<(), AllocError> {
     if as_is {
@@ -109,9 +96,6 @@ fn put_drawn_quoted(out: &mut String, as_is: bool, text: &str) -> Result<(), All
 
 /// Adds a line with the kind, the byte range and the text of a token. If `as_is`, each character of
 /// that beyond ASCII is drawn as it is.
-// requires { IsTrue as_is → list_all is_drawn_as_it_is text.now ≡ true }
-// ensures { OnOk result (string_bytes out.new ≡ string_bytes out.old
-//     ++ shown_token false (seen_token token.now) (chars text.now)) }
 #[inline]
 fn put_line(out: &mut String, as_is: bool, token: &Token, text: &str) -> Result<(), AllocError> {
     out.try_push_str(kind_name(token.kind))?;
@@ -123,9 +107,6 @@ fn put_line(out: &mut String, as_is: bool, token: &Token, text: &str) -> Result<
 }
 
 /// Adds a token with this text. If `as_is`, the text is shown as it is, or quoted as it is.
-// requires { IsTrue as_is → list_all (stays colours) text.now ≡ true }
-// ensures { OnOk result (string_bytes out.new ≡ string_bytes out.old
-//     ++ shown_token colours (seen_token token.now) (chars text.now)) }
 #[inline]
 fn put_token(
     out: &mut String,
@@ -144,16 +125,12 @@ fn put_token(
 
 /// Returns the first characters of a text, as many as end within `width` bytes, and the rest after
 /// them.
-// ensures front { chars result.0.now ≡ within width (chars text.now) }
-// ensures back { chars result.1.now ≡ rest_after width (chars text.now) }
-// ensures whole { text.now ≡ result.0.now ++ result.1.now }
 #[inline]
 fn split_within(text: &str, width: usize) -> (&str, &str) {
     text.split_at(text.boundary_at_most(width))
 }
 
 /// Returns `true` only if each part of a text is shown as it is, or quoted as it is.
-// ensures { IsTrue result → list_all (stays colours) text.now ≡ true }
 #[inline]
 fn stays(colours: bool, text: &str) -> bool {
     if colours {
@@ -170,8 +147,6 @@ const ESCAPES_WIDTH: usize = 9;
 const LINE_WIDTH: usize = 24;
 
 /// Adds the tokens of a text, in colours or each in a line.
-// ensures { OnOk result (string_bytes out.new ≡ string_bytes out.old
-//     ++ shown_tokens colours (chars text.now) (map seen_token tokens.now)) }
 #[inline]
 pub fn put_tokens(
     out: &mut String,

@@ -3,8 +3,7 @@
 //! these calls.
 
 // Extracted from crates/format_literal/src/lib.rt by tools/extract: not to be edited.
-// That source is proved, and each contract here is its. That this text means the same is tested:
-// by results from outside, and beside what is proved (.ci/bindings) and the original (tools/agree).
+// That source has the contracts, and is proved. That this text means the same is only tested.
 
 pub(crate) mod values;
 pub(crate) mod written;

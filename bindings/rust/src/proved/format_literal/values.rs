@@ -1,8 +1,7 @@
 //! String literals that are read as format strings.
 
 // Extracted from crates/format_literal/src/values.rt by tools/extract: not to be edited.
-// That source is proved, and each contract here is its. That this text means the same is tested:
-// by results from outside, and beside what is proved (.ci/bindings) and the original (tools/agree).
+// That source has the contracts, and is proved. That this text means the same is only tested.
 
 use crate::proved::format_literal::written::is_written;
 use crate::proved::piece_listing::literal::{literal_text, LiteralText};
@@ -31,9 +30,6 @@ impl<'a> Literal<'a> {
     /// Reads a string literal by the rules of the Rust Reference, `"..."` or `r#"..."#` with any
     /// number of hashes. Its lines end with LF. Returns `None` if the source is no such literal:
     /// for example with a prefix `b` or `c`, a suffix, or white space around it.
-    // ensures { IfOk result (λ o. MatchOption o
-    //     ((style : Option ℕ) (t : Text) → IsWritten style (chars source.now) t → ⊥)
-    //     (λ l. IsRead source.now (seen_mode mode) l)) }
     #[inline]
     pub(crate) fn read(
         source: &'a str,

@@ -1,13 +1,11 @@
 //! Whether a string literal can stand in a program.
 
 // Extracted from crates/format_literal/src/written.rt by tools/extract: not to be edited.
-// That source is proved, and each contract here is its. That this text means the same is tested:
-// by results from outside, and beside what is proved (.ci/bindings) and the original (tools/agree).
+// That source has the contracts, and is proved. That this text means the same is only tested.
 
 use crate::proved::rust_tokens::{first_token, split_first, Kind};
 
 /// Returns whether a text is one token, a raw string literal without a suffix.
-// ensures { IsTrue result ↔ IsRawToken (chars text.now) }
 #[inline]
 fn is_raw_token(text: &str) -> bool {
     let Some(token) = first_token(text) else {
@@ -20,7 +18,6 @@ fn is_raw_token(text: &str) -> bool {
 }
 
 /// Returns whether a text has no CR.
-// ensures { result ≡ list_all is_no_cr (chars text.now) }
 #[inline]
 fn has_no_cr(text: &str) -> bool {
     let mut rest = text;
@@ -34,8 +31,6 @@ fn has_no_cr(text: &str) -> bool {
 }
 
 /// Returns whether a literal of this style, which stands for this text, can stand in a program.
-// requires { IsLiteral style (chars literal.now) (chars text.now) }
-// ensures { IsTrue result ↔ IsWritten style (chars literal.now) (chars text.now) }
 #[inline]
 pub(crate) fn is_written(literal: &str, style: Option<usize>, text: &str) -> bool {
     match style {

@@ -1,8 +1,7 @@
 //! Finds the tokens that are out of place, as `marked` says.
 
 // Extracted from crates/format_tokens/src/culprits.rt by tools/extract: not to be edited.
-// That source is proved, and each contract here is its. That this text means the same is tested:
-// by results from outside, and beside what is proved (.ci/bindings) and the original (tools/agree).
+// That source has the contracts, and is proved. That this text means the same is only tested.
 
 use crate::proved::format_tokens::kinds::{Kind, Label};
 
@@ -26,7 +25,6 @@ pub enum Role {
 }
 
 /// Returns the role of a kind.
-// ensures { result ≡ role_of kind }
 #[inline]
 pub fn role_of(kind: Kind) -> Role {
     match kind {
@@ -54,7 +52,6 @@ pub fn role_of(kind: Kind) -> Role {
 }
 
 /// Returns whether the first brace that stands alone is a closing one.
-// ensures { result ≡ closes (pairs labels.now) }
 #[inline]
 fn closes(labels: &[Label]) -> bool {
     for label in labels {
@@ -68,7 +65,6 @@ fn closes(labels: &[Label]) -> bool {
 }
 
 /// Returns whether a role is that of an argument.
-// ensures { result ≡ is_argument role }
 #[inline]
 fn is_argument(role: Role) -> bool {
     match role {
@@ -78,7 +74,6 @@ fn is_argument(role: Role) -> bool {
 }
 
 /// Returns whether the first token is that of an argument.
-// ensures { result ≡ has_argument (pairs labels.now) }
 #[inline]
 fn has_argument(labels: &[Label]) -> bool {
     !labels.is_empty() && is_argument(role_of(labels[0].kind))
@@ -86,7 +81,6 @@ fn has_argument(labels: &[Label]) -> bool {
 
 /// Returns whether a token is in place before `others`. `names` says that only names are accepted,
 /// `inside` that the token is inside a pair of braces.
-// ensures { result ≡ fits names inside (pairs others.now) role }
 #[inline]
 pub fn fits(names: bool, inside: bool, role: Role, others: &[Label]) -> bool {
     match role {
@@ -99,7 +93,6 @@ pub fn fits(names: bool, inside: bool, role: Role, others: &[Label]) -> bool {
 }
 
 /// Returns the kind of a token that is in place or not.
-// ensures { result ≡ (if fits then kind else Unexpected) }
 #[inline]
 pub fn marked_kind(kind: Kind, fits: bool) -> Kind {
     if fits {
@@ -111,7 +104,6 @@ pub fn marked_kind(kind: Kind, fits: bool) -> Kind {
 
 /// Returns whether the tokens after one of this role are inside a pair of braces. `inside` says
 /// that it is inside one, `fits` that it is in place.
-// ensures { result ≡ inside_after inside fits role }
 #[inline]
 pub fn inside_after(inside: bool, fits: bool, role: Role) -> bool {
     match role {

@@ -1,8 +1,7 @@
 //! Tokens cut at the escapes of an ordinary literal.
 
 // Extracted from crates/format_tokens/src/escapes.rt by tools/extract: not to be edited.
-// That source is proved, and each contract here is its. That this text means the same is tested:
-// by results from outside, and beside what is proved (.ci/bindings) and the original (tools/agree).
+// That source has the contracts, and is proved. That this text means the same is only tested.
 
 use crate::proved::format_tokens::kinds::{Kind, Token};
 use crate::proved::format_tokens::parts::{after_first, begins, width_of};
@@ -12,8 +11,6 @@ use crate::shim::prelude::*;
 use core::ops::Range;
 
 /// Returns the escape at the start of a text, or `None` if the text begins with no escape.
-// ensures { option_map (λ x. (at_most_one x.character, chars x.rest.now)) result
-//     ≡ escape_at (chars text.now) }
 #[inline]
 fn escape_at(text: &str) -> Option<FirstUnit<'_>> {
     if begins(text, '\\') {
@@ -24,7 +21,6 @@ fn escape_at(text: &str) -> Option<FirstUnit<'_>> {
 }
 
 /// Returns whether a token is text without braces.
-// ensures { result ≡ is_text kind }
 #[inline]
 fn is_text(kind: Kind) -> bool {
     match kind {
@@ -56,7 +52,6 @@ fn is_text(kind: Kind) -> bool {
 
 /// Returns whether an escape that stands for this character, or for nothing, is a token of its own
 /// inside a token of this kind.
-// ensures { result ≡ is_apart kind (at_most_one character) }
 #[inline]
 fn is_apart(kind: Kind, character: Option<char>) -> bool {
     match character {
@@ -66,8 +61,6 @@ fn is_apart(kind: Kind, character: Option<char>) -> bool {
 }
 
 /// Adds the token of a byte range if that is not empty.
-// ensures { OnOk result (map seen_token tokens.new.items
-//     ≡ map seen_token tokens.old.items ++ run kind from to) }
 #[inline]
 fn put_run(tokens: &mut Vec<Token>, kind: Kind, from: usize, to: usize) -> Result<(), AllocError> {
     if from < to {
@@ -80,8 +73,6 @@ fn put_run(tokens: &mut Vec<Token>, kind: Kind, from: usize, to: usize) -> Resul
 }
 
 /// Adds an escape of a byte range.
-// ensures { OnOk result (map seen_token tokens.new.items ≡ map seen_token tokens.old.items
-//     ++ (EscapeSequence, pair span) ∷ []) }
 #[inline]
 fn put_escape(tokens: &mut Vec<Token>, span: Range<usize>) -> Result<(), AllocError> {
     tokens.try_push(Token {
@@ -92,8 +83,6 @@ fn put_escape(tokens: &mut Vec<Token>, span: Range<usize>) -> Result<(), AllocEr
 }
 
 /// Adds the parts of a token with these source characters.
-// ensures { OnOk result (map seen_token tokens.new.items
-//     ≡ map seen_token tokens.old.items ++ parts (seen_token token.now) (chars text.now)) }
 #[inline]
 fn put_parts(tokens: &mut Vec<Token>, token: &Token, text: &str) -> Result<(), AllocError> {
     let end = token.span.end;
@@ -123,15 +112,12 @@ fn put_parts(tokens: &mut Vec<Token>, token: &Token, text: &str) -> Result<(), A
 
 /// Returns the first characters of a text, as many as end within `width` bytes, and the rest after
 /// them.
-// ensures front { chars result.0.now ≡ front_within width (chars text.now) }
-// ensures back { chars result.1.now ≡ rest_within width (chars text.now) }
 #[inline]
 fn split_within(text: &str, width: usize) -> (&str, &str) {
     text.split_at(text.boundary_at_most(width))
 }
 
 /// Returns whether a text has a backslash.
-// ensures { result ≡ not (list_all is_other text.now) }
 #[inline]
 fn has_backslash(text: &str) -> bool {
     for byte in text.as_bytes() {
@@ -143,8 +129,6 @@ fn has_backslash(text: &str) -> bool {
 }
 
 /// Returns the tokens of an ordinary literal cut at its escapes.
-// ensures { IfOk result (λ v. map seen_token v.items
-//     ≡ cut (chars literal.now) (map seen_token tokens.now)) }
 #[inline]
 fn cut(literal: &str, tokens: &[Token]) -> Result<Vec<Token>, AllocError> {
     let mut found = Vec::made_for(tokens.len())?;
@@ -159,8 +143,6 @@ fn cut(literal: &str, tokens: &[Token]) -> Result<Vec<Token>, AllocError> {
 }
 
 /// Returns the tokens of an ordinary literal, which cover it, cut at its escapes.
-// ensures { IfOk result (λ v. (a b : ℕ) → IsCover a b (ranges_of (map seen_token tokens.items))
-//     → map seen_token v.items ≡ cut (chars literal.now) (map seen_token tokens.items)) }
 #[inline]
 pub fn cut_escapes(literal: &str, tokens: Vec<Token>) -> Result<Vec<Token>, AllocError> {
     if has_backslash(literal) {

@@ -1,8 +1,7 @@
 //! The tokens of an input and their places.
 
 // Extracted from crates/format_tokens/src/lexer.rt by tools/extract: not to be edited.
-// That source is proved, and each contract here is its. That this text means the same is tested:
-// by results from outside, and beside what is proved (.ci/bindings) and the original (tools/agree).
+// That source has the contracts, and is proved. That this text means the same is only tested.
 
 use crate::proved::format_tokens::escapes::cut_escapes;
 use crate::proved::format_tokens::kinds::{Kind, Label, Token};
@@ -15,17 +14,12 @@ use crate::shim::alloc::AllocError;
 use crate::shim::prelude::*;
 
 /// Returns whether each argument has to be a name and nothing else.
-// ensures { result ≡ wants_names (seen_mode mode) }
 #[inline]
 fn wants_names(mode: ParseMode) -> bool {
     matches!(mode, ParseMode::DiagnosticNamed)
 }
 
 /// Returns the snippet if it is the source literal of the input.
-// ensures { MatchOption result
-//     (HasSource (chars input.now) style (seen_text snippet.entry) appended_newline → ⊥)
-//     (λ s. (seen_text snippet.entry ≡ Some (chars s.now))
-//     × IsSource (chars input.now) style (chars s.now) appended_newline) }
 #[inline]
 fn source_of<'a>(
     input: &str,
@@ -47,10 +41,6 @@ fn source_of<'a>(
 
 /// Returns the byte offsets where the characters of an input start in its source literal, and then
 /// the end of the text.
-// requires room { hashes style + length input.now + 2 < 2 ^ 64 }
-// requires source { IsSource (chars input.now) style (chars literal.now) appended_newline }
-// ensures { IfOk result (λ v. v.items
-//     ≡ starts_of (world (chars input.now) style (Some (chars literal.now)) appended_newline)) }
 #[inline]
 fn literal_starts(
     input: &str,
@@ -71,12 +61,6 @@ fn literal_starts(
 /// Returns the tokens of an input with their byte ranges, where escapes are in the tokens of the
 /// characters that they stand for, and the opening and the closing of `literal`, its source literal
 /// if it has one.
-// requires room { hashes style + length input.now + 2 < 2 ^ 64 }
-// requires source { IsSource (chars input.now) style (chars literal.now) appended_newline }
-// ensures { IfOk result (λ v. (mode : Mode)
-//     → labels.now ≡ map sized (read_tokens mode (chars input.now)) → names ≡ wants_names mode
-//     → map seen_token v.items
-//     ≡ whole_tokens mode (chars input.now) style (Some (chars literal.now)) appended_newline) }
 #[inline]
 fn place_whole(
     input: &str,
@@ -104,11 +88,6 @@ fn place_whole(
 
 /// Returns the tokens of an input with their byte ranges. `labels` are those that `label` adds; the
 /// other arguments are those of `tokens`.
-// requires { hashes style + length input.now + 2 < 2 ^ 64 }
-// ensures { IfOk result (λ v.
-//     labels.now ≡ map sized (read_tokens (seen_mode mode) (chars input.now))
-//     → map seen_token v.items ≡ tokens (seen_mode mode) (chars input.now) style
-//     (seen_text snippet.entry) appended_newline) }
 #[inline]
 pub fn place_labels(
     input: &str,
@@ -154,30 +133,6 @@ pub fn place_labels(
 /// its own, `EscapeSequence`, and cuts the token that it is in. An escape that stands for a brace,
 /// or for another character of a placeholder, stays in the token of that character.
 ///
-// requires { hashes style + length input.now + 2 < 2 ^ 64 }
-// ensures tokens { IfOk result (λ v. map seen_token v.items ≡ tokens (seen_mode mode)
-//     (chars input.now) style (seen_snippet snippet) appended_newline) }
-// With a source literal the byte ranges cover it.
-// ensures cover { IfOk result (λ v. (source : Text) → seen_snippet snippet ≡ Some source
-//     → IsSource (chars input.now) style source appended_newline
-//     → IsCover 0 (byte_length source) (ranges_of (map seen_token v.items))) }
-// They are other tokens, cut at the escapes of the literal: those of the input, in the same
-// kinds and order for each style and snippet, between those of two quotes. The part of the
-// snippet in each of those, with its escapes decoded, is the characters of the token; in the
-// quotes there are none.
-// ensures reads_back { IfOk result (λ v. (source : Text) → seen_snippet snippet ≡ Some source
-//     → IsSource (chars input.now) style source appended_newline
-//     → (whole : List Placed) × (map seen_token v.items ≡ cut_in style source whole)
-//     × (read_back (chars input.now) style source appended_newline whole
-//     ≡ in_quotes (shown (seen_mode mode) (chars input.now) appended_newline))) }
-// Without one they cover the text, and the part of the input in each is the characters of the
-// token.
-// ensures in_text { IfOk result (λ v.
-//     (HasSource (chars input.now) style (seen_snippet snippet) appended_newline → ⊥)
-//     → IsCover 0 (byte_length (unappended appended_newline (chars input.now)))
-//     (ranges_of (map seen_token v.items))
-//     × (slices input.now (map seen_token v.items)
-//     ≡ encoded (shown (seen_mode mode) (chars input.now) appended_newline))) }
 #[inline]
 pub fn tokens(
     input: &str,

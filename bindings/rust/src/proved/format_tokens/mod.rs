@@ -1,8 +1,7 @@
 //! The tokens of a format string, as an editor shows them in colours.
 
 // Extracted from crates/format_tokens/src/lib.rt by tools/extract: not to be edited.
-// That source is proved, and each contract here is its. That this text means the same is tested:
-// by results from outside, and beside what is proved (.ci/bindings) and the original (tools/agree).
+// That source has the contracts, and is proved. That this text means the same is only tested.
 
 pub(crate) mod culprits;
 pub(crate) mod escapes;

@@ -3,8 +3,7 @@
 //! allocation fails; the list may then have some of the tokens.
 
 // Extracted from crates/format_tokens/src/parts.rt by tools/extract: not to be edited.
-// That source is proved, and each contract here is its. That this text means the same is tested:
-// by results from outside, and beside what is proved (.ci/bindings) and the original (tools/agree).
+// That source has the contracts, and is proved. That this text means the same is only tested.
 
 use crate::proved::format_tokens::kinds::{Kind, Label};
 use crate::proved::rustc_parse_format::{
@@ -14,7 +13,6 @@ use crate::shim::alloc::AllocError;
 use crate::shim::prelude::*;
 
 /// Returns the number of characters of a text.
-// ensures { result ≡ length (chars text.now) }
 #[inline]
 pub fn length_of(text: &str) -> usize {
     text.chars().count()
@@ -22,8 +20,6 @@ pub fn length_of(text: &str) -> usize {
 
 /// Adds a token of a text's first `bytes` bytes, and returns the rest of the text. Without bytes
 /// there is no token.
-// ensures { IfOk result (λ left. (u r : Text) → chars text.now ≡ u ++ r → bytes ≡ byte_length u
-//     → Took (token kind u) r labels.old.items labels.new.items left.now) }
 #[inline]
 pub fn take<'a>(
     labels: &mut Vec<Label>,
@@ -47,21 +43,18 @@ pub fn take<'a>(
 }
 
 /// Returns the byte length of a text.
-// ensures { result ≡ byte_length (chars text.now) }
 #[inline]
 pub fn width_of(text: &str) -> usize {
     text.len()
 }
 
 /// Returns the first character, or `None` if the text is empty.
-// ensures { result ≡ first (chars text.now) }
 #[inline]
 fn first(text: &str) -> Option<char> {
     text.chars().next()
 }
 
 /// Returns the text after the first character, or an empty text if there is none.
-// ensures { chars result.now ≡ after_first (chars text.now) }
 #[inline]
 pub fn after_first(text: &str) -> &str {
     let mut rest = text.chars();
@@ -70,7 +63,6 @@ pub fn after_first(text: &str) -> &str {
 }
 
 /// Returns whether the first character is `c`.
-// ensures { result ≡ begins_with c (chars text.now) }
 #[inline]
 pub fn begins(text: &str, c: char) -> bool {
     match first(text) {
@@ -90,7 +82,6 @@ pub enum Run {
 
 impl Run {
     /// Returns whether a character is of the class.
-    // ensures { result ≡ passes self c }
     #[inline]
     fn passes(self, c: char) -> bool {
         match self {
@@ -101,7 +92,6 @@ impl Run {
 }
 
 /// Returns the byte length of the longest prefix of a text whose characters are all of the class.
-// ensures { result ≡ byte_length (front (passes run) (chars text.now)) }
 #[inline]
 pub fn run_width(text: &str, run: Run) -> usize {
     let mut rest = text.chars();
@@ -116,7 +106,6 @@ pub fn run_width(text: &str, run: Run) -> usize {
 }
 
 /// Returns the kind of a word that is of a kind unless it is a lone `_`.
-// ensures { result ≡ word_kind kind (chars word.now) }
 #[inline]
 fn word_kind(kind: Kind, word: &str) -> Kind {
     if first(word) == Some('_') && first(after_first(word)).is_none() {
@@ -127,16 +116,12 @@ fn word_kind(kind: Kind, word: &str) -> Kind {
 }
 
 /// Returns a number with one more digit, or 65536 if it is greater.
-// requires number { number ≤ 65536 }
-// requires digit { IsTrue (is_ascii_digit digit) }
-// ensures { result ≡ min (number * 10 + digit_value digit) 65536 }
 #[inline]
 fn with_digit(number: u32, digit: char) -> u32 {
     (number * 10 + (u32::from(digit) - 48)).min(65536)
 }
 
 /// Returns whether the number that the digits at the start of a text write is above 65535.
-// ensures { result ≡ is_over (front is_ascii_digit (chars text.now)) }
 #[inline]
 fn is_over(text: &str) -> bool {
     let mut number = 0;
@@ -151,7 +136,6 @@ fn is_over(text: &str) -> bool {
 }
 
 /// Returns the kind of the digits at the start of a text.
-// ensures { result ≡ integer_kind (front is_ascii_digit (chars text.now)) }
 #[inline]
 fn integer_kind(text: &str) -> Kind {
     if is_over(text) {
@@ -162,7 +146,6 @@ fn integer_kind(text: &str) -> Kind {
 }
 
 /// Returns whether a text that begins with a name has an `r#` before it.
-// ensures { result ≡ names_raw (chars text.now) (chars name.now) }
 #[inline]
 fn is_raw(text: &str, name: &str) -> bool {
     let hash = after_first(text);
@@ -173,10 +156,6 @@ fn is_raw(text: &str, name: &str) -> bool {
 }
 
 /// Adds the tokens of a position.
-// ensures { IfOk result (λ left. (p : PositionText) (n : ℕ) (r : Text)
-//     → IsPart (chars text.now) (position_part p) r
-//     → seen_position position.now ≡ position_of n p
-//     → Took (position_tokens p) r labels.old.items labels.new.items left.now) }
 #[inline]
 pub fn position<'a>(
     labels: &mut Vec<Label>,
@@ -205,15 +184,6 @@ pub fn position<'a>(
 }
 
 /// Adds the tokens of a count.
-// ensures count { IfOk result (λ left. (k : CountText) (r : Text)
-//     → IsPart (chars text.now) (count_part k) r
-//     → bare_count (seen_count count.now) ≡ count_value k
-//     → Took (count_tokens k) r labels.old.items labels.new.items left.now) }
-// ensures star { IfOk result (λ left. (n : ℕ) (r : Text) → chars text.now ≡ codes "*" ++ r
-//     → bare_count (seen_count count.now) ≡ Star n
-//     → Took (token Kind.Asterisk (codes "*")) r labels.old.items labels.new.items left.now) }
-// ensures none { IfOk result (λ left. bare_count (seen_count count.now) ≡ Implied
-//     → Took [] (chars text.now) labels.old.items labels.new.items left.now) }
 #[inline]
 fn count<'a>(
     labels: &mut Vec<Label>,
@@ -255,10 +225,6 @@ fn count<'a>(
 }
 
 /// Adds the tokens of a width, with the flag `0` if it is set.
-// ensures { IfOk result (λ left. (k : WidthText) (r : Text)
-//     → IsPart (chars text.now) (width_part k) r
-//     → zero_pad ≡ is_padded k → bare_count (seen_count width.now) ≡ width_value k
-//     → Took (width_tokens k) r labels.old.items labels.new.items left.now) }
 #[inline]
 fn width<'a>(
     labels: &mut Vec<Label>,
@@ -272,10 +238,6 @@ fn width<'a>(
 }
 
 /// Adds the tokens of a precision, with the dot before it.
-// ensures { IfOk result (λ left. (k : PrecisionText) (n : ℕ) (r : Text)
-//     → IsPart (chars text.now) (precision_part k) r
-//     → bare_count (seen_count precision.now) ≡ precision_value n k
-//     → Took (precision_tokens k) r labels.old.items labels.new.items left.now) }
 #[inline]
 fn precision<'a>(
     labels: &mut Vec<Label>,
@@ -288,7 +250,6 @@ fn precision<'a>(
 }
 
 /// Returns the byte length of a fill.
-// ensures { result ≡ byte_length (fill_part fill).spelling }
 #[inline]
 fn fill_width(fill: Option<char>) -> usize {
     match fill {
@@ -298,7 +259,6 @@ fn fill_width(fill: Option<char>) -> usize {
 }
 
 /// Returns the byte length of an alignment.
-// ensures { result ≡ byte_length (align_part (seen_alignment align)).spelling }
 #[inline]
 fn align_width(align: Alignment) -> usize {
     match align {
@@ -308,7 +268,6 @@ fn align_width(align: Alignment) -> usize {
 }
 
 /// Returns the byte length of a sign.
-// ensures { result ≡ byte_length (sign_part (option_map seen_sign sign)).spelling }
 #[inline]
 fn sign_width(sign: Option<Sign>) -> usize {
     match sign {
@@ -318,8 +277,6 @@ fn sign_width(sign: Option<Sign>) -> usize {
 }
 
 /// Returns the byte length of a type. With a flag for its hexadecimal digits it is `x?` or `X?`.
-// ensures { (k : TypeText) → option_map seen_debug_hex debug_hex ≡ debug_hex_of k
-//     → chars ty.now ≡ type_of k → result ≡ byte_length (type_part k).spelling }
 #[inline]
 fn type_width(debug_hex: Option<DebugHex>, ty: &str) -> usize {
     match debug_hex {
@@ -329,10 +286,6 @@ fn type_width(debug_hex: Option<DebugHex>, ty: &str) -> usize {
 }
 
 /// Adds the tokens of a format specification.
-// ensures { IfOk result (λ left. (p : FormatText) (n : ℕ) (r : Text)
-//     → IsPart (chars text.now) (format_part p) r
-//     → bare_spec (seen_spec format.now) ≡ format_value n p
-//     → Took (format_tokens p) r labels.old.items labels.new.items left.now) }
 #[inline]
 fn format<'a>(
     labels: &mut Vec<Label>,
@@ -360,10 +313,6 @@ fn format<'a>(
 }
 
 /// Adds the tokens of a specification, with the colon before it.
-// ensures { IfOk result (λ left. (k : SpecText) (n : ℕ) (r : Text)
-//     → IsPart (chars text.now) (spec_part (seen_mode mode) k) r
-//     → bare_spec (seen_spec spec.now) ≡ spec_value n k
-//     → Took (spec_tokens k) r labels.old.items labels.new.items left.now) }
 #[inline]
 pub fn specification<'a>(
     labels: &mut Vec<Label>,

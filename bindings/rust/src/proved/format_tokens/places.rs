@@ -1,8 +1,7 @@
 //! The byte offsets where the characters of an input start in its source.
 
 // Extracted from crates/format_tokens/src/places.rt by tools/extract: not to be edited.
-// That source is proved, and each contract here is its. That this text means the same is tested:
-// by results from outside, and beside what is proved (.ci/bindings) and the original (tools/agree).
+// That source has the contracts, and is proved. That this text means the same is only tested.
 
 use crate::proved::format_tokens::culprits::{fits, inside_after, marked_kind, role_of};
 use crate::proved::format_tokens::kinds::{Label, Token};
@@ -13,9 +12,6 @@ use crate::shim::prelude::*;
 
 /// Returns the byte offsets where the characters of a text start, where it starts at `at` and each
 /// character stands for itself, and then `end`.
-// requires { at + length text.now < 2 ^ 64 }
-// ensures { IfOk result (λ v. (b : Bool)
-//     → v.items ≡ starts_of (plain_world b at (chars text.now) end)) }
 #[inline]
 pub fn plain_starts(at: usize, text: &str, end: usize) -> Result<Vec<usize>, AllocError> {
     let mut starts = Vec::made_for(length_of(text).saturating_add(1))?;
@@ -31,9 +27,6 @@ pub fn plain_starts(at: usize, text: &str, end: usize) -> Result<Vec<usize>, All
 
 /// Returns the byte offsets where the characters of an input start in its source literal, an
 /// ordinary one, and then the end of the text.
-// ensures { IfOk result (λ v. (input : Text)
-//     → IsSource input None (chars snippet.now) appended_newline
-//     → v.items ≡ starts_of (world input None (Some (chars snippet.now)) appended_newline)) }
 #[inline]
 pub fn ordinary_starts(snippet: &str, appended_newline: bool) -> Result<Vec<usize>, AllocError> {
     let Some(content) = quoted_content(snippet) else {
@@ -57,10 +50,6 @@ pub fn ordinary_starts(snippet: &str, appended_newline: bool) -> Result<Vec<usiz
 
 /// Adds the tokens of the first `count` characters, with those marked that are out of place.
 /// `names` says whether only names are accepted, `starts` where the characters start.
-// requires { count < length starts.now }
-// ensures { OnOk result ((w : World) → starts.now ≡ starts_of w
-//     → map seen_token tokens.new.items ≡ map seen_token tokens.old.items
-//     ++ placed_sizes w (length w.places) count (marked names false (pairs labels.now))) }
 #[inline]
 pub fn place(
     tokens: &mut Vec<Token>,

@@ -1,8 +1,7 @@
 //! The tokens of a whole text, by the calls of the parser.
 
 // Extracted from crates/format_tokens/src/walk.rt by tools/extract: not to be edited.
-// That source is proved, and each contract here is its. That this text means the same is tested:
-// by results from outside, and beside what is proved (.ci/bindings) and the original (tools/agree).
+// That source has the contracts, and is proved. That this text means the same is only tested.
 
 use crate::proved::format_tokens::kinds::{Kind, Label};
 use crate::proved::format_tokens::parts::{
@@ -14,17 +13,12 @@ use crate::shim::parser::Parser;
 use crate::shim::prelude::*;
 
 /// Returns the text before the closing brace at its end, or `None` if it does not end with one.
-// ensures { MatchOption result
-//     ((t : List ℕ) → t ++ codes "}" ≡ chars text.now → ⊥)
-//     (λ t. chars t.now ++ codes "}" ≡ chars text.now) }
 #[inline]
 fn before_brace(text: &str) -> Option<&str> {
     text.strip_suffix('}')
 }
 
 /// Returns whether the first `bytes` bytes of a text end with a closing brace.
-// ensures { (u r : Text) → chars text.now ≡ u ++ r → bytes ≡ byte_length u
-//     → result ≡ is_closed u }
 #[inline]
 fn is_closed(bytes: usize, text: &str) -> bool {
     match text.parts_at(bytes) {
@@ -35,8 +29,6 @@ fn is_closed(bytes: usize, text: &str) -> bool {
 
 /// Adds the tokens of the first `bytes` bytes of a text, which the call reads in place of a closing
 /// brace, and returns the rest of the text.
-// ensures { IfOk result (λ left. (u r : Text) → chars text.now ≡ u ++ r → bytes ≡ byte_length u
-//     → Took (skipped_tokens u) r labels.old.items labels.new.items left.now) }
 #[inline]
 fn skip<'a>(labels: &mut Vec<Label>, bytes: usize, text: &'a str) -> Result<&'a str, AllocError> {
     let brace = usize::from(is_closed(bytes, text));
@@ -47,13 +39,6 @@ fn skip<'a>(labels: &mut Vec<Label>, bytes: usize, text: &'a str) -> Result<&'a 
 
 /// Adds the tokens of a placeholder at the start of a text, and returns the rest of the text after
 /// the call that read it: `rest_len` bytes.
-// ensures { IfOk result (λ after. (n : ℕ) (t : Text) → chars text.now ≡ codes "{" ++ t
-//     → bare_argument (seen_argument argument.now)
-//     ≡ argument_value n (cut (seen_mode mode) t).field
-//     → (let k = placeholder (seen_mode mode) n (chars text.now) t in
-//     rest_len ≡ byte_length k.rest
-//     → Took (placeholder_tokens (seen_mode mode) t k.rest) k.rest
-//     labels.old.items labels.new.items after.now)) }
 #[inline]
 fn placeholder<'a>(
     labels: &mut Vec<Label>,
@@ -84,7 +69,6 @@ fn placeholder<'a>(
 
 /// Returns the byte length of the doubled brace at the start of a piece of literal text, or 0 if it
 /// starts with no brace.
-// ensures { result ≡ (if first_passes is_brace (chars text.now) then 2 else 0) }
 #[inline]
 fn escape_width(text: &str) -> usize {
     if begins(text, '{') || begins(text, '}') {
@@ -96,11 +80,6 @@ fn escape_width(text: &str) -> usize {
 
 /// Adds the tokens of a piece of literal text at the start of a text, and returns the rest of the
 /// text after it: `rest_len` bytes.
-// ensures { IfOk result (λ after. (mode : Mode) (n : ℕ) (l : Text) →
-//     (let k = call mode n (chars text.now) in
-//     k.piece ≡ Some (LitPiece l) → rest_len ≡ byte_length k.rest
-//     → Took (call_tokens mode (chars text.now) k.rest) k.rest
-//     labels.old.items labels.new.items after.now)) }
 #[inline]
 fn literal<'a>(
     labels: &mut Vec<Label>,
@@ -119,14 +98,7 @@ fn literal<'a>(
 
 /// Adds the labels of a call at the start of a text, and returns the rest of the text after it:
 /// `rest_len` bytes. `piece` is the piece that `Parser::next_into` returned, and `argument` the one
-/// into which it read a placeholder. Returns `Err` if an allocation fails; the list may then have
-/// some of the labels.
-// ensures { IfOk result (λ after. (w : World) (n : ℕ) →
-//     (let k = call (seen_mode mode) n (chars text.now) in
-//     option_map (seen_taken argument.now) piece.entry ≡ option_map (piece_in w) k.piece
-//     → rest_len ≡ byte_length k.rest
-//     → Took (call_tokens (seen_mode mode) (chars text.now) k.rest) k.rest
-//     labels.old.items labels.new.items after.now)) }
+/// into which it read a placeholder.
 #[inline]
 pub fn label<'a>(
     labels: &mut Vec<Label>,
@@ -158,9 +130,6 @@ pub fn label<'a>(
 }
 
 /// Returns the labels of an input, by the calls of a parser at its start.
-// requires { parser.old ≡ first_state (seen_mode mode) (chars input.now) None None false }
-// ensures { IfOk result (λ v. v.items
-//     ≡ map sized (read_tokens (seen_mode mode) (chars input.now))) }
 #[inline]
 fn labels_by<'a>(
     parser: &mut Parser<'a>,
@@ -184,9 +153,6 @@ fn labels_by<'a>(
 }
 
 /// Returns the labels of a text, none of them marked.
-// requires { length input.now + 2 < 2 ^ 64 }
-// ensures { IfOk result (λ v. v.items
-//     ≡ map sized (read_tokens (seen_mode mode) (chars input.now))) }
 #[inline]
 pub fn labels(input: &str, mode: ParseMode) -> Result<Vec<Label>, AllocError> {
     let mut parser = Parser::new(input, None, None, false, mode)?;

@@ -1,8 +1,7 @@
 //! The run over files and folders.
 
 // Extracted from crates/formatlint/src/files.rt by tools/extract: not to be edited.
-// That source is proved, and each contract here is its. That this text means the same is tested:
-// by results from outside, and beside what is proved (.ci/bindings) and the original (tools/agree).
+// That source has the contracts, and is proved. That this text means the same is only tested.
 
 use crate::proved::finding_forms::{put_end, put_finding, put_start, File};
 use crate::proved::formatlint::rewrites::{apply_rewrite, Rewrite};
@@ -108,7 +107,6 @@ impl<'a> Run<'a> {
     }
 
     /// Appends the messages of a file, and writes them from time to time.
-    // requires { file.now.places ≡ file.now.text.now }
     #[inline]
     fn put_findings<'x>(
         &mut self,
@@ -173,7 +171,6 @@ fn text_of(bytes: &[u8]) -> FileText<'_> {
 }
 
 /// Adds a failure to the totals if a file was not read to its end.
-// requires { file.now.places ≡ file.now.text.now }
 #[inline]
 fn tell_end(
     rt: &crate::shim::host::HostRuntime,

@@ -1,8 +1,7 @@
 //! Finds the faults of format strings in Rust sources, or in one string, as the Rust compiler does.
 
 // Extracted from crates/formatlint/src/main.rt by tools/extract: not to be edited.
-// That source is proved, and each contract here is its. That this text means the same is tested:
-// by results from outside, and beside what is proved (.ci/bindings) and the original (tools/agree).
+// That source has the contracts, and is proved. That this text means the same is only tested.
 
 use crate::shim::prelude::*;
 pub(crate) mod files;

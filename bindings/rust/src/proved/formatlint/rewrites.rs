@@ -1,8 +1,7 @@
 //! The text of a file with what a request changes in it.
 
 // Extracted from crates/formatlint/src/rewrites.rt by tools/extract: not to be edited.
-// That source is proved, and each contract here is its. That this text means the same is tested:
-// by results from outside, and beside what is proved (.ci/bindings) and the original (tools/agree).
+// That source has the contracts, and is proved. That this text means the same is only tested.
 
 use crate::proved::file_fixes::fixes;
 use crate::proved::file_inlines::{inlines, CallInlining};

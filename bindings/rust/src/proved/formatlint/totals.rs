@@ -1,8 +1,7 @@
 //! The totals of a run over files, and the lines about it on standard error.
 
 // Extracted from crates/formatlint/src/totals.rt by tools/extract: not to be edited.
-// That source is proved, and each contract here is its. That this text means the same is tested:
-// by results from outside, and beside what is proved (.ci/bindings) and the original (tools/agree).
+// That source has the contracts, and is proved. That this text means the same is only tested.
 
 use crate::proved::format_calls::Reason;
 use crate::proved::formatlint::inlinings::{Inlinings, NO_CALLS};

@@ -2,8 +2,7 @@
 //! standard output.
 
 // Extracted from crates/formatread/src/main.rt by tools/extract: not to be edited.
-// That source is proved, and each contract here is its. That this text means the same is tested:
-// by results from outside, and beside what is proved (.ci/bindings) and the original (tools/agree).
+// That source has the contracts, and is proved. That this text means the same is only tested.
 
 use crate::proved::piece_listing::run::run;
 use crate::proved::piece_listing::verdict::{verdict, RunFault};

@@ -1,8 +1,7 @@
 //! Calls, and what inlining makes of one.
 
 // Extracted from crates/inlined_arguments/src/call.rt by tools/extract: not to be edited.
-// That source is proved, and each contract here is its. That this text means the same is tested:
-// by results from outside, and beside what is proved (.ci/bindings) and the original (tools/agree).
+// That source has the contracts, and is proved. That this text means the same is only tested.
 
 use crate::proved::call_faults::FormatString;
 use crate::shim::prelude::*;

@@ -1,14 +1,12 @@
 //! The conditions that can be seen without reading the format string.
 
 // Extracted from crates/inlined_arguments/src/conditions.rt by tools/extract: not to be edited.
-// That source is proved, and each contract here is its. That this text means the same is tested:
-// by results from outside, and beside what is proved (.ci/bindings) and the original (tools/agree).
+// That source has the contracts, and is proved. That this text means the same is only tested.
 
 use crate::proved::inlined_arguments::call::{Argument, Call, Left};
 use crate::proved::inlined_arguments::variables::{has_comment, is_variable, split_first};
 
 /// Returns whether one of arguments is a variable.
-// ensures { result ≡ list_any is_variable (map seen_argument arguments.now) }
 #[inline]
 fn has_variable(arguments: &[Argument<'_>]) -> bool {
     for argument in arguments {
@@ -20,7 +18,6 @@ fn has_variable(arguments: &[Argument<'_>]) -> bool {
 }
 
 /// Returns whether one of arguments is no variable.
-// ensures { result ≡ list_any (λ a. not (is_variable a)) (map seen_argument arguments.now) }
 #[inline]
 fn has_other(arguments: &[Argument<'_>]) -> bool {
     for argument in arguments {
@@ -32,7 +29,6 @@ fn has_other(arguments: &[Argument<'_>]) -> bool {
 }
 
 /// Returns whether a comment would go with one of arguments.
-// ensures { result ≡ list_any goes_with_comment (map seen_argument arguments.now) }
 #[inline]
 fn have_comment(arguments: &[Argument<'_>]) -> bool {
     for argument in arguments {
@@ -44,7 +40,6 @@ fn have_comment(arguments: &[Argument<'_>]) -> bool {
 }
 
 /// Returns the reason in its list of arguments why a call is left, or `None` if there is none.
-// ensures { result ≡ list_condition allows_mixed (seen_call call.now) }
 #[inline]
 fn list_condition(call: &Call<'_>, allows_mixed: bool) -> Option<Left> {
     if !call.is_counted {
@@ -63,7 +58,6 @@ fn list_condition(call: &Call<'_>, allows_mixed: bool) -> Option<Left> {
 }
 
 /// Returns whether a text is `{}`.
-// ensures { result ≡ is_bare (chars text.now) }
 #[inline]
 fn is_bare(text: &str) -> bool {
     let Some(('{', rest)) = split_first(text) else {
@@ -76,7 +70,6 @@ fn is_bare(text: &str) -> bool {
 }
 
 /// Returns the reason in its macro and its string why a call is left, or `None` if there is none.
-// ensures { result ≡ string_condition (seen_call call.now) }
 #[inline]
 fn string_condition(call: &Call<'_>) -> Option<Left> {
     if !call.string.captures {
@@ -93,7 +86,6 @@ fn string_condition(call: &Call<'_>) -> Option<Left> {
 
 /// Returns the reason why a call is left that can be seen without reading its string, or `None` if
 /// there is none.
-// ensures { result ≡ condition allows_mixed (seen_call call.now) }
 #[inline]
 pub(crate) fn condition(call: &Call<'_>, allows_mixed: bool) -> Option<Left> {
     match list_condition(call, allows_mixed) {

@@ -1,8 +1,7 @@
 //! The edits that put variables into a literal.
 
 // Extracted from crates/inlined_arguments/src/edits.rt by tools/extract: not to be edited.
-// That source is proved, and each contract here is its. That this text means the same is tested:
-// by results from outside, and beside what is proved (.ci/bindings) and the original (tools/agree).
+// That source has the contracts, and is proved. That this text means the same is only tested.
 
 use crate::proved::inlined_arguments::call::Edit;
 use crate::proved::inlined_arguments::meaning::Meant;
@@ -69,8 +68,6 @@ fn new_text(reference: Reference<'_>, value: Value<'_>) -> Result<Option<String>
 }
 
 /// Adds the edit that puts a text into a place of the literal, if there is one.
-// ensures { OnOk result ((places : List Place) → AreAt places (map seen_edit edits.old.items)
-//     → AreAt (places ++ pair span.now ∷ []) (map seen_edit edits.new.items)) }
 #[inline]
 fn push_edit(
     edits: &mut Vec<Edit>,
@@ -87,8 +84,6 @@ fn push_edit(
 }
 
 /// Adds the edit of the position of a placeholder, if it does not stay as it is.
-// ensures { OnOk result ((places : List Place) → AreAt places (map seen_edit edits.old.items)
-//     → AreAt (places ++ pair argument.now.position_span ∷ []) (map seen_edit edits.new.items)) }
 #[inline]
 fn push_position<'a>(
     edits: &mut Vec<Edit>,
@@ -125,9 +120,6 @@ fn count_text<'a>(
 
 /// Adds the edit of a width or a precision at a place of the literal, if it does not stay as it is.
 /// `opening` is what its text begins with.
-// ensures { OnOk result ((places : List Place) → AreAt places (map seen_edit edits.old.items)
-//     → AreAt (places ++ option_to_list (option_map pair span.now))
-//     (map seen_edit edits.new.items)) }
 #[inline]
 fn push_count<'a>(
     edits: &mut Vec<Edit>,
@@ -144,8 +136,6 @@ fn push_count<'a>(
 }
 
 /// Adds the edits of a piece.
-// ensures { OnOk result ((places : List Place) → AreAt places (map seen_edit edits.old.items)
-//     → AreAt (places ++ reference_places (seen piece.now)) (map seen_edit edits.new.items)) }
 #[inline]
 fn push_piece<'a>(
     edits: &mut Vec<Edit>,
@@ -170,8 +160,6 @@ fn push_piece<'a>(
 
 /// Returns the edits of a literal whose text has these pieces: they put variables in the place of
 /// references to arguments that are these, and make the others those to the arguments that stay.
-// ensures { IfOk result (λ v.
-//     AreAtReferences (map seen call.entry.pieces.now) (map seen_edit v.items)) }
 #[inline]
 pub(crate) fn edits_of(call: Meant<'_, '_>) -> Result<Vec<Edit>, AllocError> {
     let mut edits = Vec::new();

@@ -1,8 +1,7 @@
 //! Inlining, and the check of its result.
 
 // Extracted from crates/inlined_arguments/src/inlining.rt by tools/extract: not to be edited.
-// That source is proved, and each contract here is its. That this text means the same is tested:
-// by results from outside, and beside what is proved (.ci/bindings) and the original (tools/agree).
+// That source has the contracts, and is proved. That this text means the same is only tested.
 
 use crate::proved::call_faults::{FormatArgument, FormatString};
 use crate::proved::inlined_arguments::call::{Call, Inlined, Left};
@@ -19,10 +18,6 @@ use crate::shim::alloc::AllocError;
 use crate::shim::prelude::*;
 
 /// Adds the newline that a macro appends, if it does.
-// ensures text { OnOk result (chars (string_bytes text.new)
-//     ≡ chars (string_bytes text.old) ++ newline appended) }
-// ensures short { OnOk result (length (string_bytes text.new)
-//     ≤ length (string_bytes text.old) + 1) }
 #[inline]
 fn put_newline(text: &mut String, appended: bool) -> Result<(), AllocError> {
     if appended {
@@ -33,7 +28,6 @@ fn put_newline(text: &mut String, appended: bool) -> Result<(), AllocError> {
 }
 
 /// Returns whether two styles of literals are the same.
-// ensures { IsTrue result → left ≡ right }
 #[inline]
 fn is_same_style(left: Option<usize>, right: Option<usize>) -> bool {
     match (left, right) {
@@ -45,11 +39,6 @@ fn is_same_style(left: Option<usize>, right: Option<usize>) -> bool {
 
 /// Returns whether nothing is wrong with a call with this string and these slots, and it means what
 /// the old one does. The given arguments are those of the slots.
-// requires { hashes string.style + length string.text.now + 2 < 2 ^ 64 }
-// ensures { IfOk result (λ b. Knows old.entry.values.now
-//     → map seen_given arguments.now ≡ map given_of (map seen_slot slots.now) → IsTrue b
-//     → IsCleanAs string.entry.captures (seen_slots old.entry.values.now)
-//     (map seen old.entry.pieces.now) (map seen_slot slots.now) (chars string.entry.text.now)) }
 #[inline]
 fn means_same_with<'c>(
     old: Meant<'_, '_>,
@@ -70,10 +59,6 @@ fn means_same_with<'c>(
 
 /// Returns whether a call with this literal in place of its own, and without the arguments that are
 /// variables, means what the old one does.
-// ensures { IfOk result (λ b. Knows old.entry.values.now
-//     → seen_slots old.entry.values.now ≡ slots_of (map seen_argument call.entry.arguments.now)
-//     → IsTrue b
-//     → MeansSame (seen_call call.entry) (map seen old.entry.pieces.now) (chars literal.now)) }
 #[inline]
 fn keeps_meaning(call: Call<'_>, old: Meant<'_, '_>, literal: &str) -> Result<bool, AllocError> {
     let Some(LiteralText { mut text, style }) = literal_text(literal)? else {
@@ -98,15 +83,6 @@ fn keeps_meaning(call: Call<'_>, old: Meant<'_, '_>, literal: &str) -> Result<bo
 /// Returns a call with its arguments that are variables in its format string, or why it is left as
 /// it is, if it is not for a reason that is seen without reading its string. The slots and the
 /// given arguments are those of the call.
-// requires fits { hashes call.string.style + length call.string.text.now + 2 < 2 ^ 64 }
-// requires slots { map seen_slot slots.now ≡ slots_of (map seen_argument call.arguments.now) }
-// requires given { map seen_given arguments.now ≡ map given_of (map seen_slot slots.now) }
-// ensures inlined { IfOk result (λ r. IfOk r (λ x. (mixed : Bool)
-//     → condition mixed (seen_call call.entry) ≡ None
-//     → IsInlined mixed (seen_call call.entry) (seen_inlined x))) }
-// ensures left { IfOk result (λ r. IfErr r (λ l. (mixed : Bool)
-//     → condition mixed (seen_call call.entry) ≡ None
-//     → IsLeft mixed (seen_call call.entry) l)) }
 #[inline]
 fn inline_with<'c>(
     call: Call<'c>,
@@ -144,11 +120,6 @@ fn inline_with<'c>(
 /// Returns `Err` if an allocation fails.
 ///
 /// The number of hashes, the length of the text in bytes, and 2 must together fit into a `usize`.
-// requires { hashes call.string.style + length call.string.text.now + 2 < 2 ^ 64 }
-// A call that is inlined has the old meaning. One that is left has a reason that holds.
-// ensures inlined { IfOk result (λ r. IfOk r (λ x.
-//     IsInlined allows_mixed (seen_call call.entry) (seen_inlined x))) }
-// ensures left { IfOk result (λ r. IfErr r (λ l. IsLeft allows_mixed (seen_call call.entry) l)) }
 #[inline]
 pub fn inline_arguments(
     call: Call<'_>,

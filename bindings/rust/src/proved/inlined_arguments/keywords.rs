@@ -1,11 +1,9 @@
 //! The keywords of all editions.
 
 // Extracted from crates/inlined_arguments/src/keywords.rt by tools/extract: not to be edited.
-// That source is proved, and each contract here is its. That this text means the same is tested:
-// by results from outside, and beside what is proved (.ci/bindings) and the original (tools/agree).
+// That source has the contracts, and is proved. That this text means the same is only tested.
 
 /// Returns whether a word is a keyword that stands in expressions.
-// ensures { result ≡ list_any (bytes_eq word.now) expressions }
 #[inline]
 fn is_in_expressions(word: &str) -> bool {
     word == "as"
@@ -26,7 +24,6 @@ fn is_in_expressions(word: &str) -> bool {
 }
 
 /// Returns whether a word is a keyword that begins or joins statements and branches.
-// ensures { result ≡ list_any (bytes_eq word.now) statements }
 #[inline]
 fn is_in_statements(word: &str) -> bool {
     word == "else"
@@ -42,7 +39,6 @@ fn is_in_statements(word: &str) -> bool {
 }
 
 /// Returns whether a word is a keyword that stands in items.
-// ensures { result ≡ list_any (bytes_eq word.now) items }
 #[inline]
 fn is_in_items(word: &str) -> bool {
     word == "const"
@@ -61,7 +57,6 @@ fn is_in_items(word: &str) -> bool {
 }
 
 /// Returns whether a word is a keyword without a use.
-// ensures { result ≡ list_any (bytes_eq word.now) reserved }
 #[inline]
 fn is_reserved(word: &str) -> bool {
     word == "abstract"
@@ -81,7 +76,6 @@ fn is_reserved(word: &str) -> bool {
 }
 
 /// Returns whether a word is a keyword of some edition, except `self`.
-// ensures { result ≡ is_keyword word.now }
 #[inline]
 pub(crate) fn is_keyword(word: &str) -> bool {
     is_in_expressions(word) || is_in_statements(word) || is_in_items(word) || is_reserved(word)

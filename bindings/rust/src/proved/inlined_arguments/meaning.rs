@@ -1,8 +1,7 @@
 //! The comparison of the meanings of two calls.
 
 // Extracted from crates/inlined_arguments/src/meaning.rt by tools/extract: not to be edited.
-// That source is proved, and each contract here is its. That this text means the same is tested:
-// by results from outside, and beside what is proved (.ci/bindings) and the original (tools/agree).
+// That source has the contracts, and is proved. That this text means the same is only tested.
 
 use crate::proved::inlined_arguments::slots::Value;
 use crate::proved::inlined_arguments::values::{amount_of, position_value, Amount, Values};
@@ -12,7 +11,6 @@ use crate::proved::rustc_parse_format::laws::{
 use crate::proved::rustc_parse_format::{Argument, DebugHex, FormatSpec, Piece, Sign};
 
 /// Returns whether two values are the same.
-// ensures { IsTrue result → seen_value left.entry ≡ seen_value right.entry }
 #[inline]
 fn is_same_value(left: Value<'_>, right: Value<'_>) -> bool {
     match (left, right) {
@@ -25,7 +23,6 @@ fn is_same_value(left: Value<'_>, right: Value<'_>) -> bool {
 }
 
 /// Returns whether two values are there and the same.
-// ensures { IsTrue result → option_map seen_value left.entry ≡ option_map seen_value right.entry }
 #[inline]
 fn are_same_values(left: Option<Value<'_>>, right: Option<Value<'_>>) -> bool {
     match (left, right) {
@@ -35,7 +32,6 @@ fn are_same_values(left: Option<Value<'_>>, right: Option<Value<'_>>) -> bool {
 }
 
 /// Returns whether two widths or precisions are the same.
-// ensures { IsTrue result → seen_amount left.entry ≡ seen_amount right.entry }
 #[inline]
 fn are_same_amounts(left: Amount<'_>, right: Amount<'_>) -> bool {
     match (left, right) {
@@ -47,7 +43,6 @@ fn are_same_amounts(left: Amount<'_>, right: Amount<'_>) -> bool {
 }
 
 /// Returns whether two fill characters are the same.
-// ensures { IsTrue result → left ≡ right }
 #[inline]
 fn are_same_fills(left: Option<char>, right: Option<char>) -> bool {
     match (left, right) {
@@ -58,7 +53,6 @@ fn are_same_fills(left: Option<char>, right: Option<char>) -> bool {
 }
 
 /// Returns whether two signs are the same.
-// ensures { IsTrue result → option_map seen_sign left ≡ option_map seen_sign right }
 #[inline]
 fn are_same_signs(left: Option<Sign>, right: Option<Sign>) -> bool {
     match (left, right) {
@@ -69,7 +63,6 @@ fn are_same_signs(left: Option<Sign>, right: Option<Sign>) -> bool {
 }
 
 /// Returns whether two flags of the type `?` are the same.
-// ensures { IsTrue result → option_map seen_debug_hex left ≡ option_map seen_debug_hex right }
 #[inline]
 fn are_same_hexes(left: Option<DebugHex>, right: Option<DebugHex>) -> bool {
     match (left, right) {
@@ -81,7 +74,6 @@ fn are_same_hexes(left: Option<DebugHex>, right: Option<DebugHex>) -> bool {
 
 /// Returns whether two specifications are the same but for their width, their precision and their
 /// places.
-// ensures { IsTrue result → flags (seen_spec left.now) ≡ flags (seen_spec right.now) }
 #[inline]
 fn are_same_flags(left: &FormatSpec<'_>, right: &FormatSpec<'_>) -> bool {
     are_same_fills(left.fill, right.fill)
@@ -103,9 +95,6 @@ pub(crate) struct Meant<'s, 'a> {
 }
 
 /// Returns whether two placeholders mean the same.
-// ensures { Knows left_values.now → Knows right_values.now → IsTrue result
-//     → use_part (seen_slots left_values.now) (seen_argument left.now)
-//     ≡ use_part (seen_slots right_values.now) (seen_argument right.now) }
 #[inline]
 fn are_same_uses<'a, 'b>(
     left_values: &Values<'_, 'a>,
@@ -126,9 +115,6 @@ fn are_same_uses<'a, 'b>(
 }
 
 /// Returns whether two pieces mean the same.
-// ensures { Knows left_values.now → Knows right_values.now → IsTrue result
-//     → part (seen_slots left_values.now) (seen left.now)
-//     ≡ part (seen_slots right_values.now) (seen right.now) }
 #[inline]
 fn are_same_parts<'a, 'b>(
     left_values: &Values<'_, 'a>,
@@ -146,9 +132,6 @@ fn are_same_parts<'a, 'b>(
 }
 
 /// Returns whether two calls mean the same.
-// ensures { Knows left.entry.values.now → Knows right.entry.values.now → IsTrue result
-//     → meaning (seen_slots left.entry.values.now) (map seen left.entry.pieces.now)
-//     ≡ meaning (seen_slots right.entry.values.now) (map seen right.entry.pieces.now) }
 #[inline]
 pub(crate) fn means_same<'a, 'b>(left: Meant<'_, 'a>, right: Meant<'_, 'b>) -> bool {
     if left.pieces.len() != right.pieces.len() {

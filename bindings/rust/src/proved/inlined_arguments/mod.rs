@@ -1,8 +1,7 @@
 //! Arguments of a call that are variables, moved into its format string ([`inline_arguments`]).
 
 // Extracted from crates/inlined_arguments/src/lib.rt by tools/extract: not to be edited.
-// That source is proved, and each contract here is its. That this text means the same is tested:
-// by results from outside, and beside what is proved (.ci/bindings) and the original (tools/agree).
+// That source has the contracts, and is proved. That this text means the same is only tested.
 
 pub(crate) mod call;
 pub(crate) mod conditions;

@@ -1,8 +1,7 @@
 //! Arguments as places for values.
 
 // Extracted from crates/inlined_arguments/src/slots.rt by tools/extract: not to be edited.
-// That source is proved, and each contract here is its. That this text means the same is tested:
-// by results from outside, and beside what is proved (.ci/bindings) and the original (tools/agree).
+// That source has the contracts, and is proved. That this text means the same is only tested.
 
 use crate::proved::call_faults::FormatArgument;
 use crate::proved::inlined_arguments::call::Argument;
@@ -34,7 +33,6 @@ pub(crate) struct Slot<'a> {
 }
 
 /// Returns the value of an argument with these indices.
-// ensures { seen_value result ≡ slot_value index (seen_argument argument.now) }
 #[inline]
 fn slot_value<'a>(argument: &Argument<'a>, index: usize, number: usize) -> Value<'a> {
     match variable(argument) {
@@ -44,14 +42,12 @@ fn slot_value<'a>(argument: &Argument<'a>, index: usize, number: usize) -> Value
 }
 
 /// Returns whether a value is no variable.
-// ensures { result ≡ is_expression (seen_value value.entry) }
 #[inline]
 fn is_expression(value: Value<'_>) -> bool {
     matches!(value, Value::Expression { .. })
 }
 
 /// Returns the slots of arguments.
-// ensures { IfOk result (λ v. map seen_slot v.items ≡ slots (map seen_argument arguments.now)) }
 #[inline]
 pub(crate) fn slots<'a>(arguments: &[Argument<'a>]) -> Result<Vec<Slot<'a>>, AllocError> {
     let mut slots = Vec::new();
@@ -70,7 +66,6 @@ pub(crate) fn slots<'a>(arguments: &[Argument<'a>]) -> Result<Vec<Slot<'a>>, All
 }
 
 /// Returns the slots that stay: those of arguments that are no variables.
-// ensures { IfOk result (λ v. map seen_slot v.items ≡ kept (map seen_slot slots.now)) }
 #[inline]
 pub(crate) fn expression_slots<'a>(slots: &[Slot<'a>]) -> Result<Vec<Slot<'a>>, AllocError> {
     let mut kept = Vec::new();
@@ -83,7 +78,6 @@ pub(crate) fn expression_slots<'a>(slots: &[Slot<'a>]) -> Result<Vec<Slot<'a>>, 
 }
 
 /// Returns slots as the arguments of a call.
-// ensures { IfOk result (λ v. map seen_given v.items ≡ map given (map seen_slot slots.now)) }
 #[inline]
 pub(crate) fn givens<'a>(slots: &[Slot<'a>]) -> Result<Vec<FormatArgument<'a>>, AllocError> {
     let mut found = Vec::new();

@@ -1,8 +1,7 @@
 //! The values that placeholders refer to.
 
 // Extracted from crates/inlined_arguments/src/values.rt by tools/extract: not to be edited.
-// That source is proved, and each contract here is its. That this text means the same is tested:
-// by results from outside, and beside what is proved (.ci/bindings) and the original (tools/agree).
+// That source has the contracts, and is proved. That this text means the same is only tested.
 
 use crate::proved::inlined_arguments::slots::{Slot, Value};
 use crate::proved::rustc_parse_format::{Count, Position};
@@ -30,15 +29,12 @@ pub(crate) struct Values<'s, 'a> {
 }
 
 /// Returns the value that a map has for a name, or `None` if it has none.
-// ensures { option_map seen_value result ≡ found_in named.now (chars name.now) }
 #[inline]
 fn found_in<'a>(named: &BTreeMap<&'a str, Value<'a>>, name: &'a str) -> Option<Value<'a>> {
     named.get(&name).copied()
 }
 
 /// Puts the value of a name into a map.
-// ensures { OnOk result ((w : Text) → found_in named.new w ≡ (if bytes_eq w (chars name.now) then
-//     Some (seen_value value.entry) else found_in named.old w)) }
 #[inline]
 fn insert<'a>(
     named: &mut BTreeMap<&'a str, Value<'a>>,
@@ -50,8 +46,6 @@ fn insert<'a>(
 }
 
 /// Returns the values of slots.
-// ensures knows { IfOk result Knows }
-// ensures slots { IfOk result (λ v. seen_slots v ≡ map seen_slot slots.now) }
 #[inline]
 pub(crate) fn values_of<'s, 'a>(slots: &'s [Slot<'a>]) -> Result<Values<'s, 'a>, AllocError> {
     let mut named = BTreeMap::new();
@@ -64,7 +58,6 @@ pub(crate) fn values_of<'s, 'a>(slots: &'s [Slot<'a>]) -> Result<Values<'s, 'a>,
 }
 
 /// Returns the value of an index, or `None` if no argument has it.
-// ensures { option_map seen_value result ≡ value_at (seen_slots values.now) index }
 #[inline]
 fn value_at<'a>(values: &Values<'_, 'a>, index: usize) -> Option<Value<'a>> {
     match values.slots.get(index) {
@@ -74,8 +67,6 @@ fn value_at<'a>(values: &Values<'_, 'a>, index: usize) -> Option<Value<'a>> {
 }
 
 /// Returns the value of a name: that of the argument with this name, or else the variable.
-// ensures { Knows values.now
-//     → seen_value result ≡ value_named (seen_slots values.now) (chars name.now) }
 #[inline]
 fn value_named<'a>(values: &Values<'_, 'a>, name: &'a str) -> Value<'a> {
     match found_in(&values.named, name) {
@@ -85,8 +76,6 @@ fn value_named<'a>(values: &Values<'_, 'a>, name: &'a str) -> Value<'a> {
 }
 
 /// Returns the value of a position, or `None` if it is an index that no argument has.
-// ensures { Knows values.now → option_map seen_value result
-//     ≡ value_of (seen_slots values.now) (position_use (seen_position position.now)) }
 #[inline]
 pub(crate) fn position_value<'a>(
     values: &Values<'_, 'a>,
@@ -99,8 +88,6 @@ pub(crate) fn position_value<'a>(
 }
 
 /// Returns the amount that a width or a precision is.
-// ensures { Knows values.now
-//     → seen_amount result ≡ amount_of (seen_slots values.now) (seen_count count.now) }
 #[inline]
 pub(crate) fn amount_of<'a>(values: &Values<'_, 'a>, count: &Count<'a>) -> Amount<'a> {
     match count {

@@ -1,8 +1,7 @@
 //! The variables that arguments are.
 
 // Extracted from crates/inlined_arguments/src/variables.rt by tools/extract: not to be edited.
-// That source is proved, and each contract here is its. That this text means the same is tested:
-// by results from outside, and beside what is proved (.ci/bindings) and the original (tools/agree).
+// That source has the contracts, and is proved. That this text means the same is only tested.
 
 use crate::proved::inlined_arguments::call::Argument;
 use crate::proved::inlined_arguments::keywords::is_keyword;
@@ -13,9 +12,6 @@ use crate::shim::prelude::*;
 const FIRST_MARK: char = '\u{300}';
 
 /// Returns the first character and what is after it, or `None` if the text is empty.
-// ensures parts { MatchOption result (chars text.now ≡ [])
-//     (λ x. chars text.now ≡ x.0 ∷ chars x.1.now) }
-// ensures shorter { IfSome result (λ x. length x.1.now < length text.now) }
 #[inline]
 pub(crate) fn split_first(text: &str) -> Option<(char, &str)> {
     let mut rest = text.chars();
@@ -24,7 +20,6 @@ pub(crate) fn split_first(text: &str) -> Option<(char, &str)> {
 }
 
 /// Returns whether a name is written in a format string as it is in other source.
-// ensures { result ≡ not (list_any is_late_character (chars name.now)) }
 #[inline]
 fn is_plain(name: &str) -> bool {
     let mut rest = name;
@@ -38,7 +33,6 @@ fn is_plain(name: &str) -> bool {
 }
 
 /// Returns the variable of this name, or `None` if it cannot be in a format string.
-// ensures { option_map seen_text result ≡ named_in (chars name.now) }
 #[inline]
 fn named_in(name: &str) -> Option<&str> {
     if is_plain(name) {
@@ -49,7 +43,6 @@ fn named_in(name: &str) -> Option<&str> {
 }
 
 /// Returns the name of a raw identifier, or `None` if a word is none.
-// ensures { option_map seen_text result ≡ raw_name (chars word.now) }
 #[inline]
 fn raw_name(word: &str) -> Option<&str> {
     let Some(('r', rest)) = split_first(word) else {
@@ -63,7 +56,6 @@ fn raw_name(word: &str) -> Option<&str> {
 
 /// Returns the name of the variable that a word is, or `None` if it is none that can be in a format
 /// string.
-// ensures { option_map seen_text result ≡ variable_of word.now }
 #[inline]
 fn variable_of(word: &str) -> Option<&str> {
     match raw_name(word) {
@@ -80,7 +72,6 @@ fn variable_of(word: &str) -> Option<&str> {
 
 /// Returns the name of the variable that an argument is, or `None` if it is none that can be in a
 /// format string.
-// ensures { option_map seen_text result ≡ variable (seen_argument argument.now) }
 #[inline]
 pub(crate) fn variable<'a>(argument: &Argument<'a>) -> Option<&'a str> {
     match argument.word {
@@ -90,14 +81,12 @@ pub(crate) fn variable<'a>(argument: &Argument<'a>) -> Option<&'a str> {
 }
 
 /// Returns whether an argument is a variable that can be in a format string.
-// ensures { result ≡ is_variable (seen_argument argument.now) }
 #[inline]
 pub(crate) fn is_variable(argument: &Argument<'_>) -> bool {
     variable(argument).is_some()
 }
 
 /// Returns whether one of bytes is a slash.
-// ensures { result ≡ list_any is_slash bytes.now }
 #[inline]
 fn has_slash(bytes: &[u8]) -> bool {
     for byte in bytes {
@@ -109,14 +98,12 @@ fn has_slash(bytes: &[u8]) -> bool {
 }
 
 /// Returns whether a comment would go with an argument that is a variable.
-// ensures { result ≡ has_comment (seen_argument argument.now) }
 #[inline]
 pub(crate) fn has_comment(argument: &Argument<'_>) -> bool {
     has_slash(argument.source)
 }
 
 /// Returns the indices of the arguments that are variables.
-// ensures { IfOk result (λ v. v.items ≡ gone_from 0 (map seen_argument arguments.now)) }
 #[inline]
 pub(crate) fn variable_indices(arguments: &[Argument<'_>]) -> Result<Vec<usize>, AllocError> {
     let mut gone = Vec::new();

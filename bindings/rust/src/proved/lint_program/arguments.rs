@@ -1,8 +1,7 @@
 //! The values that the arguments of the program stand for.
 
 // Extracted from crates/lint_program/src/arguments.rt by tools/extract: not to be edited.
-// That source is proved, and each contract here is its. That this text means the same is tested:
-// by results from outside, and beside what is proved (.ci/bindings) and the original (tools/agree).
+// That source has the contracts, and is proved. That this text means the same is only tested.
 
 use crate::proved::drawn_lines::WIDTH;
 use crate::proved::format_calls::{Row, Rule, Table};

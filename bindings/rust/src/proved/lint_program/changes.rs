@@ -1,8 +1,7 @@
 //! Changed files, which are written whole or not at all.
 
 // Extracted from crates/lint_program/src/changes.rt by tools/extract: not to be edited.
-// That source is proved, and each contract here is its. That this text means the same is tested:
-// by results from outside, and beside what is proved (.ci/bindings) and the original (tools/agree).
+// That source has the contracts, and is proved. That this text means the same is only tested.
 
 use crate::proved::lint_program::recorder::Recorder;
 use crate::proved::piece_listing::run::write_whole;

@@ -1,8 +1,7 @@
 //! The editions of files, by the Cargo.toml above them.
 
 // Extracted from crates/lint_program/src/editions.rt by tools/extract: not to be edited.
-// That source is proved, and each contract here is its. That this text means the same is tested:
-// by results from outside, and beside what is proved (.ci/bindings) and the original (tools/agree).
+// That source has the contracts, and is proved. That this text means the same is only tested.
 
 use crate::proved::package_edition::{edition_in, is_from_2021, workspace_edition, Declaration};
 use crate::shim::host::fs;

@@ -1,8 +1,7 @@
 //! The run over one string: a literal, or a text.
 
 // Extracted from crates/lint_program/src/literal.rt by tools/extract: not to be edited.
-// That source is proved, and each contract here is its. That this text means the same is tested:
-// by results from outside, and beside what is proved (.ci/bindings) and the original (tools/agree).
+// That source has the contracts, and is proved. That this text means the same is only tested.
 
 use crate::proved::drawn_lines::{put_glyphs, WIDTH};
 use crate::proved::format_lint::run::run;

@@ -1,8 +1,7 @@
 //! The line on a terminal that says how many files were read, while more are read.
 
 // Extracted from crates/lint_program/src/progress.rt by tools/extract: not to be edited.
-// That source is proved, and each contract here is its. That this text means the same is tested:
-// by results from outside, and beside what is proved (.ci/bindings) and the original (tools/agree).
+// That source has the contracts, and is proved. That this text means the same is only tested.
 
 use crate::shim::host::Instant;
 use crate::shim::host::IsTerminal;

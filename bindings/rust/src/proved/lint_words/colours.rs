@@ -1,8 +1,7 @@
 //! The choice whether the output is in colours.
 
 // Extracted from crates/lint_words/src/colours.rt by tools/extract: not to be edited.
-// That source is proved, and each contract here is its. That this text means the same is tested:
-// by results from outside, and beside what is proved (.ci/bindings) and the original (tools/agree).
+// That source has the contracts, and is proved. That this text means the same is only tested.
 
 /// The value of `--color`: when the output is in colours.
 #[derive(Clone, Copy, Debug, Eq, PartialEq)]
@@ -18,8 +17,6 @@ pub enum ColourChoice {
 /// Returns whether colours are wanted, by whether the output is a terminal and by the values of the
 /// variables `NO_COLOR` and `TERM`. With `Auto` they are if the output is a terminal, `NO_COLOR` is
 /// unset or empty, and `TERM` is set and not `dumb`.
-// ensures { result ≡ wants_colours when is_terminal (option_map (λ w. w.now) no_color.entry)
-//     (option_map (λ w. w.now) term.entry) }
 #[inline]
 pub fn wants_colours(
     when: ColourChoice,

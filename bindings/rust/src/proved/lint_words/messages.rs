@@ -1,8 +1,7 @@
 //! The lines that are written to standard error where there is no answer.
 
 // Extracted from crates/lint_words/src/messages.rt by tools/extract: not to be edited.
-// That source is proved, and each contract here is its. That this text means the same is tested:
-// by results from outside, and beside what is proved (.ci/bindings) and the original (tools/agree).
+// That source has the contracts, and is proved. That this text means the same is only tested.
 
 use crate::proved::drawn_lines::put_glyphs;
 use crate::proved::literal_faults::LiteralFault;
@@ -23,7 +22,6 @@ pub fn system_words(text: &str) -> &str {
 }
 
 /// Appends the start of a line: the name of the program and the path.
-// ensures { OnOk result (string_bytes out.new ≡ string_bytes out.old ++ opening path.now) }
 #[inline]
 fn put_opening(out: &mut String, path: &str) -> Result<(), AllocError> {
     out.try_push_str("formatlint: ")?;
@@ -34,7 +32,6 @@ fn put_opening(out: &mut String, path: &str) -> Result<(), AllocError> {
 
 /// Returns the reason why there is no answer. For a read or a write that failed, `why` has the
 /// words of the system, if it has any.
-// ensures { result.now ≡ reason fault why.now }
 #[inline]
 fn reason<'a>(fault: RunFault, why: &'a str) -> &'a str {
     match fault {
@@ -50,10 +47,7 @@ fn reason<'a>(fault: RunFault, why: &'a str) -> &'a str {
 }
 
 /// Appends the line that says why there is no answer for the input with this path. For a read or a
-/// write that failed `why` has the words of the system, if it has any. Returns `Err` if an
-/// allocation fails, and a part of the line may then be appended.
-// ensures { OnOk result (string_bytes out.new
-//     ≡ string_bytes out.old ++ failure path.now fault why.now) }
+/// write that failed `why` has the words of the system, if it has any.
 #[inline]
 pub fn put_failure(
     out: &mut String,
@@ -69,7 +63,6 @@ pub fn put_failure(
 }
 
 /// Appends a number in decimal digits.
-// ensures { OnOk result (string_bytes out.new ≡ string_bytes out.old ++ decimal number) }
 #[inline]
 fn put_number(out: &mut String, number: usize) -> Result<(), AllocError> {
     let mut buffer = Buffer::new();
@@ -78,7 +71,6 @@ fn put_number(out: &mut String, number: usize) -> Result<(), AllocError> {
 }
 
 /// Appends a place: the line, a colon and the column.
-// ensures { OnOk result (string_bytes out.new ≡ string_bytes out.old ++ place_text place) }
 #[inline]
 fn put_place(out: &mut String, place: Place) -> Result<(), AllocError> {
     put_number(out, place.line)?;
@@ -88,11 +80,7 @@ fn put_place(out: &mut String, place: Place) -> Result<(), AllocError> {
 }
 
 /// Appends the lines that say why the file with this path holds no string literal, at which place,
-/// and which option reads it as a text. Returns `Err` if an allocation fails, and a part of the
-/// lines may then be appended.
-// requires { IsCharBoundary file.now fault.now.offset }
-// ensures { OnOk result (string_bytes out.new
-//     ≡ string_bytes out.old ++ not_literal path.now file.now fault.now) }
+/// and which option reads it as a text.
 #[inline]
 pub fn put_not_literal(
     out: &mut String,
@@ -108,10 +96,7 @@ pub fn put_not_literal(
     Ok(())
 }
 
-/// Appends the line that says why the file with this path is not read from a place on. Returns
-/// `Err` if an allocation fails, and a part of the line may then be appended.
-// ensures { OnOk result (string_bytes out.new
-//     ≡ string_bytes out.old ++ place_failure path.now place why.now) }
+/// Appends the line that says why the file with this path is not read from a place on.
 #[inline]
 pub fn put_place_failure(
     out: &mut String,

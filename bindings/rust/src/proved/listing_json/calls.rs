@@ -2,8 +2,7 @@
 //! `Err` if an allocation fails; the text may then have a part of the lines, or none.
 
 // Extracted from crates/listing_json/src/calls.rt by tools/extract: not to be edited.
-// That source is proved, and each contract here is its. That this text means the same is tested:
-// by results from outside, and beside what is proved (.ci/bindings) and the original (tools/agree).
+// That source has the contracts, and is proved. That this text means the same is only tested.
 
 use super::faults::put_fault;
 use super::pieces::put_piece;
@@ -15,16 +14,12 @@ use crate::shim::prelude::*;
 use core::mem;
 
 /// Returns a writer that appends to a text, which is then empty until [`end_line`].
-// ensures before { result.before ≡ out.old.items }
-// ensures tokens { result.tokens ≡ [] }
 #[inline]
 pub fn begin_line(out: &mut Vec<u8>) -> Writer {
     Writer::new(mem::replace(out, Vec::new()))
 }
 
 /// Ends the line of a writer, and moves it back into the text.
-// ensures { OnOk result ((j : Json) → writer.tokens ≡ json_tokens j → depth j ≤ max_depth
-//     → Adds (j ∷ []) writer.before out.new.items) }
 #[inline]
 pub fn end_line(out: &mut Vec<u8>, writer: Writer) -> Result<(), AllocError> {
     *out = writer.into_inner();
@@ -33,8 +28,6 @@ pub fn end_line(out: &mut Vec<u8>, writer: Writer) -> Result<(), AllocError> {
 }
 
 /// Appends the line of a piece. A placeholder is in `argument`.
-// ensures { OnOk result (Adds (piece_value (seen_taken argument.now piece.now) ∷ [])
-//     out.old.items out.new.items) }
 #[inline]
 fn put_piece_line(
     out: &mut Vec<u8>,
@@ -48,8 +41,6 @@ fn put_piece_line(
 }
 
 /// Appends the line of a piece, if there is one.
-// ensures { OnOk result (Adds (given_values (option_map (seen_taken argument.now) piece.now))
-//     out.old.items out.new.items) }
 #[inline]
 fn put_given(
     out: &mut Vec<u8>,
@@ -63,8 +54,6 @@ fn put_given(
 }
 
 /// Appends the line of a fault.
-// ensures { OnOk result (Adds (fault_value (seen_fault fault.now) ∷ [])
-//     out.old.items out.new.items) }
 #[inline]
 fn put_fault_line(out: &mut Vec<u8>, fault: &Fault<'_>) -> Result<(), AllocError> {
     let mut writer = begin_line(out);
@@ -74,8 +63,6 @@ fn put_fault_line(out: &mut Vec<u8>, fault: &Fault<'_>) -> Result<(), AllocError
 }
 
 /// Appends a line for each fault.
-// ensures { OnOk result (Adds (map fault_value (map seen_fault faults.now))
-//     out.old.items out.new.items) }
 #[inline]
 fn put_faults(out: &mut Vec<u8>, faults: &[Fault<'_>]) -> Result<(), AllocError> {
     for fault in faults {
@@ -86,14 +73,6 @@ fn put_faults(out: &mut Vec<u8>, faults: &[Fault<'_>]) -> Result<(), AllocError>
 
 /// Makes the next call of a parser, and appends the lines of its piece and of its faults, which it
 /// also leaves in `faults`. Returns whether there is a piece.
-// requires { faults.old.items ≡ [] }
-// ensures lines { OnOk result (Adds (call_values parser.old.world (next_call parser.old))
-//     out.old.items out.new.items) }
-// ensures faults { OnOk result (map seen_fault faults.new.items
-//     ≡ faults_in parser.old.world (next_call parser.old).faults) }
-// ensures state { OnOk result (parser.new
-//     ≡ record (after parser.old (next_call parser.old)) { errors = parser.old.errors }) }
-// ensures goes_on { IfOk result (λ b. b ≡ is_some (next_call parser.old).piece) }
 #[inline]
 fn put_call<'a>(
     out: &mut Vec<u8>,
@@ -109,9 +88,6 @@ fn put_call<'a>(
 
 /// Appends the lines of the calls of a parser up to the first that returns no piece. Returns
 /// whether a fault is found.
-// ensures lines { OnOk result (Adds (calls_values parser.old.world (calls parser.old))
-//     out.old.items out.new.items) }
-// ensures faults { IfOk result (λ b. b ≡ has_faults (calls parser.old)) }
 #[inline]
 pub fn put_calls<'a>(out: &mut Vec<u8>, parser: &mut Parser<'a>) -> Result<bool, AllocError> {
     let mut argument = Argument::default();

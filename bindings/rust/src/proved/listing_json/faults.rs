@@ -1,9 +1,7 @@
-//! Faults as JSON. Each function of this module appends to a writer, and returns `Err` if an
-//! allocation fails.
+//! Faults as JSON. Each function of this module appends to a writer.
 
 // Extracted from crates/listing_json/src/faults.rt by tools/extract: not to be edited.
-// That source is proved, and each contract here is its. That this text means the same is tested:
-// by results from outside, and beside what is proved (.ci/bindings) and the original (tools/agree).
+// That source has the contracts, and is proved. That this text means the same is only tested.
 
 use super::fields::{begin_kind, put_span_of, put_string};
 use crate::proved::rustc_parse_format::{Fault, ParseError, Suggestion};
@@ -13,9 +11,6 @@ use crate::shim::prelude::*;
 use core::ops::Range;
 
 /// Appends a note, or null if there is none.
-// ensures tokens { OnOk result (writer.new.tokens
-//     ≡ writer.old.tokens ++ json_tokens (maybe string (option_map string_bytes note.now))) }
-// ensures before { writer.new.before ≡ writer.old.before }
 #[inline]
 fn put_note(writer: &mut Writer, note: &Option<String>) -> Result<(), AllocError> {
     match note {
@@ -25,9 +20,6 @@ fn put_note(writer: &mut Writer, note: &Option<String>) -> Result<(), AllocError
 }
 
 /// Appends a label and its span.
-// ensures tokens { OnOk result (writer.new.tokens
-//     ≡ writer.old.tokens ++ json_tokens (label_value (label.now, pair span.now))) }
-// ensures before { writer.new.before ≡ writer.old.before }
 #[inline]
 fn put_label(writer: &mut Writer, label: &str, span: &Range<usize>) -> Result<(), AllocError> {
     writer.begin_object()?;
@@ -38,10 +30,6 @@ fn put_label(writer: &mut Writer, label: &str, span: &Range<usize>) -> Result<()
 }
 
 /// Appends a second label with its span, or null if there is none.
-// ensures tokens { OnOk result (writer.new.tokens ≡ writer.old.tokens
-//     ++ json_tokens (maybe label_value
-//     (option_map (λ x. (string_bytes x.0, pair x.1)) second.now))) }
-// ensures before { writer.new.before ≡ writer.old.before }
 #[inline]
 fn put_secondary(
     writer: &mut Writer,
@@ -54,9 +42,6 @@ fn put_secondary(
 }
 
 /// Appends a suggestion of this kind for a span.
-// ensures tokens { OnOk result (writer.new.tokens
-//     ≡ writer.old.tokens ++ json_tokens (mend_value kind.now (pair span.now))) }
-// ensures before { writer.new.before ≡ writer.old.before }
 #[inline]
 fn put_mend(writer: &mut Writer, kind: &str, span: &Range<usize>) -> Result<(), AllocError> {
     begin_kind(writer, kind)?;
@@ -66,9 +51,6 @@ fn put_mend(writer: &mut Writer, kind: &str, span: &Range<usize>) -> Result<(), 
 }
 
 /// Appends a suggestion of this kind without a span.
-// ensures tokens { OnOk result (writer.new.tokens
-//     ≡ writer.old.tokens ++ json_tokens (of_kind kind.now no_members)) }
-// ensures before { writer.new.before ≡ writer.old.before }
 #[inline]
 fn put_bare_mend(writer: &mut Writer, kind: &str) -> Result<(), AllocError> {
     begin_kind(writer, kind)?;
@@ -77,9 +59,6 @@ fn put_bare_mend(writer: &mut Writer, kind: &str) -> Result<(), AllocError> {
 }
 
 /// Appends the suggestion to replace a span by a text.
-// ensures tokens { OnOk result (writer.new.tokens ≡ writer.old.tokens
-//     ++ json_tokens (suggestion_value (ReorderFormatParameter (pair span.now) text.now))) }
-// ensures before { writer.new.before ≡ writer.old.before }
 #[inline]
 fn put_reorder(writer: &mut Writer, span: &Range<usize>, text: &str) -> Result<(), AllocError> {
     begin_kind(writer, "reorder-format-parameter")?;
@@ -90,9 +69,6 @@ fn put_reorder(writer: &mut Writer, span: &Range<usize>, text: &str) -> Result<(
 }
 
 /// Appends a suggestion, or null if there is none.
-// ensures tokens { OnOk result (writer.new.tokens
-//     ≡ writer.old.tokens ++ json_tokens (suggestion_value (seen_suggestion suggestion.now))) }
-// ensures before { writer.new.before ≡ writer.old.before }
 #[inline]
 fn put_suggestion(writer: &mut Writer, suggestion: &Suggestion) -> Result<(), AllocError> {
     match suggestion {
@@ -108,9 +84,6 @@ fn put_suggestion(writer: &mut Writer, suggestion: &Suggestion) -> Result<(), Al
 }
 
 /// Appends the error of a fault with this id.
-// ensures tokens { OnOk result (writer.new.tokens
-//     ≡ writer.old.tokens ++ json_tokens (error_value id.now (seen_error error.now))) }
-// ensures before { OnOk result (writer.new.before ≡ writer.old.before) }
 #[inline]
 fn put_error(writer: &mut Writer, id: &str, error: &ParseError) -> Result<(), AllocError> {
     begin_kind(writer, "fault")?;
@@ -129,9 +102,6 @@ fn put_error(writer: &mut Writer, id: &str, error: &ParseError) -> Result<(), Al
 }
 
 /// Appends a fault.
-// ensures tokens { OnOk result (writer.new.tokens
-//     ≡ writer.old.tokens ++ json_tokens (fault_value (seen_fault fault.now))) }
-// ensures before { OnOk result (writer.new.before ≡ writer.old.before) }
 #[inline]
 pub fn put_fault(writer: &mut Writer, fault: &Fault<'_>) -> Result<(), AllocError> {
     let error = fault.error()?;

@@ -1,18 +1,13 @@
-//! Values that are written as JSON. Each function of this module appends to a writer, and returns
-//! `Err` if an allocation fails.
+//! Values that are written as JSON. Each function of this module appends to a writer.
 
 // Extracted from crates/listing_json/src/fields.rt by tools/extract: not to be edited.
-// That source is proved, and each contract here is its. That this text means the same is tested:
-// by results from outside, and beside what is proved (.ci/bindings) and the original (tools/agree).
+// That source has the contracts, and is proved. That this text means the same is only tested.
 
 use crate::shim::alloc::AllocError;
 use crate::shim::json::Writer;
 use core::ops::Range;
 
 /// Appends a text as a string.
-// ensures tokens { OnOk result (writer.new.tokens
-//     ≡ writer.old.tokens ++ json_tokens (text_value (chars text.now))) }
-// ensures before { writer.new.before ≡ writer.old.before }
 #[inline]
 pub fn put_text(writer: &mut Writer, text: &str) -> Result<(), AllocError> {
     writer.string(text)?;
@@ -20,9 +15,6 @@ pub fn put_text(writer: &mut Writer, text: &str) -> Result<(), AllocError> {
 }
 
 /// Appends a key and a string.
-// ensures tokens { OnOk result (writer.new.tokens
-//     ≡ writer.old.tokens ++ key name.now ∷ json_tokens (string text.now)) }
-// ensures before { writer.new.before ≡ writer.old.before }
 #[inline]
 pub fn put_string(writer: &mut Writer, name: &str, text: &str) -> Result<(), AllocError> {
     writer.key(name)?;
@@ -31,9 +23,6 @@ pub fn put_string(writer: &mut Writer, name: &str, text: &str) -> Result<(), All
 }
 
 /// Appends a key and a number.
-// ensures tokens { OnOk result (writer.new.tokens
-//     ≡ writer.old.tokens ++ key name.now ∷ number (decimal value) ∷ []) }
-// ensures before { writer.new.before ≡ writer.old.before }
 #[inline]
 pub fn put_number(writer: &mut Writer, name: &str, value: usize) -> Result<(), AllocError> {
     writer.key(name)?;
@@ -42,9 +31,6 @@ pub fn put_number(writer: &mut Writer, name: &str, value: usize) -> Result<(), A
 }
 
 /// Appends a span.
-// ensures tokens { OnOk result (writer.new.tokens
-//     ≡ writer.old.tokens ++ json_tokens (span_value (pair span.now))) }
-// ensures before { writer.new.before ≡ writer.old.before }
 #[inline]
 pub fn put_span(writer: &mut Writer, span: &Range<usize>) -> Result<(), AllocError> {
     writer.begin_object()?;
@@ -55,9 +41,6 @@ pub fn put_span(writer: &mut Writer, span: &Range<usize>) -> Result<(), AllocErr
 }
 
 /// Appends a key and a span.
-// ensures tokens { OnOk result (writer.new.tokens
-//     ≡ writer.old.tokens ++ key name.now ∷ json_tokens (span_value (pair span.now))) }
-// ensures before { writer.new.before ≡ writer.old.before }
 #[inline]
 pub fn put_span_of(writer: &mut Writer, name: &str, span: &Range<usize>) -> Result<(), AllocError> {
     writer.key(name)?;
@@ -66,10 +49,6 @@ pub fn put_span_of(writer: &mut Writer, name: &str, span: &Range<usize>) -> Resu
 }
 
 /// Appends a key and a span, or null if there is none.
-// ensures tokens { OnOk result (writer.new.tokens
-//     ≡ writer.old.tokens ++ key name.now
-//     ∷ json_tokens (maybe span_value (option_map pair span.now))) }
-// ensures before { writer.new.before ≡ writer.old.before }
 #[inline]
 pub fn put_maybe_span(
     writer: &mut Writer,
@@ -85,9 +64,6 @@ pub fn put_maybe_span(
 }
 
 /// Appends the start of an object of this kind.
-// ensures tokens { OnOk result (writer.new.tokens ≡ writer.old.tokens
-//     ++ begin_object ∷ key (codes "kind") ∷ json_tokens (string kind.now)) }
-// ensures before { writer.new.before ≡ writer.old.before }
 #[inline]
 pub fn begin_kind(writer: &mut Writer, kind: &str) -> Result<(), AllocError> {
     writer.begin_object()?;
@@ -96,9 +72,6 @@ pub fn begin_kind(writer: &mut Writer, kind: &str) -> Result<(), AllocError> {
 }
 
 /// Appends an object of this kind with the index of an argument.
-// ensures tokens { OnOk result (writer.new.tokens
-//     ≡ writer.old.tokens ++ json_tokens (index_value kind.now index)) }
-// ensures before { writer.new.before ≡ writer.old.before }
 #[inline]
 pub fn put_index(writer: &mut Writer, kind: &str, index: usize) -> Result<(), AllocError> {
     begin_kind(writer, kind)?;
@@ -108,9 +81,6 @@ pub fn put_index(writer: &mut Writer, kind: &str, index: usize) -> Result<(), Al
 }
 
 /// Appends an object of this kind with the name of an argument.
-// ensures tokens { OnOk result (writer.new.tokens
-//     ≡ writer.old.tokens ++ json_tokens (name_value kind.now (chars name.now))) }
-// ensures before { writer.new.before ≡ writer.old.before }
 #[inline]
 pub fn put_name(writer: &mut Writer, kind: &str, name: &str) -> Result<(), AllocError> {
     begin_kind(writer, kind)?;

@@ -1,8 +1,7 @@
 //! The listing of an input as JSON.
 
 // Extracted from crates/listing_json/src/listing.rt by tools/extract: not to be edited.
-// That source is proved, and each contract here is its. That this text means the same is tested:
-// by results from outside, and beside what is proved (.ci/bindings) and the original (tools/agree).
+// That source has the contracts, and is proved. That this text means the same is only tested.
 
 use super::calls::put_calls;
 use super::report::put_report;
@@ -26,7 +25,6 @@ pub struct Listing {
 }
 
 /// Returns a copy of a literal, if there is one.
-// ensures { IfOk result (λ s. seen_snippet s ≡ option_map (λ l. chars l.now) literal.entry) }
 #[inline]
 fn snippet_of(literal: Option<&str>) -> Result<Option<String>, AllocError> {
     match literal {
@@ -36,13 +34,6 @@ fn snippet_of(literal: Option<&str>) -> Result<Option<String>, AllocError> {
 }
 
 /// Returns the arguments that the placeholders of a text use, if the task has a list of arguments.
-// requires { hashes style + length text.now + 2 < 2 ^ 64 }
-// ensures { IfOk result (λ u. IsSome task.entry.arguments
-//     → Holds (uses (pieces (seen_mode task.entry.mode) (record {
-//       text = chars text.now;
-//       style = style;
-//       snippet = seen_snippet snippet;
-//     }))) u) }
 #[inline]
 fn used_by<'a>(
     text: &'a str,
@@ -59,13 +50,6 @@ fn used_by<'a>(
 }
 
 /// Returns the report on the arguments that are missing or unused in a text.
-// requires { hashes style + length text.now + 2 < 2 ^ 64 }
-// ensures { IfOk result (λ r. IsReportFor (option_map seen_given task.entry.arguments)
-//     (pieces (seen_mode task.entry.mode) (record {
-//       text = chars text.now;
-//       style = style;
-//       snippet = seen_snippet snippet;
-//     })) (seen_report r)) }
 #[inline]
 fn report_of<'a>(
     text: &'a str,
@@ -78,10 +62,6 @@ fn report_of<'a>(
 }
 
 /// Returns the lines of the calls of a parser and of a report.
-// ensures lines { IfOk result (λ x. Adds (calls_values parser.old.world (calls parser.old)
-//     ++ report_values (seen_report report.now)) [] x.bytes.items) }
-// ensures ends { IfOk result (λ x. x.has_ends
-//     ≡ (has_faults (calls parser.old) || has_entries (seen_report report.now))) }
 #[inline]
 fn list_calls(parser: &mut Parser<'_>, report: &Report<'_>) -> Result<Listing, AllocError> {
     let mut bytes = Vec::new();
@@ -94,12 +74,6 @@ fn list_calls(parser: &mut Parser<'_>, report: &Report<'_>) -> Result<Listing, A
 }
 
 /// Returns the listing of a text, with the literal that it is in if there is one.
-// requires { hashes style + length text.now + 2 < 2 ^ 64 }
-// ensures { IfOk result (λ x. IsListed (seen_task task.entry) (record {
-//   text = chars text.now;
-//   style = style;
-//   snippet = option_map (λ l. chars l.now) literal.entry;
-// }) x.bytes.items x.has_ends) }
 #[inline]
 fn list_source(
     text: &str,
@@ -115,12 +89,6 @@ fn list_source(
 
 /// Returns the listing of an input that is to be a string literal, perhaps with a newline after it.
 /// Returns `Err` if the input is not a string literal or an allocation fails.
-// requires { IsShort input.now }
-// ensures lines { IfOk result (λ x. (s : Source) × IsInLiteral (chars input.now) s
-//     × IsListed (seen_task task.entry) s x.bytes.items x.has_ends) }
-// ensures not_literal { IsErrOf result NotLiteral
-//     → (s : Source) → IsInLiteral (chars input.now) s → ⊥ }
-// ensures only { IfErr result (λ fault. (fault ≢ Words) × (fault ≢ TooLong) × (fault ≢ NotText)) }
 #[inline]
 fn list_literal(input: &str, task: Task<'_>) -> Result<Listing, RunFault> {
     let literal = strip_newline(input);
@@ -132,13 +100,6 @@ fn list_literal(input: &str, task: Task<'_>) -> Result<Listing, RunFault> {
 
 /// Returns the listing of a text, which is a string literal if the task says so. Returns `Err` if
 /// it is to be one and is none, or if an allocation fails.
-// requires { IsShort text.now }
-// ensures lines { IfOk result (λ x. (s : Source)
-//     × IsSourceOf task.entry.is_literal (chars text.now) s
-//     × IsListed (seen_task task.entry) s x.bytes.items x.has_ends) }
-// ensures not_literal { IsErrOf result NotLiteral → (s : Source)
-//     → IsSourceOf task.entry.is_literal (chars text.now) s → ⊥ }
-// ensures only { IfErr result (λ fault. (fault ≢ Words) × (fault ≢ TooLong) × (fault ≢ NotText)) }
 #[inline]
 fn list_text(text: &str, task: Task<'_>) -> Result<Listing, RunFault> {
     if task.is_literal {
@@ -156,16 +117,6 @@ fn list_text(text: &str, task: Task<'_>) -> Result<Listing, RunFault> {
 /// The input may have at most 1,048,576 bytes. Returns `Err` if the words are invalid, if the input
 /// is too long, not UTF-8 or, with `--literal`, not a string literal, or if an allocation fails
 /// (`RunFault`, but neither `Read` nor `Write`).
-// The listing is that of the definition `IsOwed`: each line is a JSON text.
-// ensures listing { IfOk result (λ x. (a : TaskValue)
-//     × (task_of (map string_bytes words.now) ≡ Some a)
-//     × IsOwed a input.now x.bytes.items x.has_ends) }
-// ensures words { IsErrOf result Words ↔ (task_of (map string_bytes words.now) ≡ None) }
-// ensures too_long { IsErrOf result TooLong → limit < length input.now }
-// ensures not_text { IsErrOf result NotText → IsUtf8 input.now → ⊥ }
-// ensures not_literal { IsErrOf result NotLiteral → (a : TaskValue)
-//     × (task_of (map string_bytes words.now) ≡ Some a)
-//     × ((s : Source) → IsSourceOf a.is_literal (chars input.now) s → ⊥) }
 #[inline]
 pub fn list(input: &[u8], words: &[String]) -> Result<Listing, RunFault> {
     let Some(task) = task_of(words) else {

@@ -1,9 +1,7 @@
-//! Pieces as JSON. Each function of this module appends to a writer, and returns `Err` if an
-//! allocation fails.
+//! Pieces as JSON. Each function of this module appends to a writer.
 
 // Extracted from crates/listing_json/src/pieces.rt by tools/extract: not to be edited.
-// That source is proved, and each contract here is its. That this text means the same is tested:
-// by results from outside, and beside what is proved (.ci/bindings) and the original (tools/agree).
+// That source has the contracts, and is proved. That this text means the same is only tested.
 
 use super::fields::{
     begin_kind, put_index, put_maybe_span, put_name, put_number, put_span_of, put_text,
@@ -17,9 +15,6 @@ use crate::shim::prelude::*;
 use core::ops::Range;
 
 /// Appends a position.
-// ensures tokens { OnOk result (writer.new.tokens
-//     ≡ writer.old.tokens ++ json_tokens (position_value (seen_position position.now))) }
-// ensures before { writer.new.before ≡ writer.old.before }
 #[inline]
 fn put_position(writer: &mut Writer, position: &Position<'_>) -> Result<(), AllocError> {
     match position {
@@ -30,9 +25,6 @@ fn put_position(writer: &mut Writer, position: &Position<'_>) -> Result<(), Allo
 }
 
 /// Appends a count that is a number.
-// ensures tokens { OnOk result (writer.new.tokens
-//     ≡ writer.old.tokens ++ json_tokens (count_value (Is number))) }
-// ensures before { writer.new.before ≡ writer.old.before }
 #[inline]
 fn put_count_number(writer: &mut Writer, number: u16) -> Result<(), AllocError> {
     begin_kind(writer, "number")?;
@@ -42,9 +34,6 @@ fn put_count_number(writer: &mut Writer, number: u16) -> Result<(), AllocError> 
 }
 
 /// Appends a count that is the value of an argument with a name.
-// ensures tokens { OnOk result (writer.new.tokens ≡ writer.old.tokens
-//     ++ json_tokens (count_value (Name (chars name.now) (pair span.now)))) }
-// ensures before { writer.new.before ≡ writer.old.before }
 #[inline]
 fn put_count_name(writer: &mut Writer, name: &str, span: &Range<usize>) -> Result<(), AllocError> {
     begin_kind(writer, "name")?;
@@ -56,9 +45,6 @@ fn put_count_name(writer: &mut Writer, name: &str, span: &Range<usize>) -> Resul
 }
 
 /// Appends a key and a width or a precision.
-// ensures tokens { OnOk result (writer.new.tokens ≡ writer.old.tokens
-//     ++ key name.now ∷ json_tokens (count_value (seen_count count.now))) }
-// ensures before { writer.new.before ≡ writer.old.before }
 #[inline]
 fn put_count(writer: &mut Writer, name: &str, count: &Count<'_>) -> Result<(), AllocError> {
     writer.key(name)?;
@@ -73,9 +59,6 @@ fn put_count(writer: &mut Writer, name: &str, count: &Count<'_>) -> Result<(), A
 }
 
 /// Appends a character as a string.
-// ensures tokens { OnOk result (writer.new.tokens
-//     ≡ writer.old.tokens ++ json_tokens (fill_value c)) }
-// ensures before { writer.new.before ≡ writer.old.before }
 #[inline]
 fn put_char(writer: &mut Writer, c: char) -> Result<(), AllocError> {
     let mut text = String::new();
@@ -85,9 +68,6 @@ fn put_char(writer: &mut Writer, c: char) -> Result<(), AllocError> {
 }
 
 /// Appends a fill character, or null if there is none.
-// ensures tokens { OnOk result (writer.new.tokens
-//     ≡ writer.old.tokens ++ json_tokens (maybe fill_value fill)) }
-// ensures before { writer.new.before ≡ writer.old.before }
 #[inline]
 fn put_fill(writer: &mut Writer, fill: Option<char>) -> Result<(), AllocError> {
     match fill {
@@ -97,9 +77,6 @@ fn put_fill(writer: &mut Writer, fill: Option<char>) -> Result<(), AllocError> {
 }
 
 /// Appends an alignment, or null if none is given.
-// ensures tokens { OnOk result (writer.new.tokens
-//     ≡ writer.old.tokens ++ json_tokens (align_value (seen_alignment align))) }
-// ensures before { writer.new.before ≡ writer.old.before }
 #[inline]
 fn put_align(writer: &mut Writer, align: Alignment) -> Result<(), AllocError> {
     match align {
@@ -111,9 +88,6 @@ fn put_align(writer: &mut Writer, align: Alignment) -> Result<(), AllocError> {
 }
 
 /// Appends a sign flag, or null if there is none.
-// ensures tokens { OnOk result (writer.new.tokens
-//     ≡ writer.old.tokens ++ json_tokens (maybe sign_value (option_map seen_sign sign))) }
-// ensures before { writer.new.before ≡ writer.old.before }
 #[inline]
 fn put_sign(writer: &mut Writer, sign: Option<Sign>) -> Result<(), AllocError> {
     match sign {
@@ -124,9 +98,6 @@ fn put_sign(writer: &mut Writer, sign: Option<Sign>) -> Result<(), AllocError> {
 }
 
 /// Appends a key and whether a flag is present.
-// ensures tokens { OnOk result (writer.new.tokens
-//     ≡ writer.old.tokens ++ key name.now ∷ json_tokens (boolean flag)) }
-// ensures before { writer.new.before ≡ writer.old.before }
 #[inline]
 fn put_flag(writer: &mut Writer, name: &str, flag: bool) -> Result<(), AllocError> {
     writer.key(name)?;
@@ -135,9 +106,6 @@ fn put_flag(writer: &mut Writer, name: &str, flag: bool) -> Result<(), AllocErro
 }
 
 /// Appends the case of hexadecimal digits, or null if it is not given.
-// ensures tokens { OnOk result (writer.new.tokens
-//     ≡ writer.old.tokens ++ json_tokens (maybe hex_value (option_map seen_debug_hex hex))) }
-// ensures before { writer.new.before ≡ writer.old.before }
 #[inline]
 fn put_hex(writer: &mut Writer, hex: Option<DebugHex>) -> Result<(), AllocError> {
     match hex {
@@ -148,9 +116,6 @@ fn put_hex(writer: &mut Writer, hex: Option<DebugHex>) -> Result<(), AllocError>
 }
 
 /// Appends a format specification.
-// ensures tokens { OnOk result (writer.new.tokens
-//     ≡ writer.old.tokens ++ json_tokens (format_value (seen_spec format.now))) }
-// ensures before { OnOk result (writer.new.before ≡ writer.old.before) }
 #[inline]
 fn put_format(writer: &mut Writer, format: &FormatSpec<'_>) -> Result<(), AllocError> {
     writer.begin_object()?;
@@ -177,9 +142,6 @@ fn put_format(writer: &mut Writer, format: &FormatSpec<'_>) -> Result<(), AllocE
 }
 
 /// Appends a run of text.
-// ensures tokens { OnOk result (writer.new.tokens
-//     ≡ writer.old.tokens ++ json_tokens (run_value (chars text.now))) }
-// ensures before { writer.new.before ≡ writer.old.before }
 #[inline]
 fn put_run(writer: &mut Writer, text: &str) -> Result<(), AllocError> {
     begin_kind(writer, "text")?;
@@ -190,9 +152,6 @@ fn put_run(writer: &mut Writer, text: &str) -> Result<(), AllocError> {
 }
 
 /// Appends a placeholder.
-// ensures tokens { OnOk result (writer.new.tokens
-//     ≡ writer.old.tokens ++ json_tokens (placeholder_value (seen_argument argument.now))) }
-// ensures before { OnOk result (writer.new.before ≡ writer.old.before) }
 #[inline]
 fn put_placeholder(writer: &mut Writer, argument: &Argument<'_>) -> Result<(), AllocError> {
     begin_kind(writer, "placeholder")?;
@@ -206,9 +165,6 @@ fn put_placeholder(writer: &mut Writer, argument: &Argument<'_>) -> Result<(), A
 }
 
 /// Appends a piece. A placeholder is in `argument`.
-// ensures tokens { OnOk result (writer.new.tokens ≡ writer.old.tokens
-//     ++ json_tokens (piece_value (seen_taken argument.now piece.now))) }
-// ensures before { OnOk result (writer.new.before ≡ writer.old.before) }
 #[inline]
 pub fn put_piece(
     writer: &mut Writer,

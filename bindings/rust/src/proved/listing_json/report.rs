@@ -3,8 +3,7 @@
 //! none.
 
 // Extracted from crates/listing_json/src/report.rt by tools/extract: not to be edited.
-// That source is proved, and each contract here is its. That this text means the same is tested:
-// by results from outside, and beside what is proved (.ci/bindings) and the original (tools/agree).
+// That source has the contracts, and is proved. That this text means the same is only tested.
 
 use super::calls::{begin_line, end_line};
 use super::fields::{put_index, put_name};
@@ -13,7 +12,6 @@ use crate::shim::alloc::AllocError;
 use crate::shim::prelude::*;
 
 /// Appends the line of an index.
-// ensures { OnOk result (Adds (index_value kind.now index ∷ []) out.old.items out.new.items) }
 #[inline]
 fn put_index_line(out: &mut Vec<u8>, kind: &str, index: usize) -> Result<(), AllocError> {
     let mut writer = begin_line(out);
@@ -23,8 +21,6 @@ fn put_index_line(out: &mut Vec<u8>, kind: &str, index: usize) -> Result<(), All
 }
 
 /// Appends a line for each index.
-// ensures { OnOk result (Adds (map (index_value kind.now) indices.now)
-//     out.old.items out.new.items) }
 #[inline]
 fn put_indices(out: &mut Vec<u8>, kind: &str, indices: &[usize]) -> Result<(), AllocError> {
     for index in indices {
@@ -34,8 +30,6 @@ fn put_indices(out: &mut Vec<u8>, kind: &str, indices: &[usize]) -> Result<(), A
 }
 
 /// Appends the line of a name.
-// ensures { OnOk result (Adds (name_value kind.now (chars name.now) ∷ [])
-//     out.old.items out.new.items) }
 #[inline]
 fn put_name_line(out: &mut Vec<u8>, kind: &str, name: &str) -> Result<(), AllocError> {
     let mut writer = begin_line(out);
@@ -45,8 +39,6 @@ fn put_name_line(out: &mut Vec<u8>, kind: &str, name: &str) -> Result<(), AllocE
 }
 
 /// Appends a line for each name.
-// ensures { OnOk result (Adds (map (name_value kind.now) (texts names.now))
-//     out.old.items out.new.items) }
 #[inline]
 fn put_names(out: &mut Vec<u8>, kind: &str, names: &[&str]) -> Result<(), AllocError> {
     for name in names {
@@ -56,8 +48,6 @@ fn put_names(out: &mut Vec<u8>, kind: &str, names: &[&str]) -> Result<(), AllocE
 }
 
 /// Appends a line for each entry of a report.
-// ensures { OnOk result (Adds (report_values (seen_report report.now))
-//     out.old.items out.new.items) }
 #[inline]
 pub fn put_report(out: &mut Vec<u8>, report: &Report<'_>) -> Result<(), AllocError> {
     put_indices(out, "missing-index", report.missing_index.as_slice())?;

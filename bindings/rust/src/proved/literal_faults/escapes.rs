@@ -1,8 +1,7 @@
 //! The faults of escapes.
 
 // Extracted from crates/literal_faults/src/escapes.rt by tools/extract: not to be edited.
-// That source is proved, and each contract here is its. That this text means the same is tested:
-// by results from outside, and beside what is proved (.ci/bindings) and the original (tools/agree).
+// That source has the contracts, and is proved. That this text means the same is only tested.
 
 use crate::proved::literal_faults::fault::FaultKind;
 use crate::proved::rust_tokens::split_first;
@@ -11,7 +10,6 @@ use crate::proved::rust_tokens::split_first;
 const MOST_DIGITS: usize = 6;
 
 /// Returns the value of a hexadecimal digit, or `None` if the character is none.
-// ensures { result ≡ (if is_hex c then Some (digit_value c) else None) }
 #[inline]
 fn hex_digit(c: char) -> Option<u32> {
     c.to_digit(16)
@@ -19,8 +17,6 @@ fn hex_digit(c: char) -> Option<u32> {
 
 /// Returns the rest after the hexadecimal digit of a byte escape, or the fault if no digit comes
 /// next.
-// ensures { MatchResult result (λ r. after_digit (chars text.now) ≡ Ok (chars r.now))
-//     (λ k. after_digit (chars text.now) ≡ Err k) }
 #[inline]
 fn after_digit(text: &str) -> Result<&str, FaultKind> {
     match split_first(text) {
@@ -38,7 +34,6 @@ fn after_digit(text: &str) -> Result<&str, FaultKind> {
 }
 
 /// Returns the fault of a byte escape, by the text after its `\x`.
-// ensures { result ≡ first_fault (after_digit (chars text.now)) }
 #[inline]
 fn byte_fault(text: &str) -> FaultKind {
     let first = match after_digit(text) {
@@ -53,7 +48,6 @@ fn byte_fault(text: &str) -> FaultKind {
 
 /// Returns the number that the hexadecimal digits at the start of a text write, `_` between them
 /// aside, or `None` if there are more than `MOST_DIGITS`.
-// ensures { result ≡ number (front is_part (chars text.now)) }
 #[inline]
 fn number(text: &str) -> Option<u32> {
     let mut count = 0;
@@ -75,7 +69,6 @@ fn number(text: &str) -> Option<u32> {
 }
 
 /// Returns the fault of the number that the digits at the start of a text write.
-// ensures { result ≡ number_fault (number (front is_part (chars text.now))) }
 #[inline]
 fn number_fault(text: &str) -> FaultKind {
     match number(text) {
@@ -91,7 +84,6 @@ fn number_fault(text: &str) -> FaultKind {
 }
 
 /// Returns the rest of a text after the hexadecimal digits and `_` at its start.
-// ensures { chars result.now ≡ rest_after is_part (chars text.now) }
 #[inline]
 fn after_digits(text: &str) -> &str {
     let mut rest = text;
@@ -105,7 +97,6 @@ fn after_digits(text: &str) -> &str {
 }
 
 /// Returns the fault of a Unicode escape, by the text after its opening brace.
-// ensures { result ≡ braces_fault (chars text.now) }
 #[inline]
 fn braces_fault(text: &str) -> FaultKind {
     match split_first(text) {
@@ -122,7 +113,6 @@ fn braces_fault(text: &str) -> FaultKind {
 }
 
 /// Returns the fault of a Unicode escape, by the text after its `\u`.
-// ensures { result ≡ unicode_fault (chars text.now) }
 #[inline]
 fn unicode_fault(text: &str) -> FaultKind {
     match split_first(text) {
@@ -133,7 +123,6 @@ fn unicode_fault(text: &str) -> FaultKind {
 }
 
 /// Returns the fault of an escape, by the text after its backslash.
-// ensures { result ≡ escape_fault (chars text.now) }
 #[inline]
 pub fn escape_fault(text: &str) -> FaultKind {
     match split_first(text) {

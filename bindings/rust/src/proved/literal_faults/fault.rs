@@ -1,8 +1,7 @@
 //! The reason why a text is no string literal, and its place.
 
 // Extracted from crates/literal_faults/src/fault.rt by tools/extract: not to be edited.
-// That source is proved, and each contract here is its. That this text means the same is tested:
-// by results from outside, and beside what is proved (.ci/bindings) and the original (tools/agree).
+// That source has the contracts, and is proved. That this text means the same is only tested.
 
 use crate::proved::literal_faults::escapes::escape_fault;
 use crate::proved::literal_faults::stops::after_units;
@@ -64,14 +63,12 @@ pub struct LiteralFault {
 }
 
 /// Returns whether the character begins a word.
-// ensures { result ≡ is_id_start c }
 #[inline]
 fn is_id_start(c: char) -> bool {
     c == '_' || crate::shim::unicode_ident::is_xid_start(c)
 }
 
 /// Returns the fault of a literal that is not alone.
-// ensures { result ≡ trailing is_suffix }
 #[inline]
 fn trailing_fault(is_suffix: bool) -> FaultKind {
     if is_suffix {
@@ -83,7 +80,6 @@ fn trailing_fault(is_suffix: bool) -> FaultKind {
 
 /// Returns the fault at a place of an ordinary literal where no character and no escape comes next,
 /// or `None` if only the closing quote is left.
-// ensures { result ≡ stop_fault (chars text.now) }
 #[inline]
 fn stop_fault(text: &str) -> Option<FaultKind> {
     match split_first(text) {
@@ -98,7 +94,6 @@ fn stop_fault(text: &str) -> Option<FaultKind> {
 }
 
 /// Returns the rest of a text after a closing quote, or the text if it does not begin with one.
-// ensures { chars result.now ≡ fault_rest (chars text.now) }
 #[inline]
 fn after_quote(text: &str) -> &str {
     match split_first(text) {
@@ -108,9 +103,6 @@ fn after_quote(text: &str) -> &str {
 }
 
 /// Returns the fault of a text that does not begin with a quote, or `None` if the text is empty.
-// ensures fault { IfSome result (λ f. IsTokenFault (chars text.now) f) }
-// ensures boundary { IfSome result (λ f. IsCharBoundary text.now f.offset) }
-// ensures none { IsNone result → chars text.now ≡ [] }
 #[inline]
 fn token_fault(text: &str) -> Option<LiteralFault> {
     let (token, _) = split_first_token(text)?;
@@ -132,10 +124,6 @@ fn token_fault(text: &str) -> Option<LiteralFault> {
 
 /// Returns the fault of a text by the text after the quote at its start, or `None` if the text is
 /// an ordinary string literal.
-// requires { chars text.now ≡ 34 ∷ chars content.now }
-// ensures literal { IsNone result ↔ IsOrdinary (chars text.now) }
-// ensures fault { IfSome result (λ f. IsStringFault (chars text.now) f) }
-// ensures boundary { IfSome result (λ f. IsCharBoundary text.now f.offset) }
 #[inline]
 fn string_fault(text: &str, content: &str) -> Option<LiteralFault> {
     let stop = after_units(content);
@@ -152,9 +140,6 @@ fn string_fault(text: &str, content: &str) -> Option<LiteralFault> {
 /// The fault is at the first place at which the text can no longer be read as a string literal. The
 /// rules are those of the Rust Reference, except that a raw literal may hold any character, and its
 /// own closing sequence too. White space after a literal is a fault. Does not allocate.
-// ensures literal { IsNone result ↔ IsAnyLiteral (chars text.now) }
-// ensures fault { IfSome result (λ f. IsFault (chars text.now) f) }
-// ensures boundary { IfSome result (λ f. IsCharBoundary text.now f.offset) }
 #[inline]
 pub fn literal_fault(text: &str) -> Option<LiteralFault> {
     if raw_text(text).is_some() {

@@ -1,8 +1,7 @@
 //! The text of a file without the margins that may be around a literal.
 
 // Extracted from crates/literal_faults/src/margins.rt by tools/extract: not to be edited.
-// That source is proved, and each contract here is its. That this text means the same is tested:
-// by results from outside, and beside what is proved (.ci/bindings) and the original (tools/agree).
+// That source has the contracts, and is proved. That this text means the same is only tested.
 
 use crate::proved::literal_faults::fault::{literal_fault, LiteralFault};
 use crate::proved::rust_tokens::split_first;
@@ -20,7 +19,6 @@ pub struct Snippet<'a> {
 }
 
 /// Returns the rest of a file after the byte order mark at its start, if it has one.
-// ensures { IsUnmarked file.now result.now }
 #[inline]
 fn after_mark(file: &str) -> &str {
     let Some((c, rest)) = split_first(file) else {
@@ -36,7 +34,6 @@ fn after_mark(file: &str) -> &str {
 /// Returns the text of a file without the byte order mark at its start and without the ASCII white
 /// space before and after the rest: the literal, if the file has a string literal and nothing else.
 /// Does not allocate.
-// ensures { IsSnippet file.now result.source.now result.text.now result.start }
 #[inline]
 pub fn snippet_of(file: &str) -> Snippet<'_> {
     let source = after_mark(file);
@@ -51,9 +48,6 @@ pub fn snippet_of(file: &str) -> Snippet<'_> {
 /// Returns the reason why a file does not hold a string literal alone, with its place in the file,
 /// or `None` if it does. A byte order mark at the start of the file and ASCII white space around
 /// the literal are skipped ([`snippet_of`]). Does not allocate.
-// ensures fault { (source text : List ℕ) × (start : ℕ) × IsSnippet file.now source text start
-//     × IsFaultIn (chars text) (length file.now - length source + start) result }
-// ensures boundary { IfSome result (λ f. IsCharBoundary file.now f.offset) }
 #[inline]
 pub fn file_fault(file: &str) -> Option<LiteralFault> {
     let snippet = snippet_of(file);

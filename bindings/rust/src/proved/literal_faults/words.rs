@@ -1,8 +1,7 @@
 //! The messages of faults.
 
 // Extracted from crates/literal_faults/src/words.rt by tools/extract: not to be edited.
-// That source is proved, and each contract here is its. That this text means the same is tested:
-// by results from outside, and beside what is proved (.ci/bindings) and the original (tools/agree).
+// That source has the contracts, and is proved. That this text means the same is only tested.
 
 use crate::proved::literal_faults::fault::FaultKind;
 use crate::proved::rust_tokens::Kind;
@@ -10,7 +9,6 @@ use crate::shim::alloc::AllocError;
 use crate::shim::prelude::*;
 
 /// Returns the title where a token of this kind stands in place of a string literal.
-// ensures { result.now ≡ found_title kind }
 #[inline]
 fn found_title(kind: Kind) -> &'static str {
     match kind {
@@ -27,7 +25,6 @@ fn found_title(kind: Kind) -> &'static str {
 }
 
 /// Returns the title of a fault: its message without the character that it may name.
-// ensures { result.now ≡ title kind }
 #[inline]
 fn title(kind: FaultKind) -> &'static str {
     match kind {
@@ -58,7 +55,6 @@ fn title(kind: FaultKind) -> &'static str {
 }
 
 /// Returns the character that the message of a fault names.
-// ensures { result ≡ named_character kind }
 #[inline]
 fn named_character(kind: FaultKind) -> Option<char> {
     match kind {
@@ -70,7 +66,6 @@ fn named_character(kind: FaultKind) -> Option<char> {
 }
 
 /// Appends a character: printable ASCII as it is, and any other as an escape.
-// ensures { OnOk result (string_bytes out.new ≡ string_bytes out.old ++ shown c) }
 #[inline]
 fn put_shown(out: &mut String, c: char) -> Result<(), AllocError> {
     match c {
@@ -89,9 +84,7 @@ fn put_shown(out: &mut String, c: char) -> Result<(), AllocError> {
 
 impl FaultKind {
     /// Appends the message to a text: one line without its end, in ASCII and with no control
-    /// character. Returns `Err` if an allocation fails, and then a part of the message may be
-    /// appended.
-    // ensures { OnOk result (string_bytes out.new ≡ string_bytes out.old ++ message self.now) }
+    /// character.
     #[inline]
     pub(crate) fn put_message(&self, out: &mut String) -> Result<(), AllocError> {
         out.try_push_str(title(*self))?;

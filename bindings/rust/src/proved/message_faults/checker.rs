@@ -1,8 +1,7 @@
 //! The check of a text.
 
 // Extracted from crates/message_faults/src/checker.rt by tools/extract: not to be edited.
-// That source is proved, and each contract here is its. That this text means the same is tested:
-// by results from outside, and beside what is proved (.ci/bindings) and the original (tools/agree).
+// That source has the contracts, and is proved. That this text means the same is only tested.
 
 use crate::proved::message_faults::faults::MessageFault;
 use crate::proved::rustc_parse_format::{Argument, Fault, ParseMode, Piece, Position};
@@ -27,7 +26,6 @@ pub struct Message<'a, 's, 'p> {
 }
 
 /// Returns a text as a string.
-// ensures { IfOk result (λ o. seen_snippet o ≡ option_map seen_text text.entry) }
 #[inline]
 fn owned_string(text: Option<&str>) -> Result<Option<String>, AllocError> {
     match text {
@@ -37,9 +35,6 @@ fn owned_string(text: Option<&str>) -> Result<Option<String>, AllocError> {
 }
 
 /// Returns the fault of a text that rustc shows, or `None` if it is in the grammar.
-// requires { length message.text.now + 2 < 2 ^ 64 }
-// ensures { IfOk result (λ o. option_map seen_text_fault o
-//     ≡ text_fault (start message.entry)) }
 #[inline]
 fn fault_of<'a>(message: Message<'a, '_, '_>) -> Result<Option<Fault<'a>>, AllocError> {
     let snippet = owned_string(message.snippet)?;
@@ -49,8 +44,6 @@ fn fault_of<'a>(message: Message<'a, '_, '_>) -> Result<Option<Fault<'a>>, Alloc
 }
 
 /// Puts a name into a set.
-// ensures { OnOk result ((w : Text) → has_text names.new w
-//     ≡ (bytes_eq w (chars name.now) || has_text names.old w)) }
 #[inline]
 fn insert<'a>(names: &mut BTreeSet<&'a str>, name: &'a str) -> Result<(), AllocError> {
     names.insert_in(name)?;
@@ -58,7 +51,6 @@ fn insert<'a>(names: &mut BTreeSet<&'a str>, name: &'a str) -> Result<(), AllocE
 }
 
 /// Returns the set of the names of parameters, for [`Message::parameters`].
-// ensures { IfOk result (λ s. HasNames (map (λ p. p.now) parameters.now) s) }
 #[inline]
 pub fn names_of<'a>(parameters: &[&'a str]) -> Result<BTreeSet<&'a str>, AllocError> {
     let mut names = BTreeSet::new();
@@ -69,21 +61,18 @@ pub fn names_of<'a>(parameters: &[&'a str]) -> Result<BTreeSet<&'a str>, AllocEr
 }
 
 /// Returns whether a set has a name.
-// ensures { result ≡ has_text names.now (chars name.now) }
 #[inline]
 fn has_name(names: &BTreeSet<&str>, name: &str) -> bool {
     names.contains(name)
 }
 
 /// Returns whether a name is `Self`.
-// ensures { result ≡ bytes_eq (encode_utf8_all (chars name.now)) (codes "Self") }
 #[inline]
 fn is_self(name: &str) -> bool {
     name == "Self"
 }
 
 /// Returns a range of the literal, or all of it where its ranges are not known.
-// ensures { result ≡ spot_of is_known (pair span.now) }
 #[inline]
 fn spot_of(is_known: bool, span: &Range<usize>) -> Spot {
     if !is_known {
@@ -96,8 +85,6 @@ fn spot_of(is_known: bool, span: &Range<usize>) -> Spot {
 }
 
 /// Adds the fault of the specification of a placeholder, if it has one.
-// ensures { OnOk result (map seen_fault faults.new.items ≡ map seen_fault faults.old.items
-//     ++ specifier_faults is_known (option_map pair span.now)) }
 #[inline]
 fn push_specifier<'a>(
     faults: &mut Vec<MessageFault<'a>>,
@@ -113,8 +100,6 @@ fn push_specifier<'a>(
 }
 
 /// Adds the fault of a name, if it is that of no parameter.
-// ensures { OnOk result (map seen_fault faults.new.items ≡ map seen_fault faults.old.items
-//     ++ name_faults (known_names names.entry) spot (chars name.now)) }
 #[inline]
 fn push_name<'a>(
     faults: &mut Vec<MessageFault<'a>>,
@@ -131,9 +116,6 @@ fn push_name<'a>(
 }
 
 /// Adds the faults of a placeholder.
-// ensures { OnOk result (map seen_fault faults.new.items ≡ map seen_fault faults.old.items
-//     ++ placeholder_faults (known_names names.entry) is_known
-//     (seen_argument argument.now)) }
 #[inline]
 fn push_placeholder<'a>(
     faults: &mut Vec<MessageFault<'a>>,
@@ -153,8 +135,6 @@ fn push_placeholder<'a>(
 }
 
 /// Adds the faults of a piece.
-// ensures { OnOk result (map seen_fault faults.new.items ≡ map seen_fault faults.old.items
-//     ++ piece_faults (known_names names.entry) is_known (seen piece.now)) }
 #[inline]
 fn push_piece<'a>(
     faults: &mut Vec<MessageFault<'a>>,
@@ -169,8 +149,6 @@ fn push_piece<'a>(
 }
 
 /// Adds the faults of pieces.
-// ensures { OnOk result (map seen_fault faults.new.items ≡ map seen_fault faults.old.items
-//     ++ faults_of (known_names names.entry) is_known (map seen pieces.now)) }
 #[inline]
 fn push_pieces<'a>(
     faults: &mut Vec<MessageFault<'a>>,
@@ -185,9 +163,6 @@ fn push_pieces<'a>(
 }
 
 /// Adds the faults of the placeholders of a text.
-// requires { length message.text.now + 2 < 2 ^ 64 }
-// ensures { OnOk result (map seen_fault faults.new.items ≡ map seen_fault faults.old.items
-//     ++ faults_or (known_names message.entry.parameters) (start message.entry) None) }
 #[inline]
 fn push_placeholders<'a>(
     faults: &mut Vec<MessageFault<'a>>,
@@ -202,10 +177,6 @@ fn push_placeholders<'a>(
 }
 
 /// Returns the faults of a text.
-// requires { length message.text.now + 2 < 2 ^ 64 }
-// ensures { IfOk result (λ v. map seen_fault v.items ≡ faults_or
-//     (known_names message.entry.parameters) (start message.entry)
-//     (text_fault (start message.entry))) }
 #[inline]
 fn faults_of<'a>(message: Message<'a, '_, '_>) -> Result<Vec<MessageFault<'a>>, AllocError> {
     let mut faults = Vec::new();
@@ -220,10 +191,6 @@ fn faults_of<'a>(message: Message<'a, '_, '_>) -> Result<Vec<MessageFault<'a>>, 
 /// order of its placeholders, of which the specifications and the positions are looked at.
 ///
 /// The length of the text in bytes and 2 must together be less than 2^64.
-// requires { length message.text.now + 2 < 2 ^ 64 }
-// ensures { IfOk result (λ v. (ps : Option (List (List ℕ)))
-//     → HasParameters ps message.entry.parameters
-//     → map seen_fault v.items ≡ message_faults ps (start message.entry)) }
 #[inline]
 pub fn message_faults<'a>(
     message: Message<'a, '_, '_>,

@@ -1,9 +1,8 @@
 //! The ids, titles, labels and helps of faults, in rustc's words. A function whose name begins with
-//! `push_` or `put_` adds to the end of a list or a text, and returns `Err` if an allocation fails.
+//! `push_` or `put_` adds to the end of a list or a text.
 
 // Extracted from crates/message_faults/src/words.rt by tools/extract: not to be edited.
-// That source is proved, and each contract here is its. That this text means the same is tested:
-// by results from outside, and beside what is proved (.ci/bindings) and the original (tools/agree).
+// That source has the contracts, and is proved. That this text means the same is only tested.
 
 use crate::proved::message_faults::faults::MessageFault;
 use crate::proved::rustc_parse_format::Fault;
@@ -12,7 +11,6 @@ use crate::shim::alloc::AllocError;
 use crate::shim::prelude::*;
 
 /// Adds a name between backquotes.
-// ensures { OnOk result (string_bytes out.new ≡ string_bytes out.old ++ quoted (chars name.now)) }
 #[inline]
 fn put_quoted(out: &mut String, name: &str) -> Result<(), AllocError> {
     out.try_push_str("`")?;
@@ -22,8 +20,6 @@ fn put_quoted(out: &mut String, name: &str) -> Result<(), AllocError> {
 }
 
 /// Adds the title of a name that is that of no parameter of a trait.
-// ensures { OnOk result (string_bytes out.new ≡ string_bytes out.old
-//     ++ parameter_title (chars name.now) (chars trait_name.now)) }
 #[inline]
 fn put_parameter_title(out: &mut String, name: &str, trait_name: &str) -> Result<(), AllocError> {
     out.try_push_str("there is no parameter ")?;
@@ -34,8 +30,6 @@ fn put_parameter_title(out: &mut String, name: &str, trait_name: &str) -> Result
 }
 
 /// Adds the title of a fault of the text.
-// ensures { OnOk result (string_bytes out.new ≡ string_bytes out.old
-//     ++ (message (seen_text_fault fault.now)).description) }
 #[inline]
 fn put_text_title(out: &mut String, fault: &Fault<'_>) -> Result<(), AllocError> {
     let error = fault.error()?;
@@ -44,8 +38,6 @@ fn put_text_title(out: &mut String, fault: &Fault<'_>) -> Result<(), AllocError>
 }
 
 /// Adds a label of a place that the fault is about, without a text.
-// ensures { OnOk result (map seen_label labels.new.items
-//     ≡ map seen_label labels.old.items ++ primary spot [] ∷ []) }
 #[inline]
 fn push_plain(labels: &mut Vec<CallLabel>, spot: Spot) -> Result<(), AllocError> {
     let text = String::new();
@@ -58,8 +50,6 @@ fn push_plain(labels: &mut Vec<CallLabel>, spot: Spot) -> Result<(), AllocError>
 }
 
 /// Adds a label of another place.
-// ensures { OnOk result (map seen_label labels.new.items
-//     ≡ map seen_label labels.old.items ++ secondary spot text.now ∷ []) }
 #[inline]
 fn push_secondary(labels: &mut Vec<CallLabel>, spot: Spot, text: &str) -> Result<(), AllocError> {
     let text = String::made_from(text)?;
@@ -72,8 +62,6 @@ fn push_secondary(labels: &mut Vec<CallLabel>, spot: Spot, text: &str) -> Result
 }
 
 /// Adds the labels of a fault of the text.
-// ensures { OnOk result (map seen_label labels.new.items ≡ map seen_label labels.old.items
-//     ++ text_labels (message (seen_text_fault fault.now))) }
 #[inline]
 fn push_text(labels: &mut Vec<CallLabel>, fault: &Fault<'_>) -> Result<(), AllocError> {
     let error = fault.error()?;
@@ -89,7 +77,6 @@ fn push_text(labels: &mut Vec<CallLabel>, fault: &Fault<'_>) -> Result<(), Alloc
 impl<'a> MessageFault<'a> {
     /// Returns the id of the fault in kebab case, as `missing-parameter`: the same for all faults
     /// of a kind. A fault of the text has the id of its [`Fault`]. Does not allocate.
-    // ensures { result.now ≡ message_id (seen_fault self.now) }
     #[inline]
     pub fn id(&self) -> &'static str {
         match self {
@@ -101,9 +88,6 @@ impl<'a> MessageFault<'a> {
     }
 
     /// Adds the title of the fault to the end of `out`, as rustc has it, for a trait of this name.
-    /// Returns `Err` if an allocation fails; a part may then be at the end of `out`.
-    // ensures { OnOk result (string_bytes out.new ≡ string_bytes out.old
-    //     ++ title (chars trait_name.now) (seen_fault self.now)) }
     #[inline]
     pub(crate) fn put_title(&self, out: &mut String, trait_name: &str) -> Result<(), AllocError> {
         match self {
@@ -120,7 +104,6 @@ impl<'a> MessageFault<'a> {
     }
 
     /// Returns the labels of the fault, in rustc's order.
-    // ensures { IfOk result (λ v. map seen_label v.items ≡ labels (seen_fault self.now)) }
     #[inline]
     pub(crate) fn labels(&self) -> Result<Vec<CallLabel>, AllocError> {
         let mut labels = Vec::new();
@@ -134,7 +117,6 @@ impl<'a> MessageFault<'a> {
     }
 
     /// Returns the help of the fault, or `None` if it has none. Does not allocate.
-    // ensures { option_map (λ t. t.now) result ≡ help (seen_fault self.now) }
     #[inline]
     pub fn help(&self) -> Option<&'static str> {
         match self {

@@ -1,20 +1,13 @@
-//! Texts as the forms have them. A function whose name begins with `put_` appends to `out`, and
-//! returns `Err` if an allocation fails.
+//! Texts as the forms have them. A function whose name begins with `put_` appends to `out`.
 
 // Extracted from crates/message_forms/src/escapes.rt by tools/extract: not to be edited.
-// That source is proved, and each contract here is its. That this text means the same is tested:
-// by results from outside, and beside what is proved (.ci/bindings) and the original (tools/agree).
+// That source has the contracts, and is proved. That this text means the same is only tested.
 
 use crate::shim::alloc::AllocError;
 use crate::shim::itoa::Buffer;
 use crate::shim::prelude::*;
 
 /// Returns the first character of a text and the rest after it, or `None` if the text is empty.
-// ensures parts { MatchOption result (text.now ≡ [])
-//     (λ x. text.now ≡ encode_utf8 x.0 ++ x.1.now) }
-// ensures chars { MatchOption result (chars text.now ≡ [])
-//     (λ x. chars text.now ≡ x.0 ∷ chars x.1.now) }
-// ensures shorter { IfSome result (λ x. length x.1.now < length text.now) }
 #[inline]
 fn split_first(text: &str) -> Option<(char, &str)> {
     let mut rest = text.chars();
@@ -23,7 +16,6 @@ fn split_first(text: &str) -> Option<(char, &str)> {
 }
 
 /// Adds a number in decimal digits.
-// ensures { OnOk result (string_bytes out.new ≡ string_bytes out.old ++ decimal number) }
 #[inline]
 pub fn put_number(out: &mut String, number: usize) -> Result<(), AllocError> {
     let mut digits = Buffer::new();
@@ -32,8 +24,6 @@ pub fn put_number(out: &mut String, number: usize) -> Result<(), AllocError> {
 }
 
 /// Adds the escape of a control character of ASCII in a string of JSON that has no shorter one.
-// requires { code < 32 }
-// ensures { OnOk result (string_bytes out.new ≡ string_bytes out.old ++ code_text code) }
 #[inline]
 fn put_code(out: &mut String, code: u8) -> Result<(), AllocError> {
     out.try_push_str(if code < 16 { "\\u000" } else { "\\u001" })?;
@@ -42,8 +32,6 @@ fn put_code(out: &mut String, code: u8) -> Result<(), AllocError> {
 }
 
 /// Returns a digit of base 16 in lower case.
-// requires { digit < 16 }
-// ensures { result ≡ digit_char digit }
 #[inline]
 fn lower_digit(digit: u8) -> char {
     if digit < 10 {
@@ -54,8 +42,6 @@ fn lower_digit(digit: u8) -> char {
 }
 
 /// Returns a digit of base 16 in upper case.
-// requires { digit < 16 }
-// ensures { result ≡ upper_digit digit }
 #[inline]
 fn upper_digit(digit: u8) -> char {
     if digit < 10 {
@@ -67,7 +53,6 @@ fn upper_digit(digit: u8) -> char {
 
 /// Returns the letter after the backslash in the short escape of a byte in a string of JSON, or 0
 /// if the byte has none.
-// ensures { result ≡ escape_letter byte }
 #[inline]
 fn escape_letter(byte: u8) -> u8 {
     match byte {
@@ -82,8 +67,6 @@ fn escape_letter(byte: u8) -> u8 {
 }
 
 /// Adds a byte of ASCII as a string of JSON has it.
-// requires { byte < 128 }
-// ensures { OnOk result (string_bytes out.new ≡ string_bytes out.old ++ byte_text byte) }
 #[inline]
 fn put_byte(out: &mut String, byte: u8) -> Result<(), AllocError> {
     let letter = escape_letter(byte);
@@ -98,7 +81,6 @@ fn put_byte(out: &mut String, byte: u8) -> Result<(), AllocError> {
 }
 
 /// Adds a character as a string of JSON has it.
-// ensures { OnOk result (string_bytes out.new ≡ string_bytes out.old ++ escape (encode_utf8 c)) }
 #[inline]
 fn put_escape(out: &mut String, c: char) -> Result<(), AllocError> {
     if c.is_ascii() {
@@ -108,7 +90,6 @@ fn put_escape(out: &mut String, c: char) -> Result<(), AllocError> {
 }
 
 /// Adds a text as a string of JSON.
-// ensures { OnOk result (string_bytes out.new ≡ string_bytes out.old ++ quoted text.now) }
 #[inline]
 pub fn put_quoted(out: &mut String, text: &str) -> Result<(), AllocError> {
     out.try_push_str("\"")?;
@@ -122,8 +103,6 @@ pub fn put_quoted(out: &mut String, text: &str) -> Result<(), AllocError> {
 }
 
 /// Adds a character as a workflow command has it: in a property, or after the properties.
-// ensures { OnOk result (string_bytes out.new
-//     ≡ string_bytes out.old ++ encode_utf8_all (command_char is_property c)) }
 #[inline]
 fn put_command_char(out: &mut String, is_property: bool, c: char) -> Result<(), AllocError> {
     match c {
@@ -138,8 +117,6 @@ fn put_command_char(out: &mut String, is_property: bool, c: char) -> Result<(), 
 }
 
 /// Adds a text as a workflow command has it: in a property, or after the properties.
-// ensures { OnOk result (string_bytes out.new
-//     ≡ string_bytes out.old ++ command_text is_property text.now) }
 #[inline]
 pub fn put_command_text(out: &mut String, is_property: bool, text: &str) -> Result<(), AllocError> {
     let mut rest = text;
@@ -151,14 +128,12 @@ pub fn put_command_text(out: &mut String, is_property: bool, text: &str) -> Resu
 }
 
 /// Returns whether a byte stands for itself in a path of a URI.
-// ensures { result ≡ stays_in_uri byte }
 #[inline]
 fn stays_in_uri(byte: u8) -> bool {
     byte.is_ascii_alphanumeric() || matches!(byte, b'-' | b'.' | b'/' | b'_' | b'~')
 }
 
 /// Adds a byte as a path of a URI has it.
-// ensures { OnOk result (string_bytes out.new ≡ string_bytes out.old ++ uri_byte byte) }
 #[inline]
 fn put_uri_byte(out: &mut String, byte: u8) -> Result<(), AllocError> {
     if stays_in_uri(byte) {
@@ -171,7 +146,6 @@ fn put_uri_byte(out: &mut String, byte: u8) -> Result<(), AllocError> {
 }
 
 /// Adds a path of a file as a URI: one from the root with its scheme, another as a relative one.
-// ensures { OnOk result (string_bytes out.new ≡ string_bytes out.old ++ uri path.now) }
 #[inline]
 pub fn put_uri(out: &mut String, path: &str) -> Result<(), AllocError> {
     if path.starts_with('/') {

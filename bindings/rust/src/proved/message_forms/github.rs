@@ -1,8 +1,7 @@
 //! The form for the workflows of GitHub.
 
 // Extracted from crates/message_forms/src/github.rt by tools/extract: not to be edited.
-// That source is proved, and each contract here is its. That this text means the same is tested:
-// by results from outside, and beside what is proved (.ci/bindings) and the original (tools/agree).
+// That source has the contracts, and is proved. That this text means the same is only tested.
 
 use crate::proved::message_forms::escapes::{put_command_text, put_number};
 use crate::proved::message_forms::message::{level_name, Message, Span};
@@ -10,8 +9,6 @@ use crate::shim::alloc::AllocError;
 use crate::shim::prelude::*;
 
 /// Appends a property with a number.
-// ensures { OnOk result (string_bytes out.new
-//     ≡ string_bytes out.old ++ (opening.now ++ decimal number)) }
 #[inline]
 fn put_property(out: &mut String, opening: &str, number: usize) -> Result<(), AllocError> {
     out.try_push_str(opening)?;
@@ -21,7 +18,6 @@ fn put_property(out: &mut String, opening: &str, number: usize) -> Result<(), Al
 
 /// Appends the properties that say where a span is. Columns are only written where it is in one
 /// line.
-// ensures { OnOk result (string_bytes out.new ≡ string_bytes out.old ++ command_places span.now) }
 #[inline]
 fn put_places(out: &mut String, span: &Span<'_>) -> Result<(), AllocError> {
     put_property(out, ",line=", span.start.line)?;
@@ -35,9 +31,7 @@ fn put_places(out: &mut String, span: &Span<'_>) -> Result<(), AllocError> {
 }
 
 /// Appends a message as a workflow command of GitHub Actions, which shows it beside the source:
-/// `::LEVEL file=PATH,line=LINE,col=COLUMN,endColumn=COLUMN::TITLE [ID]`. Returns `Err` if an
-/// allocation fails, and a part of the line may then be appended.
-// ensures { OnOk result (string_bytes out.new ≡ string_bytes out.old ++ command message.now) }
+/// `::LEVEL file=PATH,line=LINE,col=COLUMN,endColumn=COLUMN::TITLE [ID]`.
 #[inline]
 pub fn put_github(out: &mut String, message: &Message<'_>) -> Result<(), AllocError> {
     out.try_push_str("::")?;

@@ -1,9 +1,8 @@
 //! The form of rustc's `--error-format=json`. A function whose name begins with `put_` appends to
-//! `out`, and returns `Err` if an allocation fails.
+//! `out`.
 
 // Extracted from crates/message_forms/src/json_lines.rt by tools/extract: not to be edited.
-// That source is proved, and each contract here is its. That this text means the same is tested:
-// by results from outside, and beside what is proved (.ci/bindings) and the original (tools/agree).
+// That source has the contracts, and is proved. That this text means the same is only tested.
 
 use crate::proved::message_forms::members::{
     put_comma, put_count, put_end, put_key, put_text, put_text_or_null, put_truth,
@@ -15,8 +14,6 @@ use crate::shim::alloc::AllocError;
 use crate::shim::prelude::*;
 
 /// Adds a line of a span, which is between these columns there.
-// ensures { OnOk result (string_bytes out.new
-//     ≡ string_bytes out.old ++ json_text (line_json line.now from to)) }
 #[inline]
 fn put_line(out: &mut String, line: &str, from: usize, to: usize) -> Result<(), AllocError> {
     put_text(out, false, "text", line)?;
@@ -27,7 +24,6 @@ fn put_line(out: &mut String, line: &str, from: usize, to: usize) -> Result<(), 
 }
 
 /// Returns a line without the CR at its end, if it has one.
-// ensures { result.now ≡ without_cr line.now }
 #[inline]
 fn without_cr(line: &str) -> &str {
     match line.strip_suffix('\r') {
@@ -37,8 +33,6 @@ fn without_cr(line: &str) -> &str {
 }
 
 /// Returns the first line of a text without its line end, and the text after that.
-// ensures line { result.0.now ≡ first_line text.now }
-// ensures rest { result.1.now ≡ after_first is_lf text.now }
 #[inline]
 fn split_line(text: &str) -> (&str, &str) {
     match text.split_once('\n') {
@@ -48,8 +42,6 @@ fn split_line(text: &str) -> (&str, &str) {
 }
 
 /// Returns the number of characters of a text.
-// ensures value { result ≡ length (chars text.now) }
-// ensures small { result ≤ length text.now }
 #[inline]
 fn length_of(text: &str) -> usize {
     text.chars().count()
@@ -57,8 +49,6 @@ fn length_of(text: &str) -> usize {
 
 /// Adds the lines of a span that begins and ends at these columns, where `more` lines come after
 /// the first one.
-// ensures { OnOk result (string_bytes out.new
-//     ≡ string_bytes out.old ++ json_text (array (line_items more from to lines.now))) }
 #[inline]
 fn put_lines(
     out: &mut String,
@@ -86,8 +76,6 @@ fn put_lines(
 }
 
 /// Adds the members that say where a span is.
-// ensures { OnOk result ((ms : Members) → string_bytes out.new ++ object_text true ms
-//     ≡ string_bytes out.old ++ object_text false (place_members path.now span.now ms)) }
 #[inline]
 fn put_places(out: &mut String, path: &str, span: &Span<'_>) -> Result<(), AllocError> {
     put_text(out, false, "file_name", path)?;
@@ -101,7 +89,6 @@ fn put_places(out: &mut String, path: &str, span: &Span<'_>) -> Result<(), Alloc
 }
 
 /// Returns the text of a suggestion, or `None` if there is no suggestion.
-// ensures { option_map (λ t. t.now) result ≡ option_map (λ x. x.text.now) suggestion.now }
 #[inline]
 fn replacement<'a>(suggestion: &Option<Suggestion<'a>>) -> Option<&'a str> {
     match suggestion {
@@ -111,7 +98,6 @@ fn replacement<'a>(suggestion: &Option<Suggestion<'a>>) -> Option<&'a str> {
 }
 
 /// Returns the word for how sure a suggestion is, or `None` if there is no suggestion.
-// ensures { text_or_null (option_map (λ t. t.now) result) ≡ applicability_json suggestion.now }
 #[inline]
 fn applicability(suggestion: &Option<Suggestion<'_>>) -> Option<&'static str> {
     match suggestion {
@@ -122,8 +108,6 @@ fn applicability(suggestion: &Option<Suggestion<'_>>) -> Option<&'static str> {
 }
 
 /// Adds the members of a span that come after its places, and the end of its object.
-// ensures { OnOk result (string_bytes out.new
-//     ≡ string_bytes out.old ++ object_text true (detail_members span.now)) }
 #[inline]
 fn put_details(out: &mut String, span: &Span<'_>) -> Result<(), AllocError> {
     put_truth(out, true, "is_primary", span.is_primary)?;
@@ -141,8 +125,6 @@ fn put_details(out: &mut String, span: &Span<'_>) -> Result<(), AllocError> {
 }
 
 /// Adds a span.
-// ensures { OnOk result (string_bytes out.new
-//     ≡ string_bytes out.old ++ json_text (span_json path.now span.now)) }
 #[inline]
 fn put_span(out: &mut String, path: &str, span: &Span<'_>) -> Result<(), AllocError> {
     put_places(out, path, span)?;
@@ -151,8 +133,6 @@ fn put_span(out: &mut String, path: &str, span: &Span<'_>) -> Result<(), AllocEr
 }
 
 /// Adds spans.
-// ensures { OnOk result (string_bytes out.new
-//     ≡ string_bytes out.old ++ json_text (array (items_of (span_json path.now) spans.now))) }
 #[inline]
 fn put_spans(out: &mut String, path: &str, spans: &[Span<'_>]) -> Result<(), AllocError> {
     out.try_push_str("[")?;
@@ -167,8 +147,6 @@ fn put_spans(out: &mut String, path: &str, spans: &[Span<'_>]) -> Result<(), All
 }
 
 /// Adds an array without items.
-// ensures { OnOk result (string_bytes out.new
-//     ≡ string_bytes out.old ++ json_text (array no_items)) }
 #[inline]
 fn put_empty_array(out: &mut String) -> Result<(), AllocError> {
     out.try_push_str("[]")?;
@@ -176,8 +154,6 @@ fn put_empty_array(out: &mut String) -> Result<(), AllocError> {
 }
 
 /// Adds a note or a help.
-// ensures { OnOk result (string_bytes out.new
-//     ≡ string_bytes out.old ++ json_text (child_json path.now child.now)) }
 #[inline]
 fn put_child(out: &mut String, path: &str, child: &Child<'_, '_>) -> Result<(), AllocError> {
     put_text(out, false, "message", child.text)?;
@@ -193,8 +169,6 @@ fn put_child(out: &mut String, path: &str, child: &Child<'_, '_>) -> Result<(), 
 }
 
 /// Adds notes and helps.
-// ensures { OnOk result (string_bytes out.new
-//     ≡ string_bytes out.old ++ json_text (array (items_of (child_json path.now) children.now))) }
 #[inline]
 fn put_children(
     out: &mut String,
@@ -213,8 +187,6 @@ fn put_children(
 }
 
 /// Adds the id of a message.
-// ensures { OnOk result (string_bytes out.new
-//     ≡ string_bytes out.old ++ json_text (code_json id.now)) }
 #[inline]
 fn put_code(out: &mut String, id: &str) -> Result<(), AllocError> {
     put_text(out, false, "code", id)?;
@@ -224,8 +196,6 @@ fn put_code(out: &mut String, id: &str) -> Result<(), AllocError> {
 }
 
 /// Adds the spans of a message, its notes and helps and its drawing, and the end of its object.
-// ensures { OnOk result (string_bytes out.new ≡ string_bytes out.old
-//     ++ object_text true (below_members path.now spans.now children.now rendered.now)) }
 #[inline]
 fn put_below(
     out: &mut String,
@@ -245,10 +215,7 @@ fn put_below(
 
 /// Appends a message as a line of JSON with the members that rustc writes with
 /// `--error-format=json`: its ranges, its notes and helps, and its drawing for people. Its id
-/// stands in the place of rustc's code. Returns `Err` if an allocation fails, and a part of the
-/// line may then be appended.
-// ensures { OnOk result (string_bytes out.new ≡ string_bytes out.old ++ (json_text
-//     (message_json message.now spans.now children.now rendered.now) ++ codes "\n")) }
+/// stands in the place of rustc's code.
 #[inline]
 pub fn put_json(
     out: &mut String,

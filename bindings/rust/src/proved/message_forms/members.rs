@@ -3,15 +3,13 @@
 //! before.
 
 // Extracted from crates/message_forms/src/members.rt by tools/extract: not to be edited.
-// That source is proved, and each contract here is its. That this text means the same is tested:
-// by results from outside, and beside what is proved (.ci/bindings) and the original (tools/agree).
+// That source has the contracts, and is proved. That this text means the same is only tested.
 
 use crate::proved::message_forms::escapes::{put_number, put_quoted};
 use crate::shim::alloc::AllocError;
 use crate::shim::prelude::*;
 
 /// Returns the text before a member: the brace of its object, or a comma after another member.
-// ensures { result.now ≡ opening is_later }
 #[inline]
 fn opening(is_later: bool) -> &'static str {
     if is_later {
@@ -22,9 +20,6 @@ fn opening(is_later: bool) -> &'static str {
 }
 
 /// Adds the key of a member.
-// ensures { OnOk result ((d : Data) (ms : Members)
-//     → string_bytes out.new ++ (json_text d ++ object_text true ms)
-//     ≡ string_bytes out.old ++ object_text is_later (member key.now d ms)) }
 #[inline]
 pub fn put_key(out: &mut String, is_later: bool, key: &str) -> Result<(), AllocError> {
     out.try_push_str(opening(is_later))?;
@@ -34,8 +29,6 @@ pub fn put_key(out: &mut String, is_later: bool, key: &str) -> Result<(), AllocE
 }
 
 /// Adds the end of an object that has members.
-// ensures { OnOk result (string_bytes out.new
-//     ≡ string_bytes out.old ++ object_text true no_members) }
 #[inline]
 pub fn put_end(out: &mut String) -> Result<(), AllocError> {
     out.try_push_str("}")?;
@@ -43,8 +36,6 @@ pub fn put_end(out: &mut String) -> Result<(), AllocError> {
 }
 
 /// Adds a text as a value.
-// ensures { OnOk result (string_bytes out.new
-//     ≡ string_bytes out.old ++ json_text (string text.now)) }
 #[inline]
 fn put_string(out: &mut String, text: &str) -> Result<(), AllocError> {
     put_quoted(out, text)?;
@@ -52,8 +43,6 @@ fn put_string(out: &mut String, text: &str) -> Result<(), AllocError> {
 }
 
 /// Adds a text or `null` as a value.
-// ensures { OnOk result (string_bytes out.new ≡ string_bytes out.old
-//     ++ json_text (text_or_null (option_map (λ t. t.now) text.entry))) }
 #[inline]
 fn put_string_or_null(out: &mut String, text: Option<&str>) -> Result<(), AllocError> {
     match text {
@@ -64,8 +53,6 @@ fn put_string_or_null(out: &mut String, text: Option<&str>) -> Result<(), AllocE
 }
 
 /// Adds a number as a value.
-// ensures { OnOk result (string_bytes out.new
-//     ≡ string_bytes out.old ++ json_text (number_json number)) }
 #[inline]
 fn put_digits(out: &mut String, number: usize) -> Result<(), AllocError> {
     put_number(out, number)?;
@@ -73,8 +60,6 @@ fn put_digits(out: &mut String, number: usize) -> Result<(), AllocError> {
 }
 
 /// Adds a truth value.
-// ensures { OnOk result (string_bytes out.new
-//     ≡ string_bytes out.old ++ json_text (boolean is_so)) }
 #[inline]
 fn put_bool(out: &mut String, is_so: bool) -> Result<(), AllocError> {
     out.try_push_str(if is_so { "true" } else { "false" })?;
@@ -82,8 +67,6 @@ fn put_bool(out: &mut String, is_so: bool) -> Result<(), AllocError> {
 }
 
 /// Adds a member with a text.
-// ensures { OnOk result ((ms : Members) → string_bytes out.new ++ object_text true ms
-//     ≡ string_bytes out.old ++ object_text is_later (member key.now (string text.now) ms)) }
 #[inline]
 pub fn put_text(out: &mut String, is_later: bool, key: &str, text: &str) -> Result<(), AllocError> {
     put_key(out, is_later, key)?;
@@ -92,9 +75,6 @@ pub fn put_text(out: &mut String, is_later: bool, key: &str, text: &str) -> Resu
 }
 
 /// Adds a member with a text, or with `null`, after another one.
-// ensures { OnOk result ((ms : Members) → string_bytes out.new ++ object_text true ms
-//     ≡ string_bytes out.old ++ object_text true (member key.now
-//     (text_or_null (option_map (λ t. t.now) text.entry)) ms)) }
 #[inline]
 pub fn put_text_or_null(out: &mut String, key: &str, text: Option<&str>) -> Result<(), AllocError> {
     put_key(out, true, key)?;
@@ -103,8 +83,6 @@ pub fn put_text_or_null(out: &mut String, key: &str, text: Option<&str>) -> Resu
 }
 
 /// Adds a member with a number.
-// ensures { OnOk result ((ms : Members) → string_bytes out.new ++ object_text true ms
-//     ≡ string_bytes out.old ++ object_text is_later (member key.now (number_json number) ms)) }
 #[inline]
 pub fn put_count(
     out: &mut String,
@@ -118,8 +96,6 @@ pub fn put_count(
 }
 
 /// Adds a member with a truth value.
-// ensures { OnOk result ((ms : Members) → string_bytes out.new ++ object_text true ms
-//     ≡ string_bytes out.old ++ object_text is_later (member key.now (boolean is_so) ms)) }
 #[inline]
 pub fn put_truth(
     out: &mut String,
@@ -133,7 +109,6 @@ pub fn put_truth(
 }
 
 /// Adds a comma, if the item that follows comes after another one.
-// ensures { OnOk result (string_bytes out.new ≡ string_bytes out.old ++ comma_if is_later) }
 #[inline]
 pub fn put_comma(out: &mut String, is_later: bool) -> Result<(), AllocError> {
     if is_later {

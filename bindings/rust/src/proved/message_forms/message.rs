@@ -1,8 +1,7 @@
 //! Messages about files, with notes, helps and suggestions.
 
 // Extracted from crates/message_forms/src/message.rt by tools/extract: not to be edited.
-// That source is proved, and each contract here is its. That this text means the same is tested:
-// by results from outside, and beside what is proved (.ci/bindings) and the original (tools/agree).
+// That source has the contracts, and is proved. That this text means the same is only tested.
 
 use crate::proved::rust_trees::Place;
 
@@ -82,7 +81,6 @@ pub struct Message<'a> {
 }
 
 /// Returns the word of rustc for a level.
-// ensures { result.now ≡ level_name level }
 #[inline]
 pub fn level_name(level: Level) -> &'static str {
     match level {
@@ -92,7 +90,6 @@ pub fn level_name(level: Level) -> &'static str {
 }
 
 /// Returns the word of rustc for the level of a child.
-// ensures { result.now ≡ child_name level }
 #[inline]
 pub fn child_name(level: ChildLevel) -> &'static str {
     match level {

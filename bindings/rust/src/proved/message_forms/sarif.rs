@@ -1,9 +1,7 @@
-//! The form of SARIF 2.1.0. A function whose name begins with `put_` appends to `out`, and returns
-//! `Err` if an allocation fails.
+//! The form of SARIF 2.1.0. A function whose name begins with `put_` appends to `out`.
 
 // Extracted from crates/message_forms/src/sarif.rt by tools/extract: not to be edited.
-// That source is proved, and each contract here is its. That this text means the same is tested:
-// by results from outside, and beside what is proved (.ci/bindings) and the original (tools/agree).
+// That source has the contracts, and is proved. That this text means the same is only tested.
 
 use crate::proved::fault_rules::{put_explanation, Rule};
 use crate::proved::message_forms::escapes::put_uri;
@@ -15,8 +13,6 @@ use crate::shim::alloc::AllocError;
 use crate::shim::prelude::*;
 
 /// Adds a plain text as a message.
-// ensures { OnOk result (string_bytes out.new
-//     ≡ string_bytes out.old ++ json_text (plain text.now)) }
 #[inline]
 fn put_plain(out: &mut String, text: &str) -> Result<(), AllocError> {
     put_text(out, false, "text", text)?;
@@ -25,8 +21,6 @@ fn put_plain(out: &mut String, text: &str) -> Result<(), AllocError> {
 }
 
 /// Adds a member with a plain text as a message, after another one.
-// ensures { OnOk result ((ms : Members) → string_bytes out.new ++ object_text true ms
-//     ≡ string_bytes out.old ++ object_text true (member key.now (plain text.now) ms)) }
 #[inline]
 fn put_plain_member(out: &mut String, key: &str, text: &str) -> Result<(), AllocError> {
     put_key(out, true, key)?;
@@ -35,8 +29,6 @@ fn put_plain_member(out: &mut String, key: &str, text: &str) -> Result<(), Alloc
 }
 
 /// Adds a region.
-// ensures { OnOk result (string_bytes out.new
-//     ≡ string_bytes out.old ++ json_text (region span.now)) }
 #[inline]
 fn put_region(out: &mut String, span: &Span<'_>) -> Result<(), AllocError> {
     put_count(out, false, "startLine", span.start.line)?;
@@ -48,7 +40,6 @@ fn put_region(out: &mut String, span: &Span<'_>) -> Result<(), AllocError> {
 }
 
 /// Returns a path as a URI.
-// ensures { IfOk result (λ s. string_bytes s ≡ uri path.now) }
 #[inline]
 fn uri_of(path: &str) -> Result<String, AllocError> {
     let mut text = String::new();
@@ -57,8 +48,6 @@ fn uri_of(path: &str) -> Result<String, AllocError> {
 }
 
 /// Adds a file.
-// ensures { OnOk result (string_bytes out.new
-//     ≡ string_bytes out.old ++ json_text (artifact path.now)) }
 #[inline]
 fn put_artifact(out: &mut String, path: &str) -> Result<(), AllocError> {
     let text = uri_of(path)?;
@@ -68,8 +57,6 @@ fn put_artifact(out: &mut String, path: &str) -> Result<(), AllocError> {
 }
 
 /// Adds a range of a file.
-// ensures { OnOk result (string_bytes out.new
-//     ≡ string_bytes out.old ++ json_text (physical path.now span.now)) }
 #[inline]
 fn put_physical(out: &mut String, path: &str, span: &Span<'_>) -> Result<(), AllocError> {
     put_key(out, false, "artifactLocation")?;
@@ -81,8 +68,6 @@ fn put_physical(out: &mut String, path: &str, span: &Span<'_>) -> Result<(), All
 }
 
 /// Adds a range of a file as a location.
-// ensures { OnOk result (string_bytes out.new
-//     ≡ string_bytes out.old ++ json_text (location path.now span.now)) }
 #[inline]
 fn put_location(out: &mut String, path: &str, span: &Span<'_>) -> Result<(), AllocError> {
     put_key(out, false, "physicalLocation")?;
@@ -92,8 +77,6 @@ fn put_location(out: &mut String, path: &str, span: &Span<'_>) -> Result<(), All
 }
 
 /// Adds a range of a file as the only location.
-// ensures { OnOk result (string_bytes out.new
-//     ≡ string_bytes out.old ++ json_text (array (item (location path.now span.now) no_items))) }
 #[inline]
 fn put_locations(out: &mut String, path: &str, span: &Span<'_>) -> Result<(), AllocError> {
     out.try_push_str("[")?;
@@ -103,8 +86,6 @@ fn put_locations(out: &mut String, path: &str, span: &Span<'_>) -> Result<(), Al
 }
 
 /// Adds a message as a result.
-// ensures { OnOk result (string_bytes out.new
-//     ≡ string_bytes out.old ++ json_text (result_json message.now)) }
 #[inline]
 fn put_result(out: &mut String, message: &Message<'_>) -> Result<(), AllocError> {
     put_text(out, false, "ruleId", message.id)?;
@@ -117,9 +98,7 @@ fn put_result(out: &mut String, message: &Message<'_>) -> Result<(), AllocError>
 }
 
 /// Appends a message as a result of a log. Another result comes before it unless `is_first` is
-/// true. Returns `Err` if an allocation fails, and a part of it may then be appended.
-// ensures { OnOk result ((more : Items) → string_bytes out.new ++ array_text true more
-//     ≡ string_bytes out.old ++ array_text (not is_first) (item (result_json message.now) more)) }
+/// true.
 #[inline]
 pub fn put_sarif_result(
     out: &mut String,
@@ -132,7 +111,6 @@ pub fn put_sarif_result(
 }
 
 /// Returns the text of a rule.
-// ensures { IfOk result (λ s. string_bytes s ≡ explanation_text rule.now) }
 #[inline]
 fn explanation(rule: &Rule) -> Result<String, AllocError> {
     let mut text = String::new();
@@ -141,8 +119,6 @@ fn explanation(rule: &Rule) -> Result<String, AllocError> {
 }
 
 /// Adds a rule.
-// ensures { OnOk result (string_bytes out.new
-//     ≡ string_bytes out.old ++ json_text (rule_json rule.now)) }
 #[inline]
 fn put_rule(out: &mut String, rule: &Rule) -> Result<(), AllocError> {
     let text = explanation(rule)?;
@@ -155,8 +131,6 @@ fn put_rule(out: &mut String, rule: &Rule) -> Result<(), AllocError> {
 }
 
 /// Adds rules.
-// ensures { OnOk result (string_bytes out.new
-//     ≡ string_bytes out.old ++ json_text (array (items_of rule_json rules.now))) }
 #[inline]
 fn put_rules(out: &mut String, rules: &[Rule]) -> Result<(), AllocError> {
     out.try_push_str("[")?;
@@ -171,8 +145,6 @@ fn put_rules(out: &mut String, rules: &[Rule]) -> Result<(), AllocError> {
 }
 
 /// Adds the program of this version.
-// ensures { OnOk result (string_bytes out.new
-//     ≡ string_bytes out.old ++ json_text (driver version.now rules.now)) }
 #[inline]
 fn put_driver(out: &mut String, version: &str, rules: &[Rule]) -> Result<(), AllocError> {
     put_text(out, false, "name", "formatlint")?;
@@ -184,8 +156,6 @@ fn put_driver(out: &mut String, version: &str, rules: &[Rule]) -> Result<(), All
 }
 
 /// Adds the program as a tool.
-// ensures { OnOk result (string_bytes out.new
-//     ≡ string_bytes out.old ++ json_text (tool version.now rules.now)) }
 #[inline]
 fn put_tool(out: &mut String, version: &str, rules: &[Rule]) -> Result<(), AllocError> {
     put_key(out, false, "driver")?;
@@ -195,9 +165,6 @@ fn put_tool(out: &mut String, version: &str, rules: &[Rule]) -> Result<(), Alloc
 }
 
 /// Adds the start of a run, up to its results.
-// ensures { OnOk result ((results : Items) (whole : Bool) → string_bytes out.new
-//     ++ (array_text false results ++ object_text true (run_end whole))
-//     ≡ string_bytes out.old ++ json_text (run_json version.now rules.now results whole)) }
 #[inline]
 fn put_run_start(out: &mut String, version: &str, rules: &[Rule]) -> Result<(), AllocError> {
     put_key(out, false, "tool")?;
@@ -209,12 +176,7 @@ fn put_run_start(out: &mut String, version: &str, rules: &[Rule]) -> Result<(), 
 }
 
 /// Appends the start of a log, up to its results, which [`put_sarif_result`] appends; after them
-/// [`put_sarif_end`] ends it. Returns `Err` if an allocation fails, and a part of it may then be
-/// appended.
-// With the results and an end it is a log.
-// ensures { OnOk result ((results : Items) (whole : Bool)
-//     → string_bytes out.new ++ (array_text false results ++ log_end whole)
-//     ≡ string_bytes out.old ++ json_text (log_json version.now rules.now results whole)) }
+/// [`put_sarif_end`] ends it.
 #[inline]
 pub fn put_sarif_start(out: &mut String, version: &str, rules: &[Rule]) -> Result<(), AllocError> {
     put_text(
@@ -231,8 +193,6 @@ pub fn put_sarif_start(out: &mut String, version: &str, rules: &[Rule]) -> Resul
 }
 
 /// Adds an invocation: whether the program could read all files.
-// ensures { OnOk result (string_bytes out.new
-//     ≡ string_bytes out.old ++ json_text (invocation is_whole)) }
 #[inline]
 fn put_invocation(out: &mut String, is_whole: bool) -> Result<(), AllocError> {
     put_truth(out, false, "executionSuccessful", is_whole)?;
@@ -241,8 +201,6 @@ fn put_invocation(out: &mut String, is_whole: bool) -> Result<(), AllocError> {
 }
 
 /// Adds the only invocation: whether the program could read all files.
-// ensures { OnOk result (string_bytes out.new
-//     ≡ string_bytes out.old ++ json_text (array (item (invocation is_whole) no_items))) }
 #[inline]
 fn put_invocations(out: &mut String, is_whole: bool) -> Result<(), AllocError> {
     out.try_push_str("[")?;
@@ -252,10 +210,7 @@ fn put_invocations(out: &mut String, is_whole: bool) -> Result<(), AllocError> {
 }
 
 /// Appends the end of a log, from the end of its results on: whether the program could read all
-/// files (`is_whole`), and a line end. Returns `Err` if an allocation fails, and a part of it may
-/// then be appended.
-// ensures { OnOk result (string_bytes out.new ≡ string_bytes out.old
-//     ++ (array_text true no_items ++ (log_end is_whole ++ codes "\n"))) }
+/// files (`is_whole`), and a line end.
 #[inline]
 pub fn put_sarif_end(out: &mut String, is_whole: bool) -> Result<(), AllocError> {
     out.try_push_str("]")?;

@@ -1,8 +1,7 @@
 //! The form for editors.
 
 // Extracted from crates/message_forms/src/short.rt by tools/extract: not to be edited.
-// That source is proved, and each contract here is its. That this text means the same is tested:
-// by results from outside, and beside what is proved (.ci/bindings) and the original (tools/agree).
+// That source has the contracts, and is proved. That this text means the same is only tested.
 
 use crate::proved::drawn_lines::put_glyphs;
 use crate::proved::message_forms::escapes::put_number;
@@ -12,7 +11,6 @@ use crate::shim::alloc::AllocError;
 use crate::shim::prelude::*;
 
 /// Appends a place: the line, a colon and the column.
-// ensures { OnOk result (string_bytes out.new ≡ string_bytes out.old ++ place_text place) }
 #[inline]
 fn put_place(out: &mut String, place: Place) -> Result<(), AllocError> {
     put_number(out, place.line)?;
@@ -22,11 +20,7 @@ fn put_place(out: &mut String, place: Place) -> Result<(), AllocError> {
 }
 
 /// Appends a message as a line that editors find places in: `PATH:LINE:COLUMN: LEVEL: TITLE [ID]`.
-/// The texts are written as drawings have them. Returns `Err` if an allocation fails, and a part of
-/// the line may then be appended.
-// ensures written { OnOk result (string_bytes out.new
-//     ≡ string_bytes out.old ++ short message.now) }
-// ensures harmless { IsHarmless (short message.now) }
+/// The texts are written as drawings have them.
 #[inline]
 pub fn put_short(out: &mut String, message: &Message<'_>) -> Result<(), AllocError> {
     put_glyphs(out, message.path, 0)?;

@@ -1,8 +1,7 @@
 //! The lines of a manifest.
 
 // Extracted from crates/package_edition/src/lines.rt by tools/extract: not to be edited.
-// That source is proved, and each contract here is its. That this text means the same is tested:
-// by results from outside, and beside what is proved (.ci/bindings) and the original (tools/agree).
+// That source has the contracts, and is proved. That this text means the same is only tested.
 
 /// A line of a manifest, as far as it can be about an edition.
 #[derive(Clone, Copy)]

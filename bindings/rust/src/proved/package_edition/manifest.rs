@@ -1,8 +1,7 @@
 //! The edition that a manifest declares.
 
 // Extracted from crates/package_edition/src/manifest.rt by tools/extract: not to be edited.
-// That source is proved, and each contract here is its. That this text means the same is tested:
-// by results from outside, and beside what is proved (.ci/bindings) and the original (tools/agree).
+// That source has the contracts, and is proved. That this text means the same is only tested.
 
 use crate::proved::package_edition::lines::{line_of, Line};
 
@@ -56,8 +55,6 @@ pub fn workspace_edition(manifest: &str) -> Option<&str> {
 }
 
 /// Returns whether an edition is 2021 or a later one: neither 2015 nor 2018.
-// ensures { result ≡ (not (bytes_eq edition.now (codes "2015"))
-//     && not (bytes_eq edition.now (codes "2018"))) }
 #[inline]
 pub fn is_from_2021(edition: &str) -> bool {
     edition != "2015" && edition != "2018"

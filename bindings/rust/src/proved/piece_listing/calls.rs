@@ -2,8 +2,7 @@
 //! read into one argument, so that a long text needs no memory for each.
 
 // Extracted from crates/piece_listing/src/calls.rt by tools/extract: not to be edited.
-// That source is proved, and each contract here is its. That this text means the same is tested:
-// by results from outside, and beside what is proved (.ci/bindings) and the original (tools/agree).
+// That source has the contracts, and is proved. That this text means the same is only tested.
 
 use super::listing::{put_argument, put_literal};
 use crate::proved::placeholder_check::Uses;
@@ -13,10 +12,6 @@ use crate::shim::parser::Parser;
 use crate::shim::prelude::*;
 
 /// Makes the next call of a parser, and returns its piece. A placeholder is in `argument`.
-// ensures piece { IfOk result (λ t. option_map (seen_taken argument.new) t
-//     ≡ option_map (piece_in parser.old.world) (next_call parser.old).piece) }
-// ensures state { OnOk result (parser.new ≡ after parser.old (next_call parser.old)) }
-// ensures spare { AddsNothing parser.old (next_call parser.old) → IsOk result }
 #[inline]
 fn next_piece<'a>(
     parser: &mut Parser<'a>,
@@ -30,8 +25,6 @@ fn next_piece<'a>(
 }
 
 /// Appends the line of a piece.
-// ensures { OnOk result (string_bytes out.new ≡ string_bytes out.old
-//     ++ piece_line (seen_taken argument.now piece.now)) }
 #[inline]
 fn put_taken(
     out: &mut String,
@@ -46,8 +39,6 @@ fn put_taken(
 }
 
 /// Adds the arguments that a piece uses, if they are to be compared with those that are given.
-// ensures { OnOk result (IsTrue compares → (us : List Use) → Holds us uses.old
-//     → Holds (us ++ piece_uses (seen_taken argument.now piece.now)) uses.new) }
 #[inline]
 fn add_uses<'a>(
     uses: &mut Uses<'a>,
@@ -63,13 +54,6 @@ fn add_uses<'a>(
 
 /// Appends the lines of the pieces of a parser up to the first call that returns `None`, and adds
 /// the arguments that they use to `all_uses` if `compares` is set.
-// ensures lines { OnOk result (string_bytes out.new ≡ string_bytes out.old
-//     ++ flat_map piece_line (pieces_in parser.old.world (pieces_of (calls parser.old)))) }
-// ensures used { OnOk result (IsTrue compares → (us : List Use) → Holds us all_uses.old
-//     → Holds (us ++ uses (pieces_in parser.old.world (pieces_of (calls parser.old))))
-//     all_uses.new) }
-// ensures state { OnOk result (parser.new ≡ after_all parser.old (calls parser.old)) }
-// ensures empty { parser.old.rest ≡ [] → parser.old.world.has_source ≡ false → IsOk result }
 #[inline]
 pub fn put_calls<'a>(
     out: &mut String,

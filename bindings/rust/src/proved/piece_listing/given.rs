@@ -1,8 +1,7 @@
 //! A list of arguments as a word: their number by position, and then names, each after a comma.
 
 // Extracted from crates/piece_listing/src/given.rt by tools/extract: not to be edited.
-// That source is proved, and each contract here is its. That this text means the same is tested:
-// by results from outside, and beside what is proved (.ci/bindings) and the original (tools/agree).
+// That source has the contracts, and is proved. That this text means the same is only tested.
 
 use crate::shim::alloc::AllocError;
 use crate::shim::prelude::*;
@@ -20,10 +19,6 @@ pub struct GivenArguments<'a> {
 }
 
 /// Returns the text before the first comma and the text after it, or `None` if there is no comma.
-// ensures parts { MatchOption result
-//     (parts text.now ≡ text.now ∷ [])
-//     (λ x. parts text.now ≡ x.0.now ∷ parts x.1.now) }
-// ensures shorter { IfSome result (λ x. length x.1.now < length text.now) }
 #[inline]
 fn around_comma(text: &str) -> Option<(&str, &str)> {
     text.split_once(',')
@@ -31,7 +26,6 @@ fn around_comma(text: &str) -> Option<(&str, &str)> {
 
 /// Returns the number that a text of at most `MOST_DIGITS` digits is, or `None` if it is no number
 /// or more than 65535.
-// ensures { result ≡ (if is_number text.now then Some (digits_value 10 text.now) else None) }
 #[inline]
 fn number(text: &str) -> Option<usize> {
     if text.len() > MOST_DIGITS || text.starts_with('+') {
@@ -44,7 +38,6 @@ fn number(text: &str) -> Option<usize> {
 }
 
 /// Returns whether a text is a list of names that are separated by commas, none of them empty.
-// ensures { result ≡ list_all is_name (parts text.now) }
 #[inline]
 fn are_names(text: &str) -> bool {
     let mut rest = text;
@@ -58,7 +51,6 @@ fn are_names(text: &str) -> bool {
 }
 
 /// Returns the list of arguments that a word is, or `None` if it is none.
-// ensures { option_map seen_given result ≡ given_by word.now }
 #[inline]
 pub fn given_by(word: &str) -> Option<GivenArguments<'_>> {
     let Some((digits, names)) = around_comma(word) else {
@@ -79,7 +71,6 @@ pub fn given_by(word: &str) -> Option<GivenArguments<'_>> {
 }
 
 /// Returns the parts of a text that are separated by commas.
-// ensures { IfOk result (λ v. texts v.items ≡ map chars (parts text.now)) }
 #[inline]
 fn between_commas<'a>(text: &'a str) -> Result<Vec<&'a str>, AllocError> {
     let mut found = Vec::new();
@@ -93,7 +84,6 @@ fn between_commas<'a>(text: &'a str) -> Result<Vec<&'a str>, AllocError> {
 }
 
 /// Returns the names of a list of arguments.
-// ensures { IfOk result (λ v. texts v.items ≡ seen_names names.entry) }
 #[inline]
 pub fn names<'a>(names: Option<&'a str>) -> Result<Vec<&'a str>, AllocError> {
     match names {

@@ -2,8 +2,7 @@
 //! `Err` if an allocation fails; `put_` in a name means that it appends to `out`.
 
 // Extracted from crates/piece_listing/src/listing.rt by tools/extract: not to be edited.
-// That source is proved, and each contract here is its. That this text means the same is tested:
-// by results from outside, and beside what is proved (.ci/bindings) and the original (tools/agree).
+// That source has the contracts, and is proved. That this text means the same is only tested.
 
 use super::numbers::{put_number, put_span};
 use crate::proved::rustc_parse_format::{
@@ -15,7 +14,6 @@ use crate::shim::prelude::*;
 use core::ops::Range;
 
 /// Adds a text, escaped, between quotes.
-// ensures { OnOk result (string_bytes out.new ≡ string_bytes out.old ++ quoted (chars text.now)) }
 #[inline]
 pub fn put_quoted(out: &mut String, text: &str) -> Result<(), AllocError> {
     out.try_push('"')?;
@@ -25,8 +23,6 @@ pub fn put_quoted(out: &mut String, text: &str) -> Result<(), AllocError> {
 }
 
 /// Adds the line of a piece of literal text.
-// ensures { OnOk result (string_bytes out.new ≡ string_bytes out.old ++
-//     (codes "lit " ++ (quoted (chars text.now) ++ codes "\n"))) }
 #[inline]
 pub(crate) fn put_literal(out: &mut String, text: &str) -> Result<(), AllocError> {
     out.try_push_str("lit \"")?;
@@ -36,8 +32,6 @@ pub(crate) fn put_literal(out: &mut String, text: &str) -> Result<(), AllocError
 }
 
 /// Adds a label and then a name, neither of them escaped.
-// ensures { OnOk result (string_bytes out.new ≡ string_bytes out.old ++
-//     (label.now ++ encode_utf8_all (chars name.now))) }
 #[inline(always)]
 fn put_name(out: &mut String, label: &str, name: &str) -> Result<(), AllocError> {
     out.try_push_str(label)?;
@@ -46,8 +40,6 @@ fn put_name(out: &mut String, label: &str, name: &str) -> Result<(), AllocError>
 }
 
 /// Adds the span of the part before it, if that has one.
-// ensures { OnOk result (string_bytes out.new ≡ string_bytes out.old ++
-//     at_entry (option_map pair span.now)) }
 #[inline]
 fn put_at(out: &mut String, span: &Option<Range<usize>>) -> Result<(), AllocError> {
     if let Some(span) = span {
@@ -57,8 +49,6 @@ fn put_at(out: &mut String, span: &Option<Range<usize>>) -> Result<(), AllocErro
 }
 
 /// Adds the first word of the line of a placeholder, and then its position.
-// ensures { OnOk result (string_bytes out.new ≡ string_bytes out.old ++
-//     (codes "arg " ++ position_text (seen_position position.now))) }
 #[inline]
 fn put_position(out: &mut String, position: &Position<'_>) -> Result<(), AllocError> {
     match position {
@@ -70,8 +60,6 @@ fn put_position(out: &mut String, position: &Position<'_>) -> Result<(), AllocEr
 }
 
 /// Adds a fill character and its span, if there is one.
-// ensures { OnOk result (string_bytes out.new ≡ string_bytes out.old ++
-//     fill_entry fill (option_map pair span.now)) }
 #[inline]
 fn put_fill(
     out: &mut String,
@@ -88,8 +76,6 @@ fn put_fill(
 }
 
 /// Adds an alignment, if there is one.
-// ensures { OnOk result (string_bytes out.new ≡ string_bytes out.old ++
-//     align_entry (seen_alignment align)) }
 #[inline]
 fn put_alignment(out: &mut String, align: Alignment) -> Result<(), AllocError> {
     match align {
@@ -102,8 +88,6 @@ fn put_alignment(out: &mut String, align: Alignment) -> Result<(), AllocError> {
 }
 
 /// Adds a sign flag, if there is one.
-// ensures { OnOk result (string_bytes out.new ≡ string_bytes out.old ++
-//     sign_entry (option_map seen_sign sign)) }
 #[inline]
 fn put_sign(out: &mut String, sign: Option<Sign>) -> Result<(), AllocError> {
     match sign {
@@ -115,8 +99,6 @@ fn put_sign(out: &mut String, sign: Option<Sign>) -> Result<(), AllocError> {
 }
 
 /// Adds the name of a flag, if the flag is set.
-// ensures { OnOk result (string_bytes out.new ≡ string_bytes out.old
-//     ++ flag_entry flag name.now) }
 #[inline]
 fn put_flag(out: &mut String, name: &str, flag: bool) -> Result<(), AllocError> {
     if flag {
@@ -126,8 +108,6 @@ fn put_flag(out: &mut String, name: &str, flag: bool) -> Result<(), AllocError> 
 }
 
 /// Adds the fill character, the alignment and the flags of a specification.
-// ensures { OnOk result (string_bytes out.new ≡ string_bytes out.old ++
-//     flag_entries (seen_spec spec.now)) }
 #[inline]
 fn put_flags(out: &mut String, spec: &FormatSpec<'_>) -> Result<(), AllocError> {
     put_fill(out, spec.fill, &spec.fill_span)?;
@@ -139,8 +119,6 @@ fn put_flags(out: &mut String, spec: &FormatSpec<'_>) -> Result<(), AllocError> 
 }
 
 /// Adds a width or a precision.
-// ensures { OnOk result (string_bytes out.new ≡ string_bytes out.old ++
-//     count_text (seen_count count.now)) }
 #[inline]
 fn put_count(out: &mut String, count: &Count<'_>) -> Result<(), AllocError> {
     match count {
@@ -157,8 +135,6 @@ fn put_count(out: &mut String, count: &Count<'_>) -> Result<(), AllocError> {
 }
 
 /// Adds a part that is a width or a precision: its name, the count and its span.
-// ensures { OnOk result (string_bytes out.new ≡ string_bytes out.old ++
-//     count_entry name.now (seen_count count.now) (option_map pair span.now)) }
 #[inline(always)]
 fn put_named_count(
     out: &mut String,
@@ -173,8 +149,6 @@ fn put_named_count(
 }
 
 /// Adds a width, unless there is none.
-// ensures { OnOk result (string_bytes out.new ≡ string_bytes out.old ++
-//     width_entry (seen_count width.now) (option_map pair span.now)) }
 #[inline]
 fn put_width(
     out: &mut String,
@@ -189,8 +163,6 @@ fn put_width(
 }
 
 /// Adds a precision, if it has a span.
-// ensures { OnOk result (string_bytes out.new ≡ string_bytes out.old ++
-//     precision_entry (option_map pair span.now) (seen_count precision.now)) }
 #[inline]
 fn put_precision(
     out: &mut String,
@@ -204,8 +176,6 @@ fn put_precision(
 }
 
 /// Adds the case of the hexadecimal digits of a debug format, if it has one.
-// ensures { OnOk result (string_bytes out.new ≡ string_bytes out.old ++
-//     hex_entry (option_map seen_debug_hex hex)) }
 #[inline]
 fn put_hex(out: &mut String, hex: Option<DebugHex>) -> Result<(), AllocError> {
     match hex {
@@ -217,8 +187,6 @@ fn put_hex(out: &mut String, hex: Option<DebugHex>) -> Result<(), AllocError> {
 }
 
 /// Adds a type, unless it is empty and has no span.
-// ensures { OnOk result (string_bytes out.new ≡ string_bytes out.old ++
-//     type_entry (option_map pair span.now) (chars ty.now)) }
 #[inline]
 fn put_type(out: &mut String, ty: &str, span: &Option<Range<usize>>) -> Result<(), AllocError> {
     if span.is_none() && ty.is_empty() {
@@ -231,8 +199,6 @@ fn put_type(out: &mut String, ty: &str, span: &Option<Range<usize>>) -> Result<(
 }
 
 /// Adds the width, the precision and the type of a specification.
-// ensures { OnOk result (string_bytes out.new ≡ string_bytes out.old ++
-//     value_entries (seen_spec spec.now)) }
 #[inline]
 fn put_values(out: &mut String, spec: &FormatSpec<'_>) -> Result<(), AllocError> {
     put_width(out, &spec.width, &spec.width_span)?;
@@ -243,11 +209,6 @@ fn put_values(out: &mut String, spec: &FormatSpec<'_>) -> Result<(), AllocError>
 }
 
 /// Adds the line of a placeholder.
-// ensures { OnOk result (string_bytes out.new ≡ string_bytes out.old ++
-//     (codes "arg " ++ (position_text (seen_position argument.now.position)
-//     ++ (codes " " ++ (span_text (pair argument.now.position_span)
-//     ++ (flag_entries (seen_spec argument.now.format)
-//     ++ (value_entries (seen_spec argument.now.format) ++ codes "\n"))))))) }
 #[inline]
 pub(crate) fn put_argument(out: &mut String, argument: &Argument<'_>) -> Result<(), AllocError> {
     put_position(out, &argument.position)?;
@@ -259,8 +220,6 @@ pub(crate) fn put_argument(out: &mut String, argument: &Argument<'_>) -> Result<
 }
 
 /// Adds the line of an error.
-// ensures { OnOk result (string_bytes out.new ≡ string_bytes out.old ++
-//     fault_line (seen_error error.now)) }
 #[inline]
 fn put_fault(out: &mut String, error: &ParseError) -> Result<(), AllocError> {
     out.try_push_str("fault")?;
@@ -272,9 +231,6 @@ fn put_fault(out: &mut String, error: &ParseError) -> Result<(), AllocError> {
 }
 
 /// Adds a line for each error, in their order.
-// ensures lines { OnOk result (string_bytes out.new ≡ string_bytes out.old ++
-//     flat_map fault_line (map seen_error errors.now)) }
-// ensures empty { errors.now ≡ [] → IsOk result }
 #[inline]
 pub(crate) fn put_faults(out: &mut String, errors: &[ParseError]) -> Result<(), AllocError> {
     for error in errors {

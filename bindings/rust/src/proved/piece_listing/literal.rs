@@ -1,31 +1,19 @@
 //! An input that is a string literal, and the text that it stands for.
 
 // Extracted from crates/piece_listing/src/literal.rt by tools/extract: not to be edited.
-// That source is proved, and each contract here is its. That this text means the same is tested:
-// by results from outside, and beside what is proved (.ci/bindings) and the original (tools/agree).
+// That source has the contracts, and is proved. That this text means the same is only tested.
 
 use crate::proved::rustc_parse_format::literal::{content_text, quoted_content};
 use crate::shim::alloc::AllocError;
 use crate::shim::prelude::*;
 
 /// Returns a text without the character `c` at its end, or `None` if it does not end in `c`.
-// requires { c < 128 }
-// ensures front { MatchOption result
-//     ((t : Text) → t ++ c ∷ [] ≡ chars text.now → ⊥)
-//     (λ t. chars t.now ++ c ∷ [] ≡ chars text.now) }
-// ensures shorter { IfSome result (λ t. length t.now + 1 ≡ length text.now) }
 #[inline]
 fn without_last(text: &str, c: char) -> Option<&str> {
     text.strip_suffix(c)
 }
 
 /// Returns a text without the newline at its end, if it ends in one.
-// ensures cut { (b : Bool) × (chars result.now ++ newline b ≡ chars text.now) }
-// A text that does not end in a newline, and is `text` or `text` without a newline at its end,
-// is the result.
-// ensures only { (l : Text) (b : Bool) → l ++ newline b ≡ chars text.now
-//     → ((t : Text) → t ++ newline true ≡ l → ⊥) → l ≡ chars result.now }
-// ensures short { length result.now ≤ length text.now }
 #[inline]
 pub fn strip_newline(text: &str) -> &str {
     match without_last(text, '\n') {
@@ -35,20 +23,12 @@ pub fn strip_newline(text: &str) -> &str {
 }
 
 /// Returns a text without the character `c` at its start, or `None` if it does not begin with `c`.
-// requires { c < 128 }
-// ensures rest { MatchOption result
-//     ((t : Text) → chars text.now ≡ c ∷ t → ⊥)
-//     (λ t. chars text.now ≡ c ∷ chars t.now) }
-// ensures shorter { IfSome result (λ t. length t.now + 1 ≡ length text.now) }
 #[inline]
 fn without_first(text: &str, c: char) -> Option<&str> {
     text.strip_prefix(c)
 }
 
 /// Returns the number of hashes at the start of a text, and the text after them.
-// ensures all { chars text.now ≡ replicate result.0 35 ++ chars result.1.now }
-// ensures no_more { (t : Text) → chars result.1.now ≡ 35 ∷ t → ⊥ }
-// ensures few { result.0 + length result.1.now ≡ length text.now }
 #[inline]
 fn leading_hashes(text: &str) -> (usize, &str) {
     let mut count = 0;
@@ -61,9 +41,6 @@ fn leading_hashes(text: &str) -> (usize, &str) {
 }
 
 /// Returns a text without `count` hashes at its end, or `None` if it does not end in as many.
-// ensures { MatchOption result
-//     ((t : Text) → t ++ replicate count 35 ≡ chars text.now → ⊥)
-//     (λ t. chars t.now ++ replicate count 35 ≡ chars text.now) }
 #[inline]
 fn without_last_hashes(text: &str, count: usize) -> Option<&str> {
     let mut rest = text;
@@ -86,10 +63,6 @@ pub struct RawText<'a> {
 }
 
 /// Returns the parts of a raw string literal, or `None` if it is no raw string literal.
-// ensures text { MatchOption result
-//     ((n : ℕ) (t : Text) → chars literal.now ≡ raw_frame n t → ⊥)
-//     (λ x. chars literal.now ≡ raw_frame x.hashes (chars x.text.now)) }
-// ensures few { IfSome result (λ x. x.hashes ≤ length literal.now) }
 #[inline]
 pub fn raw_text(literal: &str) -> Option<RawText<'_>> {
     let (hashes, rest) = leading_hashes(without_first(literal, 'r')?);
@@ -100,10 +73,6 @@ pub fn raw_text(literal: &str) -> Option<RawText<'_>> {
 
 /// Returns the text that an ordinary string literal stands for, or `None` if it is no ordinary
 /// string literal.
-// ensures found { IfOk result (λ o. MatchOption o
-//     ((t : Text) → IsOrdinaryLiteral (chars literal.now) t → ⊥)
-//     (λ s. IsOrdinaryLiteral (chars literal.now) (chars (string_bytes s)))) }
-// ensures empty { literal.now ≡ [] → IsOk result }
 #[inline]
 fn ordinary_text(literal: &str) -> Result<Option<String>, AllocError> {
     let Some(content) = quoted_content(literal) else {
@@ -122,11 +91,6 @@ pub struct LiteralText {
 
 /// Returns the text that a string literal stands for, or `None` if it is no string literal. Returns
 /// `Err` if an allocation fails. The rules are those of the Rust Reference.
-// ensures found { IfOk result (λ o. MatchOption o
-//     ((style : Option ℕ) (t : Text) → IsLiteral style (chars literal.now) t → ⊥)
-//     (λ x. IsLiteral x.style (chars literal.now) (chars (string_bytes x.text)))) }
-// ensures few { IfOk result (λ o. IfSome o (λ x. hashes x.style ≤ length literal.now)) }
-// ensures empty { literal.now ≡ [] → IsOk result }
 #[inline]
 pub fn literal_text(literal: &str) -> Result<Option<LiteralText>, AllocError> {
     if let Some(RawText { hashes, text }) = raw_text(literal) {

@@ -2,8 +2,7 @@
 //! allocation fails; `put_` in a name means that it appends to `out`.
 
 // Extracted from crates/piece_listing/src/numbers.rt by tools/extract: not to be edited.
-// That source is proved, and each contract here is its. That this text means the same is tested:
-// by results from outside, and beside what is proved (.ci/bindings) and the original (tools/agree).
+// That source has the contracts, and is proved. That this text means the same is only tested.
 
 use crate::shim::alloc::AllocError;
 use crate::shim::itoa::{write_digits, Buffer};
@@ -13,10 +12,7 @@ use core::ops::Range;
 /// The most bytes of a span after a mark: the mark, two dots and two numbers of up to 20 digits.
 const SPAN_BYTES: usize = 43;
 
-/// Appends a label and then a number in decimal digits to `out`. Returns `Err` if an allocation
-/// fails; the label may then be in `out`.
-// ensures { OnOk result (string_bytes out.new ≡ string_bytes out.old
-//     ++ (label.now ++ decimal number)) }
+/// Appends a label and then a number in decimal digits to `out`.
 #[inline(always)]
 pub(crate) fn put_number(out: &mut String, label: &str, number: usize) -> Result<(), AllocError> {
     out.try_push_str(label)?;
@@ -29,9 +25,6 @@ pub(crate) fn put_number(out: &mut String, label: &str, number: usize) -> Result
 }
 
 /// Writes a mark and then a span so that they end where `row` ends, and returns where they start.
-// requires { mark < 128 }
-// ensures written { drop result row.new ≡ mark ∷ span_text (start, end) }
-// ensures ascii { IsAscii (drop result row.new) }
 #[inline]
 fn write_span(row: &mut [u8; SPAN_BYTES], mark: char, start: usize, end: usize) -> usize {
     let dots = write_digits(end as u64, row, SPAN_BYTES) - 2;
@@ -43,12 +36,7 @@ fn write_span(row: &mut [u8; SPAN_BYTES], mark: char, start: usize, end: usize) 
 }
 
 /// Appends a mark, which is an ASCII character, and then a span to `out`: its two offsets in
-/// decimal digits with `..` between them. Returns `Err` if an allocation fails, and `out` is then
-/// unchanged.
-// requires { mark < 128 }
-// ensures ok { OnOk result (string_bytes out.new ≡ string_bytes out.old
-//     ++ (mark ∷ span_text (pair span.now))) }
-// ensures err { OnErr result (string_bytes out.new ≡ string_bytes out.old) }
+/// decimal digits with `..` between them.
 #[inline]
 pub fn put_span(out: &mut String, mark: char, span: &Range<usize>) -> Result<(), AllocError> {
     let mut row = [0; SPAN_BYTES];

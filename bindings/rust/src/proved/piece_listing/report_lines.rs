@@ -1,8 +1,7 @@
 //! The report on missing and unused arguments, and its lines.
 
 // Extracted from crates/piece_listing/src/report_lines.rt by tools/extract: not to be edited.
-// That source is proved, and each contract here is its. That this text means the same is tested:
-// by results from outside, and beside what is proved (.ci/bindings) and the original (tools/agree).
+// That source has the contracts, and is proved. That this text means the same is only tested.
 
 use super::given::{names, GivenArguments};
 use super::listing::put_quoted;
@@ -13,11 +12,6 @@ use crate::shim::prelude::*;
 
 /// Returns the report on the arguments that are used if these are given, or a report without
 /// entries for `None`.
-// ensures report { IfOk result (λ r. (ps : List (Piece Place))
-//     → (IsSome arguments.entry → Holds (uses ps) all_uses.now)
-//     → IsReportFor (option_map seen_given arguments.entry) ps (seen_report r)) }
-// ensures none { arguments.entry ≡ None → IsOk result }
-// ensures no_entries { arguments.entry ≡ None → IfOk result (λ r. seen_report r ≡ no_entries) }
 #[inline]
 pub fn report_for<'a>(
     all_uses: &Uses<'a>,
@@ -38,7 +32,6 @@ pub fn report_for<'a>(
 }
 
 /// Returns whether a report has an entry.
-// ensures { result ≡ has_entries (seen_report report.now) }
 #[inline]
 pub fn has_entries(report: &Report<'_>) -> bool {
     report.missing_index.len() > 0
@@ -48,9 +41,6 @@ pub fn has_entries(report: &Report<'_>) -> bool {
 }
 
 /// Adds a line for each number, which begins with `label`.
-// ensures lines { OnOk result (string_bytes out.new ≡ string_bytes out.old ++
-//     flat_map (index_line label.now) numbers.now) }
-// ensures empty { numbers.now ≡ [] → IsOk result }
 #[inline(always)]
 fn put_numbers(out: &mut String, label: &str, numbers: &[usize]) -> Result<(), AllocError> {
     for n in numbers {
@@ -61,8 +51,6 @@ fn put_numbers(out: &mut String, label: &str, numbers: &[usize]) -> Result<(), A
 }
 
 /// Adds the line of a name, which begins with `label`.
-// ensures { OnOk result (string_bytes out.new ≡ string_bytes out.old ++
-//     name_line label.now (chars name.now)) }
 #[inline]
 fn put_name(out: &mut String, label: &str, name: &str) -> Result<(), AllocError> {
     out.try_push_str(label)?;
@@ -72,9 +60,6 @@ fn put_name(out: &mut String, label: &str, name: &str) -> Result<(), AllocError>
 }
 
 /// Adds a line for each name, which begins with `label`.
-// ensures lines { OnOk result (string_bytes out.new ≡ string_bytes out.old ++
-//     flat_map (name_line label.now) (texts names.now)) }
-// ensures empty { names.now ≡ [] → IsOk result }
 #[inline]
 fn put_names(out: &mut String, label: &str, names: &[&str]) -> Result<(), AllocError> {
     for name in names {
@@ -84,9 +69,6 @@ fn put_names(out: &mut String, label: &str, names: &[&str]) -> Result<(), AllocE
 }
 
 /// Adds a line for each entry of a report.
-// ensures lines { OnOk result (string_bytes out.new ≡ string_bytes out.old ++
-//     report_lines (seen_report report.now)) }
-// ensures empty { seen_report report.now ≡ no_entries → IsOk result }
 #[inline]
 pub fn put_report(out: &mut String, report: &Report<'_>) -> Result<(), AllocError> {
     put_numbers(out, "missing index ", report.missing_index.as_slice())?;

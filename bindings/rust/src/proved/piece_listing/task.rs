@@ -1,8 +1,7 @@
 //! The command-line arguments of the program, parsed.
 
 // Extracted from crates/piece_listing/src/task.rt by tools/extract: not to be edited.
-// That source is proved, and each contract here is its. That this text means the same is tested:
-// by results from outside, and beside what is proved (.ci/bindings) and the original (tools/agree).
+// That source has the contracts, and is proved. That this text means the same is only tested.
 
 use super::given::{given_by, GivenArguments};
 use crate::proved::rustc_parse_format::ParseMode;
@@ -19,7 +18,6 @@ pub struct Task<'a> {
 }
 
 /// Returns the mode that a word names, or `None` if it names none.
-// ensures { option_map seen_mode result ≡ mode_named word.now }
 #[inline]
 fn mode_named(word: &str) -> Option<ParseMode> {
     if word == "format" {
@@ -36,8 +34,6 @@ fn mode_named(word: &str) -> Option<ParseMode> {
 }
 
 /// Returns the task with the mode that `word` names, or `None` if it names none.
-// ensures { option_map seen_task result
-//     ≡ task is_literal (option_map seen_given arguments.entry) (mode_named word.now) }
 #[inline]
 fn task_in<'a>(
     word: &str,
@@ -54,8 +50,6 @@ fn task_in<'a>(
 
 /// Returns the task with the mode that `word` names and the list of arguments in `list`, or `None`
 /// if `word` names no mode or `list` is not a list of arguments.
-// ensures { option_map seen_task result
-//     ≡ task_with is_literal (given_by list.now) (mode_named word.now) }
 #[inline]
 fn task_with<'a>(word: &str, is_literal: bool, list: &'a str) -> Option<Task<'a>> {
     let given = given_by(list)?;
@@ -63,7 +57,6 @@ fn task_with<'a>(word: &str, is_literal: bool, list: &'a str) -> Option<Task<'a>
 }
 
 /// Returns the task that the command-line arguments give, or `None` if they are invalid.
-// ensures { option_map seen_task result ≡ task_of (map string_bytes words.now) }
 #[inline]
 pub fn task_of(words: &[String]) -> Option<Task<'_>> {
     match words {

@@ -1,8 +1,7 @@
 //! The errors of the program, and the error message and exit status for each result.
 
 // Extracted from crates/piece_listing/src/verdict.rt by tools/extract: not to be edited.
-// That source is proved, and each contract here is its. That this text means the same is tested:
-// by results from outside, and beside what is proved (.ci/bindings) and the original (tools/agree).
+// That source has the contracts, and is proved. That this text means the same is only tested.
 
 use crate::shim::alloc::AllocError;
 
@@ -44,7 +43,6 @@ pub struct Exit {
 /// Returns the message and the exit status of the program for a result of `run`. The status is 0 if
 /// each line of the listing is of a piece, 1 if not, 2 if the command-line arguments are invalid or
 /// the input is not a string literal, and 3 after any other error. Does not allocate.
-// ensures { (result.message.now, result.status) ≡ verdict answer.now }
 #[inline]
 pub fn verdict(answer: &Result<bool, RunFault>) -> Exit {
     let (message, status) = match answer {

@@ -1,8 +1,7 @@
 //! The report on missing and unused arguments.
 
 // Extracted from crates/placeholder_check/src/checker.rt by tools/extract: not to be edited.
-// That source is proved, and each contract here is its. That this text means the same is tested:
-// by results from outside, and beside what is proved (.ci/bindings) and the original (tools/agree).
+// That source has the contracts, and is proved. That this text means the same is only tested.
 
 use crate::proved::placeholder_check::indices::{lacked_below, members_from};
 use crate::proved::placeholder_check::names::{lacked_by, later_names, unused_names};
@@ -25,14 +24,7 @@ pub struct Report<'a> {
 }
 
 /// Compares the arguments that are used with those that are given, as [`check`] does with those
-/// that pieces use. Returns `Err` if an allocation fails; there is then no report.
-// ensures report { IfOk result (λ r. (us : List Use) → Holds us uses.now
-//     → IsReport us positional (texts names.now) (seen_report r)) }
-// No other report satisfies this.
-// ensures only { IfOk result (λ r. (us : List Use) → Holds us uses.now → (s : ReportOf)
-//     → IsReport us positional (texts names.now) s → s ≡ seen_report r) }
-// If there are no uses and no arguments, the call succeeds even if every allocation fails.
-// ensures empty { IsNew uses.now → positional ≡ 0 → names.now ≡ [] → IsOk result }
+/// that pieces use.
 #[inline]
 pub fn check_uses<'a>(
     uses: &Uses<'a>,
@@ -59,15 +51,7 @@ pub fn check_uses<'a>(
 ///
 /// The position, the width and the precision of a placeholder can each use an argument, as in the
 /// documentation of `std::fmt`; but here an index never refers to an argument that is given by
-/// name. Returns `Err` if an allocation fails; there is then no report.
-// ensures report { IfOk result
-//     (λ r. IsReport (uses (map seen pieces.now)) positional (texts names.now) (seen_report r)) }
-// No other report satisfies this.
-// ensures only { IfOk result (λ r. (s : ReportOf)
-//     → IsReport (uses (map seen pieces.now)) positional (texts names.now) s
-//     → s ≡ seen_report r) }
-// If there are no pieces and no arguments, the call succeeds even if every allocation fails.
-// ensures empty { pieces.now ≡ [] → positional ≡ 0 → names.now ≡ [] → IsOk result }
+/// name.
 #[inline]
 pub fn check<'a>(
     pieces: &[Piece<'a>],

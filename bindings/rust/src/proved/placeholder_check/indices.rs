@@ -3,8 +3,7 @@
 //! first, and less if that fails.
 
 // Extracted from crates/placeholder_check/src/indices.rt by tools/extract: not to be edited.
-// That source is proved, and each contract here is its. That this text means the same is tested:
-// by results from outside, and beside what is proved (.ci/bindings) and the original (tools/agree).
+// That source has the contracts, and is proved. That this text means the same is only tested.
 
 use crate::shim::alloc::AllocError;
 use crate::shim::prelude::*;
@@ -24,7 +23,6 @@ pub struct Indices {
 }
 
 /// Returns the empty set. Allocates nothing.
-// ensures { (result.marks.items ≡ []) × (result.others.keys ≡ []) × (result.count ≡ 0) }
 #[inline]
 pub fn no_indices() -> Indices {
     Indices {
@@ -35,7 +33,6 @@ pub fn no_indices() -> Indices {
 }
 
 /// Returns whether a set has an index.
-// ensures { result ≡ is_noted set.now index }
 #[inline]
 pub fn has_index(set: &Indices, index: usize) -> bool {
     match set.marks.get(index) {
@@ -45,8 +42,6 @@ pub fn has_index(set: &Indices, index: usize) -> bool {
 }
 
 /// Marks an index that is not far from those in the list.
-// ensures { OnOk result ((n : ℕ) → get_or marks.new.items n false
-//     ≡ (get_or marks.old.items n false || index == n)) }
 #[inline]
 fn mark(marks: &mut Vec<bool>, index: usize) -> Result<(), AllocError> {
     for _ in marks.len()..index {
@@ -61,10 +56,6 @@ fn mark(marks: &mut Vec<bool>, index: usize) -> Result<(), AllocError> {
 }
 
 /// Adds an index to a set.
-// ensures noted { OnOk result
-//     ((n : ℕ) → is_noted set.new n ≡ (is_noted set.old n || index == n)) }
-// ensures counted { OnOk result (set.new.count
-//     ≡ cond (is_noted set.old index) set.old.count (min (set.old.count + 1) usize.MAX)) }
 #[inline]
 pub fn insert_index(set: &mut Indices, index: usize) -> Result<(), AllocError> {
     let is_new = if index.saturating_sub(set.marks.len()) >= GAP {
@@ -82,10 +73,6 @@ pub fn insert_index(set: &mut Indices, index: usize) -> Result<(), AllocError> {
 }
 
 /// Appends the numbers of a set that are at least `first` to a list, in ascending order.
-// ensures kept { OnOk result
-//     (list.new.items ≡ list.old.items ++ filter (λ n. nat_le first n) set.now.keys) }
-// ensures ordered { IsOrdered nat_cmp set.now }
-// ensures empty { set.now.keys ≡ [] → IsOk result }
 #[inline]
 fn push_from(list: &mut Vec<usize>, set: &BTreeSet<usize>, first: usize) -> Result<(), AllocError> {
     for n in set.iter() {
@@ -97,9 +84,6 @@ fn push_from(list: &mut Vec<usize>, set: &BTreeSet<usize>, first: usize) -> Resu
 }
 
 /// Returns the indices of a set from `first` up to `end`, in ascending order.
-// ensures members { IfOk result
-//     (λ v. Lists (λ n. (n < end) × ((first ≤ n) × (is_noted set.now n ≡ true))) v.items) }
-// ensures empty { end ≡ 0 → IsOk result }
 #[inline]
 fn members_between(set: &Indices, first: usize, end: usize) -> Result<Vec<usize>, AllocError> {
     let mut members = Vec::new();
@@ -112,9 +96,6 @@ fn members_between(set: &Indices, first: usize, end: usize) -> Result<Vec<usize>
 }
 
 /// Returns the indices of a set that are at least `first`, in ascending order.
-// ensures members { IfOk result
-//     (λ v. Lists (λ n. (first ≤ n) × (is_noted set.now n ≡ true)) v.items) }
-// ensures empty { set.now.marks.items ≡ [] → set.now.others.keys ≡ [] → IsOk result }
 #[inline]
 pub fn members_from(set: &Indices, first: usize) -> Result<Vec<usize>, AllocError> {
     let end = set.marks.len();
@@ -126,9 +107,6 @@ pub fn members_from(set: &Indices, first: usize) -> Result<Vec<usize>, AllocErro
 /// Returns the indices below `end` that are not in a set, in ascending order. Allocates room for
 /// `room` indices first, since `end` may be the greatest `usize`, and filling the memory before the
 /// failure would take minutes.
-// ensures lacked { IfOk result
-//     (λ v. Lists (λ n. (n < end) × (is_noted set.now n ≡ false)) v.items) }
-// ensures empty { end ≡ 0 → room ≡ 0 → IsOk result }
 #[inline]
 pub fn lacked_below(set: &Indices, end: usize, room: usize) -> Result<Vec<usize>, AllocError> {
     let mut lacked = Vec::made_for(room)?;

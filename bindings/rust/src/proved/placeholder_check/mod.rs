@@ -2,8 +2,7 @@
 //! takes the pieces, and `read_and_check` reads an input first.
 
 // Extracted from crates/placeholder_check/src/lib.rt by tools/extract: not to be edited.
-// That source is proved, and each contract here is its. That this text means the same is tested:
-// by results from outside, and beside what is proved (.ci/bindings) and the original (tools/agree).
+// That source has the contracts, and is proved. That this text means the same is only tested.
 
 pub(crate) mod checker;
 pub(crate) mod indices;

@@ -2,8 +2,7 @@
 //! ordered set too, since a text may be hostile and the kit's hash has a fixed seed.
 
 // Extracted from crates/placeholder_check/src/names.rt by tools/extract: not to be edited.
-// That source is proved, and each contract here is its. That this text means the same is tested:
-// by results from outside, and beside what is proved (.ci/bindings) and the original (tools/agree).
+// That source has the contracts, and is proved. That this text means the same is only tested.
 
 use crate::shim::alloc::AllocError;
 use crate::shim::prelude::*;
@@ -21,8 +20,6 @@ pub struct Names<'a> {
 }
 
 /// Returns the empty set. Allocates nothing.
-// ensures empty { result.list.items ≡ [] }
-// ensures none { (ys : List Text) → Follows [] ys result }
 #[inline]
 pub fn no_names<'a>() -> Names<'a> {
     Names {
@@ -32,14 +29,12 @@ pub fn no_names<'a>() -> Names<'a> {
 }
 
 /// Returns whether two names are the same.
-// ensures { result ≡ bytes_eq (chars a.now) (chars b.now) }
 #[inline]
 fn is_same(a: &str, b: &str) -> bool {
     a == b
 }
 
 /// Returns whether a name is among the first [`FEW`] of a list.
-// ensures { result ≡ list_any (bytes_eq (chars name.now)) (texts (take 16 names.now)) }
 #[inline]
 fn is_early(names: &[&str], name: &str) -> bool {
     for i in 0..names.len().min(FEW) {
@@ -51,22 +46,18 @@ fn is_early(names: &[&str], name: &str) -> bool {
 }
 
 /// Returns whether a name is in a set of names.
-// ensures { result ≡ has_text later.now (chars name.now) }
 #[inline]
 fn is_later<'a>(later: &BTreeSet<&'a str>, name: &'a str) -> bool {
     later.contains(&name)
 }
 
 /// Returns whether a name is among others, of which `later` has those after the first [`FEW`].
-// ensures { result ≡ is_among names.now later.now (chars name.now) }
 #[inline]
 fn has_name<'a>(names: &[&'a str], later: &BTreeSet<&'a str>, name: &'a str) -> bool {
     is_early(names, name) || is_later(later, name)
 }
 
 /// Inserts a name into a set.
-// ensures { OnOk result ((t : Text) → has_text set.new t
-//     ≡ (bytes_eq t (chars name.now) || has_text set.old t)) }
 #[inline]
 fn insert_later<'a>(set: &mut BTreeSet<&'a str>, name: &'a str) -> Result<(), AllocError> {
     set.insert_in(name)?;
@@ -74,8 +65,6 @@ fn insert_later<'a>(set: &mut BTreeSet<&'a str>, name: &'a str) -> Result<(), Al
 }
 
 /// Adds a name to others, if it is not yet there.
-// ensures { OnOk result ((before ys : List Text) → list_any (bytes_eq (chars name.now)) ys ≡ false
-//     → Follows before ys names.old → Follows (before ++ chars name.now ∷ []) ys names.new) }
 #[inline]
 pub fn insert_name<'a>(names: &mut Names<'a>, name: &'a str) -> Result<(), AllocError> {
     if has_name(&names.list, &names.later, name) {
@@ -89,9 +78,6 @@ pub fn insert_name<'a>(names: &mut Names<'a>, name: &'a str) -> Result<(), Alloc
 }
 
 /// Returns the names of a list after the first [`FEW`].
-// ensures known { IfOk result (λ s. (t : Text)
-//     → is_among names.now s t ≡ list_any (bytes_eq t) (texts names.now)) }
-// ensures empty { names.now ≡ [] → IsOk result }
 #[inline]
 pub fn later_names<'a>(names: &[&'a str]) -> Result<BTreeSet<&'a str>, AllocError> {
     let mut later = BTreeSet::new();
@@ -103,9 +89,6 @@ pub fn later_names<'a>(names: &[&'a str]) -> Result<BTreeSet<&'a str>, AllocErro
 
 /// Returns the names of a list that are not among others, in their order; `later` has those of the
 /// others after the first [`FEW`].
-// ensures lacked { IfOk result (λ v. texts v.items
-//     ≡ filter (λ t. not (is_among others.now later.now t)) (texts names.now)) }
-// ensures empty { names.now ≡ [] → IsOk result }
 #[inline]
 pub fn lacked_by<'a>(
     names: &[&'a str],
@@ -123,10 +106,6 @@ pub fn lacked_by<'a>(
 
 /// Returns the names of a list that are not in a set, each once, in the order of their first
 /// entries.
-// ensures unused { IfOk result (λ v. (ys : List Text)
-//     → ((t : Text) → is_known uses.now t ≡ list_any (bytes_eq t) ys)
-//     → AreFirsts (texts names.now) ys (texts v.items)) }
-// ensures empty { names.now ≡ [] → IsOk result }
 #[inline]
 pub fn unused_names<'a>(names: &[&'a str], uses: &Names<'a>) -> Result<Vec<&'a str>, AllocError> {
     let mut unused = no_names();

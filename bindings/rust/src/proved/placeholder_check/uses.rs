@@ -1,8 +1,7 @@
 //! The arguments that pieces use.
 
 // Extracted from crates/placeholder_check/src/uses.rt by tools/extract: not to be edited.
-// That source is proved, and each contract here is its. That this text means the same is tested:
-// by results from outside, and beside what is proved (.ci/bindings) and the original (tools/agree).
+// That source has the contracts, and is proved. That this text means the same is only tested.
 
 use crate::proved::placeholder_check::indices::{insert_index, no_indices, Indices};
 use crate::proved::placeholder_check::names::{insert_name, no_names, Names};
@@ -19,8 +18,6 @@ pub struct Uses<'a> {
 
 impl<'a> Uses<'a> {
     /// Returns an empty collection. Does not allocate.
-    // ensures holds { Holds [] result }
-    // ensures none { IsNew result }
     #[inline]
     pub(crate) fn new() -> Uses<'a> {
         Uses {
@@ -30,9 +27,7 @@ impl<'a> Uses<'a> {
     }
 
     /// Adds the arguments that a placeholder uses: by its position, its width and its precision, in
-    /// this order. Returns `Err` if an allocation fails; the first of them may then be added.
-    // ensures { OnOk result ((us : List Use) → Holds us self.old
-    //     → Holds (us ++ argument_uses (seen_argument argument.now)) self.new) }
+    /// this order.
     #[inline]
     pub(crate) fn add(&mut self, argument: &Argument<'a>) -> Result<(), AllocError> {
         add_argument(self, argument)?;
@@ -41,7 +36,6 @@ impl<'a> Uses<'a> {
 }
 
 /// Adds a use of an index.
-// ensures { OnOk result (Adds (ByIndex index ∷ []) uses.old uses.new) }
 #[inline]
 fn add_index(uses: &mut Uses<'_>, index: usize) -> Result<(), AllocError> {
     insert_index(&mut uses.indices, index)?;
@@ -49,7 +43,6 @@ fn add_index(uses: &mut Uses<'_>, index: usize) -> Result<(), AllocError> {
 }
 
 /// Adds a use of a name.
-// ensures { OnOk result (Adds (ByName (chars name.now) ∷ []) uses.old uses.new) }
 #[inline]
 fn add_name<'a>(uses: &mut Uses<'a>, name: &'a str) -> Result<(), AllocError> {
     insert_name(&mut uses.names, name)?;
@@ -57,8 +50,6 @@ fn add_name<'a>(uses: &mut Uses<'a>, name: &'a str) -> Result<(), AllocError> {
 }
 
 /// Adds the argument that a position uses.
-// ensures { OnOk result
-//     (Adds (position_use (seen_position position.now) ∷ []) uses.old uses.new) }
 #[inline]
 fn add_position<'a>(uses: &mut Uses<'a>, position: &Position<'a>) -> Result<(), AllocError> {
     match position {
@@ -68,7 +59,6 @@ fn add_position<'a>(uses: &mut Uses<'a>, position: &Position<'a>) -> Result<(), 
 }
 
 /// Adds the argument that a width or a precision uses, if it uses one.
-// ensures { OnOk result (Adds (count_uses (seen_count count.now)) uses.old uses.new) }
 #[inline]
 fn add_count<'a>(uses: &mut Uses<'a>, count: &Count<'a>) -> Result<(), AllocError> {
     match count {
@@ -80,7 +70,6 @@ fn add_count<'a>(uses: &mut Uses<'a>, count: &Count<'a>) -> Result<(), AllocErro
 
 /// Adds the arguments that a placeholder uses: by its position, its width and its precision, in
 /// this order.
-// ensures { OnOk result (Adds (argument_uses (seen_argument argument.now)) uses.old uses.new) }
 #[inline]
 fn add_argument<'a>(uses: &mut Uses<'a>, argument: &Argument<'a>) -> Result<(), AllocError> {
     add_position(uses, &argument.position)?;
@@ -90,7 +79,6 @@ fn add_argument<'a>(uses: &mut Uses<'a>, argument: &Argument<'a>) -> Result<(), 
 }
 
 /// Adds the arguments that a piece uses.
-// ensures { OnOk result (Adds (piece_uses (seen piece.now)) uses.old uses.new) }
 #[inline]
 fn add_piece<'a>(uses: &mut Uses<'a>, piece: &Piece<'a>) -> Result<(), AllocError> {
     match piece {
@@ -100,8 +88,6 @@ fn add_piece<'a>(uses: &mut Uses<'a>, piece: &Piece<'a>) -> Result<(), AllocErro
 }
 
 /// Returns the arguments that pieces use.
-// ensures uses { IfOk result (λ u. Holds (uses (map seen pieces.now)) u) }
-// ensures empty { pieces.now ≡ [] → IfOk result (λ u. IsNew u) × IsOk result }
 #[inline]
 pub fn uses_of<'a>(pieces: &[Piece<'a>]) -> Result<Uses<'a>, AllocError> {
     let mut uses = Uses::new();

@@ -1,8 +1,7 @@
 //! A token without its suffix, and the rest after it.
 
 // Extracted from crates/rust_tokens/src/bodies.rt by tools/extract: not to be edited.
-// That source is proved, and each contract here is its. That this text means the same is tested:
-// by results from outside, and beside what is proved (.ci/bindings) and the original (tools/agree).
+// That source has the contracts, and is proved. That this text means the same is only tested.
 
 use crate::proved::rust_tokens::kinds::Kind;
 
@@ -18,7 +17,6 @@ pub struct Body<'a> {
 }
 
 /// Returns the token of this kind after which `rest` is left.
-// ensures { seen result ≡ (kind, true, chars rest.now) }
 #[inline]
 pub fn ended_token(kind: Kind, rest: &str) -> Body<'_> {
     Body {
@@ -29,7 +27,6 @@ pub fn ended_token(kind: Kind, rest: &str) -> Body<'_> {
 }
 
 /// Returns the token of this kind without its end after which `rest` is left.
-// ensures { seen result ≡ (kind, false, chars rest.now) }
 #[inline]
 pub fn unended_token(kind: Kind, rest: &str) -> Body<'_> {
     Body {

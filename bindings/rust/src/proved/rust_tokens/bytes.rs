@@ -1,8 +1,7 @@
 //! Bytes that are ASCII characters of a class, by a table.
 
 // Extracted from crates/rust_tokens/src/bytes.rt by tools/extract: not to be edited.
-// That source is proved, and each contract here is its. That this text means the same is tested:
-// by results from outside, and beside what is proved (.ci/bindings) and the original (tools/agree).
+// That source has the contracts, and is proved. That this text means the same is only tested.
 
 /// White space.
 const SPACE: u8 = b'1';
@@ -31,42 +30,36 @@ static SORTS: [u8; 256] = *b"\
     00000000000000000000000000000000";
 
 /// Returns whether the byte is white space.
-// ensures { result ≡ is_ascii_in is_space byte }
 #[inline(always)]
 pub fn is_space_byte(byte: u8) -> bool {
     SORTS[byte as usize] == SPACE
 }
 
 /// Returns whether the byte is a letter, a digit or `_`, which continue a word.
-// ensures { result ≡ is_ascii_in is_id_continue byte }
 #[inline(always)]
 pub fn is_word_byte(byte: u8) -> bool {
     SORTS[byte as usize] >= DIGIT
 }
 
 /// Returns whether the byte is a letter or `_`, which begin a word.
-// ensures { result ≡ is_ascii_in is_id_start byte }
 #[inline(always)]
 pub fn is_start_byte(byte: u8) -> bool {
     SORTS[byte as usize] >= PREFIX
 }
 
 /// Returns whether the byte is punctuation that is a token by itself, whatever follows.
-// ensures { result ≡ is_sign byte }
 #[inline(always)]
 pub fn is_sign(byte: u8) -> bool {
     SORTS[byte as usize] == SIGN
 }
 
 /// Returns whether the byte begins a word and no literal: a letter but `b`, `c` and `r`, or `_`.
-// ensures { result ≡ is_plain_start byte }
 #[inline(always)]
 pub fn is_plain_start(byte: u8) -> bool {
     SORTS[byte as usize] == START
 }
 
 /// Returns whether the byte is a letter with which a prefix can begin: `b`, `c` or `r`.
-// ensures { result ≡ is_prefix_letter byte }
 #[inline(always)]
 pub fn is_prefix_letter(byte: u8) -> bool {
     SORTS[byte as usize] == PREFIX

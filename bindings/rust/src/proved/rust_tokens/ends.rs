@@ -2,12 +2,9 @@
 //! and no byte of any other character is.
 
 // Extracted from crates/rust_tokens/src/ends.rt by tools/extract: not to be edited.
-// That source is proved, and each contract here is its. That this text means the same is tested:
-// by results from outside, and beside what is proved (.ci/bindings) and the original (tools/agree).
+// That source has the contracts, and is proved. That this text means the same is only tested.
 
 /// Returns the rest of a text, where these bytes are left of its bytes.
-// requires { IsRest text.now bytes.now }
-// ensures { result.now ≡ bytes.now }
 #[inline(always)]
 fn rest_of<'a>(text: &'a str, bytes: &[u8]) -> &'a str {
     &text[text.len() - bytes.len()..]
@@ -15,7 +12,6 @@ fn rest_of<'a>(text: &'a str, bytes: &[u8]) -> &'a str {
 
 /// Returns the rest after the closing quote of a string with escapes, from after its opening quote
 /// on, or `None` if it has no end.
-// ensures { option_map (λ r. chars r.now) result ≡ after_string false (chars text.now) }
 #[inline]
 pub fn after_string(text: &str) -> Option<&str> {
     let mut rest = text.as_bytes();
@@ -35,7 +31,6 @@ pub fn after_string(text: &str) -> Option<&str> {
 
 /// Returns the rest after the end of a block comment, from after its `/*` on, or `None` if it has
 /// no end.
-// ensures { option_map (λ r. chars r.now) result ≡ after_comment 0 0 (chars text.now) }
 #[inline]
 pub fn after_comment(text: &str) -> Option<&str> {
     let mut rest = text.as_bytes();
@@ -60,7 +55,6 @@ pub fn after_comment(text: &str) -> Option<&str> {
 }
 
 /// Returns the bytes after this many hashes, or `None` if there are not so many.
-// ensures { option_map (λ r. r.now) result ≡ after_hashes hashes bytes.now }
 #[inline]
 fn after_hashes(bytes: &[u8], hashes: usize) -> Option<&[u8]> {
     let mut rest = bytes;
@@ -80,7 +74,6 @@ fn after_hashes(bytes: &[u8], hashes: usize) -> Option<&[u8]> {
 
 /// Returns the rest after the end of a raw string with this many hashes, from after its opening
 /// quote on, or `None` if it has no end.
-// ensures { option_map (λ r. chars r.now) result ≡ after_raw hashes (chars text.now) }
 #[inline]
 pub fn after_raw(text: &str, hashes: usize) -> Option<&str> {
     let mut rest = text.as_bytes();
@@ -96,7 +89,6 @@ pub fn after_raw(text: &str, hashes: usize) -> Option<&str> {
 }
 
 /// Returns the text from its first LF on.
-// ensures { chars result.now ≡ rest_after is_in_line (chars text.now) }
 #[inline]
 pub fn after_line(text: &str) -> &str {
     let mut rest = text.as_bytes();

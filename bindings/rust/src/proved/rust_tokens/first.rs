@@ -1,8 +1,7 @@
 //! The first token of a text.
 
 // Extracted from crates/rust_tokens/src/first.rt by tools/extract: not to be edited.
-// That source is proved, and each contract here is its. That this text means the same is tested:
-// by results from outside, and beside what is proved (.ci/bindings) and the original (tools/agree).
+// That source has the contracts, and is proved. That this text means the same is only tested.
 
 use crate::proved::rust_tokens::bodies::{ended_token, unended_token, Body};
 use crate::proved::rust_tokens::bytes::{
@@ -20,7 +19,6 @@ use crate::proved::rust_tokens::texts::{
 };
 
 /// Returns the token with this end, or the one that is not ended, which takes all.
-// ensures { seen result ≡ closed kind (option_map (λ r. chars r.now) end.entry) }
 #[inline]
 fn closed_token<'a>(kind: Kind, end: Option<&'a str>) -> Body<'a> {
     match end {
@@ -30,7 +28,6 @@ fn closed_token<'a>(kind: Kind, end: Option<&'a str>) -> Body<'a> {
 }
 
 /// Returns the token that begins with a `/` before the text.
-// ensures { seen result ≡ first_slashed (chars text.now) }
 #[inline]
 fn first_slashed(text: &str) -> Body<'_> {
     let Some((c, rest)) = split_first(text) else {
@@ -47,7 +44,6 @@ fn first_slashed(text: &str) -> Body<'_> {
 }
 
 /// Returns the token that begins with an apostrophe before the text.
-// ensures { seen result ≡ first_quoted (chars text.now) }
 #[inline]
 fn first_quoted(text: &str) -> Body<'_> {
     if let Some(rest) = after_char(text) {
@@ -63,7 +59,6 @@ fn first_quoted(text: &str) -> Body<'_> {
 }
 
 /// Returns the token that begins with `c` before the text and has no opening.
-// ensures { seen result ≡ first_plain c (chars text.now) }
 #[inline]
 fn first_plain(c: char, text: &str) -> Body<'_> {
     if is_id_start(c) {
@@ -88,7 +83,6 @@ fn first_plain(c: char, text: &str) -> Body<'_> {
 }
 
 /// Returns the token that goes on with the text after this opening.
-// ensures { (c : ℕ) (t : Text) → seen result ≡ by_opening c t (Some (opening, chars text.now)) }
 #[inline]
 fn opened_token(opening: Opening, text: &str) -> Body<'_> {
     match opening {
@@ -106,7 +100,6 @@ fn opened_token(opening: Opening, text: &str) -> Body<'_> {
 }
 
 /// Returns the first token of a text, without its suffix, or `None` if the text is empty.
-// ensures { option_map (λ b. seen b) result ≡ first_of (chars text.now) }
 #[inline]
 pub fn first_body(text: &str) -> Option<Body<'_>> {
     let Some((c, rest)) = split_first(text) else {
@@ -123,7 +116,6 @@ pub fn first_body(text: &str) -> Option<Body<'_>> {
 }
 
 /// Returns whether a token of this kind is a literal, which may have a suffix.
-// ensures { result ≡ is_literal kind }
 #[inline]
 fn is_literal(kind: Kind) -> bool {
     matches!(
@@ -145,9 +137,6 @@ fn is_literal(kind: Kind) -> bool {
 }
 
 /// Returns the rest after a token with its suffix.
-// ensures { chars result.now
-//     ≡ after_suffix (is_literal body.entry.kind && body.entry.is_ended)
-//     (chars body.entry.rest.now) }
 #[inline]
 pub fn after_suffix(body: Body<'_>) -> &str {
     if !(body.is_ended && is_literal(body.kind)) {
@@ -164,7 +153,6 @@ pub fn after_suffix(body: Body<'_>) -> &str {
 }
 
 /// Returns the second byte, or 0 if there is none.
-// ensures { result ≡ slice_index bytes.now 1 }
 #[inline(always)]
 fn second_byte(bytes: &[u8]) -> u8 {
     if bytes.len() > 1 {
@@ -175,8 +163,6 @@ fn second_byte(bytes: &[u8]) -> u8 {
 }
 
 /// Returns whether the first two bytes show that a word begins, and no literal.
-// requires { 0 < length bytes.now }
-// ensures { result ≡ begins_word (slice_index bytes.now 0) (slice_index bytes.now 1) }
 #[inline(always)]
 fn begins_word(bytes: &[u8]) -> bool {
     if is_plain_start(bytes[0]) {
@@ -190,9 +176,6 @@ fn begins_word(bytes: &[u8]) -> bool {
 /// kinds, which are no literals: punctuation, and white space and words of ASCII. Returns `None`
 /// for other tokens, for some words that begin as a prefix does, for a word or white space with a
 /// character outside ASCII right after it, and for the empty text.
-// ensures first { IfSome result
-//     (λ x. Some (x.0, true, chars x.1.now) ≡ first_of (chars text.now)) }
-// ensures bare { IfSome result (λ x. is_literal x.0 ≡ false) }
 #[inline(always)]
 pub fn plain_token(text: &str) -> Option<(Kind, &str)> {
     let bytes = text.as_bytes();

@@ -1,8 +1,7 @@
 //! The ends of characters and lifetimes, and the kinds of comments.
 
 // Extracted from crates/rust_tokens/src/literals.rt by tools/extract: not to be edited.
-// That source is proved, and each contract here is its. That this text means the same is tested:
-// by results from outside, and beside what is proved (.ci/bindings) and the original (tools/agree).
+// That source has the contracts, and is proved. That this text means the same is only tested.
 
 use crate::proved::rust_tokens::kinds::Kind;
 use crate::proved::rust_tokens::texts::{
@@ -10,7 +9,6 @@ use crate::proved::rust_tokens::texts::{
 };
 
 /// Returns the kind of a line comment, by the text after its `//`.
-// ensures { result ≡ line_kind (chars text.now) }
 #[inline]
 pub fn line_kind(text: &str) -> Kind {
     let Some((c, rest)) = split_first(text) else {
@@ -26,7 +24,6 @@ pub fn line_kind(text: &str) -> Kind {
 }
 
 /// Returns the kind of a block comment, by the text after its `/*`.
-// ensures { result ≡ block_kind (chars text.now) }
 #[inline]
 pub fn block_kind(text: &str) -> Kind {
     let Some((c, rest)) = split_first(text) else {
@@ -42,7 +39,6 @@ pub fn block_kind(text: &str) -> Kind {
 }
 
 /// Returns the rest after an escape and an apostrophe, from after the backslash on, or `None`.
-// ensures { option_map (λ r. chars r.now) result ≡ after_escape (chars text.now) }
 #[inline]
 fn after_escape(text: &str) -> Option<&str> {
     let Some((_, rest)) = split_first(text) else {
@@ -53,7 +49,6 @@ fn after_escape(text: &str) -> Option<&str> {
 
 /// Returns the rest after a character literal, from after its first apostrophe on, or `None` if
 /// there is none.
-// ensures { option_map (λ r. chars r.now) result ≡ after_char (chars text.now) }
 #[inline]
 pub fn after_char(text: &str) -> Option<&str> {
     let Some((c, rest)) = split_first(text) else {
@@ -69,7 +64,6 @@ pub fn after_char(text: &str) -> Option<&str> {
 }
 
 /// Returns the text, or `None` if it begins with an apostrophe.
-// ensures { option_map (λ r. chars r.now) result ≡ unless_apostrophe (chars text.now) }
 #[inline]
 fn unless_apostrophe(text: &str) -> Option<&str> {
     if begins(text, Class::Apostrophe) {
@@ -80,7 +74,6 @@ fn unless_apostrophe(text: &str) -> Option<&str> {
 }
 
 /// Returns the rest after a word that no apostrophe follows, or `None`.
-// ensures { option_map (λ r. chars r.now) result ≡ after_name (chars text.now) }
 #[inline]
 pub fn after_name(text: &str) -> Option<&str> {
     let Some((c, rest)) = split_first(text) else {
@@ -93,7 +86,6 @@ pub fn after_name(text: &str) -> Option<&str> {
 }
 
 /// Returns the rest after `r#` and a word that no apostrophe follows, or `None`.
-// ensures { option_map (λ r. chars r.now) result ≡ after_raw_name (chars text.now) }
 #[inline]
 pub fn after_raw_name(text: &str) -> Option<&str> {
     let Some((c, rest)) = split_first(text) else {

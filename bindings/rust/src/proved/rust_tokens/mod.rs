@@ -7,8 +7,7 @@
 //! wrong escape, a wrong digit and the suffix `_` are faults of content, which change no token.
 
 // Extracted from crates/rust_tokens/src/lib.rt by tools/extract: not to be edited.
-// That source is proved, and each contract here is its. That this text means the same is tested:
-// by results from outside, and beside what is proved (.ci/bindings) and the original (tools/agree).
+// That source has the contracts, and is proved. That this text means the same is only tested.
 
 pub(crate) mod bodies;
 pub(crate) mod bytes;

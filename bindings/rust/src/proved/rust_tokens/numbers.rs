@@ -1,15 +1,13 @@
 //! Numbers, from after their first digit on.
 
 // Extracted from crates/rust_tokens/src/numbers.rt by tools/extract: not to be edited.
-// That source is proved, and each contract here is its. That this text means the same is tested:
-// by results from outside, and beside what is proved (.ci/bindings) and the original (tools/agree).
+// That source has the contracts, and is proved. That this text means the same is only tested.
 
 use crate::proved::rust_tokens::bodies::{ended_token, Body};
 use crate::proved::rust_tokens::kinds::Kind;
 use crate::proved::rust_tokens::texts::{after_run, begins, split_first, Class};
 
 /// Returns the rest after a sign, or the text if it begins with none.
-// ensures { chars result.now ≡ after_sign (chars text.now) }
 #[inline]
 fn after_sign(text: &str) -> &str {
     match split_first(text) {
@@ -25,7 +23,6 @@ fn after_sign(text: &str) -> &str {
 }
 
 /// Returns the rest after digits, or `None` if the text begins with none.
-// ensures { option_map (λ r. chars r.now) result ≡ after_digits (chars text.now) }
 #[inline]
 fn after_digits(text: &str) -> Option<&str> {
     if begins(text, Class::Digit) {
@@ -36,7 +33,6 @@ fn after_digits(text: &str) -> Option<&str> {
 }
 
 /// Returns the rest after an exponent, or `None` if the text begins with none.
-// ensures { option_map (λ r. chars r.now) result ≡ after_exponent (chars text.now) }
 #[inline]
 fn after_exponent(text: &str) -> Option<&str> {
     let Some((c, rest)) = split_first(text) else {
@@ -49,7 +45,6 @@ fn after_exponent(text: &str) -> Option<&str> {
 }
 
 /// Returns the rest after a point that belongs to the number before it, or `None`.
-// ensures { option_map (λ r. chars r.now) result ≡ after_point (chars text.now) }
 #[inline]
 fn after_point(text: &str) -> Option<&str> {
     let Some((c, rest)) = split_first(text) else {
@@ -64,8 +59,6 @@ fn after_point(text: &str) -> Option<&str> {
 
 /// Returns a float with an exponent after which `exponent` is left, or else a number of this kind
 /// after which `rest` is left.
-// ensures { seen result ≡ exponent_or kind (chars rest.now)
-//     (option_map (λ r. chars r.now) exponent.entry) }
 #[inline]
 fn exponent_or<'a>(kind: Kind, rest: &'a str, exponent: Option<&'a str>) -> Body<'a> {
     match exponent {
@@ -75,7 +68,6 @@ fn exponent_or<'a>(kind: Kind, rest: &'a str, exponent: Option<&'a str>) -> Body
 }
 
 /// Returns a number, from after its point on.
-// ensures { seen result ≡ after_fraction (chars text.now) }
 #[inline]
 fn after_fraction(text: &str) -> Body<'_> {
     if begins(text, Class::Digit) {
@@ -86,7 +78,6 @@ fn after_fraction(text: &str) -> Body<'_> {
 }
 
 /// Returns a decimal number, from after its first digit on.
-// ensures { seen result ≡ first_decimal (chars text.now) }
 #[inline]
 fn first_decimal(text: &str) -> Body<'_> {
     let rest = after_run(text, Class::DigitPart);
@@ -97,7 +88,6 @@ fn first_decimal(text: &str) -> Body<'_> {
 }
 
 /// Returns a number that begins with `0`, from after that on.
-// ensures { seen result ≡ first_zero (chars text.now) }
 #[inline]
 fn first_zero(text: &str) -> Body<'_> {
     let Some((c, rest)) = split_first(text) else {
@@ -121,7 +111,6 @@ fn first_zero(text: &str) -> Body<'_> {
 }
 
 /// Returns the number that begins with the digit `c` before the text.
-// ensures { seen result ≡ first_number c (chars text.now) }
 #[inline]
 pub fn first_number(c: char, text: &str) -> Body<'_> {
     if c == '0' {

@@ -2,8 +2,7 @@
 //! identifiers.
 
 // Extracted from crates/rust_tokens/src/openings.rt by tools/extract: not to be edited.
-// That source is proved, and each contract here is its. That this text means the same is tested:
-// by results from outside, and beside what is proved (.ci/bindings) and the original (tools/agree).
+// That source has the contracts, and is proved. That this text means the same is only tested.
 
 use crate::proved::rust_tokens::kinds::Kind;
 use crate::proved::rust_tokens::texts::{
@@ -25,7 +24,6 @@ pub enum Opening {
 
 /// Returns the opening of a raw string of this kind, and the rest after its quote, or `None` if the
 /// text does not begin with hashes and a quote.
-// ensures { option_map (λ x. (x.0, chars x.1.now)) result ≡ raw_opening kind (chars text.now) }
 #[inline]
 fn raw_opening(kind: Kind, text: &str) -> Option<(Opening, &str)> {
     match strip(after_run(text, Class::Hash), '"') {
@@ -36,7 +34,6 @@ fn raw_opening(kind: Kind, text: &str) -> Option<(Opening, &str)> {
 
 /// Returns the rest after a hash and the first character of a word, or `None` if the text does not
 /// begin with these.
-// ensures { option_map (λ x. (x.0, chars x.1.now)) result ≡ word_opening (chars text.now) }
 #[inline]
 fn word_opening(text: &str) -> Option<(Opening, &str)> {
     let Some((c, rest)) = split_first(text) else {
@@ -53,7 +50,6 @@ fn word_opening(text: &str) -> Option<(Opening, &str)> {
 }
 
 /// Returns the opening after a `b`, and the rest after it, or `None` if there is none.
-// ensures { option_map (λ x. (x.0, chars x.1.now)) result ≡ byte_opening (chars text.now) }
 #[inline]
 fn byte_opening(text: &str) -> Option<(Opening, &str)> {
     let Some((c, rest)) = split_first(text) else {
@@ -68,7 +64,6 @@ fn byte_opening(text: &str) -> Option<(Opening, &str)> {
 }
 
 /// Returns the opening after a `c`, and the rest after it, or `None` if there is none.
-// ensures { option_map (λ x. (x.0, chars x.1.now)) result ≡ c_opening (chars text.now) }
 #[inline]
 fn c_opening(text: &str) -> Option<(Opening, &str)> {
     let Some((c, rest)) = split_first(text) else {
@@ -82,7 +77,6 @@ fn c_opening(text: &str) -> Option<(Opening, &str)> {
 }
 
 /// Returns the opening of a token, and the rest after it, or `None` if the text begins with none.
-// ensures { option_map (λ x. (x.0, chars x.1.now)) result ≡ first_opening (chars text.now) }
 #[inline]
 pub fn first_opening(text: &str) -> Option<(Opening, &str)> {
     let Some((c, rest)) = split_first(text) else {

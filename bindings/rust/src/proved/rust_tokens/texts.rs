@@ -1,8 +1,7 @@
 //! The first character of a text, and runs of characters of one class.
 
 // Extracted from crates/rust_tokens/src/texts.rt by tools/extract: not to be edited.
-// That source is proved, and each contract here is its. That this text means the same is tested:
-// by results from outside, and beside what is proved (.ci/bindings) and the original (tools/agree).
+// That source has the contracts, and is proved. That this text means the same is only tested.
 
 use crate::proved::rust_tokens::bytes::{is_space_byte, is_start_byte, is_word_byte};
 
@@ -38,7 +37,6 @@ pub enum Class {
 
 impl Class {
     /// Returns whether the character is in the class.
-    // ensures { result ≡ passes self c }
     #[inline]
     pub fn passes(self, c: char) -> bool {
         match self {
@@ -58,7 +56,6 @@ impl Class {
     }
 
     /// Returns whether the byte is an ASCII character in the class.
-    // ensures { result ≡ is_ascii_in (passes self) byte }
     #[inline(always)]
     fn passes_byte(self, byte: u8) -> bool {
         match self {
@@ -70,7 +67,6 @@ impl Class {
 }
 
 /// Returns whether the character is white space.
-// ensures { result ≡ is_space c }
 #[inline]
 pub fn is_space(c: char) -> bool {
     c == '\t'
@@ -87,7 +83,6 @@ pub fn is_space(c: char) -> bool {
 }
 
 /// Returns whether the character begins a word.
-// ensures { result ≡ is_id_start c }
 #[inline]
 pub fn is_id_start(c: char) -> bool {
     if c < '\u{80}' {
@@ -97,7 +92,6 @@ pub fn is_id_start(c: char) -> bool {
 }
 
 /// Returns whether the character is punctuation or a delimiter.
-// ensures { result ≡ is_punct c }
 #[inline]
 pub fn is_punct(c: char) -> bool {
     c == '!'
@@ -110,15 +104,12 @@ pub fn is_punct(c: char) -> bool {
 }
 
 /// Returns whether the character stands for itself between two apostrophes.
-// ensures { result ≡ is_char_content c }
 #[inline]
 pub fn is_char_content(c: char) -> bool {
     !(c == '\'' || c == '\\' || c == '\n' || c == '\r' || c == '\t')
 }
 
 /// Returns the first character and the rest, or `None` if the text is empty.
-// ensures value { option_map (λ x. (x.0, chars x.1.now)) result ≡ split_first (chars text.now) }
-// ensures shorter { IfSome result (λ x. length x.1.now < length text.now) }
 #[inline]
 pub fn split_first(text: &str) -> Option<(char, &str)> {
     let mut rest = text.chars();
@@ -129,7 +120,6 @@ pub fn split_first(text: &str) -> Option<(char, &str)> {
 }
 
 /// Returns the rest after the character, or `None` if the text does not begin with it.
-// ensures { option_map (λ r. chars r.now) result ≡ strip first (chars text.now) }
 #[inline]
 pub fn strip(text: &str, first: char) -> Option<&str> {
     let Some((c, rest)) = split_first(text) else {
@@ -143,7 +133,6 @@ pub fn strip(text: &str, first: char) -> Option<&str> {
 }
 
 /// Returns whether the text begins with a character of the class.
-// ensures { result ≡ first_passes (passes class) (chars text.now) }
 #[inline]
 pub fn begins(text: &str, class: Class) -> bool {
     match split_first(text) {
@@ -154,7 +143,6 @@ pub fn begins(text: &str, class: Class) -> bool {
 
 /// Returns the rest after the longest front of the text whose characters are in the class, which
 /// need not be ASCII.
-// ensures { chars result.now ≡ rest_after (passes class) (chars text.now) }
 #[inline(always)]
 fn after_wide_run(text: &str, class: Class) -> &str {
     let mut rest = text;
@@ -168,11 +156,6 @@ fn after_wide_run(text: &str, class: Class) -> &str {
 }
 
 /// Returns the number of ASCII characters in the class with which the text begins.
-// ensures at { IsCharBoundary text.now result }
-// ensures same { rest_after (passes class) (chars (drop result text.now))
-//     ≡ rest_after (passes class) (chars text.now) }
-// ensures next { result < length text.now
-//     → is_ascii_in (passes class) (slice_index text.now result) ≡ false }
 #[inline(always)]
 fn ascii_width(text: &str, class: Class) -> usize {
     let bytes = text.as_bytes();
@@ -185,7 +168,6 @@ fn ascii_width(text: &str, class: Class) -> usize {
 }
 
 /// Returns whether there is a byte at the index `at` that is not ASCII.
-// ensures { IsFalse result → at < length bytes.now → slice_index bytes.now at < 128 }
 #[inline(always)]
 fn is_wide(bytes: &[u8], at: usize) -> bool {
     at < bytes.len() && bytes[at] >= 128
@@ -193,7 +175,6 @@ fn is_wide(bytes: &[u8], at: usize) -> bool {
 
 /// Returns the rest after the longest front of the text whose characters are in the class, or
 /// `None` if a character that is not ASCII comes in it or after it.
-// ensures { IfSome result (λ r. chars r.now ≡ rest_after (passes class) (chars text.now)) }
 #[inline(always)]
 pub fn after_ascii_run(text: &str, class: Class) -> Option<&str> {
     let width = ascii_width(text, class);
@@ -204,7 +185,6 @@ pub fn after_ascii_run(text: &str, class: Class) -> Option<&str> {
 }
 
 /// Returns the rest after the longest front of the text whose characters are in the class.
-// ensures { chars result.now ≡ rest_after (passes class) (chars text.now) }
 #[inline(always)]
 pub fn after_run(text: &str, class: Class) -> &str {
     match after_ascii_run(text, class) {
@@ -214,7 +194,6 @@ pub fn after_run(text: &str, class: Class) -> &str {
 }
 
 /// Returns the number of hashes at the start of the text.
-// ensures { result ≡ count is_hash (chars text.now) }
 #[inline]
 pub fn count_hashes(text: &str) -> usize {
     let mut rest = text;

@@ -1,8 +1,7 @@
 //! Whether tokens are a forest, decided as they are read one after the other.
 
 // Extracted from crates/rust_trees/src/balance.rt by tools/extract: not to be edited.
-// That source is proved, and each contract here is its. That this text means the same is tested:
-// by results from outside, and beside what is proved (.ci/bindings) and the original (tools/agree).
+// That source has the contracts, and is proved. That this text means the same is only tested.
 
 use crate::proved::rust_trees::leaves::Token;
 use crate::proved::rust_trees::matching::Opening;
@@ -40,7 +39,6 @@ pub struct Balance {
 
 impl Balance {
     /// Returns that of no tokens. Does not allocate.
-    // ensures { IsBalanced [] result }
     #[inline]
     pub(crate) fn new() -> Balance {
         Balance {
@@ -50,9 +48,6 @@ impl Balance {
     }
 
     /// Adds a closing delimiter to tokens that do not break.
-    // ensures { (w : List Leaf) (x : Leaf) → GoesOn w self.old.openings.items
-    //     → self.old.first_break ≡ None → x.is_ended ≡ true → side x ≡ Closes delimiter
-    //     → start ≡ x.start → IsBalanced (w ++ x ∷ []) self.new }
     #[inline]
     fn close(&mut self, delimiter: Delimiter, start: usize) {
         if let Some(top) = self.openings.pop() {
@@ -67,8 +62,6 @@ impl Balance {
     }
 
     /// Adds a token.
-    // ensures { OnOk result ((w : List Leaf) → IsBalanced w self.old
-    //     → IsBalanced (w ++ leaf token.now ∷ []) self.new) }
     #[inline]
     pub(crate) fn add(&mut self, token: &Token<'_>) -> Result<(), AllocError> {
         if self.first_break.is_some() {
@@ -93,8 +86,6 @@ impl Balance {
     }
 
     /// Adds tokens, one after the other.
-    // ensures { OnOk result ((w : List Leaf) → IsBalanced w self.old
-    //     → IsBalanced (w ++ map leaf tokens.now) self.new) }
     #[inline]
     pub(crate) fn add_all(&mut self, tokens: &[Token<'_>]) -> Result<(), AllocError> {
         for token in tokens {
@@ -104,7 +95,6 @@ impl Balance {
     }
 
     /// Returns where all the tokens break, or `None` if they are a forest.
-    // ensures { (w : List Leaf) → IsBalanced w self → BreaksAt w result }
     #[inline]
     pub fn first_break(mut self) -> Option<FileBreak> {
         if self.first_break.is_some() {

@@ -1,8 +1,7 @@
 //! The tokens of a file without white space and comments.
 
 // Extracted from crates/rust_trees/src/leaves.rt by tools/extract: not to be edited.
-// That source is proved, and each contract here is its. That this text means the same is tested:
-// by results from outside, and beside what is proved (.ci/bindings) and the original (tools/agree).
+// That source has the contracts, and is proved. That this text means the same is only tested.
 
 use crate::proved::rust_tokens::{skip_head, split_first_token, Kind};
 use crate::proved::rust_trees::sides::{side_of, Side};
@@ -26,7 +25,6 @@ pub struct Token<'a> {
 
 impl Token<'_> {
     /// Returns the side of the token among pairs of delimiters.
-    // ensures { result ≡ side (leaf self.now) }
     #[inline]
     pub fn side(&self) -> Side {
         side_of(self.kind, self.text)
@@ -34,7 +32,6 @@ impl Token<'_> {
 }
 
 /// Returns whether a token is kept: it is no white space, and a comment only if it lacks its end.
-// ensures { result ≡ is_leaf kind is_ended }
 #[inline]
 fn is_leaf(kind: Kind, is_ended: bool) -> bool {
     match kind {
@@ -51,12 +48,6 @@ fn is_leaf(kind: Kind, is_ended: bool) -> bool {
 
 /// Returns the first token of the rest of a text, and the rest after it, or `None` if no token is
 /// left.
-// requires { length rest.now ≤ length text.now }
-// ensures some { IfSome result (λ t. (ls : List Leaf)
-//     → AreLeft (record { whole = text.now; rest = t.1.now }) ls
-//     → AreLeft (record { whole = text.now; rest = rest.now }) (leaf t.0 ∷ ls)) }
-// ensures fewer { IfSome result (λ t. length t.1.now < length rest.now) }
-// ensures none { IsNone result → AreLeft (record { whole = text.now; rest = rest.now }) [] }
 #[inline(always)]
 fn split_first_leaf<'a>(text: &'a str, rest: &'a str) -> Option<(Token<'a>, &'a str)> {
     let mut left = rest;
@@ -85,9 +76,6 @@ pub struct Tokens<'a> {
 
 impl<'a> Tokens<'a> {
     /// Returns the tokens of a file.
-    // ensures file { result.whole ≡ text.now }
-    // ensures left { (ls : List Leaf) → AreLeft result ls
-    //     → (xs : List Lexeme) × ReadsFile (chars text.now) xs × (ls ≡ leaves 0 xs) }
     #[inline]
     pub fn new(text: &'a str) -> Self {
         Tokens {
@@ -97,11 +85,6 @@ impl<'a> Tokens<'a> {
     }
 
     /// Returns the next token, or `None` if none is left.
-    // ensures file { self.new.whole ≡ self.old.whole }
-    // ensures some { IfSome result (λ t. (ls : List Leaf) → AreLeft self.new ls
-    //     → AreLeft self.old (leaf t ∷ ls)) }
-    // ensures fewer { IfSome result (λ t. length self.new.rest < length self.old.rest) }
-    // ensures none { IsNone result → AreLeft self.old [] × (self.new ≡ self.old) }
     #[inline(always)]
     pub fn next(&mut self) -> Option<Token<'a>> {
         let Some((token, rest)) = split_first_leaf(self.text, self.rest) else {
@@ -112,10 +95,6 @@ impl<'a> Tokens<'a> {
     }
 
     /// Returns the next token without reading it, or `None` if none is left.
-    // ensures some { IfSome result (λ t. (rest : List ℕ) × ((ls : List Leaf)
-    //     → AreLeft (record { whole = self.now.whole; rest = rest }) ls
-    //     → AreLeft self.now (leaf t ∷ ls))) }
-    // ensures none { IsNone result → AreLeft self.now [] }
     #[inline]
     pub fn peek(&self) -> Option<Token<'a>> {
         match split_first_leaf(self.text, self.rest) {
@@ -126,8 +105,6 @@ impl<'a> Tokens<'a> {
 }
 
 /// Returns the tokens of a file without white space and comments.
-// ensures { IfOk result (λ v. (xs : List Lexeme) × ReadsFile (chars text.now) xs
-//     × (map leaf v.items ≡ leaves 0 xs)) }
 #[inline]
 pub fn leaves(text: &str) -> Result<Vec<Token<'_>>, AllocError> {
     let mut rest = Tokens::new(text);

@@ -1,8 +1,7 @@
 //! The partner of each delimiter, and the place where the tokens break if they are no forest.
 
 // Extracted from crates/rust_trees/src/matching.rt by tools/extract: not to be edited.
-// That source is proved, and each contract here is its. That this text means the same is tested:
-// by results from outside, and beside what is proved (.ci/bindings) and the original (tools/agree).
+// That source has the contracts, and is proved. That this text means the same is only tested.
 
 use crate::proved::rust_trees::leaves::Token;
 use crate::proved::rust_trees::sides::{is_same, Delimiter, Side};
@@ -38,9 +37,6 @@ pub struct Matching {
 }
 
 /// Adds a closing delimiter.
-// requires { (w : List Leaf) × IsMatched w matching.old }
-// ensures { IfOk result (λ _. (w : List Leaf) (x : Leaf) → IsMatched w matching.old
-//     → side x ≡ Side.Closes delimiter → IsMatched (w ++ x ∷ []) matching.new) }
 #[inline]
 fn close(matching: &mut Matching, delimiter: Delimiter) -> Result<(), AllocError> {
     let index = matching.partners.len();
@@ -58,9 +54,6 @@ fn close(matching: &mut Matching, delimiter: Delimiter) -> Result<(), AllocError
 }
 
 /// Adds a token.
-// requires { (w : List Leaf) × IsMatched w matching.old }
-// ensures { IfOk result (λ _. (w : List Leaf) → IsMatched w matching.old
-//     → IsMatched (w ++ leaf token.now ∷ []) matching.new) }
 #[inline]
 pub fn add(matching: &mut Matching, token: &Token<'_>) -> Result<(), AllocError> {
     match token.side() {
@@ -76,14 +69,12 @@ pub fn add(matching: &mut Matching, token: &Token<'_>) -> Result<(), AllocError>
 }
 
 /// Returns whether no delimiter may still be closed.
-// ensures { IsTrue result → matching.now.openings.items ≡ [] }
 #[inline]
 pub fn is_closed(matching: &Matching) -> bool {
     matching.openings.is_empty()
 }
 
 /// Returns the pairs of delimiters in these tokens.
-// ensures { IfOk result (λ m. IsMatched (map leaf tokens.now) m) }
 #[inline]
 pub fn match_delimiters(tokens: &[Token<'_>]) -> Result<Matching, AllocError> {
     let mut found = Matching {
@@ -98,7 +89,6 @@ pub fn match_delimiters(tokens: &[Token<'_>]) -> Result<Matching, AllocError> {
 }
 
 /// Returns where the tokens break, or `None` if they are a forest.
-// ensures { (w : List Leaf) → HasOpen w openings.items unexpected → Breaks w result }
 #[inline]
 pub fn break_of(unexpected: Option<usize>, mut openings: Vec<Opening>) -> Option<DelimiterBreak> {
     match unexpected {

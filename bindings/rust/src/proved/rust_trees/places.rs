@@ -1,8 +1,7 @@
 //! Places in a text as an editor shows them.
 
 // Extracted from crates/rust_trees/src/places.rt by tools/extract: not to be edited.
-// That source is proved, and each contract here is its. That this text means the same is tested:
-// by results from outside, and beside what is proved (.ci/bindings) and the original (tools/agree).
+// That source has the contracts, and is proved. That this text means the same is only tested.
 
 use crate::proved::rust_tokens::split_first;
 use crate::shim::alloc::AllocError;
@@ -19,7 +18,6 @@ pub struct Place {
 }
 
 /// Returns whether an LF is the next character of two texts, one after the other.
-// ensures { result ≡ first_passes is_lf (chars text.now ++ chars back.now) }
 #[inline]
 fn is_lf_next(text: &str, back: &str) -> bool {
     match split_first(text) {
@@ -32,9 +30,6 @@ fn is_lf_next(text: &str, back: &str) -> bool {
 }
 
 /// Returns the place after a character at this place, where an LF may follow.
-// requires line { place.line + 1 < 2 ^ 64 }
-// requires column { place.column + 1 < 2 ^ 64 }
-// ensures { result ≡ after_char place c is_before_lf }
 #[inline]
 fn after_char(place: Place, c: char, is_before_lf: bool) -> Place {
     if c == '\n' {
@@ -53,9 +48,6 @@ fn after_char(place: Place, c: char, is_before_lf: bool) -> Place {
 }
 
 /// Returns the place after a text at this place, where another text follows.
-// requires line { place.line + length front.now < 2 ^ 64 }
-// requires column { place.column + length front.now < 2 ^ 64 }
-// ensures { result ≡ place_after place (chars front.now) (chars back.now) }
 #[inline]
 pub fn place_after(place: Place, front: &str, back: &str) -> Place {
     let mut reached = place;
@@ -68,8 +60,6 @@ pub fn place_after(place: Place, front: &str, back: &str) -> Place {
 }
 
 /// Returns the text without the byte order mark at its start.
-// ensures value { chars result.now ≡ without_mark (chars text.now) }
-// ensures within { length result.now ≤ length text.now }
 #[inline]
 fn without_mark(text: &str) -> &str {
     match split_first(text) {
@@ -79,8 +69,6 @@ fn without_mark(text: &str) -> &str {
 }
 
 /// Returns the place of a byte offset at which a character of the text starts, or at its end.
-// requires { IsCharBoundary text.now offset }
-// ensures { result ≡ place_of text.now offset }
 #[inline]
 pub fn place_at(text: &str, offset: usize) -> Place {
     let (front, back) = text.split_at(offset);
@@ -98,9 +86,6 @@ pub struct Known {
 }
 
 /// Returns the place of a byte offset, from the last place before it of those that are known.
-// requires known { All (IsKnown text.now) known.now }
-// requires boundary { IsCharBoundary text.now offset }
-// ensures { result ≡ place_of text.now offset }
 #[inline]
 fn place_from(text: &str, known: &[Known], offset: usize) -> Place {
     let count = known.len().min(offset / STEP);
@@ -114,9 +99,6 @@ fn place_from(text: &str, known: &[Known], offset: usize) -> Place {
 }
 
 /// Adds a byte offset with its place to those that are known, unless it is 0.
-// requires known { All (IsKnown text.now) known.old.items }
-// requires boundary { IsCharBoundary text.now offset }
-// ensures { All (IsKnown text.now) known.new.items }
 #[inline]
 fn add_known(known: &mut Vec<Known>, text: &str, offset: usize) -> Result<(), AllocError> {
     if offset == 0 {
@@ -135,7 +117,6 @@ pub struct Places<'a> {
 
 impl<'a> Places<'a> {
     /// Reads a text.
-    // ensures { IfOk result (λ p. p ≡ text.now) }
     #[inline]
     pub(crate) fn new(text: &'a str) -> Result<Self, AllocError> {
         let mut known = Vec::new();
@@ -146,8 +127,6 @@ impl<'a> Places<'a> {
     }
 
     /// Returns the place of a byte offset at which a character of the text starts, or at its end.
-    // requires { IsCharBoundary self.now offset }
-    // ensures { result ≡ place_of self.now offset }
     #[inline]
     pub fn at(&self, offset: usize) -> Place {
         place_from(self.text, &self.known, offset)

@@ -1,8 +1,7 @@
 //! The side of a token in a pair of delimiters.
 
 // Extracted from crates/rust_trees/src/sides.rt by tools/extract: not to be edited.
-// That source is proved, and each contract here is its. That this text means the same is tested:
-// by results from outside, and beside what is proved (.ci/bindings) and the original (tools/agree).
+// That source has the contracts, and is proved. That this text means the same is only tested.
 
 use crate::proved::rust_tokens::Kind;
 
@@ -29,7 +28,6 @@ pub enum Side {
 }
 
 /// Returns the side of a token of this kind with this text.
-// ensures { result ≡ side_of kind text.now }
 #[inline]
 pub fn side_of(kind: Kind, text: &str) -> Side {
     if !matches!(kind, Kind::Punct) {
@@ -47,7 +45,6 @@ pub fn side_of(kind: Kind, text: &str) -> Side {
 }
 
 /// Returns whether two delimiters are of one kind.
-// ensures { result ≡ is_same opening closing }
 #[inline]
 pub fn is_same(opening: Delimiter, closing: Delimiter) -> bool {
     matches!(
@@ -59,14 +56,12 @@ pub fn is_same(opening: Delimiter, closing: Delimiter) -> bool {
 }
 
 /// Returns whether a token closes a pair.
-// ensures { IsTrue result → (d : Delimiter) × (side ≡ Closes d) }
 #[inline]
 pub fn is_closing(side: Side) -> bool {
     matches!(side, Side::Closes(_))
 }
 
 /// Returns whether a token opens a pair.
-// ensures { result ≡ is_opening side }
 #[inline]
 pub fn is_opening(side: Side) -> bool {
     matches!(side, Side::Opens(_))

@@ -1,8 +1,7 @@
 //! A file as token trees.
 
 // Extracted from crates/rust_trees/src/source.rt by tools/extract: not to be edited.
-// That source is proved, and each contract here is its. That this text means the same is tested:
-// by results from outside, and beside what is proved (.ci/bindings) and the original (tools/agree).
+// That source has the contracts, and is proved. That this text means the same is only tested.
 
 use crate::proved::rust_trees::leaves::{leaves, Token, Tokens};
 use crate::proved::rust_trees::matching::{
@@ -20,8 +19,6 @@ pub struct Source<'a> {
 }
 
 /// Returns tokens with the pairs that were found among them.
-// requires { IsMatched (map leaf tokens.items) matching }
-// ensures { result ≡ map leaf tokens.entry.items }
 #[inline]
 fn source_of<'a>(tokens: Vec<Token<'a>>, matching: Matching) -> Source<'a> {
     let first_break = break_of(matching.unexpected, matching.openings);
@@ -34,8 +31,6 @@ fn source_of<'a>(tokens: Vec<Token<'a>>, matching: Matching) -> Source<'a> {
 
 impl<'a> Source<'a> {
     /// Reads a file.
-    // ensures { IfOk result (λ s. (xs : List Lexeme) × ReadsFile (chars text.now) xs
-    //     × (s ≡ leaves 0 xs)) }
     #[inline]
     pub(crate) fn new(text: &'a str) -> Result<Self, AllocError> {
         let tokens = leaves(text)?;
@@ -45,12 +40,6 @@ impl<'a> Source<'a> {
 
     /// Reads the tokens of a file after these, up to the closing delimiter that closes the last
     /// open one of them, or to the end of the file if there is none. Returns all these tokens.
-    /// Returns `Err` if an allocation fails; the tokens that were read are then left out.
-    // ensures file { rest.new.whole ≡ rest.old.whole }
-    // ensures fewer { length rest.new.rest ≤ length rest.old.rest }
-    // ensures joins { IfOk result (λ s. (more : List Leaf) × (s ≡ map leaf front.now ++ more)
-    //     × ((ls : List Leaf) → AreLeft rest.new ls → AreLeft rest.old (more ++ ls))) }
-    // ensures whole { IfOk result (λ s. AreLeft rest.new [] ⊎ IsGroup s) }
     #[inline]
     pub(crate) fn read_group(
         front: &[Token<'a>],
@@ -70,15 +59,12 @@ impl<'a> Source<'a> {
     }
 
     /// Returns the tokens: no white space, and no comment that has its end.
-    // ensures { map leaf result.now ≡ self.now }
     #[inline]
     pub fn tokens(&self) -> &[Token<'a>] {
         &self.tokens
     }
 
     /// Returns the index of the partner of a delimiter, or `None` if the token has none.
-    // ensures is_partner { IfSome result (λ j. ArePartners self.now index j) }
-    // ensures each { (j : ℕ) → ArePartners self.now index j → result ≡ Some j }
     #[inline]
     pub fn partner(&self, index: usize) -> Option<usize> {
         if index < self.partners.len() {
@@ -89,7 +75,6 @@ impl<'a> Source<'a> {
     }
 
     /// Returns the place where the tokens break, or `None` if they are a forest.
-    // ensures { Breaks self.now result }
     #[inline]
     pub fn first_break(&self) -> Option<DelimiterBreak> {
         self.first_break

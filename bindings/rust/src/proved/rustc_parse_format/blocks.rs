@@ -4,8 +4,7 @@
 //! does not compare two texts.
 
 // Extracted from crates/rustc_parse_format/src/blocks.rt by tools/extract: not to be edited.
-// That source is proved, and each contract here is its. That this text means the same is tested:
-// by results from outside, and beside what is proved (.ci/bindings) and the original (tools/agree).
+// That source has the contracts, and is proved. That this text means the same is only tested.
 
 use crate::shim::simd::*;
 
@@ -29,7 +28,6 @@ pub struct Stops {
 
 impl Stops {
     /// Returns whether a run ends at the byte.
-    // ensures { result ≡ not (is_no_stop self byte) }
     #[inline(always)]
     fn has(self, byte: u8) -> bool {
         byte < self.low
@@ -42,23 +40,18 @@ impl Stops {
 }
 
 /// Returns the number of bits below the lowest one that is set, or 64 if there is none.
-// ensures { (k : ℕ) → k < result → bit_at bits k ≡ 0 }
 #[inline(always)]
 fn clear_bits(bits: u64) -> usize {
     bits.trailing_zeros() as usize
 }
 
 /// Returns the number of lanes before the first one whose bit is set, or 16 if there is none.
-// ensures within { result ≤ 16 }
-// ensures clear { (k : ℕ) → k < result → bit_at bits k ≡ 0 }
 #[inline(always)]
 fn clear_lanes(bits: u64) -> usize {
     clear_bits(bits | 65536)
 }
 
 /// Returns the number of lanes before the first one that is a stop, or 16 if there is none.
-// ensures within { result ≤ 16 }
-// ensures pass { (k : ℕ) → k < result → is_no_stop stops (slice_index lanes k) ≡ true }
 #[inline(always)]
 fn front_lanes(lanes: u8x16, stops: Stops) -> usize {
     let found = lanes.simd_lt(u8x16::splat(stops.low))
@@ -72,9 +65,6 @@ fn front_lanes(lanes: u8x16, stops: Stops) -> usize {
 
 /// Returns the number of lanes before the first one that differs from the lane of `others` or is a
 /// quote, a backslash or a CR, or 16 if there is none.
-// ensures within { result ≤ 16 }
-// ensures same { (k : ℕ) → k < result → slice_index lanes k ≡ slice_index others k }
-// ensures pass { (k : ℕ) → k < result → is_plain (slice_index lanes k) ≡ true }
 #[inline(always)]
 fn plain_lanes(lanes: u8x16, others: u8x16) -> usize {
     let found = lanes.simd_ne(others)
@@ -85,9 +75,6 @@ fn plain_lanes(lanes: u8x16, others: u8x16) -> usize {
 }
 
 /// Returns the length of the longest prefix without stops, of sixteen bytes or more.
-// requires { 16 ≤ length bytes.now }
-// ensures within { result ≤ length bytes.now }
-// ensures pass { list_all (is_no_stop stops) (take result bytes.now) ≡ true }
 #[inline(always)]
 fn front_by_blocks(bytes: &[u8], stops: Stops) -> usize {
     let last = bytes.len() - 16;
@@ -103,7 +90,6 @@ fn front_by_blocks(bytes: &[u8], stops: Stops) -> usize {
 }
 
 /// Returns the length of the longest prefix without stops. No block is read for one or two bytes.
-// ensures { IsFront (is_no_stop stops) bytes.now result }
 #[inline(always)]
 pub fn front_width(bytes: &[u8], stops: Stops) -> usize {
     if bytes.is_empty() || stops.has(bytes[0]) {
@@ -125,7 +111,6 @@ pub fn front_width(bytes: &[u8], stops: Stops) -> usize {
 /// Returns the length of the longest prefix that both have and that is without quotes, backslashes
 /// and CRs. Returns 0 without examining a block if one has fewer than 16 bytes, or if their first
 /// bytes differ.
-// ensures { IsSharedFront is_plain bytes.now others.now result }
 #[inline(always)]
 pub fn plain_front(bytes: &[u8], others: &[u8]) -> usize {
     let most = bytes.len().min(others.len());

@@ -1,8 +1,7 @@
 //! One call of the parser: it reads a placeholder or a text, and adds faults as they are found.
 
 // Extracted from crates/rustc_parse_format/src/call.rt by tools/extract: not to be edited.
-// That source is proved, and each contract here is its. That this text means the same is tested:
-// by results from outside, and beside what is proved (.ci/bindings) and the original (tools/agree).
+// That source has the contracts, and is proved. That this text means the same is only tested.
 
 use crate::proved::rustc_parse_format::faults::Fault;
 use crate::proved::rustc_parse_format::reader::Reader;
@@ -14,14 +13,6 @@ use core::ops::Range;
 impl<'input> Reader<'input> {
     /// Adds the fault that no brace closes `argument`, whose opening brace has the byte range
     /// `opening`.
-    // ensures state { (let f = seen_spec argument.now.format in
-    //     OnOk result (self.new ≡ record self.old {
-    //       faults = self.old.faults ++ no_brace (brace_fill f.fill f.fill_span)
-    //           (first self.old.rest)
-    //           (place_of self.old.world (up_to self.old.rest self.old.rest)) (pair opening)
-    //           ∷ [];
-    //     })) }
-    // ensures err { OnErr result (self.new.source ≡ self.old.source) }
     #[inline]
     fn missing_closing_brace(
         &mut self,
@@ -39,12 +30,6 @@ impl<'input> Reader<'input> {
 
     /// Moves past the closing brace of the placeholder that starts at the byte offset `start`. In a
     /// source literal, records the byte range of the placeholder.
-    // ensures state { self.new ≡ record self.old {
-    //   rest = after_first self.old.rest;
-    //   closed_place = if self.old.world.has_source
-    //       then Some (start, number_of self.old.world (End (length self.old.rest)))
-    //       else self.old.closed_place;
-    // } }
     #[inline]
     fn consume_closing_brace(&mut self, start: usize) {
         if self.cursor.is_source_literal() {
@@ -57,13 +42,6 @@ impl<'input> Reader<'input> {
 
     /// Moves past the closing brace. If it is missing, adds that fault and recovers. The opening
     /// brace has the byte range `opening`.
-    // requires numbers { self.old.next + length self.old.rest < 2 ^ 64 }
-    // ensures state { OnOk result ((o : Text) (a : ArgumentValue Span)
-    //     → pair opening ≡ place_of self.old.world (over_first o)
-    //     → seen_argument argument.now ≡ map_argument (place_of self.old.world) a
-    //     → self.new ≡ after_closing (seen_mode mode) o a self.old) }
-    // ensures source { self.new.source ≡ self.old.source }
-    // ensures spare { begins_with 125 self.old.rest ≡ true → IsOk result }
     #[inline]
     fn closing_brace(
         &mut self,
@@ -81,16 +59,6 @@ impl<'input> Reader<'input> {
 
     /// Reads a placeholder, with its opening brace, into `into`, whose position is still implicit
     /// and whose format is the default.
-    // requires implicit { seen_position into.old.position ≡ Implicit 0 }
-    // requires blank { seen_spec into.old.format ≡ default_spec }
-    // requires opens { opens_placeholder self.old.rest ≡ true }
-    // requires numbers { self.old.next + length self.old.rest < 2 ^ 64 }
-    // ensures value { (let k = call (seen_mode mode) self.old.next self.old.rest in
-    //     OnOk result (Some (NextArgument (seen_argument into.new))
-    //     ≡ option_map (piece_in self.old.world) k.piece)) }
-    // ensures reads { let k = call (seen_mode mode) self.old.next self.old.rest in
-    //     Reaches self.old result self.new (read_call self.old k)
-    //     (FindsNothing self.old k.faults k.texts) }
     #[inline]
     pub(crate) fn placeholder(
         &mut self,
@@ -106,14 +74,6 @@ impl<'input> Reader<'input> {
 
     /// Reads a text, where no placeholder begins. Returns `None` at the end of the input and after
     /// a closing brace that closes nothing, which is a fault.
-    // requires bare { opens_placeholder self.old.rest ≡ false }
-    // ensures piece { IfOk result (λ p. (m : Mode) → option_map (λ t. Lit (chars t.now)) p
-    //     ≡ option_map (piece_in self.old.world) (call m self.old.next self.old.rest).piece) }
-    // ensures state { OnOk result ((m : Mode)
-    //     → self.new ≡ read_call self.old (call m self.old.next self.old.rest)) }
-    // ensures spare { (m : Mode) → (let k = call m self.old.next self.old.rest in
-    //     FindsNothing self.old k.faults k.texts → IsOk result) }
-    // ensures source { self.new.source ≡ self.old.source }
     #[inline]
     pub(crate) fn text(&mut self) -> Result<Option<&'input str>, AllocError> {
         let Some(c) = self.cursor.peek() else {
@@ -135,13 +95,6 @@ impl<'input> Reader<'input> {
 
     /// Reads the next piece: a placeholder, whose argument is allocated first, or text. Returns
     /// `None` at the end of the input and after a closing brace that closes nothing.
-    // requires numbers { self.old.next + length self.old.rest < 2 ^ 64 }
-    // ensures piece { IfOk result (λ p. option_map seen p
-    //     ≡ option_map (piece_in self.old.world)
-    //     (call (seen_mode mode) self.old.next self.old.rest).piece) }
-    // ensures reads { let k = call (seen_mode mode) self.old.next self.old.rest in
-    //     Reaches self.old result self.new (read_call self.old k)
-    //     (FindsNothing self.old k.faults k.texts × (opens_placeholder self.old.rest ≡ false)) }
     #[inline(always)]
     pub(crate) fn piece(&mut self, mode: ParseMode) -> Result<Option<Piece<'input>>, AllocError> {
         if self.cursor.opens_placeholder() {

@@ -2,8 +2,7 @@
 //! this module, `source` and `cursor` work with bytes and UTF-8.
 
 // Extracted from crates/rustc_parse_format/src/characters.rt by tools/extract: not to be edited.
-// That source is proved, and each contract here is its. That this text means the same is tested:
-// by results from outside, and beside what is proved (.ci/bindings) and the original (tools/agree).
+// That source has the contracts, and is proved. That this text means the same is only tested.
 
 use crate::proved::rustc_parse_format::blocks::{front_width, Stops};
 
@@ -30,7 +29,6 @@ pub enum Class {
 
 impl Class {
     /// Returns whether `c` is in the class.
-    // ensures { result ≡ passes self c }
     #[inline]
     pub fn passes(self, c: char) -> bool {
         match self {
@@ -46,15 +44,12 @@ impl Class {
 }
 
 /// Returns the first character, or `None` if the text is empty.
-// ensures { result ≡ first (chars text.now) }
 #[inline(always)]
 pub fn first(text: &str) -> Option<char> {
     text.chars().next()
 }
 
 /// Returns whether the first character is `c`, which is ASCII, so that the first byte shows it.
-// requires { c < 128 }
-// ensures { result ≡ begins_with c (chars text.now) }
 #[inline(always)]
 pub fn begins(text: &str, c: char) -> bool {
     let bytes = text.as_bytes();
@@ -62,7 +57,6 @@ pub fn begins(text: &str, c: char) -> bool {
 }
 
 /// Returns whether the first character is an ASCII digit.
-// ensures { result ≡ first_passes is_ascii_digit (chars text.now) }
 #[inline(always)]
 pub fn begins_digit(text: &str) -> bool {
     let bytes = text.as_bytes();
@@ -70,9 +64,6 @@ pub fn begins_digit(text: &str) -> bool {
 }
 
 /// Returns the first character if it is an ASCII digit, or else `None`.
-// ensures digit { IfSome result (λ d. (first (chars text.now) ≡ Some d)
-//     × IsTrue (is_ascii_digit d)) }
-// ensures none { IsNone result → first_passes is_ascii_digit (chars text.now) ≡ false }
 #[inline(always)]
 fn first_digit(text: &str) -> Option<u8> {
     let bytes = text.as_bytes();
@@ -83,21 +74,18 @@ fn first_digit(text: &str) -> Option<u8> {
 }
 
 /// Returns whether the byte is an ASCII letter.
-// ensures { result ≡ is_ascii_alphabetic byte }
 #[inline(always)]
 fn is_letter(byte: u8) -> bool {
     (byte | 32).is_ascii_lowercase()
 }
 
 /// Returns whether the byte is an ASCII character that can continue a word.
-// ensures { result ≡ is_word_byte byte }
 #[inline(always)]
 fn is_word_byte(byte: u8) -> bool {
     is_letter(byte) || byte.is_ascii_digit() || byte == b'_'
 }
 
 /// Returns whether the first character can begin a word. Most often its first byte shows it.
-// ensures { result ≡ first_passes is_id_start (chars text.now) }
 #[inline(always)]
 pub fn begins_word(text: &str) -> bool {
     let bytes = text.as_bytes();
@@ -108,8 +96,6 @@ pub fn begins_word(text: &str) -> bool {
 }
 
 /// Returns the text after the first character, or an empty text if there is none.
-// ensures rest { chars result.now ≡ after_first (chars text.now) }
-// ensures left { (input : List ℕ) → IsLeft input text.now → IsLeft input result.now }
 #[inline(always)]
 pub fn after_first(text: &str) -> &str {
     let mut rest = text.chars();
@@ -119,7 +105,6 @@ pub fn after_first(text: &str) -> &str {
 
 /// Returns whether the first character is white space. Most often its first byte already shows that
 /// it is not.
-// ensures { result ≡ first_passes is_whitespace (chars text.now) }
 #[inline(always)]
 pub fn begins_white(text: &str) -> bool {
     let bytes = text.as_bytes();
@@ -130,8 +115,6 @@ pub fn begins_white(text: &str) -> bool {
 }
 
 /// Returns the stops that are the bytes below `low` and these four, without an upper bound.
-// ensures { (x : ℕ) → is_no_stop result x ≡ (not (nat_lt x low) && (not (x == first)
-//     && (not (x == second) && (not (x == third) && not (x == fourth))))) }
 #[inline(always)]
 fn stops(low: u8, first: u8, second: u8, third: u8, fourth: u8) -> Stops {
     Stops {
@@ -146,8 +129,6 @@ fn stops(low: u8, first: u8, second: u8, third: u8, fourth: u8) -> Stops {
 
 /// Returns the number of bytes before the first one that, taken as a character, is not in the
 /// class. The class has all characters outside ASCII.
-// requires { IsOfAscii (passes class) }
-// ensures { IsFront (passes class) bytes.now result }
 #[inline(always)]
 pub fn run_width(bytes: &[u8], class: Class) -> usize {
     let stops = match class {
@@ -163,9 +144,6 @@ pub fn run_width(bytes: &[u8], class: Class) -> usize {
 
 /// Returns the text after the longest prefix of characters in the class. The class has all
 /// characters outside ASCII, so the bytes alone show where the prefix ends.
-// requires { IsOfAscii (passes class) }
-// ensures rest { chars result.now ≡ rest_after (passes class) (chars text.now) }
-// ensures left { (input : List ℕ) → IsLeft input text.now → IsLeft input result.now }
 #[inline(always)]
 pub fn after_run(text: &str, class: Class) -> &str {
     let width = run_width(text.as_bytes(), class);
@@ -174,9 +152,6 @@ pub fn after_run(text: &str, class: Class) -> &str {
 
 /// Splits a text after the longest prefix of characters in the class. The class has all characters
 /// outside ASCII, so the bytes alone show where the prefix ends.
-// requires { IsOfAscii (passes class) }
-// ensures front { chars result.0.now ≡ front (passes class) (chars text.now) }
-// ensures rest { chars result.1.now ≡ rest_after (passes class) (chars text.now) }
 #[inline(always)]
 pub fn split_run(text: &str, class: Class) -> (&str, &str) {
     let width = run_width(text.as_bytes(), class);
@@ -184,8 +159,6 @@ pub fn split_run(text: &str, class: Class) -> (&str, &str) {
 }
 
 /// Returns the text after the longest prefix of characters in the class.
-// ensures rest { chars result.now ≡ rest_after (passes class) (chars text.now) }
-// ensures left { (input : List ℕ) → IsLeft input text.now → IsLeft input result.now }
 #[inline(always)]
 pub fn after_while(text: &str, class: Class) -> &str {
     match class {
@@ -205,7 +178,6 @@ pub fn after_while(text: &str, class: Class) -> &str {
 
 /// Returns the number of bytes before the first one that is not an ASCII character that can
 /// continue a word.
-// ensures { IsFront is_word_byte bytes.now result }
 #[inline(always)]
 fn word_width(bytes: &[u8]) -> usize {
     for i in 0..bytes.len() {
@@ -217,17 +189,12 @@ fn word_width(bytes: &[u8]) -> usize {
 }
 
 /// Returns whether there is a byte at the index `at` that is not ASCII.
-// ensures { IsFalse result ↔ (at < length bytes.now → slice_index bytes.now at < 128) }
 #[inline(always)]
 fn is_wide(bytes: &[u8], at: usize) -> bool {
     at < bytes.len() && bytes[at] >= 128
 }
 
 /// Splits a text after the word that begins it. Most often the word is ASCII.
-// requires { first_passes is_id_start (chars text.now) ≡ true }
-// ensures word { chars result.0.now ≡ word (chars text.now) }
-// ensures rest { chars result.1.now ≡ after_word (chars text.now) }
-// ensures left { (input : List ℕ) → IsLeft input text.now → IsLeft input result.1.now }
 #[inline(always)]
 pub fn split_word(text: &str) -> (&str, &str) {
     let bytes = text.as_bytes();
@@ -239,10 +206,6 @@ pub fn split_word(text: &str) -> (&str, &str) {
 }
 
 /// Splits a text after the word that begins it, which need not be ASCII.
-// requires { first_passes is_id_start (chars text.now) ≡ true }
-// ensures word { chars result.0.now ≡ word (chars text.now) }
-// ensures rest { chars result.1.now ≡ after_word (chars text.now) }
-// ensures left { (input : List ℕ) → IsLeft input text.now → IsLeft input result.1.now }
 #[inline(never)]
 fn split_wide_word(text: &str) -> (&str, &str) {
     let rest = after_while(after_first(text), Class::Continue);
@@ -261,10 +224,6 @@ pub struct LeadingNumber<'a> {
 }
 
 /// Returns the number that the ASCII digits at the start of the text write: 0 if there are none.
-// ensures value { result.value ≡ number (digits (chars text.now)) }
-// ensures over { result.is_over ≡ is_over (digits (chars text.now)) }
-// ensures rest { chars result.rest.now ≡ after_digits (chars text.now) }
-// ensures left { (input : List ℕ) → IsLeft input text.now → IsLeft input result.rest.now }
 #[inline(always)]
 pub fn leading_number(text: &str) -> LeadingNumber<'_> {
     let mut value = 0;
@@ -284,22 +243,18 @@ pub fn leading_number(text: &str) -> LeadingNumber<'_> {
 }
 
 /// Returns the part of `text` before its suffix `rest_after`.
-// requires { (u : Text) × (chars text.now ≡ u ++ chars rest_after.now) }
-// ensures { (u : Text) → chars text.now ≡ u ++ chars rest_after.now → chars result.now ≡ u }
 #[inline(always)]
 pub fn before<'a>(text: &'a str, rest_after: &str) -> &'a str {
     &text[..text.len() - rest_after.len()]
 }
 
 /// Returns whether `c` can begin a word: `_` or `XID_Start`.
-// ensures { result ≡ is_id_start c }
 #[inline]
 pub fn is_id_start(c: char) -> bool {
     c == '_' || crate::shim::unicode_ident::is_xid_start(c)
 }
 
 /// Returns whether the text is the word `_`.
-// ensures { result ≡ bytes_eq (chars text.now) (codes "_") }
 #[inline]
 pub fn is_underscore(text: &str) -> bool {
     first(text) == Some('_') && first(after_first(text)).is_none()
@@ -307,9 +262,6 @@ pub fn is_underscore(text: &str) -> bool {
 
 /// Returns the value of `number` with one more decimal digit, modulo 65536, and whether that value
 /// exceeds 65535.
-// requires { IsTrue (is_ascii_digit digit) }
-// ensures value { result.0 ≡ (number * 10 + digit_value digit) % 65536 }
-// ensures over { result.1 ≡ nat_lt 65535 (number * 10 + digit_value digit) }
 #[inline]
 fn with_digit(number: u16, digit: u8) -> (u16, bool) {
     let value = u32::from(number) * 10 + (u32::from(digit) - 48);

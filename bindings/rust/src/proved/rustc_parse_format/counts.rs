@@ -2,8 +2,7 @@
 //! its width and its precision.
 
 // Extracted from crates/rustc_parse_format/src/counts.rt by tools/extract: not to be edited.
-// That source is proved, and each contract here is its. That this text means the same is tested:
-// by results from outside, and beside what is proved (.ci/bindings) and the original (tools/agree).
+// That source has the contracts, and is proved. That this text means the same is only tested.
 
 use crate::proved::rustc_parse_format::faults::Fault;
 use crate::proved::rustc_parse_format::reader::Reader;
@@ -13,9 +12,6 @@ use crate::shim::alloc::AllocError;
 impl<'input> Reader<'input> {
     /// Reads the ASCII digits at the cursor, if any, and returns their value modulo 65536. A value
     /// above 65535 is a fault, whose span includes the character after the digits.
-    // ensures value { IfOk result (λ n. n ≡ number (digits self.old.rest)) }
-    // ensures reads { ReadsTo self.old result self.new (after_digits self.old.rest) self.old.next
-    //     (number_faults self.old.rest) [] }
     #[inline(always)]
     pub(crate) fn integer(&mut self) -> Result<u16, AllocError> {
         let (number, over) = self.cursor.number();
@@ -26,10 +22,6 @@ impl<'input> Reader<'input> {
     }
 
     /// Reads the word that begins at the cursor. The word `_` is a fault.
-    // requires { first_passes is_id_start self.old.rest ≡ true }
-    // ensures value { IfOk result (λ w. chars w.now ≡ word self.old.rest) }
-    // ensures reads { ReadsTo self.old result self.new (after_word self.old.rest) self.old.next
-    //     (word_faults self.old.rest) [] }
     #[inline(always)]
     pub(crate) fn word(&mut self) -> Result<&'input str, AllocError> {
         let (word, underscore) = self.cursor.word();
@@ -41,15 +33,6 @@ impl<'input> Reader<'input> {
 
     /// Reads a name and the `$` after it into `into`, which is still `CountImplied`. If there is no
     /// `$`, goes back to the start of the word, but keeps its fault.
-    // requires blank { seen_count into.old ≡ Implied }
-    // requires furthest { IsFurthest self.old.rest self.old.back }
-    // requires word { first_passes is_id_start self.old.rest ≡ true }
-    // ensures value { (let t = self.old.rest in let k = after_name t (word t) (after_word t) in
-    //     OnOk result (seen_count into.new
-    //     ≡ map_count (place_of self.old.world) (count_of t k.0 k.1))) }
-    // ensures reads { (let t = self.old.rest in let k = after_name t (word t) (after_word t) in
-    //     ReadsTo self.old result self.new k.1 self.old.next (word_faults t)
-    //     (count_tries t k.0)) }
     #[inline(always)]
     fn named_count(&mut self, into: &mut Count<'input>) -> Result<(), AllocError> {
         let front = self.cursor.checkpoint();
@@ -66,13 +49,6 @@ impl<'input> Reader<'input> {
 
     /// Reads a count, as in the grammar of `std::fmt`, into `into`, which is still `CountImplied`:
     /// a number, the index or the name of an argument and a `$`, or nothing.
-    // requires blank { seen_count into.old ≡ Implied }
-    // requires furthest { IsFurthest self.old.rest self.old.back }
-    // ensures value { (let k = count self.old.rest in OnOk result (seen_count into.new
-    //     ≡ map_count (place_of self.old.world) (count_of self.old.rest k.0 k.1))) }
-    // ensures reads { (let k = count self.old.rest in
-    //     ReadsTo self.old result self.new k.1 self.old.next (argument_faults self.old.rest)
-    //     (count_tries self.old.rest k.0)) }
     #[inline(always)]
     pub(crate) fn count(&mut self, into: &mut Count<'input>) -> Result<(), AllocError> {
         if self.cursor.is_digit_next() {
@@ -91,17 +67,6 @@ impl<'input> Reader<'input> {
     }
 
     /// Reads the count of a width and its span into `format`, which has no width yet.
-    // requires width { seen_count format.old.width ≡ Implied }
-    // requires span { option_map pair format.old.width_span ≡ None }
-    // requires furthest { IsFurthest self.old.rest self.old.back }
-    // ensures value { (let t = self.old.rest in let k = count t in
-    //     OnOk result (seen_spec format.new ≡ record (seen_spec format.old) {
-    //       width = map_count (place_of self.old.world) (count_of t k.0 k.1);
-    //       width_span = option_map (place_of self.old.world) (count_span t k.0 k.1);
-    //     })) }
-    // ensures reads { (let k = count self.old.rest in
-    //     ReadsTo self.old result self.new k.1 self.old.next (argument_faults self.old.rest)
-    //     (count_tries self.old.rest k.0)) }
     #[inline(always)]
     fn width_count(&mut self, format: &mut FormatSpec<'input>) -> Result<(), AllocError> {
         let start = self.cursor.start();
@@ -117,19 +82,6 @@ impl<'input> Reader<'input> {
 
     /// Reads the width, as in the grammar of `std::fmt`, into `format`, which has none yet. A
     /// leading `0` is a flag, unless a `$` follows it: then it is the index of an argument.
-    // requires zero_pad { format.old.zero_pad ≡ false }
-    // requires width { seen_count format.old.width ≡ Implied }
-    // requires span { option_map pair format.old.width_span ≡ None }
-    // requires furthest { IsFurthest self.old.rest self.old.back }
-    // ensures value { (let t = self.old.rest in let w = width t in
-    //     OnOk result (seen_spec format.new ≡ record (seen_spec format.old) {
-    //       zero_pad = is_padded w.0;
-    //       width = map_count (place_of self.old.world) (width_of t w.0 w.1);
-    //       width_span = option_map (place_of self.old.world) (width_span t w.0 w.1);
-    //     })) }
-    // ensures reads { (let w = width self.old.rest in
-    //     ReadsTo self.old result self.new w.1 self.old.next (width_faults self.old.rest w.0)
-    //     (width_tries self.old.rest w.0)) }
     #[inline(always)]
     pub(crate) fn width(&mut self, format: &mut FormatSpec<'input>) -> Result<(), AllocError> {
         if !self.cursor.is_next('0') {
@@ -151,18 +103,6 @@ impl<'input> Reader<'input> {
     /// Reads a dot and the precision after it, which may be missing, into `format`, which has none
     /// yet. Reads nothing if the next character is not a dot. A `*` takes the index of the next
     /// implicit argument.
-    // requires precision { seen_count format.old.precision ≡ Implied }
-    // requires span { option_map pair format.old.precision_span ≡ None }
-    // requires numbers { self.old.next + 1 < 2 ^ 64 }
-    // ensures value { (let t = self.old.rest in let p = precision t in
-    //     OnOk result (seen_spec format.new ≡ record (seen_spec format.old) {
-    //       precision = map_count (place_of self.old.world)
-    //           (precision_of self.old.next t p.0 p.1);
-    //       precision_span = option_map (place_of self.old.world) (precision_span t p.0 p.1);
-    //     })) }
-    // ensures reads { (let p = precision self.old.rest in
-    //     ReadsTo self.old result self.new p.1 (number_after_precision self.old.next p.0)
-    //     (precision_faults self.old.rest p.0) (precision_tries self.old.rest p.0)) }
     #[inline(always)]
     pub(crate) fn precision(&mut self, format: &mut FormatSpec<'input>) -> Result<(), AllocError> {
         self.cursor.steps_are_few();

@@ -1,8 +1,7 @@
 //! The list of a parser's errors, which grows at both ends.
 
 // Extracted from crates/rustc_parse_format/src/error_list.rt by tools/extract: not to be edited.
-// That source is proved, and each contract here is its. That this text means the same is tested:
-// by results from outside, and beside what is proved (.ci/bindings) and the original (tools/agree).
+// That source has the contracts, and is proved. That this text means the same is only tested.
 
 use crate::proved::rustc_parse_format::faults::Fault;
 use crate::proved::rustc_parse_format::messages::set_error;
@@ -11,7 +10,6 @@ use crate::shim::alloc::AllocError;
 use crate::shim::prelude::*;
 
 /// Returns an error whose texts are empty. Does not allocate.
-// ensures { seen_error result ≡ error [] None [] (0, 0) None }
 #[inline]
 pub fn empty_error() -> ParseError {
     ParseError {
@@ -26,7 +24,6 @@ pub fn empty_error() -> ParseError {
 
 impl Fault<'_> {
     /// Returns the error of the fault, as a parser has it in its list.
-    // ensures { IfOk result (λ e. seen_error e ≡ message (seen_fault self.now)) }
     #[inline]
     pub(crate) fn error(&self) -> Result<ParseError, AllocError> {
         let mut error = empty_error();

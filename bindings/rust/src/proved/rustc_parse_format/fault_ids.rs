@@ -1,13 +1,11 @@
 //! The ids of faults.
 
 // Extracted from crates/rustc_parse_format/src/fault_ids.rt by tools/extract: not to be edited.
-// That source is proved, and each contract here is its. That this text means the same is tested:
-// by results from outside, and beside what is proved (.ci/bindings) and the original (tools/agree).
+// That source has the contracts, and is proved. That this text means the same is only tested.
 
 use crate::proved::rustc_parse_format::faults::Fault;
 
 /// Returns the id of a fault.
-// ensures { result.now ≡ fault_id (seen_fault fault.now) }
 #[inline]
 fn id_of(fault: &Fault<'_>) -> &'static str {
     match fault {
@@ -34,9 +32,6 @@ fn id_of(fault: &Fault<'_>) -> &'static str {
 impl Fault<'_> {
     /// Returns the id of the fault in kebab case, such as `missing-closing-brace`: the same for all
     /// faults of a kind, and another for each kind. Does not allocate.
-    // ensures id { result.now ≡ fault_id (seen_fault self.now) }
-    // ensures one_kind { (f : FaultValue Place) → fault_id f ≡ result.now
-    //     → kind f ≡ kind (seen_fault self.now) }
     #[inline]
     pub fn id(&self) -> &'static str {
         id_of(self)

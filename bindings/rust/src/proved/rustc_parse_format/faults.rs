@@ -1,8 +1,7 @@
 //! The faults of an input, as they are found.
 
 // Extracted from crates/rustc_parse_format/src/faults.rt by tools/extract: not to be edited.
-// That source is proved, and each contract here is its. That this text means the same is tested:
-// by results from outside, and beside what is proved (.ci/bindings) and the original (tools/agree).
+// That source has the contracts, and is proved. That this text means the same is only tested.
 
 use crate::shim::alloc::AllocError;
 use crate::shim::prelude::*;
@@ -55,7 +54,6 @@ pub enum Fault<'input> {
 impl Fault<'_> {
     /// Returns whether the error of the fault comes before all earlier errors of a parser. If not,
     /// it comes after them.
-    // ensures { result ≡ is_front (seen_fault self.now) }
     #[inline]
     pub fn is_front(&self) -> bool {
         match self {
@@ -90,7 +88,6 @@ pub struct Faults<'input> {
 
 impl<'input> Faults<'input> {
     /// Returns an empty list. Does not allocate.
-    // ensures { result ≡ [] }
     #[inline]
     pub(crate) fn new() -> Faults<'input> {
         Faults {
@@ -101,8 +98,6 @@ impl<'input> Faults<'input> {
     }
 
     /// Returns whether there are no faults.
-    // ensures empty { IsTrue result ↔ (self.now ≡ []) }
-    // ensures few { length self.now < 2 ^ 64 }
     #[inline]
     pub fn is_empty(&self) -> bool {
         self.first.is_none()
@@ -110,9 +105,6 @@ impl<'input> Faults<'input> {
 
     /// Adds a fault at the end. Returns `Err` if an allocation fails, and the list is then
     /// unchanged. The first two faults need no allocation.
-    // ensures ok { OnOk result (self.new ≡ self.old ++ seen_fault fault.entry ∷ []) }
-    // ensures err { OnErr result (self.new ≡ self.old) }
-    // ensures spare { self.old ≡ [] → IsOk result }
     #[inline]
     pub(crate) fn try_push(&mut self, fault: Fault<'input>) -> Result<(), AllocError> {
         if self.first.is_none() {
@@ -126,8 +118,6 @@ impl<'input> Faults<'input> {
     }
 
     /// Returns the fault at an index, or `None` if the list ends before it.
-    // ensures { MatchOption result (drop index self.now ≡ [])
-    //     (λ f. drop index self.now ≡ seen_fault f.now ∷ drop (index + 1) self.now) }
     #[inline]
     pub fn get(&self, index: usize) -> Option<&Fault<'input>> {
         if index == 0 {
@@ -141,11 +131,6 @@ impl<'input> Faults<'input> {
 
     /// Moves all faults to the end of `list`. Returns `Err` if an allocation fails: some of the
     /// faults may then be at the end of `list`, and the others are dropped.
-    // ensures moved { OnOk result (map seen_fault list.new.items
-    //     ≡ map seen_fault list.old.items ++ self.old) }
-    // ensures empty { self.new ≡ [] }
-    // ensures kept { take (length list.old.items) list.new.items ≡ list.old.items }
-    // ensures spare { self.old ≡ [] → IsOk result }
     #[inline]
     pub(crate) fn move_to(&mut self, list: &mut Vec<Fault<'input>>) -> Result<(), AllocError> {
         if self.is_empty() {
@@ -163,7 +148,6 @@ impl<'input> Faults<'input> {
     }
 
     /// Removes all faults. Does not allocate.
-    // ensures { self.new ≡ [] }
     #[inline]
     pub fn clear(&mut self) {
         self.first = None;

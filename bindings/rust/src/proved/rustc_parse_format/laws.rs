@@ -6,39 +6,33 @@
 //! defaults have every part absent.
 
 // Extracted from crates/rustc_parse_format/src/laws.rt by tools/extract: not to be edited.
-// That source is proved, and each contract here is its. That this text means the same is tested:
-// by results from outside, and beside what is proved (.ci/bindings) and the original (tools/agree).
+// That source has the contracts, and is proved. That this text means the same is only tested.
 
 use crate::proved::rustc_parse_format::types::{Alignment, Count, DebugHex, FormatSpec, Sign};
 
 /// Returns whether two alignments are equal, by `==`.
-// ensures { IsTrue result ↔ AreSame seen_alignment a.now b.now }
 #[inline]
 pub fn alignments_are_equal(a: &Alignment, b: &Alignment) -> bool {
     a == b
 }
 
 /// Returns whether two signs are equal, by `==`.
-// ensures { IsTrue result ↔ AreSame seen_sign a.now b.now }
 #[inline]
 pub fn signs_are_equal(a: &Sign, b: &Sign) -> bool {
     a == b
 }
 
 /// Returns whether two cases of hexadecimal digits are equal, by `==`.
-// ensures { IsTrue result ↔ AreSame seen_debug_hex a.now b.now }
 #[inline]
 pub fn debug_hexes_are_equal(a: &DebugHex, b: &DebugHex) -> bool {
     a == b
 }
 
 /// Proves that a text is UTF-8.
-// ensures { IsUtf8 _text.now }
 #[inline]
 fn know_text(_text: &str) {}
 
 /// Proves that the name in a count is UTF-8.
-// ensures { IsTextInCount count.now }
 #[inline]
 fn know_count(count: &Count<'_>) {
     if let Count::CountIsName(name, _) = count {
@@ -47,7 +41,6 @@ fn know_count(count: &Count<'_>) {
 }
 
 /// Proves that the texts of a format specification are UTF-8.
-// ensures { IsTextInSpec spec.now }
 #[inline]
 fn know_spec(spec: &FormatSpec<'_>) {
     know_count(&spec.precision);
@@ -57,7 +50,6 @@ fn know_spec(spec: &FormatSpec<'_>) {
 
 /// Returns whether two format specifications are equal, by `==`: texts are compared by their
 /// characters, and spans too.
-// ensures { IsTrue result ↔ AreSame seen_spec a.now b.now }
 #[inline]
 pub fn specs_are_equal(a: &FormatSpec<'_>, b: &FormatSpec<'_>) -> bool {
     know_spec(a);
@@ -66,7 +58,6 @@ pub fn specs_are_equal(a: &FormatSpec<'_>, b: &FormatSpec<'_>) -> bool {
 }
 
 /// Returns the default format specification: each part is absent.
-// ensures { seen_spec result ≡ default_spec }
 #[inline]
 pub fn default_of_spec<'input>() -> FormatSpec<'input> {
     FormatSpec::default()

@@ -3,8 +3,7 @@
 //! literal is the text between its quotes.
 
 // Extracted from crates/rustc_parse_format/src/literal.rt by tools/extract: not to be edited.
-// That source is proved, and each contract here is its. That this text means the same is tested:
-// by results from outside, and beside what is proved (.ci/bindings) and the original (tools/agree).
+// That source has the contracts, and is proved. That this text means the same is only tested.
 
 use crate::shim::prelude::*;
 pub(crate) mod rest;
@@ -30,8 +29,6 @@ pub struct FirstUnit<'a> {
 /// begins with a quote, a CR or a wrong escape.
 ///
 /// The rule is that of string literals in the Rust Reference. Does not allocate.
-// ensures { option_map (λ x. (at_most_one x.character, chars x.rest.now)) result
-//     ≡ meaning (unit_at (chars content.now)) }
 #[inline]
 pub fn split_first_unit(content: &str) -> Option<FirstUnit<'_>> {
     let mut rest = Rest::new(content);
@@ -53,9 +50,6 @@ pub struct ContentCharacter {
 
 /// Returns the characters that a content stands for, or `None` if the text is no content, as
 /// `content_characters` computes them.
-// ensures computed { IfOk result (λ o. option_map (λ v. seen_characters v.items) o
-//     ≡ content_characters 0 (chars content.now)) }
-// ensures empty { chars content.now ≡ [] → IsOk result }
 #[inline]
 fn read_characters(content: &str) -> Result<Option<Vec<ContentCharacter>>, AllocError> {
     let mut found = Vec::new();
@@ -84,27 +78,12 @@ fn read_characters(content: &str) -> Result<Option<Vec<ContentCharacter>>, Alloc
 /// The rule is that of string literals in the Rust Reference. A string continuation, a backslash
 /// before an LF with all HT, LF, CR and space after it, stands for nothing. The list is allocated
 /// with `alloc`: returns `Err` if an allocation fails. For an empty content it always returns `Ok`.
-// ensures found { IfOk result
-//     (λ o. IfSome o (λ v. IsReadAs (chars content.now) (seen_characters v.items))) }
-// ensures none { IfOk result (λ o. IfNone o (IsNoContent (chars content.now))) }
-// In a source literal with this content each character has the place returned here, one byte
-// later for the opening quote, and an appended newline comes at the end.
-// ensures places { IfOk result (λ o. IfSome o (λ v. (input : Text) (appended : Bool)
-//     → IsSource input None (ordinary_frame (chars content.now)) appended
-//     → (let w = world input None (Some (ordinary_frame (chars content.now))) appended in
-//     w.places ≡ map (λ x. later 1 x.0) (seen_characters v.items)
-//     ++ newline_places w.end appended))) }
-// ensures empty { content.now ≡ [] → IsOk result }
 #[inline]
 pub fn read_content(content: &str) -> Result<Option<Vec<ContentCharacter>>, AllocError> {
     read_characters(content)
 }
 
 /// Appends the plain characters that come next to a text.
-// ensures text { OnOk result (chars (string_bytes text.new)
-//     ≡ chars (string_bytes text.old) ++ front is_plain rest.old) }
-// ensures rest { rest.new ≡ rest_after is_plain rest.old }
-// ensures empty { rest.old ≡ [] → IsOk result }
 #[inline(always)]
 fn put_plain(text: &mut String, rest: &mut Rest<'_>) -> Result<(), AllocError> {
     let plain = rest.take_run(Class::Plain);
@@ -115,8 +94,6 @@ fn put_plain(text: &mut String, rest: &mut Rest<'_>) -> Result<(), AllocError> {
 }
 
 /// Appends a character to a text.
-// ensures { OnOk result (chars (string_bytes text.new) ≡ chars (string_bytes text.old)
-//     ++ c ∷ []) }
 #[inline(always)]
 fn put_char(text: &mut String, c: char) -> Result<(), AllocError> {
     text.try_push(c)?;
@@ -127,7 +104,6 @@ fn put_char(text: &mut String, c: char) -> Result<(), AllocError> {
 const FIRST_ROOM: usize = 4096;
 
 /// Gives back the room that a text does not need, if it needs less than half of it.
-// ensures { string_bytes text.new ≡ string_bytes text.old }
 #[inline]
 fn shrink(text: &mut String) {
     if text.len() < text.capacity() / 2 {
@@ -141,10 +117,6 @@ fn shrink(text: &mut String) {
 ///
 /// The text is allocated with `alloc`: returns `Err` if an allocation fails. For an empty content
 /// it always returns `Ok`.
-// ensures found { IfOk result (λ o. IfSome o (λ s. (us : List LiteralUnit)
-//     × IsOnlyContent (chars content.now) us × (content_value us ≡ chars (string_bytes s)))) }
-// ensures none { IfOk result (λ o. IfNone o (IsNoContent (chars content.now))) }
-// ensures empty { content.now ≡ [] → IsOk result }
 #[inline]
 pub fn content_text(content: &str) -> Result<Option<String>, AllocError> {
     // no unit is shorter than its value; a longer content may be refused at its start
@@ -165,9 +137,6 @@ pub fn content_text(content: &str) -> Result<Option<String>, AllocError> {
 }
 
 /// Returns the text before the newline at its end, or `None` if the text does not end with one.
-// ensures { MatchOption result
-//     ((t : List ℕ) → t ++ newline true ≡ chars text.now → ⊥)
-//     (λ t. chars t.now ++ newline true ≡ chars text.now) }
 #[inline]
 fn before_newline(text: &str) -> Option<&str> {
     text.strip_suffix('\n')
@@ -175,9 +144,6 @@ fn before_newline(text: &str) -> Option<&str> {
 
 /// Returns the input without the newline that a macro appended to it, or `None` if one was appended
 /// and the input does not end with it.
-// ensures { MatchOption result
-//     ((t : List ℕ) → t ++ newline appended ≡ chars input.now → ⊥)
-//     (λ t. chars t.now ++ newline appended ≡ chars input.now) }
 #[inline]
 fn strip_newline(input: &str, appended: bool) -> Option<&str> {
     if appended {
@@ -190,9 +156,6 @@ fn strip_newline(input: &str, appended: bool) -> Option<&str> {
 /// Returns the text between the first and the last character, or `None` if these are not two
 /// quotes. Does not check that the text is the content of a literal (`read_content` does). Does
 /// not allocate.
-// ensures { MatchOption result
-//     ((t : List ℕ) → chars snippet.now ≡ ordinary_frame t → ⊥)
-//     (λ t. chars snippet.now ≡ ordinary_frame (chars t.now)) }
 #[inline]
 pub fn quoted_content(snippet: &str) -> Option<&str> {
     match snippet.strip_prefix('"') {
@@ -203,7 +166,6 @@ pub fn quoted_content(snippet: &str) -> Option<&str> {
 
 /// Skips the `\x` escapes at the start of a content and, in a text, the characters that they stand
 /// for, up to the first escape with which the text does not go on.
-// ensures { SameEnds rest.old wanted.old rest.new wanted.new }
 #[inline(always)]
 fn skip_byte_escapes(rest: &mut Rest<'_>, wanted: &mut Rest<'_>) {
     while let Some((byte, rest_after)) = byte_escape(rest.text()) {
@@ -216,7 +178,6 @@ fn skip_byte_escapes(rest: &mut Rest<'_>, wanted: &mut Rest<'_>) {
 
 /// Skips the plain characters with which a content and a text both begin, and the `\x` escapes
 /// after them.
-// ensures { SameEnds rest.old wanted.old rest.new wanted.new }
 #[inline(always)]
 fn skip_alike(rest: &mut Rest<'_>, wanted: &mut Rest<'_>) {
     rest.skip_plain(wanted);
@@ -225,7 +186,6 @@ fn skip_alike(rest: &mut Rest<'_>, wanted: &mut Rest<'_>) {
 
 /// Returns where the text ends that the content stands for, as a byte offset that counts the quote
 /// before the content, or `None` if the content does not stand for the text.
-// ensures { result ≡ spelled_end 1 1 (chars content.now) (chars text.now) }
 #[inline]
 fn spelled_end(content: &str, text: &str) -> Option<usize> {
     let total = content.len() + 1;
@@ -254,10 +214,6 @@ fn spelled_end(content: &str, text: &str) -> Option<usize> {
 
 /// Returns the byte offset in an ordinary literal at which the text ends that it stands for, or
 /// `None` if the snippet is no such literal.
-// ensures { MatchOption result
-//     (IsOrdinaryLiteral (chars snippet.now) (chars text.now) → ⊥)
-//     (λ e. IsOrdinaryLiteral (chars snippet.now) (chars text.now)
-//     × (e ≡ literal_end None (chars snippet.now))) }
 #[inline]
 fn ordinary_end(snippet: &str, text: &str) -> Option<usize> {
     match quoted_content(snippet) {
@@ -267,7 +223,6 @@ fn ordinary_end(snippet: &str, text: &str) -> Option<usize> {
 }
 
 /// Consumes this many hashes, and returns whether they were there.
-// ensures { IsTaken (replicate hashes 35) rest.old result rest.new }
 #[inline]
 fn consume_hashes(rest: &mut Rest<'_>, hashes: usize) -> bool {
     let mut left = hashes;
@@ -282,7 +237,6 @@ fn consume_hashes(rest: &mut Rest<'_>, hashes: usize) -> bool {
 
 /// Consumes the opening of a raw literal, `r`, the hashes and a quote, and returns whether it was
 /// there.
-// ensures { IsTaken (raw_opening hashes) rest.old result rest.new }
 #[inline]
 fn consume_opening(rest: &mut Rest<'_>, hashes: usize) -> bool {
     if !rest.next_eq('r') {
@@ -295,7 +249,6 @@ fn consume_opening(rest: &mut Rest<'_>, hashes: usize) -> bool {
 }
 
 /// Consumes this text, and returns whether it was there.
-// ensures { IsTaken (chars text.now) rest.old result rest.new }
 #[inline]
 fn consume_text(rest: &mut Rest<'_>, text: &str) -> bool {
     let mut wanted = Rest::new(text);
@@ -308,14 +261,12 @@ fn consume_text(rest: &mut Rest<'_>, text: &str) -> bool {
 }
 
 /// Consumes the closing of a raw literal, a quote and the hashes, and returns whether it was there.
-// ensures { IsTaken (raw_closing hashes) rest.old result rest.new }
 #[inline]
 fn consume_closing(rest: &mut Rest<'_>, hashes: usize) -> bool {
     rest.next_eq('"') && consume_hashes(rest, hashes)
 }
 
 /// Returns whether the snippet is a raw literal with this many hashes that stands for the text.
-// ensures { IsTrue result ↔ (chars snippet.now ≡ raw_frame hashes (chars text.now)) }
 #[inline]
 fn is_raw_literal(snippet: &str, hashes: usize, text: &str) -> bool {
     let mut rest = Rest::new(snippet);
@@ -330,10 +281,6 @@ fn is_raw_literal(snippet: &str, hashes: usize, text: &str) -> bool {
 
 /// Returns the byte offset in a raw literal at which the text ends that it stands for, or `None` if
 /// the snippet is no such literal with this many hashes.
-// ensures { MatchOption result
-//     (chars snippet.now ≡ raw_frame hashes (chars text.now) → ⊥)
-//     (λ e. (chars snippet.now ≡ raw_frame hashes (chars text.now))
-//     × (e ≡ literal_end (Some hashes) (chars snippet.now))) }
 #[inline]
 fn raw_end(snippet: &str, hashes: usize, text: &str) -> Option<usize> {
     if is_raw_literal(snippet, hashes, text) {
@@ -345,9 +292,6 @@ fn raw_end(snippet: &str, hashes: usize, text: &str) -> Option<usize> {
 
 /// Returns the byte offset at which the text of the source literal of the input ends, or `None` if
 /// the snippet is not its source literal.
-// ensures { MatchOption result
-//     (IsSource (chars input.now) style (chars snippet.now) appended_newline → ⊥)
-//     (λ e. IsSourceTo (chars input.now) style (chars snippet.now) appended_newline e) }
 #[inline]
 pub(crate) fn source_end(
     input: &str,
@@ -369,8 +313,6 @@ pub(crate) fn source_end(
 ///
 /// The rule is that of string literals in the Rust Reference, except that a raw literal may hold
 /// any character. Does not allocate.
-// ensures { IsTrue result
-//     ↔ IsSource (chars input.now) style (chars snippet.now) appended_newline }
 #[inline]
 pub fn is_source_literal(
     input: &str,

@@ -4,8 +4,7 @@
 //! takes 100 to 750 instructions more for each.
 
 // Extracted from crates/rustc_parse_format/src/messages.rt by tools/extract: not to be edited.
-// That source is proved, and each contract here is its. That this text means the same is tested:
-// by results from outside, and beside what is proved (.ci/bindings) and the original (tools/agree).
+// That source has the contracts, and is proved. That this text means the same is only tested.
 
 use crate::proved::rustc_parse_format::faults::Fault;
 use crate::proved::rustc_parse_format::types::{ParseError, Suggestion};
@@ -16,7 +15,6 @@ use core::ops::Range;
 
 /// Returns the description of a missing closing brace, from the character found in its place, or
 /// `None` at the end of the input.
-// ensures { IfOk result (λ s. string_bytes s ≡ expected found) }
 #[inline]
 fn expected_brace(found: Option<char>) -> Result<String, AllocError> {
     let Some(c) = found else {
@@ -31,7 +29,6 @@ fn expected_brace(found: Option<char>) -> Result<String, AllocError> {
 }
 
 /// Returns the description of a number above 65535, from its digits.
-// ensures { IfOk result (λ s. string_bytes s ≡ out_of_range (chars digits.now)) }
 #[inline]
 fn out_of_range(digits: &str) -> Result<String, AllocError> {
     let mut text = String::made_for(70 + digits.len())?;
@@ -42,7 +39,6 @@ fn out_of_range(digits: &str) -> Result<String, AllocError> {
 }
 
 /// Returns the flag with the type `?` after it.
-// ensures { IfOk result (λ s. string_bytes s ≡ encode_utf8_all (flag ∷ codes "?")) }
 #[inline]
 fn flagged_type(flag: char) -> Result<String, AllocError> {
     let mut text = String::made_for(1 + flag.len_utf8())?;
@@ -52,7 +48,6 @@ fn flagged_type(flag: char) -> Result<String, AllocError> {
 }
 
 /// Returns the note on how to write the type `?` for the argument `word`.
-// ensures { IfOk result (λ s. string_bytes s ≡ debug_after (chars word.now)) }
 #[inline]
 fn debug_after(word: &str) -> Result<String, AllocError> {
     let mut text = String::made_for(37 + word.len())?;
@@ -63,7 +58,6 @@ fn debug_after(word: &str) -> Result<String, AllocError> {
 }
 
 /// Returns the label on where an alignment belongs.
-// ensures { IfOk result (λ s. string_bytes s ≡ align_after sign) }
 #[inline]
 fn align_after(sign: char) -> Result<String, AllocError> {
     let mut text = String::made_for(30 + sign.len_utf8())?;
@@ -74,11 +68,6 @@ fn align_after(sign: char) -> Result<String, AllocError> {
 }
 
 /// Sets the description, the label and the span of an error.
-// ensures { OnOk result (seen_error into.new ≡ record (seen_error into.old) {
-//   description = string_bytes description;
-//   label = label.now;
-//   span = pair span.now;
-// }) }
 #[inline(always)]
 fn set_texts(
     into: &mut ParseError,
@@ -93,12 +82,6 @@ fn set_texts(
 }
 
 /// Sets the description, the note, the label and the span of an error.
-// ensures { OnOk result (seen_error into.new ≡ record (seen_error into.old) {
-//   description = description.now;
-//   note = Some note.now;
-//   label = label.now;
-//   span = pair span.now;
-// }) }
 #[inline(always)]
 fn set_texts_with_note(
     into: &mut ParseError,
@@ -114,13 +97,6 @@ fn set_texts_with_note(
 
 /// Sets the description, the note, the span and the secondary label of an error whose label is that
 /// of a missing closing brace.
-// ensures { OnOk result (seen_error into.new ≡ record (seen_error into.old) {
-//   description = string_bytes description;
-//   note = Some note.now;
-//   label = codes "expected `}`";
-//   span = pair span.now;
-//   second = Some (second.entry.0.now, pair second.entry.1.now);
-// }) }
 #[inline]
 fn set_brace_error(
     into: &mut ParseError,
@@ -135,8 +111,6 @@ fn set_brace_error(
 }
 
 /// Sets the texts and the span of the error of a field access.
-// requires { seen_error into.old ≡ suggesting UsePositional (error [] None [] (0, 0) None) }
-// ensures { OnOk result (seen_error into.new ≡ local_variable description.now (pair span.now)) }
 #[inline]
 fn set_field_error(
     into: &mut ParseError,
@@ -154,8 +128,6 @@ fn set_field_error(
 
 impl Fault<'_> {
     /// Returns the suggestion of the fault's error, and makes none of the error's other texts.
-    // ensures { IfOk result (λ s. seen_suggestion s
-    //     ≡ (message (seen_fault self.now)).suggestion) }
     #[inline(always)]
     pub(crate) fn suggestion(&self) -> Result<Suggestion, AllocError> {
         let suggestion = match self {
@@ -173,8 +145,6 @@ impl Fault<'_> {
 }
 
 /// Sets an error, which is still empty, to that of a fault.
-// requires { seen_error into.old ≡ error [] None [] (0, 0) None }
-// ensures { OnOk result (seen_error into.new ≡ message (seen_fault fault.now)) }
 #[inline]
 pub fn set_error(into: &mut ParseError, fault: &Fault<'_>) -> Result<(), AllocError> {
     match fault {

@@ -2,15 +2,13 @@
 //! argument, and whether it is an identifier.
 
 // Extracted from crates/rustc_parse_format/src/methods.rt by tools/extract: not to be edited.
-// That source is proved, and each contract here is its. That this text means the same is tested:
-// by results from outside, and beside what is proved (.ci/bindings) and the original (tools/agree).
+// That source has the contracts, and is proved. That this text means the same is only tested.
 
 use crate::proved::rustc_parse_format::laws::{default_of_spec, specs_are_equal};
 use crate::proved::rustc_parse_format::types::{Argument, Position};
 
 impl Position<'_> {
     /// Returns the index of the argument, or `None` if it is given by name.
-    // ensures { result ≡ index_of self.now }
     #[inline]
     pub fn index(&self) -> Option<usize> {
         match self {
@@ -23,7 +21,6 @@ impl Position<'_> {
 impl Argument<'_> {
     /// Returns whether the argument is a name and nothing else: its format is the default, without
     /// any span.
-    // ensures { IsTrue result ↔ IsIdentifier (seen_argument self.now) }
     #[inline]
     pub fn is_identifier(&self) -> bool {
         matches!(self.position, Position::ArgumentNamed(_))

@@ -19,8 +19,7 @@
 //! unchanged. docs/RATTLE.md lists the calls, docs/PROMISES.md what is proved of each.
 
 // Extracted from crates/rustc_parse_format/src/lib.rt by tools/extract: not to be edited.
-// That source is proved, and each contract here is its. That this text means the same is tested:
-// by results from outside, and beside what is proved (.ci/bindings) and the original (tools/agree).
+// That source has the contracts, and is proved. That this text means the same is only tested.
 
 pub(crate) mod blocks;
 pub(crate) mod call;

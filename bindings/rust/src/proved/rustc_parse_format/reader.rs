@@ -2,8 +2,7 @@
 //! the faults, lines and place that the call has found so far.
 
 // Extracted from crates/rustc_parse_format/src/reader.rt by tools/extract: not to be edited.
-// That source is proved, and each contract here is its. That this text means the same is tested:
-// by results from outside, and beside what is proved (.ci/bindings) and the original (tools/agree).
+// That source has the contracts, and is proved. That this text means the same is only tested.
 
 use crate::proved::rustc_parse_format::characters::Class;
 use crate::proved::rustc_parse_format::cursor::Cursor;
@@ -32,7 +31,6 @@ pub struct Reader<'input> {
 impl<'input> Reader<'input> {
     /// Returns a reader at `cursor`, whose next implicit argument has the index 0 and whose current
     /// line starts at the byte offset `line_start`. Does not allocate.
-    // ensures { result ≡ midway cursor.entry 0 line_start }
     #[inline]
     pub(crate) fn new(cursor: Cursor<'input>, line_start: usize) -> Reader<'input> {
         Reader {
@@ -46,10 +44,6 @@ impl<'input> Reader<'input> {
     }
 
     /// Adds a fault. Returns `Err` if an allocation fails; the first fault of a call needs none.
-    // ensures state { OnOk result (self.new
-    //     ≡ record self.old { faults = self.old.faults ++ seen_fault fault.entry ∷ [] }) }
-    // ensures source { self.new.source ≡ self.old.source }
-    // ensures spare { self.old.faults ≡ [] → IsOk result }
     #[inline]
     pub(crate) fn note(&mut self, fault: Fault<'input>) -> Result<(), AllocError> {
         self.faults.try_push(fault)?;
@@ -57,16 +51,12 @@ impl<'input> Reader<'input> {
     }
 
     /// Returns whether no input is left.
-    // ensures { IsTrue result ↔ (self.now.rest ≡ []) }
     #[inline]
     pub fn is_at_end(&self) -> bool {
         self.cursor.peek().is_none()
     }
 
     /// Returns the index of the next implicit argument, and increments it.
-    // requires { self.old.next + 1 < 2 ^ 64 }
-    // ensures value { result ≡ self.old.next }
-    // ensures state { self.new ≡ record self.old { next = self.old.next + 1 } }
     #[inline]
     pub fn take_curarg(&mut self) -> usize {
         let number = self.curarg;
@@ -75,8 +65,6 @@ impl<'input> Reader<'input> {
     }
 
     /// Returns the byte range of the current line, up to the next character.
-    // ensures { pair result
-    //     ≡ (self.now.line_start, number_of self.now.world (Start (length self.now.rest))) }
     #[inline]
     pub fn line(&self) -> Range<usize> {
         self.line_start..self.cursor.start()
@@ -84,9 +72,6 @@ impl<'input> Reader<'input> {
 
     /// Reads the longest prefix without braces, which may be empty. Returns `Err` if an allocation
     /// fails; allocates only for lines that end in the prefix.
-    // ensures value { IfOk result (λ t. chars t.now ≡ front is_no_brace self.old.rest) }
-    // ensures reads { Reaches self.old result self.new (read_run self.old)
-    //     (IsInOneLine self.old) }
     #[inline]
     pub(crate) fn string(&mut self) -> Result<&'input str, AllocError> {
         let from = self.cursor.checkpoint();
@@ -97,10 +82,6 @@ impl<'input> Reader<'input> {
     /// Reads the next character, and the longest prefix without braces after it, which alone counts
     /// as text for the lines. Returns `Err` if an allocation fails; allocates only for lines that
     /// end in the prefix.
-    // ensures value { IfOk result (λ t. chars t.now
-    //     ≡ with_first self.old.rest (front is_no_brace (after_first self.old.rest))) }
-    // ensures reads { let s = record self.old { rest = after_first self.old.rest } in
-    //     Reaches self.old result self.new (read_run s) (IsInOneLine s) }
     #[inline]
     pub(crate) fn string_past_brace(&mut self) -> Result<&'input str, AllocError> {
         let from = self.cursor.checkpoint();
@@ -111,8 +92,6 @@ impl<'input> Reader<'input> {
 
     /// Moves past the longest prefix without braces. In a source literal it does so line by line,
     /// and records the lines that end.
-    // ensures reads { Reaches self.old result self.new (read_run self.old)
-    //     (IsInOneLine self.old) }
     #[inline(never)]
     fn skip_string(&mut self) -> Result<(), AllocError> {
         if self.cursor.is_source_literal() {
@@ -124,9 +103,6 @@ impl<'input> Reader<'input> {
 
     /// Moves past the longest prefix without braces of a source literal, line by line, and records
     /// the lines that end.
-    // requires { IsTrue self.old.world.has_source }
-    // ensures reads { Reaches self.old result self.new (read_run self.old)
-    //     (IsInOneLine self.old) }
     #[inline(never)]
     fn skip_lines(&mut self) -> Result<(), AllocError> {
         while let Some(c) = self.cursor.peek() {
@@ -146,9 +122,6 @@ impl<'input> Reader<'input> {
 
     /// Returns whether the next character `c` is past the indentation of the current line. Moves
     /// only the anchor, which no contract shows.
-    // ensures state { self.new ≡ self.old }
-    // ensures past { IsTrue result → first self.old.rest ≡ Some c
-    //     → IsPastIndent c self.old.line_start self.old.world self.old.rest }
     #[inline(always)]
     fn is_past_indent(&mut self, c: char) -> bool {
         self.cursor.move_anchor();
@@ -157,8 +130,6 @@ impl<'input> Reader<'input> {
 
     /// Moves past the newline that comes next in a source literal, and records the line that it
     /// ends.
-    // ensures state { OnOk result (self.new ≡ passed_next 10 self.old) }
-    // ensures err { OnErr result (self.new.source ≡ self.old.source) }
     #[inline]
     fn consume_newline(&mut self) -> Result<(), AllocError> {
         let newline = self.cursor.consume_place();
@@ -169,8 +140,6 @@ impl<'input> Reader<'input> {
 
     /// Moves past the next character of a source literal, which is not a newline. White space at
     /// the start of the line is left out of the line.
-    // requires { c ≢ 10 }
-    // ensures state { self.new ≡ passed_next c self.old }
     #[inline]
     fn skip_in_line(&mut self, c: char) {
         let place = self.cursor.consume_place();

@@ -1,8 +1,7 @@
 //! Recovery from a missing closing brace, by the character found in its place.
 
 // Extracted from crates/rustc_parse_format/src/recover.rt by tools/extract: not to be edited.
-// That source is proved, and each contract here is its. That this text means the same is tested:
-// by results from outside, and beside what is proved (.ci/bindings) and the original (tools/agree).
+// That source has the contracts, and is proved. That this text means the same is only tested.
 
 use crate::proved::rustc_parse_format::faults::Fault;
 use crate::proved::rustc_parse_format::reader::Reader;
@@ -13,7 +12,6 @@ use core::ops::Range;
 /// Returns the fault of the character `sign` in place of a closing brace, or `None` if it has none
 /// of its own. The character after it is `next`, and the opening brace has the byte range
 /// `opening`.
-// ensures { option_map seen_fault result ≡ sign_fault sign next (pair span) (pair opening) }
 #[inline]
 fn sign_fault<'input>(
     sign: char,
@@ -33,14 +31,12 @@ fn sign_fault<'input>(
 
 /// Returns whether `sign` is the dot of a field access: a dot after an argument that is only a
 /// name.
-// ensures { result ≡ (sign == 46 && is_identifier (seen_argument argument.now)) }
 #[inline]
 fn begins_field(sign: char, argument: &Argument<'_>) -> bool {
     sign == '.' && argument.is_identifier()
 }
 
 /// Returns whether `sign` is a `?` that no closing brace follows.
-// ensures { result ≡ (sign == 63 && not (next == 125)) }
 #[inline]
 fn begins_late_debug(sign: char, next: char) -> bool {
     sign == '?' && next != '}'
@@ -49,10 +45,6 @@ fn begins_late_debug(sign: char, next: char) -> bool {
 impl<'input> Reader<'input> {
     /// Moves past the next character, which is `sign`, and adds its fault. Changes nothing if it
     /// has none of its own.
-    // ensures state { (let span = place_of self.old.world (over_first self.old.rest) in
-    //     OnOk result (self.new
-    //     ≡ after_sign self.old (sign_fault sign next span (pair opening)))) }
-    // ensures err { OnErr result (self.new.source ≡ self.old.source) }
     #[inline]
     fn suggest_sign(
         &mut self,
@@ -70,9 +62,6 @@ impl<'input> Reader<'input> {
 
     /// Moves past a `?`. If a colon follows, also moves past that and the word after it, which may
     /// be empty, and adds a fault.
-    // ensures state { OnOk result (self.new
-    //     ≡ recovered self.old (late_debug self.old.next self.old.rest)) }
-    // ensures err { OnErr result (self.new.source ≡ self.old.source) }
     #[inline]
     fn suggest_format_debug(&mut self) -> Result<(), AllocError> {
         let span = self.cursor.start()..self.cursor.stop();
@@ -90,11 +79,6 @@ impl<'input> Reader<'input> {
     /// Moves past a `.`, the field after it, and a closing brace directly after that. With the
     /// brace, a field that is a name or a number is a fault. The argument starts at the byte offset
     /// `from`.
-    // requires here { self.old.rest ≢ [] }
-    // requires numbers { self.old.next + length self.old.rest < 2 ^ 64 }
-    // ensures state { OnOk result ((m : Mark) → from ≡ number_of self.old.world m → self.new
-    //     ≡ recovered self.old (field (seen_mode mode) self.old.next m self.old.rest)) }
-    // ensures source { self.new.source ≡ self.old.source }
     #[inline]
     fn suggest_positional_arg_instead_of_captured_arg(
         &mut self,
@@ -117,12 +101,6 @@ impl<'input> Reader<'input> {
 
     /// Recovers from a missing closing brace of `argument`, by the next character. The opening
     /// brace has the byte range `opening`.
-    // requires numbers { self.old.next + length self.old.rest < 2 ^ 64 }
-    // ensures state { OnOk result ((o : Text) (a : ArgumentValue Span)
-    //     → pair opening ≡ place_of self.old.world (over_first o)
-    //     → seen_argument argument.now ≡ map_argument (place_of self.old.world) a → self.new
-    //     ≡ recovered self.old (recovery (seen_mode mode) self.old.next o a self.old.rest)) }
-    // ensures source { self.new.source ≡ self.old.source }
     #[inline(never)]
     pub(crate) fn recover(
         &mut self,

@@ -1,8 +1,7 @@
 //! The source of an input, and the byte ranges that the characters of the input have in it.
 
 // Extracted from crates/rustc_parse_format/src/source.rt by tools/extract: not to be edited.
-// That source is proved, and each contract here is its. That this text means the same is tested:
-// by results from outside, and beside what is proved (.ci/bindings) and the original (tools/agree).
+// That source has the contracts, and is proved. That this text means the same is only tested.
 
 use crate::shim::prelude::*;
 pub(crate) mod anchor;
@@ -32,8 +31,6 @@ pub struct Source<'input> {
 impl<'input> Source<'input> {
     /// Returns the byte offset in the source at which the first character of `rest` starts, or if
     /// `rest` is empty the one at which the text ends.
-    // requires { IsAnchored self.now rest.now anchor.now }
-    // ensures { result ≡ number_of (seen_world self.now) (Start (length (chars rest.now))) }
     #[inline(always)]
     pub fn start(&self, rest: &'input str, anchor: &Anchor<'input>) -> usize {
         if rest.is_empty() {
@@ -47,8 +44,6 @@ impl<'input> Source<'input> {
 
     /// Returns the byte offset in the source at which the first character of `rest` ends, or if
     /// `rest` is empty the one at which the text ends.
-    // requires { IsAnchored self.now rest.now anchor.now }
-    // ensures { result ≡ number_of (seen_world self.now) (End (length (chars rest.now))) }
     #[inline(always)]
     pub fn stop(&self, rest: &'input str, anchor: &Anchor<'input>) -> usize {
         if rest.is_empty() {
@@ -63,10 +58,6 @@ impl<'input> Source<'input> {
     /// Returns the byte range in the source of the first character of `rest`, and the text after
     /// it. If `rest` is empty, returns the empty range where the text ends. May move the anchor up
     /// to the text that is left.
-    // requires { IsAnchored self.now rest.now anchor.old }
-    // ensures place { pair result.0 ≡ place_at (seen_world self.now) (length (chars rest.now)) }
-    // ensures rest { chars result.1.now ≡ after_first (chars rest.now) }
-    // ensures anchored { IsAnchored self.now result.1.now anchor.new }
     #[inline(always)]
     pub fn pass(
         &self,
@@ -90,9 +81,6 @@ impl<'input> Source<'input> {
     }
 
     /// Returns the byte offset of `rest` in the input.
-    // requires { IsLeft self.now.input.now rest.now }
-    // ensures { result
-    //     ≡ byte_length (chars self.now.input.now) - byte_length (chars rest.now) }
     #[inline(always)]
     pub fn position(&self, rest: &'input str) -> usize {
         self.input.len() - rest.len()
@@ -100,9 +88,6 @@ impl<'input> Source<'input> {
 
     /// Returns the byte range in the source of the first character of `rest`, its byte offset in
     /// the input, and the character itself, or `None` if `rest` is empty.
-    // requires { IsAnchored self.now rest.now anchor.now }
-    // ensures { option_map (λ x. (pair x.0, x.1, x.2)) result
-    //     ≡ first_of (seen_world self.now) (chars self.now.input.now) (chars rest.now) }
     #[inline(always)]
     pub fn peek_place(
         &self,
@@ -121,8 +106,6 @@ impl<'input> Source<'input> {
 
 /// Returns the length in bytes of the opening of a literal: a quote, or an `r`, the hashes and a
 /// quote.
-// requires { hashes style + 2 < 2 ^ 64 }
-// ensures { result ≡ quote_offset style }
 #[inline]
 pub fn quote_offset(style: Option<usize>) -> usize {
     match style {
@@ -133,8 +116,6 @@ pub fn quote_offset(style: Option<usize>) -> usize {
 
 /// Returns the byte offset at which a text without a source literal ends: the length of the
 /// snippet, or without a snippet that of the input, less its appended newline.
-// ensures { result
-//     ≡ plain_end (chars input.now) (seen_snippet snippet.now) appended_newline }
 #[inline]
 fn plain_end(input: &str, snippet: &Option<String>, appended_newline: bool) -> usize {
     match snippet {
@@ -146,8 +127,6 @@ fn plain_end(input: &str, snippet: &Option<String>, appended_newline: bool) -> u
 
 /// Returns the byte offset at which the text of the input's source literal ends, or `None` if there
 /// is no snippet or it is not that literal.
-// ensures { IsFound (chars input.now) style
-//     (seen_snippet snippet.now) appended_newline result }
 #[inline]
 fn found_end(
     input: &str,
@@ -163,9 +142,6 @@ fn found_end(
 
 /// Returns whether an ordinary source literal is longer than its quotes and the text that it stands
 /// for, so that it has escapes. Returns false for a raw literal and without a snippet.
-// requires { length input.now + 2 < 2 ^ 64 }
-// ensures { result ≡ is_longer (chars input.now) style
-//     (seen_snippet snippet.now) appended_newline }
 #[inline]
 fn is_longer(
     input: &str,
@@ -183,7 +159,6 @@ fn is_longer(
 }
 
 /// Returns the snippet if it is to be kept, or else `None`.
-// ensures { result ≡ (if is_kept then snippet else None) }
 #[inline]
 fn kept_if(is_kept: bool, snippet: Option<String>) -> Option<String> {
     if is_kept {
@@ -196,12 +171,6 @@ fn kept_if(is_kept: bool, snippet: Option<String>) -> Option<String> {
 /// Returns the source of an input. The style of its literal is `None` for an ordinary one, or the
 /// number of the hashes of a raw one; `appended_newline` is whether a newline was appended to the
 /// input.
-// requires { hashes style + length input.now + 2 < 2 ^ 64 }
-// ensures input { result.input.now ≡ input.now }
-// ensures world { seen_world result ≡ world (chars input.now) style
-//     (seen_snippet snippet) appended_newline }
-// ensures fits { result.offset + length input.now < 2 ^ 64 }
-// ensures kept { IsKept result }
 #[inline(always)]
 pub fn source_of<'input>(
     input: &'input str,
@@ -226,9 +195,6 @@ pub fn source_of<'input>(
 }
 
 /// Returns the anchor at the first character of the input of `source`.
-// requires { IsKept source.now }
-// ensures rest { result.rest.now ≡ source.now.input.now }
-// ensures anchor { IsAnchorIn source.now.kept_snippet (seen_world source.now) result }
 #[inline(always)]
 pub fn first_anchor<'input>(source: &Source<'input>) -> Anchor<'input> {
     match &source.kept_snippet {

@@ -1,8 +1,7 @@
 //! The public types, with their derives.
 
 // Extracted from crates/rustc_parse_format/src/types.rt by tools/extract: not to be edited.
-// That source is proved, and each contract here is its. That this text means the same is tested:
-// by results from outside, and beside what is proved (.ci/bindings) and the original (tools/agree).
+// That source has the contracts, and is proved. That this text means the same is only tested.
 
 use crate::shim::prelude::*;
 use core::ops::Range;
@@ -193,7 +192,6 @@ pub enum Suggestion {
 }
 
 /// Returns whether each argument has to be a name and nothing else.
-// ensures { result ≡ wants_names (seen_mode mode) }
 #[inline]
 pub fn wants_names(mode: ParseMode) -> bool {
     matches!(mode, ParseMode::DiagnosticNamed)

@@ -1,8 +1,7 @@
 //! How a character is written in an error message and in a quoted text.
 
 // Extracted from crates/rustc_parse_format/src/written.rt by tools/extract: not to be edited.
-// That source is proved, and each contract here is its. That this text means the same is tested:
-// by results from outside, and beside what is proved (.ci/bindings) and the original (tools/agree).
+// That source has the contracts, and is proved. That this text means the same is only tested.
 
 use crate::proved::rustc_parse_format::characters::Class;
 use crate::proved::rustc_parse_format::literal::Rest;
@@ -10,7 +9,6 @@ use crate::shim::alloc::AllocError;
 use crate::shim::prelude::*;
 
 /// Returns the short escape of a character, or `None` if it has none.
-// ensures { option_map (λ s. s.now) result ≡ short_escape c }
 #[inline]
 fn short_escape(c: char) -> Option<&'static str> {
     match c {
@@ -26,9 +24,7 @@ fn short_escape(c: char) -> Option<&'static str> {
 }
 
 /// Appends a character that has no short escape: an ASCII control character as `\u{..}`, any other
-/// as it is. Returns `Err` if an allocation fails, and `out` is then unchanged.
-// ensures ok { OnOk result (string_bytes out.new ≡ string_bytes out.old ++ plainly_written c) }
-// ensures err { OnErr result (string_bytes out.new ≡ string_bytes out.old) }
+/// as it is.
 #[inline]
 fn put_plainly_written(out: &mut String, c: char) -> Result<(), AllocError> {
     let code = u32::from(c);
@@ -42,10 +38,7 @@ fn put_plainly_written(out: &mut String, c: char) -> Result<(), AllocError> {
     Ok(())
 }
 
-/// Appends a character, escaped if it has an escape or is an ASCII control character. Returns `Err`
-/// if an allocation fails, and `out` is then unchanged.
-// ensures ok { OnOk result (string_bytes out.new ≡ string_bytes out.old ++ written c) }
-// ensures err { OnErr result (string_bytes out.new ≡ string_bytes out.old) }
+/// Appends a character, escaped if it has an escape or is an ASCII control character.
 #[inline]
 pub fn put_written(out: &mut String, c: char) -> Result<(), AllocError> {
     match short_escape(c) {
@@ -56,7 +49,6 @@ pub fn put_written(out: &mut String, c: char) -> Result<(), AllocError> {
 }
 
 /// Appends a run of characters, which is often empty.
-// ensures { OnOk result (string_bytes out.new ≡ string_bytes out.old ++ run.now) }
 #[inline(always)]
 fn push_run(out: &mut String, run: &str) -> Result<(), AllocError> {
     if run.is_empty() {
@@ -66,19 +58,13 @@ fn push_run(out: &mut String, run: &str) -> Result<(), AllocError> {
 }
 
 /// Appends the characters that come next and are written as they are.
-// ensures written { OnOk result (string_bytes out.new ++ flat_map written rest.new
-//     ≡ string_bytes out.old ++ flat_map written rest.old) }
-// ensures shorter { length rest.new ≤ length rest.old }
 #[inline(always)]
 fn put_unchanged(out: &mut String, rest: &mut Rest<'_>) -> Result<(), AllocError> {
     push_run(out, rest.take_run(Class::Unchanged))?;
     Ok(())
 }
 
-/// Appends the characters of a text, each as [`put_written`] does. Returns `Err` if an allocation
-/// fails, and `out` may then have a part of them.
-// ensures { OnOk result (string_bytes out.new
-//     ≡ string_bytes out.old ++ flat_map written (chars text.now)) }
+/// Appends the characters of a text, each as [`put_written`] does.
 #[inline]
 pub fn put_all_written(out: &mut String, text: &str) -> Result<(), AllocError> {
     let mut rest = Rest::new(text);

@@ -1,8 +1,7 @@
 //! The findings of calls whose arguments are wrong, in rustc's words.
 
 // Extracted from crates/source_lint/src/form_words.rt by tools/extract: not to be edited.
-// That source is proved, and each contract here is its. That this text means the same is tested:
-// by results from outside, and beside what is proved (.ci/bindings) and the original (tools/agree).
+// That source has the contracts, and is proved. That this text means the same is only tested.
 
 use crate::proved::asm_lint::{call_range, range_in, tokens_range};
 use crate::proved::call_forms::{kind_word, Expected, Form, Operator};
@@ -14,7 +13,6 @@ use crate::shim::prelude::*;
 use core::ops::Range;
 
 /// Returns the id of what is wrong, in kebab case.
-// ensures { result.now ≡ form_id (seen_form form.entry) }
 #[inline]
 fn form_id(form: Form<'_>) -> &'static str {
     match form {
@@ -26,8 +24,6 @@ fn form_id(form: Form<'_>) -> &'static str {
 }
 
 /// Adds a token that rustc found, in its words.
-// ensures { OnOk result (string_bytes out.new
-//     ≡ string_bytes out.old ++ found_text (seen_operator found.entry)) }
 #[inline]
 fn put_found(out: &mut String, found: Operator<'_>) -> Result<(), AllocError> {
     out.try_push_str(kind_word(found.first.text))?;
@@ -40,7 +36,6 @@ fn put_found(out: &mut String, found: Operator<'_>) -> Result<(), AllocError> {
 }
 
 /// Returns the tokens that rustc expects, in its words, up to the one that it found.
-// ensures { result.now ≡ expected_words expected }
 #[inline]
 fn expected_words(expected: Expected) -> &'static str {
     match expected {
@@ -52,7 +47,6 @@ fn expected_words(expected: Expected) -> &'static str {
 }
 
 /// Returns the title where an expression is missing, up to what rustc found.
-// ensures { result.now ≡ missing_words }
 #[inline]
 fn missing_words() -> &'static str {
     "expected expression, found "
@@ -60,7 +54,6 @@ fn missing_words() -> &'static str {
 
 /// Returns the title where an argument ends without an expression, at the end of the call or at a
 /// comma.
-// ensures { result.now ≡ end_words is_last }
 #[inline]
 fn end_words(is_last: bool) -> &'static str {
     if is_last {
@@ -71,8 +64,6 @@ fn end_words(is_last: bool) -> &'static str {
 }
 
 /// Adds the title.
-// ensures { OnOk result (string_bytes out.new
-//     ≡ string_bytes out.old ++ form_title (seen_form form.entry)) }
 #[inline]
 fn put_title(out: &mut String, form: Form<'_>) -> Result<(), AllocError> {
     match form {
@@ -92,7 +83,6 @@ fn put_title(out: &mut String, form: Form<'_>) -> Result<(), AllocError> {
 }
 
 /// Returns the label of a token where rustc expects others.
-// ensures { result.now ≡ expected_label expected }
 #[inline]
 fn expected_label(expected: Expected) -> &'static str {
     match expected {
@@ -104,7 +94,6 @@ fn expected_label(expected: Expected) -> &'static str {
 }
 
 /// Returns the text of the primary label.
-// ensures { result.now ≡ form_label (seen_form form.entry) }
 #[inline]
 fn form_label(form: Form<'_>) -> &'static str {
     match form {
@@ -154,7 +143,6 @@ fn found_range(found: Operator<'_>) -> Range<usize> {
 }
 
 /// Returns the bytes that are wrong.
-// ensures { IsSpan text.now result }
 #[inline]
 fn form_range(
     text: &str,
@@ -177,14 +165,12 @@ fn form_range(
 }
 
 /// Returns what is said of the `b` of a byte string literal.
-// ensures { result.now ≡ bytes_label }
 #[inline]
 fn bytes_label() -> &'static str {
     "help: consider removing the leading `b`"
 }
 
 /// Returns whether a byte string literal stands where the format string should.
-// ensures { result ≡ has_bytes (seen_form form.entry) }
 #[inline]
 fn has_bytes(form: Form<'_>) -> bool {
     match form {
@@ -195,7 +181,6 @@ fn has_bytes(form: Form<'_>) -> bool {
 
 /// Returns how many arguments stand after the expression in whose place a literal is missing, or
 /// `None` if none is.
-// ensures { result ≡ lacks_literal (seen_form form.entry) }
 #[inline]
 fn lacks_literal(form: Form<'_>) -> Option<usize> {
     match form {
@@ -211,8 +196,6 @@ fn lacks_literal(form: Form<'_>) -> Option<usize> {
 }
 
 /// Adds a label.
-// ensures { OnOk result ((l : LabelValue) × (labels.new.items ≡ labels.old.items ++ l ∷ [])
-//     × (l.range ≡ range) × (l.is_primary ≡ is_primary) × (string_bytes l.text ≡ text.now)) }
 #[inline]
 fn push_label(
     labels: &mut Vec<Label>,
@@ -230,9 +213,6 @@ fn push_label(
 }
 
 /// Returns the labels of what is wrong with these bytes.
-// requires { IsSpan text.now span.now }
-// ensures outcome { IfOk result (λ v. TellLabels (form_labels (seen_form form.entry)) v.items) }
-// ensures spans { IfOk result (λ v. All (λ l. IsSpan text.now l.range) v.items) }
 #[inline]
 fn form_labels(text: &str, span: &Range<usize>, form: Form<'_>) -> Result<Vec<Label>, AllocError> {
     let mut labels = Vec::new();
@@ -245,7 +225,6 @@ fn form_labels(text: &str, span: &Range<usize>, form: Form<'_>) -> Result<Vec<La
 }
 
 /// Adds this many placeholders, each after a space.
-// ensures { OnOk result (string_bytes out.new ≡ string_bytes out.old ++ more_placeholders count) }
 #[inline]
 fn put_more(out: &mut String, count: usize) -> Result<(), AllocError> {
     let mut left = count;
@@ -257,7 +236,6 @@ fn put_more(out: &mut String, count: usize) -> Result<(), AllocError> {
 }
 
 /// Returns the format string for an argument and so many others, with the comma after it.
-// ensures { IfOk result (λ s. string_bytes s ≡ literal_for others) }
 #[inline]
 fn literal_for(others: usize) -> Result<String, AllocError> {
     let mut text = String::made_from("\"{}")?;
@@ -267,9 +245,6 @@ fn literal_for(others: usize) -> Result<String, AllocError> {
 }
 
 /// Returns the help, or `None` if there is none that is no label.
-// ensures outcome { IfOk result (λ o. TellsHelp (form_help (seen_form form.entry)) o) }
-// ensures spans { IfOk result (λ o. IfSome o (λ h. All (λ e. IsSpan text.now e.range)
-//     h.edits.items)) }
 #[inline]
 fn form_help(text: &str, span: &Range<usize>, form: Form<'_>) -> Result<Option<Help>, AllocError> {
     let Some(others) = lacks_literal(form) else {
@@ -287,9 +262,6 @@ fn form_help(text: &str, span: &Range<usize>, form: Form<'_>) -> Result<Option<H
 }
 
 /// Returns the finding of what is wrong with the arguments of a call.
-// requires { IsSpan text.now span }
-// ensures outcome { IfOk result (λ x. TellsForm (seen_form form.entry) x) }
-// ensures spans { IfOk result (λ x. HasSpans text.now x) }
 #[inline]
 fn form_finding(text: &str, span: Range<usize>, form: Form<'_>) -> Result<Finding, AllocError> {
     let mut title = String::new();
@@ -308,11 +280,6 @@ fn form_finding(text: &str, span: Range<usize>, form: Form<'_>) -> Result<Findin
 }
 
 /// Adds the finding of what is wrong with the arguments of a call, if anything is.
-// ensures outcome { OnOk result ((xs : List FindingValue)
-//     × (findings.new.items ≡ findings.old.items ++ xs)
-//     × TellsForms (option_map seen_form form.entry) xs) }
-// ensures spans { OnOk result (All (HasSpans text.now) findings.old.items
-//     → All (HasSpans text.now) findings.new.items) }
 #[inline]
 pub fn put_form(
     findings: &mut Vec<Finding>,

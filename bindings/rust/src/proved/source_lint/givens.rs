@@ -1,8 +1,7 @@
 //! The arguments of a call, as its placeholders refer to them.
 
 // Extracted from crates/source_lint/src/givens.rt by tools/extract: not to be edited.
-// That source is proved, and each contract here is its. That this text means the same is tested:
-// by results from outside, and beside what is proved (.ci/bindings) and the original (tools/agree).
+// That source has the contracts, and is proved. That this text means the same is only tested.
 
 use crate::proved::asm_lint::{name_of, without_raw};
 use crate::proved::call_faults::FormatArgument;
@@ -13,7 +12,6 @@ use crate::shim::alloc::AllocError;
 use crate::shim::prelude::*;
 
 /// Returns whether a word is an expression by itself, and no variable.
-// ensures { result ≡ is_keyword word.now }
 #[inline]
 fn is_keyword(word: &str) -> bool {
     word == "_"
@@ -26,7 +24,6 @@ fn is_keyword(word: &str) -> bool {
 }
 
 /// Returns the variable that a token is, without `r#`, or `None` if it is none.
-// ensures { option_map text result ≡ variable (leaf token.now) }
 #[inline]
 fn variable<'a>(token: &Token<'a>) -> Option<&'a str> {
     match token.kind {
@@ -43,7 +40,6 @@ fn variable<'a>(token: &Token<'a>) -> Option<&'a str> {
 }
 
 /// Returns the variable that an argument without a name is, or `None` if it is anything else.
-// ensures { option_map text result ≡ variable_of (map leaf tokens.now) argument.now }
 #[inline]
 fn variable_of<'a>(tokens: &[Token<'a>], argument: &Argument) -> Option<&'a str> {
     if argument.is_named || argument.start >= argument.end || argument.end - argument.start != 1 {
@@ -56,7 +52,6 @@ fn variable_of<'a>(tokens: &[Token<'a>], argument: &Argument) -> Option<&'a str>
 }
 
 /// Returns an argument as placeholders refer to it.
-// ensures { seen_given result ≡ given (map leaf tokens.now) argument.now }
 #[inline]
 fn format_argument<'a>(tokens: &[Token<'a>], argument: &Argument) -> FormatArgument<'a> {
     FormatArgument {
@@ -66,8 +61,6 @@ fn format_argument<'a>(tokens: &[Token<'a>], argument: &Argument) -> FormatArgum
 }
 
 /// Returns arguments as placeholders refer to them.
-// ensures { IfOk result (λ v. map seen_given v.items
-//     ≡ map (given (map leaf tokens.now)) arguments.now) }
 #[inline]
 pub fn givens<'a>(
     tokens: &[Token<'a>],

@@ -1,8 +1,7 @@
 //! The faults of the format strings of a file.
 
 // Extracted from crates/source_lint/src/lint.rt by tools/extract: not to be edited.
-// That source is proved, and each contract here is its. That this text means the same is tested:
-// by results from outside, and beside what is proved (.ci/bindings) and the original (tools/agree).
+// That source has the contracts, and is proved. That this text means the same is only tested.
 
 use crate::proved::asm_lint::read_attributes;
 use crate::proved::format_calls::{calls, next_part, Call, Part, Table};
@@ -23,14 +22,6 @@ pub struct Readings {
 
 /// Reads calls of a part of a file, one after the other, and adds how much of each is read and its
 /// findings.
-// requires { (c : CallValue) → Contains calls.now c → IsPair part.now (c.name + 2) c.close }
-// ensures read { OnOk result ((rs : List ReadingValue) × (xs : List FindingValue)
-//     × (readings.new.calls.items ≡ readings.old.calls.items ++ rs)
-//     × (readings.new.findings.items ≡ readings.old.findings.items ++ xs)
-//     × Gives (Reads (scope file.entry) file.entry.is_from_2021 part.now) calls.now rs xs) }
-// ensures spans { OnOk result (All (HasSpans file.entry.text.now)
-//     readings.old.findings.items
-//     → All (HasSpans file.entry.text.now) readings.new.findings.items) }
 #[inline]
 pub fn read_calls<'a>(
     readings: &mut Readings,
@@ -48,12 +39,6 @@ pub fn read_calls<'a>(
 }
 
 /// Reads the calls of a file, part by part, and adds all its tokens to `balance`.
-// ensures read { IfOk result (λ f. (ls : List Leaf) × AreLeaves file.entry.text.now ls
-//     × ReadsCalls (map entry table.now.rows.items) (scope file.entry) file.entry.is_from_2021
-//     ls f.calls.items f.findings.items
-//     × ((w : List Leaf) → IsBalanced w balance.old → IsBalanced (w ++ ls) balance.new)) }
-// ensures spans { IfOk result (λ f. All (HasSpans file.entry.text.now)
-//     f.findings.items) }
 #[inline]
 fn read_file(
     file: File<'_, '_>,
@@ -74,10 +59,6 @@ fn read_file(
 }
 
 /// Adds the findings in the texts of the attributes of a file.
-// ensures read { OnOk result ((ls : List Leaf) → AreLeaves text.now ls → (xs : List FindingValue)
-//     × (findings.new.items ≡ findings.old.items ++ xs) × ReadsAttributes text.now ls xs) }
-// ensures spans { OnOk result (All (HasSpans text.now) findings.old.items
-//     → All (HasSpans text.now) findings.new.items) }
 #[inline]
 fn put_attributes(findings: &mut Vec<Finding>, text: &str) -> Result<(), AllocError> {
     if !text.contains("on_unimplemented") {
@@ -90,13 +71,6 @@ fn put_attributes(findings: &mut Vec<Finding>, text: &str) -> Result<(), AllocEr
 
 /// Returns the report on a file whose calls have these readings, and whose tokens were all added to
 /// `balance`: the findings in its attributes follow those in its calls.
-// ensures report { IfOk result (λ r. (es : List Entry) (is_new : Bool) (ls : List Leaf)
-//     → AreLeaves text.now ls
-//     → ReadsCalls es (record { text = text.now; defined = macro_names ls }) is_new ls
-//     readings.calls.items readings.findings.items → IsBalanced ls balance
-//     → IsReport es is_new text.now r) }
-// ensures spans { IfOk result (λ r. All (HasSpans text.now) readings.findings.items
-//     → All (HasSpans text.now) r.findings.items) }
 #[inline]
 pub fn report_on(text: &str, readings: Readings, balance: Balance) -> Result<Report, AllocError> {
     let mut found = readings;
@@ -111,9 +85,6 @@ pub fn report_on(text: &str, readings: Readings, balance: Balance) -> Result<Rep
 /// Reads a source file, and returns the faults of its calls of macros that take a format string or
 /// templates of assembly, and then those of the texts of its attributes.
 /// Lines may end with LF or CRLF, and a byte order mark may stand at the start.
-// ensures report { IfOk result (λ r. IsReport (map entry options.now.table.rows.items)
-//     options.now.is_from_2021 text.now r) }
-// ensures spans { IfOk result (λ r. All (HasSpans text.now) r.findings.items) }
 #[inline]
 pub fn file_faults(text: &str, options: &Options<'_>) -> Result<Report, AllocError> {
     let names = macro_names(text)?;

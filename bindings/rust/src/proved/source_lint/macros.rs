@@ -1,8 +1,7 @@
 //! The macros that a file defines by `macro_rules!`, and calls of others than those of the table.
 
 // Extracted from crates/source_lint/src/macros.rt by tools/extract: not to be edited.
-// That source is proved, and each contract here is its. That this text means the same is tested:
-// by results from outside, and beside what is proved (.ci/bindings) and the original (tools/agree).
+// That source has the contracts, and is proved. That this text means the same is only tested.
 
 use crate::proved::call_forms::is_foreign;
 use crate::proved::format_calls::{is_mark_of, is_of_crates, is_word, token_at, word, Call, Rule};
@@ -25,14 +24,12 @@ pub struct File<'s, 'a> {
 }
 
 /// Returns whether a token is the word `macro_rules`.
-// ensures { result ≡ is_macro_rules (leaf token.now) }
 #[inline]
 fn is_macro_rules(token: &Token<'_>) -> bool {
     matches!(token.kind, Kind::Ident) && token.text == "macro_rules"
 }
 
 /// Returns whether two tokens, one after the other, are `macro_rules` and `!`.
-// ensures { result ≡ begins_definition (option_map leaf word.entry) (option_map leaf mark.entry) }
 #[inline]
 fn begins_definition(word: Option<Token<'_>>, mark: Option<Token<'_>>) -> bool {
     match (word, mark) {
@@ -42,10 +39,6 @@ fn begins_definition(word: Option<Token<'_>>, mark: Option<Token<'_>>) -> bool {
 }
 
 /// Adds the name of the macro that a token defines after two others, if it does.
-// ensures { OnOk result ((n : List ℕ) → list_any (bytes_eq n) (names_in names.new)
-//     ≡ (list_any (bytes_eq n) (names_in names.old) || list_any (bytes_eq n)
-//     (definition (option_map leaf previous.entry) (option_map leaf last.entry)
-//     (leaf token.now)))) }
 #[inline]
 fn put_definition<'a>(
     names: &mut BTreeSet<&'a [u8]>,
@@ -60,9 +53,6 @@ fn put_definition<'a>(
 }
 
 /// Returns the names of the macros that a file defines by `macro_rules!`, without `r#`.
-// ensures { IfOk result (λ s. (ls : List Leaf) × AreLeaves text.now ls
-//     × ((n : List ℕ) → list_any (bytes_eq n) (names_in s)
-//     ≡ list_any (bytes_eq n) (macro_names ls))) }
 #[inline]
 pub fn macro_names<'a>(text: &'a str) -> Result<BTreeSet<&'a [u8]>, AllocError> {
     let mut found = BTreeSet::new();
@@ -81,14 +71,12 @@ pub fn macro_names<'a>(text: &'a str) -> Result<BTreeSet<&'a [u8]>, AllocError> 
 }
 
 /// Returns whether a word is one of these names.
-// ensures { result ≡ list_any (bytes_eq word.now) (names_in names.now) }
 #[inline]
 fn is_defined<'a>(names: &BTreeSet<&'a [u8]>, word: &'a [u8]) -> bool {
     names.contains(&word)
 }
 
 /// Returns the name of a call, without `r#`.
-// ensures { result.now ≡ name_at (map leaf tokens.now) name }
 #[inline]
 pub fn name_at<'a>(tokens: &[Token<'a>], name: usize) -> &'a [u8] {
     match token_at(tokens, name) {
@@ -98,7 +86,6 @@ pub fn name_at<'a>(tokens: &[Token<'a>], name: usize) -> &'a [u8] {
 }
 
 /// Returns the offset of the name of a call in its file.
-// ensures { result ≡ offset_of_leaf (slice_get (map leaf tokens.now) name) }
 #[inline]
 fn offset_at(tokens: &[Token<'_>], name: usize) -> usize {
     match token_at(tokens, name) {
@@ -109,7 +96,6 @@ fn offset_at(tokens: &[Token<'_>], name: usize) -> usize {
 
 /// Returns whether a macro with this rule and this name is one of log, tracing or slog, if no path
 /// says otherwise.
-// ensures { result ≡ is_log rule name.now }
 #[inline]
 fn is_log(rule: Rule, name: &[u8]) -> bool {
     matches!(rule, Rule::FirstLiteral) && is_of_crates(name)
@@ -117,8 +103,6 @@ fn is_log(rule: Rule, name: &[u8]) -> bool {
 
 /// Returns the reading of a call whose macro is another one than that of the table, or `None` if it
 /// is that one, as far as the file shows.
-// ensures { result ≡ skipped (scope file.entry) call.now.rule
-//     (slice_get (map leaf tokens.now) call.now.name) }
 #[inline]
 pub fn other_macro<'a>(
     file: File<'_, 'a>,

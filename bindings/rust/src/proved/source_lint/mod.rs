@@ -1,8 +1,7 @@
 //! The faults of the format strings of a Rust source file, from its text ([`file_faults`]).
 
 // Extracted from crates/source_lint/src/lib.rt by tools/extract: not to be edited.
-// That source is proved, and each contract here is its. That this text means the same is tested:
-// by results from outside, and beside what is proved (.ci/bindings) and the original (tools/agree).
+// That source has the contracts, and is proved. That this text means the same is only tested.
 
 pub(crate) mod findings;
 pub(crate) mod form_words;

@@ -1,8 +1,7 @@
 //! The reading of a call, and its findings.
 
 // Extracted from crates/source_lint/src/readings.rt by tools/extract: not to be edited.
-// That source is proved, and each contract here is its. That this text means the same is tested:
-// by results from outside, and beside what is proved (.ci/bindings) and the original (tools/agree).
+// That source has the contracts, and is proved. That this text means the same is only tested.
 
 use crate::proved::asm_lint::{
     appends_newline, dropped_crs, read_asm, read_literal, reading_of, Site,
@@ -22,8 +21,6 @@ use crate::shim::alloc::AllocError;
 use crate::shim::prelude::*;
 
 /// Returns arguments as placeholders refer to them, or none if their number is not known.
-// ensures { IfOk result (λ v. map seen_given v.items
-//     ≡ counted_givens is_counted (map (given (map leaf tokens.now)) arguments.now)) }
 #[inline]
 fn counted_givens<'a>(
     tokens: &[Token<'a>],
@@ -37,13 +34,6 @@ fn counted_givens<'a>(
 }
 
 /// Checks a call with this format string and these arguments, and adds its findings.
-// requires { hashes string.style + length string.text.now + 2 < 2 ^ 64 }
-// ensures outcome { OnOk result (let s = start string.entry in (xs : List FindingValue)
-//     × (findings.new.items ≡ findings.old.items ++ xs)
-//     × AreFindings is_counted (call_of string.entry.captures s
-//     (map seen_given arguments.now)) xs) }
-// ensures spans { OnOk result (All (HasSpans site.entry.text.now) findings.old.items
-//     → All (HasSpans site.entry.text.now) findings.new.items) }
 #[inline]
 fn check_string<'c>(
     findings: &mut Vec<Finding>,
@@ -59,12 +49,6 @@ fn check_string<'c>(
 
 /// Reads the format string of a call, which is the literal of the site, with the arguments after
 /// it, and adds the findings.
-// ensures read { IfOk result (λ r. (xs : List FindingValue)
-//     × (findings.new.items ≡ findings.old.items ++ xs)
-//     × ReadsLiteral (without_crs (chars site.entry.literal.text.now)) appended_newline captures
-//     is_counted (map (given (map leaf site.entry.tokens.now)) site.entry.arguments.now) r xs) }
-// ensures spans { OnOk result (All (HasSpans site.entry.text.now) findings.old.items
-//     → All (HasSpans site.entry.text.now) findings.new.items) }
 #[inline]
 fn read_string(
     findings: &mut Vec<Finding>,
@@ -93,7 +77,6 @@ fn read_string(
 
 /// Returns whether the format string of a macro captures variables. `unreachable!` of the standard
 /// library puts it into another text before the edition 2021, where it captures none.
-// ensures { result ≡ captures is_from_2021 rule name.now }
 #[inline]
 pub fn captures(rule: Rule, name: &[u8], is_from_2021: bool) -> bool {
     match rule {
@@ -103,7 +86,6 @@ pub fn captures(rule: Rule, name: &[u8], is_from_2021: bool) -> bool {
 }
 
 /// Returns the argument of an index, or `None` if there is none.
-// ensures { result ≡ slice_get arguments.now index }
 #[inline]
 pub fn argument_at(arguments: &[Argument], index: usize) -> Option<Argument> {
     if index < arguments.len() {
@@ -115,14 +97,12 @@ pub fn argument_at(arguments: &[Argument], index: usize) -> Option<Argument> {
 
 /// Returns whether `;` ends the arguments of a macro with this rule: key-values follow it in those
 /// of slog.
-// ensures { result ≡ ends_early rule }
 #[inline]
 pub fn ends_early(rule: Rule) -> bool {
     matches!(rule, Rule::FirstLiteral)
 }
 
 /// Returns the arguments that start before a token, of which the last ends there at the latest.
-// ensures { IfOk result (λ v. v.items ≡ arguments_before end arguments.now) }
 #[inline]
 pub fn arguments_before(arguments: &[Argument], end: usize) -> Result<Vec<Argument>, AllocError> {
     let mut found = Vec::new();
@@ -141,14 +121,6 @@ pub fn arguments_before(arguments: &[Argument], end: usize) -> Result<Vec<Argume
 
 /// Reads a call with this literal as its format string and these arguments after it, and adds its
 /// findings.
-// ensures read { IfOk result (λ r. (xs : List FindingValue)
-//     × (findings.new.items ≡ findings.old.items ++ xs)
-//     × ReadsLiteral (without_crs (chars literal.entry.text.now))
-//     (appends_newline (name_at part.now call.now.name))
-//     (captures file.entry.is_from_2021 call.now.rule (name_at part.now call.now.name))
-//     is_counted (map (given part.now) arguments.now) r xs) }
-// ensures spans { OnOk result (All (HasSpans file.entry.text.now) findings.old.items
-//     → All (HasSpans file.entry.text.now) findings.new.items) }
 #[inline]
 fn read_with(
     findings: &mut Vec<Finding>,
@@ -178,15 +150,6 @@ fn read_with(
 }
 
 /// Reads a call whose format string begins the argument of this index, and adds its findings.
-// requires pair { IsPair part.now (call.now.name + 2) call.now.close }
-// requires split { AreArguments part.now (call.now.name + 3) arguments.now call.now.close }
-// requires literal { (a : ArgumentValue) × (slice_get arguments.now index ≡ Some a)
-//     × IsTrue (is_string_by call.now.rule part.now a) }
-// ensures read { IfOk result (λ r. (xs : List FindingValue)
-//     × (findings.new.items ≡ findings.old.items ++ xs)
-//     × ReadsAt file.entry.is_from_2021 part.now call.now arguments.now index r xs) }
-// ensures spans { OnOk result (All (HasSpans file.entry.text.now) findings.old.items
-//     → All (HasSpans file.entry.text.now) findings.new.items) }
 #[inline]
 fn read_at(
     findings: &mut Vec<Finding>,
@@ -222,16 +185,6 @@ fn read_at(
 
 /// Reads a call whose format string is the argument of this index, or whose templates begin with
 /// it, and adds its findings.
-// requires pair { IsPair part.now (call.now.name + 2) call.now.close }
-// requires split { AreArguments part.now (call.now.name + 3) arguments.now call.now.close }
-// requires literal { (a : ArgumentValue) × (slice_get arguments.now index ≡ Some a)
-//     × IsTrue (is_string_by call.now.rule part.now a) }
-// ensures read { IfOk result (λ r. (xs : List FindingValue)
-//     × (findings.new.items ≡ findings.old.items ++ xs)
-//     × ReadsOne call.now.rule file.entry.is_from_2021 part.now call.now arguments.now index r
-//     xs) }
-// ensures spans { OnOk result (All (HasSpans file.entry.text.now) findings.old.items
-//     → All (HasSpans file.entry.text.now) findings.new.items) }
 #[inline]
 fn read_one<'a>(
     findings: &mut Vec<Finding>,
@@ -250,14 +203,12 @@ fn read_one<'a>(
 }
 
 /// Returns whether no token stands where an argument should.
-// ensures { result ≡ is_empty argument.now }
 #[inline]
 fn is_empty(argument: &Argument) -> bool {
     argument.start == argument.end
 }
 
 /// Returns whether no token stands where one of these arguments should.
-// ensures { result ≡ list_any is_empty arguments.now }
 #[inline]
 fn has_empty(arguments: &[Argument]) -> bool {
     for argument in arguments {
@@ -270,14 +221,12 @@ fn has_empty(arguments: &[Argument]) -> bool {
 
 /// Returns whether the arguments of a macro with this rule are expressions, up to the last one:
 /// those of tracing and of slog have forms of their own.
-// ensures { result ≡ are_expressions rule }
 #[inline]
 fn are_expressions(rule: Rule) -> bool {
     matches!(rule, Rule::At(_) | Rule::IndexByEdition(_))
 }
 
 /// Returns whether an operator lacks an operand in one of these arguments.
-// ensures { result ≡ list_any lacks_operand (map (tokens_of part.now) arguments.now) }
 #[inline]
 fn lack_operand(part: &Part<'_>, arguments: &[Argument]) -> bool {
     for argument in arguments {
@@ -290,14 +239,12 @@ fn lack_operand(part: &Part<'_>, arguments: &[Argument]) -> bool {
 
 /// Returns whether an operator lacks an operand in one of the arguments of a macro with this rule,
 /// and no variable of a macro stands in them.
-// ensures { result ≡ lack_expression rule (map (tokens_of part.now) arguments.now) }
 #[inline]
 fn lack_expression(part: &Part<'_>, rule: Rule, arguments: &[Argument]) -> bool {
     are_expressions(rule) && lack_operand(part, arguments) && !have_variables(part, arguments)
 }
 
 /// Returns whether the arguments of a macro with this rule are expressions: operands are none.
-// ensures { result ≡ has_expressions rule }
 #[inline]
 fn has_expressions(rule: Rule) -> bool {
     !matches!(rule, Rule::Templates)
@@ -305,10 +252,6 @@ fn has_expressions(rule: Rule) -> bool {
 
 /// Returns the index of the argument that is the format string of a call, or the reading of the
 /// call if none is read.
-// ensures value { result ≡ index_or file.entry.is_from_2021 part.now call.now.rule
-//     arguments.now }
-// ensures literal { IfOk result (λ n. (a : ArgumentValue) × (slice_get arguments.now n ≡ Some a)
-//     × IsTrue (is_string_by call.now.rule part.now a)) }
 #[inline]
 pub fn index_or(
     file: File<'_, '_>,
@@ -329,12 +272,6 @@ pub fn index_or(
 }
 
 /// Reads a call, and adds its findings.
-// requires { IsPair part.now (call.now.name + 2) call.now.close }
-// ensures read { IfOk result (λ r. (xs : List FindingValue)
-//     × (findings.new.items ≡ findings.old.items ++ xs)
-//     × Reads (scope file.entry) file.entry.is_from_2021 part.now call.now r xs) }
-// ensures spans { OnOk result (All (HasSpans file.entry.text.now) findings.old.items
-//     → All (HasSpans file.entry.text.now) findings.new.items) }
 #[inline]
 pub fn read_call<'a>(
     findings: &mut Vec<Finding>,

@@ -1,8 +1,7 @@
 //! A text with the edits of faults.
 
 // Extracted from crates/source_report/src/edited.rt by tools/extract: not to be edited.
-// That source is proved, and each contract here is its. That this text means the same is tested:
-// by results from outside, and beside what is proved (.ci/bindings) and the original (tools/agree).
+// That source has the contracts, and is proved. That this text means the same is only tested.
 
 use crate::proved::fault_fixes::Edit;
 use crate::proved::source_report::report::Finding;
@@ -23,24 +22,18 @@ pub struct Edited<'t> {
 }
 
 /// Returns the first n bytes, or all if there are fewer.
-// ensures { result.now ≡ take n bytes.now }
 #[inline]
 fn front(bytes: &[u8], n: usize) -> &[u8] {
     bytes.get(..n).unwrap_or(bytes)
 }
 
 /// Returns the bytes after the first n, or none if there are no more.
-// ensures { result.now ≡ drop n bytes.now }
 #[inline]
 fn rest_after(bytes: &[u8], n: usize) -> &[u8] {
     bytes.get(n..).unwrap_or(&[])
 }
 
 /// Makes an edit.
-// ensures edit { OnOk result ((es : List EditValue) → with_edits edited.new es
-//     ≡ with_edits edited.old (seen_edit edit.now ∷ es)) }
-// ensures end { OnOk result (edited.new.end ≡ edit.now.span.end) }
-// ensures ids { OnOk result (edited.new.ids ≡ edited.old.ids) }
 #[inline]
 fn make(edited: &mut Edited<'_>, edit: &Edit<'_>) -> Result<(), AllocError> {
     let kept = front(edited.rest, edit.span.start.saturating_sub(edited.end));
@@ -52,11 +45,6 @@ fn make(edited: &mut Edited<'_>, edit: &Edit<'_>) -> Result<(), AllocError> {
 }
 
 /// Makes edits, the first one first.
-// ensures edits { OnOk result ((es : List EditValue) → with_edits edited.new es
-//     ≡ with_edits edited.old (map seen_edit edits.now ++ es)) }
-// ensures end { OnOk result (edited.new.end
-//     ≡ end_after edited.old.end (map seen_edit edits.now)) }
-// ensures ids { OnOk result (edited.new.ids ≡ edited.old.ids) }
 #[inline]
 fn make_each(edited: &mut Edited<'_>, edits: &[Edit<'_>]) -> Result<(), AllocError> {
     for edit in edits {
@@ -66,10 +54,6 @@ fn make_each(edited: &mut Edited<'_>, edits: &[Edit<'_>]) -> Result<(), AllocErr
 }
 
 /// Mends a fault, if it has edits, and these follow the last one.
-// ensures text { OnOk result ((xs : List FindingValue) → with_faults edited.new xs
-//     ≡ with_faults edited.old (finding.now ∷ xs)) }
-// ensures ids { OnOk result ((xs : List FindingValue) → with_ids edited.new xs
-//     ≡ with_ids edited.old (finding.now ∷ xs)) }
 #[inline]
 fn mend(edited: &mut Edited<'_>, finding: &Finding) -> Result<(), AllocError> {
     let edits = edits_of(finding)?;
@@ -81,10 +65,6 @@ fn mend(edited: &mut Edited<'_>, finding: &Finding) -> Result<(), AllocError> {
 }
 
 /// Mends the faults of a text that can be mended in one round.
-// ensures text { IfOk result (λ x. x.bytes.items
-//     ≡ applied 0 (all_edits (mended 0 findings.now)) text.now) }
-// ensures ids { IfOk result (λ x. map (λ w. w.now) x.ids.items
-//     ≡ map (λ f. f.id.now) (mended 0 findings.now)) }
 #[inline]
 pub fn mend_each<'t>(text: &'t str, findings: &[Finding]) -> Result<Edited<'t>, AllocError> {
     let mut edited = Edited {

@@ -1,8 +1,7 @@
 //! The options for reading a file, and the report on it.
 
 // Extracted from crates/source_report/src/report.rt by tools/extract: not to be edited.
-// That source is proved, and each contract here is its. That this text means the same is tested:
-// by results from outside, and beside what is proved (.ci/bindings) and the original (tools/agree).
+// That source has the contracts, and is proved. That this text means the same is only tested.
 
 use crate::proved::format_calls::{Reason, Table};
 use crate::proved::rust_trees::FileBreak;

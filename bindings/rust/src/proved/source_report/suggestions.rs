@@ -1,8 +1,7 @@
 //! The edits that mend a fault.
 
 // Extracted from crates/source_report/src/suggestions.rt by tools/extract: not to be edited.
-// That source is proved, and each contract here is its. That this text means the same is tested:
-// by results from outside, and beside what is proved (.ci/bindings) and the original (tools/agree).
+// That source has the contracts, and is proved. That this text means the same is only tested.
 
 use crate::proved::fault_fixes::Edit;
 use crate::proved::source_report::report::{Finding, Help, Label};
@@ -50,7 +49,6 @@ const REMOVE_BYTE_PREFIX: LabelSuggestion = LabelSuggestion {
 
 /// Returns the suggestion that a label with this text is, or `None` if it is none. The texts are
 /// those of the labels of `file_faults` in `source_lint`.
-// ensures { option_map seen_suggestion result ≡ suggestion_of label.now }
 #[inline]
 pub fn suggestion_of(label: &str) -> Option<LabelSuggestion> {
     match label {
@@ -64,7 +62,6 @@ pub fn suggestion_of(label: &str) -> Option<LabelSuggestion> {
 
 /// Returns whether the suggestions to a fault with this id are to be applied: rustc calls them
 /// applicable by a machine, and the source is whole with them.
-// ensures { result ≡ is_applicable id.now }
 #[inline]
 pub fn is_applicable(id: &str) -> bool {
     id == "raw-identifier"
@@ -75,8 +72,6 @@ pub fn is_applicable(id: &str) -> bool {
 }
 
 /// Adds the edits of labels.
-// ensures { OnOk result (map seen_edit edits.new.items
-//     ≡ map seen_edit edits.old.items ++ filter_map label_edit labels.now) }
 #[inline]
 fn add_label_edits<'f>(edits: &mut Vec<Edit<'f>>, labels: &'f [Label]) -> Result<(), AllocError> {
     for label in labels {
@@ -91,8 +86,6 @@ fn add_label_edits<'f>(edits: &mut Vec<Edit<'f>>, labels: &'f [Label]) -> Result
 }
 
 /// Adds the edits of a help.
-// ensures { OnOk result (map seen_edit edits.new.items
-//     ≡ map seen_edit edits.old.items ++ help_edits help.now) }
 #[inline]
 fn add_help_edits<'f>(edits: &mut Vec<Edit<'f>>, help: &'f Option<Help>) -> Result<(), AllocError> {
     let Some(help) = help else {
@@ -108,7 +101,6 @@ fn add_help_edits<'f>(edits: &mut Vec<Edit<'f>>, help: &'f Option<Help>) -> Resu
 }
 
 /// Returns the edits that mend a fault, or none if it has no suggestion to apply.
-// ensures { IfOk result (λ v. map seen_edit v.items ≡ edits_of finding.now) }
 #[inline]
 pub fn edits_of<'f>(finding: &'f Finding) -> Result<Vec<Edit<'f>>, AllocError> {
     let mut edits = Vec::new();
@@ -121,7 +113,6 @@ pub fn edits_of<'f>(finding: &'f Finding) -> Result<Vec<Edit<'f>>, AllocError> {
 
 /// Returns whether no edit starts before the end of the one before it, and the first not before the
 /// byte offset `at`.
-// ensures { result ≡ are_after at (map seen_edit edits.now) }
 #[inline]
 pub fn are_after(at: usize, edits: &[Edit<'_>]) -> bool {
     let mut end = at;

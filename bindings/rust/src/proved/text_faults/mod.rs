@@ -1,8 +1,7 @@
 //! The fault of a text that rustc shows ([`text_fault`]), and places and labels of messages.
 
 // Extracted from crates/text_faults/src/lib.rt by tools/extract: not to be edited.
-// That source is proved, and each contract here is its. That this text means the same is tested:
-// by results from outside, and beside what is proved (.ci/bindings) and the original (tools/agree).
+// That source has the contracts, and is proved. That this text means the same is only tested.
 
 pub(crate) mod spots;
 pub(crate) mod text;

@@ -1,8 +1,7 @@
 //! The places of a call that messages show, and their labels, as plain data.
 
 // Extracted from crates/text_faults/src/spots.rt by tools/extract: not to be edited.
-// That source is proved, and each contract here is its. That this text means the same is tested:
-// by results from outside, and beside what is proved (.ci/bindings) and the original (tools/agree).
+// That source has the contracts, and is proved. That this text means the same is only tested.
 
 use crate::shim::prelude::*;
 

@@ -1,8 +1,7 @@
 //! The hunks of a diff.
 
 // Extracted from crates/unified_diff/src/hunks.rt by tools/extract: not to be edited.
-// That source is proved, and each contract here is its. That this text means the same is tested:
-// by results from outside, and beside what is proved (.ci/bindings) and the original (tools/agree).
+// That source has the contracts, and is proved. That this text means the same is only tested.
 
 use crate::proved::unified_diff::rows::{front, rest_after, rows_of, Row, Side};
 use crate::shim::alloc::AllocError;
@@ -20,8 +19,6 @@ struct Numbers {
 }
 
 /// Returns how many of these rows are in the old text, and how many in the new one.
-// ensures old { result.old ≡ old_count rows.now }
-// ensures new { result.new ≡ new_count rows.now }
 #[inline]
 fn count(rows: &[Row<'_>]) -> Numbers {
     let mut numbers = Numbers { old: 0, new: 0 };
@@ -37,7 +34,6 @@ fn count(rows: &[Row<'_>]) -> Numbers {
 }
 
 /// Returns whether a line is in both texts.
-// ensures { result ≡ is_shared side }
 #[inline]
 fn is_shared(side: Side) -> bool {
     matches!(side, Side::Both)
@@ -45,8 +41,6 @@ fn is_shared(side: Side) -> bool {
 
 /// Returns how many rows are before the first one that is in one text alone, or `None` if all are
 /// in both.
-// ensures { MatchOption result (are_shared rows.now ≡ true)
-//     (λ n. (n < length rows.now) × (are_shared (take n rows.now) ≡ true)) }
 #[inline]
 fn first_change(rows: &[Row<'_>]) -> Option<usize> {
     for (index, row) in rows.iter().enumerate() {
@@ -58,7 +52,6 @@ fn first_change(rows: &[Row<'_>]) -> Option<usize> {
 }
 
 /// Returns how many of these rows, of which one of the first is a change, belong to one hunk.
-// ensures { 0 < length rows.now → 0 < result }
 #[inline]
 fn hunk_len(rows: &[Row<'_>]) -> usize {
     let mut seen = 0usize;
@@ -75,7 +68,6 @@ fn hunk_len(rows: &[Row<'_>]) -> usize {
 }
 
 /// Appends a number in decimal digits.
-// ensures { OnOk result (string_bytes out.new ≡ string_bytes out.old ++ decimal number) }
 #[inline]
 fn put_number(out: &mut String, number: usize) -> Result<(), AllocError> {
     out.try_push_str(Buffer::new().format(number))
@@ -83,9 +75,6 @@ fn put_number(out: &mut String, number: usize) -> Result<(), AllocError> {
 
 /// Appends where the lines of a hunk are in a text: the number of the first line, and how many
 /// there are. Without a line the number is that of the line before.
-// requires { lines_before + count < 2 ^ 64 }
-// ensures { OnOk result (string_bytes out.new
-//     ≡ string_bytes out.old ++ extent lines_before count) }
 #[inline]
 fn put_extent(out: &mut String, lines_before: usize, count: usize) -> Result<(), AllocError> {
     let first = if count == 0 {
@@ -99,7 +88,6 @@ fn put_extent(out: &mut String, lines_before: usize, count: usize) -> Result<(),
 }
 
 /// Returns the first byte of a line of the diff.
-// ensures { result.now ≡ sign side }
 #[inline]
 fn sign(side: Side) -> &'static str {
     match side {
@@ -110,7 +98,6 @@ fn sign(side: Side) -> &'static str {
 }
 
 /// Appends what follows a line without an LF, and nothing after one with it.
-// ensures { OnOk result (string_bytes out.new ≡ string_bytes out.old ++ line_end line.now) }
 #[inline]
 fn put_line_end(out: &mut String, line: &str) -> Result<(), AllocError> {
     if line.as_bytes().ends_with(b"\n") {
@@ -120,7 +107,6 @@ fn put_line_end(out: &mut String, line: &str) -> Result<(), AllocError> {
 }
 
 /// Appends a row.
-// ensures { OnOk result (string_bytes out.new ≡ string_bytes out.old ++ row_text row.now) }
 #[inline]
 fn put_row(out: &mut String, row: &Row<'_>) -> Result<(), AllocError> {
     out.try_push_str(sign(row.side))?;
@@ -129,7 +115,6 @@ fn put_row(out: &mut String, row: &Row<'_>) -> Result<(), AllocError> {
 }
 
 /// Appends rows.
-// ensures { OnOk result (string_bytes out.new ≡ string_bytes out.old ++ rows_text rows.now) }
 #[inline]
 fn put_rows(out: &mut String, rows: &[Row<'_>]) -> Result<(), AllocError> {
     for row in rows {
@@ -139,10 +124,6 @@ fn put_rows(out: &mut String, rows: &[Row<'_>]) -> Result<(), AllocError> {
 }
 
 /// Appends a hunk of rows, with these numbers of lines before it.
-// requires old { numbers.old + old_count rows.now < 2 ^ 64 }
-// requires new { numbers.new + new_count rows.now < 2 ^ 64 }
-// ensures { OnOk result (string_bytes out.new
-//     ≡ string_bytes out.old ++ hunk_text numbers.old numbers.new rows.now) }
 #[inline]
 fn put_hunk(out: &mut String, numbers: Numbers, rows: &[Row<'_>]) -> Result<(), AllocError> {
     let inside = count(rows);
@@ -155,10 +136,6 @@ fn put_hunk(out: &mut String, numbers: Numbers, rows: &[Row<'_>]) -> Result<(), 
 }
 
 /// Returns the numbers of lines after rows.
-// requires old { numbers.old + old_count rows.now < 2 ^ 64 }
-// requires new { numbers.new + new_count rows.now < 2 ^ 64 }
-// ensures old { result.old ≡ numbers.old + old_count rows.now }
-// ensures new { result.new ≡ numbers.new + new_count rows.now }
 #[inline]
 fn numbers_after(numbers: Numbers, rows: &[Row<'_>]) -> Numbers {
     let inside = count(rows);
@@ -169,8 +146,6 @@ fn numbers_after(numbers: Numbers, rows: &[Row<'_>]) -> Numbers {
 }
 
 /// Appends all hunks of rows.
-// ensures { OnOk result ((t : List ℕ) × (string_bytes out.new ≡ string_bytes out.old ++ t)
-//     × AreHunks rows.now t) }
 #[inline]
 fn put_hunks(out: &mut String, rows: &[Row<'_>]) -> Result<(), AllocError> {
     let mut rest = rows;
@@ -237,8 +212,6 @@ fn put_path(out: &mut String, path: &str) -> Result<(), AllocError> {
 }
 
 /// Appends the first two lines of a diff of the file with this path.
-// ensures { OnOk result ((p : List ℕ)
-//     × (string_bytes out.new ≡ string_bytes out.old ++ head p)) }
 #[inline]
 fn put_head(out: &mut String, path: &str) -> Result<(), AllocError> {
     let mut name = String::new();
@@ -253,15 +226,7 @@ fn put_head(out: &mut String, path: &str) -> Result<(), AllocError> {
 
 /// Appends the difference of an old and a new text of the file with this path as a unified diff,
 /// with three lines of context, and nothing if they are the same. A line ends at an LF. The time
-/// grows with both lengths. Returns `Err` if an allocation fails, and a part of the diff may then
-/// be appended.
-// Nothing is appended if the texts are the same. Otherwise the lines of the diff that begin
-// with a space or `-`, and those that it leaves out, make the old text, and those that begin
-// with a space or `+`, and those that it leaves out, the new one.
-// ensures same { old.now ≡ new.now → OnOk result (string_bytes out.new ≡ string_bytes out.old) }
-// ensures diff { (old.now ≡ new.now → ⊥) → OnOk result ((t : List ℕ)
-//     × (string_bytes out.new ≡ string_bytes out.old ++ t)
-//     × IsWholeDiff old.now new.now t) }
+/// grows with both lengths.
 #[inline]
 pub fn put_diff(out: &mut String, path: &str, old: &str, new: &str) -> Result<(), AllocError> {
     if old == new {

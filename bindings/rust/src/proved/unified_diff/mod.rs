@@ -2,8 +2,7 @@
 //! `git apply -p0` take.
 
 // Extracted from crates/unified_diff/src/lib.rt by tools/extract: not to be edited.
-// That source is proved, and each contract here is its. That this text means the same is tested:
-// by results from outside, and beside what is proved (.ci/bindings) and the original (tools/agree).
+// That source has the contracts, and is proved. That this text means the same is only tested.
 
 pub(crate) mod hunks;
 pub(crate) mod rows;

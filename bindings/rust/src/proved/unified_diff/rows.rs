@@ -1,8 +1,7 @@
 //! The lines of two texts beside each other.
 
 // Extracted from crates/unified_diff/src/rows.rt by tools/extract: not to be edited.
-// That source is proved, and each contract here is its. That this text means the same is tested:
-// by results from outside, and beside what is proved (.ci/bindings) and the original (tools/agree).
+// That source has the contracts, and is proved. That this text means the same is only tested.
 
 use crate::shim::alloc::AllocError;
 use crate::shim::prelude::*;
@@ -31,7 +30,6 @@ pub struct Row<'a> {
 }
 
 /// Returns the lines of a text, each with its LF; the last one may have none.
-// ensures { IfOk result (λ v. joined v.items ≡ text.now) }
 #[inline]
 fn lines_of<'a>(text: &'a str) -> Result<Vec<&'a str>, AllocError> {
     let mut lines = Vec::new();
@@ -42,10 +40,6 @@ fn lines_of<'a>(text: &'a str) -> Result<Vec<&'a str>, AllocError> {
 }
 
 /// Returns how many lines at the ends of two texts are the same.
-// ensures old { result ≤ length old.now }
-// ensures new { result ≤ length new.now }
-// ensures same { joined (drop (length old.now - result) old.now)
-//     ≡ joined (drop (length new.now - result) new.now) }
 #[inline]
 fn common_end(old: &[&str], new: &[&str]) -> usize {
     let mut count = 0;
@@ -66,9 +60,6 @@ struct Pair {
 }
 
 /// Returns whether two texts have these lines, and they are the same.
-// requires old { 0 < pair.old }
-// requires new { 0 < pair.new }
-// ensures { IsTrue result → IsCommon old.now new.now pair }
 #[inline]
 fn is_common(old: &[&str], new: &[&str], pair: Pair) -> bool {
     match (old.get(pair.old - 1), new.get(pair.new - 1)) {
@@ -79,7 +70,6 @@ fn is_common(old: &[&str], new: &[&str], pair: Pair) -> bool {
 
 /// Returns the first line that the starts of two texts have in common, in order of the sum of its
 /// numbers, which are at most eight.
-// ensures { IfSome result (λ p. IsCommon old.now new.now p) }
 #[inline]
 fn next_common(old: &[&str], new: &[&str]) -> Option<Pair> {
     for sum in 2..=WINDOW + WINDOW {
@@ -100,10 +90,6 @@ fn next_common(old: &[&str], new: &[&str]) -> Option<Pair> {
 }
 
 /// Appends a line that is on this side.
-// ensures old { OnOk result (old_text rows.new.items
-//     ≡ old_text rows.old.items ++ in_old side line.now) }
-// ensures new { OnOk result (new_text rows.new.items
-//     ≡ new_text rows.old.items ++ in_new side line.now) }
 #[inline]
 fn push_line<'a>(rows: &mut Vec<Row<'a>>, side: Side, line: &'a str) -> Result<(), AllocError> {
     rows.try_push(Row { side, line })?;
@@ -111,10 +97,6 @@ fn push_line<'a>(rows: &mut Vec<Row<'a>>, side: Side, line: &'a str) -> Result<(
 }
 
 /// Appends lines that are on this side.
-// ensures old { OnOk result (old_text rows.new.items
-//     ≡ old_text rows.old.items ++ in_old side (joined lines.now)) }
-// ensures new { OnOk result (new_text rows.new.items
-//     ≡ new_text rows.old.items ++ in_new side (joined lines.now)) }
 #[inline]
 fn push_lines<'a>(
     rows: &mut Vec<Row<'a>>,
@@ -128,25 +110,18 @@ fn push_lines<'a>(
 }
 
 /// Returns the first n items, or all if there are no more.
-// ensures { result.now ≡ take n items.now }
 #[inline]
 pub fn front<T>(items: &[T], n: usize) -> &[T] {
     items.get(..n).unwrap_or(items)
 }
 
 /// Returns the items after the first n, or none if there are no more.
-// ensures { result.now ≡ drop n items.now }
 #[inline]
 pub fn rest_after<T>(items: &[T], n: usize) -> &[T] {
     items.get(n..).unwrap_or(&items[items.len()..])
 }
 
 /// Appends the lines of two texts up to one that they have in common.
-// requires { IsCommon old.now new.now pair }
-// ensures old { OnOk result (old_text rows.new.items
-//     ≡ old_text rows.old.items ++ joined (take pair.old old.now)) }
-// ensures new { OnOk result (new_text rows.new.items
-//     ≡ new_text rows.old.items ++ joined (take pair.new new.now)) }
 #[inline]
 fn push_pair<'a>(
     rows: &mut Vec<Row<'a>>,
@@ -163,10 +138,6 @@ fn push_pair<'a>(
 }
 
 /// Appends the lines of two texts without a common end beside each other.
-// ensures old { OnOk result (old_text rows.new.items
-//     ≡ old_text rows.old.items ++ joined old.now) }
-// ensures new { OnOk result (new_text rows.new.items
-//     ≡ new_text rows.old.items ++ joined new.now) }
 #[inline]
 fn push_middle<'a>(
     rows: &mut Vec<Row<'a>>,
@@ -187,8 +158,6 @@ fn push_middle<'a>(
 
 /// Returns the lines of two texts beside each other: those that are not in the new one alone are
 /// the old text, and those that are not in the old one alone the new text.
-// ensures old { IfOk result (λ v. old_text v.items ≡ old.now) }
-// ensures new { IfOk result (λ v. new_text v.items ≡ new.now) }
 #[inline]
 pub fn rows_of<'a>(old: &'a str, new: &'a str) -> Result<Vec<Row<'a>>, AllocError> {
     let olds = lines_of(old)?;

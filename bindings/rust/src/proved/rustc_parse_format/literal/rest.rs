@@ -1,8 +1,7 @@
 //! The rest of a text, which is consumed one character at a time.
 
 // Extracted from crates/rustc_parse_format/src/literal/rest.rt by tools/extract: not to be edited.
-// That source is proved, and each contract here is its. That this text means the same is tested:
-// by results from outside, and beside what is proved (.ci/bindings) and the original (tools/agree).
+// That source has the contracts, and is proved. That this text means the same is only tested.
 
 use crate::proved::rustc_parse_format::blocks::plain_front;
 use crate::proved::rustc_parse_format::characters::{after_first, first, split_run, Class};
@@ -15,43 +14,36 @@ pub struct Rest<'a> {
 
 impl<'a> Rest<'a> {
     /// Returns a `Rest` that is the whole text.
-    // ensures { result ≡ chars text.now }
     #[inline(always)]
     pub fn new(text: &'a str) -> Rest<'a> {
         Rest { text }
     }
 
     /// Returns the rest as a text.
-    // ensures { chars result.now ≡ self.now }
     #[inline(always)]
     pub fn text(&self) -> &'a str {
         self.text
     }
 
     /// Returns the number of bytes that are left.
-    // ensures { result ≡ byte_length self.now }
     #[inline(always)]
     pub fn len(&self) -> usize {
         byte_count(self.text)
     }
 
     /// Returns whether nothing is left.
-    // ensures { IsTrue result ↔ (self.now ≡ []) }
     #[inline(always)]
     pub fn is_empty(&self) -> bool {
         self.peek().is_none()
     }
 
     /// Returns the next character, or `None` if nothing is left. Consumes nothing.
-    // ensures { result ≡ first self.now }
     #[inline(always)]
     pub fn peek(&self) -> Option<char> {
         first(self.text)
     }
 
     /// Consumes and returns the next character, or returns `None` if nothing is left.
-    // ensures value { result ≡ first self.old }
-    // ensures rest { self.new ≡ after_first self.old }
     #[inline(always)]
     pub fn next(&mut self) -> Option<char> {
         let first = self.peek();
@@ -60,15 +52,12 @@ impl<'a> Rest<'a> {
     }
 
     /// Consumes the next character, whatever it is, and returns whether it was this one.
-    // ensures value { result ≡ begins_with c self.old }
-    // ensures rest { self.new ≡ after_first self.old }
     #[inline(always)]
     pub fn next_eq(&mut self, c: char) -> bool {
         self.next() == Some(c)
     }
 
     /// Returns whether the next character is this one. Consumes nothing.
-    // ensures { result ≡ begins_with c self.now }
     #[inline(always)]
     pub fn begins_with(&self, c: char) -> bool {
         self.peek() == Some(c)
@@ -76,9 +65,6 @@ impl<'a> Rest<'a> {
 
     /// Consumes the next character if it is this ASCII character, given by its byte, and returns
     /// whether it was.
-    // requires { byte < 128 }
-    // ensures yes { IsTrue result → self.old ≡ byte ∷ self.new }
-    // ensures no { IsFalse result → self.new ≡ self.old }
     #[inline(always)]
     pub fn consume_ascii(&mut self, byte: u8) -> bool {
         match after_ascii(self.text, byte) {
@@ -92,9 +78,6 @@ impl<'a> Rest<'a> {
 
     /// Consumes and returns the characters in the class that come next. The class has all
     /// characters outside ASCII.
-    // requires { IsOfAscii (passes class) }
-    // ensures run { chars result.now ≡ front (passes class) self.old }
-    // ensures rest { self.new ≡ rest_after (passes class) self.old }
     #[inline(always)]
     pub fn take_run(&mut self, class: Class) -> &'a str {
         let (run, rest) = split_run(self.text, class);
@@ -103,7 +86,6 @@ impl<'a> Rest<'a> {
     }
 
     /// Skips in both texts the plain characters with which they go on alike.
-    // ensures { SharePlain self.old other.old self.new other.new }
     #[inline(always)]
     pub fn skip_plain(&mut self, other: &mut Rest<'_>) {
         let (rest, left) = after_plain(self.text, other.text);
@@ -112,17 +94,12 @@ impl<'a> Rest<'a> {
     }
 
     /// Returns whether the rest begins with a string continuation: a backslash and an LF.
-    // ensures { result ≡ begins_continuation self.now }
     #[inline(always)]
     pub fn begins_continuation(&self) -> bool {
         self.begins_with('\\') && first(after_first(self.text)) == Some('\n')
     }
 
     /// Skips all string continuations at the start of the rest of a content with its closing quote.
-    // ensures after { (q : Text) (us : List LiteralUnit) → IsContent q us
-    //     → self.old ≡ closed_by_quote q
-    //     → self.new ≡ closed_by_quote (spelled_units (after_continuations us)) }
-    // ensures narrower { byte_length self.new ≤ byte_length self.old }
     #[inline]
     pub fn skip_continuations(&mut self) {
         while self.begins_continuation() {
@@ -132,7 +109,6 @@ impl<'a> Rest<'a> {
     }
 
     /// Skips the white space that belongs to a string continuation: all HT, LF, CR and space.
-    // ensures { self.new ≡ rest_after is_skipped self.old }
     #[inline(always)]
     pub fn skip_ws(&mut self) {
         while let Some('\t' | '\n' | '\r' | ' ') = self.peek() {
@@ -142,15 +118,12 @@ impl<'a> Rest<'a> {
 }
 
 /// Returns the length of a text in bytes.
-// ensures { result ≡ byte_length (chars text.now) }
 #[inline(always)]
 fn byte_count(text: &str) -> usize {
     text.len()
 }
 
 /// Returns the text after this ASCII character, or `None` if the text does not begin with it.
-// requires { byte < 128 }
-// ensures { IfSome result (λ r. chars text.now ≡ byte ∷ chars r.now) }
 #[inline(always)]
 fn after_ascii(text: &str, byte: u8) -> Option<&str> {
     let bytes = text.as_bytes();
@@ -162,14 +135,12 @@ fn after_ascii(text: &str, byte: u8) -> Option<&str> {
 
 /// Returns whether the byte is plain: no quote, no backslash and no CR, which a literal has to
 /// escape.
-// ensures { result ≡ is_plain byte }
 #[inline(always)]
 fn is_plain(byte: u8) -> bool {
     byte != b'"' && byte != b'\\' && byte != b'\r'
 }
 
 /// Returns the length in bytes of the longest prefix that is the same in both and plain.
-// ensures { IsSharedFront is_plain bytes.now others.now result }
 #[inline(always)]
 pub fn plain_width(bytes: &[u8], others: &[u8]) -> usize {
     let most = bytes.len().min(others.len());
@@ -190,8 +161,6 @@ fn begin_alike(bytes: &[u8], others: &[u8]) -> bool {
 
 /// Returns the rests of both texts after the plain characters with which they begin alike. If they
 /// first differ inside a character, both rests begin with that character.
-// ensures { SharePlain (chars text.now) (chars other.now) (chars result.0.now)
-//     (chars result.1.now) }
 #[inline(always)]
 fn after_plain<'a, 'b>(text: &'a str, other: &'b str) -> (&'a str, &'b str) {
     let bytes = text.as_bytes();

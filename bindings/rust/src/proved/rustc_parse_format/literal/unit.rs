@@ -1,15 +1,12 @@
 //! Reading the unit at the start of the content of an ordinary string literal.
 
 // Extracted from crates/rustc_parse_format/src/literal/unit.rt by tools/extract: not to be edited.
-// That source is proved, and each contract here is its. That this text means the same is tested:
-// by results from outside, and beside what is proved (.ci/bindings) and the original (tools/agree).
+// That source has the contracts, and is proved. That this text means the same is only tested.
 
 use super::rest::Rest;
 
 /// Returns the character that two digits after `\x` stand for, or `None` if they are not an octal
 /// and a hexadecimal digit.
-// ensures { (r : Text) → meaning (byte_at (high ∷ low ∷ r))
-//     ≡ option_map (λ c. (c ∷ [], r)) result }
 #[inline(always)]
 fn byte_of(high: char, low: char) -> Option<char> {
     let high = high.to_digit(8)?;
@@ -19,7 +16,6 @@ fn byte_of(high: char, low: char) -> Option<char> {
 
 /// Reads the two digits after `\x`, and returns the character that they stand for, or `None` if
 /// they stand for none.
-// ensures { meaning (byte_at rest.old) ≡ option_map (λ c. (c ∷ [], rest.new)) result }
 #[inline(always)]
 fn read_byte(rest: &mut Rest<'_>) -> Option<char> {
     let high = rest.next()?;
@@ -28,8 +24,6 @@ fn read_byte(rest: &mut Rest<'_>) -> Option<char> {
 }
 
 /// Returns whether the text begins with `\n`, the most common escape.
-// ensures { IsTrue result → chars text.now ≡ 92 ∷ 110
-//     ∷ after_first (after_first (chars text.now)) }
 #[inline(always)]
 pub fn is_newline_escape(text: &str) -> bool {
     let bytes = text.as_bytes();
@@ -40,7 +34,6 @@ pub fn is_newline_escape(text: &str) -> bool {
 }
 
 /// Returns the value of an octal digit, or `None` if the byte is not one.
-// ensures { result ≡ (if is_octal byte then Some (digit_value byte) else None) }
 #[inline(always)]
 fn octal_digit(byte: u8) -> Option<u8> {
     match byte {
@@ -50,7 +43,6 @@ fn octal_digit(byte: u8) -> Option<u8> {
 }
 
 /// Returns the value of a hexadecimal digit, or `None` if the byte is not one.
-// ensures { result ≡ (if is_hex byte then Some (digit_value byte) else None) }
 #[inline(always)]
 fn hex_digit(byte: u8) -> Option<u8> {
     match byte {
@@ -64,9 +56,6 @@ fn hex_digit(byte: u8) -> Option<u8> {
 /// Returns the byte that a `\x` escape at the start of the text stands for, and the text after it,
 /// or `None` if there is no such escape. It looks at bytes, for speed, since a literal may be made
 /// of such escapes.
-// ensures meaning { IfSome result (λ x. meaning (unit_at (chars text.now))
-//     ≡ Some (x.0 ∷ [], chars x.1.now)) }
-// ensures ascii { IfSome result (λ x. x.0 < 128) }
 #[inline(always)]
 pub fn byte_escape(text: &str) -> Option<(u8, &str)> {
     let bytes = text.as_bytes();
@@ -80,7 +69,6 @@ pub fn byte_escape(text: &str) -> Option<(u8, &str)> {
 
 /// Reads the braces after `\u` with their digits, and returns the character that they stand for, or
 /// `None` if they stand for none.
-// ensures { meaning (unicode_at rest.old) ≡ option_map (λ c. (c ∷ [], rest.new)) result }
 #[inline(always)]
 fn read_unicode(rest: &mut Rest<'_>) -> Option<char> {
     if !rest.next_eq('{') {
@@ -104,7 +92,6 @@ fn read_unicode(rest: &mut Rest<'_>) -> Option<char> {
 
 /// Returns the character that a backslash and this letter stand for, or `None` if they stand for
 /// none.
-// ensures { result ≡ escaped letter }
 #[inline(always)]
 fn simple_escape(letter: char) -> Option<char> {
     match letter {
@@ -119,7 +106,6 @@ fn simple_escape(letter: char) -> Option<char> {
 
 /// Reads an escape after its backslash, and returns the character that it stands for: `Some(None)`
 /// for a string continuation, which stands for none, and `None` if there is no escape.
-// ensures { meaning (escape_at rest.old) ≡ option_map (λ v. (at_most_one v, rest.new)) result }
 #[inline(always)]
 fn read_escape(rest: &mut Rest<'_>) -> Option<Option<char>> {
     match rest.next()? {
@@ -136,7 +122,6 @@ fn read_escape(rest: &mut Rest<'_>) -> Option<Option<char>> {
 /// Reads the unit at the start, a character or an escape, and returns the character that it stands
 /// for: `Some(None)` for a string continuation, which stands for none, and `None` if there is no
 /// unit.
-// ensures { meaning (unit_at rest.old) ≡ option_map (λ v. (at_most_one v, rest.new)) result }
 #[inline(always)]
 pub fn read_unit(rest: &mut Rest<'_>) -> Option<Option<char>> {
     if let Some((byte, rest_after)) = byte_escape(rest.text()) {

@@ -15,8 +15,7 @@
 //! after them, and from there on the snippet is read unit by unit.
 
 // Extracted from crates/rustc_parse_format/src/source/anchor.rt by tools/extract: not to be edited.
-// That source is proved, and each contract here is its. That this text means the same is tested:
-// by results from outside, and beside what is proved (.ci/bindings) and the original (tools/agree).
+// That source has the contracts, and is proved. That this text means the same is only tested.
 
 use crate::proved::rustc_parse_format::characters::{after_first, first, run_width, Class};
 use crate::proved::rustc_parse_format::literal::{is_newline_escape, read_unit, Rest};
@@ -36,7 +35,6 @@ pub struct Anchor<'input> {
 
 /// Returns the length in bytes of the first unit of `text`, or 0 if that does not stand for a
 /// character or if `text` begins with none.
-// ensures { result ≡ character_width (chars text.now) }
 #[inline(always)]
 fn character_width(text: &str) -> usize {
     if is_newline_escape(text) {
@@ -58,9 +56,6 @@ fn character_width(text: &str) -> usize {
 
 /// Returns the length in bytes of the continuations at the start of `text`, or 0 if no character
 /// comes after them.
-// ensures width { (q : Text) (us : List LiteralUnit) → IsContent q us
-//     → chars text.now ≡ closed_by_quote q → result ≡ gap us }
-// ensures inside { result ≤ length text.now }
 #[inline(always)]
 pub fn continuations_width(text: &str) -> usize {
     let mut rest = Rest::new(text);
@@ -87,12 +82,6 @@ struct CharacterEnd {
 
 /// Returns the end of the character that starts at the byte offset `at` of a snippet. An appended
 /// newline counts as one byte.
-// requires within { at ≤ length snippet.now }
-// requires valid { is_utf8 (drop at snippet.now) ≡ true }
-// ensures stop { (w : World) (c : ℕ) (rest : Text) → IsHere snippet.now w (c ∷ rest) at
-//     → result.stop ≡ (place_at w (length (c ∷ rest))).1 }
-// ensures after { (w : World) (rest : Text) → IsHere snippet.now w rest at
-//     → IsHere snippet.now w (after_first rest) result.next }
 #[inline(always)]
 fn character_at(snippet: &str, at: usize) -> CharacterEnd {
     let text = &snippet[at..];
@@ -112,8 +101,6 @@ fn character_at(snippet: &str, at: usize) -> CharacterEnd {
 
 /// Returns the number of bytes from the byte offset `at` on up to the next backslash, or up to the
 /// closing quote if there is none.
-// requires { at < length snippet.now }
-// ensures { IsUnescaped snippet.now at result }
 #[inline(always)]
 fn unescaped_width(snippet: &str, at: usize) -> usize {
     let bytes = snippet.as_bytes();
@@ -122,10 +109,6 @@ fn unescaped_width(snippet: &str, at: usize) -> usize {
 
 /// Returns the suffix of `text` after this number of bytes, or after fewer if they end inside a
 /// character. If that is shorter than `rest`, another suffix of `text`, returns `rest`.
-// requires { IsLeft text.now rest.now }
-// ensures after { IsLeft text.now result.now }
-// ensures over { IsLeft result.now rest.now }
-// ensures width { length text.now - length result.now ≤ bytes }
 #[inline(always)]
 fn after_bytes<'a>(text: &'a str, bytes: usize, rest: &'a str) -> &'a str {
     if text.len() - rest.len() <= bytes {
@@ -136,10 +119,6 @@ fn after_bytes<'a>(text: &'a str, bytes: usize, rest: &'a str) -> &'a str {
 
 impl<'input> Anchor<'input> {
     /// Returns the anchor at the byte offset `offset` of a snippet, at which `rest` starts.
-    // requires { (w : World) × IsHere snippet.now w (chars rest.now) offset }
-    // ensures rest { result.rest.now ≡ rest.now }
-    // ensures anchor { (w : World) → IsHere snippet.now w (chars rest.now) offset
-    //     → IsAnchor snippet.now w result }
     #[inline(always)]
     pub fn new(snippet: &str, rest: &'input str, offset: usize) -> Anchor<'input> {
         Anchor {
@@ -151,11 +130,6 @@ impl<'input> Anchor<'input> {
 
     /// Skips the bytes that stand for themselves, at most up to `rest`, and the continuations after
     /// them. Returns the rest of the input there, and its byte offset in the snippet.
-    // requires { Leads snippet.now self.now rest.now }
-    // ensures after { IsLeft result.0.now rest.now }
-    // ensures shorter { length result.0.now ≤ length self.now.rest.now }
-    // ensures here { (w : World) → IsAnchor snippet.now w self.now
-    //     → IsHere snippet.now w (chars result.0.now) result.1 }
     #[inline(always)]
     fn after_unescaped(&self, snippet: &str, rest: &'input str) -> (&'input str, usize) {
         let rest_after = after_bytes(self.rest, self.unescaped, rest);
@@ -169,9 +143,6 @@ impl<'input> Anchor<'input> {
 
     /// Returns the byte offset of `rest` in the snippet, by reading the snippet: in turn, bytes
     /// that stand for themselves, and a unit that does not.
-    // requires { Leads snippet.now self.now rest.now }
-    // ensures { (w : World) → IsAnchor snippet.now w self.now
-    //     → IsHere snippet.now w (chars rest.now) result }
     #[inline(never)]
     fn offset_by_look(&self, snippet: &str, rest: &'input str) -> usize {
         let mut at = self.after_unescaped(snippet, rest);
@@ -184,9 +155,6 @@ impl<'input> Anchor<'input> {
 
     /// Returns the byte offset of `rest` in the snippet. Does not read the snippet if all bytes up
     /// to the first one of `rest` stand for themselves.
-    // requires { Leads snippet.now self.now rest.now }
-    // ensures { (w : World) → IsAnchor snippet.now w self.now
-    //     → IsHere snippet.now w (chars rest.now) result }
     #[inline(always)]
     pub fn offset_of(&self, snippet: &str, rest: &'input str) -> usize {
         let moved = self.rest.len() - rest.len();
@@ -197,10 +165,6 @@ impl<'input> Anchor<'input> {
     }
 
     /// Returns the byte offset in the snippet at which the first character of `rest` ends.
-    // requires leads { Leads snippet.now self.now rest.now }
-    // requires some { length rest.now ≡ 0 → ⊥ }
-    // ensures { (w : World) → IsAnchor snippet.now w self.now
-    //     → result ≡ (place_at w (length (chars rest.now))).1 }
     #[inline(never)]
     pub fn stop_of(&self, snippet: &str, rest: &'input str) -> usize {
         character_at(snippet, self.offset_of(snippet, rest)).stop
@@ -208,10 +172,6 @@ impl<'input> Anchor<'input> {
 
     /// Moves the anchor to `rest`, unless the byte offset of `rest` is known without reading the
     /// snippet.
-    // requires { Leads snippet.now self.old rest.now }
-    // ensures after { IsLeft self.new.rest.now rest.now }
-    // ensures here { (w : World) → IsAnchor snippet.now w self.old
-    //     → IsAnchor snippet.now w self.new }
     #[inline(always)]
     pub fn move_anchor(&mut self, snippet: &str, rest: &'input str) {
         let moved = self.rest.len() - rest.len();
@@ -222,14 +182,6 @@ impl<'input> Anchor<'input> {
 
     /// Returns the byte range in the snippet of the first character of `rest`, and the anchor after
     /// it, where `rest_after` starts.
-    // requires leads { Leads snippet.now self.now rest.now }
-    // requires some { length rest.now ≡ 0 → ⊥ }
-    // requires rest_after { chars rest_after.now ≡ after_first (chars rest.now) }
-    // ensures place { (w : World) → IsAnchor snippet.now w self.now
-    //     → pair result.0 ≡ place_at w (length (chars rest.now)) }
-    // ensures after { result.1.rest.now ≡ rest_after.now }
-    // ensures here { (w : World) → IsAnchor snippet.now w self.now
-    //     → IsAnchor snippet.now w result.1 }
     #[inline(never)]
     fn pass_by_look(
         &self,
@@ -244,15 +196,6 @@ impl<'input> Anchor<'input> {
 
     /// Returns the byte range in the snippet of the first character of `rest`, and the text after
     /// it. Moves the anchor to that text, unless the character stands for itself.
-    // requires leads { Leads snippet.now self.old rest.now }
-    // requires some { length rest.now ≡ 0 → ⊥ }
-    // ensures place { (w : World) → IsAnchor snippet.now w self.old
-    //     → pair result.0 ≡ place_at w (length (chars rest.now)) }
-    // ensures rest { chars result.1.now ≡ after_first (chars rest.now) }
-    // ensures left { (input : List ℕ) → IsLeft input rest.now → IsLeft input result.1.now }
-    // ensures after { IsLeft self.new.rest.now result.1.now }
-    // ensures here { (w : World) → IsAnchor snippet.now w self.old
-    //     → IsAnchor snippet.now w self.new }
     #[inline(always)]
     pub fn pass(&mut self, snippet: &str, rest: &'input str) -> (Range<usize>, &'input str) {
         let rest_after = after_first(rest);

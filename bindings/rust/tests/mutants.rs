@@ -1,0 +1,95 @@
+//! Rows that find mutants of the crate which no other test does. Places and words are those of rustc
+//! 1.95, and so are the drawings.
+use dephungo::faults::{draw, errors_of, Picture};
+use dephungo::source::{file_faults, file_inlines, Table};
+use dephungo::ParseMode::Format;
+
+/// The findings of a file, each with its id and the text from its start on.
+fn found<'a>(text: &'a str, table: &Table<'_>) -> Vec<(&'static str, &'a str)> {
+    let report = file_faults(text, table, true);
+    let findings = report.findings.iter();
+    findings.map(|it| (it.id, &text[it.span.start..])).collect()
+}
+
+/// An operator of one character or two, at the end of the arguments; after a cast or a `<` it is left.
+#[test]
+fn operators_without_operands() {
+    for argument in [
+        "!", "-", "&", "x +", "x |", "x >", "x ==", "x &&", "x <<", "x ||", "x +=", "x !=",
+    ] {
+        let text = format!("fn f() {{ print!(\"{{}} {{}}\", x, {argument}); }}");
+        assert_eq!(
+            found(&text, &Table::standard()),
+            [("missing-expression", "); }")],
+            "{argument}"
+        );
+    }
+    for argument in ["x as u8 +", "x < y +", "|y| y +", "let y = x +"] {
+        let text = format!("fn f() {{ print!(\"{{}} {{}}\", x, {argument}); }}");
+        assert_eq!(found(&text, &Table::standard()), [], "{argument}");
+    }
+}
+
+/// Parameters of a trait after delimiters in the list of them.
+#[test]
+fn parameters_after_delimiters() {
+    let head = "#[diagnostic::on_unimplemented(message = \"{A} {B} {C} {D}\")]";
+    let text = format!("{head}\ntrait T<A: Fn(u8) -> [u8; 2], B, const C: usize = {{ 2 }}> {{}}\n");
+    assert_eq!(
+        found(&text, &Table::standard()),
+        [("missing-parameter", &text[text.find("D}").unwrap()..])]
+    );
+}
+
+/// A format string that a `;` follows.
+#[test]
+fn strings_before_a_semicolon() {
+    let text = "fn f() { log::info!(\"{}\"; \"a\" => 1); }";
+    assert_eq!(
+        found(text, &Table::with_crates()),
+        [("missing-argument", &text[text.find("{}").unwrap()..])]
+    );
+}
+
+/// No keyword of an edition is a variable.
+#[test]
+fn keywords() {
+    let words = "as break const continue crate else enum extern false fn for if impl in let loop match \
+        mod move mut pub ref return Self static struct super trait true type unsafe use where while \
+        async await dyn abstract become box do final gen macro override priv try typeof unsized \
+        virtual yield _";
+    for word in words.split(' ') {
+        let text = format!("fn f() {{ print!(\"{{}}\", {word}); }}");
+        assert!(
+            file_inlines(&text, &Table::standard(), true, true)
+                .text
+                .is_none(),
+            "{word}"
+        );
+    }
+}
+
+/// A label over two lines that are cut, of which the second one ends left of where the first begins.
+#[test]
+fn a_window_of_two_lines() {
+    let text = format!("{}{{name\n.b}}{}", "x".repeat(60), "y".repeat(80));
+    let source = format!("\"{text}\"");
+    let errors = errors_of(&text, None, Some(source.clone()), false, Format);
+    let picture = Picture {
+        path: "a.rs",
+        source: &source,
+        line_start: 1,
+        literal_start: 0,
+        width: 60,
+        colours: false,
+    };
+    let drawing = draw(Format, &picture, &errors[0]);
+    let wanted = [
+        "  |".to_string(),
+        format!("1 |   \"{}{{name", "x".repeat(60)),
+        format!("  |  _{}^", "_".repeat(62)),
+        format!("2 | | .b}}{}...", "y".repeat(63)),
+        "  | |__^ not supported in format string".to_string(),
+    ];
+    assert_eq!(drawing.lines().skip(2).take(5).collect::<Vec<_>>(), wanted);
+}
