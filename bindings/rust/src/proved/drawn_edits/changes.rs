@@ -195,8 +195,8 @@ fn columns_of(text: &str) -> Result<usize, AllocError> {
 /// Adds the signs under an addition, after so many spaces. Returns how many columns after these
 /// signs the addition ends.
 // ensures added { OnOk result (string_bytes out.new
-//     ≡ string_bytes out.old ++ pluses palette gap text.now) }
-// ensures value { IfOk result (λ n. n ≡ after_pluses text.now) }
+//     ≡ string_bytes out.old ++ pluses palette gap (chars text.now)) }
+// ensures value { IfOk result (λ n. n ≡ after_pluses (chars text.now)) }
 #[inline]
 fn put_pluses(
     out: &mut String,
@@ -246,8 +246,11 @@ fn put_plus_signs(
 }
 
 /// Adds the row of these signs.
-// ensures { OnOk result (string_bytes out.new ≡ string_bytes out.old
+// ensures row { OnOk result (string_bytes out.new ≡ string_bytes out.old
 //     ++ under gutter (plus_signs gutter.palette 0 (map seen_part parts.now))) }
+// ensures signs { OnOk result (has_colours gutter.palette ≡ false
+//     → AddsSigns gutter (map seen_part parts.now) (string_bytes out.old)
+//     (string_bytes out.new)) }
 #[inline]
 fn put_plus_row(out: &mut String, gutter: Gutter, parts: &[Part<'_>]) -> Result<(), AllocError> {
     put_gutter(out, gutter)?;
@@ -375,11 +378,7 @@ fn put_from(
 // ensures { OnOk result (string_bytes out.new ≡ string_bytes out.old
 //     ++ edits_rows (seen_frame frame.now) (map seen_edit edits.now)) }
 #[inline]
-pub fn put_edits(
-    out: &mut String,
-    frame: &Frame<'_>,
-    edits: &[Edit<'_>],
-) -> Result<(), AllocError> {
+pub fn put_rows(out: &mut String, frame: &Frame<'_>, edits: &[Edit<'_>]) -> Result<(), AllocError> {
     match edits {
         [] => {}
         [first, ..] => put_from(out, frame, first.extent.start.line, edits)?,

@@ -5,7 +5,7 @@
 // That source is proved, and each contract here is its. That this text means the same is tested:
 // by results from outside, and beside what is proved (.ci/bindings) and the original (tools/agree).
 
-use crate::proved::drawn_edits::changes::put_edits;
+use crate::proved::drawn_edits::changes::put_rows;
 use crate::proved::drawn_edits::edited::Edit;
 use crate::proved::drawn_lines::{put_glyphs, put_painted, Frame, Palette, Style};
 use crate::shim::alloc::AllocError;
@@ -29,6 +29,24 @@ fn put_help_title(out: &mut String, palette: Palette, text: &str) -> Result<(), 
     out.try_push_str("did you mean `")?;
     put_glyphs(out, text, 0)?;
     out.try_push_str("`?\n")?;
+    Ok(())
+}
+
+/// Adds the rows of edits.
+// ensures rows { OnOk result (string_bytes out.new ≡ string_bytes out.old
+//     ++ edits_rows (seen_frame frame.now) (map seen_edit edits.now)) }
+// Without colours, if they only insert something into one line, they are that line, and under
+// it signs in the columns of what is added, and no sign elsewhere.
+// ensures signs { OnOk result (has_colours frame.now.gutter.palette ≡ false
+//     → AddsEdits (seen_frame frame.now) (map seen_edit edits.now) (string_bytes out.old)
+//     (string_bytes out.new)) }
+#[inline]
+pub fn put_edits(
+    out: &mut String,
+    frame: &Frame<'_>,
+    edits: &[Edit<'_>],
+) -> Result<(), AllocError> {
+    put_rows(out, frame, edits)?;
     Ok(())
 }
 
