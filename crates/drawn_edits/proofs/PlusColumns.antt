@@ -1,4 +1,4 @@
--- What has signs of a text, and in which columns of a row it is.
+-- The part of a text that has signs, and the columns of a row in which these are.
 use Rattle.std.proofs.Common.{◌≡◌, ℕ, ◌+◌, ◌-◌, ◌<◌, ◌≤◌, zero, suc, Bool, true, false, List, []}
 use Rattle.std.proofs.Common.{◌∷◌, ◌++◌, ◌∙◌, ap, append-nil, arith, get_or, length, nat_lt, refl}
 use Rattle.std.proofs.Common.{sym, replicate}
@@ -27,7 +27,7 @@ pub columns-of : (n : ℕ) (t : Text) → columns_of n t ≡ n + columns t
 columns-of n [] = let none : columns [] ≡ 0 = refl in omega (arith, none)
 columns-of n (c ∷ t) = omega (arith, columns-of (n + width c) t, sum_by-cons width c t)
 
--- What has signs of a text, and the columns before and after it.
+-- The part of a text that has signs, and the columns before and after it.
 pub record Spread (t : Text) : Type 0 where
   pub front : Text
   pub back : Text

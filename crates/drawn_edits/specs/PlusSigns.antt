@@ -24,13 +24,13 @@ columns t = sum_by width t
 abbrev pub columns_before : List Piece → ℕ
 columns_before xs = sum_by (λ x. columns (chars x.text)) xs
 
--- What has signs of a text: the text without the white space around it, or all of it if it is
--- nothing but white space.
+-- The part of a text that has signs: the text without the white space around it, or all of it if it
+-- is nothing but white space.
 abbrev pub signed : Text → Text
 signed t =
     if list_all is_whitespace t then t else drop_trailing_whitespace (skip_leading_whitespace t)
 
--- The column of a text is one of what has signs of it.
+-- The column of a text is one of this part, right of the white space in front of it.
 pub record IsSigned (t : Text) (n : ℕ) : Type 0 where
   pub front : Text
   pub back : Text
@@ -39,7 +39,7 @@ pub record IsSigned (t : Text) (n : ℕ) : Type 0 where
   pub from : columns front ≤ n
   pub to : n < columns front + columns (signed t)
 
--- The column of a line is such a column of an addition.
+-- The column of a line is such a column of one of its additions.
 pub record IsAdded (l : List Piece) (n : ℕ) : Type 0 where
   pub before : List Piece
   pub text : List ℕ
