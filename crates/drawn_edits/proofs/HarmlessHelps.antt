@@ -4,7 +4,8 @@ use Rattle.std.proofs.Common.{◌+◌, ◌-◌, ◌∷◌, ◌++◌, ℕ, List, 
 use Rattle.std.proofs.Common.{Bool, cond, drop, false, length, nat_lt, refl, take, true}
 use Rattle.std.specs.Prelude.{◌==◌}
 use Rattle.std.specs.List.{list_any}
-use Rattle.std.specs.Str.{trim, trim_start}
+use Rattle.std.specs.Str.{drop_trailing_whitespace, skip_leading_whitespace}
+use Rattle.rustc_parse_format.specs.Characters.{Text}
 use Rattle.drawn_edits.specs.Edited.{are_blank, do_remove, is_added, is_same_end, new_lines}
 use Rattle.drawn_edits.specs.Edited.{old_lines, Edit}
 use Rattle.drawn_lines.specs.Glyphs.{IsHarmless, run}
@@ -125,19 +126,19 @@ of_signs : (p : Palette) (n m : ℕ) → IsColourOf (run n 32 ++ painted p Addit
 of_signs p n m =
     join (spaces n) (of_painted p Addition (run-harmless m 43 (written-harmless 43 refl)))
 
-of_pluses : (p : Palette) (n : ℕ) (bs : List ℕ)
-    → IsColourOf (pluses p n bs) (pluses Colourless n bs)
-of_pluses p n bs =
-    either (length (trim_start bs) == 0) (of_signs p n (columns_of 0 (chars bs)))
-    (of_signs p (n + (columns_of 0 (chars bs) - columns_of 0 (chars (trim_start bs))))
-    (columns_of 0 (chars (trim bs))))
+of_pluses : (p : Palette) (n : ℕ) (t : Text) → IsColourOf (pluses p n t) (pluses Colourless n t)
+of_pluses p n t =
+    let back = skip_leading_whitespace t in
+    either (length back == 0) (of_signs p n (columns_of 0 t))
+    (of_signs p (n + (columns_of 0 t - columns_of 0 back))
+    (columns_of 0 (drop_trailing_whitespace back)))
 
 of_plus_signs : (p : Palette) (n : ℕ) (xs : List Piece)
     → IsColourOf (plus_signs p n xs) (plus_signs Colourless n xs)
 of_plus_signs p n [] = nothing
 of_plus_signs p n (x ∷ xs) =
     either (is_added x)
-    (join (of_pluses p n x.text) (of_plus_signs p (after_pluses x.text) xs))
+    (join (of_pluses p n (chars x.text)) (of_plus_signs p (after_pluses (chars x.text)) xs))
     (of_plus_signs p (n + columns_of 0 (chars x.text)) xs)
 
 of_inserted : (f : Frame) (n : ℕ) (ls : List (List Piece))

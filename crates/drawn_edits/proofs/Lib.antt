@@ -1,3 +1,6 @@
 pub mod EditLines
 pub mod ChangedLines
 pub mod HarmlessHelps
+pub mod WhiteSpace
+pub mod PlusColumns
+pub mod PlusLaws

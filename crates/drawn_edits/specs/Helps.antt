@@ -4,7 +4,7 @@ use Rattle.std.specs.Prelude.{ℕ, ◌+◌, ◌-◌, ◌++◌, ◌==◌, ◌&&�
 use Rattle.std.specs.Prelude.{◌∷◌, Option, None, Some, chars, codes, drop, length, map, nat_le}
 use Rattle.std.specs.Prelude.{nat_lt, take}
 use Rattle.std.specs.List.{list_any}
-use Rattle.std.specs.Str.{trim, trim_start}
+use Rattle.std.specs.Str.{drop_trailing_whitespace, skip_leading_whitespace}
 use Rattle.rustc_parse_format.specs.Characters.{Text}
 use Rattle.drawn_edits.specs.Edited.{are_blank, do_remove, is_added, is_same_end, new_lines}
 use Rattle.drawn_edits.specs.Edited.{old_lines, parts, Edit}
@@ -121,24 +121,25 @@ columns_of n [] = n
 columns_of n (c ∷ t) = columns_of (n + width c) t
 
 -- The signs under an addition, after n spaces: none under the white space around its text.
-abbrev pub pluses : Palette → ℕ → List ℕ → List ℕ
-pluses p n bs =
-    if length (trim_start bs) == 0
-    then run n 32 ++ painted p Addition (run (columns_of 0 (chars bs)) 43)
-    else run (n + (columns_of 0 (chars bs) - columns_of 0 (chars (trim_start bs)))) 32
-    ++ painted p Addition (run (columns_of 0 (chars (trim bs))) 43)
+abbrev pub pluses : Palette → ℕ → Text → List ℕ
+pluses p n t =
+    let back = skip_leading_whitespace t in
+    if length back == 0 then run n 32 ++ painted p Addition (run (columns_of 0 t) 43)
+    else run (n + (columns_of 0 t - columns_of 0 back)) 32
+    ++ painted p Addition (run (columns_of 0 (drop_trailing_whitespace back)) 43)
 
 -- How many columns after these signs the addition ends.
-abbrev pub after_pluses : List ℕ → ℕ
-after_pluses bs =
-    if length (trim_start bs) == 0 then 0
-    else columns_of 0 (chars (trim_start bs)) - columns_of 0 (chars (trim bs))
+abbrev pub after_pluses : Text → ℕ
+after_pluses t =
+    let back = skip_leading_whitespace t in
+    if length back == 0 then 0
+    else columns_of 0 back - columns_of 0 (drop_trailing_whitespace back)
 
 -- The signs under the additions of a line, after n spaces.
 abbrev pub plus_signs : Palette → ℕ → List Piece → List ℕ
 plus_signs p n [] = []
 plus_signs p n (x ∷ xs) =
-    if is_added x then pluses p n x.text ++ plus_signs p (after_pluses x.text) xs
+    if is_added x then pluses p n (chars x.text) ++ plus_signs p (after_pluses (chars x.text)) xs
     else plus_signs p (n + columns_of 0 (chars x.text)) xs
 
 -- The line has nothing but an addition that ends it.

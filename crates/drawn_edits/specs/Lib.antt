@@ -1,3 +1,4 @@
 pub mod Edited
 pub mod Helps
+pub mod PlusSigns
 pub mod Suggestions

@@ -2,15 +2,17 @@
 //! if an allocation fails.
 
 ghost use Rattle.std.specs.Prelude.{◌≡◌, ◌+◌, ◌++◌, ◌<◌, ◌^◌, [], IfOk, OnOk, chars, length, map};
-ghost use Rattle.std.specs.Prelude.{option_map, string_bytes};
+ghost use Rattle.std.specs.Prelude.{false, option_map, string_bytes};
 ghost use Rattle.drawn_edits.specs.Edited.{seen_line, seen_part, seen_edit};
 ghost use Rattle.drawn_edits.specs.Helps.{after_pluses, cells_of, changed_row, changed_rows};
 ghost use Rattle.drawn_edits.specs.Helps.{columns_of, edited_parts, edits_rows, have_bytes};
 ghost use Rattle.drawn_edits.specs.Helps.{inserted_rows, is_whole, line_rows, lone_addition};
 ghost use Rattle.drawn_edits.specs.Helps.{lone_sign, new_row, new_rows, plus_signs, pluses};
 ghost use Rattle.drawn_edits.specs.Helps.{replaced_rows, rows_from};
+ghost use Rattle.drawn_edits.specs.PlusSigns.{AddsSigns};
 ghost use Rattle.drawn_lines.specs.Frames.{seen_frame};
 ghost use Rattle.drawn_lines.specs.Lines.{under};
+ghost use Rattle.drawn_lines.specs.Painting.{has_colours};
 
 use crate::edit_rows::{put_kept_lines, put_kept_row, put_sign_row, put_sign_rows};
 use crate::edited::{
@@ -192,6 +194,7 @@ fn columns_of(text: &str) -> Result<usize, AllocError>
 
 /// Adds the signs under an addition, after so many spaces. Returns how many columns after these
 /// signs the addition ends.
+#[tactic(auto, using(crate::proofs::WhiteSpace::trimmed))]
 fn put_pluses(
     out: &mut String,
     palette: Palette,
@@ -199,8 +202,8 @@ fn put_pluses(
     text: &str,
 ) -> Result<usize, AllocError>
     ensures added { OnOk result (string_bytes out.new
-        ≡ string_bytes out.old ++ pluses palette gap text.now) }
-    ensures value { IfOk result (λ n. n ≡ after_pluses text.now) }
+        ≡ string_bytes out.old ++ pluses palette gap (chars text.now)) }
+    ensures value { IfOk result (λ n. n ≡ after_pluses (chars text.now)) }
 {
     let back = text.trim_start();
     let columns = columns_of(text)?;
@@ -241,8 +244,11 @@ fn put_plus_signs(out: &mut String, palette: Palette, parts: &[Part<'_>]) -> Res
 
 /// Adds the row of these signs.
 fn put_plus_row(out: &mut String, gutter: Gutter, parts: &[Part<'_>]) -> Result<(), AllocError>
-    ensures { OnOk result (string_bytes out.new ≡ string_bytes out.old
+    ensures row { OnOk result (string_bytes out.new ≡ string_bytes out.old
         ++ under gutter (plus_signs gutter.palette 0 (map seen_part parts.now))) }
+    ensures signs { OnOk result (has_colours gutter.palette ≡ false
+        → AddsSigns gutter (map seen_part parts.now) (string_bytes out.old)
+        (string_bytes out.new)) }
 {
     put_gutter(out, gutter)?;
     put_plus_signs(out, gutter.palette, parts)?;
@@ -369,7 +375,7 @@ fn put_from(
 }
 
 /// Adds the rows of edits.
-pub fn put_edits(out: &mut String, frame: &Frame<'_>, edits: &[Edit<'_>]) -> Result<(), AllocError>
+pub fn put_rows(out: &mut String, frame: &Frame<'_>, edits: &[Edit<'_>]) -> Result<(), AllocError>
     ensures { OnOk result (string_bytes out.new ≡ string_bytes out.old
         ++ edits_rows (seen_frame frame.now) (map seen_edit edits.now)) }
 {

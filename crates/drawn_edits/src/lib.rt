@@ -6,6 +6,5 @@ mod edit_rows;
 mod edited;
 mod suggestions;
 
-pub use changes::put_edits;
 pub use edited::{Edit, placed_edit};
-pub use suggestions::{put_edit, put_help_word};
+pub use suggestions::{put_edit, put_edits, put_help_word};

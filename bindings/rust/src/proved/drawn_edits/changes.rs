@@ -327,11 +327,7 @@ fn put_from(
 
 /// Adds the rows of edits.
 #[inline]
-pub fn put_edits(
-    out: &mut String,
-    frame: &Frame<'_>,
-    edits: &[Edit<'_>],
-) -> Result<(), AllocError> {
+pub fn put_rows(out: &mut String, frame: &Frame<'_>, edits: &[Edit<'_>]) -> Result<(), AllocError> {
     match edits {
         [] => {}
         [first, ..] => put_from(out, frame, first.extent.start.line, edits)?,

@@ -8,9 +8,7 @@ pub(crate) mod edit_rows;
 pub(crate) mod edited;
 pub(crate) mod suggestions;
 
-#[cfg(feature = "std")]
-pub use changes::put_edits;
 pub use edited::{placed_edit, Edit};
 pub use suggestions::put_edit;
 #[cfg(feature = "std")]
-pub use suggestions::put_help_word;
+pub use suggestions::{put_edits, put_help_word};

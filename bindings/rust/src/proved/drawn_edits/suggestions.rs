@@ -4,7 +4,7 @@
 // Extracted from crates/drawn_edits/src/suggestions.rt by tools/extract: not to be edited.
 // That source has the contracts, and is proved. That this text means the same is only tested.
 
-use crate::proved::drawn_edits::changes::put_edits;
+use crate::proved::drawn_edits::changes::put_rows;
 use crate::proved::drawn_edits::edited::Edit;
 use crate::proved::drawn_lines::{put_glyphs, put_painted, Frame, Palette, Style};
 use crate::shim::alloc::AllocError;
@@ -25,6 +25,17 @@ fn put_help_title(out: &mut String, palette: Palette, text: &str) -> Result<(), 
     out.try_push_str("did you mean `")?;
     put_glyphs(out, text, 0)?;
     out.try_push_str("`?\n")?;
+    Ok(())
+}
+
+/// Adds the rows of edits.
+#[inline]
+pub fn put_edits(
+    out: &mut String,
+    frame: &Frame<'_>,
+    edits: &[Edit<'_>],
+) -> Result<(), AllocError> {
+    put_rows(out, frame, edits)?;
     Ok(())
 }
 
