@@ -240,8 +240,22 @@ fn inline_one(
     }
 }
 
-/// Returns what inlining makes of a call.
-// requires { IsPair part.now (call.now.name + 2) call.now.close }
+/// Returns whether the format string of a call of a macro with this rule was not read.
+// ensures { result ≡ is_unread rule reading }
+#[inline]
+fn is_unread(rule: Rule, reading: CallReading) -> bool {
+    match rule {
+        Rule::Templates => false,
+        Rule::At(_) | Rule::IndexByEdition(_) | Rule::FirstLiteral => {
+            !matches!(reading, CallReading::Whole | CallReading::StringAlone)
+        }
+    }
+}
+
+/// Returns what inlining makes of a call that has this reading.
+// requires pair { IsPair part.now (call.now.name + 2) call.now.close }
+// requires reads { (xs : List FindingValue)
+//     × Reads (scope file.entry) file.entry.is_from_2021 part.now call.now reading xs }
 // ensures { IfOk result (λ x. Inlines (scope file.entry) file.entry.is_from_2021 allows_mixed
 //     part.now call.now x.inlining (map seen_edit x.edits.items)) }
 #[inline]
@@ -249,8 +263,12 @@ fn inline_call<'a>(
     file: File<'_, 'a>,
     part: &Part<'a>,
     call: &Call,
+    reading: CallReading,
     allows_mixed: bool,
 ) -> Result<InlinedCall, AllocError> {
+    if is_unread(call.rule, reading) {
+        return Ok(left_for(CallInlining::Unread(reading)));
+    }
     if let Some(reading) = other_macro(file, part.tokens(), call) {
         return Ok(left_for(CallInlining::Unread(reading)));
     }
@@ -267,8 +285,11 @@ fn inline_call<'a>(
     }
 }
 
-/// Adds what inlining makes of calls of a part of a file, one after the other.
-// requires { (c : CallValue) → Contains calls.now c → IsPair part.now (c.name + 2) c.close }
+/// Adds what inlining makes of calls of a part of a file that have these readings, one after the
+/// other.
+// requires pairs { (c : CallValue) → Contains calls.now c → IsPair part.now (c.name + 2) c.close }
+// requires read { (xs : List FindingValue) × Gives (Reads (scope file.entry)
+//     file.entry.is_from_2021 part.now) calls.now readings.now xs }
 // ensures { OnOk result ((rs : List InliningValue) × (es : List EditValue)
 //     × (made.new.inlinings.items ≡ made.old.inlinings.items ++ rs)
 //     × (map seen_edit made.new.edits.items ≡ map seen_edit made.old.edits.items ++ es)
@@ -280,14 +301,20 @@ pub(crate) fn inline_calls<'a>(
     file: File<'_, 'a>,
     part: &Part<'a>,
     calls: &[Call],
+    readings: &[CallReading],
     allows_mixed: bool,
 ) -> Result<(), AllocError> {
     let mut rest = calls;
+    let mut left = readings;
     while let Some((call, others)) = rest.split_first() {
-        let mut one = inline_call(file, part, call, allows_mixed)?;
+        let Some((reading, more)) = left.split_first() else {
+            return Ok(());
+        };
+        let mut one = inline_call(file, part, call, *reading, allows_mixed)?;
         made.inlinings.try_push(one.inlining)?;
         made.edits.try_append(&mut one.edits)?;
         rest = others;
+        left = more;
     }
     Ok(())
 }

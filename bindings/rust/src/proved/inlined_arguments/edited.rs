@@ -17,7 +17,7 @@ use crate::shim::prelude::*;
 //     → AreApart 0 (map seen_edit edits.now) (length bytes.now) → ⊥) }
 #[inline]
 fn edited_bytes(bytes: &[u8], edits: &[Edit]) -> Result<Option<Vec<u8>>, AllocError> {
-    let mut out = Vec::new();
+    let mut out = Vec::made_for(bytes.len())?;
     let mut at = 0;
     for edit in edits {
         if edit.span.start < at || edit.span.end < edit.span.start {
