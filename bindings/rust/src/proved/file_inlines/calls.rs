@@ -255,7 +255,7 @@ fn is_unread(rule: Rule, reading: CallReading) -> bool {
 /// Returns what inlining makes of a call that has this reading.
 // requires pair { IsPair part.now (call.now.name + 2) call.now.close }
 // requires reads { (xs : List FindingValue)
-//     × Reads (scope file.entry) file.entry.is_from_2021 part.now call.now reading xs }
+//     × Reads (scope file) file.is_from_2021 part.now call.now reading xs }
 // ensures { IfOk result (λ x. Inlines (scope file.entry) file.entry.is_from_2021 allows_mixed
 //     part.now call.now x.inlining (map seen_edit x.edits.items)) }
 #[inline]
@@ -288,8 +288,8 @@ fn inline_call<'a>(
 /// Adds what inlining makes of calls of a part of a file that have these readings, one after the
 /// other.
 // requires pairs { (c : CallValue) → Contains calls.now c → IsPair part.now (c.name + 2) c.close }
-// requires read { (xs : List FindingValue) × Gives (Reads (scope file.entry)
-//     file.entry.is_from_2021 part.now) calls.now readings.now xs }
+// requires read { (xs : List FindingValue)
+//     × Gives (Reads (scope file) file.is_from_2021 part.now) calls.now readings.now xs }
 // ensures { OnOk result ((rs : List InliningValue) × (es : List EditValue)
 //     × (made.new.inlinings.items ≡ made.old.inlinings.items ++ rs)
 //     × (map seen_edit made.new.edits.items ≡ map seen_edit made.old.edits.items ++ es)
