@@ -16,7 +16,10 @@ use Rattle.format_calls.specs.declared.table.Rule.{Rule}
 use Rattle.format_calls.specs.declared.table.Rule.TheVariants.{At, IndexByEdition, FirstLiteral}
 use Rattle.format_calls.specs.declared.table.Rule.TheVariants.{Templates}
 use Rattle.source_report.specs.declared.report.CallReading.{CallReading}
-use Rattle.source_report.specs.declared.report.CallReading.TheVariants.{Malformed}
+use Rattle.source_report.specs.declared.report.CallReading.TheVariants.{ForeignMacro, Malformed}
+use Rattle.source_report.specs.declared.report.CallReading.TheVariants.{NoComma, NoExpression}
+use Rattle.source_report.specs.declared.report.CallReading.TheVariants.{RedefinedMacro, StringAlone}
+use Rattle.source_report.specs.declared.report.CallReading.TheVariants.{Unread as CannotRead, Whole}
 use Rattle.asm_lint.specs.Literals.{appends_newline, without_crs}
 use Rattle.source_lint.specs.Readings.{Scope, arguments_before, captures, ends_early, index_or}
 use Rattle.source_lint.specs.Readings.{name_at, skipped}
@@ -68,6 +71,24 @@ has_const_form (At n) = false
 has_const_form (IndexByEdition n) = true
 has_const_form FirstLiteral = false
 has_const_form Templates = false
+
+-- A call with this reading has a format string that was read.
+abbrev pub has_string : CallReading → Bool
+has_string Whole = true
+has_string StringAlone = true
+has_string RedefinedMacro = false
+has_string ForeignMacro = false
+has_string NoExpression = false
+has_string NoComma = false
+has_string (CannotRead e) = false
+has_string Malformed = false
+
+-- The same for a macro with this rule, where the format string was not read.
+abbrev pub is_unread : Rule → CallReading → Bool
+is_unread (At n) q = not (has_string q)
+is_unread (IndexByEdition n) q = not (has_string q)
+is_unread FirstLiteral q = not (has_string q)
+is_unread Templates q = false
 
 -- The call of a macro with this rule and the name w, whose string is this literal and stands for
 -- the text t. Its arguments have their sources in a file with the bytes bs.

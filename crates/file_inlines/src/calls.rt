@@ -10,12 +10,13 @@ ghost use Rattle.format_calls.specs.Strings.{is_string_by};
 ghost use Rattle.format_calls.specs.declared.listing.Call.{Call as CallValue};
 ghost use Rattle.format_calls.specs.declared.split.Argument.{Argument as ArgumentValue};
 ghost use Rattle.source_lint.specs.CallLists.{Gives};
-ghost use Rattle.source_lint.specs.Readings.{name_at, scope};
+ghost use Rattle.source_lint.specs.Readings.{Reads, name_at, scope};
+ghost use Rattle.source_report.specs.declared.report.Finding.{Finding as FindingValue};
 ghost use Rattle.inlined_arguments.specs.Edits.{Edit as EditValue};
 ghost use Rattle.inlined_arguments.specs.Seen.{seen_call, seen_edit};
 ghost use Rattle.file_inlines.specs.CallInlines.{AreEdits, Inlines, InlinesAt};
 ghost use Rattle.file_inlines.specs.CallInlines.{InlinesLiteral, InlinesOne, Makes};
-ghost use Rattle.file_inlines.specs.CallInlines.{has_const_form, is_format_alone};
+ghost use Rattle.file_inlines.specs.CallInlines.{has_const_form, is_format_alone, is_unread};
 ghost use Rattle.file_inlines.specs.declared.calls.CallInlining.{CallInlining as InliningValue};
 
 use crate::edits::edits_of;
@@ -261,18 +262,37 @@ fn inline_one(
     }
 }
 
-/// Returns what inlining makes of a call. Returns `Err` if an allocation fails.
+/// Returns whether the format string of a call of a macro with this rule was not read.
+fn is_unread(rule: Rule, reading: CallReading) -> bool
+    ensures { result ≡ is_unread rule reading }
+{
+    match rule {
+        Rule::Templates => false,
+        Rule::At(_) | Rule::IndexByEdition(_) | Rule::FirstLiteral => {
+            !matches!(reading, CallReading::Whole | CallReading::StringAlone)
+        }
+    }
+}
+
+/// Returns what inlining makes of a call that has this reading. Returns `Err` if an allocation
+/// fails.
 fn inline_call<'a>(
     alloc: Global,
     file: File<'_, 'a>,
     part: &Part<'a>,
     call: &Call,
+    reading: CallReading,
     allows_mixed: bool,
 ) -> Result<InlinedCall, AllocError>
-    requires { IsPair part.now (call.now.name + 2) call.now.close }
+    requires pair { IsPair part.now (call.now.name + 2) call.now.close }
+    requires reads { (xs : List FindingValue)
+        × Reads (scope file) file.is_from_2021 part.now call.now reading xs }
     ensures { IfOk result (λ x. Inlines (scope file.entry) file.entry.is_from_2021 allows_mixed
         part.now call.now x.inlining (map seen_edit x.edits.items)) }
 {
+    if is_unread(call.rule, reading) {
+        return Ok(left_for(alloc, CallInlining::Unread(reading)));
+    }
     if let Some(reading) = other_macro(file, part.tokens(), call) {
         return Ok(left_for(alloc, CallInlining::Unread(reading)));
     }
@@ -289,17 +309,20 @@ fn inline_call<'a>(
     }
 }
 
-/// Adds what inlining makes of calls of a part of a file, one after the other. Returns `Err` if an
-/// allocation fails.
+/// Adds what inlining makes of calls of a part of a file that have these readings, one after the
+/// other. Returns `Err` if an allocation fails.
 pub(crate) fn inline_calls<'a>(
     alloc: Global,
     results: &mut InlinedCalls,
     file: File<'_, 'a>,
     part: &Part<'a>,
     calls: &[Call],
+    readings: &[CallReading],
     allows_mixed: bool,
 ) -> Result<(), AllocError>
-    requires { (c : CallValue) → Contains calls.now c → IsPair part.now (c.name + 2) c.close }
+    requires pairs { (c : CallValue) → Contains calls.now c → IsPair part.now (c.name + 2) c.close }
+    requires read { (xs : List FindingValue)
+        × Gives (Reads (scope file) file.is_from_2021 part.now) calls.now readings.now xs }
     ensures { OnOk result ((rs : List InliningValue) × (es : List EditValue)
         × (results.new.inlinings.items ≡ results.old.inlinings.items ++ rs)
         × (map seen_edit results.new.edits.items ≡ map seen_edit results.old.edits.items ++ es)
@@ -307,11 +330,16 @@ pub(crate) fn inline_calls<'a>(
         calls.now rs es) }
 {
     let mut rest = calls;
+    let mut left = readings;
     while let Some((call, others)) = rest.split_first() {
-        let mut one = inline_call(alloc, file, part, call, allows_mixed)?;
+        let Some((reading, more)) = left.split_first() else {
+            return Ok(());
+        };
+        let mut one = inline_call(alloc, file, part, call, *reading, allows_mixed)?;
         results.inlinings.push(one.inlining)?;
         results.edits.append(&mut one.edits)?;
         rest = others;
+        left = more;
     }
     Ok(())
 }

@@ -16,7 +16,7 @@ fn edited_bytes(alloc: Global, bytes: &[u8], edits: &[Edit]) -> Result<Option<Ve
     ensures none { IfOk result (λ o. IsNone o
         → AreApart 0 (map seen_edit edits.now) (length bytes.now) → ⊥) }
 {
-    let mut out = Vec::new(alloc);
+    let mut out = Vec::with_capacity(alloc, bytes.len())?;
     let mut at = 0;
     for edit in edits {
         if edit.span.start < at || edit.span.end < edit.span.start {

@@ -209,14 +209,29 @@ fn inline_one(
     }
 }
 
-/// Returns what inlining makes of a call.
+/// Returns whether the format string of a call of a macro with this rule was not read.
+#[inline]
+fn is_unread(rule: Rule, reading: CallReading) -> bool {
+    match rule {
+        Rule::Templates => false,
+        Rule::At(_) | Rule::IndexByEdition(_) | Rule::FirstLiteral => {
+            !matches!(reading, CallReading::Whole | CallReading::StringAlone)
+        }
+    }
+}
+
+/// Returns what inlining makes of a call that has this reading.
 #[inline]
 fn inline_call<'a>(
     file: File<'_, 'a>,
     part: &Part<'a>,
     call: &Call,
+    reading: CallReading,
     allows_mixed: bool,
 ) -> Result<InlinedCall, AllocError> {
+    if is_unread(call.rule, reading) {
+        return Ok(left_for(CallInlining::Unread(reading)));
+    }
     if let Some(reading) = other_macro(file, part.tokens(), call) {
         return Ok(left_for(CallInlining::Unread(reading)));
     }
@@ -233,21 +248,28 @@ fn inline_call<'a>(
     }
 }
 
-/// Adds what inlining makes of calls of a part of a file, one after the other.
+/// Adds what inlining makes of calls of a part of a file that have these readings, one after the
+/// other.
 #[inline]
 pub(crate) fn inline_calls<'a>(
     results: &mut InlinedCalls,
     file: File<'_, 'a>,
     part: &Part<'a>,
     calls: &[Call],
+    readings: &[CallReading],
     allows_mixed: bool,
 ) -> Result<(), AllocError> {
     let mut rest = calls;
+    let mut left = readings;
     while let Some((call, others)) = rest.split_first() {
-        let mut one = inline_call(file, part, call, allows_mixed)?;
+        let Some((reading, more)) = left.split_first() else {
+            return Ok(());
+        };
+        let mut one = inline_call(file, part, call, *reading, allows_mixed)?;
         results.inlinings.try_push(one.inlining)?;
         results.edits.try_append(&mut one.edits)?;
         rest = others;
+        left = more;
     }
     Ok(())
 }

@@ -11,7 +11,7 @@ use crate::shim::prelude::*;
 /// overlap.
 #[inline]
 fn edited_bytes(bytes: &[u8], edits: &[Edit]) -> Result<Option<Vec<u8>>, AllocError> {
-    let mut out = Vec::new();
+    let mut out = Vec::made_for(bytes.len())?;
     let mut at = 0;
     for edit in edits {
         if edit.span.start < at || edit.span.end < edit.span.start {

@@ -1,8 +1,10 @@
-use Rattle.std.proofs.Common.{◌+◌, length, map}
+use Rattle.std.proofs.Common.{◌+◌, List, length, map}
 use Rattle.std.specs.Prelude.{Contains}
 use Rattle.rust_trees.specs.Forests.{IsPair}
 use Rattle.format_calls.specs.declared.listing.Call.{Call}
-use Rattle.source_lint.specs.Readings.{scope}
+use Rattle.source_lint.specs.Readings.{Reads, scope}
+use Rattle.source_lint.specs.CallLists.{Gives}
+use Rattle.source_report.specs.declared.report.Finding.{Finding}
 use Rattle.source_lint.proofs.Joining.{Giving}
 use Rattle.inlined_arguments.specs.Seen.{seen_edit}
 use Rattle.file_inlines.specs.CallInlines.{Inlines}
@@ -13,6 +15,8 @@ invariant-loop-call l = record {
   inlines : Giving (Inlines (scope l.file) l.file.is_from_2021 l.allows_mixed l.part) l.calls
       l.rest l.initial.results.inlinings.items l.results.inlinings.items
       (map seen_edit l.initial.results.edits.items) (map seen_edit l.results.edits.items);
+  read : (xs : List Finding) × Gives (Reads (scope l.file) l.file.is_from_2021 l.part) l.rest
+      l.left xs;
   are_calls : (c : Call) → Contains l.rest c → IsPair l.part (c.name + 2) c.close;
 }
 
