@@ -10,7 +10,7 @@ use Rattle.rust_trees.proofs.source.Source.read_group.Goals as goal
 pub source_of-requires : goal.source_of-requires
 source_of-requires c =
     let e = map-push leaf _ _ _ (leaf c.in-Some.token) c.in_ok-push.ensures.items refl in
-    subst (λ v. IsMatched v c.add.new.found) (sym e)
+    subst (λ v. IsMatched v c.add.new.matching) (sym e)
     (c.in_ok-add.ensures _ c.loop-token.invariant.matched)
 
 pub returns-then-is_closed-clause-joins : goal.returns-then-is_closed-clause-joins
@@ -33,7 +33,7 @@ loop-token-preserved c =
     let j = joins-more _ _ _ _ _ (leaf c.in-Some.token) c.in-Some.ensures.some
     c.loop-token.invariant.joins in
     record {
-      matched = subst (λ v. IsMatched v c.add.new.found) (sym e)
+      matched = subst (λ v. IsMatched v c.add.new.matching) (sym e)
           (c.in_ok-add.ensures _ c.loop-token.invariant.matched);
       file = search rules;
       fewer = search rules;
