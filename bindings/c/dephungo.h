@@ -4,12 +4,14 @@
  * caller. The library owns nothing and keeps nothing after the call. A record is plain
  * integers: any memory of its size may be passed, and a copy of it stays valid as long as the
  * input and the texts do.
+ * The snippet is the string literal that the input comes from, as it is in the source. If it
+ * stands for the input, it is the source literal of the input.
  * A range of the input is in byte offsets of the input. A range in the source is in byte
- * offsets of the snippet, if that is the source literal of the input, and otherwise in those of
- * a literal that has the input, as it is, after its opening quote. But there the end of the
- * text is the length of the snippet, or without one that of the input (less 1 if a newline was
- * appended), and no quote is counted; so a range up to the end may be empty or end before it
- * starts. */
+ * offsets of the snippet, if that is the source literal of the input. Otherwise it is in those
+ * of a literal that has the input, as it is, after its opening quote. The end of the text is an
+ * exception, since no quote is counted there: it is the length of the snippet, or without one
+ * that of the input (less 1 if a newline was appended). So a range up to the end may be empty
+ * or end before it starts. */
 #ifndef DEPHUNGO_H
 #define DEPHUNGO_H
 #include <stddef.h>
