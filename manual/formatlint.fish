@@ -1,6 +1,6 @@
 # completion of formatlint for fish
 complete -c formatlint -l exclude -x -d 'Leave out files and folders with this name; it can be given again'
-complete -c formatlint -l stdin-path -x -d 'The path that stands for standard input in messages; without a path that is read'
+complete -c formatlint -l stdin-path -x -d 'The path of standard input in messages; without other paths, it is read'
 complete -c formatlint -l edition -x -a '2015 2018 2021 2024' -d 'The edition of the files, in place of that in the nearest Cargo.toml'
 complete -c formatlint -l macro -x -d 'A macro, and which of its arguments, from 0, is a format string; it can be given again'
 complete -c formatlint -l message-format -x -a 'human short json github sarif' -d 'The form of messages; short is a line, and json has rustc\'s members'

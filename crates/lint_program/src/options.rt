@@ -85,7 +85,7 @@ static OPTIONS: [Row; 24] = [
     Row {
         name: "stdin-path",
         value: Some("PATH"),
-        help: "The path that stands for standard input in messages; without a path that is read",
+        help: "The path of standard input in messages; without other paths, it is read",
         ..FLAG
     },
     Row {

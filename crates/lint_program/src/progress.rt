@@ -45,7 +45,7 @@ impl Progress {
     /// the run began.
     pub fn show(&mut self, rt: &HostRuntime, files: usize) {
         if self.is_due(rt) {
-            let _ = eprint!(rt; "\rformatlint: {files} files read");
+            let _ = eprint!(rt; "\rformatlint: files read: {files}");
             self.is_shown = true;
             self.since = Instant::now(rt).ok();
         }

@@ -50,7 +50,7 @@ impl Progress {
     #[inline]
     pub fn show(&mut self, rt: &crate::shim::host::HostRuntime, files: usize) {
         if self.is_due(rt) {
-            let _ = crate::shim::eprint_in!(rt; "\rformatlint: {files} files read");
+            let _ = crate::shim::eprint_in!(rt; "\rformatlint: files read: {files}");
             self.is_shown = true;
             self.since = Instant::now(rt).ok();
         }
