@@ -110,6 +110,7 @@ gives-first P all rest c ls more q fs e f h =
     head_or : CallReading → List CallReading → CallReading
     head_or p [] = p
     head_or p (r ∷ rs) = r
+
     front-same : (p r : CallReading) (ps rs : List CallReading) → ◌≡◌ {A = List CallReading}
         (p ∷ ps) (r ∷ rs) → p ≡ r
     front-same p r ps rs i = ap (head_or p) i

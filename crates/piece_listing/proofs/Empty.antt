@@ -68,9 +68,10 @@ pub task_of-literal : (o : Option DeclaredTask) (t : DeclaredTask) (mode : Mode)
     → (t.is_literal ≡ literal) × (t.arguments ≡ None)
 task_of-literal o t mode literal a seen is task_of =
     let same = same_Some (seen_task t) (record { mode = mode; is_literal = literal; given = None })
-    (ap (option_map seen_task) (sym is) ∙ seen ∙ task_of) in
-    (ap (λ (a : Task). a.is_literal) same,
-    nothing-seen t.arguments (ap (λ (a : Task). a.given) same))
+    (ap (option_map seen_task) (sym is) ∙ seen ∙ task_of) in (
+      ap (λ (a : Task). a.is_literal) same,
+      nothing-seen t.arguments (ap (λ (a : Task). a.given) same),
+    )
 
 pub empty-read : (remaining : Option (List ℕ)) (items slice text : List ℕ) → remaining ≡ Some []
     → IfSome remaining (λ input. items ≡ input)

@@ -92,7 +92,11 @@ fn put_extent(out: &mut String, lines_before: usize, count: usize) -> Result<(),
     ensures { OnOk result (string_bytes out.new
         ≡ string_bytes out.old ++ extent lines_before count) }
 {
-    let first = if count == 0 { lines_before } else { lines_before + 1 };
+    let first = if count == 0 {
+        lines_before
+    } else {
+        lines_before + 1
+    };
     put_number(out, first)?;
     out.push_str(",")?;
     put_number(out, count)
