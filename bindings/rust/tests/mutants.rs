@@ -1,7 +1,7 @@
 //! Rows that find mutants of the crate which no other test does. Places and words are those of rustc
 //! 1.95, and so are the drawings.
 use dephungo::faults::{draw, errors_of, Picture};
-use dephungo::source::{file_faults, file_inlines, Table};
+use dephungo::source::{file_faults, file_inlines, tokens, Kind, Table};
 use dephungo::ParseMode::Format;
 
 /// The findings of a file, each with its id and the text from its start on.
@@ -30,6 +30,25 @@ fn operators_without_operands() {
     }
 }
 
+/// What rustc expects after a range, which ends with a path.
+#[test]
+fn words_after_a_range() {
+    let text = "fn f() { print!(\"{} {}\", x..y z); }";
+    let title = &file_faults(text, &Table::standard(), true).findings[0].title;
+    let wanted = "expected one of `!`, `,`, `.`, `::`, `?`, `{`, or an operator, found `z`";
+    assert_eq!(title, wanted);
+}
+
+/// Each character of ASCII that is punctuation is a token of this kind.
+#[test]
+fn punctuation() {
+    for sign in "!#$%&()*+,-./:;<=>?@[]^{|}~".chars() {
+        let text = sign.to_string();
+        let found: Vec<_> = tokens(&text).iter().map(|it| it.kind).collect();
+        assert_eq!(found, [Kind::Punct], "{sign}");
+    }
+}
+
 /// Parameters of a trait after delimiters in the list of them.
 #[test]
 fn parameters_after_delimiters() {
@@ -41,7 +60,7 @@ fn parameters_after_delimiters() {
     );
 }
 
-/// A format string that a `;` follows.
+/// A format string that a `;` follows, and a macro after a colon alone.
 #[test]
 fn strings_before_a_semicolon() {
     let text = "fn f() { log::info!(\"{}\"; \"a\" => 1); }";
@@ -49,6 +68,7 @@ fn strings_before_a_semicolon() {
         found(text, &Table::with_crates()),
         [("missing-argument", &text[text.find("{}").unwrap()..])]
     );
+    assert_eq!(found(":info!(\"{\");", &Table::with_crates()).len(), 1);
 }
 
 /// No keyword of an edition is a variable.
@@ -72,7 +92,8 @@ fn keywords() {
 /// A label over two lines that are cut, of which the second one ends left of where the first begins.
 #[test]
 fn a_window_of_two_lines() {
-    let text = format!("{}{{name\n.b}}{}", "x".repeat(60), "y".repeat(80));
+    let indent = " ".repeat(20);
+    let text = format!("{}{{name\n{indent}.b}}{}", "x".repeat(60), "y".repeat(80));
     let source = format!("\"{text}\"");
     let errors = errors_of(&text, None, Some(source.clone()), false, Format);
     let picture = Picture {
@@ -86,10 +107,18 @@ fn a_window_of_two_lines() {
     let drawing = draw(Format, &picture, &errors[0]);
     let wanted = [
         "  |".to_string(),
-        format!("1 |   \"{}{{name", "x".repeat(60)),
-        format!("  |  _{}^", "_".repeat(62)),
-        format!("2 | | .b}}{}...", "y".repeat(63)),
-        "  | |__^ not supported in format string".to_string(),
+        format!("1 |   ...{}{{name", "x".repeat(43)),
+        format!("  |  {}^", "_".repeat(48)),
+        format!("2 | | ...  .b}}{}...", "y".repeat(43)),
+        "  | |_______^ not supported in format string".to_string(),
     ];
     assert_eq!(drawing.lines().skip(2).take(5).collect::<Vec<_>>(), wanted);
+}
+
+/// What stands after a `;` is no argument.
+#[test]
+fn arguments_after_a_semicolon() {
+    let text = "fn f(x: u8) { log::info!(\"{}\"; x, y); }";
+    let made = file_inlines(text, &Table::with_crates(), true, true);
+    assert!(made.text.is_none());
 }
