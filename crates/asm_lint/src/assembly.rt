@@ -73,26 +73,26 @@ struct Operands<'a> {
 
 /// Adds an argument after the templates. Returns `Err` if an allocation fails.
 fn add<'a>(
-    operands: &mut Operands<'a>,
+    all_operands: &mut Operands<'a>,
     part: &Part<'a>,
     argument: &Argument,
 ) -> Result<(), AllocError>
     requires { argument.now.start < length part.now }
-    ensures list { OnOk result (map seen_operand operands.new.list.items
-        ≡ map seen_operand operands.old.list.items
+    ensures list { OnOk result (map seen_operand all_operands.new.list.items
+        ≡ map seen_operand all_operands.old.list.items
         ++ operands part.now (argument.now ∷ [])) }
-    ensures raw { OnOk result (operands.new.are_raw
-        ≡ (operands.old.are_raw || is_raw_part (asm_part part.now argument.now))) }
-    ensures unknown { OnOk result (operands.new.is_unknown
-        ≡ (operands.old.is_unknown || is_unknown_part (asm_part part.now argument.now))) }
+    ensures raw { OnOk result (all_operands.new.are_raw
+        ≡ (all_operands.old.are_raw || is_raw_part (asm_part part.now argument.now))) }
+    ensures unknown { OnOk result (all_operands.new.is_unknown
+        ≡ (all_operands.old.is_unknown || is_unknown_part (asm_part part.now argument.now))) }
 {
     let kind = asm_part(part, argument);
     if let Some(operand) = operand_of(part.tokens(), argument, kind) {
-        operands.list.push(operand)?;
-        operands.arguments.push(*argument)?;
+        all_operands.list.push(operand)?;
+        all_operands.arguments.push(*argument)?;
     }
-    operands.are_raw = operands.are_raw || matches!(kind, AsmPart::Raw);
-    operands.is_unknown = operands.is_unknown || matches!(kind, AsmPart::Unknown);
+    all_operands.are_raw = all_operands.are_raw || matches!(kind, AsmPart::Raw);
+    all_operands.is_unknown = all_operands.is_unknown || matches!(kind, AsmPart::Unknown);
     Ok(())
 }
 

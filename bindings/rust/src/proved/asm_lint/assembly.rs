@@ -55,17 +55,17 @@ struct Operands<'a> {
 /// Adds an argument after the templates.
 #[inline]
 fn add<'a>(
-    operands: &mut Operands<'a>,
+    all_operands: &mut Operands<'a>,
     part: &Part<'a>,
     argument: &Argument,
 ) -> Result<(), AllocError> {
     let kind = asm_part(part, argument);
     if let Some(operand) = operand_of(part.tokens(), argument, kind) {
-        operands.list.try_push(operand)?;
-        operands.arguments.try_push(*argument)?;
+        all_operands.list.try_push(operand)?;
+        all_operands.arguments.try_push(*argument)?;
     }
-    operands.are_raw = operands.are_raw || matches!(kind, AsmPart::Raw);
-    operands.is_unknown = operands.is_unknown || matches!(kind, AsmPart::Unknown);
+    all_operands.are_raw = all_operands.are_raw || matches!(kind, AsmPart::Raw);
+    all_operands.is_unknown = all_operands.is_unknown || matches!(kind, AsmPart::Unknown);
     Ok(())
 }
 
