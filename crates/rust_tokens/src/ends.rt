@@ -71,8 +71,8 @@ fn after_hashes(bytes: &[u8], hashes: usize) -> Option<&[u8]>
     ensures { option_map (λ r. r.now) result ≡ after_hashes hashes bytes.now }
 {
     let mut rest = bytes;
-    let mut left = hashes;
-    while left > 0 {
+    let mut countdown = hashes;
+    while countdown > 0 {
         let Some((byte, more)) = rest.split_first() else {
             return None;
         };
@@ -80,7 +80,7 @@ fn after_hashes(bytes: &[u8], hashes: usize) -> Option<&[u8]>
             return None;
         }
         rest = more;
-        left -= 1;
+        countdown -= 1;
     }
     Some(rest)
 }

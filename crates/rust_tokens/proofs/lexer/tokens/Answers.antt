@@ -37,7 +37,7 @@ loop-step-init c =
           (rw (
             c.in_ok-add_unless_empty-2.ensures,
             c.in_ok-add_unless_empty.ensures,
-            c.new-found.ensures.items,
+            c.new-list.ensures.items,
           ) refl);
       utf8 = search rules;
     }

@@ -6,7 +6,7 @@ use Rattle.rust_tokens.proofs.lexer.tokens.Given as goal
 
 abbrev pub invariant-loop-step : goal.invariant-loop-step
 invariant-loop-step l = record {
-  lexed : Lexed l.text l.found.items l.rest;
+  lexed : Lexed l.text l.list.items l.rest;
   utf8 : shadow (Utf8 l.rest);
 }
 
