@@ -79,6 +79,7 @@ fn insert_later<'a>(set: &mut BTreeSet<&'a str>, name: &'a str) -> Result<(), Al
 }
 
 /// Adds a name to others, if it is not yet there. Returns `Err` if an allocation fails.
+#[inline(never)]
 pub fn insert_name<'a>(names: &mut Names<'a>, name: &'a str) -> Result<(), AllocError>
     ensures { OnOk result ((before ys : List Text) → list_any (bytes_eq (chars name.now)) ys ≡ false
         → Follows before ys names.old → Follows (before ++ chars name.now ∷ []) ys names.new) }

@@ -21,16 +21,22 @@ use Rattle.rustc_parse_format.specs.Bytes.{IsLeft}
 use Rattle.rustc_parse_format.specs.World.{World, Place, plain_world, ordinary_world, ordinary_end}
 use Rattle.rustc_parse_format.specs.World.{content_places, last_stop, newline_places}
 
+-- The input has a newline that was appended to the text of its ordinary source literal: the two are
+-- not as long.
+abbrev pub is_appended : Text → Text → Bool
+is_appended input snippet =
+    not (length input == length (content_value (units_between snippet)))
+
 -- The world of an ordinary source literal.
-abbrev pub world_of_literal : Text → Bool → World
-world_of_literal snippet appended = ordinary_world (units_between snippet) appended
+abbrev pub world_of_literal : Text → Text → World
+world_of_literal input snippet = ordinary_world (units_between snippet) (is_appended input snippet)
 
 -- The world of a source. A source keeps the snippet only if its places are not those of a plain
 -- text.
 abbrev pub world_with : Option (String Global) → Source → World
 world_with None s = plain_world s.is_literal s.offset (chars s.input.now) s.end
 world_with (Some snippet) s =
-    record (world_of_literal (chars (string_bytes snippet)) s.appended_newline) {
+    record (world_of_literal (chars s.input.now) (chars (string_bytes snippet))) {
       has_source =
           s.is_literal;
     }
@@ -150,8 +156,8 @@ pub record IsOrdinary (input : Text) (snippet : Text) (appended : Bool) (end : �
 -- The snippet, if one is kept, is an ordinary literal that stands for the input.
 abbrev pub IsKeptIn : Option (String Global) → Source → Type 0
 IsKeptIn None s = Unit {0}
-IsKeptIn (Some snippet) s = IsOrdinary (chars s.input.now)
-    (chars (string_bytes snippet)) s.appended_newline s.end
+IsKeptIn (Some snippet) s = IsOrdinary (chars s.input.now) (chars (string_bytes snippet))
+    (is_appended (chars s.input.now) (chars (string_bytes snippet))) s.end
 
 -- The snippet that a source keeps, if any, is an ordinary literal that stands for its input.
 abbrev pub IsKept : Source → Type 0

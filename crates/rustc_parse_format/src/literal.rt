@@ -73,7 +73,7 @@ fn read_characters(
         ≡ content_characters 0 (chars content.now)) }
     ensures empty { chars content.now ≡ [] → IsOk result }
 {
-    let mut found = Vec::new(alloc);
+    let mut list = Vec::new(alloc);
     let mut rest = Rest::new(content);
     let total = rest.len();
     let mut at = 0;
@@ -83,14 +83,14 @@ fn read_characters(
         };
         let end = total - rest.len();
         if let Some(c) = value {
-            found.push(ContentCharacter {
+            list.push(ContentCharacter {
                 span: at..end,
                 character: c,
             })?;
         }
         at = end;
     }
-    Ok(Some(found))
+    Ok(Some(list))
 }
 
 /// Returns the characters that the content of an ordinary string literal stands for, in order, or
@@ -289,12 +289,12 @@ fn ordinary_end(snippet: &str, text: &str) -> Option<usize>
 fn consume_hashes(rest: &mut Rest<'_>, hashes: usize) -> bool
     ensures { IsTaken (replicate hashes 35) rest.old result rest.new }
 {
-    let mut left = hashes;
-    while left > 0 {
+    let mut countdown = hashes;
+    while countdown > 0 {
         if !rest.next_eq('#') {
             return false;
         }
-        left -= 1;
+        countdown -= 1;
     }
     true
 }

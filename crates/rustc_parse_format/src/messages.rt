@@ -19,10 +19,10 @@ use std::ops::Range;
 
 /// Returns the description of a missing closing brace, from the character found in its place, or
 /// `None` at the end of the input. Returns `Err` if an allocation fails.
-fn expected_brace(alloc: Global, found: Option<char>) -> Result<String, AllocError>
-    ensures { IfOk result (λ s. string_bytes s ≡ expected found) }
+fn expected_brace(alloc: Global, character: Option<char>) -> Result<String, AllocError>
+    ensures { IfOk result (λ s. string_bytes s ≡ expected character) }
 {
-    let Some(c) = found else {
+    let Some(c) = character else {
         return String::from_str(alloc, "expected `}` but string was terminated");
     };
     // 21 bytes, at most 6 for the character, and the closing quote
@@ -213,18 +213,18 @@ pub fn set_error(alloc: Global, into: &mut ParseError, fault: &Fault<'_>) -> Res
             "unmatched `}`",
             span,
         ),
-        Fault::MissingBrace(found, span, opening) => set_brace_error(
+        Fault::MissingBrace(character, span, opening) => set_brace_error(
             alloc,
             into,
-            expected_brace(alloc, *found)?,
+            expected_brace(alloc, *character)?,
             "if you intended to print `{`, you can escape it using `{{`",
             span,
             ("because of this opening brace", opening),
         ),
-        Fault::FillBrace(found, span, fill) => set_brace_error(
+        Fault::FillBrace(character, span, fill) => set_brace_error(
             alloc,
             into,
-            expected_brace(alloc, *found)?,
+            expected_brace(alloc, *character)?,
             "the character `}` is interpreted as a fill character because of the `:` that precedes it",
             span,
             (

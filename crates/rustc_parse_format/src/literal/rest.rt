@@ -132,9 +132,9 @@ impl<'a> Rest<'a> {
     pub fn skip_plain(&mut self, other: &mut Rest<'_>)
         ensures { SharePlain self.old other.old self.new other.new }
     {
-        let (rest, left) = after_plain(self.text, other.text);
+        let (rest, other_rest) = after_plain(self.text, other.text);
         self.text = rest;
-        other.text = left;
+        other.text = other_rest;
     }
 
     /// Returns whether the rest begins with a string continuation: a backslash and an LF.

@@ -13,7 +13,7 @@ returns-in_default-clause-computed c =
     ≢ [] = λ e. both_ways _ c.loop-rest-test.true (c.is_empty.ensures.1 e) in
     let none : meaning (unit_at c.loop-rest.rest) ≡ None = c.in_default.ensures in
     found-none c.loop-rest.at c.loop-rest.rest
-    (chars c.args.content.now) c.loop-rest.found.items c.loop-rest.invariant.so_far some none
+    (chars c.args.content.now) c.loop-rest.list.items c.loop-rest.invariant.so_far some none
 
 pub overflow_sub-end : goal.overflow_sub-end
 overflow_sub-end c =
@@ -34,7 +34,7 @@ loop-rest-preserved-in_ok-push c =
       so_far = found-character c.loop-rest.at (c.len-total.result
           - c.len.result) c.in-Some-value.c c.loop-rest.rest c.read_unit.new.rest
           (chars c.args.content.now) c.in-Some.value
-          c.loop-rest.found.items c.push.new.self.items c.loop-rest.invariant.so_far
+          c.loop-rest.list.items c.push.new.self.items c.loop-rest.invariant.so_far
           c.in-Some.ensures c.in-Some-value.is
           (omega arith) c.in_ok-push.ensures.items;
       position = omega arith;
@@ -52,7 +52,7 @@ loop-rest-preserved c =
       so_far = found-nothing c.loop-rest.at (c.len-total.result
           - c.len.result) c.loop-rest.rest c.read_unit.new.rest
           (chars c.args.content.now) c.in-Some.value
-          c.loop-rest.found.items c.loop-rest.invariant.so_far c.in-Some.ensures
+          c.loop-rest.list.items c.loop-rest.invariant.so_far c.in-Some.ensures
           c.in_default-value.is (omega arith);
       position = omega arith;
     }
@@ -68,5 +68,5 @@ loop-rest-smaller-in_ok-push c = meaning-shorter c.loop-rest.rest
 pub returns-clause-computed : goal.returns-clause-computed
 returns-clause-computed c =
     found-all c.loop-rest.at c.loop-rest.rest
-    (chars c.args.content.now) c.loop-rest.found.items c.loop-rest.invariant.so_far
+    (chars c.args.content.now) c.loop-rest.list.items c.loop-rest.invariant.so_far
     (c.is_empty.ensures.0 c.loop-rest-test.false)

@@ -5,7 +5,7 @@ use Rattle.rustc_parse_format.proofs.literal.read_characters.Given as goal
 
 abbrev pub invariant-loop-rest : goal.invariant-loop-rest
 invariant-loop-rest l = record {
-  so_far : IsSoFar l.found.items l.at l.rest (chars l.fn.content);
+  so_far : IsSoFar l.list.items l.at l.rest (chars l.fn.content);
   empty : chars l.fn.content ≡ [] → l.rest ≡ [];
   position : l.at + byte_length l.rest ≡ l.total;
 }

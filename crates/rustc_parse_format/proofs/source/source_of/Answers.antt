@@ -17,27 +17,27 @@ made c = record {
   offset = c.quote_offset-offset.result;
   end = c.unwrap_or-end.result;
   kept_snippet = c.kept_if-kept_snippet.result;
-  appended_newline = c.args.appended_newline;
 }
 
 -- and what is known of it, with what it keeps
 made_with : (c : goal.After-input-1)
-    → IsSourceWith (made c) c.args.style c.args.snippet c.found_end-found.result
+    → IsSourceWith (made c) c.args.style c.args.snippet
+    c.args.appended_newline c.found_end-literal_end.result
 made_with c = record {
   offset = c.quote_offset-offset.ensures;
   is_literal = c.is_some-is_literal.ensures;
-  end = c.unwrap_or-end.ensures ∙ ap (unwrap_or c.found_end-found.result) c.plain_end.ensures;
-  found = c.found_end-found.ensures;
+  end = c.unwrap_or-end.ensures ∙ ap (unwrap_or c.found_end-literal_end.result) c.plain_end.ensures;
+  found = c.found_end-literal_end.ensures;
 }
 
 kept : (c : goal.After-input-1) →
     c.kept_if-kept_snippet.result
-    ≡ kept_of c.found_end-found.result
+    ≡ kept_of c.found_end-literal_end.result
     (chars c.args.input.now) c.args.style c.args.snippet c.args.appended_newline
 kept c =
     let longer = is_longer (chars c.args.input.now) c.args.style
     (seen_snippet c.args.snippet) c.args.appended_newline in
-    let is_kept : c.if-is_literal.is_kept ≡ (is_some c.found_end-found.result && longer) =
+    let is_kept : c.if-is_literal.is_kept ≡ (is_some c.found_end-literal_end.result && longer) =
     elim c.if-is_literal.branch [
       | then-is_literal w ↦ (w.is_kept-is ∙ w.is_longer-is_kept.ensures)
           ∙ ap (λ b. b && longer) (sym w.if-is_literal.true ∙ c.is_some-is_literal.ensures)
@@ -50,9 +50,11 @@ kept c =
 pub returns-clause-world : goal.returns-clause-world
 returns-clause-world c =
     ap (λ o. world_with o (made c)) (kept c)
-    ∙ source-world (made c) c.args.style c.args.snippet c.found_end-found.result (made_with c)
+    ∙ source-world (made c) c.args.style c.args.snippet c.args.appended_newline
+    c.found_end-literal_end.result (made_with c)
 
 pub returns-clause-kept : goal.returns-clause-kept
 returns-clause-kept c =
     subst (λ o. IsKeptIn o (made c)) (sym (kept c))
-    (source-kept (made c) c.args.style c.args.snippet c.found_end-found.result (made_with c))
+    (source-kept (made c) c.args.style c.args.snippet c.args.appended_newline
+    c.found_end-literal_end.result (made_with c))
