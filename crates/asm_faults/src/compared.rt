@@ -83,11 +83,11 @@ fn unmarked_operands(
     ensures { IfOk result (λ v. v.items
         ≡ unused_from (λ i. get_or marks.now i false) 0 (map seen_operand slots.now)) }
 {
-    let mut left = Vec::new(alloc);
+    let mut indices = Vec::new(alloc);
     for (index, slot) in slots.iter().enumerate() {
-        push_unmarked(&mut left, marks, index, slot)?;
+        push_unmarked(&mut indices, marks, index, slot)?;
     }
-    Ok(left)
+    Ok(indices)
 }
 
 /// Returns the fault of a lookup, or `None` if there is none, where so many operands have neither a

@@ -84,15 +84,15 @@ fn labels(
         ≡ map (λ l. l.text) (map seen_label labels.items)) }
     ensures spans { IfOk result (λ v. All (λ x. IsSpan site.entry.text.now x.range) v.items) }
 {
-    let mut found = Vec::new(alloc);
+    let mut list = Vec::new(alloc);
     for label in labels {
-        found.push(Label {
+        list.push(Label {
             range: asm_range(site, label.spot),
             is_primary: label.is_primary,
             text: label.text,
         })?;
     }
-    Ok(found)
+    Ok(list)
 }
 
 /// Returns the range of a place, if there is one. Returns `Err` if an allocation fails.
@@ -104,11 +104,11 @@ fn ranges(
     ensures count { IfOk result (λ v. length v.items ≡ shown_count spot) }
     ensures spans { IfOk result (λ v. All (λ r. IsSpan site.entry.text.now r) v.items) }
 {
-    let mut found = Vec::new(alloc);
+    let mut ranges = Vec::new(alloc);
     if let Some(spot) = spot {
-        found.push(asm_range(site, spot))?;
+        ranges.push(asm_range(site, spot))?;
     }
-    Ok(found)
+    Ok(ranges)
 }
 
 /// Returns notes with the ranges that they show. Returns `Err` if an allocation fails.
@@ -120,15 +120,15 @@ fn notes(alloc: Global, site: AsmSite<'_, '_>, notes: Vec<AsmNote>) -> Result<Ve
     ensures spans { IfOk result (λ v. All (λ x. All (λ r. IsSpan site.entry.text.now r)
         x.ranges.items) v.items) }
 {
-    let mut found = Vec::new(alloc);
+    let mut list = Vec::new(alloc);
     for note in notes {
         let ranges = ranges(alloc, site, note.spot)?;
-        found.push(Note {
+        list.push(Note {
             text: note.text,
             ranges,
         })?;
     }
-    Ok(found)
+    Ok(list)
 }
 
 /// Returns a help, which has no edits. Does not allocate.

@@ -109,16 +109,16 @@ fn operands_of<'a>(
     ensures unknown { IfOk result (λ o. o.is_unknown
         ≡ is_unknown part.now arguments.now) }
 {
-    let mut found = Operands {
+    let mut operands = Operands {
         list: Vec::new(alloc),
         arguments: Vec::new(alloc),
         are_raw: false,
         is_unknown: false,
     };
     for argument in arguments {
-        add(&mut found, part, argument)?;
+        add(&mut operands, part, argument)?;
     }
-    Ok(found)
+    Ok(operands)
 }
 
 /// Returns the first token of an argument, which is there.
@@ -169,14 +169,14 @@ fn read_templates<'a>(
     ensures short { IfOk result (λ o. IfSome o (λ v. AllByRecursion (λ t.
         hashes t.literal.style + length (string_bytes t.literal.text) + 2 < 2 ^ 64) v.items)) }
 {
-    let mut found = Vec::new(alloc);
+    let mut templates = Vec::new(alloc);
     for argument in arguments {
         match read_template(alloc, tokens, argument)? {
-            Some(template) => found.push(template)?,
+            Some(template) => templates.push(template)?,
             None => return Ok(None),
         }
     }
-    Ok(Some(found))
+    Ok(Some(templates))
 }
 
 /// Returns templates as placeholders are read in them. Returns `Err` if an allocation fails.
@@ -187,15 +187,15 @@ fn templates_of<'c>(alloc: Global, read: &'c [Read<'_>]) -> Result<Vec<Template<
     ensures short { IfOk result (λ v. AllByRecursion (λ t.
         hashes t.style + length t.text.now + 2 < 2 ^ 64) v.items) }
 {
-    let mut found = Vec::new(alloc);
+    let mut templates = Vec::new(alloc);
     for template in read {
-        found.push(Template {
+        templates.push(Template {
             text: template.literal.text.as_str(),
             style: template.literal.style,
             snippet: Some(template.literal.snippet.as_str()),
         })?;
     }
-    Ok(found)
+    Ok(templates)
 }
 
 /// Checks a call with these templates and operands, and adds its findings. Returns `Err` if an

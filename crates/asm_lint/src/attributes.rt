@@ -206,15 +206,15 @@ fn literals<'a>(
     ensures { IfOk result (λ v. map leaf v.items
         ≡ texts_from (map leaf tokens.now) false false options.now) }
 {
-    let mut found = Vec::new(alloc);
+    let mut literals = Vec::new(alloc);
     let mut has_message = false;
     let mut has_label = false;
     for option in options {
-        put_literal(&mut found, tokens, has_message, has_label, option)?;
+        put_literal(&mut literals, tokens, has_message, has_label, option)?;
         has_message = has_message || sets(tokens, option, "message");
         has_label = has_label || sets(tokens, option, "label");
     }
-    Ok(found)
+    Ok(literals)
 }
 
 /// Reads the attribute of a trait that stands at a token, if one does, and adds its findings.

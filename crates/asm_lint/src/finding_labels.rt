@@ -23,15 +23,15 @@ pub fn labels(
         ≡ map (λ l. l.text) (map seen_label labels.items)) }
     ensures spans { IfOk result (λ v. All (λ x. IsSpan site.entry.text.now x.range) v.items) }
 {
-    let mut found = Vec::new(alloc);
+    let mut list = Vec::new(alloc);
     for label in labels {
-        found.push(Label {
+        list.push(Label {
             range: spot_range(site, label.spot),
             is_primary: label.is_primary,
             text: label.text,
         })?;
     }
-    Ok(found)
+    Ok(list)
 }
 
 /// Returns the range of the primary label that comes first in the file, or an empty one if there is

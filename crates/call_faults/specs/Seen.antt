@@ -101,7 +101,7 @@ pub record Holds (ks : List Kept) (a : Arguments) : Type 0 where
 abbrev pub title_parts : CallReport → List ℕ → TitleParts Place
 title_parts c numbers = record {
   given = map seen_given c.arguments.now;
-  count = length c.kept.items;
+  count = length c.indices.items;
   pieces = map seen c.pieces.items;
   total = c.parser.next;
   numbers = numbers;
@@ -128,7 +128,7 @@ seen_help h = record { text = string_bytes h.text; edits = map seen_edit h.edits
 abbrev pub seen_call : CallReport → Call
 seen_call c = record {
   given = map seen_given c.arguments.now;
-  kept = c.kept.items;
+  kept = c.indices.items;
   pieces = map seen c.pieces.items;
   counts = c.counts.items;
   places = c.parser.arg_places;

@@ -139,9 +139,9 @@ fn named_of(alloc: Global, list: &[Kept<'_>]) -> Result<Vec<usize>, AllocError>
     ensures { IfOk result (λ v. v.items ≡ named_of (map seen_kept list.now)) }
 {
     let mut named = Vec::new(alloc);
-    for kept in list {
-        if kept.argument.name.is_some() {
-            named.push(kept.index)?;
+    for entry in list {
+        if entry.argument.name.is_some() {
+            named.push(entry.index)?;
         }
     }
     Ok(named)

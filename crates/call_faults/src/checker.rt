@@ -48,7 +48,7 @@ pub struct CallReport<'a> {
     pub arguments: &'a [FormatArgument<'a>],
     /// The indices of the arguments that count: of those whose name is not that of an earlier one.
     /// Empty if an argument without a name after one with a name ended the check.
-    pub kept: Vec<usize>,
+    pub indices: Vec<usize>,
     /// The pieces of the format string.
     pub pieces: Vec<Piece<'a>>,
     /// Of each piece, how many placeholders stand before it.
@@ -89,19 +89,19 @@ fn fault_of<'a>(alloc: Global, string: FormatString<'a>) -> Result<Option<Fault<
 }
 
 /// Returns the faults of a call whose format string has these pieces, and puts the indices of
-/// the arguments that count into `kept`. `is_read` is whether the string is in the grammar. Returns
-/// `Err` if an allocation fails.
+/// the arguments that count into `indices`. `is_read` is whether the string is in the grammar.
+/// Returns `Err` if an allocation fails.
 fn faults_of<'a>(
     alloc: Global,
     string: FormatString<'a>,
     is_read: bool,
     pieces: &[Piece<'a>],
     call_arguments: &[FormatArgument<'a>],
-    kept: &mut Vec<usize>,
+    indices: &mut Vec<usize>,
 ) -> Result<Vec<CallFault<'a>>, AllocError>
     requires { hashes string.style + length string.text.now + 2 < 2 ^ 64 }
-    ensures kept { OnOk result (kept.old.items ≡ []
-        → kept.new.items ≡ kept_indices (map seen_given call_arguments.now)) }
+    ensures kept { OnOk result (indices.old.items ≡ []
+        → indices.new.items ≡ kept_indices (map seen_given call_arguments.now)) }
     ensures faults { IfOk result (λ v. is_none (text_fault (start string.entry)) ≡ is_read
         → map seen_fault v.items ≡ call_faults string.entry.captures
         (map seen_given call_arguments.now) (text_fault (start string.entry))
@@ -111,7 +111,7 @@ fn faults_of<'a>(
     let Some(mut arguments) = arguments_of(alloc, &mut faults, call_arguments)? else {
         return Ok(faults);
     };
-    *kept = indices_of(alloc, &arguments.list)?;
+    *indices = indices_of(alloc, &arguments.list)?;
     if !is_read {
         if let Some(fault) = fault_of(alloc, string)? {
             faults.push(CallFault::Text(fault))?;
@@ -148,7 +148,8 @@ pub fn call_faults<'a>(
         (map seen x.pieces.items ≡ pieces_in s.world (pieces_of (calls s)))
         × (x.parser ≡ after_all s (calls s))) }
     ensures given { IfOk result (λ x. x.arguments ≡ arguments.entry) }
-    ensures kept { IfOk result (λ x. x.kept.items ≡ kept_indices (map seen_given arguments.now)) }
+    ensures kept { IfOk result (λ x. x.indices.items
+        ≡ kept_indices (map seen_given arguments.now)) }
     ensures counts { IfOk result (λ x. x.counts.items ≡ counts_before 0 (map seen x.pieces.items)) }
     ensures faults { IfOk result (λ x. map seen_fault x.faults.items
         ≡ call_faults string.entry.captures (map seen_given arguments.now)
@@ -170,12 +171,12 @@ pub fn call_faults<'a>(
         ParseMode::Format,
     )?;
     let is_read = parser.errors().is_empty();
-    let mut kept = Vec::new(alloc);
-    let faults = faults_of(alloc, string, is_read, &pieces, arguments, &mut kept)?;
+    let mut indices = Vec::new(alloc);
+    let faults = faults_of(alloc, string, is_read, &pieces, arguments, &mut indices)?;
     let counts = counts_before(alloc, &pieces)?;
     Ok(CallReport {
         arguments,
-        kept,
+        indices,
         pieces,
         counts,
         parser,

@@ -31,7 +31,7 @@ fn meant<'a>(arguments: &Arguments<'a>, lookup: &Lookup<'a>) -> Option<usize>
         → option_map_or (λ j. i == j) result false ≡ means ks i (seen_lookup lookup.now) }
 {
     match *lookup {
-        Lookup::Refer(_, Wanted::Index(n)) => arguments.list.get(n).map(|kept| kept.index),
+        Lookup::Refer(_, Wanted::Index(n)) => arguments.list.get(n).map(|entry| entry.index),
         Lookup::Refer(_, Wanted::Name(name)) => index_of(&arguments.indices, name),
         Lookup::NoTrait(..) => None,
     }
@@ -100,13 +100,13 @@ fn unmarked_arguments<'a>(
     ensures { IfOk result (λ v. map seen_kept v.items
         ≡ filter (λ k. not (get_or marks.now k.index false)) (map seen_kept arguments.now)) }
 {
-    let mut left = Vec::new(alloc);
-    for kept in arguments {
-        if !matches!(marks.get(kept.index), Some(true)) {
-            left.push(*kept)?;
+    let mut list = Vec::new(alloc);
+    for entry in arguments {
+        if !matches!(marks.get(entry.index), Some(true)) {
+            list.push(*entry)?;
         }
     }
-    Ok(left)
+    Ok(list)
 }
 
 /// Adds the fault of a lookup: of a trait that does not exist, or of a name that no variable is
@@ -187,11 +187,11 @@ fn positions_of<'a>(
 }
 
 /// Returns whether an argument has no name, and is a variable whose name a map has.
-fn is_redundant<'a>(positions: &BTreeMap<&'a str, usize>, kept: &Kept<'a>) -> bool
-    ensures { result ≡ (is_none (seen_kept kept.now).given.name && option_map_or
-        (λ w. is_some (found_in positions.now w)) (seen_kept kept.now).given.variable false) }
+fn is_redundant<'a>(positions: &BTreeMap<&'a str, usize>, entry: &Kept<'a>) -> bool
+    ensures { result ≡ (is_none (seen_kept entry.now).given.name && option_map_or
+        (λ w. is_some (found_in positions.now w)) (seen_kept entry.now).given.variable false) }
 {
-    match (kept.argument.name, kept.argument.variable) {
+    match (entry.argument.name, entry.argument.variable) {
         (None, Some(variable)) => index_of(positions, variable).is_some(),
         _ => false,
     }
@@ -212,9 +212,9 @@ fn redundant_of<'a>(
         return Ok(redundant);
     }
     let positions = positions_of(alloc, lookups)?;
-    for kept in unused {
-        if is_redundant(&positions, kept) {
-            redundant.push(kept.index)?;
+    for entry in unused {
+        if is_redundant(&positions, entry) {
+            redundant.push(entry.index)?;
         }
     }
     Ok(redundant)
@@ -225,8 +225,8 @@ pub(crate) fn indices_of(alloc: Global, arguments: &[Kept<'_>]) -> Result<Vec<us
     ensures { IfOk result (λ v. v.items ≡ indices (map seen_kept arguments.now)) }
 {
     let mut indices = Vec::new(alloc);
-    for kept in arguments {
-        indices.push(kept.index)?;
+    for entry in arguments {
+        indices.push(entry.index)?;
     }
     Ok(indices)
 }
@@ -262,9 +262,9 @@ fn by_index<'a>(arguments: &[Kept<'a>], lookup: &Lookup<'a>) -> Option<CallFault
 {
     match *lookup {
         Lookup::Refer(reference, Wanted::Index(n)) => match arguments.get(n) {
-            Some(kept) if kept.argument.name.is_some() => Some(CallFault::NameUsedByIndex {
+            Some(entry) if entry.argument.name.is_some() => Some(CallFault::NameUsedByIndex {
                 reference,
-                index: kept.index,
+                index: entry.index,
             }),
             _ => None,
         },
@@ -326,14 +326,14 @@ pub(crate) fn compare<'a>(
         ++ compared captures ks (map seen_lookup lookups.now)) }
 {
     let marks = marks(alloc, arguments, count, lookups)?;
-    let left = unmarked_arguments(alloc, &arguments.list, &marks)?;
+    let rest = unmarked_arguments(alloc, &arguments.list, &marks)?;
     let missing = references_from(alloc, arguments.list.len(), lookups)?;
-    let mut found = Vec::new(alloc);
-    look_up(&mut found, &mut arguments.indices, captures, lookups)?;
-    let is_settled = is_settled(&found, &missing, &left);
-    faults.append(&mut found)?;
+    let mut list = Vec::new(alloc);
+    look_up(&mut list, &mut arguments.indices, captures, lookups)?;
+    let is_settled = is_settled(&list, &missing, &rest);
+    faults.append(&mut list)?;
     tell_missing(faults, missing)?;
-    tell_unused(alloc, faults, &left, lookups)?;
+    tell_unused(alloc, faults, &rest, lookups)?;
     if !is_settled {
         return Ok(());
     }

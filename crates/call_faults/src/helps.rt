@@ -53,10 +53,10 @@ fn single(alloc: Global, text: String, spot: Spot, new: String) -> Result<CallHe
 fn put_placeholders(out: &mut String, count: usize) -> Result<(), AllocError>
     ensures { OnOk result (string_bytes out.new ≡ string_bytes out.old ++ placeholders count) }
 {
-    let mut left = count;
-    while left > 0 {
+    let mut countdown = count;
+    while countdown > 0 {
         out.push_str("{}")?;
-        left -= 1;
+        countdown -= 1;
     }
     Ok(())
 }
@@ -71,7 +71,7 @@ fn unused_help(
     ensures { IfOk result (λ o. option_map seen_help o
         ≡ unused_help (seen_call call.now) count) }
 {
-    if are_missing(&call.faults) || count != call.kept.len() {
+    if are_missing(&call.faults) || count != call.indices.len() {
         return Ok(None);
     }
     let says = "format specifiers use curly braces, consider adding ";
@@ -235,10 +235,10 @@ fn positional_help(
 
 /// Returns the help for `=` after an argument, or `None` unless one argument counts. Returns `Err`
 /// if an allocation fails.
-fn debug_help(alloc: Global, kept: &[usize]) -> Result<Option<CallHelp>, AllocError>
-    ensures { IfOk result (λ o. option_map seen_help o ≡ debug_help kept.now) }
+fn debug_help(alloc: Global, indices: &[usize]) -> Result<Option<CallHelp>, AllocError>
+    ensures { IfOk result (λ o. option_map seen_help o ≡ debug_help indices.now) }
 {
-    let [index] = kept else {
+    let [index] = indices else {
         return Ok(None);
     };
     let text = String::from_str(alloc, "use rust debug printing macro")?;
@@ -273,7 +273,7 @@ fn text_help(
             let help = positional_help(alloc, call.arguments, &error.span)?;
             Ok(Some(help))
         }
-        Suggestion::UseRustDebugPrintingMacro => debug_help(alloc, &call.kept),
+        Suggestion::UseRustDebugPrintingMacro => debug_help(alloc, &call.indices),
         Suggestion::None | Suggestion::RemoveRawIdent(_) | Suggestion::AddMissingColon(_) => {
             Ok(None)
         }

@@ -83,10 +83,10 @@ fn push_nexts(
     ensures { OnOk result (map seen_label labels.new.items ≡ map seen_label labels.old.items
         ++ next_labels (map seen pieces.now) (map pair places.now)) }
 {
-    let mut left = places;
+    let mut rest = places;
     for piece in pieces {
-        push_next(labels, piece, left)?;
-        left = rest_after(piece, left);
+        push_next(labels, piece, rest)?;
+        rest = rest_after(piece, rest);
     }
     Ok(())
 }
@@ -172,7 +172,7 @@ pub(crate) fn few_labels(alloc: Global, call: &CallReport<'_>) -> Result<Vec<Cal
     ensures { IfOk result (λ v. map seen_label v.items ≡ few_labels (seen_call call.now)) }
 {
     let mut labels = Vec::new(alloc);
-    push_values(&mut labels, &call.kept)?;
+    push_values(&mut labels, &call.indices)?;
     push_stars(&mut labels, call.parser.curarg(), &call.pieces)?;
     push_nexts(&mut labels, &call.pieces, call.parser.arg_places())?;
     Ok(labels)

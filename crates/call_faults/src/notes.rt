@@ -244,7 +244,7 @@ fn push_unused(
     ensures { OnOk result (map seen_note notes.new.items
         ≡ map seen_note notes.old.items ++ unused_notes (seen_call call.now) count) }
 {
-    if are_missing(&call.faults) || count == call.kept.len() || count <= 1 {
+    if are_missing(&call.faults) || count == call.indices.len() || count <= 1 {
         return Ok(());
     }
     let mut text = String::from_str(*notes.allocator(), "consider adding ")?;

@@ -271,12 +271,12 @@ fn put_text_title(alloc: Global, out: &mut String, fault: &Fault<'_>) -> Result<
 /// Adds the title of missing arguments.
 fn put_missing(out: &mut String, call: &CallReport<'_>) -> Result<(), AllocError>
     ensures { OnOk result ((r : Report) → IsReport (uses (map seen call.now.pieces.items))
-        (length call.now.kept.items) [] r → string_bytes out.new ≡ string_bytes out.old
+        (length call.now.indices.items) [] r → string_bytes out.new ≡ string_bytes out.old
         ++ (if list_any has_number (map seen call.now.pieces.items)
-        then numbers_title r.missing_index (length call.now.kept.items)
-        else few_title call.now.parser.next (length call.now.kept.items))) }
+        then numbers_title r.missing_index (length call.now.indices.items)
+        else few_title call.now.parser.next (length call.now.indices.items))) }
 {
-    let count = call.kept.len();
+    let count = call.indices.len();
     if have_numbers(&call.pieces) {
         let alloc = *call.pieces.allocator();
         let report = check(alloc, &call.pieces, count, &[])?;
@@ -300,7 +300,7 @@ impl<'a> CallReport<'a> {
     #[tactic(auto, unfolding(crate::specs::Words::title))]
     pub fn put_title(&self, out: &mut String, fault: &CallFault<'a>) -> Result<(), AllocError>
         ensures { OnOk result ((r : Report) → IsReport (uses (map seen self.now.pieces.items))
-            (length self.now.kept.items) [] r → string_bytes out.new ≡ string_bytes out.old
+            (length self.now.indices.items) [] r → string_bytes out.new ≡ string_bytes out.old
             ++ title (title_parts self.now r.missing_index) (seen_fault fault.now)) }
     {
         match fault {

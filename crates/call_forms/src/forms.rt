@@ -35,7 +35,7 @@ pub enum Form<'a> {
         /// The tokens that rustc expects.
         expected: Expected,
         /// The token that stands there.
-        found: Operator<'a>,
+        operator: Operator<'a>,
     },
     /// No operand stands before this operator, with which an argument begins.
     NoOperand(Operator<'a>),
@@ -119,10 +119,10 @@ fn first_bad(part: &Part<'_>, arguments: &[Argument]) -> Option<usize>
 }
 
 /// Returns the fault that no comma stands before a token, where rustc expects these tokens.
-fn no_comma(expected: Expected, found: Operator<'_>) -> Form<'_>
-    ensures { seen_form result ≡ NoComma expected (seen_operator found.entry) }
+fn no_comma(expected: Expected, operator: Operator<'_>) -> Form<'_>
+    ensures { seen_form result ≡ NoComma expected (seen_operator operator.entry) }
 {
-    Form::NoComma { expected, found }
+    Form::NoComma { expected, operator }
 }
 
 /// Returns what is wrong with an argument in which the operand with an index stands right after
@@ -134,13 +134,13 @@ fn joined_form<'a>(tokens: &[Token<'a>], index: usize, is_string: bool) -> Optio
     if !is_string && are_unknown(tokens) {
         return None;
     }
-    let Some(found) = operator_at(tokens, index) else {
+    let Some(operator) = operator_at(tokens, index) else {
         return None;
     };
     if is_string {
-        Some(no_comma(Expected::Comma, found))
+        Some(no_comma(Expected::Comma, operator))
     } else {
-        Some(no_comma(expected_at(tokens, index), found))
+        Some(no_comma(expected_at(tokens, index), operator))
     }
 }
 
@@ -151,7 +151,7 @@ fn operand_form<'a>(tokens: &[Token<'a>]) -> Option<Form<'a>>
         ≡ option_map (λ o. NoOperand o) (operator_at (map leaf tokens.now) 0) }
 {
     match operator_at(tokens, 0) {
-        Some(found) => Some(Form::NoOperand(found)),
+        Some(operator) => Some(Form::NoOperand(operator)),
         None => None,
     }
 }
@@ -227,7 +227,7 @@ fn comma_form<'a>(tokens: &[Token<'a>]) -> Option<Form<'a>>
     ensures { option_map seen_form result ≡ comma_form (map leaf tokens.now) }
 {
     match operator_at(tokens, 1) {
-        Some(found) => Some(no_comma(Expected::Comma, found)),
+        Some(operator) => Some(no_comma(Expected::Comma, operator)),
         None => None,
     }
 }

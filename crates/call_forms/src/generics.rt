@@ -139,9 +139,9 @@ pub fn parameters<'a>(
     ensures { IfOk result (λ v. map (λ w. w.now) v.items
         ≡ parameters (map leaf tokens.now) index) }
 {
-    let mut found = Vec::new(alloc);
+    let mut names = Vec::new(alloc);
     if !is_mark(tokens, index, b'<') {
-        return Ok(found);
+        return Ok(names);
     }
     let mut place = Place {
         angles: 1,
@@ -151,10 +151,10 @@ pub fn parameters<'a>(
     };
     for token in &tokens[index + 1..] {
         if place.angles == 0 {
-            return Ok(found);
+            return Ok(names);
         }
-        put_parameter(&mut found, place, token)?;
+        put_parameter(&mut names, place, token)?;
         place = place_after(place, token);
     }
-    Ok(found)
+    Ok(names)
 }

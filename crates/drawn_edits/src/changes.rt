@@ -65,14 +65,14 @@ fn cells_of(text: &str) -> Result<usize, AllocError>
 fn have_bytes(count: usize, parts: &[Part<'_>]) -> bool
     ensures { result ≡ have_bytes count (map seen_part parts.now) }
 {
-    let mut left = count;
+    let mut countdown = count;
     for part in parts {
-        if left < part.text.len() {
+        if countdown < part.text.len() {
             return false;
         }
-        left -= part.text.len();
+        countdown -= part.text.len();
     }
-    left == 0
+    countdown == 0
 }
 
 /// Returns the sign of a changed line, or `None` if it has none.

@@ -143,11 +143,11 @@ pub fn first_spot(labels: &[Label<'_>]) -> Spot
     ensures line { result.line < 2 ^ 59 }
     ensures chars { result.chars < 2 ^ 59 }
 {
-    let mut found = None;
+    let mut spot = None;
     for label in labels {
-        found = earlier(found, label);
+        spot = earlier(spot, label);
     }
-    found.unwrap_or(ORIGIN)
+    spot.unwrap_or(ORIGIN)
 }
 
 /// Returns labels in the lines in which they begin, in the order in which they are drawn. Returns

@@ -83,11 +83,11 @@ pub fn put_run_at(
         ≡ put_from from (replicate count cell ++ cs) row.old.items) }
 {
     let mut column = from;
-    let mut left = count;
-    while left > 0 {
+    let mut countdown = count;
+    while countdown > 0 {
         put_at(row, column, cell)?;
         column += 1;
-        left -= 1;
+        countdown -= 1;
     }
     Ok(column)
 }

@@ -95,11 +95,11 @@ fn without_bare(frame: &Frame<'_>, first: usize, count: usize) -> usize
     ensures value { result ≡ without_bare (seen_frame frame.now) first count }
     ensures few { result ≤ count }
 {
-    let mut left = count;
-    while left > 0 && is_bare_line(frame, first + left) {
-        left -= 1;
+    let mut lines = count;
+    while lines > 0 && is_bare_line(frame, first + lines) {
+        lines -= 1;
     }
-    left
+    lines
 }
 
 /// Adds a line of the source at the right of a sign of the label.

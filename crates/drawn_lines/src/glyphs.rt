@@ -135,11 +135,11 @@ fn spaces(count: usize) -> &'static str
 fn put_spaces(out: &mut String, count: usize) -> Result<(), AllocError>
     ensures { OnOk result (string_bytes out.new ≡ string_bytes out.old ++ run count 32) }
 {
-    let mut left = count;
-    while left > 0 {
-        let piece = left.min(64);
+    let mut countdown = count;
+    while countdown > 0 {
+        let piece = countdown.min(64);
         out.push_str(spaces(piece))?;
-        left -= piece;
+        countdown -= piece;
     }
     Ok(())
 }

@@ -126,22 +126,22 @@ fn pass(from: Spot, text: &str, width: usize) -> (Spot, &str, usize)
 {
     let mut at = from;
     let mut rest = text;
-    let mut left = width;
+    let mut countdown = width;
     while let Some((c, tail)) = split_first(rest) {
-        if left < c.len_utf8() {
+        if countdown < c.len_utf8() {
             break;
         }
-        left -= c.len_utf8();
+        countdown -= c.len_utf8();
         at = past(at, c);
         rest = tail;
         if !at.is_indent {
-            let (spot, rest_after, fewer) = pass_printable(at, rest, left);
+            let (spot, rest_after, fewer) = pass_printable(at, rest, countdown);
             at = spot;
             rest = rest_after;
-            left = fewer;
+            countdown = fewer;
         }
     }
-    (at, rest, left)
+    (at, rest, countdown)
 }
 
 /// Returns the first line of a text, and the rest of the text after that line.
@@ -163,11 +163,11 @@ pub fn after_lines(text: &str, count: usize) -> &str
     ensures short { length result.now ≤ length text.now }
 {
     let mut rest = text;
-    let mut left = count;
-    while left > 0 {
+    let mut countdown = count;
+    while countdown > 0 {
         let (_, rest_after) = split_line(rest);
         rest = rest_after;
-        left -= 1;
+        countdown -= 1;
     }
     rest
 }
@@ -209,7 +209,7 @@ pub fn extent_of(picture: &Picture<'_>, range: &Range<usize>) -> Extent
     ensures small_end_column { result.end.column < 2 ^ 61 }
 {
     let (from, to) = offsets(picture, range);
-    let (start, rest, left) = pass(ORIGIN, picture.source, from);
-    let (end, _, _) = pass(start, rest, left + (to - from));
+    let (start, rest, width) = pass(ORIGIN, picture.source, from);
+    let (end, _, _) = pass(start, rest, width + (to - from));
     Extent { start, end }
 }

@@ -56,17 +56,17 @@ fn past_columns(text: &str, count: usize) -> (&str, usize)
     ensures short { length result.0.now ≤ length text.now }
 {
     let mut rest = text;
-    let mut left = count;
-    let mut taken = 0;
+    let mut countdown = count;
+    let mut columns = 0;
     while let Some((c, tail)) = split_first(rest) {
-        if left == 0 {
+        if countdown == 0 {
             break;
         }
-        taken += width(c);
-        left = left.saturating_sub(width(c));
+        columns += width(c);
+        countdown = countdown.saturating_sub(width(c));
         rest = tail;
     }
-    (rest, taken)
+    (rest, columns)
 }
 
 /// Returns how many columns are left out, if the first `count` columns of a text are, of the same
@@ -77,15 +77,15 @@ fn left_out_of_run(count: usize, times: usize, character: char) -> (usize, usize
         ≡ result.0 + left_out result.1 t }
     ensures few { result.0 ≤ 16 }
 {
-    let mut left = count;
-    let mut taken = 0;
+    let mut countdown = count;
+    let mut columns = 0;
     let mut rest = times;
-    while rest > 0 && left > 0 {
-        taken += width(character);
-        left = left.saturating_sub(width(character));
+    while rest > 0 && countdown > 0 {
+        columns += width(character);
+        countdown = countdown.saturating_sub(width(character));
         rest -= 1;
     }
-    (taken, left)
+    (columns, countdown)
 }
 
 /// Returns how many columns are left out if the first `count` columns of a text, as it is drawn,
@@ -95,18 +95,18 @@ fn left_out(text: &str, count: usize) -> usize
     ensures { result ≡ left_out count (glyphs (chars text.now)) }
 {
     let mut rest = text;
-    let mut left = count;
-    let mut taken = 0;
+    let mut countdown = count;
+    let mut columns = 0;
     while let Some((c, tail)) = split_first(rest) {
-        if left == 0 {
+        if countdown == 0 {
             break;
         }
-        let (more, fewer) = left_out_of_run(left, glyph_count(c), glyph(c));
-        taken += more;
-        left = fewer;
+        let (more, fewer) = left_out_of_run(countdown, glyph_count(c), glyph(c));
+        columns += more;
+        countdown = fewer;
         rest = tail;
     }
-    taken
+    columns
 }
 
 /// Returns how many columns at the start of a line of the source are cut.
@@ -127,13 +127,13 @@ fn put_within(out: &mut String, text: &str, count: usize) -> Result<(), AllocErr
         ≡ string_bytes out.old ++ encode_utf8_all (within_columns count (chars text.now))) }
 {
     let mut rest = text;
-    let mut left = count;
+    let mut countdown = count;
     while let Some((c, tail)) = split_first(rest) {
-        if left < width(c) {
+        if countdown < width(c) {
             break;
         }
         out.push(c)?;
-        left -= width(c);
+        countdown -= width(c);
         rest = tail;
     }
     Ok(())
@@ -176,9 +176,9 @@ fn put_dots_before<'a>(
     if window.left == 0 {
         return Ok(part);
     }
-    let (rest, taken) = past_columns(part, 3);
+    let (rest, columns) = past_columns(part, 3);
     put_painted(out, palette, Style::Secondary, "...")?;
-    put_run(out, ' ', taken.saturating_sub(3))?;
+    put_run(out, ' ', columns.saturating_sub(3))?;
     Ok(rest)
 }
 

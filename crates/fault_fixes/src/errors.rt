@@ -93,13 +93,13 @@ pub fn errors_of(
     }
     let mut parser = Parser::new(alloc, input, style, snippet, appended_newline, mode)?;
     let mut argument = Argument::default();
-    let mut found = Vec::new(alloc);
+    let mut faults = Vec::new(alloc);
     let mut errors = Errors {
         fronts: Vec::new(alloc),
         backs: Vec::new(alloc),
     };
     while !parser.is_at_end() {
-        add_next(alloc, &mut errors, &mut parser, &mut argument, &mut found)?;
+        add_next(alloc, &mut errors, &mut parser, &mut argument, &mut faults)?;
     }
     into_list(errors)
 }

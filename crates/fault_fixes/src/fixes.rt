@@ -108,17 +108,17 @@ pub fn edits<'e>(
     ensures order { IfOk result (λ v. AreInOrder 0 (map seen_edit v.items)) }
     ensures spare { edits (seen_mode mode) (map seen_error errors.now) ≡ [] → IsOk result }
 {
-    let mut found = Vec::new(alloc);
+    let mut edits = Vec::new(alloc);
     let mut end = 0;
     for error in errors.iter().rev() {
         if let Some(edit) = offered_edit(mode, &error.suggestion) {
             if end < edit.span.start && edit.span.start <= edit.span.end {
                 end = edit.span.end;
-                found.push(edit)?;
+                edits.push(edit)?;
             }
         }
     }
-    Ok(found)
+    Ok(edits)
 }
 
 /// Returns the first n bytes, or all if there are fewer.
@@ -158,8 +158,8 @@ fn make(edited: &mut Edited<'_>, mode: ParseMode, suggestion: &Suggestion) -> Re
         return Ok(());
     };
     if edited.end < edit.span.start && edit.span.start <= edit.span.end {
-        let kept = front(edited.rest, edit.span.start.saturating_sub(edited.start));
-        edited.bytes.extend_from_slice(kept)?;
+        let source = front(edited.rest, edit.span.start.saturating_sub(edited.start));
+        edited.bytes.extend_from_slice(source)?;
         edited.bytes.extend_from_slice(edit.text.as_bytes())?;
         edited.rest = rest_after(edited.rest, edit.span.end.saturating_sub(edited.start));
         edited.start = edit.span.end;
@@ -225,7 +225,7 @@ fn edit_all(
         ≡ not (is_empty (edits (seen_mode mode) (all_errors parser.old)))) }
 {
     let mut argument = Argument::default();
-    let mut found = Vec::new(alloc);
+    let mut faults = Vec::new(alloc);
     let mut edited = Edited {
         bytes: Vec::new(alloc),
         rest: text.as_bytes(),
@@ -233,7 +233,7 @@ fn edit_all(
         end: 0,
     };
     while !parser.is_at_end() {
-        make_next(&mut edited, mode, parser, &mut argument, &mut found)?;
+        make_next(&mut edited, mode, parser, &mut argument, &mut faults)?;
     }
     let rest = edited.rest;
     edited.bytes.extend_from_slice(rest)?;

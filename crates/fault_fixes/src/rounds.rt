@@ -79,9 +79,9 @@ fn count_left(
     ensures { IfOk result (λ o. o ≡ count_left (map fault_id (map seen_fault old.now))
         (seen_mode mode) text.now) }
 {
-    let found = faults_of(alloc, text, mode)?;
-    if is_part(found.list.as_slice(), old) {
-        Ok(Some(found.calls))
+    let faults = faults_of(alloc, text, mode)?;
+    if is_part(faults.list.as_slice(), old) {
+        Ok(Some(faults.calls))
     } else {
         Ok(None)
     }

@@ -110,9 +110,9 @@ fn inlined_as(
         (AreEdits site.entry.text.now (map leaf site.entry.tokens.now) (leaf site.entry.literal)
         site.entry.arguments.now) x.inlining (map seen_edit x.edits.items)) }
 {
-    let made = match inline_arguments(alloc, call, allows_mixed)? {
-        Ok(made) => made,
-        Err(left) => return Ok(left_for(alloc, CallInlining::Left(left))),
+    let new_call = match inline_arguments(alloc, call, allows_mixed)? {
+        Ok(new_call) => new_call,
+        Err(reason) => return Ok(left_for(alloc, CallInlining::Left(reason))),
     };
     let edits = edits_of(
         alloc,
@@ -120,7 +120,7 @@ fn inlined_as(
         site.tokens,
         site.literal,
         site.arguments,
-        &made,
+        &new_call,
     )?;
     match edits {
         Some(edits) => Ok(InlinedCall {
@@ -179,8 +179,8 @@ fn inline_found(
         is_format_alone: is_format_alone(rule, name, is_from_2021),
         has_const_form: has_const_form(rule),
     };
-    let made = inlined_as(alloc, site, call, allows_mixed)?;
-    Ok(made)
+    let inlined_call = inlined_as(alloc, site, call, allows_mixed)?;
+    Ok(inlined_call)
 }
 
 /// Returns what inlining makes of a call whose format string begins the argument of this index.
@@ -217,22 +217,22 @@ fn inline_at(
         call.close,
     );
     let before = arguments_before(alloc, &arguments[index + 1..], extent.end)?;
-    let found = Found {
+    let site = Found {
         text: file.text,
         tokens,
         literal,
         arguments: &before,
     };
-    let made = inline_found(
+    let inlined_call = inline_found(
         alloc,
-        found,
+        site,
         call.rule,
         name_at(tokens, call.name),
         extent.is_counted,
         file.is_from_2021,
         allows_mixed,
     )?;
-    Ok(made)
+    Ok(inlined_call)
 }
 
 /// Returns what inlining makes of a call whose format string is the argument of this index, or
@@ -302,8 +302,8 @@ fn inline_call<'a>(
     let list = arguments.as_slice();
     match index_or(file, part, call, list) {
         Ok(index) => {
-            let made = inline_one(alloc, file, part, call, list, index, allows_mixed)?;
-            Ok(made)
+            let inlined_call = inline_one(alloc, file, part, call, list, index, allows_mixed)?;
+            Ok(inlined_call)
         }
         Err(reading) => Ok(left_for(alloc, CallInlining::Unread(reading))),
     }
@@ -330,16 +330,16 @@ pub(crate) fn inline_calls<'a>(
         calls.now rs es) }
 {
     let mut rest = calls;
-    let mut left = readings;
+    let mut rest_readings = readings;
     while let Some((call, others)) = rest.split_first() {
-        let Some((reading, more)) = left.split_first() else {
+        let Some((reading, more)) = rest_readings.split_first() else {
             return Ok(());
         };
         let mut one = inline_call(alloc, file, part, call, *reading, allows_mixed)?;
         results.inlinings.push(one.inlining)?;
         results.edits.append(&mut one.edits)?;
         rest = others;
-        left = more;
+        rest_readings = more;
     }
     Ok(())
 }

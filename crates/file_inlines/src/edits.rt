@@ -22,14 +22,14 @@ fn in_token(alloc: Global, crs: &[usize], edits: &[Edit]) -> Result<Vec<Edit>, A
     ensures { IfOk result (λ v. map (λ e. e.text) (map seen_edit v.items)
         ≡ map (λ e. e.text) (map seen_edit edits.now)) }
 {
-    let mut found = Vec::new(alloc);
+    let mut list = Vec::new(alloc);
     for edit in edits {
-        found.push(Edit {
+        list.push(Edit {
             span: offset_in(crs, edit.span.start)..offset_in(crs, edit.span.end),
             text: String::from_str(alloc, edit.text.as_str())?,
         })?;
     }
-    Ok(found)
+    Ok(list)
 }
 
 /// Returns an edit that stands some bytes further on, or `None` if an offset is too large. Returns
@@ -55,14 +55,14 @@ fn move_edits(alloc: Global, edits: &[Edit], offset: usize) -> Result<Option<Vec
     ensures { IfOk result (λ o. IfSome o (λ v. map seen_edit v.items
         ≡ map (moved offset) (map seen_edit edits.now))) }
 {
-    let mut found = Vec::new(alloc);
+    let mut list = Vec::new(alloc);
     for edit in edits {
         let Some(edit) = move_edit(alloc, edit, offset)? else {
             return Ok(None);
         };
-        found.push(edit)?;
+        list.push(edit)?;
     }
-    Ok(Some(found))
+    Ok(Some(list))
 }
 
 /// Adds the edits that remove the arguments of these indices, with their source. Returns `Err` if
@@ -95,8 +95,8 @@ fn push_removals(
 fn is_literal(alloc: Global, token: &str, literal: &str) -> Result<bool, AllocError>
     ensures { IfOk result (λ b. IsTrue b → without_crs (chars token.now) ≡ chars literal.now) }
 {
-    let found = without_crs(alloc, token)?;
-    Ok(found.as_str() == literal)
+    let text = without_crs(alloc, token)?;
+    Ok(text.as_str() == literal)
 }
 
 /// Returns the edits of the literal that a token is, as edits of its file, or `None` if the token

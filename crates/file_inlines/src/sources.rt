@@ -84,9 +84,9 @@ pub(crate) fn with_sources<'a>(
     ensures { IfOk result (λ v. map seen_argument v.items
         ≡ map (with_source text.now (map leaf tokens.now)) arguments.now) }
 {
-    let mut found = Vec::new(alloc);
+    let mut list = Vec::new(alloc);
     for argument in arguments {
-        found.push(with_source(text, tokens, argument))?;
+        list.push(with_source(text, tokens, argument))?;
     }
-    Ok(found)
+    Ok(list)
 }

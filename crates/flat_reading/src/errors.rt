@@ -169,12 +169,12 @@ pub fn put_errors(
     ensures kept_faults { drop (length errors.now) faults.new
         ≡ drop (length errors.now) faults.old }
 {
-    let mut used = 0;
+    let mut size = 0;
     for i in 0..errors.len() {
-        let fault = put_error(texts, &mut used, &errors[i], finders.get(i));
+        let fault = put_error(texts, &mut size, &errors[i], finders.get(i));
         if i < faults.len() {
             faults[i] = fault;
         }
     }
-    used
+    size
 }

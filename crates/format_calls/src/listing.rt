@@ -74,11 +74,11 @@ pub fn calls(alloc: Global, source: &Source<'_>, table: &Table<'_>) -> Result<Ve
         ↔ IsCall (map entry table.now.rows.items) source.now c) }
     ensures in_order { IfOk result (λ v. Rises 0 v.items (length source.now)) }
 {
-    let mut found = Vec::new(alloc);
+    let mut calls = Vec::new(alloc);
     for name in 0..source.tokens().len() {
         if let Some(call) = call_at(source, &table.rows, name) {
-            found.push(call)?;
+            calls.push(call)?;
         }
     }
-    Ok(found)
+    Ok(calls)
 }

@@ -52,19 +52,19 @@ fn is_one_wanted(tokens: &[Token<'_>], wanted: Wanted) -> bool
 fn last_ones(alloc: Global, tokens: &[Token<'_>], wanted: Wanted) -> Result<Vec<usize>, AllocError>
     ensures { IfOk result (λ v. AreLast wanted (map leaf tokens.now) v.items) }
 {
-    let mut found = Vec::new(alloc);
+    let mut counts = Vec::new(alloc);
     if !is_one_wanted(tokens, wanted) {
-        return Ok(found);
+        return Ok(counts);
     }
     let mut last = 0;
-    found.push(last)?;
+    counts.push(last)?;
     for (index, token) in tokens.iter().enumerate() {
         if is_wanted(wanted, token) {
             last = index + 1;
         }
-        found.push(last)?;
+        counts.push(last)?;
     }
-    Ok(found)
+    Ok(counts)
 }
 
 /// Returns whether one of the tokens of an argument is wanted, where `last_ones` are the numbers

@@ -96,22 +96,22 @@ fn arguments_between(
     ensures { IfOk result (λ v. AreArguments source.now (opening + 1) v.items close) }
 {
     let tokens = source.tokens();
-    let mut found = Vec::new(alloc);
+    let mut arguments = Vec::new(alloc);
     let mut start = opening + 1;
     while start < close {
         let end = argument_end(source, opening, start, close);
         let is_named = is_named(tokens, start);
-        found.push(Argument {
+        arguments.push(Argument {
             start,
             end,
             is_named,
         })?;
         if end == close {
-            return Ok(found);
+            return Ok(arguments);
         }
         start = end + 1;
     }
-    Ok(found)
+    Ok(arguments)
 }
 
 /// Returns the arguments of the call that ends with this closing delimiter, or `None` if the token
@@ -128,8 +128,8 @@ pub fn arguments(
     match source.partner(close) {
         Some(opening) => {
             if opening < close {
-                let found = arguments_between(alloc, source, opening, close)?;
-                Ok(Some(found))
+                let arguments = arguments_between(alloc, source, opening, close)?;
+                Ok(Some(arguments))
             } else {
                 Ok(None)
             }

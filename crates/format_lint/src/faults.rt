@@ -38,11 +38,11 @@ fn faults_of<'a>(alloc: Global, parser: &mut Parser<'a>) -> Result<Findings<'a>,
     ensures { IfOk result (λ f. Keeps f (findings_from false parser.old)) }
 {
     let mut argument = Argument::default();
-    let mut found = Vec::new(alloc);
+    let mut list = Vec::new(alloc);
     let mut faults = Findings::new(alloc);
     while !parser.is_at_end() {
-        parser.next_with_faults(&mut argument, &mut found)?;
-        faults.add(&mut found)?;
+        parser.next_with_faults(&mut argument, &mut list)?;
+        faults.add(&mut list)?;
     }
     Ok(faults)
 }
@@ -64,14 +64,14 @@ fn labels_of<'a>(
     let text = source.text;
     let mut argument = Argument::default();
     let mut labels = Vec::new(alloc);
-    let mut found = Vec::new(alloc);
+    let mut list = Vec::new(alloc);
     let mut faults = Findings::new(alloc);
     let mut rest = text;
     while !rest.is_empty() {
-        let taken = parser.next_with_faults(&mut argument, &mut found)?;
-        faults.add(&mut found)?;
-        let left = text.len().saturating_sub(parser.position());
-        rest = label(&mut labels, mode, taken, &argument, left, rest)?;
+        let piece = parser.next_with_faults(&mut argument, &mut list)?;
+        faults.add(&mut list)?;
+        let width = text.len().saturating_sub(parser.position());
+        rest = label(&mut labels, mode, piece, &argument, width, rest)?;
     }
     Ok((labels, faults))
 }

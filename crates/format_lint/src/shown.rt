@@ -274,9 +274,9 @@ fn token_output(alloc: Global, task: Task<'_>, source: Source<'_>) -> Result<Sho
         ≡ lexed (seen_task task.entry) (seen_source source.entry)) }
 {
     let written = source.literal.unwrap_or(source.text);
-    let (found, faults) = tokens_in(alloc, task.mode, source)?;
+    let (tokens, faults) = tokens_in(alloc, task.mode, source)?;
     let mut output = String::new(alloc);
-    put_tokens(&mut output, task.colours, written, found.as_slice())?;
+    put_tokens(&mut output, task.colours, written, tokens.as_slice())?;
     if task.colours {
         output.push_str("\n")?;
     }

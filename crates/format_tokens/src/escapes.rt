@@ -157,15 +157,15 @@ fn cut(alloc: Global, literal: &str, tokens: &[Token]) -> Result<Vec<Token>, All
     ensures { IfOk result (λ v. map seen_token v.items
         ≡ cut (chars literal.now) (map seen_token tokens.now)) }
 {
-    let mut found = Vec::with_capacity(alloc, tokens.len())?;
+    let mut list = Vec::with_capacity(alloc, tokens.len())?;
     let mut rest = literal;
     for token in tokens {
         let width = token.span.end.saturating_sub(token.span.start);
         let (text, others) = split_within(rest, width);
-        put_parts(&mut found, token, text)?;
+        put_parts(&mut list, token, text)?;
         rest = others;
     }
-    Ok(found)
+    Ok(list)
 }
 
 /// Returns the tokens of an ordinary literal, which cover it, cut at its escapes. Returns `Err` if

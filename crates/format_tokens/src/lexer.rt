@@ -100,7 +100,7 @@ fn place_whole(
         → map seen_token v.items
         ≡ whole_tokens mode (chars input.now) style (Some (chars literal.now)) appended_newline) }
 {
-    let kept = length_of(input).saturating_sub(usize::from(appended_newline));
+    let count = length_of(input).saturating_sub(usize::from(appended_newline));
     let offsets = literal_starts(alloc, input, style, literal, appended_newline)?;
     let starts = offsets.as_slice();
     let mut tokens = Vec::with_capacity(alloc, labels.len().saturating_add(2))?;
@@ -108,7 +108,7 @@ fn place_whole(
         kind: Kind::Quote,
         span: 0..starts[0],
     })?;
-    place(&mut tokens, names, labels, starts, kept)?;
+    place(&mut tokens, names, labels, starts, count)?;
     tokens.push(Token {
         kind: Kind::Quote,
         span: starts[starts.len() - 1]..width_of(literal),
@@ -135,10 +135,10 @@ pub fn place_labels(
 {
     let names = wants_names(mode);
     let Some(literal) = source_of(input, style, snippet, appended_newline) else {
-        let kept = length_of(input).saturating_sub(usize::from(appended_newline));
+        let count = length_of(input).saturating_sub(usize::from(appended_newline));
         let starts = plain_starts(alloc, 0, input, width_of(input))?;
         let mut tokens = Vec::with_capacity(alloc, labels.len())?;
-        place(&mut tokens, names, labels, starts.as_slice(), kept)?;
+        place(&mut tokens, names, labels, starts.as_slice(), count)?;
         return Ok(tokens);
     };
     let tokens = place_whole(

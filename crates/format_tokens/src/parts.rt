@@ -43,19 +43,19 @@ pub fn take<'a>(
     bytes: usize,
     text: &'a str,
 ) -> Result<&'a str, AllocError>
-    ensures { IfOk result (λ left. (u r : Text) → chars text.now ≡ u ++ r → bytes ≡ byte_length u
-        → Took (token kind u) r labels.old.items labels.new.items left.now) }
+    ensures { IfOk result (λ rest. (u r : Text) → chars text.now ≡ u ++ r → bytes ≡ byte_length u
+        → Took (token kind u) r labels.old.items labels.new.items rest.now) }
 {
     if bytes == 0 {
         return Ok(text);
     }
     match text.split_at_checked(bytes) {
-        Some((front, left)) => {
+        Some((front, rest)) => {
             labels.push(Label {
                 kind,
                 width: length_of(front),
             })?;
-            Ok(left)
+            Ok(rest)
         }
         None => Ok(""),
     }
@@ -193,28 +193,28 @@ pub fn position<'a>(
     position: &Position<'_>,
     text: &'a str,
 ) -> Result<&'a str, AllocError>
-    ensures { IfOk result (λ left. (p : PositionText) (n : ℕ) (r : Text)
+    ensures { IfOk result (λ rest. (p : PositionText) (n : ℕ) (r : Text)
         → IsPart (chars text.now) (position_part p) r
         → seen_position position.now ≡ position_of n p
-        → Took (position_tokens p) r labels.old.items labels.new.items left.now) }
+        → Took (position_tokens p) r labels.old.items labels.new.items rest.now) }
 {
     match position {
         Position::ArgumentImplicitlyIs(_) => Ok(text),
         Position::ArgumentIs(_) => {
-            let left = take(
+            let rest = take(
                 labels,
                 integer_kind(text),
                 run_width(text, Run::Digits),
                 text,
             )?;
-            Ok(left)
+            Ok(rest)
         }
         Position::ArgumentNamed(name) => {
             let prefix = if is_raw(text, name) { 2 } else { 0 };
             let word = take(labels, Kind::RawPrefix, prefix, text)?;
             let kind = word_kind(Kind::Identifier, name);
-            let left = take(labels, kind, width_of(name), word)?;
-            Ok(left)
+            let rest = take(labels, kind, width_of(name), word)?;
+            Ok(rest)
         }
     }
 }
@@ -225,25 +225,25 @@ fn count<'a>(
     count: &Count<'_>,
     text: &'a str,
 ) -> Result<&'a str, AllocError>
-    ensures count { IfOk result (λ left. (k : CountText) (r : Text)
+    ensures count { IfOk result (λ rest. (k : CountText) (r : Text)
         → IsPart (chars text.now) (count_part k) r
         → bare_count (seen_count count.now) ≡ count_value k
-        → Took (count_tokens k) r labels.old.items labels.new.items left.now) }
-    ensures star { IfOk result (λ left. (n : ℕ) (r : Text) → chars text.now ≡ codes "*" ++ r
+        → Took (count_tokens k) r labels.old.items labels.new.items rest.now) }
+    ensures star { IfOk result (λ rest. (n : ℕ) (r : Text) → chars text.now ≡ codes "*" ++ r
         → bare_count (seen_count count.now) ≡ Star n
-        → Took (token Kind.Asterisk (codes "*")) r labels.old.items labels.new.items left.now) }
-    ensures none { IfOk result (λ left. bare_count (seen_count count.now) ≡ Implied
-        → Took [] (chars text.now) labels.old.items labels.new.items left.now) }
+        → Took (token Kind.Asterisk (codes "*")) r labels.old.items labels.new.items rest.now) }
+    ensures none { IfOk result (λ rest. bare_count (seen_count count.now) ≡ Implied
+        → Took [] (chars text.now) labels.old.items labels.new.items rest.now) }
 {
     match count {
         Count::CountIs(_) => {
-            let left = take(
+            let rest = take(
                 labels,
                 integer_kind(text),
                 run_width(text, Run::Digits),
                 text,
             )?;
-            Ok(left)
+            Ok(rest)
         }
         Count::CountIsParam(_) => {
             let dollar = take(
@@ -252,18 +252,18 @@ fn count<'a>(
                 run_width(text, Run::Digits),
                 text,
             )?;
-            let left = take(labels, Kind::DollarSign, 1, dollar)?;
-            Ok(left)
+            let rest = take(labels, Kind::DollarSign, 1, dollar)?;
+            Ok(rest)
         }
         Count::CountIsName(name, _) => {
             let kind = word_kind(Kind::Identifier, name);
             let dollar = take(labels, kind, width_of(name), text)?;
-            let left = take(labels, Kind::DollarSign, 1, dollar)?;
-            Ok(left)
+            let rest = take(labels, Kind::DollarSign, 1, dollar)?;
+            Ok(rest)
         }
         Count::CountIsStar(_) => {
-            let left = take(labels, Kind::Asterisk, 1, text)?;
-            Ok(left)
+            let rest = take(labels, Kind::Asterisk, 1, text)?;
+            Ok(rest)
         }
         Count::CountImplied => Ok(text),
     }
@@ -276,14 +276,14 @@ fn width<'a>(
     width: &Count<'_>,
     text: &'a str,
 ) -> Result<&'a str, AllocError>
-    ensures { IfOk result (λ left. (k : WidthText) (r : Text)
+    ensures { IfOk result (λ rest. (k : WidthText) (r : Text)
         → IsPart (chars text.now) (width_part k) r
         → zero_pad ≡ is_padded k → bare_count (seen_count width.now) ≡ width_value k
-        → Took (width_tokens k) r labels.old.items labels.new.items left.now) }
+        → Took (width_tokens k) r labels.old.items labels.new.items rest.now) }
 {
     let rest_after = take(labels, Kind::Zero, usize::from(zero_pad), text)?;
-    let left = count(labels, width, rest_after)?;
-    Ok(left)
+    let rest = count(labels, width, rest_after)?;
+    Ok(rest)
 }
 
 /// Adds the tokens of a precision, with the dot before it.
@@ -292,14 +292,14 @@ fn precision<'a>(
     precision: &Count<'_>,
     text: &'a str,
 ) -> Result<&'a str, AllocError>
-    ensures { IfOk result (λ left. (k : PrecisionText) (n : ℕ) (r : Text)
+    ensures { IfOk result (λ rest. (k : PrecisionText) (n : ℕ) (r : Text)
         → IsPart (chars text.now) (precision_part k) r
         → bare_count (seen_count precision.now) ≡ precision_value n k
-        → Took (precision_tokens k) r labels.old.items labels.new.items left.now) }
+        → Took (precision_tokens k) r labels.old.items labels.new.items rest.now) }
 {
     let rest_after = take(labels, Kind::Dot, usize::from(begins(text, '.')), text)?;
-    let left = count(labels, precision, rest_after)?;
-    Ok(left)
+    let rest = count(labels, precision, rest_after)?;
+    Ok(rest)
 }
 
 /// Returns the byte length of a fill.
@@ -349,10 +349,10 @@ fn format<'a>(
     format: &FormatSpec<'_>,
     text: &'a str,
 ) -> Result<&'a str, AllocError>
-    ensures { IfOk result (λ left. (p : FormatText) (n : ℕ) (r : Text)
+    ensures { IfOk result (λ rest. (p : FormatText) (n : ℕ) (r : Text)
         → IsPart (chars text.now) (format_part p) r
         → bare_spec (seen_spec format.now) ≡ format_value n p
-        → Took (format_tokens p) r labels.old.items labels.new.items left.now) }
+        → Took (format_tokens p) r labels.old.items labels.new.items rest.now) }
 {
     let align = take(labels, Kind::Fill, fill_width(format.fill), text)?;
     let sign = take(labels, Kind::Align, align_width(format.align), align)?;
@@ -365,13 +365,13 @@ fn format<'a>(
     )?;
     let dot = width(labels, format.zero_pad, &format.width, number)?;
     let ty = precision(labels, &format.precision, dot)?;
-    let left = take(
+    let rest = take(
         labels,
         word_kind(Kind::Type, format.ty),
         type_width(format.debug_hex, format.ty),
         ty,
     )?;
-    Ok(left)
+    Ok(rest)
 }
 
 /// Adds the tokens of a specification, with the colon before it.
@@ -381,10 +381,10 @@ pub fn specification<'a>(
     spec: &FormatSpec<'_>,
     text: &'a str,
 ) -> Result<&'a str, AllocError>
-    ensures { IfOk result (λ left. (k : SpecText) (n : ℕ) (r : Text)
+    ensures { IfOk result (λ rest. (k : SpecText) (n : ℕ) (r : Text)
         → IsPart (chars text.now) (spec_part (seen_mode mode) k) r
         → bare_spec (seen_spec spec.now) ≡ spec_value n k
-        → Took (spec_tokens k) r labels.old.items labels.new.items left.now) }
+        → Took (spec_tokens k) r labels.old.items labels.new.items rest.now) }
 {
     if !begins(text, ':') {
         return Ok(text);
@@ -392,17 +392,17 @@ pub fn specification<'a>(
     let rest_after = take(labels, Kind::Colon, 1, text)?;
     match mode {
         ParseMode::Format => {
-            let left = format(labels, spec, rest_after)?;
-            Ok(left)
+            let rest = format(labels, spec, rest_after)?;
+            Ok(rest)
         }
         ParseMode::InlineAsm => {
             let kind = word_kind(Kind::Modifier, spec.ty);
-            let left = take(labels, kind, width_of(spec.ty), rest_after)?;
-            Ok(left)
+            let rest = take(labels, kind, width_of(spec.ty), rest_after)?;
+            Ok(rest)
         }
         ParseMode::Diagnostic | ParseMode::DiagnosticNamed => {
-            let left = take(labels, Kind::DiagnosticText, width_of(spec.ty), rest_after)?;
-            Ok(left)
+            let rest = take(labels, Kind::DiagnosticText, width_of(spec.ty), rest_after)?;
+            Ok(rest)
         }
     }
 }

@@ -64,15 +64,15 @@ fn print(rt: &HostRuntime, text: &str) -> u8 {
 /// several, or `None` if each wants more than a third of the word changed, as rustc does for names.
 fn similar_id(alloc: Global, word: &str) -> Result<Option<&'static str>, AllocError> {
     let mut most = word.len().max(3) / 3;
-    let mut found = None;
+    let mut id = None;
     for rule in &RULES {
         let count = levenshtein(alloc, word, rule.id)?;
-        if count < most || count == most && found.is_none() {
+        if count < most || count == most && id.is_none() {
             most = count;
-            found = Some(rule.id);
+            id = Some(rule.id);
         }
     }
-    Ok(found)
+    Ok(id)
 }
 
 /// Returns the error that no kind of fault has this id.

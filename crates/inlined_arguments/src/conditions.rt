@@ -100,7 +100,7 @@ pub(crate) fn condition(call: &Call<'_>, allows_mixed: bool) -> Option<Left>
     ensures { result ≡ condition allows_mixed (seen_call call.now) }
 {
     match list_condition(call, allows_mixed) {
-        Some(left) => Some(left),
+        Some(reason) => Some(reason),
         None => string_condition(call),
     }
 }

@@ -104,9 +104,9 @@ fn keeps_meaning(
         appended_newline: call.string.appended_newline,
         captures: call.string.captures,
     };
-    let kept = expression_slots(alloc, old.values.slots)?;
-    let given = givens(alloc, &kept)?;
-    means_same_with(alloc, old, string, &kept, given.as_slice())
+    let slots = expression_slots(alloc, old.values.slots)?;
+    let arguments = givens(alloc, &slots)?;
+    means_same_with(alloc, old, string, &slots, arguments.as_slice())
 }
 
 /// Returns a call with its arguments that are variables in its format string, or why it is left as
@@ -170,10 +170,10 @@ pub fn inline_arguments(
         IsInlined allows_mixed (seen_call call.entry) (seen_inlined x))) }
     ensures left { IfOk result (λ r. IfErr r (λ l. IsLeft allows_mixed (seen_call call.entry) l)) }
 {
-    if let Some(left) = condition(&call, allows_mixed) {
-        return Ok(Err(left));
+    if let Some(reason) = condition(&call, allows_mixed) {
+        return Ok(Err(reason));
     }
     let slots = slots(alloc, call.arguments)?;
-    let given = givens(alloc, &slots)?;
-    inline_with(alloc, call, &slots, given.as_slice())
+    let arguments = givens(alloc, &slots)?;
+    inline_with(alloc, call, &slots, arguments.as_slice())
 }

@@ -80,13 +80,13 @@ pub(crate) fn expression_slots<'a>(
 ) -> Result<Vec<Slot<'a>>, AllocError>
     ensures { IfOk result (λ v. map seen_slot v.items ≡ kept (map seen_slot slots.now)) }
 {
-    let mut kept = Vec::new(alloc);
+    let mut list = Vec::new(alloc);
     for slot in slots {
         if is_expression(slot.value) {
-            kept.push(*slot)?;
+            list.push(*slot)?;
         }
     }
-    Ok(kept)
+    Ok(list)
 }
 
 /// Returns slots as the arguments of a call. Returns `Err` if an allocation fails.
@@ -96,12 +96,12 @@ pub(crate) fn givens<'a>(
 ) -> Result<Vec<FormatArgument<'a>>, AllocError>
     ensures { IfOk result (λ v. map seen_given v.items ≡ map given (map seen_slot slots.now)) }
 {
-    let mut found = Vec::new(alloc);
+    let mut arguments = Vec::new(alloc);
     for slot in slots {
-        found.push(FormatArgument {
+        arguments.push(FormatArgument {
             name: slot.name,
             variable: None,
         })?;
     }
-    Ok(found)
+    Ok(arguments)
 }

@@ -109,10 +109,10 @@ fn put_call<'a>(
         ≡ record (after parser.old (next_call parser.old)) { errors = parser.old.errors }) }
     ensures goes_on { IfOk result (λ b. b ≡ is_some (next_call parser.old).piece) }
 {
-    let taken = parser.next_with_faults(argument, faults)?;
-    put_given(alloc, out, &taken, argument)?;
+    let piece = parser.next_with_faults(argument, faults)?;
+    put_given(alloc, out, &piece, argument)?;
     put_faults(alloc, out, faults.as_slice())?;
-    Ok(taken.is_some())
+    Ok(piece.is_some())
 }
 
 /// Appends the lines of the calls of a parser up to the first that returns no piece. Returns

@@ -71,8 +71,8 @@ fn used_by<'a>(
         return Ok(Uses::new(alloc));
     }
     let Reading { pieces, parser: _ } = read_all(alloc, text, style, snippet, false, task.mode)?;
-    let used = uses_of(alloc, pieces.as_slice())?;
-    Ok(used)
+    let uses = uses_of(alloc, pieces.as_slice())?;
+    Ok(uses)
 }
 
 /// Returns the report on the arguments that are missing or unused in a text. Returns `Err` if an
@@ -92,8 +92,8 @@ fn report_of<'a>(
           snippet = seen_snippet snippet;
         })) (seen_report r)) }
 {
-    let used = used_by(alloc, text, style, snippet, task)?;
-    report_for(alloc, &used, task.arguments)
+    let uses = used_by(alloc, text, style, snippet, task)?;
+    report_for(alloc, &uses, task.arguments)
 }
 
 /// Returns the lines of the calls of a parser and of a report. Returns `Err` if an allocation

@@ -85,14 +85,14 @@ pub fn given_by(word: &str) -> Option<GivenArguments<'_>>
 fn between_commas<'a>(alloc: Global, text: &'a str) -> Result<Vec<&'a str>, AllocError>
     ensures { IfOk result (λ v. texts v.items ≡ map chars (parts text.now)) }
 {
-    let mut found = Vec::new(alloc);
+    let mut names = Vec::new(alloc);
     let mut rest = text;
     while let Some((name, more)) = around_comma(rest) {
-        found.push(name)?;
+        names.push(name)?;
         rest = more;
     }
-    found.push(rest)?;
-    Ok(found)
+    names.push(rest)?;
+    Ok(names)
 }
 
 /// Returns the names of a list of arguments. Returns `Err` if an allocation fails.

@@ -77,9 +77,9 @@ fn list_calls<'a>(
         → IsOk result }
 {
     let mut lines = String::new(alloc);
-    let mut used = Uses::new(alloc);
-    put_calls(&mut lines, &mut used, arguments.is_some(), parser)?;
-    let report = report_for(alloc, &used, arguments)?;
+    let mut uses = Uses::new(alloc);
+    put_calls(&mut lines, &mut uses, arguments.is_some(), parser)?;
+    let report = report_for(alloc, &uses, arguments)?;
     let has_ends = put_ends(&mut lines, parser.errors(), &report)?;
     Ok(Listing { lines, has_ends })
 }

@@ -60,8 +60,8 @@ fn task_with<'a>(word: &str, is_literal: bool, list: &'a str) -> Option<Task<'a>
     ensures { option_map seen_task result
         ≡ task_with is_literal (given_by list.now) (mode_named word.now) }
 {
-    let given = given_by(list)?;
-    task_in(word, is_literal, Some(given))
+    let arguments = given_by(list)?;
+    task_in(word, is_literal, Some(arguments))
 }
 
 /// Returns the task that the command-line arguments give, or `None` if they are invalid.

@@ -78,7 +78,7 @@ pub fn check<'a>(
     // If there are no pieces and no arguments, the call succeeds even if every allocation fails.
     ensures empty { pieces.now ≡ [] → positional ≡ 0 → names.now ≡ [] → IsOk result }
 {
-    let used = uses_of(alloc, pieces)?;
-    let report = check_uses(alloc, &used, positional, names)?;
+    let uses = uses_of(alloc, pieces)?;
+    let report = check_uses(alloc, &uses, positional, names)?;
     Ok(report)
 }

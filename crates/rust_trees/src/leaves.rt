@@ -62,19 +62,19 @@ fn split_first_leaf<'a>(text: &'a str, rest: &'a str) -> Option<(Token<'a>, &'a 
     ensures fewer { IfSome result (λ t. length t.1.now < length rest.now) }
     ensures none { IsNone result → AreLeft (record { whole = text.now; rest = rest.now }) [] }
 {
-    let mut left = rest;
-    while let Some((token, rest_after)) = split_first_token(left) {
+    let mut tail = rest;
+    while let Some((token, rest_after)) = split_first_token(tail) {
         if is_leaf(token.kind, token.is_ended) {
             let leaf = Token {
                 kind: token.kind,
                 is_ended: token.is_ended,
                 has_suffix: token.suffix_start < token.span.end,
-                text: &left[..token.span.end],
-                start: text.len() - left.len(),
+                text: &tail[..token.span.end],
+                start: text.len() - tail.len(),
             };
             return Some((leaf, rest_after));
         }
-        left = rest_after;
+        tail = rest_after;
     }
     None
 }
@@ -148,9 +148,9 @@ pub fn leaves(alloc: Global, text: &str) -> Result<Vec<Token<'_>>, AllocError>
         × (map leaf v.items ≡ leaves 0 xs)) }
 {
     let mut rest = Tokens::new(text);
-    let mut found = Vec::new(alloc);
+    let mut tokens = Vec::new(alloc);
     while let Some(token) = rest.next() {
-        found.push(token)?;
+        tokens.push(token)?;
     }
-    Ok(found)
+    Ok(tokens)
 }

@@ -87,15 +87,15 @@ pub fn is_closed(matching: &Matching) -> bool
 pub fn match_delimiters(alloc: Global, tokens: &[Token<'_>]) -> Result<Matching, AllocError>
     ensures { IfOk result (λ m. IsMatched (map leaf tokens.now) m) }
 {
-    let mut found = Matching {
+    let mut matching = Matching {
         partners: Vec::new(alloc),
         openings: Vec::new(alloc),
         unexpected: None,
     };
     for token in tokens {
-        add(&mut found, token)?;
+        add(&mut matching, token)?;
     }
-    Ok(found)
+    Ok(matching)
 }
 
 /// Returns where the tokens break, or `None` if they are a forest.

@@ -52,8 +52,8 @@ impl<'a> Source<'a> {
             × (s ≡ leaves 0 xs)) }
     {
         let tokens = leaves(alloc, text)?;
-        let found = match_delimiters(alloc, &tokens)?;
-        Ok(source_of(tokens, found))
+        let matching = match_delimiters(alloc, &tokens)?;
+        Ok(source_of(tokens, matching))
     }
 
     /// Reads the tokens of a file after these, up to the closing delimiter that closes the last
@@ -72,15 +72,15 @@ impl<'a> Source<'a> {
     {
         let mut tokens = Vec::new(alloc);
         tokens.extend_from_slice(front)?;
-        let mut found = match_delimiters(alloc, front)?;
+        let mut matching = match_delimiters(alloc, front)?;
         while let Some(token) = rest.next() {
-            add(&mut found, &token)?;
+            add(&mut matching, &token)?;
             tokens.push(token)?;
-            if is_closing(token.side()) && is_closed(&found) {
-                return Ok(source_of(tokens, found));
+            if is_closing(token.side()) && is_closed(&matching) {
+                return Ok(source_of(tokens, matching));
             }
         }
-        Ok(source_of(tokens, found))
+        Ok(source_of(tokens, matching))
     }
 
     /// Returns the tokens: no white space, and no comment that has its end.

@@ -17,7 +17,7 @@ use Rattle.source_lint.specs.Readings.{call_of, pieces, start_of}
 
 -- A checked call is that of the string at whose start the parser was.
 pub call-same : (s : State) (x : CallReport) (gs : List FormatArgument) (captures : Bool)
-    → map seen_given x.arguments.now ≡ gs → x.kept.items ≡ kept_indices gs
+    → map seen_given x.arguments.now ≡ gs → x.indices.items ≡ kept_indices gs
     → map seen x.pieces.items ≡ pieces s
     → x.counts.items ≡ counts_before 0 (map seen x.pieces.items) → x.parser ≡ after_all s (calls s)
     → map seen_fault x.faults.items

@@ -76,8 +76,8 @@ fn finding<'c>(
     let labels = labels(alloc, site, checked.labels(alloc, fault)?)?;
     let span = primary_span(site, &labels);
     let notes = notes(alloc, site, checked.notes(alloc, fault)?)?;
-    let counted = counted_help(checked.help(alloc, fault)?, is_whole);
-    let help = help(alloc, site, counted)?;
+    let call_help = counted_help(checked.help(alloc, fault)?, is_whole);
+    let help = help(alloc, site, call_help)?;
     Ok(Finding {
         is_warning: is_warning(fault),
         id: fault.id(),

@@ -40,15 +40,15 @@ fn form_id(form: Form<'_>) -> &'static str
 
 /// Adds a token that rustc found, in its words. Returns `Err` if an allocation fails.
 #[tactic(auto, using(crate::proofs::Texts::assoc), unfolding(crate::specs::FormWords::found_text))]
-fn put_found(out: &mut String, found: Operator<'_>) -> Result<(), AllocError>
+fn put_found(out: &mut String, operator: Operator<'_>) -> Result<(), AllocError>
     ensures { OnOk result (string_bytes out.new
-        ≡ string_bytes out.old ++ found_text (seen_operator found.entry)) }
+        ≡ string_bytes out.old ++ found_text (seen_operator operator.entry)) }
 {
-    out.push_str(kind_word(found.first.text))?;
+    out.push_str(kind_word(operator.first.text))?;
     out.push_str("`")?;
-    out.push_str(found.first.text)?;
-    out.push_str(found.second)?;
-    out.push_str(found.third)?;
+    out.push_str(operator.first.text)?;
+    out.push_str(operator.second)?;
+    out.push_str(operator.third)?;
     out.push_str("`")?;
     Ok(())
 }
@@ -98,13 +98,13 @@ fn put_title(out: &mut String, form: Form<'_>) -> Result<(), AllocError>
     match form {
         Form::NoString => out.push_str("requires at least a format string argument")?,
         Form::NoLiteral { .. } => out.push_str("format argument must be a string literal")?,
-        Form::NoComma { expected, found } => {
+        Form::NoComma { expected, operator } => {
             out.push_str(expected_words(expected))?;
-            put_found(out, found)?;
+            put_found(out, operator)?;
         }
-        Form::NoOperand(found) => {
+        Form::NoOperand(operator) => {
             out.push_str(missing_words())?;
-            put_found(out, found)?;
+            put_found(out, operator)?;
         }
         Form::NoExpression { is_last, .. } => out.push_str(end_words(is_last))?,
     }
@@ -166,10 +166,13 @@ fn range_after(
 }
 
 /// Returns the bytes of a token that rustc found.
-fn found_range(found: Operator<'_>) -> Range<usize> {
-    let first = found.first.start.saturating_add(found.first.text.len());
-    let second = first.saturating_add(found.second.len());
-    found.first.start..second.saturating_add(found.third.len())
+fn found_range(operator: Operator<'_>) -> Range<usize> {
+    let first = operator
+        .first
+        .start
+        .saturating_add(operator.first.text.len());
+    let second = first.saturating_add(operator.second.len());
+    operator.first.start..second.saturating_add(operator.third.len())
 }
 
 /// Returns the bytes that are wrong.
@@ -188,8 +191,8 @@ fn form_range(
             let index = arguments.len().saturating_sub(others).saturating_sub(1);
             argument_range(tokens, arguments, index)
         }
-        Form::NoComma { found, .. } => found_range(found),
-        Form::NoOperand(found) => found_range(found),
+        Form::NoComma { operator, .. } => found_range(operator),
+        Form::NoOperand(operator) => found_range(operator),
         Form::NoExpression { index, is_last } => range_after(tokens, arguments, index, is_last),
     };
     range_in(text, range.start, range.end)
@@ -267,10 +270,10 @@ fn form_labels(
 fn put_more(out: &mut String, count: usize) -> Result<(), AllocError>
     ensures { OnOk result (string_bytes out.new ≡ string_bytes out.old ++ more_placeholders count) }
 {
-    let mut left = count;
-    while left > 0 {
+    let mut countdown = count;
+    while countdown > 0 {
         out.push_str(" {}")?;
-        left -= 1;
+        countdown -= 1;
     }
     Ok(())
 }

@@ -77,9 +77,9 @@ pub fn givens<'a>(
     ensures { IfOk result (λ v. map seen_given v.items
         ≡ map (given (map leaf tokens.now)) arguments.now) }
 {
-    let mut found = Vec::new(alloc);
+    let mut list = Vec::new(alloc);
     for argument in arguments {
-        found.push(format_argument(tokens, argument))?;
+        list.push(format_argument(tokens, argument))?;
     }
-    Ok(found)
+    Ok(list)
 }

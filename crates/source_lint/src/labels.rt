@@ -23,11 +23,11 @@ fn ranges(
     ensures count { IfOk result (λ v. length v.items ≡ length spots.now) }
     ensures spans { IfOk result (λ v. All (λ r. IsSpan site.entry.text.now r) v.items) }
 {
-    let mut found = Vec::new(alloc);
+    let mut ranges = Vec::new(alloc);
     for spot in spots {
-        found.push(spot_range(site, *spot))?;
+        ranges.push(spot_range(site, *spot))?;
     }
-    Ok(found)
+    Ok(ranges)
 }
 
 /// Returns notes of a call with the ranges that they show. Returns `Err` if an allocation fails.
@@ -43,15 +43,15 @@ pub fn notes(
     ensures spans { IfOk result (λ v. All (λ x. All (λ r. IsSpan site.entry.text.now r)
         x.ranges.items) v.items) }
 {
-    let mut found = Vec::new(alloc);
+    let mut list = Vec::new(alloc);
     for note in notes {
         let ranges = ranges(alloc, site, &note.spots)?;
-        found.push(Note {
+        list.push(Note {
             text: note.text,
             ranges,
         })?;
     }
-    Ok(found)
+    Ok(list)
 }
 
 /// Appends the source of a place of a call, if there is one. Returns `Err` if an allocation fails.
@@ -82,13 +82,13 @@ fn edits(alloc: Global, site: Site<'_, '_>, edits: Vec<CallEdit>) -> Result<Vec<
     ensures outcome { IfOk result (λ v. TellEdits (map seen_edit edits.items) v.items) }
     ensures spans { IfOk result (λ v. All (λ x. IsSpan site.entry.text.now x.range) v.items) }
 {
-    let mut found = Vec::new(alloc);
+    let mut list = Vec::new(alloc);
     for edit in edits {
         let range = spot_range(site, edit.spot);
         let text = edit_text(site, edit)?;
-        found.push(Edit { range, text })?;
+        list.push(Edit { range, text })?;
     }
-    Ok(found)
+    Ok(list)
 }
 
 /// Returns a help of a call with the ranges of its edits. Returns `Err` if an allocation fails.

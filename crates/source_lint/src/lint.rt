@@ -75,7 +75,7 @@ fn read_file(
     ensures spans { IfOk result (λ f. All (HasSpans file.entry.text.now)
         f.findings.items) }
 {
-    let mut found = Readings {
+    let mut readings = Readings {
         calls: Vec::new(alloc),
         findings: Vec::new(alloc),
     };
@@ -83,9 +83,9 @@ fn read_file(
     while let Some(source) = next_part(alloc, &mut rest, table, balance)? {
         let part = Part::new(alloc, source)?;
         let calls = calls(alloc, part.source(), table)?;
-        read_calls(alloc, &mut found, file, &part, &calls)?;
+        read_calls(alloc, &mut readings, file, &part, &calls)?;
     }
-    Ok(found)
+    Ok(readings)
 }
 
 /// Adds the findings in the texts of the attributes of a file. Returns `Err` if an allocation
@@ -121,11 +121,11 @@ pub fn report_on(
     ensures spans { IfOk result (λ r. All (HasSpans text.now) readings.findings.items
         → All (HasSpans text.now) r.findings.items) }
 {
-    let mut found = readings;
-    put_attributes(alloc, &mut found.findings, text)?;
+    let mut all_readings = readings;
+    put_attributes(alloc, &mut all_readings.findings, text)?;
     Ok(Report {
-        calls: found.calls,
-        findings: found.findings,
+        calls: all_readings.calls,
+        findings: all_readings.findings,
         first_break: balance.first_break(),
     })
 }
@@ -146,7 +146,7 @@ pub fn file_faults(alloc: Global, text: &str, options: &Options<'_>) -> Result<R
         is_from_2021: options.is_from_2021,
     };
     let mut balance = Balance::new(alloc);
-    let found = read_file(alloc, file, &options.table, &mut balance)?;
-    let report = report_on(alloc, text, found, balance)?;
+    let readings = read_file(alloc, file, &options.table, &mut balance)?;
+    let report = report_on(alloc, text, readings, balance)?;
     Ok(report)
 }

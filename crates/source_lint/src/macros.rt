@@ -71,19 +71,19 @@ pub fn macro_names<'a>(alloc: Global, text: &'a str) -> Result<BTreeSet<&'a [u8]
         × ((n : List ℕ) → list_any (bytes_eq n) (names_in s)
         ≡ list_any (bytes_eq n) (macro_names ls))) }
 {
-    let mut found = BTreeSet::new(alloc);
+    let mut names = BTreeSet::new(alloc);
     if !text.contains("macro_rules") {
-        return Ok(found);
+        return Ok(names);
     }
     let mut rest = Tokens::new(text);
     let mut before = None;
     let mut last = None;
     while let Some(token) = rest.next() {
-        put_definition(&mut found, before, last, &token)?;
+        put_definition(&mut names, before, last, &token)?;
         before = last;
         last = Some(token);
     }
-    Ok(found)
+    Ok(names)
 }
 
 /// Returns whether a word is one of these names.

@@ -94,10 +94,10 @@ fn read_string(
     let Some(literal) = read_literal(alloc, site.literal.text, appended_newline)? else {
         return Ok(CallReading::Malformed);
     };
-    let given = counted_givens(alloc, site.tokens, site.arguments, is_counted)?;
+    let arguments = counted_givens(alloc, site.tokens, site.arguments, is_counted)?;
     let text = literal.text.as_str();
     let snippet = literal.snippet.as_str();
-    let list = given.as_slice();
+    let list = arguments.as_slice();
     let string = FormatString {
         text,
         style: literal.style,
@@ -148,18 +148,18 @@ pub fn arguments_before(
 ) -> Result<Vec<Argument>, AllocError>
     ensures { IfOk result (λ v. v.items ≡ arguments_before end arguments.now) }
 {
-    let mut found = Vec::new(alloc);
+    let mut list = Vec::new(alloc);
     for argument in arguments {
         if argument.start >= end {
-            return Ok(found);
+            return Ok(list);
         }
-        found.push(Argument {
+        list.push(Argument {
             start: argument.start,
             end: argument.end.min(end),
             is_named: argument.is_named,
         })?;
     }
-    Ok(found)
+    Ok(list)
 }
 
 /// Reads a call with this literal as its format string and these arguments after it, and adds its
@@ -242,14 +242,18 @@ fn read_at(
         string.start + 1,
         call.close,
     );
-    let counted = extent.is_counted;
+    let is_counted = extent.is_counted;
     let others = &arguments[index + 1..];
     if extent.end == call.close {
-        let reading = read_with(alloc, findings, file, part, call, literal, others, counted)?;
+        let reading = read_with(
+            alloc, findings, file, part, call, literal, others, is_counted,
+        )?;
         return Ok(reading);
     }
     let before = arguments_before(alloc, others, extent.end)?;
-    let reading = read_with(alloc, findings, file, part, call, literal, &before, counted)?;
+    let reading = read_with(
+        alloc, findings, file, part, call, literal, &before, is_counted,
+    )?;
     Ok(reading)
 }
 

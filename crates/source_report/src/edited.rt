@@ -46,8 +46,8 @@ fn make(edited: &mut Edited<'_>, edit: &Edit<'_>) -> Result<(), AllocError>
     ensures end { OnOk result (edited.new.end ≡ edit.now.span.end) }
     ensures ids { OnOk result (edited.new.ids ≡ edited.old.ids) }
 {
-    let kept = front(edited.rest, edit.span.start.saturating_sub(edited.end));
-    edited.bytes.extend_from_slice(kept)?;
+    let source = front(edited.rest, edit.span.start.saturating_sub(edited.end));
+    edited.bytes.extend_from_slice(source)?;
     edited.bytes.extend_from_slice(edit.text.as_bytes())?;
     edited.rest = rest_after(edited.rest, edit.span.end.saturating_sub(edited.end));
     edited.end = edit.span.end;

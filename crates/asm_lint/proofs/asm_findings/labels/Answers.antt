@@ -7,11 +7,11 @@ use Rattle.asm_lint.proofs.asm_findings.labels.Goals as goal
 pub loop-label-preserved : goal.loop-label-preserved
 loop-label-preserved c = record {
   primary = mapped-more (λ x. x.is_primary) (λ y. y.is_primary) seen_label
-      c.loop-label.found.items _ c.loop-label.yielded _ c.in-Some.label
+      c.loop-label.list.items _ c.loop-label.yielded _ c.in-Some.label
       c.in_ok-push.ensures.items c.loop-label.invariant.primary refl;
   texts = mapped-more (λ x. string_bytes x.text) (λ y. y.text) seen_label
-      c.loop-label.found.items _ c.loop-label.yielded _ c.in-Some.label
+      c.loop-label.list.items _ c.loop-label.yielded _ c.in-Some.label
       c.in_ok-push.ensures.items c.loop-label.invariant.texts refl;
-  spans = all-more (λ x. IsSpan c.args.site.text.now x.range) c.loop-label.found.items _ _
+  spans = all-more (λ x. IsSpan c.args.site.text.now x.range) c.loop-label.list.items _ _
       c.in_ok-push.ensures.items c.loop-label.invariant.spans c.asm_range.ensures;
 }

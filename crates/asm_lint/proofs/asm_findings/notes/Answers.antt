@@ -9,13 +9,13 @@ use Rattle.asm_lint.proofs.asm_findings.notes.Goals as goal
 pub loop-note-preserved : goal.loop-note-preserved
 loop-note-preserved c = record {
   texts = mapped-more (λ x. string_bytes x.text) (λ y. y.text) seen_note
-      c.loop-note.found.items _ c.loop-note.yielded _ c.in-Some.note
+      c.loop-note.list.items _ c.loop-note.yielded _ c.in-Some.note
       c.in_ok-push.ensures.items c.loop-note.invariant.texts refl;
   counts = mapped-more (λ x. length x.ranges.items) (λ y. shown_count y.spot) seen_note
-      c.loop-note.found.items _ c.loop-note.yielded _ c.in-Some.note
+      c.loop-note.list.items _ c.loop-note.yielded _ c.in-Some.note
       c.in_ok-push.ensures.items c.loop-note.invariant.counts
       c.in_ok-ranges.ensures.count;
   spans = all-more (λ x. All (λ r. IsSpan c.args.site.text.now r) x.ranges.items)
-      c.loop-note.found.items _ _ c.in_ok-push.ensures.items c.loop-note.invariant.spans
+      c.loop-note.list.items _ _ c.in_ok-push.ensures.items c.loop-note.invariant.spans
       c.in_ok-ranges.ensures.spans;
 }

@@ -9,11 +9,11 @@ use Rattle.asm_lint.proofs.assembly.operands_of.Given as goal
 abbrev pub invariant-loop-argument : goal.invariant-loop-argument
 invariant-loop-argument l = record {
   lie : AllByRecursion (λ a. a.start < length l.part) (drop l.argument-index l.arguments);
-  list : map seen_operand l.found.list.items
+  list : map seen_operand l.operands.list.items
       ++ operands l.part (drop l.argument-index l.arguments)
       ≡ operands l.part l.arguments;
-  raw : (l.found.are_raw || are_raw l.part (drop l.argument-index l.arguments))
+  raw : (l.operands.are_raw || are_raw l.part (drop l.argument-index l.arguments))
       ≡ are_raw l.part l.arguments;
-  unknown : (l.found.is_unknown || is_unknown l.part (drop l.argument-index l.arguments))
+  unknown : (l.operands.is_unknown || is_unknown l.part (drop l.argument-index l.arguments))
       ≡ is_unknown l.part l.arguments;
 }

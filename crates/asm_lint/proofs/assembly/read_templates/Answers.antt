@@ -10,6 +10,6 @@ returns-clause-read c =
     let xs = map leaf c.args.tokens.now in
     let all = c.args.arguments.now in
     let i = c.loop-argument.argument-index in
-    subst (λ v. AreTemplates xs all v) (append-nil (map seen_read c.loop-argument.found.items))
+    subst (λ v. AreTemplates xs all v) (append-nil (map seen_read c.loop-argument.templates.items))
     (c.loop-argument.invariant.read [] (subst (λ (v : List Argument). AreTemplates xs v [])
     (sym (drop_all i all c.loop-argument-test.false)) tt))

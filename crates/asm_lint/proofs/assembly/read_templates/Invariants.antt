@@ -13,9 +13,9 @@ invariant-loop-argument l = record {
   lie : AllByRecursion (λ a. a.start < length l.tokens) (drop l.argument-index l.arguments);
   read : (ts : List Template)
       → AreTemplates (map leaf l.tokens) (drop l.argument-index l.arguments) ts
-      → AreTemplates (map leaf l.tokens) l.arguments (map seen_read l.found.items ++ ts);
+      → AreTemplates (map leaf l.tokens) l.arguments (map seen_read l.templates.items ++ ts);
   none : HaveNoText (map leaf l.tokens) (drop l.argument-index l.arguments)
       → HaveNoText (map leaf l.tokens) l.arguments;
   short : AllByRecursion (λ t.
-      hashes t.literal.style + length (string_bytes t.literal.text) + 2 < 2 ^ 64) l.found.items;
+      hashes t.literal.style + length (string_bytes t.literal.text) + 2 < 2 ^ 64) l.templates.items;
 }

@@ -8,6 +8,6 @@ use Rattle.asm_lint.proofs.attributes.literals.Given as goal
 abbrev pub invariant-loop-option : goal.invariant-loop-option
 invariant-loop-option l = record {
   lie : AllByRecursion (λ a. a.start < length l.tokens) (drop l.option-index l.options);
-  all : map leaf l.found.items ++ texts_from (map leaf l.tokens) l.has_message l.has_label
+  all : map leaf l.literals.items ++ texts_from (map leaf l.tokens) l.has_message l.has_label
       (drop l.option-index l.options) ≡ texts_from (map leaf l.tokens) false false l.options;
 }

@@ -7,9 +7,9 @@ use Rattle.asm_lint.proofs.finding_labels.labels.Given as goal
 
 abbrev pub invariant-loop-label : goal.invariant-loop-label
 invariant-loop-label l = record {
-  primary : map (λ x. x.is_primary) l.found.items
+  primary : map (λ x. x.is_primary) l.list.items
       ≡ map (λ y. y.is_primary) (map seen_label l.yielded);
-  texts : map (λ x. string_bytes x.text) l.found.items
+  texts : map (λ x. string_bytes x.text) l.list.items
       ≡ map (λ y. y.text) (map seen_label l.yielded);
-  spans : All (λ x. IsSpan l.site.text.now x.range) l.found.items;
+  spans : All (λ x. IsSpan l.site.text.now x.range) l.list.items;
 }

@@ -3,5 +3,5 @@ use Rattle.call_faults.specs.Arguments.{named_of}
 use Rattle.call_faults.specs.Seen.{seen_kept}
 use Rattle.call_faults.proofs.arguments.named_of.Given as goal
 
-abbrev pub invariant-loop-kept : goal.invariant-loop-kept
-invariant-loop-kept l = l.named.items ≡ named_of (map seen_kept (take l.kept-index l.list))
+abbrev pub invariant-loop-entry : goal.invariant-loop-entry
+invariant-loop-entry l = l.named.items ≡ named_of (map seen_kept (take l.entry-index l.list))

@@ -40,7 +40,7 @@ returns c =
     record {
       walk = (pieces, parser);
       given = refl;
-      kept = c.in_ok-faults.ensures.kept c.new-kept.ensures.items;
+      kept = c.in_ok-faults.ensures.kept c.new-indices.ensures.items;
       counts = c.in_ok-counts.ensures
           ∙ ap (counts_before 0) (ap (map seen) c.deref-2.ensures.value);
       faults = faults;

@@ -10,14 +10,14 @@ pub returns-then-not-is_settled : goal.returns-then-not-is_settled
 returns-then-not-is_settled c = λ ks h a.
     let ls = map seen_lookup c.args.lookups.now in
     let count : c.len.result ≡ length c.args.arguments.now.list.items = search rules in
-    let left : map seen_kept c.in_ok-left.left.items ≡ unused ks ls = c.in_ok-left.ensures
+    let left : map seen_kept c.in_ok-rest.rest.items ≡ unused ks ls = c.in_ok-rest.ensures
     ∙ (rw (c.deref-2.ensures.value, c.deref.ensures.value, h.list)
     (left-is c.in_ok-marks.marks.items ks ls (c.in_ok-marks.ensures ks h a))) in
     let lacked : c.in_ok-missing.missing.items ≡ missing ks ls = c.in_ok-missing.ensures
     ∙ ap (λ n. filter_map (beyond n) ls)
     (count ∙ sym (length-map c.args.arguments.now.list.items seen_kept) ∙ ap length h.list) in
     let found : map seen_fault c.look_up.new.faults.items
-    ≡ lookup_faults c.args.captures (names ks) ls = rw c.new-found.ensures.items
+    ≡ lookup_faults c.args.captures (names ks) ls = rw c.new-list.ensures.items
     at (c.in_ok-look_up.ensures (names ks) (holds-knows ks c.args.arguments.now h)) in
     joined (map seen_fault c.args.faults.now.items) (map seen_fault c.append.new.self.items)
     (map seen_fault c.tell_missing.new.faults.items)
@@ -35,14 +35,14 @@ pub returns : goal.returns
 returns c = λ ks h a.
     let ls = map seen_lookup c.args.lookups.now in
     let count : c.len.result ≡ length c.args.arguments.now.list.items = search rules in
-    let left : map seen_kept c.in_ok-left.left.items ≡ unused ks ls = c.in_ok-left.ensures
+    let left : map seen_kept c.in_ok-rest.rest.items ≡ unused ks ls = c.in_ok-rest.ensures
     ∙ (rw (c.deref-2.ensures.value, c.deref.ensures.value, h.list)
     (left-is c.in_ok-marks.marks.items ks ls (c.in_ok-marks.ensures ks h a))) in
     let lacked : c.in_ok-missing.missing.items ≡ missing ks ls = c.in_ok-missing.ensures
     ∙ ap (λ n. filter_map (beyond n) ls)
     (count ∙ sym (length-map c.args.arguments.now.list.items seen_kept) ∙ ap length h.list) in
     let found : map seen_fault c.look_up.new.faults.items
-    ≡ lookup_faults c.args.captures (names ks) ls = rw c.new-found.ensures.items
+    ≡ lookup_faults c.args.captures (names ks) ls = rw c.new-list.ensures.items
     at (c.in_ok-look_up.ensures (names ks) (holds-knows ks c.args.arguments.now h)) in
     joined (map seen_fault c.args.faults.now.items) (map seen_fault c.append.new.self.items)
     (map seen_fault c.tell_missing.new.faults.items) (map seen_fault c.tell_unused.new.faults.items)

@@ -8,12 +8,12 @@ use Rattle.call_faults.proofs.compared.redundant_of.Goals.{then-is_redundant+in_
 use Rattle.call_faults.proofs.compared.redundant_of.Goals.{else-is_redundant}
 use Rattle.call_faults.proofs.compared.redundant_of.Goals as goal
 
-pub loop-kept-preserved : goal.loop-kept-preserved
-loop-kept-preserved c =
+pub loop-entry-preserved : goal.loop-entry-preserved
+loop-entry-preserved c =
     let ls = map seen_lookup c.args.lookups.now in
-    kept-next seen_kept (is_redundant ls) c.args.unused.now c.loop-kept.kept-index _
-    c.loop-kept.redundant.items c.if-is_redundant.redundant.items c.is_redundant.result
-    c.loop-kept-test.true c.loop-kept.invariant
+    kept-next seen_kept (is_redundant ls) c.args.unused.now c.loop-entry.entry-index _
+    c.loop-entry.redundant.items c.if-is_redundant.redundant.items c.is_redundant.result
+    c.loop-entry-test.true c.loop-entry.invariant
     (c.is_redundant.ensures ∙ redundant-is ls _ _ (λ w. is_some (found_in
     c.in_ok-positions.positions w))
     c.in_ok-positions.ensures)
@@ -21,5 +21,5 @@ loop-kept-preserved c =
       | then-is_redundant+in_ok-push w ↦ rw (w.redundant-is, w.if-is_redundant.true)
           w.in_ok-push.ensures.items
       | else-is_redundant w ↦ rw (w.redundant-is, w.if-is_redundant.false) (sym (append-nil
-          c.loop-kept.redundant.items))
+          c.loop-entry.redundant.items))
     ])

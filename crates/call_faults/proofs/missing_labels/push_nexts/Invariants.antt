@@ -7,5 +7,5 @@ use Rattle.call_faults.proofs.missing_labels.push_nexts.Given as goal
 -- What is added, and then the labels of what is left, is all.
 abbrev pub invariant-loop-piece : goal.invariant-loop-piece
 invariant-loop-piece l = map seen_label l.labels.items
-    ++ next_labels (map seen (drop l.piece-index l.pieces)) (map pair l.left)
+    ++ next_labels (map seen (drop l.piece-index l.pieces)) (map pair l.rest)
     ≡ map seen_label l.fn.labels.items ++ next_labels (map seen l.pieces) (map pair l.places)

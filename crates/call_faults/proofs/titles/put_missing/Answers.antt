@@ -6,7 +6,7 @@ use Rattle.call_faults.proofs.titles.put_missing.Goals as goal
 
 pub returns-then-have_numbers : goal.returns-then-have_numbers
 returns-then-have_numbers c = λ r h.
-    let count : c.len-count.result ≡ length c.args.call.now.kept.items = search rules in
+    let count : c.len-count.result ≡ length c.args.call.now.indices.items = search rules in
     let is = c.in_ok-report.ensures.only r
     (rw (c.deref-then-have_numbers.ensures.value, count) h) in
     let some : list_any has_number (map seen c.args.call.now.pieces.items) ≡ true

@@ -7,7 +7,7 @@ use Rattle.call_forms.proofs.generics.parameters.Given as goal
 abbrev pub invariant-loop-token : goal.invariant-loop-token
 invariant-loop-token l = record {
   few : l.place.angles + l.place.opens ≤ l.token-index + 1;
-  all : map (λ w. w.now) l.found.items
+  all : map (λ w. w.now) l.names.items
       ++ parameters_from l.place (map leaf (drop l.token-index l.token-items))
       ≡ parameters_from start (map leaf l.token-items);
 }

@@ -5,5 +5,5 @@ use Rattle.drawn_edits.proofs.changes.have_bytes.Given as goal
 
 -- The answer for the rest is the answer for all.
 abbrev pub invariant-loop-part : goal.invariant-loop-part
-invariant-loop-part l = have_bytes l.left (map seen_part (drop l.part-index l.parts))
+invariant-loop-part l = have_bytes l.countdown (map seen_part (drop l.part-index l.parts))
     ≡ have_bytes l.fn.count (map seen_part l.parts)

@@ -9,15 +9,15 @@ loop-c-preserved c =
     let is_text : IsUtf8 tail = search rules in
     record {
       is_text = is_text;
-      passed = subst (λ n. IsPassed c.args.text.now tail c.args.width (l.left - n))
-          (sym c.len_utf8-left.ensures.value)
-          (pass-one c.args.text.now l.rest.now tail c.args.width l.left c.in-Some.c
+      passed = subst (λ n. IsPassed c.args.text.now tail c.args.width (l.countdown - n))
+          (sym c.len_utf8-countdown.ensures.value)
+          (pass-one c.args.text.now l.rest.now tail c.args.width l.countdown c.in-Some.c
           l.invariant.is_text is_text c.in-Some.ensures.parts
-          (subst (λ n. n ≤ l.left) c.len_utf8.ensures.value c.if-left-len_utf8.false)
+          (subst (λ n. n ≤ l.countdown) c.len_utf8.ensures.value c.if-countdown-len_utf8.false)
           l.invariant.passed);
     }
 
 pub split_at-requires : goal.split_at-requires
 split_at-requires c =
-    pass-boundary c.args.text.now c.loop-c.rest.now c.args.width c.loop-c.left
+    pass-boundary c.args.text.now c.loop-c.rest.now c.args.width c.loop-c.countdown
     c.loop-c.invariant.is_text c.loop-c.invariant.passed

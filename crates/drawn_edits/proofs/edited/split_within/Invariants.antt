@@ -8,7 +8,7 @@ use Rattle.drawn_edits.proofs.edited.split_within.Given as goal
 abbrev pub invariant-loop-c : goal.invariant-loop-c
 invariant-loop-c l = record {
   is_text : shadow (Utf8 l.rest);
-  passed : IsPassed l.text l.rest l.fn.width l.left;
+  passed : IsPassed l.text l.rest l.fn.width l.countdown;
 }
 
 abbrev pub decreases-loop-c : goal.decreases-loop-c

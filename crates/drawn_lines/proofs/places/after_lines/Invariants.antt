@@ -5,12 +5,12 @@ use denote.Shadow.{shadow}
 use Rattle.drawn_lines.proofs.places.after_lines.Given as goal
 
 -- The rest after the lines that are still to pass is the one that is meant.
-abbrev pub invariant-loop-left : goal.invariant-loop-left
-invariant-loop-left l = record {
+abbrev pub invariant-loop-countdown : goal.invariant-loop-countdown
+invariant-loop-countdown l = record {
   is_text : shadow (Utf8 l.rest);
-  same : after_lines l.left l.rest ≡ after_lines l.fn.count l.fn.text;
+  same : after_lines l.countdown l.rest ≡ after_lines l.fn.count l.fn.text;
   short : length l.rest ≤ length l.fn.text;
 }
 
-abbrev pub decreases-loop-left : goal.decreases-loop-left
-decreases-loop-left l = l.left
+abbrev pub decreases-loop-countdown : goal.decreases-loop-countdown
+decreases-loop-countdown l = l.countdown

@@ -10,10 +10,10 @@ abbrev pub invariant-loop-c : goal.invariant-loop-c
 invariant-loop-c l = record {
   is_text : shadow (Utf8 l.rest);
   on : (more : ℕ) → fold past l.fn.from (within (l.fn.width + more) (chars l.fn.text))
-      ≡ fold past l.at (within (l.left + more) (chars l.rest));
-  value : fold past l.at (within l.left (chars l.rest))
+      ≡ fold past l.at (within (l.countdown + more) (chars l.rest));
+  value : fold past l.at (within l.countdown (chars l.rest))
       ≡ fold past l.fn.from (within l.fn.width (chars l.fn.text));
-  fewer : l.left ≤ l.fn.width;
+  fewer : l.countdown ≤ l.fn.width;
   lines : l.at.line + length l.rest ≤ l.fn.from.line + length l.fn.text;
   chars : l.at.chars + length l.rest ≤ l.fn.from.chars + length l.fn.text;
   columns : l.at.column + 4 * length l.rest ≤ l.fn.from.column + 4 * length l.fn.text;

@@ -3,8 +3,8 @@ use Rattle.drawn_lines.specs.Glyphs.{glyphs}
 use Rattle.drawn_lines.proofs.WindowLemmas.{left_out-none}
 use Rattle.drawn_lines.proofs.window.left_out.Goals as goal
 
-pub returns-then-left-eq0 : goal.returns-then-left-eq0
-returns-then-left-eq0 c =
+pub returns-then-countdown-eq0 : goal.returns-then-countdown-eq0
+returns-then-countdown-eq0 c =
     let none =
-    left_out-none c.loop-c.left (glyphs (chars c.loop-c.rest.now)) c.if-left-eq0.true in
+    left_out-none c.loop-c.countdown (glyphs (chars c.loop-c.rest.now)) c.if-countdown-eq0.true in
     omega (arith, none, c.loop-c.invariant.whole)

@@ -9,9 +9,9 @@ use Rattle.drawn_lines.proofs.window.left_out.Given as goal
 abbrev pub invariant-loop-c : goal.invariant-loop-c
 invariant-loop-c l = record {
   is_text : shadow (Utf8 l.rest);
-  whole : l.taken + left_out l.left (glyphs (chars l.rest))
+  whole : l.columns + left_out l.countdown (glyphs (chars l.rest))
       ≡ left_out l.fn.count (glyphs (chars l.fn.text));
-  few : l.taken + 16 * length l.rest ≤ 16 * length l.fn.text;
+  few : l.columns + 16 * length l.rest ≤ 16 * length l.fn.text;
 }
 
 abbrev pub decreases-loop-c : goal.decreases-loop-c

@@ -6,9 +6,9 @@ use Rattle.drawn_lines.proofs.window.left_out_of_run.Given as goal
 -- The columns left out so far and those that are still to be left out are all.
 abbrev pub invariant-loop-rest : goal.invariant-loop-rest
 invariant-loop-rest l = record {
-  whole : (t : Text) → l.taken + left_out l.left (replicate l.rest l.fn.character ++ t)
+  whole : (t : Text) → l.columns + left_out l.countdown (replicate l.rest l.fn.character ++ t)
       ≡ left_out l.fn.count (replicate l.fn.times l.fn.character ++ t);
-  few : l.taken + 4 * l.rest ≤ 16;
+  few : l.columns + 4 * l.rest ≤ 16;
 }
 
 abbrev pub decreases-loop-rest : goal.decreases-loop-rest

@@ -9,9 +9,9 @@ use Rattle.drawn_lines.proofs.window.past_columns.Given as goal
 abbrev pub invariant-loop-c : goal.invariant-loop-c
 invariant-loop-c l = record {
   is_text : shadow (Utf8 l.rest);
-  same : past_columns l.left (chars l.rest) ≡ past_columns l.fn.count (chars l.fn.text);
-  whole : l.taken + left_out l.left (chars l.rest) ≡ left_out l.fn.count (chars l.fn.text);
-  few : l.taken + 4 * length l.rest ≤ 4 * length l.fn.text;
+  same : past_columns l.countdown (chars l.rest) ≡ past_columns l.fn.count (chars l.fn.text);
+  whole : l.columns + left_out l.countdown (chars l.rest) ≡ left_out l.fn.count (chars l.fn.text);
+  few : l.columns + 4 * length l.rest ≤ 4 * length l.fn.text;
   short : length l.rest ≤ length l.fn.text;
 }
 

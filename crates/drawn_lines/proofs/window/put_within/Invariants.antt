@@ -8,7 +8,7 @@ use Rattle.drawn_lines.proofs.window.put_within.Given as goal
 abbrev pub invariant-loop-c : goal.invariant-loop-c
 invariant-loop-c l = record {
   is_text : shadow (Utf8 l.rest);
-  whole : string_bytes l.out ++ encode_utf8_all (within_columns l.left (chars l.rest))
+  whole : string_bytes l.out ++ encode_utf8_all (within_columns l.countdown (chars l.rest))
       ≡ string_bytes l.fn.out ++ encode_utf8_all (within_columns l.fn.count (chars l.fn.text));
 }
 

@@ -7,7 +7,7 @@ use Rattle.fault_fixes.proofs.errors.errors_of.Given as goal
 abbrev pub invariant-loop-argument : goal.invariant-loop-argument
 invariant-loop-argument l = record {
   none : l.parser.errors ≡ [];
-  added : l.found.items ≡ [];
+  added : l.faults.items ≡ [];
   same : all_errors (record l.parser { errors = seen_errors l.errors })
       ≡ all_errors l.initial.parser;
   less : length l.parser.rest ≤ length l.initial.parser.rest;

@@ -9,7 +9,7 @@ use Rattle.fault_fixes.proofs.fixes.edit_all.Given as goal
 abbrev pub invariant-loop-argument : goal.invariant-loop-argument
 invariant-loop-argument l = record {
   none : l.parser.errors ≡ [];
-  made : l.found.items ≡ [];
+  made : l.faults.items ≡ [];
   same : with_edits l.edited (left_edits (seen_mode l.mode) l.parser)
       ≡ joined [] l.fn.at 0 l.fn.text (left_edits (seen_mode l.mode) l.fn.parser);
 }

@@ -11,7 +11,7 @@ use Rattle.fault_fixes.proofs.fixes.edits.Goals as goal
 
 pub returns-clause-order : goal.returns-clause-order
 returns-clause-order c =
-    let e : map seen_edit c.loop-error.found.items
+    let e : map seen_edit c.loop-error.edits.items
     ≡ edits (seen_mode c.args.mode) (map seen_error c.args.errors.now) = grind (
       arith,
       common_steps,
@@ -27,11 +27,11 @@ returns-in_err-push-clause-spare c = λ none.
     let rest : List (Message Place) = reverse (map seen_error l.error-iterator.iter.rest.now) in
     let left : List (Message Place) =
     reverse (map seen_error c.next.new.self.iter.rest.now) in
-    let h : map seen_edit l.found.items ++ made l.end (filter_map (edit_of (seen_mode c.args.mode))
+    let h : map seen_edit l.edits.items ++ made l.end (filter_map (edit_of (seen_mode c.args.mode))
     rest)
     ≡ edits (seen_mode c.args.mode) (map seen_error c.args.errors.now) = l.invariant in
     let r : rest ≡ m ∷ left = grind (arith, common_steps) in
     let s : edit_of (seen_mode c.args.mode) m ≡ Some e = grind (arith, common_steps) in
     let b : is_after l.end e ≡ true = grind (arith, common_steps) in
-    absurd (some-made (seen_mode c.args.mode) (map seen_edit l.found.items) l.end rest left m e _ h
+    absurd (some-made (seen_mode c.args.mode) (map seen_edit l.edits.items) l.end rest left m e _ h
     r s b none)

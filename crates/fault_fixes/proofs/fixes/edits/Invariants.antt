@@ -8,7 +8,7 @@ use Rattle.fault_fixes.proofs.fixes.edits.Given as goal
 -- The edits that were found, and then those of the errors that are left, are all.
 abbrev pub invariant-loop-error : goal.invariant-loop-error
 invariant-loop-error l =
-    map seen_edit l.found.items
+    map seen_edit l.edits.items
     ++ made l.end (filter_map (edit_of (seen_mode l.mode)) (reverse (map seen_error
     l.error-iterator.iter.rest.now)))
     ≡ edits (seen_mode l.mode) (map seen_error l.errors)

@@ -38,5 +38,5 @@ returns c =
       inlines = inlines-by _ _ _ _ _ _ _ _ _ _ _ _ _ _ _ (rw tokens at c.name_at.ensures) tokens
           (c.deref.ensures.value ∙ (c.in_ok-before.ensures
           ∙ ap (arguments_before c.extent_of-extent.result.end) (after-one args c.args.index)))
-          t.2 c.in_ok-made.ensures;
+          t.2 c.in_ok-inlined_call.ensures;
     }

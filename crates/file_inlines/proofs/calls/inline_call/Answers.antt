@@ -52,7 +52,7 @@ returns-in-Ok c =
     (slice_get v c.args.call.now.name)) c.tokens.ensures))
     (arguments-here c.args.part.now c.args.call.now c.in-Some-2.arguments.items
     c.as_slice-list.result.now a.0 c.as_slice-list.ensures.value c.requires.pair a.1 a.2)
-    c.in-Ok.ensures.value c.in_ok-made-in-Ok.ensures
+    c.in-Ok.ensures.value c.in_ok-inlined_call-in-Ok.ensures
 
 pub returns : goal.returns
 returns c =

@@ -24,7 +24,7 @@ inline_call-requires-clause-pair c =
 pub inline_call-requires-clause-reads : goal.inline_call-requires-clause-reads
 inline_call-requires-clause-reads c =
     let e : c.loop-call.rest.now ≡ c.in-Some.call.now ∷ c.in-Some.others.now = search rules in
-    let f : c.loop-call.left.now
+    let f : c.loop-call.rest_readings.now
     ≡ c.in-Some-split_first.reading.now ∷ c.in-Some-split_first.more.now = search rules in
     let g = gives-first _ _ _ _ _ _ _ _ e f c.loop-call.invariant.read.1 in
     (g.0, g.2)
@@ -32,13 +32,13 @@ inline_call-requires-clause-reads c =
 pub returns-in_default-split_first : goal.returns-in_default-split_first
 returns-in_default-split_first c =
     let e : c.loop-call.rest.now ≡ c.in-Some.call.now ∷ c.in-Some.others.now = search rules in
-    absurd (gives-one _ _ _ _ _ _ e (nil_from_length c.loop-call.left.now
+    absurd (gives-one _ _ _ _ _ _ e (nil_from_length c.loop-call.rest_readings.now
     c.in_default-split_first.ensures.cases) c.loop-call.invariant.read.1)
 
 pub loop-call-preserved : goal.loop-call-preserved
 loop-call-preserved c =
     let e : c.loop-call.rest.now ≡ c.in-Some.call.now ∷ c.in-Some.others.now = search rules in
-    let f : c.loop-call.left.now
+    let f : c.loop-call.rest_readings.now
     ≡ c.in-Some-split_first.reading.now ∷ c.in-Some-split_first.more.now = search rules in
     let g = gives-first _ _ _ _ _ _ _ _ e f c.loop-call.invariant.read.1 in
     record {

@@ -16,7 +16,7 @@ invariant-loop-call l = record {
       l.rest l.initial.results.inlinings.items l.results.inlinings.items
       (map seen_edit l.initial.results.edits.items) (map seen_edit l.results.edits.items);
   read : (xs : List Finding) × Gives (Reads (scope l.file) l.file.is_from_2021 l.part) l.rest
-      l.left xs;
+      l.rest_readings xs;
   are_calls : (c : Call) → Contains l.rest c → IsPair l.part (c.name + 2) c.close;
 }
 

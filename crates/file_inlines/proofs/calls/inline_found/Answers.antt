@@ -42,6 +42,7 @@ returns c =
       r.stands_for,
       r.is_literal,
       subst (λ (v : FormatCall). Makes c.args.allows_mixed v (AreEdits found.text.now xs
-          (leaf found.literal) found.arguments.now) c.in_ok-made.made.inlining
-          (map seen_edit c.in_ok-made.made.edits.items)) same c.in_ok-made.ensures,
+          (leaf found.literal) found.arguments.now) c.in_ok-inlined_call.inlined_call.inlining
+          (map seen_edit c.in_ok-inlined_call.inlined_call.edits.items)) same
+          c.in_ok-inlined_call.ensures,
     )

@@ -4,5 +4,5 @@ use Rattle.file_inlines.specs.CallInlines.{moved}
 use Rattle.file_inlines.proofs.edits.move_edits.Given as goal
 
 abbrev pub invariant-loop-edit : goal.invariant-loop-edit
-invariant-loop-edit l = map seen_edit l.found.items
+invariant-loop-edit l = map seen_edit l.list.items
     ≡ map (moved l.offset) (map seen_edit (take l.edit-index l.edits))

@@ -5,5 +5,5 @@ use Rattle.file_inlines.specs.Sources.{with_source}
 use Rattle.file_inlines.proofs.sources.with_sources.Given as goal
 
 abbrev pub invariant-loop-argument : goal.invariant-loop-argument
-invariant-loop-argument l = map seen_argument l.found.items
+invariant-loop-argument l = map seen_argument l.list.items
     ≡ map (with_source l.text (map leaf l.tokens)) (take l.argument-index l.arguments)

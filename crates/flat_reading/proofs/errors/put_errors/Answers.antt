@@ -71,7 +71,7 @@ pub returns-clause-holds : goal.returns-clause-holds
 returns-clause-holds c = λ fit few.
     let all : c.loop-i.i ≡ length c.args.errors.now =
     omega (arith, c.loop-i-test.false, c.loop-i.auto.i-end) in
-    let held = HoldsErrors-grow _ _ _ _ (Extends-all c.loop-i.used c.loop-i.texts)
+    let held = HoldsErrors-grow _ _ _ _ (Extends-all c.loop-i.size c.loop-i.texts)
     (c.loop-i.invariant.holds (omega (arith, c.loop-i.auto.texts))
     (omega (arith, c.loop-i.auto.faults))) in
     rw (all, take_all (length c.args.errors.now) c.args.errors.now (omega arith)) at held

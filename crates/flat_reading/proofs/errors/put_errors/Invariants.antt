@@ -6,11 +6,11 @@ use Rattle.flat_reading.proofs.errors.put_errors.Given as goal
 
 abbrev pub invariant-loop-i : goal.invariant-loop-i
 invariant-loop-i l = record {
-  grows : Grows l.fn.texts l.texts 0 l.used;
-  holds : l.used ≤ length l.texts → l.i ≤ length l.faults
-      → HoldsErrors (take l.used l.texts) (take l.i l.faults) (map seen_error (take l.i l.errors));
+  grows : Grows l.fn.texts l.texts 0 l.size;
+  holds : l.size ≤ length l.texts → l.i ≤ length l.faults
+      → HoldsErrors (take l.size l.texts) (take l.i l.faults) (map seen_error (take l.i l.errors));
   found : l.i ≤ length l.faults → map (λ (f : Fault). f.step) (take l.i l.faults)
       ≡ take l.i l.finders.calls;
-  counted : l.used ≡ min (texts_len (map seen_error (take l.i l.errors))) 18446744073709551615;
+  counted : l.size ≡ min (texts_len (map seen_error (take l.i l.errors))) 18446744073709551615;
   kept : drop l.i l.faults ≡ drop l.i l.fn.faults;
 }

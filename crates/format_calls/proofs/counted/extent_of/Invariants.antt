@@ -4,7 +4,7 @@ use Rattle.format_calls.proofs.counted.extent_of.Given as goal
 
 abbrev pub invariant-loop-end : goal.invariant-loop-end
 invariant-loop-end l = record {
-  passed : Passed l.ends_early l.source l.from l.end l.found;
+  passed : Passed l.ends_early l.source l.from l.end l.has_uncounted;
   rest_after : l.opening < l.end;
   onward : l.from ≤ l.end;
   within : l.end ≤ l.close;

@@ -9,19 +9,19 @@ use Rattle.format_calls.proofs.listing.calls.Goals as goal
 use Rattle.format_calls.proofs.listing.calls.Goals.{in-Some+in_ok-push, in_default}
 
 pub loop-name-init : goal.loop-name-init
-loop-name-init c = below-none _ _ _ c.new-found.ensures.items
+loop-name-init c = below-none _ _ _ c.new-calls.ensures.items
 
 pub loop-name-preserved : goal.loop-name-preserved
 loop-name-preserved c =
-    let so_far = subst (λ v. AreBelow (map entry v) c.args.source.now c.loop-name.found.items
+    let so_far = subst (λ v. AreBelow (map entry v) c.args.source.now c.loop-name.calls.items
     c.loop-name.name) (sym c.deref.ensures.value) c.loop-name.invariant in
-    subst (λ v. AreBelow (map entry v) c.args.source.now c.match-call_at.found.items
+    subst (λ v. AreBelow (map entry v) c.args.source.now c.match-call_at.calls.items
     (c.loop-name.name + 1)) c.deref.ensures.value (elim c.match-call_at.branch [
       | in-Some+in_ok-push w ↦ below-push _ _ _ _ _ w.in-Some.call w.in-Some.ensures.is_call
           w.in-Some.ensures.named w.in-Some.ensures.each
-          (ap (λ t. t.items) w.found-is ∙ w.in_ok-push.ensures.items) so_far
+          (ap (λ t. t.items) w.calls-is ∙ w.in_ok-push.ensures.items) so_far
       | in_default w ↦ subst (λ v. AreBelow (map entry c.deref.result.now) c.args.source.now v
-          (c.loop-name.name + 1)) (ap (λ t. t.items) (sym w.found-is))
+          (c.loop-name.name + 1)) (ap (λ t. t.items) (sym w.calls-is))
           (below-skip _ _ _ _ (λ d k n. none-some d (w.in_default.ensures.each d k n)) so_far)
     ])
 

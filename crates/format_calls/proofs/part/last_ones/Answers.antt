@@ -27,12 +27,12 @@ loop-index-preserved c =
     (slice_get-map leaf c.args.tokens.now i
     ∙ ap (option_map leaf) (slice_get-get_or c.args.tokens.now i _ c.loop-index-test.true))
     c.is_wanted.ensures v.is_last v.within n in
-    let l = length-append c.loop-index.found.items (c.if-is_wanted.last ∷ []) in
+    let l = length-append c.loop-index.counts.items (c.if-is_wanted.last ∷ []) in
     record {
       each = subst (λ t. AreLastFrom c.args.wanted xs 0 t) (sym items)
-          (last-push c.args.wanted xs 0 c.if-is_wanted.last c.loop-index.found.items v.each
+          (last-push c.args.wanted xs 0 c.if-is_wanted.last c.loop-index.counts.items v.each
           (let e = v.count in
-          let k : i + 1 ≡ 0 + length c.loop-index.found.items = omega (arith, e) in
+          let k : i + 1 ≡ 0 + length c.loop-index.counts.items = omega (arith, e) in
           subst (λ t. IsLast c.args.wanted xs t c.if-is_wanted.last) k more));
       count = let e = v.count in ap length items ∙ omega (arith, l, e);
       is_last = more;

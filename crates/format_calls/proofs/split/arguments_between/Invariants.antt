@@ -4,7 +4,7 @@ use Rattle.format_calls.proofs.split.arguments_between.Given as goal
 
 abbrev pub invariant-loop-start : goal.invariant-loop-start
 invariant-loop-start l = record {
-  so_far : SoFar l.source (l.opening + 1) l.found.items l.start l.close;
+  so_far : SoFar l.source (l.opening + 1) l.arguments.items l.start l.close;
   rest_after : l.opening < l.start;
   within : l.start ≤ l.close;
 }

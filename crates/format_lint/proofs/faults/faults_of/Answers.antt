@@ -9,7 +9,7 @@ use Rattle.format_lint.proofs.faults.faults_of.Goals as goal
 
 pub loop-argument-init : goal.loop-argument-init
 loop-argument-init c = record {
-  none_left = c.new-found.ensures.items;
+  none_left = c.new-list.ensures.items;
   faults = found-start c.args.parser.now c.new-faults.result c.requires
       c.new-faults.ensures.kept c.new-faults.ensures.waits;
 }

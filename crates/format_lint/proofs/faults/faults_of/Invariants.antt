@@ -5,7 +5,7 @@ use Rattle.format_lint.proofs.faults.faults_of.Given as goal
 
 abbrev pub invariant-loop-argument : goal.invariant-loop-argument
 invariant-loop-argument l = record {
-  none_left : l.found.items ≡ [];
+  none_left : l.list.items ≡ [];
   faults : AreFound l.parser l.faults (findings_from false l.fn.parser);
 }
 

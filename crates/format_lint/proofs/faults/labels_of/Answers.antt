@@ -22,7 +22,7 @@ loop-text-init c =
           (so_far-start (seen_mode c.args.mode) (chars c.args.source.text.now) c.args.parser.now
           (ap (λ (s : State). s.mode) e) (ap (λ (s : State). s.input) e)
           (ap (λ (s : State). s.rest) e) (ap (λ (s : State). s.next) e));
-      none_left = c.new-found.ensures.items;
+      none_left = c.new-list.ensures.items;
       faults = found-start c.args.parser.now c.new-faults.result
           (ap (λ (s : State). s.errors) e) c.new-faults.ensures.kept c.new-faults.ensures.waits;
     }
@@ -32,7 +32,7 @@ loop-text-smaller c =
     let some = some_chars _ c.loop-text.invariant.is_text
     (sym c.is_empty.ensures ∙ c.loop-text-test.true) in
     smaller _ _ _ _ _ _ c.loop-text.invariant.labels (no_errors c.loop-text.parser
-    c.next_with_faults.new.self c.loop-text.invariant.faults.none c.in_ok-taken.ensures.state) some
+    c.next_with_faults.new.self c.loop-text.invariant.faults.none c.in_ok-piece.ensures.state) some
 
 pub loop-text-preserved : goal.loop-text-preserved
 loop-text-preserved c =
@@ -41,21 +41,21 @@ loop-text-preserved c =
     let s = c.loop-text.parser in
     let fs = faults_in s.world (next_call s).faults in
     let new = no_errors s c.next_with_faults.new.self c.loop-text.invariant.faults.none
-    c.in_ok-taken.ensures.state in
+    c.in_ok-piece.ensures.state in
     let some = some_chars _ c.loop-text.invariant.is_text
     (sym c.is_empty.ensures ∙ c.loop-text-test.true) in
-    let left = left_after _ _ _ _ _ _ _ _ _ h new c.saturating_sub-left.ensures
+    let left = left_after _ _ _ _ _ _ _ _ _ h new c.saturating_sub-width.ensures
     (sym (width_chars _ u)) c.position.ensures in record {
       is_text = search rules;
       labels = so_far-next _ _ _ _ _ c.in_ok-rest.rest.now _ _ h new some
           (c.in_ok-rest.ensures c.loop-text.parser.world c.loop-text.parser.next
-          (c.in_ok-taken.ensures.piece ∙ ap (λ (k : Call). option_map
+          (c.in_ok-piece.ensures.piece ∙ ap (λ (k : Call). option_map
           (piece_in c.loop-text.parser.world) k.piece) (piece_so_far _ _ _ _ _ h)) left);
       none_left = c.in_ok-add.ensures.moved;
       faults = found-next s c.next_with_faults.new.self c.loop-text.faults c.add.new.self _ _
-          c.loop-text.invariant.faults c.in_ok-taken.ensures.state
+          c.loop-text.invariant.faults c.in_ok-piece.ensures.state
           (some-left _ (λ n. some (h.rest_is ∙ n)))
-          (c.in_ok-taken.ensures.faults
+          (c.in_ok-piece.ensures.faults
           ∙ ap (λ gs. map seen_fault gs ++ fs) c.loop-text.invariant.none_left)
           c.in_ok-add.ensures.kept c.in_ok-add.ensures.waits;
     }

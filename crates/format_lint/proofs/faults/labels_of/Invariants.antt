@@ -11,7 +11,7 @@ abbrev pub invariant-loop-text : goal.invariant-loop-text
 invariant-loop-text l = record {
   is_text : shadow (Utf8 l.rest);
   labels : IsSoFar (seen_mode l.fn.mode) (chars l.text) l.labels.items (chars l.rest) l.parser;
-  none_left : l.found.items ≡ [];
+  none_left : l.list.items ≡ [];
   faults : AreFound l.parser l.faults (findings_from false l.fn.parser);
 }
 

@@ -9,7 +9,7 @@ use Rattle.format_tokens.proofs.escapes.cut.Given as goal
 abbrev pub invariant-loop-token : goal.invariant-loop-token
 invariant-loop-token l = record {
   is_text : shadow (Utf8 l.rest);
-  whole : map seen_token l.found.items
+  whole : map seen_token l.list.items
       ++ cut (chars l.rest) (map seen_token (drop l.token-index l.tokens))
       ≡ cut (chars l.literal) (map seen_token l.tokens);
 }

@@ -21,23 +21,23 @@ place-requires c =
     rw c.as_slice.ensures.value
     (kept-small (plain_world false 0 input c.width_of.result) (length input) _ _
     (c.in_ok-starts.ensures false) (length-plain_places 0 input)
-    (omega (arith, c.saturating_sub-kept.ensures, c.length_of.ensures)))
+    (omega (arith, c.saturating_sub-count.ensures, c.length_of.ensures)))
 
 pub returns-in_default : goal.returns-in_default
 returns-in_default c labels =
     let mode = seen_mode c.args.mode in
     let input = chars c.args.input.now in
-    let kept : c.saturating_sub-kept.result ≡ length (unappended c.args.appended_newline input) =
-    rw (c.saturating_sub-kept.ensures, c.length_of.ensures, c.from.ensures)
+    let kept : c.saturating_sub-count.result ≡ length (unappended c.args.appended_newline input) =
+    rw (c.saturating_sub-count.ensures, c.length_of.ensures, c.from.ensures)
     (kept-is c.args.appended_newline input) in
     let w = plain_world false 0 input (byte_length input) in
     let starts : c.as_slice.result.now ≡ starts_of w =
     c.as_slice.ensures.value ∙ (c.in_ok-starts.ensures false
     ∙ ap (λ e. starts_of (plain_world false 0 input e)) c.width_of.ensures) in
     plain-tokens mode input c.args.style (seen_text c.args.snippet) c.args.appended_newline
-    c.saturating_sub-kept.result _ kept c.in_default.ensures
+    c.saturating_sub-count.result _ kept c.in_default.ensures
     (c.in_ok-place.ensures w starts
-    ∙ (ap (λ l. map seen_token l ++ placed_sizes w (length w.places) c.saturating_sub-kept.result
+    ∙ (ap (λ l. map seen_token l ++ placed_sizes w (length w.places) c.saturating_sub-count.result
     (marked c.wants_names-names.result false (pairs c.args.labels.now)))
     c.in_ok-tokens.ensures.items
     ∙ rw (c.wants_names-names.ensures, labels) refl))

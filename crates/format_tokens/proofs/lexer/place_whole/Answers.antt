@@ -17,23 +17,23 @@ place-requires c =
     rw c.as_slice-starts.ensures.value
     (kept-small (world input c.args.style (Some literal) b) (length input) _ _
     c.in_ok-offsets.ensures (literal-places input c.args.style literal b c.requires.source)
-    (omega (arith, c.saturating_sub-kept.ensures, c.length_of.ensures)))
+    (omega (arith, c.saturating_sub-count.ensures, c.length_of.ensures)))
 
 pub returns : goal.returns
 returns c mode labels names =
     let input = chars c.args.input.now in
-    let kept : c.saturating_sub-kept.result ≡ length (unappended c.args.appended_newline input) =
-    rw (c.saturating_sub-kept.ensures, c.length_of.ensures, c.from.ensures)
+    let kept : c.saturating_sub-count.result ≡ length (unappended c.args.appended_newline input) =
+    rw (c.saturating_sub-count.ensures, c.length_of.ensures, c.from.ensures)
     (kept-is c.args.appended_newline input) in
     let literal = chars c.args.literal.now in
     let w = world input c.args.style (Some literal) c.args.appended_newline in
     let starts = c.as_slice-starts.ensures.value ∙ c.in_ok-offsets.ensures in
     let placed = c.in_ok-place.ensures w starts
     ∙ ap (λ l. map seen_token c.push.new.self.items
-    ++ placed_sizes w (length w.places) c.saturating_sub-kept.result l)
+    ++ placed_sizes w (length w.places) c.saturating_sub-count.result l)
     (ap (λ b. marked b false (pairs c.args.labels.now)) names
     ∙ ap (λ ls. marked (wants_names mode) false (pairs ls)) labels) in
     quoted-tokens mode input c.args.style literal c.args.appended_newline
-    c.saturating_sub-kept.result _ _ _ kept c.requires.source starts c.width_of.ensures
+    c.saturating_sub-count.result _ _ _ kept c.requires.source starts c.width_of.ensures
     (assembled _ _ _ _ _ _ _ c.in_ok-tokens.ensures.items
     c.in_ok-push.ensures.items placed c.in_ok-push-2.ensures.items)

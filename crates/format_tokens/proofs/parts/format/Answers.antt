@@ -45,7 +45,7 @@ returns c p n r h v =
     let kind : c.word_kind.result ≡ word_kind TypeKind (type_of p.type) =
     c.word_kind.ensures ∙ ap (λ (k : Spec (Unit {0})). word_kind TypeKind k.ty) v in
     let t7 = as_kind (type_part p.type).spelling kind
-    (c.in_ok-left.ensures (type_part p.type).spelling r (t6.leaves ∙ y.whole)
+    (c.in_ok-rest.ensures (type_part p.type).spelling r (t6.leaves ∙ y.whole)
     (c.type_width.ensures p.type (ap (λ (k : Spec (Unit {0})). k.debug_hex) v)
     (ap (λ (k : Spec (Unit {0})). k.ty) v))) in
     then t1 (then t2 (then t3 (then t4 (then t5 (then t6 t7)))))

@@ -5,14 +5,14 @@ use Rattle.format_tokens.proofs.Positions.{position-is, position-named, prefix_w
 use Rattle.format_tokens.proofs.parts.position.Goals as goal
 use Rattle.format_tokens.proofs.parts.position.Goals.{then-is_raw, else-is_raw}
 
-pub returns-in_ok-left-in-ArgumentIs : goal.returns-in_ok-left-in-ArgumentIs
-returns-in_ok-left-in-ArgumentIs c p n r h v =
+pub returns-in_ok-rest-in-ArgumentIs : goal.returns-in_ok-rest-in-ArgumentIs
+returns-in_ok-rest-in-ArgumentIs c p n r h v =
     position-is _ _ _ _ _ _ c.run_width.ensures
-    (rw c.integer_kind.ensures at c.in_ok-left-in-ArgumentIs.ensures) p n r h
+    (rw c.integer_kind.ensures at c.in_ok-rest-in-ArgumentIs.ensures) p n r h
     (sym (ap seen_position c.in-ArgumentIs.is) ∙ v)
 
-pub returns-in_ok-left-in-ArgumentNamed : goal.returns-in_ok-left-in-ArgumentNamed
-returns-in_ok-left-in-ArgumentNamed c p n r h v =
+pub returns-in_ok-rest-in-ArgumentNamed : goal.returns-in_ok-rest-in-ArgumentNamed
+returns-in_ok-rest-in-ArgumentNamed c p n r h v =
     let prefix : c.if-is_raw.prefix ≡ prefix_width
     (names_raw (chars c.args.text.now) (chars c.in-ArgumentNamed.name.now)) =
     elim c.if-is_raw.branch [
@@ -21,5 +21,5 @@ returns-in_ok-left-in-ArgumentNamed c p n r h v =
     ] in
     position-named _ _ _ _ _ _ _ _ _ prefix c.width_of.ensures
     c.in_ok-word-in-ArgumentNamed.ensures
-    (rw c.word_kind-kind.ensures at c.in_ok-left-in-ArgumentNamed.ensures) p n r h
+    (rw c.word_kind-kind.ensures at c.in_ok-rest-in-ArgumentNamed.ensures) p n r h
     (sym (ap seen_position c.in-ArgumentNamed.is) ∙ v)

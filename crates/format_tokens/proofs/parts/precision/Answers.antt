@@ -5,5 +5,5 @@ use Rattle.format_tokens.proofs.parts.precision.Goals as goal
 
 pub returns : goal.returns
 returns c = precision-takes _ _ _ _ _ _ _ _ (c.from.ensures ∙ ap from_bool c.begins.ensures)
-    c.in_ok-rest_after.ensures c.in_ok-left.ensures.count c.in_ok-left.ensures.star
-    c.in_ok-left.ensures.none
+    c.in_ok-rest_after.ensures c.in_ok-rest.ensures.count c.in_ok-rest.ensures.star
+    c.in_ok-rest.ensures.none

@@ -31,7 +31,7 @@ loop-argument-preserved c =
     let new = c.take_errors.ensures.state ∙ ap forgotten c.in_ok-piece.ensures.state in
     let some = some_chars _ c.loop-argument.invariant.0
     (sym c.is_empty.ensures ∙ c.loop-argument-test.true) in
-    let left = left_after _ _ _ _ _ _ _ _ _ h new c.saturating_sub-left.ensures
+    let left = left_after _ _ _ _ _ _ _ _ _ h new c.saturating_sub-width.ensures
     c.width_of.ensures c.position.ensures in (
       search rules,
       so_far-next _ _ _ _ _ c.in_ok-rest.rest.now _ _ h new some

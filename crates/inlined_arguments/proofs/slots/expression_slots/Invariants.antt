@@ -4,5 +4,5 @@ use Rattle.inlined_arguments.specs.Values.{kept}
 use Rattle.inlined_arguments.proofs.slots.expression_slots.Given as goal
 
 abbrev pub invariant-loop-slot : goal.invariant-loop-slot
-invariant-loop-slot l = map seen_slot l.kept.items
+invariant-loop-slot l = map seen_slot l.list.items
     ≡ kept (map seen_slot (take l.slot-index l.slots))

@@ -5,5 +5,5 @@ use Rattle.inlined_arguments.specs.Values.{given}
 use Rattle.inlined_arguments.proofs.slots.givens.Given as goal
 
 abbrev pub invariant-loop-slot : goal.invariant-loop-slot
-invariant-loop-slot l = map seen_given l.found.items
+invariant-loop-slot l = map seen_given l.arguments.items
     ≡ map given (map seen_slot (take l.slot-index l.slots))

@@ -4,4 +4,4 @@ use Rattle.listing_json.proofs.listing.used_by.Goals as goal
 pub returns : goal.returns
 unfolding pieces
 returns c = λ some. rw (← c.in_ok-pieces.ensures.walk.0, ← c.as_slice.ensures.value)
-    c.in_ok-used.ensures.uses
+    c.in_ok-uses.ensures.uses

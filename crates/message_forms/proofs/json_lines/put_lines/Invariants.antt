@@ -8,10 +8,10 @@ use Rattle.message_forms.specs.Texts.{array_text, json_text}
 use Rattle.message_forms.proofs.json_lines.put_lines.Given as goal
 
 -- The text written, and then that of the lines left, is all.
-abbrev pub invariant-loop-left : goal.invariant-loop-left
-invariant-loop-left l = shadow (Utf8 l.rest) × (string_bytes l.out
-    ++ array_text false (line_items l.left l.start l.to l.rest)
+abbrev pub invariant-loop-countdown : goal.invariant-loop-countdown
+invariant-loop-countdown l = shadow (Utf8 l.rest) × (string_bytes l.out
+    ++ array_text false (line_items l.countdown l.start l.to l.rest)
     ≡ string_bytes l.fn.out ++ json_text (array (line_items l.more l.from l.to l.lines)))
 
-abbrev pub decreases-loop-left : goal.decreases-loop-left
-decreases-loop-left l = l.left
+abbrev pub decreases-loop-countdown : goal.decreases-loop-countdown
+decreases-loop-countdown l = l.countdown

@@ -10,8 +10,8 @@ use Rattle.piece_listing.proofs.calls.put_calls.Given as goal
 
 -- The lines and the uses of some pieces have been added, and these with the ones that follow are
 -- all.
-abbrev pub invariant-loop-taken : goal.invariant-loop-taken
-invariant-loop-taken l = record {
+abbrev pub invariant-loop-piece : goal.invariant-loop-piece
+invariant-loop-piece l = record {
   done : List (Piece Place);
   world : l.parser.world ≡ l.fn.parser.world;
   pieces : done ++ pieces_in l.fn.parser.world (pieces_of (calls l.parser))
@@ -23,5 +23,5 @@ invariant-loop-taken l = record {
   state : after_all l.parser (calls l.parser) ≡ after_all l.fn.parser (calls l.fn.parser);
 }
 
-abbrev pub decreases-loop-taken : goal.decreases-loop-taken
-decreases-loop-taken l = length l.parser.rest
+abbrev pub decreases-loop-piece : goal.decreases-loop-piece
+decreases-loop-piece l = length l.parser.rest

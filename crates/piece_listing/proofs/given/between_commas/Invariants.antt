@@ -9,7 +9,7 @@ use Rattle.piece_listing.proofs.given.between_commas.Given as goal
 abbrev pub invariant-loop-name : goal.invariant-loop-name
 invariant-loop-name l = record {
   is_text : shadow (Utf8 l.rest);
-  names : texts l.found.items ++ map chars (parts l.rest) ≡ map chars (parts l.fn.text);
+  names : texts l.names.items ++ map chars (parts l.rest) ≡ map chars (parts l.fn.text);
 }
 
 abbrev pub decreases-loop-name : goal.decreases-loop-name

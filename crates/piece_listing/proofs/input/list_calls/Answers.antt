@@ -29,5 +29,5 @@ returns-clause-lines c =
     c.in_ok-has_ends.ensures.has_ends ∙ ap (λ ms. nat_lt 0 (length ms) || has_entries r) errors in
     let held = λ (some : IsSome c.args.arguments).
     let given : IsTrue c.is_some.result = search rules in
-    c.in_ok-put_calls.ensures.used given [] c.new-used.ensures.holds in
+    c.in_ok-put_calls.ensures.used given [] c.new-uses.ensures.holds in
     (r, c.in_ok-report.ensures.report ps held, rw (lines, has_ends) refl)

@@ -9,7 +9,7 @@ loop-token-preserved c ls l =
     let x = leaf c.in-Some.token in
     subst (AreLeft c.new-rest.result)
     (sym (ap (λ t. t ++ ls) (map-push leaf _ _ _ x c.in_ok-push.ensures.items refl)
-    ∙ append_assoc (map leaf c.loop-token.found.items) (x ∷ []) ls))
+    ∙ append_assoc (map leaf c.loop-token.tokens.items) (x ∷ []) ls))
     (c.loop-token.invariant (x ∷ ls) (c.in-Some.ensures.some ls l))
 
 pub returns : goal.returns

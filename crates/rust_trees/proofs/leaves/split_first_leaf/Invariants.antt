@@ -6,11 +6,11 @@ use Rattle.rust_trees.proofs.leaves.split_first_leaf.Given as goal
 
 abbrev pub invariant-loop-token : goal.invariant-loop-token
 invariant-loop-token l = record {
-  left : (ls : List Leaf) → AreLeft (record { whole = l.text; rest = l.left }) ls
+  left : (ls : List Leaf) → AreLeft (record { whole = l.text; rest = l.tail }) ls
       → AreLeft (record { whole = l.text; rest = l.rest }) ls;
-  within : length l.left ≤ length l.rest;
-  utf8 : shadow (Utf8 l.left);
+  within : length l.tail ≤ length l.rest;
+  utf8 : shadow (Utf8 l.tail);
 }
 
 abbrev pub decreases-loop-token : goal.decreases-loop-token
-decreases-loop-token l = length l.left
+decreases-loop-token l = length l.tail

@@ -5,5 +5,5 @@ use Rattle.source_lint.specs.Givens.{given}
 use Rattle.source_lint.proofs.givens.givens.Given as goal
 
 abbrev pub invariant-loop-argument : goal.invariant-loop-argument
-invariant-loop-argument l = map seen_given l.found.items
+invariant-loop-argument l = map seen_given l.list.items
     ≡ map (given (map leaf l.tokens)) (take l.argument-index l.arguments)

@@ -11,7 +11,7 @@ use Rattle.source_lint.proofs.labels.edits.Goals as goal
 
 pub loop-edit-preserved : goal.loop-edit-preserved
 loop-edit-preserved c =
-    let old = c.loop-edit.found.items in
+    let old = c.loop-edit.list.items in
     let new : FileEdit = record { range = c.spot_range-range.result; text = c.in_ok-text.text } in
     let seen = map-append seen_edit c.loop-edit.yielded (c.in-Some.edit ∷ []) in
     let before = map seen_edit c.loop-edit.yielded in

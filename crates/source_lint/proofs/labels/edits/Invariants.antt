@@ -7,6 +7,6 @@ use Rattle.source_lint.proofs.labels.edits.Given as goal
 
 abbrev pub invariant-loop-edit : goal.invariant-loop-edit
 invariant-loop-edit l = record {
-  outcome : TellEdits (map seen_edit l.yielded) l.found.items;
-  spans : All (λ x. IsSpan l.site.text.now x.range) l.found.items;
+  outcome : TellEdits (map seen_edit l.yielded) l.list.items;
+  spans : All (λ x. IsSpan l.site.text.now x.range) l.list.items;
 }

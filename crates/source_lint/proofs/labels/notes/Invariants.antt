@@ -7,9 +7,9 @@ use Rattle.source_lint.proofs.labels.notes.Given as goal
 
 abbrev pub invariant-loop-note : goal.invariant-loop-note
 invariant-loop-note l = record {
-  texts : map (λ x. string_bytes x.text) l.found.items
+  texts : map (λ x. string_bytes x.text) l.list.items
       ≡ map (λ n. n.text) (map seen_note l.yielded);
-  counts : map (λ x. length x.ranges.items) l.found.items
+  counts : map (λ x. length x.ranges.items) l.list.items
       ≡ map (λ n. length n.spots) (map seen_note l.yielded);
-  spans : All (λ x. All (λ r. IsSpan l.site.text.now r) x.ranges.items) l.found.items;
+  spans : All (λ x. All (λ r. IsSpan l.site.text.now r) x.ranges.items) l.list.items;
 }

@@ -5,6 +5,6 @@ use Rattle.source_lint.proofs.labels.ranges.Given as goal
 
 abbrev pub invariant-loop-spot : goal.invariant-loop-spot
 invariant-loop-spot l = record {
-  count : length l.found.items ≡ l.spot-index;
-  spans : All (λ r. IsSpan l.site.text.now r) l.found.items;
+  count : length l.ranges.items ≡ l.spot-index;
+  spans : All (λ r. IsSpan l.site.text.now r) l.ranges.items;
 }

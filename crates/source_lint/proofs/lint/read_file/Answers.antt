@@ -4,8 +4,8 @@ use Rattle.source_lint.proofs.Joining.{file-all, file-more, file-none, of-calls}
 use Rattle.source_lint.proofs.MovedReadings.{reads-move}
 use Rattle.source_lint.proofs.lint.read_file.Goals as goal
 
-pub loop-found-init : goal.loop-found-init
-loop-found-init c = record {
+pub loop-readings-init : goal.loop-readings-init
+loop-readings-init c = record {
   read = file-none _ _ _ _ _ _ c.new.ensures.items c.new-2.ensures.items;
   spans = search rules;
 }
@@ -15,21 +15,21 @@ read_calls-requires c = λ d h.
     (((rw c.source.ensures at c.in_ok-calls.ensures.each) d).0
     (subst (λ v. Contains v d) c.deref.ensures.value h)).is_pair
 
-pub loop-found-preserved : goal.loop-found-preserved
-loop-found-preserved c =
+pub loop-readings-preserved : goal.loop-readings-preserved
+loop-readings-preserved c =
     let p = rw c.in-Some.is at c.in_ok-source.ensures.some in
     let each = rw (c.source.ensures, c.in_ok-part.ensures) at c.in_ok-calls.ensures.each in
     let order = rw (c.source.ensures, c.in_ok-part.ensures) at c.in_ok-calls.ensures.in_order in
     let r = rw (c.in_ok-part.ensures, c.deref.ensures.value) at c.in_ok-read_calls.ensures.read in
     record {
-      read = file-more _ _ _ _ _ _ _ _ _ _ _ _ _ c.loop-found.invariant.read p
+      read = file-more _ _ _ _ _ _ _ _ _ _ _ _ _ c.loop-readings.invariant.read p
           (of-calls _ _ _ _ _ _ _ _ each order r);
-      spans = c.in_ok-read_calls.ensures.spans c.loop-found.invariant.spans;
+      spans = c.in_ok-read_calls.ensures.spans c.loop-readings.invariant.spans;
     }
 
 pub returns-clause-read : goal.returns-clause-read
 returns-clause-read c =
     let n = (rw c.in_default.is at c.in_ok-source.ensures.none) refl in
     let f = file-all _ _ _ _ _ _ _ _ c.next_part.new.balance (reads-move _ _)
-    c.loop-found.invariant.read n in
+    c.loop-readings.invariant.read n in
     (f.0, c.new-rest.ensures.left f.0 f.1, f.2, f.3)

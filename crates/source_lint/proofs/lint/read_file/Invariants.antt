@@ -6,13 +6,13 @@ use Rattle.source_lint.specs.Readings.{Reads, scope}
 use Rattle.source_lint.proofs.Joining.{FileGiving}
 use Rattle.source_lint.proofs.lint.read_file.Given as goal
 
-abbrev pub invariant-loop-found : goal.invariant-loop-found
-invariant-loop-found l = record {
+abbrev pub invariant-loop-readings : goal.invariant-loop-readings
+invariant-loop-readings l = record {
   read : FileGiving (Reads (scope l.file) l.file.is_from_2021) (map entry l.table.rows.items)
-      l.initial.rest l.rest l.found.calls.items l.found.findings.items l.initial.balance
+      l.initial.rest l.rest l.readings.calls.items l.readings.findings.items l.initial.balance
       l.balance;
-  spans : All (HasSpans l.file.text.now) l.found.findings.items;
+  spans : All (HasSpans l.file.text.now) l.readings.findings.items;
 }
 
-abbrev pub decreases-loop-found : goal.decreases-loop-found
-decreases-loop-found l = length l.rest.rest
+abbrev pub decreases-loop-readings : goal.decreases-loop-readings
+decreases-loop-readings l = length l.rest.rest

@@ -13,12 +13,12 @@ returns-then-not-contains c =
     (λ h. false≢true (sym c.if-not-contains.true ∙ found.1 h)) in (
       d.0,
       d.1,
-      λ n. ap (λ v. has (map (λ w. w.now) v) n) c.new-found.ensures.empty
+      λ n. ap (λ v. has (map (λ w. w.now) v) n) c.new-names.ensures.empty
           ∙ ap (λ v. has v n) (sym d.2),
     )
 
 pub loop-token-init : goal.loop-token-init
-loop-token-init c = defines-none _ _ (ap (λ v. map (λ w. w.now) v) c.new-found.ensures.empty)
+loop-token-init c = defines-none _ _ (ap (λ v. map (λ w. w.now) v) c.new-names.ensures.empty)
 
 pub loop-token-preserved : goal.loop-token-preserved
 loop-token-preserved c =

@@ -32,7 +32,7 @@ returns-clause-read c =
     (ap chars c.as_str-snippet.ensures.value ∙ r.snippet) in
     let given : map seen_given c.as_slice-list.result.now ≡ counted_givens c.args.is_counted
     (map (given (map leaf c.args.site.tokens.now)) c.args.site.arguments.now) =
-    ap (map seen_given) c.as_slice-list.ensures.value ∙ c.in_ok-given.ensures in (
+    ap (map seen_given) c.as_slice-list.ensures.value ∙ c.in_ok-arguments.ensures in (
       t.0,
       t.1,
       inr (

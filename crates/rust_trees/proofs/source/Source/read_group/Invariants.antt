@@ -5,7 +5,7 @@ use Rattle.rust_trees.proofs.source.Source.read_group.Given as goal
 
 abbrev pub invariant-loop-token : goal.invariant-loop-token
 invariant-loop-token l = record {
-  matched : IsMatched (map leaf l.tokens.items) l.found;
+  matched : IsMatched (map leaf l.tokens.items) l.matching;
   file : l.rest.whole ≡ l.initial.rest.whole;
   fewer : length l.rest.rest ≤ length l.initial.rest.rest;
   joins : (more : List Leaf) × (map leaf l.tokens.items ≡ map leaf l.front ++ more)
