@@ -60,11 +60,11 @@ fn push_unmarked(
 /// own.
 #[inline]
 fn unmarked_operands(slots: &[Operand<'_>], marks: &[bool]) -> Result<Vec<usize>, AllocError> {
-    let mut left = Vec::new();
+    let mut indices = Vec::new();
     for (index, slot) in slots.iter().enumerate() {
-        push_unmarked(&mut left, marks, index, slot)?;
+        push_unmarked(&mut indices, marks, index, slot)?;
     }
-    Ok(left)
+    Ok(indices)
 }
 
 /// Returns the fault of a lookup, or `None` if there is none, where so many operands have neither a

@@ -68,39 +68,39 @@ fn asm_range(site: AsmSite<'_, '_>, spot: AsmSpot) -> Range<usize> {
 /// Returns labels with their ranges.
 #[inline]
 fn labels(site: AsmSite<'_, '_>, labels: Vec<AsmLabel>) -> Result<Vec<Label>, AllocError> {
-    let mut found = Vec::new();
+    let mut list = Vec::new();
     for label in labels {
-        found.try_push(Label {
+        list.try_push(Label {
             range: asm_range(site, label.spot),
             is_primary: label.is_primary,
             text: label.text,
         })?;
     }
-    Ok(found)
+    Ok(list)
 }
 
 /// Returns the range of a place, if there is one.
 #[inline]
 fn ranges(site: AsmSite<'_, '_>, spot: Option<AsmSpot>) -> Result<Vec<Range<usize>>, AllocError> {
-    let mut found = Vec::new();
+    let mut ranges = Vec::new();
     if let Some(spot) = spot {
-        found.try_push(asm_range(site, spot))?;
+        ranges.try_push(asm_range(site, spot))?;
     }
-    Ok(found)
+    Ok(ranges)
 }
 
 /// Returns notes with the ranges that they show.
 #[inline]
 fn notes(site: AsmSite<'_, '_>, notes: Vec<AsmNote>) -> Result<Vec<Note>, AllocError> {
-    let mut found = Vec::new();
+    let mut list = Vec::new();
     for note in notes {
         let ranges = ranges(site, note.spot)?;
-        found.try_push(Note {
+        list.try_push(Note {
             text: note.text,
             ranges,
         })?;
     }
-    Ok(found)
+    Ok(list)
 }
 
 /// Returns a help, which has no edits. Does not allocate.

@@ -72,16 +72,16 @@ fn add<'a>(
 /// Returns the arguments after the templates.
 #[inline]
 fn operands_of<'a>(part: &Part<'a>, arguments: &[Argument]) -> Result<Operands<'a>, AllocError> {
-    let mut found = Operands {
+    let mut operands = Operands {
         list: Vec::new(),
         arguments: Vec::new(),
         are_raw: false,
         is_unknown: false,
     };
     for argument in arguments {
-        add(&mut found, part, argument)?;
+        add(&mut operands, part, argument)?;
     }
-    Ok(found)
+    Ok(operands)
 }
 
 /// Returns the first token of an argument, which is there.
@@ -116,28 +116,28 @@ fn read_templates<'a>(
     tokens: &[Token<'a>],
     arguments: &[Argument],
 ) -> Result<Option<Vec<Read<'a>>>, AllocError> {
-    let mut found = Vec::new();
+    let mut templates = Vec::new();
     for argument in arguments {
         match read_template(tokens, argument)? {
-            Some(template) => found.try_push(template)?,
+            Some(template) => templates.try_push(template)?,
             None => return Ok(None),
         }
     }
-    Ok(Some(found))
+    Ok(Some(templates))
 }
 
 /// Returns templates as placeholders are read in them.
 #[inline]
 fn templates_of<'c>(read: &'c [Read<'_>]) -> Result<Vec<Template<'c>>, AllocError> {
-    let mut found = Vec::new();
+    let mut templates = Vec::new();
     for template in read {
-        found.try_push(Template {
+        templates.try_push(Template {
             text: template.literal.text.as_str(),
             style: template.literal.style,
             snippet: Some(template.literal.snippet.as_str()),
         })?;
     }
-    Ok(found)
+    Ok(templates)
 }
 
 /// Checks a call with these templates and operands, and adds its findings.

@@ -156,15 +156,15 @@ fn read_texts<'a>(
 /// Returns the literals of the options that count, in their order.
 #[inline]
 fn literals<'a>(tokens: &[Token<'a>], options: &[Argument]) -> Result<Vec<Token<'a>>, AllocError> {
-    let mut found = Vec::new();
+    let mut literals = Vec::new();
     let mut has_message = false;
     let mut has_label = false;
     for option in options {
-        put_literal(&mut found, tokens, has_message, has_label, option)?;
+        put_literal(&mut literals, tokens, has_message, has_label, option)?;
         has_message = has_message || sets(tokens, option, "message");
         has_label = has_label || sets(tokens, option, "label");
     }
-    Ok(found)
+    Ok(literals)
 }
 
 /// Reads the attribute of a trait that stands at a token, if one does, and adds its findings.

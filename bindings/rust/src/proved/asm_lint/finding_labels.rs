@@ -13,15 +13,15 @@ use core::ops::Range;
 /// Returns labels of a call with their ranges.
 #[inline]
 pub fn labels(site: Site<'_, '_>, labels: Vec<CallLabel>) -> Result<Vec<Label>, AllocError> {
-    let mut found = Vec::new();
+    let mut list = Vec::new();
     for label in labels {
-        found.try_push(Label {
+        list.try_push(Label {
             range: spot_range(site, label.spot),
             is_primary: label.is_primary,
             text: label.text,
         })?;
     }
-    Ok(found)
+    Ok(list)
 }
 
 /// Returns the range of the primary label that comes first in the file, or an empty one if there is

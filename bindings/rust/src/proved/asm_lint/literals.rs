@@ -83,19 +83,19 @@ pub fn read_literal(token: &str, appended_newline: bool) -> Result<Option<Litera
 /// the byte offset in that literal of the LF after it, in ascending order.
 #[inline]
 pub fn dropped_crs(token: &str) -> Result<Vec<usize>, AllocError> {
-    let mut found = Vec::new();
+    let mut offsets = Vec::new();
     if !token.contains('\r') {
-        return Ok(found);
+        return Ok(offsets);
     }
     let mut rest = token;
     while let Some((c, more)) = split_first(rest) {
         if is_dropped(c, more) {
             let passed = token.len().saturating_sub(rest.len());
-            found.try_push(passed.saturating_sub(found.len()))?;
+            offsets.try_push(passed.saturating_sub(offsets.len()))?;
         }
         rest = more;
     }
-    Ok(found)
+    Ok(offsets)
 }
 
 /// Returns the byte offset in a token of a byte offset in its literal with lines that end with LF,

@@ -112,9 +112,9 @@ fn is_late<'a>(arguments: &Arguments<'a>, argument: &FormatArgument<'a>) -> bool
 #[inline]
 fn named_of(list: &[Kept<'_>]) -> Result<Vec<usize>, AllocError> {
     let mut named = Vec::new();
-    for kept in list {
-        if kept.argument.name.is_some() {
-            named.try_push(kept.index)?;
+    for entry in list {
+        if entry.argument.name.is_some() {
+            named.try_push(entry.index)?;
         }
     }
     Ok(named)

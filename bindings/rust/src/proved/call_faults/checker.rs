@@ -36,7 +36,7 @@ pub struct CallReport<'a> {
     pub arguments: &'a [FormatArgument<'a>],
     /// The indices of the arguments that count: of those whose name is not that of an earlier one.
     /// Empty if an argument without a name after one with a name ended the check.
-    pub kept: Vec<usize>,
+    pub indices: Vec<usize>,
     /// The pieces of the format string.
     pub pieces: Vec<Piece<'a>>,
     /// Of each piece, how many placeholders stand before it.
@@ -72,20 +72,20 @@ fn fault_of<'a>(string: FormatString<'a>) -> Result<Option<Fault<'a>>, AllocErro
 }
 
 /// Returns the faults of a call whose format string has these pieces, and puts the indices of
-/// the arguments that count into `kept`. `is_read` is whether the string is in the grammar.
+/// the arguments that count into `indices`. `is_read` is whether the string is in the grammar.
 #[inline]
 fn faults_of<'a>(
     string: FormatString<'a>,
     is_read: bool,
     pieces: &[Piece<'a>],
     call_arguments: &[FormatArgument<'a>],
-    kept: &mut Vec<usize>,
+    indices: &mut Vec<usize>,
 ) -> Result<Vec<CallFault<'a>>, AllocError> {
     let mut faults = Vec::new();
     let Some(mut arguments) = arguments_of(&mut faults, call_arguments)? else {
         return Ok(faults);
     };
-    *kept = indices_of(&arguments.list)?;
+    *indices = indices_of(&arguments.list)?;
     if !is_read {
         if let Some(fault) = fault_of(string)? {
             faults.try_push(CallFault::Text(fault))?;
@@ -122,12 +122,12 @@ pub fn call_faults<'a>(
         ParseMode::Format,
     )?;
     let is_read = parser.errors().is_empty();
-    let mut kept = Vec::new();
-    let faults = faults_of(string, is_read, &pieces, arguments, &mut kept)?;
+    let mut indices = Vec::new();
+    let faults = faults_of(string, is_read, &pieces, arguments, &mut indices)?;
     let counts = counts_before(&pieces)?;
     Ok(CallReport {
         arguments,
-        kept,
+        indices,
         pieces,
         counts,
         parser,

@@ -14,7 +14,7 @@ use alloc::collections::BTreeMap;
 #[inline]
 fn meant<'a>(arguments: &Arguments<'a>, lookup: &Lookup<'a>) -> Option<usize> {
     match *lookup {
-        Lookup::Refer(_, Wanted::Index(n)) => arguments.list.get(n).map(|kept| kept.index),
+        Lookup::Refer(_, Wanted::Index(n)) => arguments.list.get(n).map(|entry| entry.index),
         Lookup::Refer(_, Wanted::Name(name)) => index_of(&arguments.indices, name),
         Lookup::NoTrait(..) => None,
     }
@@ -67,13 +67,13 @@ fn unmarked_arguments<'a>(
     arguments: &[Kept<'a>],
     marks: &[bool],
 ) -> Result<Vec<Kept<'a>>, AllocError> {
-    let mut left = Vec::new();
-    for kept in arguments {
-        if !matches!(marks.get(kept.index), Some(true)) {
-            left.try_push(*kept)?;
+    let mut list = Vec::new();
+    for entry in arguments {
+        if !matches!(marks.get(entry.index), Some(true)) {
+            list.try_push(*entry)?;
         }
     }
-    Ok(left)
+    Ok(list)
 }
 
 /// Adds the fault of a lookup: of a trait that does not exist, or of a name that no variable is
@@ -139,8 +139,8 @@ fn positions_of<'a>(lookups: &[Lookup<'a>]) -> Result<BTreeMap<&'a str, usize>, 
 
 /// Returns whether an argument has no name, and is a variable whose name a map has.
 #[inline]
-fn is_redundant<'a>(positions: &BTreeMap<&'a str, usize>, kept: &Kept<'a>) -> bool {
-    match (kept.argument.name, kept.argument.variable) {
+fn is_redundant<'a>(positions: &BTreeMap<&'a str, usize>, entry: &Kept<'a>) -> bool {
+    match (entry.argument.name, entry.argument.variable) {
         (None, Some(variable)) => index_of(positions, variable).is_some(),
         _ => false,
     }
@@ -154,9 +154,9 @@ fn redundant_of<'a>(unused: &[Kept<'a>], lookups: &[Lookup<'a>]) -> Result<Vec<u
         return Ok(redundant);
     }
     let positions = positions_of(lookups)?;
-    for kept in unused {
-        if is_redundant(&positions, kept) {
-            redundant.try_push(kept.index)?;
+    for entry in unused {
+        if is_redundant(&positions, entry) {
+            redundant.try_push(entry.index)?;
         }
     }
     Ok(redundant)
@@ -166,8 +166,8 @@ fn redundant_of<'a>(unused: &[Kept<'a>], lookups: &[Lookup<'a>]) -> Result<Vec<u
 #[inline]
 pub(crate) fn indices_of(arguments: &[Kept<'_>]) -> Result<Vec<usize>, AllocError> {
     let mut indices = Vec::new();
-    for kept in arguments {
-        indices.try_push(kept.index)?;
+    for entry in arguments {
+        indices.try_push(entry.index)?;
     }
     Ok(indices)
 }
@@ -196,9 +196,9 @@ fn tell_unused<'a>(
 fn by_index<'a>(arguments: &[Kept<'a>], lookup: &Lookup<'a>) -> Option<CallFault<'a>> {
     match *lookup {
         Lookup::Refer(reference, Wanted::Index(n)) => match arguments.get(n) {
-            Some(kept) if kept.argument.name.is_some() => Some(CallFault::NameUsedByIndex {
+            Some(entry) if entry.argument.name.is_some() => Some(CallFault::NameUsedByIndex {
                 reference,
-                index: kept.index,
+                index: entry.index,
             }),
             _ => None,
         },
@@ -247,14 +247,14 @@ pub(crate) fn compare<'a>(
     lookups: &[Lookup<'a>],
 ) -> Result<(), AllocError> {
     let marks = marks(arguments, count, lookups)?;
-    let left = unmarked_arguments(&arguments.list, &marks)?;
+    let rest = unmarked_arguments(&arguments.list, &marks)?;
     let missing = references_from(arguments.list.len(), lookups)?;
-    let mut found = Vec::new();
-    look_up(&mut found, &mut arguments.indices, captures, lookups)?;
-    let is_settled = is_settled(&found, &missing, &left);
-    faults.try_append(&mut found)?;
+    let mut list = Vec::new();
+    look_up(&mut list, &mut arguments.indices, captures, lookups)?;
+    let is_settled = is_settled(&list, &missing, &rest);
+    faults.try_append(&mut list)?;
     tell_missing(faults, missing)?;
-    tell_unused(faults, &left, lookups)?;
+    tell_unused(faults, &rest, lookups)?;
     if !is_settled {
         return Ok(());
     }

@@ -38,10 +38,10 @@ fn single(text: String, spot: Spot, new: String) -> Result<CallHelp, AllocError>
 /// Adds this many placeholders.
 #[inline]
 fn put_placeholders(out: &mut String, count: usize) -> Result<(), AllocError> {
-    let mut left = count;
-    while left > 0 {
+    let mut countdown = count;
+    while countdown > 0 {
         out.try_push_str("{}")?;
-        left -= 1;
+        countdown -= 1;
     }
     Ok(())
 }
@@ -49,7 +49,7 @@ fn put_placeholders(out: &mut String, count: usize) -> Result<(), AllocError> {
 /// Returns the help for so many unused arguments, or `None` if there is none.
 #[inline]
 fn unused_help(call: &CallReport<'_>, count: usize) -> Result<Option<CallHelp>, AllocError> {
-    if are_missing(&call.faults) || count != call.kept.len() {
+    if are_missing(&call.faults) || count != call.indices.len() {
         return Ok(None);
     }
     let says = "format specifiers use curly braces, consider adding ";
@@ -191,8 +191,8 @@ fn positional_help(
 
 /// Returns the help for `=` after an argument, or `None` unless one argument counts.
 #[inline]
-fn debug_help(kept: &[usize]) -> Result<Option<CallHelp>, AllocError> {
-    let [index] = kept else {
+fn debug_help(indices: &[usize]) -> Result<Option<CallHelp>, AllocError> {
+    let [index] = indices else {
         return Ok(None);
     };
     let text = String::made_from("use rust debug printing macro")?;
@@ -220,7 +220,7 @@ fn text_help(call: &CallReport<'_>, fault: &Fault<'_>) -> Result<Option<CallHelp
             let help = positional_help(call.arguments, &error.span)?;
             Ok(Some(help))
         }
-        Suggestion::UseRustDebugPrintingMacro => debug_help(&call.kept),
+        Suggestion::UseRustDebugPrintingMacro => debug_help(&call.indices),
         Suggestion::None | Suggestion::RemoveRawIdent(_) | Suggestion::AddMissingColon(_) => {
             Ok(None)
         }

@@ -72,10 +72,10 @@ fn push_nexts(
     pieces: &[Piece<'_>],
     places: &[Range<usize>],
 ) -> Result<(), AllocError> {
-    let mut left = places;
+    let mut rest = places;
     for piece in pieces {
-        push_next(labels, piece, left)?;
-        left = rest_after(piece, left);
+        push_next(labels, piece, rest)?;
+        rest = rest_after(piece, rest);
     }
     Ok(())
 }
@@ -156,7 +156,7 @@ fn push_stars(
 #[inline]
 pub(crate) fn few_labels(call: &CallReport<'_>) -> Result<Vec<CallLabel>, AllocError> {
     let mut labels = Vec::new();
-    push_values(&mut labels, &call.kept)?;
+    push_values(&mut labels, &call.indices)?;
     push_stars(&mut labels, call.parser.curarg(), &call.pieces)?;
     push_nexts(&mut labels, &call.pieces, call.parser.arg_places())?;
     Ok(labels)

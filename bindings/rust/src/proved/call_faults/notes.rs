@@ -195,7 +195,7 @@ fn push_unused(
     call: &CallReport<'_>,
     count: usize,
 ) -> Result<(), AllocError> {
-    if are_missing(&call.faults) || count == call.kept.len() || count <= 1 {
+    if are_missing(&call.faults) || count == call.indices.len() || count <= 1 {
         return Ok(());
     }
     let mut text = String::made_from("consider adding ")?;

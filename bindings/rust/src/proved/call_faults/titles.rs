@@ -231,7 +231,7 @@ fn put_text_title(out: &mut String, fault: &Fault<'_>) -> Result<(), AllocError>
 /// Adds the title of missing arguments.
 #[inline]
 fn put_missing(out: &mut String, call: &CallReport<'_>) -> Result<(), AllocError> {
-    let count = call.kept.len();
+    let count = call.indices.len();
     if have_numbers(&call.pieces) {
         let report = check(&call.pieces, count, &[])?;
         put_numbers_title(out, &report.missing_index, count)?;

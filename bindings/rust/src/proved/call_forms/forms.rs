@@ -29,7 +29,7 @@ pub enum Form<'a> {
         /// The tokens that rustc expects.
         expected: Expected,
         /// The token that stands there.
-        found: Operator<'a>,
+        operator: Operator<'a>,
     },
     /// No operand stands before this operator, with which an argument begins.
     NoOperand(Operator<'a>),
@@ -106,8 +106,8 @@ fn first_bad(part: &Part<'_>, arguments: &[Argument]) -> Option<usize> {
 
 /// Returns the fault that no comma stands before a token, where rustc expects these tokens.
 #[inline]
-fn no_comma(expected: Expected, found: Operator<'_>) -> Form<'_> {
-    Form::NoComma { expected, found }
+fn no_comma(expected: Expected, operator: Operator<'_>) -> Form<'_> {
+    Form::NoComma { expected, operator }
 }
 
 /// Returns what is wrong with an argument in which the operand with an index stands right after
@@ -117,13 +117,13 @@ fn joined_form<'a>(tokens: &[Token<'a>], index: usize, is_string: bool) -> Optio
     if !is_string && are_unknown(tokens) {
         return None;
     }
-    let Some(found) = operator_at(tokens, index) else {
+    let Some(operator) = operator_at(tokens, index) else {
         return None;
     };
     if is_string {
-        Some(no_comma(Expected::Comma, found))
+        Some(no_comma(Expected::Comma, operator))
     } else {
-        Some(no_comma(expected_at(tokens, index), found))
+        Some(no_comma(expected_at(tokens, index), operator))
     }
 }
 
@@ -132,7 +132,7 @@ fn joined_form<'a>(tokens: &[Token<'a>], index: usize, is_string: bool) -> Optio
 #[inline]
 fn operand_form<'a>(tokens: &[Token<'a>]) -> Option<Form<'a>> {
     match operator_at(tokens, 0) {
-        Some(found) => Some(Form::NoOperand(found)),
+        Some(operator) => Some(Form::NoOperand(operator)),
         None => None,
     }
 }
@@ -198,7 +198,7 @@ fn starts_well(bad: Option<usize>, index: usize) -> bool {
 #[inline]
 fn comma_form<'a>(tokens: &[Token<'a>]) -> Option<Form<'a>> {
     match operator_at(tokens, 1) {
-        Some(found) => Some(no_comma(Expected::Comma, found)),
+        Some(operator) => Some(no_comma(Expected::Comma, operator)),
         None => None,
     }
 }

@@ -117,9 +117,9 @@ fn put_parameter<'a>(
 /// list does.
 #[inline]
 pub fn parameters<'a>(tokens: &[Token<'a>], index: usize) -> Result<Vec<&'a str>, AllocError> {
-    let mut found = Vec::new();
+    let mut names = Vec::new();
     if !is_mark(tokens, index, b'<') {
-        return Ok(found);
+        return Ok(names);
     }
     let mut place = Place {
         angles: 1,
@@ -129,10 +129,10 @@ pub fn parameters<'a>(tokens: &[Token<'a>], index: usize) -> Result<Vec<&'a str>
     };
     for token in &tokens[index + 1..] {
         if place.angles == 0 {
-            return Ok(found);
+            return Ok(names);
         }
-        put_parameter(&mut found, place, token)?;
+        put_parameter(&mut names, place, token)?;
         place = place_after(place, token);
     }
-    Ok(found)
+    Ok(names)
 }

@@ -54,14 +54,14 @@ fn cells_of(text: &str) -> Result<usize, AllocError> {
 /// Returns whether parts have so many bytes.
 #[inline]
 fn have_bytes(count: usize, parts: &[Part<'_>]) -> bool {
-    let mut left = count;
+    let mut countdown = count;
     for part in parts {
-        if left < part.text.len() {
+        if countdown < part.text.len() {
             return false;
         }
-        left -= part.text.len();
+        countdown -= part.text.len();
     }
-    left == 0
+    countdown == 0
 }
 
 /// Returns the sign of a changed line, or `None` if it has none.

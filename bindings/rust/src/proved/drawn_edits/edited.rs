@@ -57,12 +57,12 @@ pub struct Line<'a> {
 #[inline]
 pub fn split_within(text: &str, width: usize) -> (&str, &str) {
     let mut rest = text;
-    let mut left = width;
+    let mut countdown = width;
     while let Some((c, tail)) = split_first(rest) {
-        if left < c.len_utf8() {
+        if countdown < c.len_utf8() {
             break;
         }
-        left -= c.len_utf8();
+        countdown -= c.len_utf8();
         rest = tail;
     }
     text.split_at(text.len() - rest.len())

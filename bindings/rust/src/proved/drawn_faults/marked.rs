@@ -106,11 +106,11 @@ fn earlier(first: Option<Spot>, label: &Label<'_>) -> Option<Spot> {
 /// without one.
 #[inline]
 pub fn first_spot(labels: &[Label<'_>]) -> Spot {
-    let mut found = None;
+    let mut spot = None;
     for label in labels {
-        found = earlier(found, label);
+        spot = earlier(spot, label);
     }
-    found.unwrap_or(ORIGIN)
+    spot.unwrap_or(ORIGIN)
 }
 
 /// Returns labels in the lines in which they begin, in the order in which they are drawn.

@@ -70,11 +70,11 @@ pub fn put_run_at(
     cell: Cell,
 ) -> Result<usize, AllocError> {
     let mut column = from;
-    let mut left = count;
-    while left > 0 {
+    let mut countdown = count;
+    while countdown > 0 {
         put_at(row, column, cell)?;
         column += 1;
-        left -= 1;
+        countdown -= 1;
     }
     Ok(column)
 }

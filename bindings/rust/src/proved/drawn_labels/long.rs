@@ -73,11 +73,11 @@ fn is_bare_line(frame: &Frame<'_>, number: usize) -> bool {
 /// Returns how many of the lines after a line are left without the bare ones at their end.
 #[inline]
 fn without_bare(frame: &Frame<'_>, first: usize, count: usize) -> usize {
-    let mut left = count;
-    while left > 0 && is_bare_line(frame, first + left) {
-        left -= 1;
+    let mut lines = count;
+    while lines > 0 && is_bare_line(frame, first + lines) {
+        lines -= 1;
     }
-    left
+    lines
 }
 
 /// Adds a line of the source at the right of a sign of the label.

@@ -111,11 +111,11 @@ fn spaces(count: usize) -> &'static str {
 /// Adds spaces.
 #[inline]
 fn put_spaces(out: &mut String, count: usize) -> Result<(), AllocError> {
-    let mut left = count;
-    while left > 0 {
-        let piece = left.min(64);
+    let mut countdown = count;
+    while countdown > 0 {
+        let piece = countdown.min(64);
         out.try_push_str(spaces(piece))?;
-        left -= piece;
+        countdown -= piece;
     }
     Ok(())
 }

@@ -81,22 +81,22 @@ fn pass_printable(from: Spot, text: &str, width: usize) -> (Spot, &str, usize) {
 fn pass(from: Spot, text: &str, width: usize) -> (Spot, &str, usize) {
     let mut at = from;
     let mut rest = text;
-    let mut left = width;
+    let mut countdown = width;
     while let Some((c, tail)) = split_first(rest) {
-        if left < c.len_utf8() {
+        if countdown < c.len_utf8() {
             break;
         }
-        left -= c.len_utf8();
+        countdown -= c.len_utf8();
         at = past(at, c);
         rest = tail;
         if !at.is_indent {
-            let (spot, rest_after, fewer) = pass_printable(at, rest, left);
+            let (spot, rest_after, fewer) = pass_printable(at, rest, countdown);
             at = spot;
             rest = rest_after;
-            left = fewer;
+            countdown = fewer;
         }
     }
-    (at, rest, left)
+    (at, rest, countdown)
 }
 
 /// Returns the first line of a text, and the rest of the text after that line.
@@ -112,11 +112,11 @@ pub fn split_line(text: &str) -> (&str, &str) {
 #[inline]
 pub fn after_lines(text: &str, count: usize) -> &str {
     let mut rest = text;
-    let mut left = count;
-    while left > 0 {
+    let mut countdown = count;
+    while countdown > 0 {
         let (_, rest_after) = split_line(rest);
         rest = rest_after;
-        left -= 1;
+        countdown -= 1;
     }
     rest
 }
@@ -144,7 +144,7 @@ pub fn offsets(picture: &Picture<'_>, range: &Range<usize>) -> (usize, usize) {
 #[inline]
 pub fn extent_of(picture: &Picture<'_>, range: &Range<usize>) -> Extent {
     let (from, to) = offsets(picture, range);
-    let (start, rest, left) = pass(ORIGIN, picture.source, from);
-    let (end, _, _) = pass(start, rest, left + (to - from));
+    let (start, rest, width) = pass(ORIGIN, picture.source, from);
+    let (end, _, _) = pass(start, rest, width + (to - from));
     Extent { start, end }
 }

@@ -43,32 +43,32 @@ pub fn columns(text: &str) -> usize {
 #[inline]
 fn past_columns(text: &str, count: usize) -> (&str, usize) {
     let mut rest = text;
-    let mut left = count;
-    let mut taken = 0;
+    let mut countdown = count;
+    let mut columns = 0;
     while let Some((c, tail)) = split_first(rest) {
-        if left == 0 {
+        if countdown == 0 {
             break;
         }
-        taken += width(c);
-        left = left.saturating_sub(width(c));
+        columns += width(c);
+        countdown = countdown.saturating_sub(width(c));
         rest = tail;
     }
-    (rest, taken)
+    (rest, columns)
 }
 
 /// Returns how many columns are left out, if the first `count` columns of a text are, of the same
 /// character so often at its start, and how many of these columns are then left.
 #[inline]
 fn left_out_of_run(count: usize, times: usize, character: char) -> (usize, usize) {
-    let mut left = count;
-    let mut taken = 0;
+    let mut countdown = count;
+    let mut columns = 0;
     let mut rest = times;
-    while rest > 0 && left > 0 {
-        taken += width(character);
-        left = left.saturating_sub(width(character));
+    while rest > 0 && countdown > 0 {
+        columns += width(character);
+        countdown = countdown.saturating_sub(width(character));
         rest -= 1;
     }
-    (taken, left)
+    (columns, countdown)
 }
 
 /// Returns how many columns are left out if the first `count` columns of a text, as it is drawn,
@@ -76,18 +76,18 @@ fn left_out_of_run(count: usize, times: usize, character: char) -> (usize, usize
 #[inline]
 fn left_out(text: &str, count: usize) -> usize {
     let mut rest = text;
-    let mut left = count;
-    let mut taken = 0;
+    let mut countdown = count;
+    let mut columns = 0;
     while let Some((c, tail)) = split_first(rest) {
-        if left == 0 {
+        if countdown == 0 {
             break;
         }
-        let (more, fewer) = left_out_of_run(left, glyph_count(c), glyph(c));
-        taken += more;
-        left = fewer;
+        let (more, fewer) = left_out_of_run(countdown, glyph_count(c), glyph(c));
+        columns += more;
+        countdown = fewer;
         rest = tail;
     }
-    taken
+    columns
 }
 
 /// Returns how many columns at the start of a line of the source are cut.
@@ -103,13 +103,13 @@ pub fn shift(frame: &Frame<'_>, number: usize) -> usize {
 #[inline]
 fn put_within(out: &mut String, text: &str, count: usize) -> Result<(), AllocError> {
     let mut rest = text;
-    let mut left = count;
+    let mut countdown = count;
     while let Some((c, tail)) = split_first(rest) {
-        if left < width(c) {
+        if countdown < width(c) {
             break;
         }
         out.try_push(c)?;
-        left -= width(c);
+        countdown -= width(c);
         rest = tail;
     }
     Ok(())
@@ -144,9 +144,9 @@ fn put_dots_before<'a>(
     if window.left == 0 {
         return Ok(part);
     }
-    let (rest, taken) = past_columns(part, 3);
+    let (rest, columns) = past_columns(part, 3);
     put_painted(out, palette, Style::Secondary, "...")?;
-    put_run(out, ' ', taken.saturating_sub(3))?;
+    put_run(out, ' ', columns.saturating_sub(3))?;
     Ok(rest)
 }
 

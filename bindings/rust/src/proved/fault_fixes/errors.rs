@@ -71,13 +71,13 @@ pub fn errors_of(
     }
     let mut parser = Parser::new(input, style, snippet, appended_newline, mode)?;
     let mut argument = Argument::default();
-    let mut found = Vec::new();
+    let mut faults = Vec::new();
     let mut errors = Errors {
         fronts: Vec::new(),
         backs: Vec::new(),
     };
     while !parser.is_at_end() {
-        add_next(&mut errors, &mut parser, &mut argument, &mut found)?;
+        add_next(&mut errors, &mut parser, &mut argument, &mut faults)?;
     }
     into_list(errors)
 }

@@ -82,17 +82,17 @@ fn offered_edit(mode: ParseMode, suggestion: &Suggestion) -> Option<Edit<'_>> {
 /// of earlier places. An edit that does not start after the end of the one before it is left out.
 #[inline]
 pub fn edits<'e>(mode: ParseMode, errors: &'e [ParseError]) -> Result<Vec<Edit<'e>>, AllocError> {
-    let mut found = Vec::new();
+    let mut edits = Vec::new();
     let mut end = 0;
     for error in errors.iter().rev() {
         if let Some(edit) = offered_edit(mode, &error.suggestion) {
             if end < edit.span.start && edit.span.start <= edit.span.end {
                 end = edit.span.end;
-                found.try_push(edit)?;
+                edits.try_push(edit)?;
             }
         }
     }
-    Ok(found)
+    Ok(edits)
 }
 
 /// Returns the first n bytes, or all if there are fewer.
@@ -131,8 +131,8 @@ fn make(
         return Ok(());
     };
     if edited.end < edit.span.start && edit.span.start <= edit.span.end {
-        let kept = front(edited.rest, edit.span.start.saturating_sub(edited.start));
-        edited.bytes.try_extend_from_slice(kept)?;
+        let source = front(edited.rest, edit.span.start.saturating_sub(edited.start));
+        edited.bytes.try_extend_from_slice(source)?;
         edited.bytes.try_extend_from_slice(edit.text.as_bytes())?;
         edited.rest = rest_after(edited.rest, edit.span.end.saturating_sub(edited.start));
         edited.start = edit.span.end;
@@ -181,7 +181,7 @@ fn edit_all(
     at: usize,
 ) -> Result<(Vec<u8>, bool), AllocError> {
     let mut argument = Argument::default();
-    let mut found = Vec::new();
+    let mut faults = Vec::new();
     let mut edited = Edited {
         bytes: Vec::new(),
         rest: text.as_bytes(),
@@ -189,7 +189,7 @@ fn edit_all(
         end: 0,
     };
     while !parser.is_at_end() {
-        make_next(&mut edited, mode, parser, &mut argument, &mut found)?;
+        make_next(&mut edited, mode, parser, &mut argument, &mut faults)?;
     }
     let rest = edited.rest;
     edited.bytes.try_extend_from_slice(rest)?;

@@ -60,9 +60,9 @@ fn is_part(part: &[Fault<'_>], whole: &[Fault<'_>]) -> bool {
 /// ones, in their order. Returns `Err` as `faults_of` does.
 #[inline]
 fn count_left(old: &[Fault<'_>], text: &str, mode: ParseMode) -> Result<Option<usize>, AllocError> {
-    let found = faults_of(text, mode)?;
-    if is_part(found.list.as_slice(), old) {
-        Ok(Some(found.calls))
+    let faults = faults_of(text, mode)?;
+    if is_part(faults.list.as_slice(), old) {
+        Ok(Some(faults.calls))
     } else {
         Ok(None)
     }

@@ -87,11 +87,17 @@ fn inlined_as(
     call: FormatCall<'_>,
     allows_mixed: bool,
 ) -> Result<InlinedCall, AllocError> {
-    let made = match inline_arguments(call, allows_mixed)? {
-        Ok(made) => made,
-        Err(left) => return Ok(left_for(CallInlining::Left(left))),
+    let new_call = match inline_arguments(call, allows_mixed)? {
+        Ok(new_call) => new_call,
+        Err(reason) => return Ok(left_for(CallInlining::Left(reason))),
     };
-    let edits = edits_of(site.text, site.tokens, site.literal, site.arguments, &made)?;
+    let edits = edits_of(
+        site.text,
+        site.tokens,
+        site.literal,
+        site.arguments,
+        &new_call,
+    )?;
     match edits {
         Some(edits) => Ok(InlinedCall {
             inlining: CallInlining::Inlined,
@@ -143,8 +149,8 @@ fn inline_found(
         is_format_alone: is_format_alone(rule, name, is_from_2021),
         has_const_form: has_const_form(rule),
     };
-    let made = inlined_as(site, call, allows_mixed)?;
-    Ok(made)
+    let inlined_call = inlined_as(site, call, allows_mixed)?;
+    Ok(inlined_call)
 }
 
 /// Returns what inlining makes of a call whose format string begins the argument of this index.
@@ -173,21 +179,21 @@ fn inline_at(
         call.close,
     );
     let before = arguments_before(&arguments[index + 1..], extent.end)?;
-    let found = Found {
+    let site = Found {
         text: file.text,
         tokens,
         literal,
         arguments: &before,
     };
-    let made = inline_found(
-        found,
+    let inlined_call = inline_found(
+        site,
         call.rule,
         name_at(tokens, call.name),
         extent.is_counted,
         file.is_from_2021,
         allows_mixed,
     )?;
-    Ok(made)
+    Ok(inlined_call)
 }
 
 /// Returns what inlining makes of a call whose format string is the argument of this index, or
@@ -241,8 +247,8 @@ fn inline_call<'a>(
     let list = arguments.as_slice();
     match index_or(file, part, call, list) {
         Ok(index) => {
-            let made = inline_one(file, part, call, list, index, allows_mixed)?;
-            Ok(made)
+            let inlined_call = inline_one(file, part, call, list, index, allows_mixed)?;
+            Ok(inlined_call)
         }
         Err(reading) => Ok(left_for(CallInlining::Unread(reading))),
     }
@@ -260,16 +266,16 @@ pub(crate) fn inline_calls<'a>(
     allows_mixed: bool,
 ) -> Result<(), AllocError> {
     let mut rest = calls;
-    let mut left = readings;
+    let mut rest_readings = readings;
     while let Some((call, others)) = rest.split_first() {
-        let Some((reading, more)) = left.split_first() else {
+        let Some((reading, more)) = rest_readings.split_first() else {
             return Ok(());
         };
         let mut one = inline_call(file, part, call, *reading, allows_mixed)?;
         results.inlinings.try_push(one.inlining)?;
         results.edits.try_append(&mut one.edits)?;
         rest = others;
-        left = more;
+        rest_readings = more;
     }
     Ok(())
 }

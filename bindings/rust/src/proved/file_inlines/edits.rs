@@ -16,14 +16,14 @@ use crate::shim::prelude::*;
 /// these CRs more.
 #[inline]
 fn in_token(crs: &[usize], edits: &[Edit]) -> Result<Vec<Edit>, AllocError> {
-    let mut found = Vec::new();
+    let mut list = Vec::new();
     for edit in edits {
-        found.try_push(Edit {
+        list.try_push(Edit {
             span: offset_in(crs, edit.span.start)..offset_in(crs, edit.span.end),
             text: String::made_from(edit.text.as_str())?,
         })?;
     }
-    Ok(found)
+    Ok(list)
 }
 
 /// Returns an edit that stands some bytes further on, or `None` if an offset is too large.
@@ -44,14 +44,14 @@ fn move_edit(edit: &Edit, offset: usize) -> Result<Option<Edit>, AllocError> {
 /// Returns edits that stand some bytes further on, or `None` if an offset is too large.
 #[inline]
 fn move_edits(edits: &[Edit], offset: usize) -> Result<Option<Vec<Edit>>, AllocError> {
-    let mut found = Vec::new();
+    let mut list = Vec::new();
     for edit in edits {
         let Some(edit) = move_edit(edit, offset)? else {
             return Ok(None);
         };
-        found.try_push(edit)?;
+        list.try_push(edit)?;
     }
-    Ok(Some(found))
+    Ok(Some(list))
 }
 
 /// Adds the edits that remove the arguments of these indices, with their source.
@@ -77,8 +77,8 @@ fn push_removals(
 /// Returns whether a token, without the CR before each LF, is this literal.
 #[inline]
 fn is_literal(token: &str, literal: &str) -> Result<bool, AllocError> {
-    let found = without_crs(token)?;
-    Ok(found.as_str() == literal)
+    let text = without_crs(token)?;
+    Ok(text.as_str() == literal)
 }
 
 /// Returns the edits of the literal that a token is, as edits of its file, or `None` if the token

@@ -74,9 +74,9 @@ pub(crate) fn with_sources<'a>(
     tokens: &[Token<'a>],
     arguments: &[Argument],
 ) -> Result<Vec<FormatArgument<'a>>, AllocError> {
-    let mut found = Vec::new();
+    let mut list = Vec::new();
     for argument in arguments {
-        found.try_push(with_source(text, tokens, argument))?;
+        list.try_push(with_source(text, tokens, argument))?;
     }
-    Ok(found)
+    Ok(list)
 }

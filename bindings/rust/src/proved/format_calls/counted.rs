@@ -56,14 +56,14 @@ pub fn extent_of(
     close: usize,
 ) -> Extent {
     let tokens = source.tokens();
-    let mut found = false;
+    let mut has_uncounted = false;
     let mut end = from;
     while end < close && !is_stop(tokens, end, ends_early) {
-        found = found || is_uncounted(tokens, end);
+        has_uncounted = has_uncounted || is_uncounted(tokens, end);
         end = after_tree(source, end);
     }
     Extent {
         end,
-        is_counted: !found,
+        is_counted: !has_uncounted,
     }
 }

@@ -61,11 +61,11 @@ fn call_at(source: &Source<'_>, rows: &[Row<'_>], name: usize) -> Option<Call> {
 /// Returns the calls of the macros of a table, in the order of their names.
 #[inline]
 pub fn calls(source: &Source<'_>, table: &Table<'_>) -> Result<Vec<Call>, AllocError> {
-    let mut found = Vec::new();
+    let mut calls = Vec::new();
     for name in 0..source.tokens().len() {
         if let Some(call) = call_at(source, &table.rows, name) {
-            found.try_push(call)?;
+            calls.try_push(call)?;
         }
     }
-    Ok(found)
+    Ok(calls)
 }

@@ -43,19 +43,19 @@ fn is_one_wanted(tokens: &[Token<'_>], wanted: Wanted) -> bool {
 /// that is wanted, or nothing if none is.
 #[inline]
 fn last_ones(tokens: &[Token<'_>], wanted: Wanted) -> Result<Vec<usize>, AllocError> {
-    let mut found = Vec::new();
+    let mut counts = Vec::new();
     if !is_one_wanted(tokens, wanted) {
-        return Ok(found);
+        return Ok(counts);
     }
     let mut last = 0;
-    found.try_push(last)?;
+    counts.try_push(last)?;
     for (index, token) in tokens.iter().enumerate() {
         if is_wanted(wanted, token) {
             last = index + 1;
         }
-        found.try_push(last)?;
+        counts.try_push(last)?;
     }
-    Ok(found)
+    Ok(counts)
 }
 
 /// Returns whether one of the tokens of an argument is wanted, where `last_ones` are the numbers

@@ -80,22 +80,22 @@ fn arguments_between(
     close: usize,
 ) -> Result<Vec<Argument>, AllocError> {
     let tokens = source.tokens();
-    let mut found = Vec::new();
+    let mut arguments = Vec::new();
     let mut start = opening + 1;
     while start < close {
         let end = argument_end(source, opening, start, close);
         let is_named = is_named(tokens, start);
-        found.try_push(Argument {
+        arguments.try_push(Argument {
             start,
             end,
             is_named,
         })?;
         if end == close {
-            return Ok(found);
+            return Ok(arguments);
         }
         start = end + 1;
     }
-    Ok(found)
+    Ok(arguments)
 }
 
 /// Returns the arguments of the call that ends with this closing delimiter, or `None` if the token
@@ -105,8 +105,8 @@ pub fn arguments(source: &Source<'_>, close: usize) -> Result<Option<Vec<Argumen
     match source.partner(close) {
         Some(opening) => {
             if opening < close {
-                let found = arguments_between(source, opening, close)?;
-                Ok(Some(found))
+                let arguments = arguments_between(source, opening, close)?;
+                Ok(Some(arguments))
             } else {
                 Ok(None)
             }

@@ -30,11 +30,11 @@ pub struct Source<'a> {
 #[inline]
 fn faults_of<'a>(parser: &mut Parser<'a>) -> Result<Findings<'a>, AllocError> {
     let mut argument = Argument::default();
-    let mut found = Vec::new();
+    let mut list = Vec::new();
     let mut faults = Findings::new();
     while !parser.is_at_end() {
-        parser.next_with_faults(&mut argument, &mut found)?;
-        faults.add(&mut found)?;
+        parser.next_with_faults(&mut argument, &mut list)?;
+        faults.add(&mut list)?;
     }
     Ok(faults)
 }
@@ -50,14 +50,14 @@ fn labels_of<'a>(
     let text = source.text;
     let mut argument = Argument::default();
     let mut labels = Vec::new();
-    let mut found = Vec::new();
+    let mut list = Vec::new();
     let mut faults = Findings::new();
     let mut rest = text;
     while !rest.is_empty() {
-        let taken = parser.next_with_faults(&mut argument, &mut found)?;
-        faults.add(&mut found)?;
-        let left = text.len().saturating_sub(parser.position());
-        rest = label(&mut labels, mode, taken, &argument, left, rest)?;
+        let piece = parser.next_with_faults(&mut argument, &mut list)?;
+        faults.add(&mut list)?;
+        let width = text.len().saturating_sub(parser.position());
+        rest = label(&mut labels, mode, piece, &argument, width, rest)?;
     }
     Ok((labels, faults))
 }

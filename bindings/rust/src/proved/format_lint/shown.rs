@@ -202,9 +202,9 @@ fn fixed_output(task: Task<'_>, source: Source<'_>) -> Result<Shown, AllocError>
 #[inline]
 fn token_output(task: Task<'_>, source: Source<'_>) -> Result<Shown, AllocError> {
     let written = source.literal.unwrap_or(source.text);
-    let (found, faults) = tokens_in(task.mode, source)?;
+    let (tokens, faults) = tokens_in(task.mode, source)?;
     let mut output = String::new();
-    put_tokens(&mut output, task.colours, written, found.as_slice())?;
+    put_tokens(&mut output, task.colours, written, tokens.as_slice())?;
     if task.colours {
         output.try_push_str("\n")?;
     }

@@ -131,15 +131,15 @@ fn has_backslash(text: &str) -> bool {
 /// Returns the tokens of an ordinary literal cut at its escapes.
 #[inline]
 fn cut(literal: &str, tokens: &[Token]) -> Result<Vec<Token>, AllocError> {
-    let mut found = Vec::made_for(tokens.len())?;
+    let mut list = Vec::made_for(tokens.len())?;
     let mut rest = literal;
     for token in tokens {
         let width = token.span.end.saturating_sub(token.span.start);
         let (text, others) = split_within(rest, width);
-        put_parts(&mut found, token, text)?;
+        put_parts(&mut list, token, text)?;
         rest = others;
     }
-    Ok(found)
+    Ok(list)
 }
 
 /// Returns the tokens of an ordinary literal, which cover it, cut at its escapes.

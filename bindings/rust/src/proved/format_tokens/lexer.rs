@@ -70,7 +70,7 @@ fn place_whole(
     names: bool,
     labels: &[Label],
 ) -> Result<Vec<Token>, AllocError> {
-    let kept = length_of(input).saturating_sub(usize::from(appended_newline));
+    let count = length_of(input).saturating_sub(usize::from(appended_newline));
     let offsets = literal_starts(input, style, literal, appended_newline)?;
     let starts = offsets.as_slice();
     let mut tokens = Vec::made_for(labels.len().saturating_add(2))?;
@@ -78,7 +78,7 @@ fn place_whole(
         kind: Kind::Quote,
         span: 0..starts[0],
     })?;
-    place(&mut tokens, names, labels, starts, kept)?;
+    place(&mut tokens, names, labels, starts, count)?;
     tokens.try_push(Token {
         kind: Kind::Quote,
         span: starts[starts.len() - 1]..width_of(literal),
@@ -99,10 +99,10 @@ pub fn place_labels(
 ) -> Result<Vec<Token>, AllocError> {
     let names = wants_names(mode);
     let Some(literal) = source_of(input, style, snippet, appended_newline) else {
-        let kept = length_of(input).saturating_sub(usize::from(appended_newline));
+        let count = length_of(input).saturating_sub(usize::from(appended_newline));
         let starts = plain_starts(0, input, width_of(input))?;
         let mut tokens = Vec::made_for(labels.len())?;
-        place(&mut tokens, names, labels, starts.as_slice(), kept)?;
+        place(&mut tokens, names, labels, starts.as_slice(), count)?;
         return Ok(tokens);
     };
     let tokens = place_whole(input, style, literal, appended_newline, names, labels)?;

@@ -31,12 +31,12 @@ pub fn take<'a>(
         return Ok(text);
     }
     match text.parts_at(bytes) {
-        Some((front, left)) => {
+        Some((front, rest)) => {
             labels.try_push(Label {
                 kind,
                 width: length_of(front),
             })?;
-            Ok(left)
+            Ok(rest)
         }
         None => Ok(""),
     }
@@ -165,20 +165,20 @@ pub fn position<'a>(
     match position {
         Position::ArgumentImplicitlyIs(_) => Ok(text),
         Position::ArgumentIs(_) => {
-            let left = take(
+            let rest = take(
                 labels,
                 integer_kind(text),
                 run_width(text, Run::Digits),
                 text,
             )?;
-            Ok(left)
+            Ok(rest)
         }
         Position::ArgumentNamed(name) => {
             let prefix = if is_raw(text, name) { 2 } else { 0 };
             let word = take(labels, Kind::RawPrefix, prefix, text)?;
             let kind = word_kind(Kind::Identifier, name);
-            let left = take(labels, kind, width_of(name), word)?;
-            Ok(left)
+            let rest = take(labels, kind, width_of(name), word)?;
+            Ok(rest)
         }
     }
 }
@@ -192,13 +192,13 @@ fn count<'a>(
 ) -> Result<&'a str, AllocError> {
     match count {
         Count::CountIs(_) => {
-            let left = take(
+            let rest = take(
                 labels,
                 integer_kind(text),
                 run_width(text, Run::Digits),
                 text,
             )?;
-            Ok(left)
+            Ok(rest)
         }
         Count::CountIsParam(_) => {
             let dollar = take(
@@ -207,18 +207,18 @@ fn count<'a>(
                 run_width(text, Run::Digits),
                 text,
             )?;
-            let left = take(labels, Kind::DollarSign, 1, dollar)?;
-            Ok(left)
+            let rest = take(labels, Kind::DollarSign, 1, dollar)?;
+            Ok(rest)
         }
         Count::CountIsName(name, _) => {
             let kind = word_kind(Kind::Identifier, name);
             let dollar = take(labels, kind, width_of(name), text)?;
-            let left = take(labels, Kind::DollarSign, 1, dollar)?;
-            Ok(left)
+            let rest = take(labels, Kind::DollarSign, 1, dollar)?;
+            Ok(rest)
         }
         Count::CountIsStar(_) => {
-            let left = take(labels, Kind::Asterisk, 1, text)?;
-            Ok(left)
+            let rest = take(labels, Kind::Asterisk, 1, text)?;
+            Ok(rest)
         }
         Count::CountImplied => Ok(text),
     }
@@ -233,8 +233,8 @@ fn width<'a>(
     text: &'a str,
 ) -> Result<&'a str, AllocError> {
     let rest_after = take(labels, Kind::Zero, usize::from(zero_pad), text)?;
-    let left = count(labels, width, rest_after)?;
-    Ok(left)
+    let rest = count(labels, width, rest_after)?;
+    Ok(rest)
 }
 
 /// Adds the tokens of a precision, with the dot before it.
@@ -245,8 +245,8 @@ fn precision<'a>(
     text: &'a str,
 ) -> Result<&'a str, AllocError> {
     let rest_after = take(labels, Kind::Dot, usize::from(begins(text, '.')), text)?;
-    let left = count(labels, precision, rest_after)?;
-    Ok(left)
+    let rest = count(labels, precision, rest_after)?;
+    Ok(rest)
 }
 
 /// Returns the byte length of a fill.
@@ -303,13 +303,13 @@ fn format<'a>(
     )?;
     let dot = width(labels, format.zero_pad, &format.width, number)?;
     let ty = precision(labels, &format.precision, dot)?;
-    let left = take(
+    let rest = take(
         labels,
         word_kind(Kind::Type, format.ty),
         type_width(format.debug_hex, format.ty),
         ty,
     )?;
-    Ok(left)
+    Ok(rest)
 }
 
 /// Adds the tokens of a specification, with the colon before it.
@@ -326,17 +326,17 @@ pub fn specification<'a>(
     let rest_after = take(labels, Kind::Colon, 1, text)?;
     match mode {
         ParseMode::Format => {
-            let left = format(labels, spec, rest_after)?;
-            Ok(left)
+            let rest = format(labels, spec, rest_after)?;
+            Ok(rest)
         }
         ParseMode::InlineAsm => {
             let kind = word_kind(Kind::Modifier, spec.ty);
-            let left = take(labels, kind, width_of(spec.ty), rest_after)?;
-            Ok(left)
+            let rest = take(labels, kind, width_of(spec.ty), rest_after)?;
+            Ok(rest)
         }
         ParseMode::Diagnostic | ParseMode::DiagnosticNamed => {
-            let left = take(labels, Kind::DiagnosticText, width_of(spec.ty), rest_after)?;
-            Ok(left)
+            let rest = take(labels, Kind::DiagnosticText, width_of(spec.ty), rest_after)?;
+            Ok(rest)
         }
     }
 }

@@ -33,8 +33,8 @@ fn is_closed(bytes: usize, text: &str) -> bool {
 fn skip<'a>(labels: &mut Vec<Label>, bytes: usize, text: &'a str) -> Result<&'a str, AllocError> {
     let brace = usize::from(is_closed(bytes, text));
     let close = take(labels, Kind::Unexpected, bytes.saturating_sub(brace), text)?;
-    let left = take(labels, Kind::Close, brace, close)?;
-    Ok(left)
+    let rest = take(labels, Kind::Close, brace, close)?;
+    Ok(rest)
 }
 
 /// Adds the tokens of a placeholder at the start of a text, and returns the rest of the text after
@@ -146,8 +146,8 @@ fn labels_by<'a>(
         } = parser.next_into(&mut argument)?;
         // (the errors are not needed, and are freed while they are in the caches)
         parser.take_errors();
-        let left = width_of(input).saturating_sub(parser.position());
-        rest = label(&mut labels, mode, piece, &argument, left, rest)?;
+        let width = width_of(input).saturating_sub(parser.position());
+        rest = label(&mut labels, mode, piece, &argument, width, rest)?;
     }
     Ok(labels)
 }

@@ -278,23 +278,23 @@ impl<'a> Run<'a> {
         origin: Origin,
         change: Change,
     ) -> Result<(), Failure> {
-        let made = apply_rewrite(text, &self.options, self.request.rewrite)?;
+        let outcome = apply_rewrite(text, &self.options, self.request.rewrite)?;
         let is_source = origin == Origin::Stdin && change == Change::Write;
-        let Some(new) = &made.text else {
+        let Some(new) = &outcome.text else {
             if is_source {
                 write(rt, text)?;
             }
-            self.totals.add(&made.report);
-            self.totals.add_inlinings(&made);
-            return self.put_report(rt, path, text, Extent::Whole, &made.report);
+            self.totals.add(&outcome.report);
+            self.totals.add_inlinings(&outcome);
+            return self.put_report(rt, path, text, Extent::Whole, &outcome.report);
         };
         if !self.put_rewritten(rt, path, origin, change, text, new.as_str())? {
             return self.report(rt, path, text, Extent::Whole);
         }
-        self.totals.add(&made.report);
-        self.totals.add_inlinings(&made);
-        self.totals.add_change(made.fixes);
-        self.put_report(rt, path, new.as_str(), Extent::Whole, &made.report)
+        self.totals.add(&outcome.report);
+        self.totals.add_inlinings(&outcome);
+        self.totals.add_change(outcome.fixes);
+        self.put_report(rt, path, new.as_str(), Extent::Whole, &outcome.report)
     }
 
     /// Reads a text of a file, and writes the messages about it.

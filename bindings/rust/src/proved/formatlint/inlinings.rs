@@ -52,8 +52,8 @@ fn count(number: &mut usize) {
 impl Inlinings {
     /// Counts a call that is left.
     #[inline]
-    fn add_left(&mut self, left: Left) {
-        match left {
+    fn add_left(&mut self, reason: Left) {
+        match reason {
             Left::Uncounted => count(&mut self.uncounted),
             Left::NoVariable => count(&mut self.no_variable),
             Left::Mixed => count(&mut self.mixed),
@@ -74,7 +74,7 @@ impl Inlinings {
             match *call {
                 CallInlining::Inlined if file.has_inlines => count(&mut self.inlined),
                 CallInlining::Inlined => count(&mut self.spoiled),
-                CallInlining::Left(left) => self.add_left(left),
+                CallInlining::Left(reason) => self.add_left(reason),
                 CallInlining::Assembly => count(&mut self.assembly),
                 CallInlining::Unread(_) => {}
             }

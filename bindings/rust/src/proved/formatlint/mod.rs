@@ -72,15 +72,15 @@ fn print(rt: &crate::shim::host::HostRuntime, text: &str) -> u8 {
 #[inline]
 fn similar_id(word: &str) -> Result<Option<&'static str>, AllocError> {
     let mut most = word.len().max(3) / 3;
-    let mut found = None;
+    let mut id = None;
     for rule in &RULES {
         let count = levenshtein(word, rule.id)?;
-        if count < most || count == most && found.is_none() {
+        if count < most || count == most && id.is_none() {
             most = count;
-            found = Some(rule.id);
+            id = Some(rule.id);
         }
     }
-    Ok(found)
+    Ok(id)
 }
 
 /// Returns the error that no kind of fault has this id.

@@ -79,13 +79,13 @@ pub fn apply_rewrite(
     if !rewrite.inlines {
         return Ok(fixed);
     }
-    let mut made = match &fixed.text {
+    let mut outcome = match &fixed.text {
         Some(text) => inline_text(text.as_str(), options, rewrite)?,
         None => inline_text(text, options, rewrite)?,
     };
-    made.fixes = fixed.fixes;
-    if made.text.is_none() {
-        made.text = fixed.text;
+    outcome.fixes = fixed.fixes;
+    if outcome.text.is_none() {
+        outcome.text = fixed.text;
     }
-    Ok(made)
+    Ok(outcome)
 }

@@ -337,12 +337,12 @@ impl Totals {
     pub fn show_inlinings(&self, rt: &crate::shim::host::HostRuntime) {
         let inlined = self.inlinings.inlined;
         let rows = self.inlinings.rows();
-        let mut left = 0usize;
+        let mut sum = 0usize;
         for (number, _) in rows {
-            left = left.saturating_add(number);
+            sum = sum.saturating_add(number);
         }
         let _ = crate::shim::eprintln_in!(rt; "calls that are inlined: {inlined}");
-        let _ = crate::shim::eprintln_in!(rt; "calls that are left as they are: {left}");
+        let _ = crate::shim::eprintln_in!(rt; "calls that are left as they are: {sum}");
         show_rows(rt, &rows);
     }
 }

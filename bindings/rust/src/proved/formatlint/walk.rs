@@ -93,19 +93,19 @@ impl<'a> Walk<'a> {
         totals: &mut Totals,
     ) -> io::Result<Vec<Entry>> {
         let shown = if folder.is_empty() { "." } else { folder };
-        let mut found = Vec::new();
+        let mut entries = Vec::new();
         for entry in fs::read_dir(rt, shown)? {
             let added = match entry {
-                Ok(entry) => self.add(rt, folder, &entry, &mut found),
+                Ok(entry) => self.add(rt, folder, &entry, &mut entries),
                 Err(error) => Err(error),
             };
             if let Err(error) = added {
                 totals.fail(rt, shown, &error);
             }
         }
-        found.sort_in()?;
-        found.reverse();
-        Ok(found)
+        entries.sort_in()?;
+        entries.reverse();
+        Ok(entries)
     }
 
     /// Returns the path of the next file, or `None` if there is none. The failure of
@@ -124,7 +124,7 @@ impl<'a> Walk<'a> {
                 return Ok(Some(entry.path));
             }
             match self.entries(rt, entry.path.as_str(), totals) {
-                Ok(mut found) => self.rest.try_append(&mut found)?,
+                Ok(mut entries) => self.rest.try_append(&mut entries)?,
                 Err(error) => totals.fail(rt, entry.path.as_str(), &error),
             }
         }

@@ -89,7 +89,7 @@ fn string_condition(call: &Call<'_>) -> Option<Left> {
 #[inline]
 pub(crate) fn condition(call: &Call<'_>, allows_mixed: bool) -> Option<Left> {
     match list_condition(call, allows_mixed) {
-        Some(left) => Some(left),
+        Some(reason) => Some(reason),
         None => string_condition(call),
     }
 }

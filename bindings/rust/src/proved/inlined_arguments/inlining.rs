@@ -75,9 +75,9 @@ fn keeps_meaning(call: Call<'_>, old: Meant<'_, '_>, literal: &str) -> Result<bo
         appended_newline: call.string.appended_newline,
         captures: call.string.captures,
     };
-    let kept = expression_slots(old.values.slots)?;
-    let given = givens(&kept)?;
-    means_same_with(old, string, &kept, given.as_slice())
+    let slots = expression_slots(old.values.slots)?;
+    let arguments = givens(&slots)?;
+    means_same_with(old, string, &slots, arguments.as_slice())
 }
 
 /// Returns a call with its arguments that are variables in its format string, or why it is left as
@@ -125,10 +125,10 @@ pub fn inline_arguments(
     call: Call<'_>,
     allows_mixed: bool,
 ) -> Result<Result<Inlined, Left>, AllocError> {
-    if let Some(left) = condition(&call, allows_mixed) {
-        return Ok(Err(left));
+    if let Some(reason) = condition(&call, allows_mixed) {
+        return Ok(Err(reason));
     }
     let slots = slots(call.arguments)?;
-    let given = givens(&slots)?;
-    inline_with(call, &slots, given.as_slice())
+    let arguments = givens(&slots)?;
+    inline_with(call, &slots, arguments.as_slice())
 }

@@ -68,24 +68,24 @@ pub(crate) fn slots<'a>(arguments: &[Argument<'a>]) -> Result<Vec<Slot<'a>>, All
 /// Returns the slots that stay: those of arguments that are no variables.
 #[inline]
 pub(crate) fn expression_slots<'a>(slots: &[Slot<'a>]) -> Result<Vec<Slot<'a>>, AllocError> {
-    let mut kept = Vec::new();
+    let mut list = Vec::new();
     for slot in slots {
         if is_expression(slot.value) {
-            kept.try_push(*slot)?;
+            list.try_push(*slot)?;
         }
     }
-    Ok(kept)
+    Ok(list)
 }
 
 /// Returns slots as the arguments of a call.
 #[inline]
 pub(crate) fn givens<'a>(slots: &[Slot<'a>]) -> Result<Vec<FormatArgument<'a>>, AllocError> {
-    let mut found = Vec::new();
+    let mut arguments = Vec::new();
     for slot in slots {
-        found.try_push(FormatArgument {
+        arguments.try_push(FormatArgument {
             name: slot.name,
             variable: None,
         })?;
     }
-    Ok(found)
+    Ok(arguments)
 }

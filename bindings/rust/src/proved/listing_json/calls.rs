@@ -80,10 +80,10 @@ fn put_call<'a>(
     argument: &mut Argument<'a>,
     faults: &mut Vec<Fault<'a>>,
 ) -> Result<bool, AllocError> {
-    let taken = parser.next_with_faults(argument, faults)?;
-    put_given(out, &taken, argument)?;
+    let piece = parser.next_with_faults(argument, faults)?;
+    put_given(out, &piece, argument)?;
     put_faults(out, faults.as_slice())?;
-    Ok(taken.is_some())
+    Ok(piece.is_some())
 }
 
 /// Appends the lines of the calls of a parser up to the first that returns no piece. Returns

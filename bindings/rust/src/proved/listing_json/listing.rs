@@ -45,8 +45,8 @@ fn used_by<'a>(
         return Ok(Uses::new());
     }
     let Reading { pieces, parser: _ } = read_all(text, style, snippet, false, task.mode)?;
-    let used = uses_of(pieces.as_slice())?;
-    Ok(used)
+    let uses = uses_of(pieces.as_slice())?;
+    Ok(uses)
 }
 
 /// Returns the report on the arguments that are missing or unused in a text.
@@ -57,8 +57,8 @@ fn report_of<'a>(
     snippet: Option<String>,
     task: Task<'a>,
 ) -> Result<Report<'a>, AllocError> {
-    let used = used_by(text, style, snippet, task)?;
-    report_for(&used, task.arguments)
+    let uses = used_by(text, style, snippet, task)?;
+    report_for(&uses, task.arguments)
 }
 
 /// Returns the lines of the calls of a parser and of a report.

@@ -60,14 +60,14 @@ fn put_lines(
     out.try_push_str("[")?;
     let mut rest = lines;
     let mut start = from;
-    let mut left = more;
-    while left > 0 {
+    let mut countdown = more;
+    while countdown > 0 {
         let (line, tail) = split_line(rest);
         put_line(out, line, start, length_of(line) + 1)?;
         out.try_push_str(",")?;
         rest = tail;
         start = 1;
-        left -= 1;
+        countdown -= 1;
     }
     let (line, _) = split_line(rest);
     put_line(out, line, start, to)?;

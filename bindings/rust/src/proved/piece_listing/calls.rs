@@ -66,9 +66,9 @@ pub fn put_calls<'a>(
         position_span: 0..0,
         format: FormatSpec::default(),
     };
-    while let Some(taken) = next_piece(parser, &mut argument)? {
-        put_taken(out, &taken, &argument)?;
-        add_uses(all_uses, compares, &taken, &argument)?;
+    while let Some(piece) = next_piece(parser, &mut argument)? {
+        put_taken(out, &piece, &argument)?;
+        add_uses(all_uses, compares, &piece, &argument)?;
     }
     Ok(())
 }

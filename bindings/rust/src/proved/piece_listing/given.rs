@@ -73,14 +73,14 @@ pub fn given_by(word: &str) -> Option<GivenArguments<'_>> {
 /// Returns the parts of a text that are separated by commas.
 #[inline]
 fn between_commas<'a>(text: &'a str) -> Result<Vec<&'a str>, AllocError> {
-    let mut found = Vec::new();
+    let mut names = Vec::new();
     let mut rest = text;
     while let Some((name, more)) = around_comma(rest) {
-        found.try_push(name)?;
+        names.try_push(name)?;
         rest = more;
     }
-    found.try_push(rest)?;
-    Ok(found)
+    names.try_push(rest)?;
+    Ok(names)
 }
 
 /// Returns the names of a list of arguments.

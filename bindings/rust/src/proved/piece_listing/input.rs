@@ -45,9 +45,9 @@ fn list_calls<'a>(
     arguments: Option<GivenArguments<'a>>,
 ) -> Result<Listing, AllocError> {
     let mut lines = String::new();
-    let mut used = Uses::new();
-    put_calls(&mut lines, &mut used, arguments.is_some(), parser)?;
-    let report = report_for(&used, arguments)?;
+    let mut uses = Uses::new();
+    put_calls(&mut lines, &mut uses, arguments.is_some(), parser)?;
+    let report = report_for(&uses, arguments)?;
     let has_ends = put_ends(&mut lines, parser.errors(), &report)?;
     Ok(Listing { lines, has_ends })
 }

@@ -52,8 +52,8 @@ fn task_in<'a>(
 /// if `word` names no mode or `list` is not a list of arguments.
 #[inline]
 fn task_with<'a>(word: &str, is_literal: bool, list: &'a str) -> Option<Task<'a>> {
-    let given = given_by(list)?;
-    task_in(word, is_literal, Some(given))
+    let arguments = given_by(list)?;
+    task_in(word, is_literal, Some(arguments))
 }
 
 /// Returns the task that the command-line arguments give, or `None` if they are invalid.

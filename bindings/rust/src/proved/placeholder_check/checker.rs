@@ -58,7 +58,7 @@ pub fn check<'a>(
     positional: usize,
     names: &[&'a str],
 ) -> Result<Report<'a>, AllocError> {
-    let used = uses_of(pieces)?;
-    let report = check_uses(&used, positional, names)?;
+    let uses = uses_of(pieces)?;
+    let report = check_uses(&uses, positional, names)?;
     Ok(report)
 }

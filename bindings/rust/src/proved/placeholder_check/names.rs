@@ -65,7 +65,7 @@ fn insert_later<'a>(set: &mut BTreeSet<&'a str>, name: &'a str) -> Result<(), Al
 }
 
 /// Adds a name to others, if it is not yet there.
-#[inline]
+#[inline(never)]
 pub fn insert_name<'a>(names: &mut Names<'a>, name: &'a str) -> Result<(), AllocError> {
     if has_name(&names.list, &names.later, name) {
         return Ok(());

@@ -58,8 +58,8 @@ pub fn after_comment(text: &str) -> Option<&str> {
 #[inline]
 fn after_hashes(bytes: &[u8], hashes: usize) -> Option<&[u8]> {
     let mut rest = bytes;
-    let mut left = hashes;
-    while left > 0 {
+    let mut countdown = hashes;
+    while countdown > 0 {
         let Some((byte, more)) = rest.split_first() else {
             return None;
         };
@@ -67,7 +67,7 @@ fn after_hashes(bytes: &[u8], hashes: usize) -> Option<&[u8]> {
             return None;
         }
         rest = more;
-        left -= 1;
+        countdown -= 1;
     }
     Some(rest)
 }

@@ -157,9 +157,9 @@ pub fn tokens(text: &str) -> Result<Vec<Token>, AllocError> {
     let unmarked = after_mark(text);
     let mark_end = text.len() - unmarked.len();
     let mut rest = after_shebang(unmarked);
-    let mut found = Vec::new();
-    add_unless_empty(&mut found, Kind::ByteOrderMark, 0, mark_end)?;
-    add_unless_empty(&mut found, Kind::Shebang, mark_end, text.len() - rest.len())?;
+    let mut list = Vec::new();
+    add_unless_empty(&mut list, Kind::ByteOrderMark, 0, mark_end)?;
+    add_unless_empty(&mut list, Kind::Shebang, mark_end, text.len() - rest.len())?;
     while let Some(step) = next_step(rest) {
         let token = Token {
             kind: step.kind,
@@ -167,8 +167,8 @@ pub fn tokens(text: &str) -> Result<Vec<Token>, AllocError> {
             suffix_start: text.len() - step.suffix.len(),
             is_ended: step.is_ended,
         };
-        found.try_push(token)?;
+        list.try_push(token)?;
         rest = step.rest;
     }
-    Ok(found)
+    Ok(list)
 }

@@ -87,7 +87,7 @@ pub fn first_opening(text: &str) -> Option<(Opening, &str)> {
         'b' => byte_opening(rest),
         'c' => c_opening(rest),
         'r' => match raw_opening(Kind::RawStr, rest) {
-            Some(found) => Some(found),
+            Some(opening) => Some(opening),
             None => word_opening(rest),
         },
         _ => None,

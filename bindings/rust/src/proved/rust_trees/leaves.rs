@@ -50,19 +50,19 @@ fn is_leaf(kind: Kind, is_ended: bool) -> bool {
 /// left.
 #[inline(always)]
 fn split_first_leaf<'a>(text: &'a str, rest: &'a str) -> Option<(Token<'a>, &'a str)> {
-    let mut left = rest;
-    while let Some((token, rest_after)) = split_first_token(left) {
+    let mut tail = rest;
+    while let Some((token, rest_after)) = split_first_token(tail) {
         if is_leaf(token.kind, token.is_ended) {
             let leaf = Token {
                 kind: token.kind,
                 is_ended: token.is_ended,
                 has_suffix: token.suffix_start < token.span.end,
-                text: &left[..token.span.end],
-                start: text.len() - left.len(),
+                text: &tail[..token.span.end],
+                start: text.len() - tail.len(),
             };
             return Some((leaf, rest_after));
         }
-        left = rest_after;
+        tail = rest_after;
     }
     None
 }
@@ -108,9 +108,9 @@ impl<'a> Tokens<'a> {
 #[inline]
 pub fn leaves(text: &str) -> Result<Vec<Token<'_>>, AllocError> {
     let mut rest = Tokens::new(text);
-    let mut found = Vec::new();
+    let mut tokens = Vec::new();
     while let Some(token) = rest.next() {
-        found.try_push(token)?;
+        tokens.try_push(token)?;
     }
-    Ok(found)
+    Ok(tokens)
 }

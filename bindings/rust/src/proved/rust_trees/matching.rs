@@ -77,15 +77,15 @@ pub fn is_closed(matching: &Matching) -> bool {
 /// Returns the pairs of delimiters in these tokens.
 #[inline]
 pub fn match_delimiters(tokens: &[Token<'_>]) -> Result<Matching, AllocError> {
-    let mut found = Matching {
+    let mut matching = Matching {
         partners: Vec::new(),
         openings: Vec::new(),
         unexpected: None,
     };
     for token in tokens {
-        add(&mut found, token)?;
+        add(&mut matching, token)?;
     }
-    Ok(found)
+    Ok(matching)
 }
 
 /// Returns where the tokens break, or `None` if they are a forest.

@@ -34,8 +34,8 @@ impl<'a> Source<'a> {
     #[inline]
     pub(crate) fn new(text: &'a str) -> Result<Self, AllocError> {
         let tokens = leaves(text)?;
-        let found = match_delimiters(&tokens)?;
-        Ok(source_of(tokens, found))
+        let matching = match_delimiters(&tokens)?;
+        Ok(source_of(tokens, matching))
     }
 
     /// Reads the tokens of a file after these, up to the closing delimiter that closes the last
@@ -47,15 +47,15 @@ impl<'a> Source<'a> {
     ) -> Result<Self, AllocError> {
         let mut tokens = Vec::new();
         tokens.try_extend_from_slice(front)?;
-        let mut found = match_delimiters(front)?;
+        let mut matching = match_delimiters(front)?;
         while let Some(token) = rest.next() {
-            add(&mut found, &token)?;
+            add(&mut matching, &token)?;
             tokens.try_push(token)?;
-            if is_closing(token.side()) && is_closed(&found) {
-                return Ok(source_of(tokens, found));
+            if is_closing(token.side()) && is_closed(&matching) {
+                return Ok(source_of(tokens, matching));
             }
         }
-        Ok(source_of(tokens, found))
+        Ok(source_of(tokens, matching))
     }
 
     /// Returns the tokens: no white space, and no comment that has its end.

@@ -54,24 +54,24 @@ fn clear_lanes(bits: u64) -> usize {
 /// Returns the number of lanes before the first one that is a stop, or 16 if there is none.
 #[inline(always)]
 fn front_lanes(lanes: u8x16, stops: Stops) -> usize {
-    let found = lanes.simd_lt(u8x16::splat(stops.low))
+    let mask = lanes.simd_lt(u8x16::splat(stops.low))
         | u8x16::splat(stops.high).simd_lt(lanes)
         | lanes.simd_eq(u8x16::splat(stops.first))
         | lanes.simd_eq(u8x16::splat(stops.second))
         | lanes.simd_eq(u8x16::splat(stops.third))
         | lanes.simd_eq(u8x16::splat(stops.fourth));
-    clear_lanes(found.to_bitmask())
+    clear_lanes(mask.to_bitmask())
 }
 
 /// Returns the number of lanes before the first one that differs from the lane of `others` or is a
 /// quote, a backslash or a CR, or 16 if there is none.
 #[inline(always)]
 fn plain_lanes(lanes: u8x16, others: u8x16) -> usize {
-    let found = lanes.simd_ne(others)
+    let mask = lanes.simd_ne(others)
         | lanes.simd_eq(u8x16::splat(b'"'))
         | lanes.simd_eq(u8x16::splat(b'\\'))
         | lanes.simd_eq(u8x16::splat(b'\r'));
-    clear_lanes(found.to_bitmask())
+    clear_lanes(mask.to_bitmask())
 }
 
 /// Returns the length of the longest prefix without stops, of sixteen bytes or more.
@@ -95,12 +95,12 @@ pub fn front_width(bytes: &[u8], stops: Stops) -> usize {
     if bytes.is_empty() || stops.has(bytes[0]) {
         return 0;
     }
-    let seen = if bytes.len() < 16 || stops.has(bytes[1]) {
+    let start = if bytes.len() < 16 || stops.has(bytes[1]) {
         0
     } else {
         front_by_blocks(bytes, stops)
     };
-    for i in seen..bytes.len() {
+    for i in start..bytes.len() {
         if stops.has(bytes[i]) {
             return i;
         }

@@ -52,7 +52,7 @@ pub struct ContentCharacter {
 /// `content_characters` computes them.
 #[inline]
 fn read_characters(content: &str) -> Result<Option<Vec<ContentCharacter>>, AllocError> {
-    let mut found = Vec::new();
+    let mut list = Vec::new();
     let mut rest = Rest::new(content);
     let total = rest.len();
     let mut at = 0;
@@ -62,14 +62,14 @@ fn read_characters(content: &str) -> Result<Option<Vec<ContentCharacter>>, Alloc
         };
         let end = total - rest.len();
         if let Some(c) = value {
-            found.try_push(ContentCharacter {
+            list.try_push(ContentCharacter {
                 span: at..end,
                 character: c,
             })?;
         }
         at = end;
     }
-    Ok(Some(found))
+    Ok(Some(list))
 }
 
 /// Returns the characters that the content of an ordinary string literal stands for, in order, or
@@ -225,12 +225,12 @@ fn ordinary_end(snippet: &str, text: &str) -> Option<usize> {
 /// Consumes this many hashes, and returns whether they were there.
 #[inline]
 fn consume_hashes(rest: &mut Rest<'_>, hashes: usize) -> bool {
-    let mut left = hashes;
-    while left > 0 {
+    let mut countdown = hashes;
+    while countdown > 0 {
         if !rest.next_eq('#') {
             return false;
         }
-        left -= 1;
+        countdown -= 1;
     }
     true
 }

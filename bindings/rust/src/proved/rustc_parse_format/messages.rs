@@ -16,8 +16,8 @@ use core::ops::Range;
 /// Returns the description of a missing closing brace, from the character found in its place, or
 /// `None` at the end of the input.
 #[inline]
-fn expected_brace(found: Option<char>) -> Result<String, AllocError> {
-    let Some(c) = found else {
+fn expected_brace(character: Option<char>) -> Result<String, AllocError> {
+    let Some(c) = character else {
         return String::made_from("expected `}` but string was terminated");
     };
     // 21 bytes, at most 6 for the character, and the closing quote
@@ -155,16 +155,16 @@ pub fn set_error(into: &mut ParseError, fault: &Fault<'_>) -> Result<(), AllocEr
             "unmatched `}`",
             span,
         ),
-        Fault::MissingBrace(found, span, opening) => set_brace_error(
+        Fault::MissingBrace(character, span, opening) => set_brace_error(
             into,
-            expected_brace(*found)?,
+            expected_brace(*character)?,
             "if you intended to print `{`, you can escape it using `{{`",
             span,
             ("because of this opening brace", opening),
         ),
-        Fault::FillBrace(found, span, fill) => set_brace_error(
+        Fault::FillBrace(character, span, fill) => set_brace_error(
             into,
-            expected_brace(*found)?,
+            expected_brace(*character)?,
             "the character `}` is interpreted as a fill character because of the `:` that precedes it",
             span,
             (

@@ -24,8 +24,6 @@ pub struct Source<'input> {
     pub kept_snippet: Option<String>,
     /// Whether the snippet is the source literal of the input.
     pub is_literal: bool,
-    /// Whether the input ends in a newline that was appended to the text of the literal.
-    pub appended_newline: bool,
 }
 
 impl<'input> Source<'input> {
@@ -179,10 +177,10 @@ pub fn source_of<'input>(
     appended_newline: bool,
 ) -> Source<'input> {
     let offset = quote_offset(style);
-    let found = found_end(input, style, &snippet, appended_newline);
-    let is_literal = found.is_some();
+    let literal_end = found_end(input, style, &snippet, appended_newline);
+    let is_literal = literal_end.is_some();
     let is_kept = is_literal && is_longer(input, style, &snippet, appended_newline);
-    let end = found.unwrap_or(plain_end(input, &snippet, appended_newline));
+    let end = literal_end.unwrap_or(plain_end(input, &snippet, appended_newline));
     let kept_snippet = kept_if(is_kept, snippet);
     Source {
         input,
@@ -190,7 +188,6 @@ pub fn source_of<'input>(
         end,
         kept_snippet,
         is_literal,
-        appended_newline,
     }
 }
 

@@ -61,8 +61,8 @@ fn finding<'c>(
     let labels = labels(site, checked.labels(fault)?)?;
     let span = primary_span(site, &labels);
     let notes = notes(site, checked.notes(fault)?)?;
-    let counted = counted_help(checked.help(fault)?, is_whole);
-    let help = help(site, counted)?;
+    let call_help = counted_help(checked.help(fault)?, is_whole);
+    let help = help(site, call_help)?;
     Ok(Finding {
         is_warning: is_warning(fault),
         id: fault.id(),

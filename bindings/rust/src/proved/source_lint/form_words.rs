@@ -25,12 +25,12 @@ fn form_id(form: Form<'_>) -> &'static str {
 
 /// Adds a token that rustc found, in its words.
 #[inline]
-fn put_found(out: &mut String, found: Operator<'_>) -> Result<(), AllocError> {
-    out.try_push_str(kind_word(found.first.text))?;
+fn put_found(out: &mut String, operator: Operator<'_>) -> Result<(), AllocError> {
+    out.try_push_str(kind_word(operator.first.text))?;
     out.try_push_str("`")?;
-    out.try_push_str(found.first.text)?;
-    out.try_push_str(found.second)?;
-    out.try_push_str(found.third)?;
+    out.try_push_str(operator.first.text)?;
+    out.try_push_str(operator.second)?;
+    out.try_push_str(operator.third)?;
     out.try_push_str("`")?;
     Ok(())
 }
@@ -69,13 +69,13 @@ fn put_title(out: &mut String, form: Form<'_>) -> Result<(), AllocError> {
     match form {
         Form::NoString => out.try_push_str("requires at least a format string argument")?,
         Form::NoLiteral { .. } => out.try_push_str("format argument must be a string literal")?,
-        Form::NoComma { expected, found } => {
+        Form::NoComma { expected, operator } => {
             out.try_push_str(expected_words(expected))?;
-            put_found(out, found)?;
+            put_found(out, operator)?;
         }
-        Form::NoOperand(found) => {
+        Form::NoOperand(operator) => {
             out.try_push_str(missing_words())?;
-            put_found(out, found)?;
+            put_found(out, operator)?;
         }
         Form::NoExpression { is_last, .. } => out.try_push_str(end_words(is_last))?,
     }
@@ -136,10 +136,13 @@ fn range_after(
 
 /// Returns the bytes of a token that rustc found.
 #[inline]
-fn found_range(found: Operator<'_>) -> Range<usize> {
-    let first = found.first.start.saturating_add(found.first.text.len());
-    let second = first.saturating_add(found.second.len());
-    found.first.start..second.saturating_add(found.third.len())
+fn found_range(operator: Operator<'_>) -> Range<usize> {
+    let first = operator
+        .first
+        .start
+        .saturating_add(operator.first.text.len());
+    let second = first.saturating_add(operator.second.len());
+    operator.first.start..second.saturating_add(operator.third.len())
 }
 
 /// Returns the bytes that are wrong.
@@ -157,8 +160,8 @@ fn form_range(
             let index = arguments.len().saturating_sub(others).saturating_sub(1);
             argument_range(tokens, arguments, index)
         }
-        Form::NoComma { found, .. } => found_range(found),
-        Form::NoOperand(found) => found_range(found),
+        Form::NoComma { operator, .. } => found_range(operator),
+        Form::NoOperand(operator) => found_range(operator),
         Form::NoExpression { index, is_last } => range_after(tokens, arguments, index, is_last),
     };
     range_in(text, range.start, range.end)
@@ -227,10 +230,10 @@ fn form_labels(text: &str, span: &Range<usize>, form: Form<'_>) -> Result<Vec<La
 /// Adds this many placeholders, each after a space.
 #[inline]
 fn put_more(out: &mut String, count: usize) -> Result<(), AllocError> {
-    let mut left = count;
-    while left > 0 {
+    let mut countdown = count;
+    while countdown > 0 {
         out.try_push_str(" {}")?;
-        left -= 1;
+        countdown -= 1;
     }
     Ok(())
 }

@@ -66,9 +66,9 @@ pub fn givens<'a>(
     tokens: &[Token<'a>],
     arguments: &[Argument],
 ) -> Result<Vec<FormatArgument<'a>>, AllocError> {
-    let mut found = Vec::new();
+    let mut list = Vec::new();
     for argument in arguments {
-        found.try_push(format_argument(tokens, argument))?;
+        list.try_push(format_argument(tokens, argument))?;
     }
-    Ok(found)
+    Ok(list)
 }

@@ -14,25 +14,25 @@ use core::ops::Range;
 /// Returns the ranges of places of a call.
 #[inline]
 fn ranges(site: Site<'_, '_>, spots: &[Spot]) -> Result<Vec<Range<usize>>, AllocError> {
-    let mut found = Vec::new();
+    let mut ranges = Vec::new();
     for spot in spots {
-        found.try_push(spot_range(site, *spot))?;
+        ranges.try_push(spot_range(site, *spot))?;
     }
-    Ok(found)
+    Ok(ranges)
 }
 
 /// Returns notes of a call with the ranges that they show.
 #[inline]
 pub fn notes(site: Site<'_, '_>, notes: Vec<CallNote>) -> Result<Vec<Note>, AllocError> {
-    let mut found = Vec::new();
+    let mut list = Vec::new();
     for note in notes {
         let ranges = ranges(site, &note.spots)?;
-        found.try_push(Note {
+        list.try_push(Note {
             text: note.text,
             ranges,
         })?;
     }
-    Ok(found)
+    Ok(list)
 }
 
 /// Appends the source of a place of a call, if there is one.
@@ -58,13 +58,13 @@ fn edit_text(site: Site<'_, '_>, edit: CallEdit) -> Result<String, AllocError> {
 /// Returns edits of a call with their ranges.
 #[inline]
 fn edits(site: Site<'_, '_>, edits: Vec<CallEdit>) -> Result<Vec<Edit>, AllocError> {
-    let mut found = Vec::new();
+    let mut list = Vec::new();
     for edit in edits {
         let range = spot_range(site, edit.spot);
         let text = edit_text(site, edit)?;
-        found.try_push(Edit { range, text })?;
+        list.try_push(Edit { range, text })?;
     }
-    Ok(found)
+    Ok(list)
 }
 
 /// Returns a help of a call with the ranges of its edits.

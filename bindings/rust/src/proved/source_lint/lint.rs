@@ -45,7 +45,7 @@ fn read_file(
     table: &Table<'_>,
     balance: &mut Balance,
 ) -> Result<Readings, AllocError> {
-    let mut found = Readings {
+    let mut readings = Readings {
         calls: Vec::new(),
         findings: Vec::new(),
     };
@@ -53,9 +53,9 @@ fn read_file(
     while let Some(source) = next_part(&mut rest, table, balance)? {
         let part = Part::new(source)?;
         let calls = calls(part.source(), table)?;
-        read_calls(&mut found, file, &part, &calls)?;
+        read_calls(&mut readings, file, &part, &calls)?;
     }
-    Ok(found)
+    Ok(readings)
 }
 
 /// Adds the findings in the texts of the attributes of a file.
@@ -73,11 +73,11 @@ fn put_attributes(findings: &mut Vec<Finding>, text: &str) -> Result<(), AllocEr
 /// `balance`: the findings in its attributes follow those in its calls.
 #[inline]
 pub fn report_on(text: &str, readings: Readings, balance: Balance) -> Result<Report, AllocError> {
-    let mut found = readings;
-    put_attributes(&mut found.findings, text)?;
+    let mut all_readings = readings;
+    put_attributes(&mut all_readings.findings, text)?;
     Ok(Report {
-        calls: found.calls,
-        findings: found.findings,
+        calls: all_readings.calls,
+        findings: all_readings.findings,
         first_break: balance.first_break(),
     })
 }
@@ -94,7 +94,7 @@ pub fn file_faults(text: &str, options: &Options<'_>) -> Result<Report, AllocErr
         is_from_2021: options.is_from_2021,
     };
     let mut balance = Balance::new();
-    let found = read_file(file, &options.table, &mut balance)?;
-    let report = report_on(text, found, balance)?;
+    let readings = read_file(file, &options.table, &mut balance)?;
+    let report = report_on(text, readings, balance)?;
     Ok(report)
 }

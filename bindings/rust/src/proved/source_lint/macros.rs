@@ -55,19 +55,19 @@ fn put_definition<'a>(
 /// Returns the names of the macros that a file defines by `macro_rules!`, without `r#`.
 #[inline]
 pub fn macro_names<'a>(text: &'a str) -> Result<BTreeSet<&'a [u8]>, AllocError> {
-    let mut found = BTreeSet::new();
+    let mut names = BTreeSet::new();
     if !text.contains("macro_rules") {
-        return Ok(found);
+        return Ok(names);
     }
     let mut rest = Tokens::new(text);
     let mut before = None;
     let mut last = None;
     while let Some(token) = rest.next() {
-        put_definition(&mut found, before, last, &token)?;
+        put_definition(&mut names, before, last, &token)?;
         before = last;
         last = Some(token);
     }
-    Ok(found)
+    Ok(names)
 }
 
 /// Returns whether a word is one of these names.

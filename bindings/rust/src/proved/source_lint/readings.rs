@@ -60,10 +60,10 @@ fn read_string(
     let Some(literal) = read_literal(site.literal.text, appended_newline)? else {
         return Ok(CallReading::Malformed);
     };
-    let given = counted_givens(site.tokens, site.arguments, is_counted)?;
+    let arguments = counted_givens(site.tokens, site.arguments, is_counted)?;
     let text = literal.text.as_str();
     let snippet = literal.snippet.as_str();
-    let list = given.as_slice();
+    let list = arguments.as_slice();
     let string = FormatString {
         text,
         style: literal.style,
@@ -105,18 +105,18 @@ pub fn ends_early(rule: Rule) -> bool {
 /// Returns the arguments that start before a token, of which the last ends there at the latest.
 #[inline]
 pub fn arguments_before(arguments: &[Argument], end: usize) -> Result<Vec<Argument>, AllocError> {
-    let mut found = Vec::new();
+    let mut list = Vec::new();
     for argument in arguments {
         if argument.start >= end {
-            return Ok(found);
+            return Ok(list);
         }
-        found.try_push(Argument {
+        list.try_push(Argument {
             start: argument.start,
             end: argument.end.min(end),
             is_named: argument.is_named,
         })?;
     }
-    Ok(found)
+    Ok(list)
 }
 
 /// Reads a call with this literal as its format string and these arguments after it, and adds its
@@ -172,14 +172,14 @@ fn read_at(
         string.start + 1,
         call.close,
     );
-    let counted = extent.is_counted;
+    let is_counted = extent.is_counted;
     let others = &arguments[index + 1..];
     if extent.end == call.close {
-        let reading = read_with(findings, file, part, call, literal, others, counted)?;
+        let reading = read_with(findings, file, part, call, literal, others, is_counted)?;
         return Ok(reading);
     }
     let before = arguments_before(others, extent.end)?;
-    let reading = read_with(findings, file, part, call, literal, &before, counted)?;
+    let reading = read_with(findings, file, part, call, literal, &before, is_counted)?;
     Ok(reading)
 }
 

@@ -36,8 +36,8 @@ fn rest_after(bytes: &[u8], n: usize) -> &[u8] {
 /// Makes an edit.
 #[inline]
 fn make(edited: &mut Edited<'_>, edit: &Edit<'_>) -> Result<(), AllocError> {
-    let kept = front(edited.rest, edit.span.start.saturating_sub(edited.end));
-    edited.bytes.try_extend_from_slice(kept)?;
+    let source = front(edited.rest, edit.span.start.saturating_sub(edited.end));
+    edited.bytes.try_extend_from_slice(source)?;
     edited.bytes.try_extend_from_slice(edit.text.as_bytes())?;
     edited.rest = rest_after(edited.rest, edit.span.end.saturating_sub(edited.end));
     edited.end = edit.span.end;

@@ -54,13 +54,13 @@ fn first_change(rows: &[Row<'_>]) -> Option<usize> {
 /// Returns how many of these rows, of which one of the first is a change, belong to one hunk.
 #[inline]
 fn hunk_len(rows: &[Row<'_>]) -> usize {
-    let mut seen = 0usize;
+    let mut count = 0usize;
     let mut changed = 0usize;
     for row in rows {
-        seen = seen.saturating_add(1);
+        count = count.saturating_add(1);
         if !is_shared(row.side) {
-            changed = seen;
-        } else if seen.saturating_sub(changed) > 2 * CONTEXT {
+            changed = count;
+        } else if count.saturating_sub(changed) > 2 * CONTEXT {
             break;
         }
     }

@@ -88,9 +88,9 @@ impl<'a> Rest<'a> {
     /// Skips in both texts the plain characters with which they go on alike.
     #[inline(always)]
     pub fn skip_plain(&mut self, other: &mut Rest<'_>) {
-        let (rest, left) = after_plain(self.text, other.text);
+        let (rest, other_rest) = after_plain(self.text, other.text);
         self.text = rest;
-        other.text = left;
+        other.text = other_rest;
     }
 
     /// Returns whether the rest begins with a string continuation: a backslash and an LF.
