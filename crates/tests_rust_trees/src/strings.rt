@@ -9,7 +9,7 @@ use std::alloc::{AllocError, Global};
 pub fn format_strings(alloc: Global, text: &str) -> Result<Vec<&str>, AllocError> {
     let source = Source::new(alloc, text)?;
     let table = Table::standard(alloc)?;
-    let mut found = Vec::new(alloc);
+    let mut strings = Vec::new(alloc);
     for call in &calls(alloc, &source, &table)? {
         let Some(list) = arguments(alloc, &source, call.close)? else {
             continue;
@@ -19,9 +19,9 @@ pub fn format_strings(alloc: Global, text: &str) -> Result<Vec<&str>, AllocError
         };
         if let Some(argument) = list.get(index) {
             if let Some(token) = source.tokens().get(argument.start) {
-                found.push(token.text)?;
+                strings.push(token.text)?;
             }
         }
     }
-    Ok(found)
+    Ok(strings)
 }
