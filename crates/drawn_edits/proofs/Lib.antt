@@ -4,3 +4,5 @@ pub mod HarmlessHelps
 pub mod WhiteSpace
 pub mod PlusColumns
 pub mod PlusLaws
+pub mod PageLines
+pub mod ShownLines

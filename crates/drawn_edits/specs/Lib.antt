@@ -2,3 +2,4 @@ pub mod Edited
 pub mod Helps
 pub mod PlusSigns
 pub mod Suggestions
+pub mod ShownLines

@@ -4,6 +4,7 @@
 mod changes;
 mod edit_rows;
 mod edited;
+pub mod laws;
 mod suggestions;
 
 pub use edited::{Edit, placed_edit};

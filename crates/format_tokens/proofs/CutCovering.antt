@@ -58,7 +58,7 @@ unit-narrower t v r e =
       some-width (spelling m.unit) some,
     )
 
-escape-narrower : (t v r : Text) → escape_at t ≡ Some (v, r) → byte_length r < byte_length t
+pub escape-narrower : (t v r : Text) → escape_at t ≡ Some (v, r) → byte_length r < byte_length t
 escape-narrower [] v r e = absurd (cc e)
 escape-narrower (c ∷ t) v r e = by_sign (c == 92) refl
   where
@@ -114,7 +114,7 @@ front-narrow n (c ∷ t) =
       width-cons c (front_within (n - len_utf8 c) t),
     ))
 
-token-cover : (x : Placed) (t : Text) → x.1.0 < x.1.1
+pub token-cover : (x : Placed) (t : Text) → x.1.0 < x.1.1
     → IsCover x.1.0 x.1.1 (ranges_of (parts x (front_within (x.1.1 - x.1.0) t)))
 unfolding parts
 token-cover x t some =

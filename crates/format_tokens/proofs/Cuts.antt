@@ -15,7 +15,7 @@ use Rattle.rustc_parse_format.proofs.Sources.PlainPlaces.{width_chars}
 use Rattle.format_tokens.specs.Escapes.{front_within, rest_within}
 
 -- If no character of v ends within w bytes after u, the characters of u are those within w bytes.
-front_within-append : (w : ℕ) (u v : Text) → byte_length u ≤ w
+pub front_within-append : (w : ℕ) (u v : Text) → byte_length u ≤ w
     → ((c : ℕ) (t : Text) → v ≡ c ∷ t → w < byte_length u + len_utf8 c)
     → front_within w (u ++ v) ≡ u
 front_within-append w [] [] h k = refl
@@ -30,7 +30,8 @@ front_within-append w (d ∷ u) v h k =
     (λ c t f. omega (arith, h, all, k c t f)) in
     rw (e, rest) refl
 
-rest_within-append : (w : ℕ) (u v : Text) → front_within w (u ++ v) ≡ u → rest_within w (u ++ v) ≡ v
+pub rest_within-append : (w : ℕ) (u v : Text) → front_within w (u ++ v) ≡ u
+    → rest_within w (u ++ v) ≡ v
 rest_within-append w u v e = ap (λ t. drop (length t) (u ++ v)) e ∙ drop-append_seam u v
 
 -- The last place of a text within w bytes that is between two characters.

@@ -1,8 +1,10 @@
+pub mod Boundaries
 pub mod CallMarks
 pub mod Calls
 pub mod Counts
 pub mod Covering
 pub mod CutCovering
+pub mod CutMarks
 pub mod Cuts
 pub mod Cutting
 pub mod FieldMarks
@@ -10,6 +12,7 @@ pub mod InText
 pub mod Joining
 pub mod LastMarks
 pub mod Lexing
+pub mod LiteralMarks
 pub mod Marking
 pub mod Numbers
 pub mod Ordinary

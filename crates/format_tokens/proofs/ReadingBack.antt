@@ -18,7 +18,7 @@ use Rattle.rustc_parse_format.proofs.Spans.ReadBack.{forward-reads_back}
 use Rattle.rustc_parse_format.proofs.Spans.Units.{IsApart, before-all, before-inside}
 use Rattle.rustc_parse_format.proofs.Spans.Units.{content-ordered, start-apart}
 use Rattle.rustc_parse_format.proofs.Spans.Worlds.{known}
-use Rattle.format_tokens.specs.Covers.{IsCover, in_quotes, read_back, ranges_of}
+use Rattle.format_tokens.specs.Covers.{AreParts, IsCover, in_quotes, read_back, ranges_of}
 use Rattle.format_tokens.specs.declared.kinds.Kind.TheVariants.{Quote}
 use Rattle.format_tokens.specs.Escapes.{Placed}
 use Rattle.format_tokens.specs.Placed.{cut_in, placed, shown, tokens, whole_tokens}
@@ -26,6 +26,7 @@ use Rattle.format_tokens.specs.Tokens.{Label, joined}
 use Rattle.format_tokens.proofs.Covering.{source-length, source-tokens, start-end}
 use Rattle.format_tokens.proofs.CutCovering.{source-cut, tokens-cover}
 use Rattle.format_tokens.proofs.Joining.{shown-joined}
+use Rattle.format_tokens.proofs.LiteralMarks.{source-parts}
 
 -- What is between the first characters and the last ones.
 middle : (d u r : Text) → drop (length d) (take (length d + length u) (d ++ (u ++ r))) ≡ u
@@ -149,10 +150,14 @@ cover-of mode input style snippet b ts e source f h =
 pub reads_back-of : (mode : Mode) (input : Text) (style : Option ℕ) (snippet : Option Text)
     (b : Bool) (ts : List Placed) → ts ≡ tokens mode input style snippet b
     → (source : Text) → snippet ≡ Some source → IsSource input style source b
-    → (whole : List Placed) × (ts ≡ cut_in style source whole)
+    → (whole : List Placed) × (ts ≡ cut_in style source whole) × AreParts whole ts
     × (read_back input style source b whole ≡ in_quotes (shown mode input b))
-reads_back-of mode input style snippet b ts e source f h = (
-  whole_tokens mode input style (Some source) b,
-  e ∙ (ap (λ s. tokens mode input style s b) f ∙ source-cut mode input style source b h),
-  tokens-read_back mode input style source b h,
-)
+reads_back-of mode input style snippet b ts e source f h =
+    let whole = whole_tokens mode input style (Some source) b in
+    let same : ts ≡ cut_in style source whole =
+    e ∙ (ap (λ s. tokens mode input style s b) f ∙ source-cut mode input style source b h) in (
+      whole,
+      same,
+      subst (λ xs. AreParts whole xs) (sym same) (source-parts mode input style source b h),
+      tokens-read_back mode input style source b h,
+    )

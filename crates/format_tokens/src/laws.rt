@@ -1,6 +1,6 @@
 //! Theorems about the definitions alone, each as the contract of a function that does nothing.
 
-ghost use Rattle.std.specs.Prelude.{◌≡◌, ℕ, Bool, List, false, flat_map, map};
+ghost use Rattle.std.specs.Prelude.{◌≡◌, ℕ, Bool, List, Option, false, flat_map, map};
 ghost use Rattle.std.specs.List.{AllByRecursion};
 ghost use Rattle.rustc_parse_format.specs.Characters.{Text};
 ghost use Rattle.rustc_parse_format.specs.Grammar.{Reads, piece_values};
@@ -9,7 +9,7 @@ ghost use Rattle.rustc_parse_format.specs.Syntax.{PieceText};
 ghost use Rattle.rustc_parse_format.specs.Types.{Mode, Piece, wants_names};
 ghost use Rattle.format_tokens.specs.Culprits.{marked};
 ghost use Rattle.format_tokens.specs.Escapes.{Placed, parts};
-ghost use Rattle.format_tokens.specs.Placed.{shown};
+ghost use Rattle.format_tokens.specs.Placed.{shown, tokens};
 ghost use Rattle.format_tokens.specs.Sections.{HasAppended, Section, faults_of, has_fault};
 ghost use Rattle.format_tokens.specs.Sections.{has_mark, sections};
 ghost use Rattle.format_tokens.specs.Sequences.{apart, is_sequence, sequence, sequences};
@@ -45,7 +45,8 @@ pub fn escapes()
 /// States that each fault of a text has a mark, and each mark a fault, between the same two
 /// placeholders: a section of the text, from an opening brace that stands alone up to the next one,
 /// has a token that is `Unexpected` or a `RawPrefix` exactly if calls find a fault in it. The
-/// sections have the tokens and the faults of the text, in order. Does nothing.
+/// sections have the tokens and the faults of the text, in order. The tokens of the text in its
+/// literal, cut at escapes there, have a mark exactly if the text has a fault. Does nothing.
 pub fn marks()
     ensures tokens { (mode : Mode) (t : Text)
         → tokens_of mode t ≡ flat_map (λ (s : Section). s.tokens) (sections mode t) }
@@ -54,6 +55,7 @@ pub fn marks()
     ensures marks { (mode : Mode) (t : Text)
         → AllByRecursion (λ (s : Section). has_mark s.tokens ≡ has_fault s.faults)
         (sections mode t) }
-    ensures shown { (mode : Mode) (input : Text) (appended : Bool) → HasAppended appended input
-        → has_mark (shown mode input appended) ≡ has_fault (faults_of mode input) }
+    ensures literals { (mode : Mode) (input : Text) (style : Option ℕ) (snippet : Option Text)
+        (appended : Bool) → HasAppended appended input
+        → has_mark (tokens mode input style snippet appended) ≡ has_fault (faults_of mode input) }
 {}

@@ -8,8 +8,8 @@ ghost use Rattle.rustc_parse_format.specs.Seen.{seen_mode, seen_snippet};
 ghost use Rattle.rustc_parse_format.specs.Source.{HasSource, unappended};
 ghost use Rattle.rustc_parse_format.specs.Types.{Mode, wants_names};
 ghost use Rattle.rustc_parse_format.specs.World.{hashes, world};
-ghost use Rattle.format_tokens.specs.Covers.{IsCover, encoded, in_quotes, ranges_of};
-ghost use Rattle.format_tokens.specs.Covers.{read_back, slices};
+ghost use Rattle.format_tokens.specs.Covers.{AreParts, IsCover, encoded, in_quotes};
+ghost use Rattle.format_tokens.specs.Covers.{ranges_of, read_back, slices};
 ghost use Rattle.format_tokens.specs.Midway.{sized};
 ghost use Rattle.format_tokens.specs.Placed.{cut_in, shown, tokens, whole_tokens};
 ghost use Rattle.format_tokens.specs.Escapes.{Placed};
@@ -196,12 +196,14 @@ pub fn tokens(
         → IsCover 0 (byte_length source) (ranges_of (map seen_token v.items))) }
 
     // They are other tokens, cut at the escapes of the literal: those of the input, in the same
-    // kinds and order for each style and snippet, between those of two quotes. The part of the
-    // snippet in each of those, with its escapes decoded, is the characters of the token; in the
-    // quotes there are none.
+    // kinds and order for each style and snippet, between those of two quotes. The parts of each
+    // are of its kind, or escapes, and one is a mark exactly if it is one. The part of the snippet
+    // in each of those, with its escapes decoded, is the characters of the token; in the quotes
+    // there are none.
     ensures reads_back { IfOk result (λ v. (source : Text) → seen_snippet snippet ≡ Some source
         → IsSource (chars input.now) style source appended_newline
         → (whole : List Placed) × (map seen_token v.items ≡ cut_in style source whole)
+        × AreParts whole (map seen_token v.items)
         × (read_back (chars input.now) style source appended_newline whole
         ≡ in_quotes (shown (seen_mode mode) (chars input.now) appended_newline))) }
 

@@ -1,4 +1,4 @@
-use Rattle.format_tokens.proofs.LastMarks.{shown-marks}
+use Rattle.format_tokens.proofs.LiteralMarks.{literal-marks}
 use Rattle.format_tokens.proofs.SectionLaws.{section-marks}
 use Rattle.format_tokens.proofs.Sectioning.{sections-faults, sections-tokens}
 use Rattle.format_tokens.proofs.laws.marks.Goals as goal
@@ -12,5 +12,5 @@ returns-clause-faults c = sections-faults
 pub returns-clause-marks : goal.returns-clause-marks
 returns-clause-marks c = section-marks
 
-pub returns-clause-shown : goal.returns-clause-shown
-returns-clause-shown c = shown-marks
+pub returns-clause-literals : goal.returns-clause-literals
+returns-clause-literals c = literal-marks
