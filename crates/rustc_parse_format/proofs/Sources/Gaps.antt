@@ -65,15 +65,16 @@ first-here bs input appended end n w same u o f =
 -- in the words of a source
 pub kept-ordinary : (s : Source) (snippet : String Global) → s.kept_snippet ≡ Some snippet
     → IsKept s →
-    IsOrdinary (chars s.input.now) (chars (string_bytes snippet)) (is_appended (chars s.input.now) (chars (string_bytes snippet))) s.end
+    IsOrdinary (chars s.input.now) (chars (string_bytes snippet))
+    (is_appended (chars s.input.now) (chars (string_bytes snippet))) s.end
 kept-ordinary s snippet e k = rw e at k
 
 pub first-boundary : (s : Source) (snippet : String Global) → s.kept_snippet ≡ Some snippet
     → IsKept s
     → IsCharBoundary (string_bytes snippet) 1
 first-boundary s snippet e k =
-    let b = opened (string_bytes snippet) (chars s.input.now) (is_appended (chars s.input.now) (chars (string_bytes snippet))) s.end
-    (world_with (Some snippet) s) (refl, refl)
+    let b = opened (string_bytes snippet) (chars s.input.now)
+    (is_appended (chars s.input.now) (chars (string_bytes snippet))) s.end (world_with (Some snippet) s) (refl, refl)
     (IsUtf8-string_bytes snippet) (kept-ordinary s snippet e k) in
     IsCharBoundary-from_drop (string_bytes snippet) 1 b.within b.is_text
 
@@ -82,7 +83,8 @@ pub first-found : (s : Source) (snippet : String Global) (n : ℕ) → s.kept_sn
     → Closes (drop 1 (string_bytes snippet)) n →
     IsHere (string_bytes snippet) (world_with (Some snippet) s) (chars s.input.now) (1 + n)
 first-found s snippet n e k f =
-    first-here (string_bytes snippet) (chars s.input.now) (is_appended (chars s.input.now) (chars (string_bytes snippet))) s.end n
+    first-here (string_bytes snippet) (chars s.input.now)
+    (is_appended (chars s.input.now) (chars (string_bytes snippet))) s.end n
     (world_with (Some snippet) s) (refl, refl)
     (IsUtf8-string_bytes snippet) (kept-ordinary s snippet e k) f
 

@@ -15,7 +15,8 @@ use Rattle.rustc_parse_format.specs.LiteralUnits.{LiteralUnit}
 use Rattle.rustc_parse_format.specs.Literal.{units, content_value, newline}
 use Rattle.rustc_parse_format.specs.Source.{between}
 use Rattle.rustc_parse_format.specs.Bytes.{IsLeft}
-use Rattle.rustc_parse_format.specs.SeenSource.{IsAnchorIn, IsAnchored, IsHere, is_appended, seen_world}
+use Rattle.rustc_parse_format.specs.SeenSource.{IsAnchorIn, IsAnchored, IsHere, is_appended}
+use Rattle.rustc_parse_format.specs.SeenSource.{seen_world}
 use Rattle.rustc_parse_format.specs.SeenSource.{world_with}
 use Rattle.rustc_parse_format.specs.Midway.{IsPastIndent}
 use Rattle.rustc_parse_format.specs.World.{World, place_at, content_places, newline_places}
@@ -68,7 +69,8 @@ kept_here (Some snippet) s rest a l m h =
     let us : List LiteralUnit = unwrap_or (units (between (chars (string_bytes snippet)))) [] in
     record {
       from = 1;
-      in_order = ordinary-in_order us (is_appended (chars s.input.now) (chars (string_bytes snippet)));
+      in_order = ordinary-in_order us
+          (is_appended (chars s.input.now) (chars (string_bytes snippet)));
       enough = omega (
         arith,
         here-enough (string_bytes snippet) (world_with (Some snippet) s)
