@@ -74,7 +74,8 @@ pub first-boundary : (s : Source) (snippet : String Global) → s.kept_snippet �
     → IsCharBoundary (string_bytes snippet) 1
 first-boundary s snippet e k =
     let b = opened (string_bytes snippet) (chars s.input.now)
-    (is_appended (chars s.input.now) (chars (string_bytes snippet))) s.end (world_with (Some snippet) s) (refl, refl)
+    (is_appended (chars s.input.now) (chars (string_bytes snippet))) s.end
+    (world_with (Some snippet) s) (refl, refl)
     (IsUtf8-string_bytes snippet) (kept-ordinary s snippet e k) in
     IsCharBoundary-from_drop (string_bytes snippet) 1 b.within b.is_text
 
