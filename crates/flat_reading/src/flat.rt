@@ -162,6 +162,7 @@ fn count(count: &Count<'_>, name: Extent) -> CountRecord
 
 /// Returns the record of a specification. `texts` has the byte ranges of its texts in the input.
 #[tactic(auto, unfolding(crate::specs::Meant::spec_meant))]
+#[inline(always)]
 fn spec_record(spec: &FormatSpec<'_>, texts: &Texts) -> Spec
     ensures { (input : List ℕ) → SpecAt input texts.now (seen_spec spec.now)
         → spec_meant input result ≡ seen_spec spec.now }
