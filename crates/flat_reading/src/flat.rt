@@ -379,8 +379,8 @@ fn put_bare_argument(argument: &Argument<'_>, text: Extent, step: &mut Step)
     step.spec = no_spec(&argument.format);
 }
 
-/// Writes an argument as `put_plain_argument` does. It is a call of its own, so that the texts stand
-/// in no memory and the calls for other pieces keep no room for them.
+/// Writes an argument as `put_plain_argument` does, also one with a specification. It is no part of
+/// that function, which is inlined, so that other pieces take no room for what it needs.
 #[inline(never)]
 fn put_full_argument(
     argument: &Argument<'_>,

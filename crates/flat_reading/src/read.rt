@@ -101,9 +101,10 @@ fn put_lines(spans: &[Range<usize>], lines: &mut [Extent])
 }
 
 /// Reads an input to its end with a parser that is at its start, and writes the results as `read`
-/// does. `offset` and `escapes` are those of a `Walker`. They are given, as the parser is, so that
-/// the walker is the first value that is made here: nothing is then copied into it, and its room is
-/// not filled twice. Returns `Err` if an allocation fails, and `answer` is then unchanged.
+/// does. `offset` and `escapes` are those of a `Walker`. They are given, as the parser is, so that no
+/// branch comes before the walker is made: the compiler then writes each of its fields once, and
+/// neither fills it with zeros first nor copies the parser. Returns `Err` if an allocation fails, and
+/// `answer` is then unchanged.
 #[inline(always)]
 fn read_by<'a>(
     alloc: Global,
@@ -161,15 +162,9 @@ fn read_by<'a>(
     Ok(())
 }
 
-/// Reads an input, up to and including the call at its end, and writes the results into buffers of
-/// the caller.
-///
-/// The input may have at most 10^12 bytes, and a raw literal at most 10^12 hashes, as in each
-/// `Task` that `task_of` returns. `answer` has the lengths of all results, in records and, for
-/// `texts`, in bytes, even if they do not fit; if they all fit, they are all written. Returns `Err`
-/// if an allocation fails: `answer` is then unchanged, and the contents of the buffers are
-/// unspecified.
-pub fn read(
+/// Reads an input as `read` does, with or without a snippet.
+#[inline(always)]
+fn read_with_snippet(
     alloc: Global,
     task: Task<'_>,
     steps: &mut [Step],
@@ -206,4 +201,57 @@ pub fn read(
     read_by(
         alloc, start, task, offset, escapes, steps, specs, faults, texts, lines, answer,
     )
+}
+
+/// Reads an input, up to and including the call at its end, and writes the results into buffers of
+/// the caller.
+///
+/// The input may have at most 10^12 bytes, and a raw literal at most 10^12 hashes, as in each
+/// `Task` that `task_of` returns. `answer` has the lengths of all results, in records and, for
+/// `texts`, in bytes, even if they do not fit; if they all fit, they are all written. Returns `Err`
+/// if an allocation fails: `answer` is then unchanged, and the contents of the buffers are
+/// unspecified.
+pub fn read(
+    alloc: Global,
+    task: Task<'_>,
+    steps: &mut [Step],
+    specs: &mut [Spec],
+    faults: &mut [Fault],
+    texts: &mut [u8],
+    lines: &mut [Extent],
+    answer: &mut Answer,
+) -> Result<(), AllocError>
+    requires input_length { length task.input.now ≤ limit }
+    requires hashes { hashes task.style ≤ limit }
+    ensures counted { OnOk result
+        (IsCounted task.entry.peeks (asked_state task.entry) answer.new) }
+    ensures described { OnOk result
+        (Fits (buffers steps.old specs.old faults.old texts.old lines.old) answer.new
+        → IsDescribed task.entry.peeks (asked_state task.entry) task.entry.input.now
+        (buffers steps.new specs.new faults.new texts.new lines.new) answer.new) }
+    ensures kept { OnOk result
+        (IsKept answer.new (buffers steps.old specs.old faults.old texts.old lines.old)
+        (buffers steps.new specs.new faults.new texts.new lines.new)) }
+    ensures err { OnErr result (answer.new ≡ answer.old) }
+{
+    // (The case without a snippet stands by itself, since the compiler then leaves most of what
+    // `Parser::new` does out of it.)
+    match task.snippet {
+        Some(_) => read_with_snippet(alloc, task, steps, specs, faults, texts, lines, answer),
+        None => {
+            let start = Parser::new(
+                alloc,
+                task.input,
+                task.style,
+                None,
+                task.appended_newline,
+                task.mode,
+            )?;
+            let escapes = mode_with_escapes(&start, &task);
+            let offset = offset_of(task.style);
+            read_by(
+                alloc, start, task, offset, escapes, steps, specs, faults, texts, lines, answer,
+            )
+        }
+    }
 }
