@@ -101,10 +101,10 @@ fn put_lines(spans: &[Range<usize>], lines: &mut [Extent])
 }
 
 /// Reads an input to its end with a parser that is at its start, and writes the results as `read`
-/// does. `offset` and `escapes` are those of a `Walker`. They are given, as the parser is, so that no
-/// branch comes before the walker is made: the compiler then writes each of its fields once, and
-/// neither fills it with zeros first nor copies the parser. Returns `Err` if an allocation fails, and
-/// `answer` is then unchanged.
+/// does. `offset` and `escapes` are those of a `Walker`. They are given, as the parser is, so that
+/// no branch comes before the walker is made: the compiler then writes each of its fields once, and
+/// neither fills it with zeros first nor copies the parser. Returns `Err` if an allocation fails,
+/// and `answer` is then unchanged.
 #[inline(always)]
 fn read_by<'a>(
     alloc: Global,
