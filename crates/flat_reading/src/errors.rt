@@ -152,6 +152,7 @@ fn put_error(texts: &mut [u8], size: &mut usize, error: &ParseError, step: usize
 
 /// Writes the records of the errors and their texts, as far as they fit. Returns the length of all
 /// their texts in bytes, or `usize::MAX` if that is less. Does not allocate.
+#[inline(always)]
 pub fn put_errors(
     errors: &[ParseError],
     finders: &Finders,

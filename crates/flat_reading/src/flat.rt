@@ -162,6 +162,7 @@ fn count(count: &Count<'_>, name: Extent) -> CountRecord
 
 /// Returns the record of a specification. `texts` has the byte ranges of its texts in the input.
 #[tactic(auto, unfolding(crate::specs::Meant::spec_meant))]
+#[inline(always)]
 fn spec_record(spec: &FormatSpec<'_>, texts: &Texts) -> Spec
     ensures { (input : List ℕ) → SpecAt input texts.now (seen_spec spec.now)
         → spec_meant input result ≡ seen_spec spec.now }
@@ -260,7 +261,7 @@ impl<'a> SpecBuffer<'a> {
     }
 
     /// Adds a specification, which is written if it fits, and returns its number, from 1.
-    #[inline(never)]
+    #[inline(always)]
     fn add(&mut self, spec: &FormatSpec<'_>, texts: &Texts) -> usize
         requires room { self.old.count < usize.MAX }
         ensures described { (input : List ℕ) → SpecAt input texts.now (seen_spec spec.now)
@@ -311,7 +312,7 @@ fn position(position: &Position<'_>) -> (u32, usize)
 /// Writes an argument into its step, and adds its specification unless that is the default one.
 /// `texts` has the byte ranges of its texts in the input.
 #[tactic(auto, unfolding(crate::specs::Meant::piece_meant))]
-#[inline(never)]
+#[inline(always)]
 pub fn put_argument(
     argument: &Argument<'_>,
     texts: &Texts,
@@ -378,6 +379,30 @@ fn put_bare_argument(argument: &Argument<'_>, text: Extent, step: &mut Step)
     step.spec = no_spec(&argument.format);
 }
 
+/// Writes an argument as `put_plain_argument` does, also one with a specification. It is no part of
+/// that function, which is inlined, so that other pieces take no room for what it needs.
+#[inline(never)]
+fn put_full_argument(
+    argument: &Argument<'_>,
+    input: &str,
+    offset: usize,
+    specs: &mut SpecBuffer<'_>,
+    step: &mut Step,
+)
+    requires stands { ArgumentStands input.now offset (seen_argument argument.now) }
+    requires room { specs.old.count < usize.MAX }
+    ensures described { specs.new.count ≤ length specs.old.records.now
+        → piece_meant input.now (spec_at input.now specs.new.records.now step.new.spec) step.new
+        ≡ Some (NextArgument (seen_argument argument.now)) }
+    ensures number { step.new.spec ≤ specs.new.count }
+    ensures adds { Adds (if is_default (seen_spec argument.now.format)
+        then 0 else 1) specs.old specs.new }
+    ensures others { SameAfter step.old step.new }
+{
+    let texts = argument_texts(input, offset, argument);
+    put_argument(argument, &texts, specs, step);
+}
+
 /// Writes an argument into its step, and adds its specification unless that is the default one.
 /// The byte ranges of its texts in the input, if it has any, are their spans, less an offset; those
 /// of the default specification are not computed.
@@ -402,7 +427,6 @@ pub fn put_plain_argument(
     if is_default(&argument.format) {
         put_bare_argument(argument, name_extent(input, offset, argument), step);
     } else {
-        let texts = argument_texts(input, offset, argument);
-        put_argument(argument, &texts, specs, step);
+        put_full_argument(argument, input, offset, specs, step);
     }
 }

@@ -3,7 +3,7 @@
 ghost use Rattle.std.specs.Prelude.{◌≡◌, ◌≤◌, IfNone, IfOk, IfSome, IsFalse, None, OnErr, OnOk};
 ghost use Rattle.std.specs.Prelude.{Some, chars, drop, length, map, option_map};
 ghost use Rattle.std.specs.Prelude.{string_bytes, take};
-ghost use Rattle.rustc_parse_format.specs.Seen.{pair};
+ghost use Rattle.rustc_parse_format.specs.Seen.{pair, seen_mode};
 ghost use Rattle.rustc_parse_format.specs.LiteralReading.{is_longer};
 ghost use Rattle.rustc_parse_format.specs.World.{hashes, quote_offset};
 ghost use Rattle.flat_reading.specs.Asked.{Fits, IsCounted, IsKept, IsDescribed, asked_state};
@@ -101,13 +101,17 @@ fn put_lines(spans: &[Range<usize>], lines: &mut [Extent])
 }
 
 /// Reads an input to its end with a parser that is at its start, and writes the results as `read`
-/// does. It does not make the parser, whose room would then be filled twice. Returns `Err` if an
-/// allocation fails, and `answer` is then unchanged.
+/// does. `offset` and `escapes` are those of a `Walker`. They are given, as the parser is, so that
+/// no branch comes before the walker is made: the compiler then writes each of its fields once, and
+/// neither fills it with zeros first nor copies the parser. Returns `Err` if an allocation fails,
+/// and `answer` is then unchanged.
 #[inline(always)]
 fn read_by<'a>(
     alloc: Global,
     start: Parser<'a>,
     task: Task<'a>,
+    offset: usize,
+    escapes: Option<ParseMode>,
     steps: &mut [Step],
     specs: &mut [Spec],
     faults: &mut [Fault],
@@ -118,6 +122,8 @@ fn read_by<'a>(
     requires input_length { length task.input.now ≤ limit }
     requires hashes { hashes task.style ≤ limit }
     requires start { start ≡ asked_state task }
+    requires plain { IfNone escapes (IsPlain start offset) }
+    requires mode { IfSome escapes (λ m. seen_mode m ≡ start.mode) }
     requires short { length start.rest ≤ length task.input.now }
     ensures counted { OnOk result
         (IsCounted task.entry.peeks (asked_state task.entry) answer.new) }
@@ -130,15 +136,13 @@ fn read_by<'a>(
         (buffers steps.new specs.new faults.new texts.new lines.new)) }
     ensures err { OnErr result (answer.new ≡ answer.old) }
 {
+    let is_source_literal = flag(start.is_source_literal());
+    let mut walker = Walker::new(alloc, start, task.input, offset, escapes, task.peeks);
     let mut peek = NO_EXTENT;
     let mut peek_ahead = NO_EXTENT;
-    let escapes = mode_with_escapes(&start, &task);
-    let is_source_literal = flag(start.is_source_literal());
     if task.peeks {
-        look_ahead(&start, &mut peek, &mut peek_ahead);
+        look_ahead(&walker.parser, &mut peek, &mut peek_ahead);
     }
-    let offset = offset_of(task.style);
-    let mut walker = Walker::new(alloc, start, task.input, offset, escapes, task.peeks);
     let mut specs = SpecBuffer::new(specs);
     let count = walker.walk(steps, &mut specs)?;
     let errors = walker.parser.errors();
@@ -156,6 +160,47 @@ fn read_by<'a>(
         peek_ahead,
     };
     Ok(())
+}
+
+/// Reads an input as `read` does, with or without a snippet.
+#[inline(always)]
+fn read_with_snippet(
+    alloc: Global,
+    task: Task<'_>,
+    steps: &mut [Step],
+    specs: &mut [Spec],
+    faults: &mut [Fault],
+    texts: &mut [u8],
+    lines: &mut [Extent],
+    answer: &mut Answer,
+) -> Result<(), AllocError>
+    requires input_length { length task.input.now ≤ limit }
+    requires hashes { hashes task.style ≤ limit }
+    ensures counted { OnOk result
+        (IsCounted task.entry.peeks (asked_state task.entry) answer.new) }
+    ensures described { OnOk result
+        (Fits (buffers steps.old specs.old faults.old texts.old lines.old) answer.new
+        → IsDescribed task.entry.peeks (asked_state task.entry) task.entry.input.now
+        (buffers steps.new specs.new faults.new texts.new lines.new) answer.new) }
+    ensures kept { OnOk result
+        (IsKept answer.new (buffers steps.old specs.old faults.old texts.old lines.old)
+        (buffers steps.new specs.new faults.new texts.new lines.new)) }
+    ensures err { OnErr result (answer.new ≡ answer.old) }
+{
+    let literal = owned_snippet(alloc, task.snippet)?;
+    let start = Parser::new(
+        alloc,
+        task.input,
+        task.style,
+        literal,
+        task.appended_newline,
+        task.mode,
+    )?;
+    let escapes = mode_with_escapes(&start, &task);
+    let offset = offset_of(task.style);
+    read_by(
+        alloc, start, task, offset, escapes, steps, specs, faults, texts, lines, answer,
+    )
 }
 
 /// Reads an input, up to and including the call at its end, and writes the results into buffers of
@@ -189,16 +234,24 @@ pub fn read(
         (buffers steps.new specs.new faults.new texts.new lines.new)) }
     ensures err { OnErr result (answer.new ≡ answer.old) }
 {
-    let literal = owned_snippet(alloc, task.snippet)?;
-    let start = Parser::new(
-        alloc,
-        task.input,
-        task.style,
-        literal,
-        task.appended_newline,
-        task.mode,
-    )?;
-    read_by(
-        alloc, start, task, steps, specs, faults, texts, lines, answer,
-    )
+    // (The case without a snippet stands by itself, since the compiler then leaves most of what
+    // `Parser::new` does out of it.)
+    match task.snippet {
+        Some(_) => read_with_snippet(alloc, task, steps, specs, faults, texts, lines, answer),
+        None => {
+            let start = Parser::new(
+                alloc,
+                task.input,
+                task.style,
+                None,
+                task.appended_newline,
+                task.mode,
+            )?;
+            let escapes = mode_with_escapes(&start, &task);
+            let offset = offset_of(task.style);
+            read_by(
+                alloc, start, task, offset, escapes, steps, specs, faults, texts, lines, answer,
+            )
+        }
+    }
 }

@@ -151,6 +151,7 @@ pub fn name_extent(input: &str, offset: usize, argument: &Argument<'_>) -> Exten
 
 /// Returns the byte ranges in the input of an argument's name and of the texts of its
 /// specification. The spans of the argument are `offset` bytes after these.
+#[inline(always)]
 pub fn argument_texts(input: &str, offset: usize, argument: &Argument<'_>) -> Texts
     requires { ArgumentStands input.now offset (seen_argument argument.now) }
     ensures position { PositionAt (text_at input.now result.text)

@@ -383,6 +383,7 @@ impl<'a> Walker<'a> {
     /// Makes all calls up to and including the one at the end of the input, and returns their
     /// number. The steps and the specifications that fit are written. Returns `Err` if an
     /// allocation fails.
+    #[inline(always)]
     pub fn walk(
         &mut self,
         steps: &mut [Step],
