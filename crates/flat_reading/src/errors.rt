@@ -150,10 +150,10 @@ fn put_error(texts: &mut [u8], size: &mut usize, error: &ParseError, step: usize
     }
 }
 
-/// Writes the records of the errors and their texts, as far as they fit. Returns the length of all
-/// their texts in bytes, or `usize::MAX` if that is less. Does not allocate.
-#[inline(always)]
-pub fn put_errors(
+/// Writes the records of the errors and their texts as `put_errors` does. It is no part of that
+/// function, which is inlined, so that an input without errors takes no room for a record.
+#[inline(never)]
+fn put_records(
     errors: &[ParseError],
     finders: &Finders,
     faults: &mut [Fault],
@@ -178,4 +178,30 @@ pub fn put_errors(
         }
     }
     size
+}
+
+/// Writes the records of the errors and their texts, as far as they fit. Returns the length of all
+/// their texts in bytes, or `usize::MAX` if that is less. Does not allocate.
+#[inline(always)]
+pub fn put_errors(
+    errors: &[ParseError],
+    finders: &Finders,
+    faults: &mut [Fault],
+    texts: &mut [u8],
+) -> usize
+    requires { length finders.now.calls ≡ length errors.now }
+    ensures holds { result ≤ length texts.old → length errors.now ≤ length faults.old
+        → HoldsErrors texts.new (take (length errors.now) faults.new) (map seen_error errors.now) }
+    ensures found { length errors.now ≤ length faults.old
+        → map (λ (f : FaultRecord). f.step) (take (length errors.now) faults.new)
+        ≡ finders.now.calls }
+    ensures counted { result ≡ min (texts_len (map seen_error errors.now)) usize.MAX }
+    ensures kept_texts { drop result texts.new ≡ drop result texts.old }
+    ensures kept_faults { drop (length errors.now) faults.new
+        ≡ drop (length errors.now) faults.old }
+{
+    if errors.is_empty() {
+        return 0;
+    }
+    put_records(errors, finders, faults, texts)
 }

@@ -7,8 +7,8 @@ use Rattle.flat_reading.proofs.Buffers.{Grows-trans, HoldsErrors-grow, HoldsErro
 use Rattle.flat_reading.proofs.Buffers.{Extends-all}
 use Rattle.flat_reading.proofs.Lists.{keep_more, keep_put}
 use Rattle.flat_reading.specs.declared.records.Fault.{Fault}
-use Rattle.flat_reading.proofs.errors.put_errors.Goals as goal
-use Rattle.flat_reading.proofs.errors.put_errors.Goals.{then-i-faults, else-i-faults}
+use Rattle.flat_reading.proofs.errors.put_records.Goals as goal
+use Rattle.flat_reading.proofs.errors.put_records.Goals.{then-i-faults, else-i-faults}
 
 pub loop-i-preserved : goal.loop-i-preserved
 loop-i-preserved c =
