@@ -295,8 +295,8 @@ pub fn file_faults(text: &str, table: &Table<'_>, is_from_2021: bool) -> Report 
 /// macro `dbg!` in the place of another one.
 ///
 /// Suggestions are applied until none is left, in at most sixteen rounds. A round is left out if the
-/// file then breaks, has another number of calls, or more faults. An allocation failure aborts, as
-/// elsewhere in Rust.
+/// file then breaks, has another number of calls, more faults, or other tokens where no edit is. An
+/// allocation failure aborts, as elsewhere in Rust.
 ///
 /// ```
 /// use dephungo::source::{file_fixes, Table};

@@ -11,4 +11,5 @@ pub(crate) mod suggestions;
 pub use edited::mend_each;
 pub use report::{CallReading, Edit, Finding, Help, Label, Note, Options, Report};
 #[cfg(feature = "std")]
-pub use suggestions::{is_applicable, suggestion_of, LabelSuggestion};
+pub use suggestions::LabelSuggestion;
+pub use suggestions::{is_applicable, suggestion_of};

@@ -1,0 +1,13 @@
+use Rattle.std.proofs.Common.{◌≡◌, drop, map}
+use Rattle.fault_fixes.specs.SeenEdits.{seen_edit}
+use Rattle.source_report.specs.Suggestions.{are_after, end_after}
+use Rattle.file_fixes.proofs.round_edits.end_if_after.Given as goal
+
+-- The edits that are left decide.
+abbrev pub invariant-loop-edit : goal.invariant-loop-edit
+invariant-loop-edit l = record {
+  after : are_after l.end (map seen_edit (drop l.edit-index l.edits))
+      ≡ are_after l.at (map seen_edit l.edits);
+  end : end_after l.end (map seen_edit (drop l.edit-index l.edits))
+      ≡ end_after l.at (map seen_edit l.edits);
+}
