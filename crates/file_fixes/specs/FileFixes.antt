@@ -39,13 +39,13 @@ AreTokens bs cs xs ys = ReadsFile (chars bs) xs × ReadsFile (chars cs) ys
 
 -- The tokens that no edit touches are the same in a file with the bytes bs and the report r, and
 -- with the bytes cs that the edits make of it.
-unfoldable pub SameOthers : List ℕ → Report → List ℕ → Type 0
-SameOthers bs r cs = (xs ys : List Lexeme) × AreTokens bs cs xs ys
+unfoldable pub OthersStay : List ℕ → Report → List ℕ → Type 0
+OthersStay bs r cs = (xs ys : List Lexeme) × AreTokens bs cs xs ys
     × KeepsTokens (round_edits r) (placed 0 xs) (placed 0 ys)
 
--- They are not the same.
-unfoldable pub OtherTokens : List ℕ → Report → List ℕ → Type 0
-OtherTokens bs r cs = (xs ys : List Lexeme) × AreTokens bs cs xs ys
+-- They do not stay.
+unfoldable pub OthersGo : List ℕ → Report → List ℕ → Type 0
+OthersGo bs r cs = (xs ys : List Lexeme) × AreTokens bs cs xs ys
     × (KeepsTokens (round_edits r) (placed 0 xs) (placed 0 ys) → ⊥)
 
 -- In a round the file with the bytes bs and the report r, of which faults are mended, becomes the
@@ -57,7 +57,7 @@ pub record IsRound (es : List Entry) (is_new : Bool) (bs : List ℕ) (r : Report
   pub ids : ws ≡ map (λ x. x.id.now) (mended 0 r.findings.items)
   pub report : IsReport es is_new cs q
   pub no_worse : IsNoWorse r q
-  pub tokens : SameOthers bs r cs
+  pub tokens : OthersStay bs r cs
 
 -- No round follows on the file with the bytes bs and the report r: no fault is to be mended, or the
 -- file with the edits is no text, or is worse, or has other tokens where no edit is.
@@ -65,7 +65,7 @@ abbrev pub IsLast : List Entry → Bool → List ℕ → Report → Type 0
 IsLast es is_new bs r = (mended 0 r.findings.items ≡ [])
     ⊎ ((IsUtf8 (mended_bytes bs r) → ⊥)
     ⊎ (((q : Report) × IsReport es is_new (mended_bytes bs r) q × (IsNoWorse r q → ⊥))
-    ⊎ OtherTokens bs r (mended_bytes bs r)))
+    ⊎ OthersGo bs r (mended_bytes bs r)))
 
 -- The same after rounds in which faults with the ids ws are mended: at most n rounds, and fewer
 -- only if no further one follows.

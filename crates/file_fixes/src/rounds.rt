@@ -7,7 +7,7 @@ ghost use Rattle.format_calls.specs.Rows.{entry};
 ghost use Rattle.asm_lint.specs.Spans.{HasSpans};
 ghost use Rattle.source_lint.specs.Reports.{IsReport};
 ghost use Rattle.source_report.specs.declared.report.Report.{Report as ReportValue};
-ghost use Rattle.file_fixes.specs.FileFixes.{AreRounds, OtherTokens, SameOthers};
+ghost use Rattle.file_fixes.specs.FileFixes.{AreRounds, OthersGo, OthersStay};
 ghost use Rattle.file_fixes.specs.FileFixes.{IsLast, IsNoWorse, IsRound, bytes_or};
 
 use crate::outside::keeps_tokens;
@@ -52,10 +52,10 @@ pub fn is_no_worse(old: &Report, new: &Report) -> bool
 
 /// Returns whether the tokens that no edit of a round touches are the same in a file and in the file
 /// after the round. Returns `Err` if an allocation fails.
-#[tactic(auto, unfolding(crate::specs::FileFixes::SameOthers, crate::specs::FileFixes::OtherTokens))]
+#[tactic(auto, unfolding(crate::specs::FileFixes::OthersStay, crate::specs::FileFixes::OthersGo))]
 fn keeps_others(alloc: Global, old: &str, report: &Report, new: &str) -> Result<bool, AllocError>
-    ensures yes { IfOk result (λ b. IsTrue b → SameOthers old.now report.now new.now) }
-    ensures no { IfOk result (λ b. IsFalse b → OtherTokens old.now report.now new.now) }
+    ensures yes { IfOk result (λ b. IsTrue b → OthersStay old.now report.now new.now) }
+    ensures no { IfOk result (λ b. IsFalse b → OthersGo old.now report.now new.now) }
 {
     let edits = round_edits(alloc, report.findings.as_slice())?;
     keeps_tokens(alloc, old, edits.as_slice(), new)
