@@ -50,7 +50,7 @@ pub fn is_no_worse(old: &Report, new: &Report) -> bool
         && new.findings.len() <= old.findings.len()
 }
 
-/// Returns whether the tokens that no edit of a round touches are the same in a file and in the file
+/// Returns whether the tokens that no edit of a round touches are the same in a file before and
 /// after the round. Returns `Err` if an allocation fails.
 #[tactic(auto, unfolding(crate::specs::FileFixes::OthersStay, crate::specs::FileFixes::OthersGo))]
 fn keeps_others(alloc: Global, old: &str, report: &Report, new: &str) -> Result<bool, AllocError>
@@ -125,8 +125,8 @@ fn with_round(fixed: FileFixes, round: Round) -> Result<FileFixes, AllocError>
 /// In a round the suggestions of all faults are applied whose edits follow each other, and then
 /// those of the new report, in at most sixteen rounds. A round is left out if the file then breaks,
 /// has another number of calls, more faults, or other tokens where no edit is: so a round changes
-/// only the tokens that its edits touch. Nothing is fixed in a file that breaks. Returns `Err` if an
-/// allocation fails.
+/// only the tokens that its edits touch. Nothing is fixed in a file that breaks. Returns `Err` if
+/// an allocation fails.
 pub fn fixes(alloc: Global, text: &str, options: &Options<'_>) -> Result<FileFixes, AllocError>
     ensures rounds { IfOk result (λ x. (r : ReportValue)
         × IsReport (map entry options.now.table.rows.items) options.now.is_from_2021 text.now r
