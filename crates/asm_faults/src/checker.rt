@@ -8,7 +8,7 @@ ghost use Rattle.asm_faults.specs.Operands.{Operand as OperandValue, slots_after
 ghost use Rattle.asm_faults.specs.Seen.{Holds, seen_fault, seen_operand, seen_template};
 ghost use Rattle.asm_faults.specs.Templates.{lookups_from, template_fault};
 
-use crate::compared::{check_unused, look_up};
+use crate::comparison::{check_unused, look_up};
 use crate::faults::AsmFault;
 use crate::lookups::Walk;
 use crate::operands::{Operand, Operands, operands_of};

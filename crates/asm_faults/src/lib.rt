@@ -3,7 +3,7 @@
 #![tactic(auto)]
 
 mod checker;
-mod compared;
+mod comparison;
 mod faults;
 mod labels;
 mod lookups;

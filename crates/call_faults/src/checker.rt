@@ -17,7 +17,7 @@ ghost use Rattle.call_faults.specs.Spots.{counts_before};
 ghost use Rattle.text_faults.specs.Texts.{text_fault};
 
 use crate::arguments::{FormatArgument, arguments_of};
-use crate::compared::{compare, indices_of};
+use crate::comparison::{compare, indices_of};
 use crate::faults::CallFault;
 use crate::lookups::lookups_of;
 use crate::spots::counts_before;

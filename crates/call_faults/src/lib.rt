@@ -3,7 +3,7 @@
 
 mod arguments;
 mod checker;
-mod compared;
+mod comparison;
 mod faults;
 mod helps;
 mod labels;

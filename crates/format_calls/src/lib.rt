@@ -2,7 +2,7 @@
 #![tactic(auto)]
 
 mod assembly;
-mod counted;
+mod extents;
 mod listing;
 mod marks;
 mod modes;
@@ -13,7 +13,7 @@ mod strings;
 mod table;
 
 pub use assembly::{AsmPart, asm_part, template_count};
-pub use counted::{Extent, extent_of};
+pub use extents::{Extent, extent_of};
 pub use listing::{Call, calls};
 pub use marks::{is_mark, is_mark_of, is_word, token_at, word};
 pub use modes::{is_joint, is_text};

@@ -3,7 +3,7 @@
 //! these calls.
 #![tactic(auto)]
 
+mod validity;
 mod values;
-mod written;
 
 pub use values::Literal;

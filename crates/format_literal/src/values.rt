@@ -3,7 +3,7 @@
 ghost use Rattle.std.specs.Prelude.{◌+◌, ◌<◌, ◌^◌};
 ghost use Rattle.rustc_parse_format.specs.World.{hashes};
 
-use crate::written::is_written;
+use crate::validity::is_written;
 use fault_fixes::{Fixed, fix};
 use format_tokens::{Token, tokens};
 use piece_listing::literal::{LiteralText, literal_text};

@@ -19,8 +19,8 @@ ghost use Rattle.piece_listing.specs.Program.{IsListed, IsReportFor, IsShort, ha
 ghost use Rattle.piece_listing.specs.Program.{no_entries};
 ghost use Rattle.piece_listing.specs.SeenTask.{seen_given, seen_task};
 
+use super::arguments::GivenArguments;
 use super::calls::put_calls;
-use super::given::GivenArguments;
 use super::listing::put_faults;
 use super::literal::{LiteralText, literal_text, strip_newline};
 use super::report_lines::{has_entries, put_report, report_for};

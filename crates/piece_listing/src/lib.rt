@@ -2,8 +2,8 @@
 //! and exit status for each of its results (`verdict`).
 #![tactic(auto)]
 
+mod arguments;
 mod calls;
-mod given;
 mod input;
 mod listing;
 pub mod literal;
@@ -13,7 +13,7 @@ pub mod run;
 mod task;
 pub mod verdict;
 
-pub use given::GivenArguments;
+pub use arguments::GivenArguments;
 pub use listing::{put_piece, put_quoted};
 pub use numbers::put_span;
 pub use report_lines::{has_entries, report_for};

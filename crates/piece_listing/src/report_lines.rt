@@ -11,7 +11,7 @@ ghost use Rattle.piece_listing.specs.Listing.{index_line, name_line, report_line
 ghost use Rattle.piece_listing.specs.Program.{IsReportFor, has_entries, no_entries};
 ghost use Rattle.piece_listing.specs.SeenTask.{seen_given};
 
-use super::given::{GivenArguments, names};
+use super::arguments::{GivenArguments, names};
 use super::listing::put_quoted;
 use super::numbers::put_number;
 use placeholder_check::{Report, Uses, check_uses};

@@ -6,7 +6,7 @@ ghost use Rattle.piece_listing.specs.GivenArguments.{given_by};
 ghost use Rattle.piece_listing.specs.Program.{task_of, mode_named, task, task_with};
 ghost use Rattle.piece_listing.specs.SeenTask.{seen_given, seen_task};
 
-use super::given::{GivenArguments, given_by};
+use super::arguments::{GivenArguments, given_by};
 use rustc_parse_format::ParseMode;
 
 /// The task that the command-line arguments give.

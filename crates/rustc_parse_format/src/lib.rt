@@ -25,6 +25,7 @@ mod characters;
 mod counts;
 mod cursor;
 mod error_list;
+mod escapes;
 mod fault_ids;
 mod faults;
 pub mod laws;
@@ -42,10 +43,11 @@ mod recover;
 mod source;
 mod specification;
 mod types;
-mod written;
 
 #[doc(hidden)]
 pub use blocks::{Stops, front_width};
+#[doc(hidden)]
+pub use escapes::{put_all_written, put_written};
 pub use faults::Fault;
 pub use parser::Parser;
 pub use pieces::Pieces;
@@ -57,5 +59,3 @@ pub use types::{
     Alignment, Argument, Count, DebugHex, FormatSpec, NextPiece, ParseError, ParseMode, Piece,
     PieceKind, Position, Sign, Suggestion,
 };
-#[doc(hidden)]
-pub use written::{put_all_written, put_written};

@@ -11,9 +11,9 @@ ghost use Rattle.rustc_parse_format.specs.Faults.{UsePositional, suggesting};
 ghost use Rattle.rustc_parse_format.specs.Seen.{pair, seen_error};
 ghost use Rattle.rustc_parse_format.specs.SeenFaults.{seen_fault};
 
+use crate::escapes::put_written;
 use crate::faults::Fault;
 use crate::types::{ParseError, Suggestion};
-use crate::written::put_written;
 use std::alloc::{AllocError, Global};
 use std::ops::Range;
 

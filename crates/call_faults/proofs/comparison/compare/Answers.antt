@@ -1,0 +1,57 @@
+use Rattle.std.proofs.Common.{◌≡◌, ◌++◌, ◌∙◌, [], ap, length, map, rules, sym}
+use Rattle.std.specs.List.{filter_map}
+use Rattle.std.proofs.lemmas.List.{append-nil, length-map, map-append}
+use Rattle.call_faults.specs.Comparison.{beyond, is_settled, lookup_faults, missing, names, unused}
+use Rattle.call_faults.specs.Seen.{seen_fault, seen_kept, seen_lookup}
+use Rattle.call_faults.proofs.Comparing.{compared-parts, holds-knows, joined, left-is}
+use Rattle.call_faults.proofs.comparison.compare.Goals as goal
+
+pub returns-then-not-is_settled : goal.returns-then-not-is_settled
+returns-then-not-is_settled c = λ ks h a.
+    let ls = map seen_lookup c.args.lookups.now in
+    let count : c.len.result ≡ length c.args.arguments.now.list.items = search rules in
+    let left : map seen_kept c.in_ok-rest.rest.items ≡ unused ks ls = c.in_ok-rest.ensures
+    ∙ (rw (c.deref-2.ensures.value, c.deref.ensures.value, h.list)
+    (left-is c.in_ok-marks.marks.items ks ls (c.in_ok-marks.ensures ks h a))) in
+    let lacked : c.in_ok-missing.missing.items ≡ missing ks ls = c.in_ok-missing.ensures
+    ∙ ap (λ n. filter_map (beyond n) ls)
+    (count ∙ sym (length-map c.args.arguments.now.list.items seen_kept) ∙ ap length h.list) in
+    let found : map seen_fault c.look_up.new.faults.items
+    ≡ lookup_faults c.args.captures (names ks) ls = rw c.new-list.ensures.items
+    at (c.in_ok-look_up.ensures (names ks) (holds-knows ks c.args.arguments.now h)) in
+    joined (map seen_fault c.args.faults.now.items) (map seen_fault c.append.new.self.items)
+    (map seen_fault c.tell_missing.new.faults.items)
+    (map seen_fault c.tell_unused.new.faults.items) _
+    (map seen_fault c.look_up.new.faults.items) _ _ [] _
+    (ap (map seen_fault) c.in_ok-append.ensures.items
+    ∙ map-append seen_fault c.args.faults.now.items c.look_up.new.faults.items)
+    c.in_ok-tell_missing.ensures (rw c.deref-6.ensures.value at c.in_ok-tell_unused.ensures)
+    (sym (append-nil (map seen_fault c.tell_unused.new.faults.items)))
+    (compared-parts c.args.captures ks ls _ _ _ _ found lacked left
+    (sym (rw (c.deref-3.ensures.value, c.deref-4.ensures.value, c.deref-5.ensures.value)
+    at c.is_settled-is_settled.ensures) ∙ c.if-not-is_settled.true))
+
+pub returns : goal.returns
+returns c = λ ks h a.
+    let ls = map seen_lookup c.args.lookups.now in
+    let count : c.len.result ≡ length c.args.arguments.now.list.items = search rules in
+    let left : map seen_kept c.in_ok-rest.rest.items ≡ unused ks ls = c.in_ok-rest.ensures
+    ∙ (rw (c.deref-2.ensures.value, c.deref.ensures.value, h.list)
+    (left-is c.in_ok-marks.marks.items ks ls (c.in_ok-marks.ensures ks h a))) in
+    let lacked : c.in_ok-missing.missing.items ≡ missing ks ls = c.in_ok-missing.ensures
+    ∙ ap (λ n. filter_map (beyond n) ls)
+    (count ∙ sym (length-map c.args.arguments.now.list.items seen_kept) ∙ ap length h.list) in
+    let found : map seen_fault c.look_up.new.faults.items
+    ≡ lookup_faults c.args.captures (names ks) ls = rw c.new-list.ensures.items
+    at (c.in_ok-look_up.ensures (names ks) (holds-knows ks c.args.arguments.now h)) in
+    joined (map seen_fault c.args.faults.now.items) (map seen_fault c.append.new.self.items)
+    (map seen_fault c.tell_missing.new.faults.items) (map seen_fault c.tell_unused.new.faults.items)
+    (map seen_fault c.tell_by_index.new.faults.items)
+    (map seen_fault c.look_up.new.faults.items) _ _ _ _
+    (ap (map seen_fault) c.in_ok-append.ensures.items
+    ∙ map-append seen_fault c.args.faults.now.items c.look_up.new.faults.items)
+    c.in_ok-tell_missing.ensures (rw c.deref-6.ensures.value at c.in_ok-tell_unused.ensures)
+    (rw (c.deref-7.ensures.value, h.list) at c.in_ok-tell_by_index.ensures)
+    (compared-parts c.args.captures ks ls _ _ _ _ found lacked left
+    (sym (rw (c.deref-3.ensures.value, c.deref-4.ensures.value, c.deref-5.ensures.value)
+    at c.is_settled-is_settled.ensures) ∙ c.if-not-is_settled.false))
