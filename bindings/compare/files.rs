@@ -103,7 +103,7 @@ macro_rules! seen_by {
                 let Some((text, style)) = call.literal().and_then(content) else {
                     return Vec::new();
                 };
-                let mut given: Vec<FormatArgument> = call.formatted().iter().map(|it| it.given).collect();
+                let mut given: Vec<FormatArgument> = call.format_arguments().iter().map(|it| it.format_argument).collect();
                 // (a call gives no variable of an argument with a name, and others may)
                 for it in given.iter_mut().filter(|it| it.name.is_some()) {
                     it.variable = Some("x");
@@ -128,7 +128,7 @@ macro_rules! seen_by {
                 let string = call.string.map_err(reason);
                 let mut lines = vec![format!("{} {:?} {string:?}", call.name, call.span)];
                 for it in &call.arguments {
-                    let FormatArgument { name, variable } = it.given;
+                    let FormatArgument { name, variable } = it.format_argument;
                     let (text, span, value) = (it.text, &it.span, &it.value);
                     lines.push(format!(" {name:?} {variable:?} {text:?} {span:?} {value:?}"));
                 }
@@ -142,7 +142,7 @@ macro_rules! seen_by {
                     let place = places.at(token.span.start);
                     lines.push(format!("{} {} {token:?}", place.line, place.column));
                 }
-                lines.push(format!("{:?}", broken_at(file)));
+                lines.push(format!("{:?}", first_break(file)));
                 let mut table = Table::with_crates();
                 Table::standard().rows().iter().for_each(|row| table.add(*row));
                 table.add(Row { name: "say", rule: Rule::At(1) });

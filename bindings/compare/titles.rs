@@ -46,14 +46,14 @@ fn file_of(text: &str, arguments: &str) -> String {
 fn given<'a>(file: &'a str, argument: &CallArgument<'a>) -> FormatArgument<'a> {
     let value = &file[argument.value.clone()];
     let is_variable = value.bytes().all(|byte| byte.is_ascii_lowercase());
-    FormatArgument { variable: is_variable.then_some(value), ..argument.given }
+    FormatArgument { variable: is_variable.then_some(value), ..argument.format_argument }
 }
 
 /// The titles of what is wrong with the call of a file, each on a line.
 fn titles(file: &str, text: &str) -> String {
     let found = calls(file, &Table::standard(), true);
     let [call] = &found[..] else { panic!("one call in {file}") };
-    let given: Vec<FormatArgument> = call.formatted().iter().map(|argument| given(file, argument)).collect();
+    let given: Vec<FormatArgument> = call.format_arguments().iter().map(|argument| given(file, argument)).collect();
     let checked = call_faults(
         FormatString {
             text,

@@ -39,7 +39,7 @@ pub use crate::proved::call_faults::{
 pub use crate::proved::file_fixes::FileFixes;
 pub use crate::proved::file_inlines::{CallInlining, FileInlines};
 pub use crate::proved::format_calls::{Reason, Row, Rule};
-pub use crate::proved::inlined_arguments::Left;
+pub use crate::proved::inlined_arguments::Obstacle;
 pub use crate::proved::rust_tokens::{Kind, Token};
 pub use crate::proved::rust_trees::{BreakKind, FileBreak, Place};
 pub use crate::proved::source_report::{CallReading, Finding, Report};
@@ -171,7 +171,7 @@ pub struct Call<'a> {
 #[derive(Clone, Debug, Eq, PartialEq)]
 pub struct CallArgument<'a> {
     /// The argument as [`call_faults`] takes it.
-    pub given: FormatArgument<'a>,
+    pub format_argument: FormatArgument<'a>,
     /// Its text, with its name.
     pub text: &'a str,
     /// The byte range of that. It is empty if nothing stands between two commas.
@@ -192,7 +192,7 @@ impl<'a> Call<'a> {
     /// Returns the arguments after the format string, which its placeholders may show, or none if
     /// no format string is read.
     #[must_use]
-    pub fn formatted(&self) -> &[CallArgument<'a>] {
+    pub fn format_arguments(&self) -> &[CallArgument<'a>] {
         match self.string {
             Ok(index) => self.arguments.get(index + 1..).unwrap_or_default(),
             Err(_) => &[],
@@ -205,7 +205,7 @@ fn argument_of<'a>(
     text: &'a str,
     source: &SourceIn<'a>,
     argument: &ArgumentIn,
-    given: FormatArgument<'a>,
+    format_argument: FormatArgument<'a>,
 ) -> CallArgument<'a> {
     let tokens = &source.tokens()[argument.start..];
     let count = argument.end - argument.start;
@@ -215,7 +215,7 @@ fn argument_of<'a>(
         None => tokens[from].start..tokens[from].start,
     };
     CallArgument {
-        given,
+        format_argument,
         text: &text[range(0)],
         span: range(0),
         value: range(if argument.is_named { 2 } else { 0 }),
@@ -234,7 +234,7 @@ pub fn calls<'a>(text: &'a str, table: &Table<'_>, is_from_2021: bool) -> Vec<Ca
     let mut found = Vec::new();
     for call in answer(calls_in(&source, &table.table)) {
         let list = answer(arguments(&source, call.close)).unwrap_or_default();
-        let given = answer(givens(source.tokens(), &list));
+        let format_arguments = answer(givens(source.tokens(), &list));
         let (name, close) = (source.tokens()[call.name], source.tokens()[call.close]);
         found.push(Call {
             rule: call.rule,
@@ -242,8 +242,8 @@ pub fn calls<'a>(text: &'a str, table: &Table<'_>, is_from_2021: bool) -> Vec<Ca
             span: name.start..close.start + close.text.len(),
             arguments: list
                 .iter()
-                .zip(given)
-                .map(|(argument, given)| argument_of(text, &source, argument, given))
+                .zip(format_arguments)
+                .map(|(part, argument)| argument_of(text, &source, part, argument))
                 .collect(),
             string: format_string(&source, call.rule, &list, is_from_2021),
         });
@@ -255,14 +255,14 @@ pub fn calls<'a>(text: &'a str, table: &Table<'_>, is_from_2021: bool) -> Vec<Ca
 /// `None` if they match. An allocation failure aborts, as elsewhere in Rust.
 ///
 /// ```
-/// use dephungo::source::broken_at;
+/// use dephungo::source::first_break;
 ///
-/// assert_eq!(broken_at("f(a[1])"), None);
-/// assert_eq!(broken_at("f(a[1)"), Some(5));
-/// assert_eq!(broken_at("f(a"), Some(1));
+/// assert_eq!(first_break("f(a[1])"), None);
+/// assert_eq!(first_break("f(a[1)"), Some(5));
+/// assert_eq!(first_break("f(a"), Some(1));
 /// ```
 #[must_use]
-pub fn broken_at(text: &str) -> Option<usize> {
+pub fn first_break(text: &str) -> Option<usize> {
     let source = answer(SourceIn::new(text));
     let (DelimiterBreak::Unclosed(index) | DelimiterBreak::Unexpected(index)) =
         source.first_break()?;
@@ -295,8 +295,8 @@ pub fn file_faults(text: &str, table: &Table<'_>, is_from_2021: bool) -> Report 
 /// macro `dbg!` in the place of another one.
 ///
 /// Suggestions are applied until none is left, in at most sixteen rounds. A round is left out if the
-/// file then breaks, has another number of calls, or more faults. An allocation failure aborts, as
-/// elsewhere in Rust.
+/// file then breaks, has another number of calls, more faults, or other tokens where no edit is. An
+/// allocation failure aborts, as elsewhere in Rust.
 ///
 /// ```
 /// use dephungo::source::{file_fixes, Table};
@@ -321,13 +321,13 @@ pub fn file_fixes(text: &str, table: &Table<'_>, is_from_2021: bool) -> FileFixe
 /// number of calls or more faults. An allocation failure aborts, as elsewhere in Rust.
 ///
 /// ```
-/// use dephungo::source::{file_inlines, CallInlining, Left, Table};
+/// use dephungo::source::{file_inlines, CallInlining, Obstacle, Table};
 ///
 /// let text = "fn f() { print!(\"{}, {:>w$}\", x, y, w = w); print!(\"{} {}\", x, y + 1); }";
 /// let inlines = file_inlines(text, &Table::standard(), true, false);
 /// let inlined = "fn f() { print!(\"{x}, {y:>w$}\"); print!(\"{} {}\", x, y + 1); }";
 /// assert_eq!(inlines.text.as_deref(), Some(inlined));
-/// assert_eq!(inlines.calls, [CallInlining::Inlined, CallInlining::Left(Left::Mixed)]);
+/// assert_eq!(inlines.calls, [CallInlining::Inlined, CallInlining::Unchanged(Obstacle::Mixed)]);
 /// ```
 #[must_use]
 pub fn file_inlines(
@@ -375,8 +375,8 @@ pub struct CheckedCall<'a> {
 ///     appended_newline: false,
 ///     captures: true,
 /// };
-/// let given = [FormatArgument { name: None, variable: Some("x") }];
-/// let checked = call_faults(string, &given);
+/// let arguments = [FormatArgument { name: None, variable: Some("x") }];
+/// let checked = call_faults(string, &arguments);
 /// let fault = &checked.faults()[0];
 /// assert_eq!(fault.id(), "missing-argument");
 /// assert_eq!(
@@ -387,10 +387,10 @@ pub struct CheckedCall<'a> {
 #[must_use]
 pub fn call_faults<'a>(
     string: FormatString<'a>,
-    given: &'a [FormatArgument<'a>],
+    arguments: &'a [FormatArgument<'a>],
 ) -> CheckedCall<'a> {
     CheckedCall {
-        checked: answer(call_faults_in(string, given)),
+        checked: answer(call_faults_in(string, arguments)),
     }
 }
 

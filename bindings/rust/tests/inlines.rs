@@ -1,6 +1,6 @@
 //! Files whose calls are inlined, calls that are left, and the reasons.
 
-use dephungo::source::{file_inlines, CallInlining, CallReading, Left, Table};
+use dephungo::source::{file_inlines, CallInlining, CallReading, Obstacle, Table};
 
 /// The literal and the arguments of a call of `format!`, what clippy 1.95 suggests for
 /// `uninlined_format_args` with mixed calls allowed, and whether arguments stay.
@@ -182,34 +182,34 @@ fn files_with_calls_inlined() {
 
 #[test]
 fn calls_that_are_left() {
-    use CallInlining::{Assembly, Left as Stays, Unread};
+    use CallInlining::{Assembly, Unchanged, Unread};
     let rows = [
-        ("print!(\"{x}\");", true, Stays(Left::NoVariable)),
-        ("print!(\"{}\", crate);", true, Stays(Left::NoVariable)),
-        ("print!(\"{}\", &x);", true, Stays(Left::NoVariable)),
+        ("print!(\"{x}\");", true, Unchanged(Obstacle::NoVariable)),
+        ("print!(\"{}\", crate);", true, Unchanged(Obstacle::NoVariable)),
+        ("print!(\"{}\", &x);", true, Unchanged(Obstacle::NoVariable)),
         // a letter and a mark, which rustc joins in a name of the source alone
-        ("print!(\"{}\", o\u{300});", true, Stays(Left::NoVariable)),
-        ("print!(\"{}\", x, y);", true, Stays(Left::Faulty)),
-        ("print!(\"{} {}\", x);", true, Stays(Left::Faulty)),
-        ("print!(\"{}\", /* why */ x);", true, Stays(Left::Comment)),
+        ("print!(\"{}\", o\u{300});", true, Unchanged(Obstacle::NoVariable)),
+        ("print!(\"{}\", x, y);", true, Unchanged(Obstacle::Faulty)),
+        ("print!(\"{} {}\", x);", true, Unchanged(Obstacle::Faulty)),
+        ("print!(\"{}\", /* why */ x);", true, Unchanged(Obstacle::Comment)),
         // `{x}` would be the argument that stays
         (
             "print!(\"{} {x}\", x, x = f());",
             true,
-            Stays(Left::OtherMeaning),
+            Unchanged(Obstacle::OtherMeaning),
         ),
-        ("panic!(\"{}\", x);", true, Stays(Left::ConstForm)),
-        ("panic!(\"{} \", x);", false, Stays(Left::Alone)),
-        ("bail!(\"{} \", x);", true, Stays(Left::Alone)),
+        ("panic!(\"{}\", x);", true, Unchanged(Obstacle::ConstForm)),
+        ("panic!(\"{} \", x);", false, Unchanged(Obstacle::Alone)),
+        ("bail!(\"{} \", x);", true, Unchanged(Obstacle::Alone)),
         (
             "unreachable!(\"{} {}\", x, -y);",
             false,
-            Stays(Left::CapturesNone),
+            Unchanged(Obstacle::CapturesNone),
         ),
         (
             "macro_rules! m { ($($x:tt)*) => { print!(\"{} {}\", y, $($x)*) } }",
             true,
-            Stays(Left::Uncounted),
+            Unchanged(Obstacle::Uncounted),
         ),
         (
             "macro_rules! print { () => {} } print!(\"{}\", x);",

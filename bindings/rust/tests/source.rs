@@ -1,6 +1,6 @@
 //! Tokens, places and calls of files. Expected values are worked out by hand from the Rust Reference,
 //! and places are those that rustc 1.95 reports.
-use dephungo::source::{broken_at, calls, file_faults, file_fixes, tokens};
+use dephungo::source::{first_break, calls, file_faults, file_fixes, tokens};
 use dephungo::source::{BreakKind, CallReading, Kind, Places, Reason, Row, Rule, Table};
 use std::path::{Path, PathBuf};
 
@@ -46,7 +46,7 @@ fn tokens_join() {
             );
             end = token.span.end;
         }
-        assert_eq!((end, broken_at(&text)), (text.len(), None), "{path:?}");
+        assert_eq!((end, first_break(&text)), (text.len(), None), "{path:?}");
         let report = file_faults(&text, &Table::standard(), true);
         assert!(
             report.first_break.is_none() && report.findings.is_empty(),
@@ -162,12 +162,12 @@ fn arguments() {
     let call = &found[0];
     assert_eq!(call.span, 0..text.len());
     let shown: Vec<_> = call
-        .formatted()
+        .format_arguments()
         .iter()
         .map(|it| {
             (
-                it.given.name,
-                it.given.variable,
+                it.format_argument.name,
+                it.format_argument.variable,
                 it.text,
                 &text[it.value.clone()],
             )
@@ -182,10 +182,10 @@ fn arguments() {
     assert_eq!(shown, wanted);
     // (`=>` is one token)
     let arrow = &calls("print!(\"\", a => b)", &Table::standard(), true)[0].arguments[1];
-    assert_eq!((arrow.given.name, arrow.text), (None, "a => b"));
+    assert_eq!((arrow.format_argument.name, arrow.text), (None, "a => b"));
     // (what is after the parameters of a closure is an expression)
     let closure = &calls("print!(\"\", |a| a < b, c > d)", &Table::standard(), true)[0];
-    let texts = closure.formatted().iter().map(|it| it.text);
+    let texts = closure.format_arguments().iter().map(|it| it.text);
     assert_eq!(texts.collect::<Vec<_>>(), ["|a| a < b", "c > d"]);
     let empty = &calls("print!(\"\", , a)", &Table::standard(), true)[0].arguments[1];
     assert_eq!((empty.span.clone(), empty.text), (11..11, ""));
@@ -211,7 +211,7 @@ fn arguments_after_keywords() {
     ] {
         let text = format!("print!(\"\", {argument}, x)");
         let found = calls(&text, &Table::standard(), true);
-        let texts = found[0].formatted().iter().map(|it| it.text);
+        let texts = found[0].format_arguments().iter().map(|it| it.text);
         assert_eq!(texts.collect::<Vec<_>>(), [argument, "x"]);
     }
 }

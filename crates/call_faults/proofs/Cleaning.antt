@@ -14,7 +14,7 @@ use Rattle.rustc_parse_format.specs.World.{Place}
 use Rattle.placeholder_check.specs.Uses.{Use, ByIndex, ByName, uses}
 use Rattle.call_faults.specs.declared.faults.Missing.{Missing}
 use Rattle.call_faults.specs.declared.faults.Reference.{Reference}
-use Rattle.call_faults.specs.Arguments.{FormatArgument, Kept, first_of, is_late, kept_after}
+use Rattle.call_faults.specs.Arguments.{FormatArgument, Entry, first_of, is_late, kept_after}
 use Rattle.call_faults.specs.Arguments.{list_faults}
 use Rattle.call_faults.specs.Arguments.{repeated, with_given}
 use Rattle.call_faults.specs.CallFaults.{CallFault, is_warning, PositionalAfterNamed, RepeatedName}
@@ -54,7 +54,7 @@ repeated-serious : (i : ℕ) (o : Option ℕ) → Serious (repeated i o)
 repeated-serious i None = tt
 repeated-serious i (Some f) = (refl, tt)
 
-list-serious : (ks : List Kept) (i : ℕ) (gs : List FormatArgument) → Serious (list_faults ks i gs)
+list-serious : (ks : List Entry) (i : ℕ) (gs : List FormatArgument) → Serious (list_faults ks i gs)
 list-serious ks i [] = tt
 list-serious ks i (g ∷ gs) = serious-choice (is_late ks g) _ _ (refl, tt)
     (all-join _ (repeated i (first_of ks g)) _ (repeated-serious i (first_of ks g))
@@ -81,16 +81,16 @@ left-serious : (is js : List ℕ) → Serious (left_faults is js)
 left-serious [] js = unused-serious js
 left-serious (i ∷ is) js = (refl, tt)
 
-named-warns : (r : Reference) (o : Option Kept) (fs : List CallFault) → Warnings fs
+named-warns : (r : Reference) (o : Option Entry) (fs : List CallFault) → Warnings fs
     → Warnings (cons_option (named_use r o) fs)
 named-warns r None fs w = w
-named-warns r (Some k) fs w = choose (is_some k.given.name)
+named-warns r (Some k) fs w = choose (is_some k.argument.name)
   where
     choose : (b : Bool) → Warnings (cons_option (cond b (Some (NameUsedByIndex r k.index)) None) fs)
     choose true = (refl, w)
     choose false = w
 
-by-index-warns : (ks : List Kept) (ls : List Lookup) → Warnings (filter_map (by_index ks) ls)
+by-index-warns : (ks : List Entry) (ls : List Lookup) → Warnings (filter_map (by_index ks) ls)
 by-index-warns ks [] = tt
 by-index-warns ks (NoTrait k t ∷ ls) = by-index-warns ks ls
 by-index-warns ks (Refer r (ByName w) ∷ ls) = by-index-warns ks ls
@@ -109,17 +109,17 @@ no-left : (is js : List ℕ) → left_faults is js ≡ [] → js ≡ []
 no-left [] js e = no-unused js e
 no-left (i ∷ is) js e = absurd (cc e)
 
-no-index : (ks : List Kept) → indices ks ≡ [] → ks ≡ []
+no-index : (ks : List Entry) → indices ks ≡ [] → ks ≡ []
 no-index [] e = refl
 no-index (k ∷ ks) e = absurd (cc e)
 
 -- nothing but warnings between arguments and lookups
-pub record Quiet (captures : Bool) (ks : List Kept) (ls : List Lookup) : Type 0 where
+pub record Quiet (captures : Bool) (ks : List Entry) (ls : List Lookup) : Type 0 where
   pub looked : lookup_faults captures (names ks) ls ≡ []
   pub lacked : missing ks ls ≡ []
   pub left : unused ks ls ≡ []
 
-quiet-of : (captures : Bool) (ks : List Kept) (ls : List Lookup)
+quiet-of : (captures : Bool) (ks : List Entry) (ls : List Lookup)
     → Warnings (compared captures ks ls) → Quiet captures ks ls
 quiet-of captures ks ls w =
     let found = lookup_faults captures (names ks) ls in
@@ -138,7 +138,7 @@ quiet-of captures ks ls w =
           (all-right _ (found ++ missing_faults lacked) outcome three)));
     }
 
-pub quiet-compared : (captures : Bool) (ks : List Kept) (ls : List Lookup) → Quiet captures ks ls
+pub quiet-compared : (captures : Bool) (ks : List Entry) (ls : List Lookup) → Quiet captures ks ls
     → compared captures ks ls ≡ filter_map (by_index ks) ls
 quiet-compared captures ks ls q = rw (q.looked, q.lacked, q.left) refl
 

@@ -19,7 +19,7 @@ use Rattle.call_faults.specs.declared.faults.Missing.{Missing}
 use Rattle.call_faults.specs.declared.faults.Reference.{Reference}
 use Rattle.call_faults.specs.declared.arguments.Arguments.{Arguments}
 use Rattle.call_faults.specs.Seen.{Holds, KnowsNames}
-use Rattle.call_faults.specs.Arguments.{FormatArgument, Kept, first_of, has_name, index_of}
+use Rattle.call_faults.specs.Arguments.{FormatArgument, Entry, first_of, has_name, index_of}
 use Rattle.call_faults.specs.Arguments.{kept_after}
 use Rattle.call_faults.specs.Arguments.{with_given}
 use Rattle.call_faults.specs.CallFaults.{CallFault, MissingName}
@@ -51,19 +51,19 @@ pub now-known : (b : Bool) (i : ℕ) (o p : Option ℕ) (c : Bool) → p ≡ con
 now-known b i o p c e f = ap is_some e ∙ some-inserted b i o ∙ ap (λ d. b || d) f
 
 -- an argument that a lookup means is one of those that count
-index-below : (ks : List Kept) (count n i : ℕ) → AllByRecursion (λ k. k.index < count) ks
-    → option_map_or (λ j. i == j) (option_map (λ (k : Kept). k.index) (slice_get ks n)) false ≡ true
+index-below : (ks : List Entry) (count n i : ℕ) → AllByRecursion (λ k. k.index < count) ks
+    → option_map_or (λ j. i == j) (option_map (λ (k : Entry). k.index) (slice_get ks n)) false ≡ true
     → i < count
 index-below [] count n i a e = absurd cc
 index-below (k ∷ ks) count zero i a e = let s = eqb-true i k.index e in let h : k.index < count
     = a.0 in omega arith
 index-below (k ∷ ks) count (suc n) i a e = index-below ks count n i a.1 e
 
-name-below : (ks : List Kept) (count : ℕ) (w : Text) (i : ℕ)
+name-below : (ks : List Entry) (count : ℕ) (w : Text) (i : ℕ)
     → AllByRecursion (λ k. k.index < count) ks
     → option_map_or (λ j. i == j) (index_of ks w) false ≡ true → i < count
 name-below [] count w i a e = absurd cc
-name-below (k ∷ ks) count w i a e = choose (has_name w k.given) a e (name-below ks count w i a.1)
+name-below (k ∷ ks) count w i a e = choose (has_name w k.argument) a e (name-below ks count w i a.1)
   where
     choose : (b : Bool) → AllByRecursion (λ k. k.index < count) (k ∷ ks)
         → option_map_or (λ j. i == j) (cond b (Some k.index) (index_of ks w)) false ≡ true
@@ -71,14 +71,14 @@ name-below (k ∷ ks) count w i a e = choose (has_name w k.given) a e (name-belo
     choose true a e f = let s = eqb-true i k.index e in let h : k.index < count = a.0 in omega arith
     choose false a e f = f e
 
-pub means-below : (ks : List Kept) (count i : ℕ) (l : Lookup)
+pub means-below : (ks : List Entry) (count i : ℕ) (l : Lookup)
     → AllByRecursion (λ k. k.index < count) ks → means ks i l ≡ true → i < count
 means-below ks count i (NoTrait k t) a e = absurd cc
 means-below ks count i (Refer r (ByIndex n)) a e = index-below ks count n i a e
 means-below ks count i (Refer r (ByName w)) a e = name-below ks count w i a e
 
 -- one lookup more
-pub marked-next : {A : Type 0} (f : A → Lookup) (ks : List Kept) (ls : List A) (j : ℕ) (d : A) (i :
+pub marked-next : {A : Type 0} (f : A → Lookup) (ks : List Entry) (ls : List A) (j : ℕ) (d : A) (i :
     ℕ)
     (old new b : Bool) → j < length ls → old ≡ list_any (means ks i) (map f (take j ls))
     → b ≡ means ks i (f (get_or ls j d)) → new ≡ (old || b)
@@ -93,7 +93,7 @@ marked-next f ks ls j d i old new b l e g m = m ∙ ap (λ c. c || b) e
     or-false false = refl
 
 -- the redundant ones of arguments
-pub kept-next : {A : Type 0} (f : A → Kept) (p : Kept → Bool) (xs : List A) (i : ℕ) (d : A)
+pub kept-next : {A : Type 0} (f : A → Entry) (p : Entry → Bool) (xs : List A) (i : ℕ) (d : A)
     (old new : List ℕ) (b : Bool) → i < length xs → old ≡ indices (filter p (map f (take i xs)))
     → b ≡ p (f (get_or xs i d)) → new ≡ old ++ cond b ((f (get_or xs i d)).index ∷ []) []
     → new ≡ indices (filter p (map f (take (i + 1) xs)))
@@ -103,12 +103,12 @@ kept-next f p xs i d old new b l e g m =
     ++ cond c ((f (get_or xs i d)).index ∷ []) []) g
     ∙ sym (ap (λ ys. indices (filter p ys)) (map-next f xs i d l)
     ∙ ap indices (filter-append p (map f (take i xs)) (f (get_or xs i d) ∷ []))
-    ∙ map-append (λ (k : Kept). k.index) (filter p (map f (take i xs))) (cond (p (f (get_or xs i
+    ∙ map-append (λ (k : Entry). k.index) (filter p (map f (take i xs))) (cond (p (f (get_or xs i
     d))) (f (get_or xs i d) ∷ []) [])
     ∙ ap (λ ys. indices (filter p (map f (take i xs)))
     ++ ys) (one (p (f (get_or xs i d))) (f (get_or xs i d))))
   where
-    one : (b : Bool) (k : Kept) → indices (cond b (k ∷ []) []) ≡ cond b (k.index ∷ []) []
+    one : (b : Bool) (k : Entry) → indices (cond b (k ∷ []) []) ≡ cond b (k.index ∷ []) []
     one true k = refl
     one false k = refl
 
@@ -120,11 +120,11 @@ redundant-is ls n None found h = refl
 redundant-is ls n (Some w) found h = ap (λ b. is_none n && b) (h w)
 
 -- the arguments that are not marked
-pub left-is : (marks : List Bool) (ks : List Kept) (ls : List Lookup)
+pub left-is : (marks : List Bool) (ks : List Entry) (ls : List Lookup)
     → ((i : ℕ) → get_or marks i false ≡ list_any (means ks i) ls)
     → filter (λ k. not (get_or marks k.index false)) ks ≡ unused ks ls
-left-is marks ks ls h = filter_agree (λ (k : Kept). not (get_or marks k.index false))
-    (λ (k : Kept). not (list_any (means ks k.index) ls)) (λ k. ap not (h k.index)) ks
+left-is marks ks ls h = filter_agree (λ (k : Entry). not (get_or marks k.index false))
+    (λ (k : Entry). not (list_any (means ks k.index) ls)) (λ k. ap not (h k.index)) ks
 
 -- a collection of arguments knows their names
 some-found : (b : Bool) (i : ℕ) (o : Option ℕ) (c : Bool) → is_some o ≡ c
@@ -139,18 +139,18 @@ some-named : (w : Text) (i : ℕ) (n : Option Text) (o : Option ℕ) (ts : List 
 some-named w i None o ts e = e
 some-named w i (Some v) o ts e = some-found (bytes_eq w v) i o (list_any (bytes_eq w) ts) e
 
-some-index : (ks : List Kept) (w : Text) → is_some (index_of ks w)
+some-index : (ks : List Entry) (w : Text) → is_some (index_of ks w)
     ≡ list_any (bytes_eq w) (names ks)
 some-index [] w = refl
-some-index (k ∷ ks) w = some-named w k.index k.given.name (index_of ks w) (names ks) (some-index ks
+some-index (k ∷ ks) w = some-named w k.index k.argument.name (index_of ks w) (names ks) (some-index ks
     w)
 
-pub holds-knows : (ks : List Kept) (a : Arguments) → Holds ks a → KnowsNames (names ks) a.indices
+pub holds-knows : (ks : List Entry) (a : Arguments) → Holds ks a → KnowsNames (names ks) a.indices
 holds-knows ks a h = record { same = λ w. ap is_some (h.names w) ∙ some-index ks w }
 
 -- what was found, part by part
-pub compared-parts : (captures : Bool) (ks : List Kept) (ls : List Lookup) (found : List CallFault)
-    (lacked : List Missing) (left : List Kept) (b : Bool)
+pub compared-parts : (captures : Bool) (ks : List Entry) (ls : List Lookup) (found : List CallFault)
+    (lacked : List Missing) (left : List Entry) (b : Bool)
     → found ≡ lookup_faults captures (names ks) ls → lacked ≡ missing ks ls → left ≡ unused ks ls
     → is_settled found lacked left ≡ b
     → found ++ missing_faults lacked ++ left_faults (indices (filter (is_redundant ls) left))
@@ -160,28 +160,28 @@ compared-parts captures ks ls found lacked left b e f g h =
     rw (← e, ← f, ← g, h) refl
 
 -- each argument that counts is one of those that are given
-below-more : (ks : List Kept) (m n : ℕ) → m ≤ n → AllByRecursion (λ k. k.index < m) ks
+below-more : (ks : List Entry) (m n : ℕ) → m ≤ n → AllByRecursion (λ k. k.index < m) ks
     → AllByRecursion (λ k. k.index < n) ks
 below-more [] m n l a = tt
 below-more (k ∷ ks) m n l a = (let h : k.index < m = a.0 in omega arith, below-more ks m n l a.1)
 
-below-push : (ks : List Kept) (k : Kept) (n : ℕ) → AllByRecursion (λ l. l.index < n) ks
+below-push : (ks : List Entry) (k : Entry) (n : ℕ) → AllByRecursion (λ l. l.index < n) ks
     → k.index < n
     → AllByRecursion (λ l. l.index < n) (ks ++ k ∷ [])
 below-push [] k n a l = (l, tt)
 below-push (x ∷ ks) k n a l = (a.0, below-push ks k n a.1 l)
 
-with-below : (ks : List Kept) (i : ℕ) (g : FormatArgument) → AllByRecursion (λ k. k.index < i) ks
+with-below : (ks : List Entry) (i : ℕ) (g : FormatArgument) → AllByRecursion (λ k. k.index < i) ks
     → AllByRecursion (λ k. k.index < suc i) (with_given ks i g)
 with-below ks i g a = choose (is_some (first_of ks g))
   where
     choose : (b : Bool) → AllByRecursion (λ k. k.index < suc i)
-        (cond b ks (ks ++ record { index = i; given = g } ∷ []))
+        (cond b ks (ks ++ record { index = i; argument = g } ∷ []))
     choose true = below-more ks i (suc i) (omega arith) a
-    choose false = below-push ks (record { index = i; given = g }) (suc i)
+    choose false = below-push ks (record { index = i; argument = g }) (suc i)
         (below-more ks i (suc i) (omega arith) a) (omega arith)
 
-pub kept-below : (ks : List Kept) (i : ℕ) (gs : List FormatArgument)
+pub kept-below : (ks : List Entry) (i : ℕ) (gs : List FormatArgument)
     → AllByRecursion (λ k. k.index < i) ks
     → AllByRecursion (λ k. k.index < i + length gs) (kept_after ks i gs)
 kept-below ks i [] a = below-more ks i (i + 0) (omega arith) a

@@ -11,10 +11,10 @@ use Rattle.std.proofs.lemmas.Bool.{or_from, or_parts}
 use Rattle.std.proofs.lemmas.Bool.Decides.{not_from_Decides}
 use Rattle.std.proofs.lemmas.Bool.{false_from_ne_true}
 use Rattle.std.proofs.lemmas.List.Elements.{All-from_recursion, recursion_from_All}
-use Rattle.std.proofs.lemmas.List.Kept.{AllPairs-cons}
+use Rattle.std.proofs.lemmas.List.Entry.{AllPairs-cons}
 use Rattle.std.proofs.lemmas.Slice.Eq.{bytes_eq-Decides}
 use Rattle.rustc_parse_format.specs.Characters.{Text}
-use Rattle.call_faults.specs.Arguments.{FormatArgument, Kept, MayPrecede, first_of, has_name}
+use Rattle.call_faults.specs.Arguments.{FormatArgument, Entry, MayPrecede, first_of, has_name}
 use Rattle.call_faults.specs.Arguments.{index_of}
 use Rattle.call_faults.specs.Arguments.{is_late, kept_after, list_faults, repeated, with_given}
 use Rattle.call_faults.specs.CallFaults.{CallFault, PositionalAfterNamed, RepeatedName}
@@ -41,8 +41,8 @@ pairs-order (g ∷ gs) o = (
 )
 
 -- each of these may stand in front of an argument with this name, or none
-abbrev pub Precede : List Kept → Option Text → Type 0
-Precede ks n = AllByRecursion (λ k. MayPrecede k.given.name n) ks
+abbrev pub Precede : List Entry → Option Text → Type 0
+Precede ks n = AllByRecursion (λ k. MayPrecede k.argument.name n) ks
 
 unnamed : (n : Option Text) → MayPrecede n None → is_some n ≡ false
 unnamed None h = refl
@@ -52,15 +52,15 @@ precedes : (n : Option Text) → is_some n ≡ false → MayPrecede n None
 precedes None e = tt
 precedes (Some w) e = absurd cc
 
-all-unnamed : (ks : List Kept) → Precede ks None → list_any (λ k. is_some k.given.name) ks ≡ false
+all-unnamed : (ks : List Entry) → Precede ks None → list_any (λ k. is_some k.argument.name) ks ≡ false
 all-unnamed [] h = refl
-all-unnamed (k ∷ ks) h = or_from (is_some k.given.name) _ (unnamed k.given.name h.0)
+all-unnamed (k ∷ ks) h = or_from (is_some k.argument.name) _ (unnamed k.argument.name h.0)
     (all-unnamed ks h.1)
 
-unnamed-all : (ks : List Kept) → list_any (λ k. is_some k.given.name) ks ≡ false → Precede ks None
+unnamed-all : (ks : List Entry) → list_any (λ k. is_some k.argument.name) ks ≡ false → Precede ks None
 unnamed-all [] e = tt
-unnamed-all (k ∷ ks) e = let both = or_parts (is_some k.given.name) _ e in
-    (precedes k.given.name both.0, unnamed-all ks both.1)
+unnamed-all (k ∷ ks) e = let both = or_parts (is_some k.argument.name) _ e in
+    (precedes k.argument.name both.0, unnamed-all ks both.1)
 
 other : (n : Option Text) (w : Text) → MayPrecede n (Some w)
     → option_map_or (bytes_eq w) n false ≡ false
@@ -82,106 +82,106 @@ not_found : (b : Bool) (i : ℕ) (o : Option ℕ) → cond b (Some i) o ≡ None
 not_found true i o e = absurd cc
 not_found false i o e = (refl, e)
 
-no_index : (ks : List Kept) (w : Text) → Precede ks (Some w) → index_of ks w ≡ None
+no_index : (ks : List Entry) (w : Text) → Precede ks (Some w) → index_of ks w ≡ None
 no_index [] w h = refl
 no_index (k ∷ ks) w h =
-    skipped (has_name w k.given) k.index (index_of ks w) (other k.given.name w h.0)
+    skipped (has_name w k.argument) k.index (index_of ks w) (other k.argument.name w h.0)
     ∙ no_index ks w h.1
 
-index_none : (ks : List Kept) (w : Text) → index_of ks w ≡ None → Precede ks (Some w)
+index_none : (ks : List Entry) (w : Text) → index_of ks w ≡ None → Precede ks (Some w)
 index_none [] w e = tt
 index_none (k ∷ ks) w e =
-    let both = not_found (has_name w k.given) k.index (index_of ks w) e in
-    (other-precedes k.given.name w both.0, index_none ks w both.1)
+    let both = not_found (has_name w k.argument) k.index (index_of ks w) e in
+    (other-precedes k.argument.name w both.0, index_none ks w both.1)
 
 -- an argument with nothing wrong
-pub precede-clean : (ks : List Kept) (n v : Option Text) → Precede ks n
+pub precede-clean : (ks : List Entry) (n v : Option Text) → Precede ks n
     → (is_late ks (record { name = n; variable = v }) ≡ false)
     × (first_of ks (record { name = n; variable = v }) ≡ None)
 precede-clean ks None v h = (all-unnamed ks h, refl)
 precede-clean ks (Some w) v h = (refl, no_index ks w h)
 
-pub clean-precede : (ks : List Kept) (n v : Option Text)
+pub clean-precede : (ks : List Entry) (n v : Option Text)
     → is_late ks (record { name = n; variable = v }) ≡ false
     → first_of ks (record { name = n; variable = v }) ≡ None → Precede ks n
 clean-precede ks None v e f = unnamed-all ks e
 clean-precede ks (Some w) v e f = index_none ks w f
 
 -- these arguments, with their indices from i on
-abbrev pub numbered : ℕ → List FormatArgument → List Kept
+abbrev pub numbered : ℕ → List FormatArgument → List Entry
 numbered i [] = []
-numbered i (g ∷ gs) = record { index = i; given = g } ∷ numbered (suc i) gs
+numbered i (g ∷ gs) = record { index = i; argument = g } ∷ numbered (suc i) gs
 
 -- each argument of the second list may stand after each of the first
-abbrev pub After : List Kept → List FormatArgument → Type 0
+abbrev pub After : List Entry → List FormatArgument → Type 0
 After ks gs = AllByRecursion (λ g. Precede ks g.name) gs
 
 no_repeat : (i : ℕ) (o : Option ℕ) → repeated i o ≡ [] → o ≡ None
 no_repeat i None e = refl
 no_repeat i (Some f) e = absurd (cc e)
 
-kept-new : (ks : List Kept) (i : ℕ) (g : FormatArgument) → first_of ks g ≡ None
-    → with_given ks i g ≡ ks ++ record { index = i; given = g } ∷ []
+kept-new : (ks : List Entry) (i : ℕ) (g : FormatArgument) → first_of ks g ≡ None
+    → with_given ks i g ≡ ks ++ record { index = i; argument = g } ∷ []
 kept-new ks i g e = ap (λ (o : Option ℕ). cond (is_some o) ks (ks ++ record {
   index = i;
-  given
+  argument
       = g;
 } ∷ [])) e
 
-precede-split : (ks : List Kept) (k : Kept) (n : Option Text) → Precede (ks ++ k ∷ []) n
-    → Precede ks n × MayPrecede k.given.name n
+precede-split : (ks : List Entry) (k : Entry) (n : Option Text) → Precede (ks ++ k ∷ []) n
+    → Precede ks n × MayPrecede k.argument.name n
 precede-split [] k n h = (tt, h.0)
 precede-split (l ∷ ks) k n h = let both = precede-split ks k n h.1 in ((h.0, both.0), both.1)
 
-precede-join : (ks : List Kept) (k : Kept) (n : Option Text) → Precede ks n
-    → MayPrecede k.given.name n → Precede (ks ++ k ∷ []) n
+precede-join : (ks : List Entry) (k : Entry) (n : Option Text) → Precede ks n
+    → MayPrecede k.argument.name n → Precede (ks ++ k ∷ []) n
 precede-join [] k n h p = (p, tt)
 precede-join (l ∷ ks) k n h p = (h.0, precede-join ks k n h.1 p)
 
-rest_after-split : (ks : List Kept) (k : Kept) (gs : List FormatArgument) → After (ks ++ k ∷ []) gs
-    → After ks gs × AllByRecursion (λ h. MayPrecede k.given.name h.name) gs
+rest_after-split : (ks : List Entry) (k : Entry) (gs : List FormatArgument) → After (ks ++ k ∷ []) gs
+    → After ks gs × AllByRecursion (λ h. MayPrecede k.argument.name h.name) gs
 rest_after-split ks k [] b = (tt, tt)
 rest_after-split ks k (g ∷ gs) b =
     let here = precede-split ks k g.name b.0 in
     let there = rest_after-split ks k gs b.1 in
     ((here.0, there.0), (here.1, there.1))
 
-rest_after-join : (ks : List Kept) (k : Kept) (gs : List FormatArgument) → After ks gs
-    → AllByRecursion (λ h. MayPrecede k.given.name h.name) gs → After (ks ++ k ∷ []) gs
+rest_after-join : (ks : List Entry) (k : Entry) (gs : List FormatArgument) → After ks gs
+    → AllByRecursion (λ h. MayPrecede k.argument.name h.name) gs → After (ks ++ k ∷ []) gs
 rest_after-join ks k [] b a = tt
 rest_after-join ks k (g ∷ gs) b a =
     (precede-join ks k g.name b.0 a.0, rest_after-join ks k gs b.1 a.1)
 
 -- A list of arguments with nothing wrong.
-pub record Faultless (ks : List Kept) (i : ℕ) (gs : List FormatArgument) : Type 0 where
+pub record Faultless (ks : List Entry) (i : ℕ) (gs : List FormatArgument) : Type 0 where
   pub rest_after : After ks gs
   pub in_order : InOrder gs
   pub kept : kept_after ks i gs ≡ ks ++ numbered i gs
 
-pub none-order : (ks : List Kept) (i : ℕ) (gs : List FormatArgument) → list_faults ks i gs ≡ []
+pub none-order : (ks : List Entry) (i : ℕ) (gs : List FormatArgument) → list_faults ks i gs ≡ []
     → Faultless ks i gs
 none-order ks i [] e = record { rest_after = tt; in_order = tt; kept = sym (append-nil ks) }
 none-order ks i (g ∷ gs) e =
     let first = else-nil (is_late ks g) _ _ _ e in
     let new : first_of ks g ≡ None = no_repeat i (first_of ks g) (left-nil _ _ first.1) in
     let more = kept-new ks i g new in
-    let k : Kept = record { index = i; given = g } in
+    let k : Entry = record { index = i; argument = g } in
     let later : list_faults (ks ++ k ∷ []) (suc i) gs ≡ []
-    = ap (λ (l : List Kept). list_faults l (suc i) gs) (sym more) ∙ right-nil _ _ first.1 in
+    = ap (λ (l : List Entry). list_faults l (suc i) gs) (sym more) ∙ right-nil _ _ first.1 in
     let rest = none-order (ks ++ k ∷ []) (suc i) gs later in
     let both = rest_after-split ks k gs rest.rest_after in
     record {
       rest_after = (clean-precede ks g.name g.variable first.0 new, both.0);
       in_order = (both.1, rest.in_order);
-      kept = ap (λ (l : List Kept). kept_after l (suc i) gs) more
+      kept = ap (λ (l : List Entry). kept_after l (suc i) gs) more
           ∙ (rest.kept ∙ append_assoc ks (k ∷ []) (numbered (suc i) gs));
     }
 
-pub order-none : (ks : List Kept) (i : ℕ) (gs : List FormatArgument) → After ks gs → InOrder gs
+pub order-none : (ks : List Entry) (i : ℕ) (gs : List FormatArgument) → After ks gs → InOrder gs
     → list_faults ks i gs ≡ []
 order-none ks i [] b o = refl
 order-none ks i (g ∷ gs) b o =
     let clean = precede-clean ks g.name g.variable b.0 in
-    let k : Kept = record { index = i; given = g } in
+    let k : Entry = record { index = i; argument = g } in
     let later = order-none (ks ++ k ∷ []) (suc i) gs (rest_after-join ks k gs b.1 o.0) o.1 in
     rw (clean.0, clean.1) later

@@ -17,7 +17,7 @@ use Rattle.std.proofs.lemmas.Option.{same_Some}
 use Rattle.std.proofs.lemmas.Slice.Eq.{bytes_eq-Decides}
 use Rattle.rustc_parse_format.specs.Characters.{Text}
 use Rattle.placeholder_check.specs.Uses.{Use, ByIndex, ByName}
-use Rattle.call_faults.specs.Arguments.{FormatArgument, Kept, MayPrecede, has_name, index_of}
+use Rattle.call_faults.specs.Arguments.{FormatArgument, Entry, MayPrecede, has_name, index_of}
 use Rattle.call_faults.specs.Clean.{IsMet, IsUsed}
 use Rattle.call_faults.specs.Comparison.{means, meant, names, unused}
 use Rattle.call_faults.specs.Lookups.{Lookup, NoTrait, Refer}
@@ -39,7 +39,7 @@ is_use i g (ByIndex n) = i == n
 is_use i g (ByName w) = has_name w g
 
 index-at : (m n : ℕ) (gs : List FormatArgument) (o : Option FormatArgument) → slice_get gs n ≡ o
-    → option_map (λ (k : Kept). k.index) (slice_get (numbered m gs) n)
+    → option_map (λ (k : Entry). k.index) (slice_get (numbered m gs) n)
     ≡ option_map (λ g. m + n) o
 index-at m n [] o e = rw (← e) refl
 index-at m zero (g ∷ gs) o e = rw (← e) (ap Some (sym (add-zero m)))
@@ -195,36 +195,36 @@ nil-filter : {A : Type 0} (p : A → Bool) (xs : List A) → AllByRecursion (λ 
 nil-filter p [] h = refl
 nil-filter p (x ∷ xs) h = rw h.0 (nil-filter p xs h.1)
 
-all-numbered : (P : Kept → Type 0) (m : ℕ) (gs : List FormatArgument)
+all-numbered : (P : Entry → Type 0) (m : ℕ) (gs : List FormatArgument)
     → AllByRecursion P (numbered m gs)
     → (i : ℕ) (g : FormatArgument) → slice_get gs i ≡ Some g
-    → P (record { index = m + i; given = g })
+    → P (record { index = m + i; argument = g })
 all-numbered P m [] h i g e = absurd cc
 all-numbered P m (x ∷ gs) h zero g e =
     let s : m ≡ m + 0 = omega arith in
-    subst (λ (k : Kept). P k) (kept-is m (m + 0) x g s (same_Some x g e)) h.0
+    subst (λ (k : Entry). P k) (kept-is m (m + 0) x g s (same_Some x g e)) h.0
   where
-    kept-is : (m n : ℕ) (x g : FormatArgument) → m ≡ n → x ≡ g → let a : Kept = record {
+    kept-is : (m n : ℕ) (x g : FormatArgument) → m ≡ n → x ≡ g → let a : Entry = record {
       index = m;
-      given
+      argument
           = x;
-    } in let b : Kept = record { index = n; given = g } in a ≡ b
+    } in let b : Entry = record { index = n; argument = g } in a ≡ b
     kept-is m n x g e f = cc
 all-numbered P m (x ∷ gs) h (suc i) g e =
     let s : suc m + i ≡ m + suc i = omega arith in
-    subst (λ (n : ℕ). P (record { index = n; given = g })) s (all-numbered P (suc m) gs h.1 i g e)
+    subst (λ (n : ℕ). P (record { index = n; argument = g })) s (all-numbered P (suc m) gs h.1 i g e)
 
-numbered-all : (P : Kept → Type 0) (m : ℕ) (gs : List FormatArgument)
+numbered-all : (P : Entry → Type 0) (m : ℕ) (gs : List FormatArgument)
     → ((i : ℕ) (g : FormatArgument) → slice_get gs i ≡ Some g
-    → P (record { index = m + i; given = g }))
+    → P (record { index = m + i; argument = g }))
     → AllByRecursion P (numbered m gs)
 numbered-all P m [] h = tt
 numbered-all P m (x ∷ gs) h = (
   let s : m + 0 ≡ m = omega arith in
-      subst (λ (n : ℕ). P (record { index = n; given = x })) s (h 0 x refl),
+      subst (λ (n : ℕ). P (record { index = n; argument = x })) s (h 0 x refl),
   numbered-all P (suc m) gs (λ i g e.
       let s : m + suc i ≡ suc m + i = omega arith in
-      subst (λ (n : ℕ). P (record { index = n; given = g })) s (h (suc i) g e)),
+      subst (λ (n : ℕ). P (record { index = n; argument = g })) s (h (suc i) g e)),
 )
 
 -- where none is left, each argument is used
@@ -232,7 +232,7 @@ pub all-used : (gs : List FormatArgument) (ls : List Lookup) (us : List Use) →
     → ((q : Use → Bool) → list_any (by_use q) ls ≡ list_any q us) → unused (numbered 0 gs) ls ≡ []
     → (i : ℕ) (g : FormatArgument) → slice_get gs i ≡ Some g → IsUsed us i g
 all-used gs ls us o same e i g f =
-    let left = filter-nil (λ (k : Kept). not (list_any (means (numbered 0 gs) k.index) ls))
+    let left = filter-nil (λ (k : Entry). not (list_any (means (numbered 0 gs) k.index) ls))
     (numbered 0 gs) e in
     let meant = not-false (list_any (means (numbered 0 gs) (0 + i)) ls)
     (all-numbered (λ k. not (list_any (means (numbered 0 gs) k.index) ls)
@@ -245,7 +245,7 @@ pub used-all : (gs : List FormatArgument) (ls : List Lookup) (us : List Use) →
     → ((i : ℕ) (g : FormatArgument) → slice_get gs i ≡ Some g → IsUsed us i g)
     → unused (numbered 0 gs) ls ≡ []
 used-all gs ls us o same h =
-    nil-filter (λ (k : Kept). not (list_any (means (numbered 0 gs) k.index) ls)) (numbered 0 gs)
+    nil-filter (λ (k : Entry). not (list_any (means (numbered 0 gs) k.index) ls)) (numbered 0 gs)
     (numbered-all (λ k. not (list_any (means (numbered 0 gs) k.index) ls) ≡ false) 0 gs
     (λ i g e.
     let s : i ≡ 0 + i = omega arith in

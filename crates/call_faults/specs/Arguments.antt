@@ -22,40 +22,40 @@ MayPrecede (Some w) None = ⊥
 MayPrecede (Some w) (Some v) = w ≢ v
 
 -- An argument and its index among all that are given.
-pub record Kept : Type 0 where
+pub record Entry : Type 0 where
   pub index : ℕ
-  pub given : FormatArgument
+  pub argument : FormatArgument
 
 -- The argument has this name.
 abbrev pub has_name : Text → FormatArgument → Bool
 has_name w g = option_map_or (bytes_eq w) g.name false
 
 -- The index of the first of these arguments with this name, if there is one.
-abbrev pub index_of : List Kept → Text → Option ℕ
+abbrev pub index_of : List Entry → Text → Option ℕ
 index_of [] w = None
-index_of (k ∷ ks) w = if has_name w k.given then Some k.index else index_of ks w
+index_of (k ∷ ks) w = if has_name w k.argument then Some k.index else index_of ks w
 
 -- The index of the first of these arguments with the name that g has, if there is one.
-abbrev pub first_of : List Kept → FormatArgument → Option ℕ
+abbrev pub first_of : List Entry → FormatArgument → Option ℕ
 first_of ks g = option_and_then (index_of ks) g.name
 
 -- The argument g stands without a name after these, and one of them has a name.
-abbrev pub is_late : List Kept → FormatArgument → Bool
-is_late ks g = not (is_some g.name) && list_any (λ k. is_some k.given.name) ks
+abbrev pub is_late : List Entry → FormatArgument → Bool
+is_late ks g = not (is_some g.name) && list_any (λ k. is_some k.argument.name) ks
 
 -- The arguments ks that count, and then g with the index i, unless its name is that of one of them.
-abbrev pub with_given : List Kept → ℕ → FormatArgument → List Kept
+abbrev pub with_given : List Entry → ℕ → FormatArgument → List Entry
 with_given ks i g = if is_some (first_of ks g) then ks
-    else ks ++ record { index = i; given = g } ∷ []
+    else ks ++ record { index = i; argument = g } ∷ []
 
 -- The arguments that count, where ks are those of the first i ones, and gs are the others.
-abbrev pub kept_after : List Kept → ℕ → List FormatArgument → List Kept
+abbrev pub kept_after : List Entry → ℕ → List FormatArgument → List Entry
 kept_after ks i [] = ks
 kept_after ks i (g ∷ gs) = kept_after (with_given ks i g) (suc i) gs
 
 -- The indices of those of these arguments that have a name.
-abbrev pub named_of : List Kept → List ℕ
-named_of ks = map (λ k. k.index) (filter (λ k. is_some k.given.name) ks)
+abbrev pub named_of : List Entry → List ℕ
+named_of ks = map (λ k. k.index) (filter (λ k. is_some k.argument.name) ks)
 
 -- The fault of the argument with the index i, if the first argument with its name is this one.
 abbrev pub repeated : ℕ → Option ℕ → List CallFault
@@ -64,7 +64,7 @@ repeated i (Some f) = RepeatedName i f ∷ []
 
 -- The faults of the list of arguments, where ks are those that count of the first i ones, and
 -- gs are the others. The first one without a name after one with a name ends it.
-abbrev pub list_faults : List Kept → ℕ → List FormatArgument → List CallFault
+abbrev pub list_faults : List Entry → ℕ → List FormatArgument → List CallFault
 list_faults ks i [] = []
 list_faults ks i (g ∷ gs) = if is_late ks g then PositionalAfterNamed i (named_of ks) ∷ []
     else repeated i (first_of ks g) ++ list_faults (with_given ks i g) (suc i) gs

@@ -11,7 +11,7 @@ use Rattle.call_faults.specs.declared.faults.Part.{Part}
 use Rattle.call_faults.specs.declared.faults.Part.TheVariants.{Position, Precision, Width}
 use Rattle.call_faults.specs.declared.faults.Missing.{Missing}
 use Rattle.call_faults.specs.declared.faults.Reference.{Reference}
-use Rattle.call_faults.specs.Arguments.{FormatArgument, Kept, has_name, index_of}
+use Rattle.call_faults.specs.Arguments.{FormatArgument, Entry, has_name, index_of}
 use Rattle.call_faults.specs.CallFaults.{CallFault, MissingName, UnknownTrait, MissingArguments}
 use Rattle.call_faults.specs.CallFaults.{UnusedArguments, RedundantArguments, NameUsedByIndex}
 use Rattle.call_faults.specs.CallFaults.{PositionalAfterNamed, RepeatedName, TextFault}
@@ -19,12 +19,12 @@ use Rattle.call_faults.specs.Lookups.{Lookup, Refer, NoTrait}
 
 -- The index of the argument that is meant by a use, if there is one. A number counts through all
 -- arguments that count, those with a name too.
-abbrev pub meant : List Kept → Use → Option ℕ
+abbrev pub meant : List Entry → Use → Option ℕ
 meant ks (ByIndex n) = option_map (λ k. k.index) (slice_get ks n)
 meant ks (ByName w) = index_of ks w
 
 -- The lookup means the argument of this index.
-abbrev pub means : List Kept → ℕ → Lookup → Bool
+abbrev pub means : List Entry → ℕ → Lookup → Bool
 means ks i (Refer r u) = option_map_or (λ j. i == j) (meant ks u) false
 means ks i (NoTrait k t) = false
 
@@ -40,8 +40,8 @@ lookup_faults captures known (Refer r (ByName w) ∷ ls) =
     else MissingName r w ∷ lookup_faults captures (w ∷ known) ls
 
 -- The names of these arguments.
-abbrev pub names : List Kept → List Text
-names ks = filter_map (λ k. k.given.name) ks
+abbrev pub names : List Entry → List Text
+names ks = filter_map (λ k. k.argument.name) ks
 
 -- The reference by an index that is at least this count, if the lookup is one.
 abbrev pub beyond : ℕ → Lookup → Option Missing
@@ -51,11 +51,11 @@ beyond count (Refer r (ByName w)) = None
 beyond count (NoTrait k t) = None
 
 -- The references by an index that is too large for these arguments.
-abbrev pub missing : List Kept → List Lookup → List Missing
+abbrev pub missing : List Entry → List Lookup → List Missing
 missing ks ls = filter_map (beyond (length ks)) ls
 
 -- The arguments that no lookup means.
-abbrev pub unused : List Kept → List Lookup → List Kept
+abbrev pub unused : List Entry → List Lookup → List Entry
 unused ks ls = filter (λ k. not (list_any (means ks k.index) ls)) ks
 
 -- The part is a position.
@@ -71,12 +71,12 @@ is_position w (Refer r (ByName v)) = is_at_position r.part && bytes_eq w v
 is_position w (NoTrait k t) = false
 
 -- The argument has no name, and is a variable which the position of a placeholder has as its name.
-abbrev pub is_redundant : List Lookup → Kept → Bool
-is_redundant ls k = is_none k.given.name
-    && option_map_or (λ w. list_any (is_position w) ls) k.given.variable false
+abbrev pub is_redundant : List Lookup → Entry → Bool
+is_redundant ls k = is_none k.argument.name
+    && option_map_or (λ w. list_any (is_position w) ls) k.argument.variable false
 
 -- The indices of these arguments among all that are given.
-abbrev pub indices : List Kept → List ℕ
+abbrev pub indices : List Entry → List ℕ
 indices ks = map (λ k. k.index) ks
 
 -- The fault of these references by an index that is too large.
@@ -95,12 +95,12 @@ left_faults [] unused = unused_faults unused
 left_faults (i ∷ is) unused = RedundantArguments (i ∷ is) ∷ []
 
 -- The fault of a reference by index to this argument, if it has a name.
-abbrev pub named_use : Reference → Option Kept → Option CallFault
+abbrev pub named_use : Reference → Option Entry → Option CallFault
 named_use r None = None
-named_use r (Some k) = if is_some k.given.name then Some (NameUsedByIndex r k.index) else None
+named_use r (Some k) = if is_some k.argument.name then Some (NameUsedByIndex r k.index) else None
 
 -- The fault of the lookup, if it means an argument with a name by its index.
-abbrev pub by_index : List Kept → Lookup → Option CallFault
+abbrev pub by_index : List Entry → Lookup → Option CallFault
 by_index ks (Refer r (ByIndex n)) = named_use r (slice_get ks n)
 by_index ks (Refer r (ByName w)) = None
 by_index ks (NoTrait k t) = None
@@ -118,13 +118,13 @@ is_missing_name (RedundantArguments is) = false
 is_missing_name (NameUsedByIndex r i) = false
 
 -- Neither a name is missing, nor an argument, nor is one unused.
-abbrev pub is_settled : List CallFault → List Missing → List Kept → Bool
+abbrev pub is_settled : List CallFault → List Missing → List Entry → Bool
 is_settled found lacked left =
     not (list_any is_missing_name found) && (length lacked == 0 && length left == 0)
 
 -- The faults between the arguments ks that count and these lookups. References by index to
 -- arguments with names are reported only if no name and no argument is missing or unused.
-abbrev pub compared : Bool → List Kept → List Lookup → List CallFault
+abbrev pub compared : Bool → List Entry → List Lookup → List CallFault
 compared captures ks ls =
     let found = lookup_faults captures (names ks) ls in
     let lacked = missing ks ls in

@@ -29,7 +29,7 @@ use Rattle.text_faults.specs.declared.spots.Spot.TheVariants.{Value, ValueUpToNe
 -- those that count; the pieces, and of each how many placeholders stand before it; the places of
 -- these; how many arguments they take one after the other; and the faults.
 pub record Call : Type 0 where
-  pub given : List FormatArgument
+  pub arguments : List FormatArgument
   pub kept : List ℕ
   pub pieces : List (Piece Place)
   pub counts : List ℕ
@@ -202,7 +202,7 @@ abbrev pub by_index_labels : Call → Reference → ℕ → List Label
 by_index_labels c r i =
     primary (NameOf i) by_index_text
     ∷ secondary (use_spot c.pieces c.counts c.places r)
-    (use_text (name_of (slice_get c.given i))) ∷ []
+    (use_text (name_of (slice_get c.arguments i))) ∷ []
 
 -- The label of an argument with a name in front of one without.
 unfoldable pub named_text : List ℕ
@@ -221,6 +221,6 @@ labels c (MissingName r w) = primary (named_spot c.pieces r) [] ∷ []
 labels c (UnknownTrait k t) = primary (type_spot c.pieces k) [] ∷ []
 labels c (MissingArguments ms) = if list_any has_number c.pieces
     then map (λ m. primary (reference_spot c.pieces m.reference) []) ms else few_labels c
-labels c (UnusedArguments is) = unused_and_literal c.given is
-labels c (RedundantArguments is) = redundant_labels c.given is
+labels c (UnusedArguments is) = unused_and_literal c.arguments is
+labels c (RedundantArguments is) = redundant_labels c.arguments is
 labels c (NameUsedByIndex r i) = by_index_labels c r i

@@ -183,7 +183,7 @@ redundant_text n = if n == 1
 abbrev pub redundant_note : Call → List ℕ → Note
 redundant_note c is = record {
   text = redundant_text (length is);
-  spots = named_positions (λ w. list_any (is_variable c.given w) is) c.pieces;
+  spots = named_positions (λ w. list_any (is_variable c.arguments w) is) c.pieces;
 }
 
 -- The place that is removed with an argument that is left out: its value, and what is after it up
@@ -216,7 +216,7 @@ name_in p w = encode_utf8_all w ++ after_name p
 abbrev pub by_index_help : Call → Reference → ℕ → Help
 by_index_help c r i = record {
   text = codes "use the named argument by name to avoid ambiguity";
-  edits = edit (index_spot c.pieces r) (name_in r.part (name_of (slice_get c.given i))) ∷ [];
+  edits = edit (index_spot c.pieces r) (name_in r.part (name_of (slice_get c.arguments i))) ∷ [];
 }
 
 -- The help that puts a text in the place of another one.
@@ -265,7 +265,7 @@ debug_help (i ∷ j ∷ is) = None
 -- The help for an error of the string at this place, with this suggestion.
 abbrev pub suggested : Call → Place → Suggestion Place → Option Help
 suggested c s Nothing = None
-suggested c s UsePositional = Some (positional_help c.given s)
+suggested c s UsePositional = Some (positional_help c.arguments s)
 suggested c s (RemoveRawIdent r) = None
 suggested c s (ReorderFormatParameter r t) = Some (replacing (bytes_at r) t)
 suggested c s (AddMissingColon r) = None
@@ -296,5 +296,5 @@ help c (MissingName r w) = None
 help c (UnknownTrait k t) = None
 help c (MissingArguments ms) = None
 help c (UnusedArguments is) = unused_help c (length is)
-help c (RedundantArguments is) = redundant_help c.given is
+help c (RedundantArguments is) = redundant_help c.arguments is
 help c (NameUsedByIndex r i) = Some (by_index_help c r i)

@@ -28,7 +28,7 @@ use Rattle.call_faults.specs.declared.faults.CallFault.TheVariants.{NameUsedByIn
 use Rattle.call_faults.specs.declared.checker.CallReport.{CallReport}
 use Rattle.call_faults.specs.declared.checker.FormatString.{FormatString}
 use Rattle.call_faults.specs.declared.arguments.FormatArgument.{FormatArgument as DeclaredArgument}
-use Rattle.call_faults.specs.declared.arguments.Kept.{Kept as DeclaredKept}
+use Rattle.call_faults.specs.declared.arguments.Entry.{Entry as DeclaredKept}
 use Rattle.call_faults.specs.declared.arguments.Arguments.{Arguments}
 use Rattle.call_faults.specs.declared.spots.CallEdit.{CallEdit}
 use Rattle.call_faults.specs.declared.spots.CallHelp.{CallHelp}
@@ -39,7 +39,7 @@ use Rattle.call_faults.specs.declared.lookups.Lookup.TheVariants.{Refer as Refer
 use Rattle.call_faults.specs.declared.lookups.Lookup.TheVariants.{NoTrait as NoTraitIn}
 use Rattle.call_faults.specs.declared.lookups.Wanted.{Wanted}
 use Rattle.call_faults.specs.declared.lookups.Wanted.TheVariants.{Index, Name}
-use Rattle.call_faults.specs.Arguments.{FormatArgument, Kept, index_of}
+use Rattle.call_faults.specs.Arguments.{FormatArgument, Entry, index_of}
 use Rattle.call_faults.specs.CallFaults.{CallFault, PositionalAfterNamed, RepeatedName, TextFault}
 use Rattle.call_faults.specs.CallFaults.{MissingName, UnknownTrait, MissingArguments}
 use Rattle.call_faults.specs.CallFaults.{UnusedArguments, RedundantArguments, NameUsedByIndex}
@@ -54,8 +54,8 @@ abbrev pub seen_given : DeclaredArgument → FormatArgument
 seen_given g = record { name = option_map text g.name; variable = option_map text g.variable }
 
 -- An argument that counts, as a contract sees it.
-abbrev pub seen_kept : DeclaredKept → Kept
-seen_kept k = record { index = k.index; given = seen_given k.argument }
+abbrev pub seen_entry : DeclaredKept → Entry
+seen_entry k = record { index = k.index; argument = seen_given k.argument }
 
 -- A fault as a contract sees it.
 abbrev pub seen_fault : DeclaredFault → CallFault
@@ -92,15 +92,15 @@ pub record KnowsNames (known : List Text) (m : BTreeMap (Bor (List ℕ)) ℕ) : 
   pub same : (w : Text) → is_some (found_in m w) ≡ list_any (bytes_eq w) known
 
 -- The collection has these arguments.
-pub record Holds (ks : List Kept) (a : Arguments) : Type 0 where
-  pub list : map seen_kept a.list.items ≡ ks
+pub record Holds (ks : List Entry) (a : Arguments) : Type 0 where
+  pub list : map seen_entry a.list.items ≡ ks
   pub names : (w : Text) → found_in a.indices w ≡ index_of ks w
-  pub has_names : a.has_names ≡ list_any (λ k. is_some k.given.name) ks
+  pub has_names : a.has_names ≡ list_any (λ k. is_some k.argument.name) ks
 
 -- A call as its titles need it, with the numbers that are too large.
 abbrev pub title_parts : CallReport → List ℕ → TitleParts Place
 title_parts c numbers = record {
-  given = map seen_given c.arguments.now;
+  arguments = map seen_given c.arguments.now;
   count = length c.indices.items;
   pieces = map seen c.pieces.items;
   total = c.parser.next;
@@ -127,7 +127,7 @@ seen_help h = record { text = string_bytes h.text; edits = map seen_edit h.edits
 -- A call that was checked, as the messages of its faults need it.
 abbrev pub seen_call : CallReport → Call
 seen_call c = record {
-  given = map seen_given c.arguments.now;
+  arguments = map seen_given c.arguments.now;
   kept = c.indices.items;
   pieces = map seen c.pieces.items;
   counts = c.counts.items;

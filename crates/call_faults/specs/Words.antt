@@ -103,7 +103,7 @@ unused_title gs (i ∷ j ∷ is) = codes "multiple unused formatting arguments"
 -- how many of them count; the pieces; how many arguments their placeholders take one after the
 -- other; and the numbers that are too large, each once and in rising order.
 pub record TitleParts (A : Type 0) : Type 0 where
-  pub given : List FormatArgument
+  pub arguments : List FormatArgument
   pub count : ℕ
   pub pieces : List (Piece A)
   pub total : ℕ
@@ -113,13 +113,13 @@ pub record TitleParts (A : Type 0) : Type 0 where
 unfoldable pub title : {A : Type 0} → TitleParts A → CallFault → List ℕ
 title c (PositionalAfterNamed i ns) = codes "positional arguments cannot follow named arguments"
 title c (RepeatedName i f) =
-    codes "duplicate argument named " ++ quoted (name_of (slice_get c.given i))
+    codes "duplicate argument named " ++ quoted (name_of (slice_get c.arguments i))
 title c (TextFault f) = codes "invalid format string: " ++ (message f).description
 title c (MissingName r w) = codes "there is no argument named " ++ quoted w
 title c (UnknownTrait k t) = codes "unknown format trait " ++ quoted t
 title c (MissingArguments ms) = if list_any has_number c.pieces then numbers_title c.numbers c.count
     else few_title c.total c.count
-title c (UnusedArguments is) = unused_title c.given is
+title c (UnusedArguments is) = unused_title c.arguments is
 title c (RedundantArguments is) = plural (codes "redundant argument") (length is)
 title c (NameUsedByIndex r i) = codes "named argument "
-    ++ (quoted (name_of (slice_get c.given i)) ++ codes " is not used by name")
+    ++ (quoted (name_of (slice_get c.arguments i)) ++ codes " is not used by name")

@@ -5,10 +5,10 @@ ghost use Rattle.std.specs.Prelude.{Some, None, IfSome, if◌then◌else◌, is_
 ghost use Rattle.std.specs.List.{list_any};
 ghost use Rattle.std.specs.Str.{bytes_eq};
 ghost use Rattle.rustc_parse_format.specs.Characters.{Text};
-ghost use Rattle.call_faults.specs.Arguments.{Kept as KeptValue, first_of, is_late, kept_after};
+ghost use Rattle.call_faults.specs.Arguments.{Entry as EntryValue, first_of, is_late, kept_after};
 ghost use Rattle.call_faults.specs.Arguments.{list_faults, named_of, repeated, with_given};
 ghost use Rattle.call_faults.specs.Calls.{is_last};
-ghost use Rattle.call_faults.specs.Seen.{Holds, found_in, seen_fault, seen_given, seen_kept};
+ghost use Rattle.call_faults.specs.Seen.{Holds, found_in, seen_fault, seen_given, seen_entry};
 
 use crate::faults::CallFault;
 use std::alloc::{AllocError, Global};
@@ -26,7 +26,7 @@ pub struct FormatArgument<'a> {
 
 /// An argument that counts, since its name is not that of an earlier one.
 #[derive(Clone, Copy)]
-pub(crate) struct Kept<'a> {
+pub(crate) struct Entry<'a> {
     /// Its index among all that are given.
     pub index: usize,
     pub argument: FormatArgument<'a>,
@@ -35,7 +35,7 @@ pub(crate) struct Kept<'a> {
 /// The arguments that count.
 #[derive(Drop)]
 pub(crate) struct Arguments<'a> {
-    pub list: Vec<Kept<'a>>,
+    pub list: Vec<Entry<'a>>,
     /// The index of the argument with each name, among all that are given.
     pub indices: BTreeMap<&'a str, usize>,
     /// Whether any has a name.
@@ -76,7 +76,7 @@ pub(crate) fn insert<'a>(
 /// Returns the index of the argument with the name that an argument has, or `None` if it has none
 /// or there is none.
 fn first_of<'a>(arguments: &Arguments<'a>, argument: &FormatArgument<'a>) -> Option<usize>
-    ensures { (ks : List KeptValue) → Holds ks arguments.now
+    ensures { (ks : List EntryValue) → Holds ks arguments.now
         → result ≡ first_of ks (seen_given argument.now) }
 {
     match argument.name {
@@ -91,16 +91,16 @@ fn keep<'a>(
     index: usize,
     argument: FormatArgument<'a>,
 ) -> Result<(), AllocError>
-    ensures { OnOk result ((ks : List KeptValue) → Holds ks arguments.old
+    ensures { OnOk result ((ks : List EntryValue) → Holds ks arguments.old
         → first_of ks (seen_given argument.entry) ≡ None
-        → Holds (ks ++ record { index = index; given = seen_given argument.entry } ∷ [])
+        → Holds (ks ++ record { index = index; argument = seen_given argument.entry } ∷ [])
         arguments.new) }
 {
     if let Some(name) = argument.name {
         insert(&mut arguments.indices, name, index)?;
         arguments.has_names = true;
     }
-    arguments.list.push(Kept { index, argument })?;
+    arguments.list.push(Entry { index, argument })?;
     Ok(())
 }
 
@@ -112,9 +112,9 @@ fn add<'a>(
     index: usize,
     argument: FormatArgument<'a>,
 ) -> Result<(), AllocError>
-    ensures kept { OnOk result ((ks : List KeptValue) → Holds ks arguments.old
+    ensures kept { OnOk result ((ks : List EntryValue) → Holds ks arguments.old
         → Holds (with_given ks index (seen_given argument.entry)) arguments.new) }
-    ensures outcome { OnOk result ((ks : List KeptValue) → Holds ks arguments.old
+    ensures outcome { OnOk result ((ks : List EntryValue) → Holds ks arguments.old
         → map seen_fault faults.new.items ≡ map seen_fault faults.old.items
         ++ repeated index (first_of ks (seen_given argument.entry))) }
 {
@@ -127,7 +127,7 @@ fn add<'a>(
 
 /// Returns whether an argument has no name, although one that counts has one.
 fn is_late<'a>(arguments: &Arguments<'a>, argument: &FormatArgument<'a>) -> bool
-    ensures { (ks : List KeptValue) → Holds ks arguments.now
+    ensures { (ks : List EntryValue) → Holds ks arguments.now
         → result ≡ is_late ks (seen_given argument.now) }
 {
     argument.name.is_none() && arguments.has_names
@@ -135,8 +135,8 @@ fn is_late<'a>(arguments: &Arguments<'a>, argument: &FormatArgument<'a>) -> bool
 
 /// Returns the indices of those of arguments that have a name. Returns `Err` if an allocation
 /// fails.
-fn named_of(alloc: Global, list: &[Kept<'_>]) -> Result<Vec<usize>, AllocError>
-    ensures { IfOk result (λ v. v.items ≡ named_of (map seen_kept list.now)) }
+fn named_of(alloc: Global, list: &[Entry<'_>]) -> Result<Vec<usize>, AllocError>
+    ensures { IfOk result (λ v. v.items ≡ named_of (map seen_entry list.now)) }
 {
     let mut named = Vec::new(alloc);
     for entry in list {

@@ -147,7 +147,7 @@ pub fn call_faults<'a>(
     ensures walk { IfOk result (λ x. let s = start string.entry in
         (map seen x.pieces.items ≡ pieces_in s.world (pieces_of (calls s)))
         × (x.parser ≡ after_all s (calls s))) }
-    ensures given { IfOk result (λ x. x.arguments ≡ arguments.entry) }
+    ensures arguments { IfOk result (λ x. x.arguments ≡ arguments.entry) }
     ensures kept { IfOk result (λ x. x.indices.items
         ≡ kept_indices (map seen_given arguments.now)) }
     ensures counts { IfOk result (λ x. x.counts.items ≡ counts_before 0 (map seen x.pieces.items)) }

@@ -8,18 +8,18 @@ ghost use Rattle.std.specs.Option.{option_map_or};
 ghost use Rattle.std.specs.List.{AllByRecursion, filter_map, list_any, slice_get};
 ghost use Rattle.std.specs.Str.{bytes_eq};
 ghost use Rattle.rustc_parse_format.specs.Characters.{Text};
-ghost use Rattle.call_faults.specs.Arguments.{Kept as KeptValue};
+ghost use Rattle.call_faults.specs.Arguments.{Entry as EntryValue};
 ghost use Rattle.call_faults.specs.CallFaults.{CallFault as FaultValue};
 ghost use Rattle.call_faults.specs.Comparison.{beyond, by_index, compared, indices};
 ghost use Rattle.call_faults.specs.Comparison.{is_missing_name, is_position, is_redundant};
 ghost use Rattle.call_faults.specs.Comparison.{left_faults};
 ghost use Rattle.call_faults.specs.Comparison.{is_settled, lookup_faults, means, missing_faults};
 ghost use Rattle.call_faults.specs.Lookups.{Lookup as LookupValue};
-ghost use Rattle.call_faults.specs.Seen.{Holds, KnowsNames, found_in, seen_fault, seen_kept};
+ghost use Rattle.call_faults.specs.Seen.{Holds, KnowsNames, found_in, seen_fault, seen_entry};
 ghost use Rattle.call_faults.specs.Seen.{seen_lookup};
 ghost use Rattle.call_faults.specs.Seen.{seen_use};
 
-use crate::arguments::{Arguments, Kept, index_of, insert};
+use crate::arguments::{Arguments, Entry, index_of, insert};
 use crate::faults::{CallFault, Missing, Part};
 use crate::lookups::{Lookup, Wanted};
 use std::alloc::{AllocError, Global};
@@ -27,7 +27,7 @@ use std::collections::BTreeMap;
 
 /// Returns the index of the argument that a lookup means, or `None` if it means none.
 fn meant<'a>(arguments: &Arguments<'a>, lookup: &Lookup<'a>) -> Option<usize>
-    ensures { (ks : List KeptValue) → Holds ks arguments.now → (i : ℕ)
+    ensures { (ks : List EntryValue) → Holds ks arguments.now → (i : ℕ)
         → option_map_or (λ j. i == j) result false ≡ means ks i (seen_lookup lookup.now) }
 {
     match *lookup {
@@ -45,7 +45,7 @@ fn marks<'a>(
     count: usize,
     lookups: &[Lookup<'a>],
 ) -> Result<Vec<bool>, AllocError>
-    ensures { IfOk result (λ v. (ks : List KeptValue) → Holds ks arguments.now
+    ensures { IfOk result (λ v. (ks : List EntryValue) → Holds ks arguments.now
         → AllByRecursion (λ k. k.index < count) ks → (i : ℕ) → get_or v.items i false
         ≡ list_any (means ks i) (map seen_lookup lookups.now)) }
 {
@@ -94,11 +94,11 @@ fn references_from(
 /// Returns the arguments that are not marked. Returns `Err` if an allocation fails.
 fn unmarked_arguments<'a>(
     alloc: Global,
-    arguments: &[Kept<'a>],
+    arguments: &[Entry<'a>],
     marks: &[bool],
-) -> Result<Vec<Kept<'a>>, AllocError>
-    ensures { IfOk result (λ v. map seen_kept v.items
-        ≡ filter (λ k. not (get_or marks.now k.index false)) (map seen_kept arguments.now)) }
+) -> Result<Vec<Entry<'a>>, AllocError>
+    ensures { IfOk result (λ v. map seen_entry v.items
+        ≡ filter (λ k. not (get_or marks.now k.index false)) (map seen_entry arguments.now)) }
 {
     let mut list = Vec::new(alloc);
     for entry in arguments {
@@ -187,9 +187,9 @@ fn positions_of<'a>(
 }
 
 /// Returns whether an argument has no name, and is a variable whose name a map has.
-fn is_redundant<'a>(positions: &BTreeMap<&'a str, usize>, entry: &Kept<'a>) -> bool
-    ensures { result ≡ (is_none (seen_kept entry.now).given.name && option_map_or
-        (λ w. is_some (found_in positions.now w)) (seen_kept entry.now).given.variable false) }
+fn is_redundant<'a>(positions: &BTreeMap<&'a str, usize>, entry: &Entry<'a>) -> bool
+    ensures { result ≡ (is_none (seen_entry entry.now).argument.name && option_map_or
+        (λ w. is_some (found_in positions.now w)) (seen_entry entry.now).argument.variable false) }
 {
     match (entry.argument.name, entry.argument.variable) {
         (None, Some(variable)) => index_of(positions, variable).is_some(),
@@ -201,11 +201,11 @@ fn is_redundant<'a>(positions: &BTreeMap<&'a str, usize>, entry: &Kept<'a>) -> b
 /// allocation fails.
 fn redundant_of<'a>(
     alloc: Global,
-    unused: &[Kept<'a>],
+    unused: &[Entry<'a>],
     lookups: &[Lookup<'a>],
 ) -> Result<Vec<usize>, AllocError>
     ensures { IfOk result (λ v. v.items ≡ indices
-        (filter (is_redundant (map seen_lookup lookups.now)) (map seen_kept unused.now))) }
+        (filter (is_redundant (map seen_lookup lookups.now)) (map seen_entry unused.now))) }
 {
     let mut redundant = Vec::new(alloc);
     if unused.is_empty() {
@@ -221,8 +221,8 @@ fn redundant_of<'a>(
 }
 
 /// Returns the indices of arguments. Returns `Err` if an allocation fails.
-pub(crate) fn indices_of(alloc: Global, arguments: &[Kept<'_>]) -> Result<Vec<usize>, AllocError>
-    ensures { IfOk result (λ v. v.items ≡ indices (map seen_kept arguments.now)) }
+pub(crate) fn indices_of(alloc: Global, arguments: &[Entry<'_>]) -> Result<Vec<usize>, AllocError>
+    ensures { IfOk result (λ v. v.items ≡ indices (map seen_entry arguments.now)) }
 {
     let mut indices = Vec::new(alloc);
     for entry in arguments {
@@ -236,12 +236,12 @@ pub(crate) fn indices_of(alloc: Global, arguments: &[Kept<'_>]) -> Result<Vec<us
 fn tell_unused<'a>(
     alloc: Global,
     faults: &mut Vec<CallFault<'a>>,
-    unused: &[Kept<'a>],
+    unused: &[Entry<'a>],
     lookups: &[Lookup<'a>],
 ) -> Result<(), AllocError>
     ensures { OnOk result (map seen_fault faults.new.items ≡ map seen_fault faults.old.items
         ++ left_faults (indices (filter (is_redundant (map seen_lookup lookups.now))
-        (map seen_kept unused.now))) (indices (map seen_kept unused.now))) }
+        (map seen_entry unused.now))) (indices (map seen_entry unused.now))) }
 {
     let redundant = redundant_of(alloc, unused, lookups)?;
     if !redundant.is_empty() {
@@ -256,9 +256,9 @@ fn tell_unused<'a>(
 }
 
 /// Returns the fault of a lookup, if it means an argument with a name by its index.
-fn by_index<'a>(arguments: &[Kept<'a>], lookup: &Lookup<'a>) -> Option<CallFault<'a>>
+fn by_index<'a>(arguments: &[Entry<'a>], lookup: &Lookup<'a>) -> Option<CallFault<'a>>
     ensures { option_map seen_fault result
-        ≡ by_index (map seen_kept arguments.now) (seen_lookup lookup.now) }
+        ≡ by_index (map seen_entry arguments.now) (seen_lookup lookup.now) }
 {
     match *lookup {
         Lookup::Refer(reference, Wanted::Index(n)) => match arguments.get(n) {
@@ -276,11 +276,11 @@ fn by_index<'a>(arguments: &[Kept<'a>], lookup: &Lookup<'a>) -> Option<CallFault
 /// allocation fails.
 fn tell_by_index<'a>(
     faults: &mut Vec<CallFault<'a>>,
-    arguments: &[Kept<'a>],
+    arguments: &[Entry<'a>],
     lookups: &[Lookup<'a>],
 ) -> Result<(), AllocError>
     ensures { OnOk result (map seen_fault faults.new.items ≡ map seen_fault faults.old.items
-        ++ filter_map (by_index (map seen_kept arguments.now)) (map seen_lookup lookups.now)) }
+        ++ filter_map (by_index (map seen_entry arguments.now)) (map seen_lookup lookups.now)) }
 {
     for lookup in lookups {
         if let Some(fault) = by_index(arguments, lookup) {
@@ -303,9 +303,9 @@ fn tell_missing(faults: &mut Vec<CallFault<'_>>, missing: Vec<Missing>) -> Resul
 }
 
 /// Returns whether neither a name is missing, nor an argument, nor is one unused.
-fn is_settled(faults: &[CallFault<'_>], missing: &[Missing], unused: &[Kept<'_>]) -> bool
+fn is_settled(faults: &[CallFault<'_>], missing: &[Missing], unused: &[Entry<'_>]) -> bool
     ensures { result
-        ≡ is_settled (map seen_fault faults.now) missing.now (map seen_kept unused.now) }
+        ≡ is_settled (map seen_fault faults.now) missing.now (map seen_entry unused.now) }
 {
     !misses_name(faults) && missing.is_empty() && unused.is_empty()
 }
@@ -320,7 +320,7 @@ pub(crate) fn compare<'a>(
     count: usize,
     lookups: &[Lookup<'a>],
 ) -> Result<(), AllocError>
-    ensures { OnOk result ((ks : List KeptValue) → Holds ks arguments.old
+    ensures { OnOk result ((ks : List EntryValue) → Holds ks arguments.old
         → AllByRecursion (λ k. k.index < count) ks
         → map seen_fault faults.new.items ≡ map seen_fault faults.old.items
         ++ compared captures ks (map seen_lookup lookups.now)) }

@@ -1,13 +1,17 @@
 -- A file with the suggestions to its faults applied.
 use Rattle.std.specs.Prelude.{◌≡◌, ◌⊎◌, ◌++◌, ◌≤◌, ℕ, zero, suc, Bool, List, [], Option, Some, None}
-use Rattle.std.specs.Prelude.{IsUtf8, length, map, string_bytes}
+use Rattle.std.specs.Prelude.{IsUtf8, chars, length, map, string_bytes}
 use Rattle.std.specs.declared.alloc.Global.{Global}
 use Rattle.std.specs.declared.string.String.{String}
-use Rattle.fault_fixes.specs.Edits.{applied}
+use Rattle.fault_fixes.specs.Edits.{Edit, applied}
+use Rattle.rust_tokens.specs.Files.{ReadsFile}
+use Rattle.rust_tokens.specs.Placed.{placed}
+use Rattle.rust_tokens.specs.Tokens.{Lexeme}
 use Rattle.format_calls.specs.Rows.{Entry}
 use Rattle.source_lint.specs.Reports.{IsReport}
 use Rattle.source_report.specs.declared.report.Report.{Report}
 use Rattle.source_report.specs.Suggestions.{all_edits, mended}
+use Rattle.file_fixes.specs.Outside.{KeepsTokens}
 
 -- The bytes of a text.
 abbrev pub bytes_or : Option (String Global) → List ℕ → List ℕ
@@ -21,25 +25,47 @@ pub record IsNoWorse (r q : Report) : Type 0 where
   pub calls : length q.calls.items ≡ length r.calls.items
   pub findings : length q.findings.items ≤ length r.findings.items
 
--- The bytes bs with the edits of the faults of the report r that are mended in one round.
+-- The edits of the faults of the report r that are mended in one round.
+abbrev pub round_edits : Report → List Edit
+round_edits r = all_edits (mended 0 r.findings.items)
+
+-- The bytes bs with these edits.
 abbrev pub mended_bytes : List ℕ → Report → List ℕ
-mended_bytes bs r = applied 0 (all_edits (mended 0 r.findings.items)) bs
+mended_bytes bs r = applied 0 (round_edits r) bs
+
+-- The file with the bytes bs reads as the tokens xs, and the one with the bytes cs as ys.
+abbrev pub AreTokens : List ℕ → List ℕ → List Lexeme → List Lexeme → Type 0
+AreTokens bs cs xs ys = ReadsFile (chars bs) xs × ReadsFile (chars cs) ys
+
+-- The tokens that no edit touches are the same in a file with the bytes bs and the report r, and
+-- with the bytes cs that the edits make of it.
+unfoldable pub OthersStay : List ℕ → Report → List ℕ → Type 0
+OthersStay bs r cs = (xs ys : List Lexeme) × AreTokens bs cs xs ys
+    × KeepsTokens (round_edits r) (placed 0 xs) (placed 0 ys)
+
+-- They do not stay.
+unfoldable pub OthersGo : List ℕ → Report → List ℕ → Type 0
+OthersGo bs r cs = (xs ys : List Lexeme) × AreTokens bs cs xs ys
+    × (KeepsTokens (round_edits r) (placed 0 xs) (placed 0 ys) → ⊥)
 
 -- In a round the file with the bytes bs and the report r, of which faults are mended, becomes the
--- bytes cs with the report q. The mended faults have the ids ws.
+-- bytes cs with the report q. The mended faults have the ids ws. All tokens that no edit touches
+-- stay, and no others come but where the edits are.
 pub record IsRound (es : List Entry) (is_new : Bool) (bs : List ℕ) (r : Report) (cs : List ℕ)
     (q : Report) (ws : List (List ℕ)) : Type 0 where
   pub text : cs ≡ mended_bytes bs r
   pub ids : ws ≡ map (λ x. x.id.now) (mended 0 r.findings.items)
   pub report : IsReport es is_new cs q
   pub no_worse : IsNoWorse r q
+  pub tokens : OthersStay bs r cs
 
 -- No round follows on the file with the bytes bs and the report r: no fault is to be mended, or the
--- file with the edits is no text, or is worse.
+-- file with the edits is no text, or is worse, or has other tokens where no edit is.
 abbrev pub IsLast : List Entry → Bool → List ℕ → Report → Type 0
 IsLast es is_new bs r = (mended 0 r.findings.items ≡ [])
     ⊎ ((IsUtf8 (mended_bytes bs r) → ⊥)
-    ⊎ ((q : Report) × IsReport es is_new (mended_bytes bs r) q × (IsNoWorse r q → ⊥)))
+    ⊎ (((q : Report) × IsReport es is_new (mended_bytes bs r) q × (IsNoWorse r q → ⊥))
+    ⊎ OthersGo bs r (mended_bytes bs r)))
 
 -- The same after rounds in which faults with the ids ws are mended: at most n rounds, and fewer
 -- only if no further one follows.

@@ -1,1 +1,3 @@
 pub mod FileFixes
+pub mod Outside
+pub mod SeenOutside

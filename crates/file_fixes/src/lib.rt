@@ -2,6 +2,8 @@
 //! strings ([`fixes`]).
 #![tactic(auto)]
 
+mod outside;
+mod round_edits;
 mod rounds;
 
 pub use rounds::{FileFixes, fixes, is_no_worse};

@@ -1,14 +1,17 @@
 //! A file with the suggestions to its faults applied, round after round.
 
-ghost use Rattle.std.specs.Prelude.{◌≡◌, ◌++◌, ◌↔◌, IfOk, IfSome, IsNone, IsTrue, Some, map};
-ghost use Rattle.std.specs.Prelude.{string_bytes};
+ghost use Rattle.std.specs.Prelude.{◌≡◌, ◌++◌, ◌↔◌, IfOk, IfSome, IsFalse, IsNone, IsTrue, Some};
+ghost use Rattle.std.specs.Prelude.{map, string_bytes};
 ghost use Rattle.std.specs.List.{All};
 ghost use Rattle.format_calls.specs.Rows.{entry};
 ghost use Rattle.asm_lint.specs.Spans.{HasSpans};
 ghost use Rattle.source_lint.specs.Reports.{IsReport};
 ghost use Rattle.source_report.specs.declared.report.Report.{Report as ReportValue};
-ghost use Rattle.file_fixes.specs.FileFixes.{AreRounds, IsLast, IsNoWorse, IsRound, bytes_or};
+ghost use Rattle.file_fixes.specs.FileFixes.{AreRounds, OthersGo, OthersStay};
+ghost use Rattle.file_fixes.specs.FileFixes.{IsLast, IsNoWorse, IsRound, bytes_or};
 
+use crate::outside::keeps_tokens;
+use crate::round_edits::round_edits;
 use source_lint::file_faults;
 use source_report::{Options, Report, mend_each};
 use std::alloc::{AllocError, Global};
@@ -47,8 +50,19 @@ pub fn is_no_worse(old: &Report, new: &Report) -> bool
         && new.findings.len() <= old.findings.len()
 }
 
+/// Returns whether the tokens that no edit of a round touches are the same in a file before and
+/// after the round. Returns `Err` if an allocation fails.
+#[tactic(auto, unfolding(crate::specs::FileFixes::OthersStay, crate::specs::FileFixes::OthersGo))]
+fn keeps_others(alloc: Global, old: &str, report: &Report, new: &str) -> Result<bool, AllocError>
+    ensures yes { IfOk result (λ b. IsTrue b → OthersStay old.now report.now new.now) }
+    ensures no { IfOk result (λ b. IsFalse b → OthersGo old.now report.now new.now) }
+{
+    let edits = round_edits(alloc, report.findings.as_slice())?;
+    keeps_tokens(alloc, old, edits.as_slice(), new)
+}
+
 /// Returns a file after one more round, or `None` if there is nothing to mend or the file with its
-/// edits is worse. Returns `Err` if an allocation fails.
+/// edits is worse or has other tokens where no edit is. Returns `Err` if an allocation fails.
 fn next_round(
     alloc: Global,
     text: &str,
@@ -79,6 +93,9 @@ fn next_round(
     if !is_no_worse(&fixed.report, &report) {
         return Ok(None);
     }
+    if !keeps_others(alloc, source, &fixed.report, text.as_str())? {
+        return Ok(None);
+    }
     Ok(Some(Round {
         text,
         ids: edited.ids,
@@ -107,8 +124,9 @@ fn with_round(fixed: FileFixes, round: Round) -> Result<FileFixes, AllocError>
 ///
 /// In a round the suggestions of all faults are applied whose edits follow each other, and then
 /// those of the new report, in at most sixteen rounds. A round is left out if the file then breaks,
-/// has another number of calls, or more faults. Nothing is fixed in a file that breaks. Returns
-/// `Err` if an allocation fails.
+/// has another number of calls, more faults, or other tokens where no edit is: so a round changes
+/// only the tokens that its edits touch. Nothing is fixed in a file that breaks. Returns `Err` if
+/// an allocation fails.
 pub fn fixes(alloc: Global, text: &str, options: &Options<'_>) -> Result<FileFixes, AllocError>
     ensures rounds { IfOk result (λ x. (r : ReportValue)
         × IsReport (map entry options.now.table.rows.items) options.now.is_from_2021 text.now r

@@ -25,10 +25,10 @@ use Rattle.source_lint.specs.Readings.{Scope, arguments_before, captures, ends_e
 use Rattle.source_lint.specs.Readings.{name_at, skipped}
 use Rattle.inlined_arguments.specs.Conditions.{Call as FormatCall}
 use Rattle.inlined_arguments.specs.Edits.{AreApart, Edit, edited}
-use Rattle.inlined_arguments.specs.Inlining.{Inlined, IsInlined, IsLeft}
+use Rattle.inlined_arguments.specs.Inlining.{Inlined, IsInlined, IsUnchanged}
 use Rattle.file_inlines.specs.declared.calls.CallInlining.{CallInlining}
 use Rattle.file_inlines.specs.declared.calls.CallInlining.TheVariants.{Inlined as IsIn}
-use Rattle.file_inlines.specs.declared.calls.CallInlining.TheVariants.{Left, Unread, Assembly}
+use Rattle.file_inlines.specs.declared.calls.CallInlining.TheVariants.{Assembly, Unchanged, Unread}
 use Rattle.file_inlines.specs.Sources.{removed, with_source}
 
 -- An edit n bytes further on.
@@ -110,7 +110,7 @@ call_of is_new rule w bs xs literal style t args counted = record {
 abbrev pub Makes : Bool → FormatCall → (Inlined → List Edit → Type 0) → CallInlining → List Edit
     → Type 0
 Makes mixed c Edits IsIn es = (r : Inlined) × IsInlined mixed c r × Edits r es
-Makes mixed c Edits (Left l) es = IsLeft mixed c l × (es ≡ [])
+Makes mixed c Edits (Unchanged l) es = IsUnchanged mixed c l × (es ≡ [])
 Makes mixed c Edits (Unread q) es = ⊥
 Makes mixed c Edits Assembly es = ⊥
 

@@ -24,7 +24,7 @@ use crate::sources::with_sources;
 use asm_lint::{appends_newline, read_literal};
 use call_faults::FormatString;
 use format_calls::{Argument, Call, Part, Rule, arguments, extent_of, is_standard, token_at};
-use inlined_arguments::{Call as FormatCall, Edit, Left, inline_arguments};
+use inlined_arguments::{Call as FormatCall, Edit, Obstacle, inline_arguments};
 use rust_trees::Token;
 use source_lint::{
     File, argument_at, arguments_before, captures, ends_early, index_or, name_at, other_macro,
@@ -38,7 +38,7 @@ pub enum CallInlining {
     /// Its format string has the variables that were arguments.
     Inlined,
     /// It is left as it is, for this reason.
-    Left(Left),
+    Unchanged(Obstacle),
     /// It is left as it is, since its format string is not read for this reason.
     Unread(CallReading),
     /// It is left as it is, since it is one of assembly, whose templates capture no variables.
@@ -112,7 +112,7 @@ fn inlined_as(
 {
     let new_call = match inline_arguments(alloc, call, allows_mixed)? {
         Ok(new_call) => new_call,
-        Err(reason) => return Ok(left_for(alloc, CallInlining::Left(reason))),
+        Err(reason) => return Ok(unchanged_call(alloc, CallInlining::Unchanged(reason))),
     };
     let edits = edits_of(
         alloc,
@@ -127,12 +127,12 @@ fn inlined_as(
             inlining: CallInlining::Inlined,
             edits,
         }),
-        None => Ok(left_for(alloc, CallInlining::Left(Left::OtherMeaning))),
+        None => Ok(unchanged_call(alloc, CallInlining::Unchanged(Obstacle::OtherMeaning))),
     }
 }
 
 /// Returns a call that is left as it is, for this reason.
-fn left_for(alloc: Global, reason: CallInlining) -> InlinedCall
+fn unchanged_call(alloc: Global, reason: CallInlining) -> InlinedCall
     ensures reason { result.inlining ≡ reason }
     ensures none { result.edits.items ≡ [] }
 {
@@ -159,7 +159,7 @@ fn inline_found(
 {
     let appended_newline = appends_newline(name);
     let Some(literal) = read_literal(alloc, site.literal.text, appended_newline)? else {
-        return Ok(left_for(alloc, CallInlining::Unread(CallReading::Malformed)));
+        return Ok(unchanged_call(alloc, CallInlining::Unread(CallReading::Malformed)));
     };
     let arguments = with_sources(alloc, site.text, site.tokens, site.arguments)?;
     let text = literal.text.as_str();
@@ -203,11 +203,11 @@ fn inline_at(
 {
     let unread = CallInlining::Unread(CallReading::Malformed);
     let Some(string) = argument_at(arguments, index) else {
-        return Ok(left_for(alloc, unread));
+        return Ok(unchanged_call(alloc, unread));
     };
     let tokens = part.tokens();
     let Some(literal) = token_at(tokens, string.start) else {
-        return Ok(left_for(alloc, unread));
+        return Ok(unchanged_call(alloc, unread));
     };
     let extent = extent_of(
         part.source(),
@@ -255,7 +255,7 @@ fn inline_one(
         (map seen_edit x.edits.items)) }
 {
     match call.rule {
-        Rule::Templates => Ok(left_for(alloc, CallInlining::Assembly)),
+        Rule::Templates => Ok(unchanged_call(alloc, CallInlining::Assembly)),
         Rule::At(_) | Rule::IndexByEdition(_) | Rule::FirstLiteral => {
             inline_at(alloc, file, part, call, arguments, index, allows_mixed)
         }
@@ -291,13 +291,13 @@ fn inline_call<'a>(
         part.now call.now x.inlining (map seen_edit x.edits.items)) }
 {
     if is_unread(call.rule, reading) {
-        return Ok(left_for(alloc, CallInlining::Unread(reading)));
+        return Ok(unchanged_call(alloc, CallInlining::Unread(reading)));
     }
     if let Some(reading) = other_macro(file, part.tokens(), call) {
-        return Ok(left_for(alloc, CallInlining::Unread(reading)));
+        return Ok(unchanged_call(alloc, CallInlining::Unread(reading)));
     }
     let Some(arguments) = arguments(alloc, part.source(), call.close)? else {
-        return Ok(left_for(alloc, CallInlining::Unread(CallReading::Whole)));
+        return Ok(unchanged_call(alloc, CallInlining::Unread(CallReading::Whole)));
     };
     let list = arguments.as_slice();
     match index_or(file, part, call, list) {
@@ -305,7 +305,7 @@ fn inline_call<'a>(
             let inlined_call = inline_one(alloc, file, part, call, list, index, allows_mixed)?;
             Ok(inlined_call)
         }
-        Err(reading) => Ok(left_for(alloc, CallInlining::Unread(reading))),
+        Err(reading) => Ok(unchanged_call(alloc, CallInlining::Unread(reading))),
     }
 }
 

@@ -5,10 +5,10 @@ use Rattle.std.specs.Prelude.{Option, Some, None}
 use Rattle.std.specs.List.{list_any}
 use Rattle.rustc_parse_format.specs.Characters.{Text}
 use Rattle.inlined_arguments.specs.Variables.{Argument, has_comment, is_variable}
-use Rattle.inlined_arguments.specs.declared.call.Left.{Left}
-use Rattle.inlined_arguments.specs.declared.call.Left.TheVariants.{Uncounted, NoVariable, Mixed}
-use Rattle.inlined_arguments.specs.declared.call.Left.TheVariants.{CapturesNone, Alone, ConstForm}
-use Rattle.inlined_arguments.specs.declared.call.Left.TheVariants.{Comment}
+use Rattle.inlined_arguments.specs.declared.call.Obstacle.{Obstacle}
+use Rattle.inlined_arguments.specs.declared.call.Obstacle.TheVariants.{Uncounted, NoVariable, Mixed}
+use Rattle.inlined_arguments.specs.declared.call.Obstacle.TheVariants.{CapturesNone, Alone, ConstForm}
+use Rattle.inlined_arguments.specs.declared.call.Obstacle.TheVariants.{Comment}
 
 -- A call of a macro that takes a format string: the text and the style of that, the bytes of its
 -- literal if it is known, whether a newline is appended to the text, and whether it captures
@@ -35,7 +35,7 @@ abbrev pub has_other : List Argument → Bool
 has_other args = list_any (λ a. not (is_variable a)) args
 
 -- The reason in the arguments of a call, the first one of these that holds.
-abbrev pub list_condition : Bool → Call → Option Left
+abbrev pub list_condition : Bool → Call → Option Obstacle
 list_condition allows_mixed c =
     if not c.is_counted then Some Uncounted
     else (if not (list_any is_variable c.arguments) then Some NoVariable
@@ -50,16 +50,16 @@ is_bare (c ∷ d ∷ []) = c == code "{" && d == code "}"
 is_bare (c ∷ d ∷ e ∷ t) = false
 
 -- The reason in its macro and its string.
-abbrev pub string_condition : Call → Option Left
+abbrev pub string_condition : Call → Option Obstacle
 string_condition c =
     if not c.captures then Some CapturesNone
     else (if not c.is_format_alone && not (has_other c.arguments) then Some Alone
     else (if c.has_const_form && is_bare c.text then Some ConstForm else None))
 
-abbrev pub or_else : Option Left → Option Left → Option Left
+abbrev pub or_else : Option Obstacle → Option Obstacle → Option Obstacle
 or_else None y = y
 or_else (Some x) y = Some x
 
 -- The reason that is seen without reading the string.
-abbrev pub condition : Bool → Call → Option Left
+abbrev pub condition : Bool → Call → Option Obstacle
 condition allows_mixed c = or_else (list_condition allows_mixed c) (string_condition c)

@@ -16,11 +16,11 @@ use Rattle.inlined_arguments.specs.Edits.{AreApart, AreAtReferences, Edit, edite
 use Rattle.inlined_arguments.specs.Meaning.{meaning}
 use Rattle.inlined_arguments.specs.Values.{Slot, given, kept, slots}
 use Rattle.inlined_arguments.specs.Variables.{gone_from}
-use Rattle.inlined_arguments.specs.declared.call.Left.{Left}
-use Rattle.inlined_arguments.specs.declared.call.Left.TheVariants.{Uncounted, NoVariable, Mixed}
-use Rattle.inlined_arguments.specs.declared.call.Left.TheVariants.{CapturesNone, Alone, ConstForm}
-use Rattle.inlined_arguments.specs.declared.call.Left.TheVariants.{Comment, Faulty, NoLiteral}
-use Rattle.inlined_arguments.specs.declared.call.Left.TheVariants.{OtherMeaning}
+use Rattle.inlined_arguments.specs.declared.call.Obstacle.{Obstacle}
+use Rattle.inlined_arguments.specs.declared.call.Obstacle.TheVariants.{Uncounted, NoVariable, Mixed}
+use Rattle.inlined_arguments.specs.declared.call.Obstacle.TheVariants.{CapturesNone, Alone, ConstForm}
+use Rattle.inlined_arguments.specs.declared.call.Obstacle.TheVariants.{Comment, Faulty, NoLiteral}
+use Rattle.inlined_arguments.specs.declared.call.Obstacle.TheVariants.{OtherMeaning}
 
 -- A parser at the start of the format string of a call.
 abbrev pub start : Call → State
@@ -77,15 +77,15 @@ pub record IsInlined (allows_mixed : Bool) (c : Call) (r : Inlined) : Type 0 whe
   pub means_same : MeansSame c old.pieces (chars r.literal)
 
 -- The call c is left as it is for this reason.
-abbrev pub IsLeft : Bool → Call → Left → Type 0
-IsLeft m c Uncounted = condition m c ≡ Some Uncounted
-IsLeft m c NoVariable = condition m c ≡ Some NoVariable
-IsLeft m c Mixed = condition m c ≡ Some Mixed
-IsLeft m c CapturesNone = condition m c ≡ Some CapturesNone
-IsLeft m c Alone = condition m c ≡ Some Alone
-IsLeft m c ConstForm = condition m c ≡ Some ConstForm
-IsLeft m c Comment = condition m c ≡ Some Comment
-IsLeft m c Faulty = (condition m c ≡ None) × (IsCleanCall c.captures (slots c.arguments) c.text → ⊥)
-IsLeft m c NoLiteral = (condition m c ≡ None) × (c.literal ≡ None)
-IsLeft m c OtherMeaning = (condition m c ≡ None)
+abbrev pub IsUnchanged : Bool → Call → Obstacle → Type 0
+IsUnchanged m c Uncounted = condition m c ≡ Some Uncounted
+IsUnchanged m c NoVariable = condition m c ≡ Some NoVariable
+IsUnchanged m c Mixed = condition m c ≡ Some Mixed
+IsUnchanged m c CapturesNone = condition m c ≡ Some CapturesNone
+IsUnchanged m c Alone = condition m c ≡ Some Alone
+IsUnchanged m c ConstForm = condition m c ≡ Some ConstForm
+IsUnchanged m c Comment = condition m c ≡ Some Comment
+IsUnchanged m c Faulty = (condition m c ≡ None) × (IsCleanCall c.captures (slots c.arguments) c.text → ⊥)
+IsUnchanged m c NoLiteral = (condition m c ≡ None) × (c.literal ≡ None)
+IsUnchanged m c OtherMeaning = (condition m c ≡ None)
     × IsCleanCall c.captures (slots c.arguments) c.text

@@ -7,7 +7,7 @@ ghost use Rattle.inlined_arguments.specs.Conditions.{condition, goes_with_commen
 ghost use Rattle.inlined_arguments.specs.Conditions.{list_condition, string_condition};
 ghost use Rattle.inlined_arguments.specs.Variables.{is_variable};
 
-use crate::call::{Argument, Call, Left};
+use crate::call::{Argument, Call, Obstacle};
 use crate::variables::{has_comment, is_variable, split_first};
 
 /// Returns whether one of arguments is a variable.
@@ -47,20 +47,20 @@ fn have_comment(arguments: &[Argument<'_>]) -> bool
 }
 
 /// Returns the reason in its list of arguments why a call is left, or `None` if there is none.
-fn list_condition(call: &Call<'_>, allows_mixed: bool) -> Option<Left>
+fn list_condition(call: &Call<'_>, allows_mixed: bool) -> Option<Obstacle>
     ensures { result ≡ list_condition allows_mixed (seen_call call.now) }
 {
     if !call.is_counted {
-        return Some(Left::Uncounted);
+        return Some(Obstacle::Uncounted);
     }
     if !has_variable(call.arguments) {
-        return Some(Left::NoVariable);
+        return Some(Obstacle::NoVariable);
     }
     if !allows_mixed && has_other(call.arguments) {
-        return Some(Left::Mixed);
+        return Some(Obstacle::Mixed);
     }
     if have_comment(call.arguments) {
-        return Some(Left::Comment);
+        return Some(Obstacle::Comment);
     }
     None
 }
@@ -79,24 +79,24 @@ fn is_bare(text: &str) -> bool
 }
 
 /// Returns the reason in its macro and its string why a call is left, or `None` if there is none.
-fn string_condition(call: &Call<'_>) -> Option<Left>
+fn string_condition(call: &Call<'_>) -> Option<Obstacle>
     ensures { result ≡ string_condition (seen_call call.now) }
 {
     if !call.string.captures {
-        return Some(Left::CapturesNone);
+        return Some(Obstacle::CapturesNone);
     }
     if !call.is_format_alone && !has_other(call.arguments) {
-        return Some(Left::Alone);
+        return Some(Obstacle::Alone);
     }
     if call.has_const_form && is_bare(call.string.text) {
-        return Some(Left::ConstForm);
+        return Some(Obstacle::ConstForm);
     }
     None
 }
 
 /// Returns the reason why a call is left that can be seen without reading its string, or `None` if
 /// there is none.
-pub(crate) fn condition(call: &Call<'_>, allows_mixed: bool) -> Option<Left>
+pub(crate) fn condition(call: &Call<'_>, allows_mixed: bool) -> Option<Obstacle>
     ensures { result ≡ condition allows_mixed (seen_call call.now) }
 {
     match list_condition(call, allows_mixed) {

@@ -7,12 +7,12 @@ ghost use Rattle.rustc_parse_format.specs.Seen.{seen};
 ghost use Rattle.rustc_parse_format.specs.World.{hashes};
 ghost use Rattle.call_faults.specs.Seen.{seen_given};
 ghost use Rattle.inlined_arguments.specs.Conditions.{condition};
-ghost use Rattle.inlined_arguments.specs.Inlining.{IsCleanAs, IsInlined, IsLeft, MeansSame};
+ghost use Rattle.inlined_arguments.specs.Inlining.{IsCleanAs, IsInlined, IsUnchanged, MeansSame};
 ghost use Rattle.inlined_arguments.specs.Seen.{Knows, seen_argument, seen_call, seen_inlined};
 ghost use Rattle.inlined_arguments.specs.Seen.{seen_slot, seen_slots};
 ghost use Rattle.inlined_arguments.specs.Values.{given as given_of, slots as slots_of};
 
-use crate::call::{Call, Inlined, Left};
+use crate::call::{Call, Inlined, Obstacle};
 use crate::conditions::condition;
 use crate::edited::apply_edits;
 use crate::edits::edits_of;
@@ -117,7 +117,7 @@ fn inline_with<'c>(
     call: Call<'c>,
     slots: &[Slot<'c>],
     arguments: &'c [FormatArgument<'c>],
-) -> Result<Result<Inlined, Left>, AllocError>
+) -> Result<Result<Inlined, Obstacle>, AllocError>
     requires fits { hashes call.string.style + length call.string.text.now + 2 < 2 ^ 64 }
     requires slots { map seen_slot slots.now ≡ slots_of (map seen_argument call.arguments.now) }
     requires given { map seen_given arguments.now ≡ map given_of (map seen_slot slots.now) }
@@ -126,13 +126,13 @@ fn inline_with<'c>(
         → IsInlined mixed (seen_call call.entry) (seen_inlined x))) }
     ensures left { IfOk result (λ r. IfErr r (λ l. (mixed : Bool)
         → condition mixed (seen_call call.entry) ≡ None
-        → IsLeft mixed (seen_call call.entry) l)) }
+        → IsUnchanged mixed (seen_call call.entry) l)) }
 {
     let Some(snippet) = call.string.snippet else {
-        return Ok(Err(Left::NoLiteral));
+        return Ok(Err(Obstacle::NoLiteral));
     };
     let Some(pieces) = read(alloc, call.string, arguments)? else {
-        return Ok(Err(Left::Faulty));
+        return Ok(Err(Obstacle::Faulty));
     };
     let values = values_of(alloc, slots)?;
     let old = Meant {
@@ -141,10 +141,10 @@ fn inline_with<'c>(
     };
     let edits = edits_of(alloc, old)?;
     let Some(literal) = apply_edits(alloc, snippet, &edits)? else {
-        return Ok(Err(Left::OtherMeaning));
+        return Ok(Err(Obstacle::OtherMeaning));
     };
     if !keeps_meaning(alloc, call, old, &literal)? {
-        return Ok(Err(Left::OtherMeaning));
+        return Ok(Err(Obstacle::OtherMeaning));
     }
     let gone = variable_indices(alloc, call.arguments)?;
     Ok(Ok(Inlined {
@@ -163,12 +163,12 @@ pub fn inline_arguments(
     alloc: Global,
     call: Call<'_>,
     allows_mixed: bool,
-) -> Result<Result<Inlined, Left>, AllocError>
+) -> Result<Result<Inlined, Obstacle>, AllocError>
     requires { hashes call.string.style + length call.string.text.now + 2 < 2 ^ 64 }
     // A call that is inlined has the old meaning. One that is left has a reason that holds.
     ensures inlined { IfOk result (λ r. IfOk r (λ x.
         IsInlined allows_mixed (seen_call call.entry) (seen_inlined x))) }
-    ensures left { IfOk result (λ r. IfErr r (λ l. IsLeft allows_mixed (seen_call call.entry) l)) }
+    ensures left { IfOk result (λ r. IfErr r (λ l. IsUnchanged allows_mixed (seen_call call.entry) l)) }
 {
     if let Some(reason) = condition(&call, allows_mixed) {
         return Ok(Err(reason));

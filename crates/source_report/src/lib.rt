@@ -8,4 +8,4 @@ mod suggestions;
 
 pub use edited::{Edited, mend_each};
 pub use report::{CallReading, Edit, Finding, Help, Label, Note, Options, Report};
-pub use suggestions::{LabelSuggestion, is_applicable, suggestion_of};
+pub use suggestions::{LabelSuggestion, are_after, edits_of, is_applicable, suggestion_of};

@@ -2,7 +2,7 @@
 
 use crate::rows::{NUMBERED, ROWS};
 use call_faults::FormatString;
-use inlined_arguments::{Argument, Call, Inlined, Left, inline_arguments};
+use inlined_arguments::{Argument, Call, Inlined, Obstacle, inline_arguments};
 use piece_listing::literal::{LiteralText, literal_text};
 use std::alloc::{AllocError, Global};
 use std::test::Fail;
@@ -40,18 +40,18 @@ fn arguments<'a>(alloc: Global, list: &'a str) -> Result<Vec<Argument<'a>>, Allo
 }
 
 /// Returns the name of a reason.
-fn name_of(left: Left) -> &'static str {
-    match left {
-        Left::Uncounted => "Uncounted",
-        Left::NoVariable => "NoVariable",
-        Left::Mixed => "Mixed",
-        Left::CapturesNone => "CapturesNone",
-        Left::Alone => "Alone",
-        Left::ConstForm => "ConstForm",
-        Left::Comment => "Comment",
-        Left::Faulty => "Faulty",
-        Left::NoLiteral => "NoLiteral",
-        Left::OtherMeaning => "OtherMeaning",
+fn name_of(obstacle: Obstacle) -> &'static str {
+    match obstacle {
+        Obstacle::Uncounted => "Uncounted",
+        Obstacle::NoVariable => "NoVariable",
+        Obstacle::Mixed => "Mixed",
+        Obstacle::CapturesNone => "CapturesNone",
+        Obstacle::Alone => "Alone",
+        Obstacle::ConstForm => "ConstForm",
+        Obstacle::Comment => "Comment",
+        Obstacle::Faulty => "Faulty",
+        Obstacle::NoLiteral => "NoLiteral",
+        Obstacle::OtherMeaning => "OtherMeaning",
     }
 }
 

@@ -39,7 +39,7 @@ returns c =
     = rw c.deref.ensures.value at (c.in_ok-faults.ensures.faults read) in
     record {
       walk = (pieces, parser);
-      given = refl;
+      arguments = refl;
       kept = c.in_ok-faults.ensures.kept c.new-indices.ensures.items;
       counts = c.in_ok-counts.ensures
           ∙ ap (counts_before 0) (ap (map seen) c.deref-2.ensures.value);

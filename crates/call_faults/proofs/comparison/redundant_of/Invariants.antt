@@ -1,9 +1,9 @@
 use Rattle.std.proofs.Common.{◌≡◌, filter, map, take}
 use Rattle.call_faults.specs.Comparison.{indices, is_redundant}
-use Rattle.call_faults.specs.Seen.{seen_kept, seen_lookup}
+use Rattle.call_faults.specs.Seen.{seen_entry, seen_lookup}
 use Rattle.call_faults.proofs.comparison.redundant_of.Given as goal
 
 abbrev pub invariant-loop-entry : goal.invariant-loop-entry
 invariant-loop-entry l = l.redundant.items ≡ indices
-    (filter (is_redundant (map seen_lookup l.lookups)) (map seen_kept (take l.entry-index
+    (filter (is_redundant (map seen_lookup l.lookups)) (map seen_entry (take l.entry-index
     l.unused)))

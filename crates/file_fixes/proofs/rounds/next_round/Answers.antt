@@ -1,4 +1,4 @@
-use Rattle.std.proofs.Common.{◌≡◌, ◌∙◌, inr, map, rules, string_bytes, subst}
+use Rattle.std.proofs.Common.{◌≡◌, ◌∙◌, inl, inr, map, rules, string_bytes, subst}
 use Rattle.format_calls.specs.Rows.{entry}
 use Rattle.source_lint.specs.Reports.{IsReport}
 use Rattle.file_fixes.specs.FileFixes.{bytes_or, mended_bytes}
@@ -9,10 +9,10 @@ returns-then-not-is_no_worse-clause-last c = λ _.
     let old = c.args.fixed.now in
     let text : string_bytes c.in-Some-ok.text
     ≡ mended_bytes (bytes_or old.text c.args.text.now) old.report = search rules in
-    inr (inr (
+    inr (inr (inl (
       c.in_ok-report.report,
       subst (λ v. IsReport (map entry c.args.options.now.table.rows.items)
           c.args.options.now.is_from_2021 v c.in_ok-report.report)
           (c.as_str.ensures.value ∙ text) c.in_ok-report.ensures.report,
       λ h. let t = c.is_no_worse.ensures.1 h in search rules,
-    ))
+    )))

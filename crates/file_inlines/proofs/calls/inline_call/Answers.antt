@@ -15,21 +15,21 @@ returns-then-is_unread c =
     let made = unread-call (scope c.args.file) c.args.file.is_from_2021 c.args.allows_mixed
     c.args.part.now c.args.call.now c.args.reading c.requires.reads.0 u c.requires.reads.1 in
     subst (λ v. Inlines (scope c.args.file) c.args.file.is_from_2021 c.args.allows_mixed
-    c.args.part.now c.args.call.now v (map seen_edit c.left_for.result.edits.items))
-    (sym c.left_for.ensures.reason)
+    c.args.part.now c.args.call.now v (map seen_edit c.unchanged_call.result.edits.items))
+    (sym c.unchanged_call.ensures.reason)
     (subst (λ v. Inlines (scope c.args.file) c.args.file.is_from_2021 c.args.allows_mixed
     c.args.part.now c.args.call.now (Unread c.args.reading) (map seen_edit v))
-    (sym c.left_for.ensures.none) made)
+    (sym c.unchanged_call.ensures.none) made)
 
 pub returns-in-Some : goal.returns-in-Some
 returns-in-Some c =
     subst (λ o. InlinesUnless o c.args.file.is_from_2021 c.args.allows_mixed c.args.file.text.now
-    c.args.part.now c.args.call.now c.left_for-in-Some.result.inlining
-    (map seen_edit c.left_for-in-Some.result.edits.items))
+    c.args.part.now c.args.call.now c.unchanged_call-in-Some.result.inlining
+    (map seen_edit c.unchanged_call-in-Some.result.edits.items))
     (sym c.in-Some.is ∙ (c.other_macro.ensures
     ∙ ap (λ v. skipped (scope c.args.file) c.args.call.now.rule
     (slice_get v c.args.call.now.name)) c.tokens.ensures))
-    (c.left_for-in-Some.ensures.reason, ap (map seen_edit) c.left_for-in-Some.ensures.none)
+    (c.unchanged_call-in-Some.ensures.reason, ap (map seen_edit) c.unchanged_call-in-Some.ensures.none)
 
 pub returns-in_default-2 : goal.returns-in_default-2
 returns-in_default-2 c =
@@ -65,4 +65,4 @@ returns c =
     (arguments-here c.args.part.now c.args.call.now c.in-Some-2.arguments.items
     c.as_slice-list.result.now a.0 c.as_slice-list.ensures.value c.requires.pair a.1 a.2)
     c.in-Err.ensures.value
-    (c.left_for-in-Err.ensures.reason, ap (map seen_edit) c.left_for-in-Err.ensures.none)
+    (c.unchanged_call-in-Err.ensures.reason, ap (map seen_edit) c.unchanged_call-in-Err.ensures.none)

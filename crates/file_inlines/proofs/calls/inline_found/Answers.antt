@@ -12,8 +12,8 @@ use Rattle.file_inlines.proofs.calls.inline_found.Goals as goal
 pub returns-in_default : goal.returns-in_default
 returns-in_default c = inl (
   rw c.in_default.is at c.in_ok-literal.ensures.read,
-  c.left_for.ensures.reason,
-  ap (map seen_edit) c.left_for.ensures.none,
+  c.unchanged_call.ensures.reason,
+  ap (map seen_edit) c.unchanged_call.ensures.none,
 )
 
 pub inlined_as-requires : goal.inlined_as-requires

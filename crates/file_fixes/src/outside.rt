@@ -1,0 +1,171 @@
+//! The tokens of a file that no edit touches.
+
+ghost use Rattle.std.specs.Prelude.{◌≡◌, ◌≤◌, ◌+◌, ◌↔◌, IfOk, IsTrue, List, chars, drop, length};
+ghost use Rattle.std.specs.Prelude.{map, nat_le};
+ghost use Rattle.fault_fixes.specs.SeenEdits.{seen_edit};
+ghost use Rattle.rust_tokens.specs.Files.{ReadsFile};
+ghost use Rattle.rust_tokens.specs.Placed.{placed};
+ghost use Rattle.rust_tokens.specs.Tokens.{Lexeme};
+ghost use Rattle.file_fixes.specs.Outside.{KeepsTokens, ahead_of, from_start, is_before, moved_up};
+ghost use Rattle.file_fixes.specs.Outside.{new_parts, old_parts, outside};
+ghost use Rattle.file_fixes.specs.SeenOutside.{seen_ahead};
+
+use fault_fixes::Edit;
+use rust_tokens::{Token, tokens};
+use std::alloc::{AllocError, Global};
+
+/// A part of a text that an edit removes from it, or has put into it.
+#[derive(Clone, Copy)]
+struct EditedPart {
+    /// How many bytes stand between it and the part before it, or the start of the text.
+    gap: usize,
+    /// How many bytes it has.
+    width: usize,
+}
+
+/// A place among the parts of a text.
+#[derive(Clone, Copy)]
+struct PartsAhead {
+    /// Where the last part before it ends, or 0 if there is none.
+    end: usize,
+    /// How many bytes the parts before it have.
+    width: usize,
+    /// The index of the first part after it.
+    index: usize,
+}
+
+/// Returns the parts of a text that edits remove from it. Returns `Err` if an allocation fails.
+fn old_parts(alloc: Global, edits: &[Edit<'_>]) -> Result<Vec<EditedPart>, AllocError>
+    ensures { IfOk result (λ v. v.items ≡ old_parts 0 (map seen_edit edits.now)) }
+{
+    let mut parts = Vec::new(alloc);
+    let mut end = 0;
+    for edit in edits {
+        parts.push(EditedPart {
+            gap: edit.span.start.saturating_sub(end),
+            width: edit.span.end.saturating_sub(edit.span.start),
+        })?;
+        end = edit.span.end;
+    }
+    Ok(parts)
+}
+
+/// Returns the parts of the edited text that stand in their place. Returns `Err` if an allocation
+/// fails.
+fn new_parts(alloc: Global, edits: &[Edit<'_>]) -> Result<Vec<EditedPart>, AllocError>
+    ensures { IfOk result (λ v. v.items ≡ new_parts 0 (map seen_edit edits.now)) }
+{
+    let mut parts = Vec::new(alloc);
+    let mut end = 0;
+    for edit in edits {
+        parts.push(EditedPart {
+            gap: edit.span.start.saturating_sub(end),
+            width: edit.text.len(),
+        })?;
+        end = edit.span.end;
+    }
+    Ok(parts)
+}
+
+/// Returns whether a part ends by the offset `at`. The part before it ends at `end`.
+fn ends_by(at: usize, end: usize, part: EditedPart) -> bool
+    ensures { result ≡ nat_le (end + part.gap + part.width) at }
+{
+    end <= at && part.gap <= at - end && part.width <= at - end - part.gap
+}
+
+/// Returns the place in front of the first part that does not end by the offset `at`, or the one it
+/// is at if that is further on.
+fn ahead_of(at: usize, from: PartsAhead, parts: &[EditedPart]) -> PartsAhead
+    requires { from.width ≤ from.end }
+    ensures ahead { seen_ahead parts.now result
+        ≡ ahead_of at from.end from.width (drop from.index parts.now) }
+    ensures bounded { result.width ≤ result.end }
+{
+    let mut ahead = from;
+    while let Some(part) = parts.get(ahead.index) {
+        if !ends_by(at, ahead.end, *part) {
+            return ahead;
+        }
+        ahead.end += part.gap + part.width;
+        ahead.width += part.width;
+        ahead.index += 1;
+    }
+    ahead
+}
+
+/// Returns whether no part that is ahead starts before the offset `at`.
+fn is_before(at: usize, ahead: PartsAhead, parts: &[EditedPart]) -> bool
+    ensures { result ≡ is_before at ahead.end (drop ahead.index parts.now) }
+{
+    match parts.get(ahead.index) {
+        Some(part) => at.saturating_sub(ahead.end) <= part.gap,
+        None => true,
+    }
+}
+
+/// Returns a token n bytes further in front.
+fn moved_up(n: usize, token: &Token) -> Token
+    ensures { result ≡ moved_up n token.now }
+{
+    Token {
+        kind: token.kind,
+        span: token.span.start.saturating_sub(n)..token.span.end.saturating_sub(n),
+        suffix_start: token.suffix_start.saturating_sub(n),
+        is_ended: token.is_ended,
+    }
+}
+
+/// Returns those tokens of a text that no part touches, at the places that they have in the text
+/// without the parts. Returns `Err` if an allocation fails.
+fn outside(alloc: Global, parts: &[EditedPart], tokens: &[Token]) -> Result<Vec<Token>, AllocError>
+    ensures { IfOk result (λ v. v.items ≡ outside (from_start parts.now) tokens.now) }
+{
+    let mut others = Vec::new(alloc);
+    let mut ahead = PartsAhead {
+        end: 0,
+        width: 0,
+        index: 0,
+    };
+    for token in tokens {
+        ahead = ahead_of(token.span.start, ahead, parts);
+        if is_before(token.span.end, ahead, parts) {
+            others.push(moved_up(ahead.width, token))?;
+        }
+    }
+    Ok(others)
+}
+
+/// Returns whether two lists have the same tokens.
+fn are_same(old: &[Token], new: &[Token]) -> bool
+    ensures { IsTrue result ↔ (old.now ≡ new.now) }
+{
+    old == new
+}
+
+/// Returns whether the tokens that no edit touches are the same in a text and in the edited text.
+/// Returns `Err` if an allocation fails.
+pub(crate) fn keeps_tokens(
+    alloc: Global,
+    old: &str,
+    edits: &[Edit<'_>],
+    new: &str,
+) -> Result<bool, AllocError>
+    ensures { IfOk result (λ b. (xs ys : List Lexeme) × ReadsFile (chars old.now) xs
+        × ReadsFile (chars new.now) ys × (IsTrue b
+        ↔ KeepsTokens (map seen_edit edits.now) (placed 0 xs) (placed 0 ys))) }
+{
+    let old_tokens = tokens(alloc, old)?;
+    let new_tokens = tokens(alloc, new)?;
+    let old_others = outside(
+        alloc,
+        old_parts(alloc, edits)?.as_slice(),
+        old_tokens.as_slice(),
+    )?;
+    let new_others = outside(
+        alloc,
+        new_parts(alloc, edits)?.as_slice(),
+        new_tokens.as_slice(),
+    )?;
+    Ok(are_same(old_others.as_slice(), new_others.as_slice()))
+}
