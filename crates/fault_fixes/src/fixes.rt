@@ -208,20 +208,28 @@ fn make_next<'a>(
     Ok(())
 }
 
-/// Returns a text with the edits of the errors of all calls of a parser without errors, in a mode,
-/// and whether there are any. The text starts at the byte offset `at`. Returns `Err` if an
-/// allocation fails.
+/// A text with the edits of all errors.
+#[derive(Drop)]
+struct AllEdits {
+    /// The bytes of the text.
+    bytes: Vec<u8>,
+    /// Whether there is an edit.
+    has_edits: bool,
+}
+
+/// Returns a text with the edits of the errors of all calls of a parser without errors, in a mode.
+/// The text starts at the byte offset `at`. Returns `Err` if an allocation fails.
 fn edit_all(
     alloc: Global,
     mode: ParseMode,
     parser: &mut Parser<'_>,
     text: &str,
     at: usize,
-) -> Result<(Vec<u8>, bool), AllocError>
+) -> Result<AllEdits, AllocError>
     requires { parser.old.errors ≡ [] }
-    ensures bytes { IfOk result (λ x. x.0.items
+    ensures bytes { IfOk result (λ x. x.bytes.items
         ≡ applied at (edits (seen_mode mode) (all_errors parser.old)) text.now) }
-    ensures some { IfOk result (λ x. x.1
+    ensures some { IfOk result (λ x. x.has_edits
         ≡ not (is_empty (edits (seen_mode mode) (all_errors parser.old)))) }
 {
     let mut argument = Argument::default();
@@ -237,7 +245,10 @@ fn edit_all(
     }
     let rest = edited.rest;
     edited.bytes.extend_from_slice(rest)?;
-    Ok((edited.bytes, edited.end > 0))
+    Ok(AllEdits {
+        bytes: edited.bytes,
+        has_edits: edited.end > 0,
+    })
 }
 
 /// Returns bytes as a text, or `None` if they are not UTF-8.
@@ -271,7 +282,7 @@ fn edited_literal(
 {
     let owned = String::from_str(alloc, snippet)?;
     let mut parser = Parser::new(alloc, input, style, Some(owned), appended_newline, mode)?;
-    let (bytes, has_edits) = edit_all(alloc, mode, &mut parser, snippet, 0)?;
+    let AllEdits { bytes, has_edits } = edit_all(alloc, mode, &mut parser, snippet, 0)?;
     if !has_edits {
         return Ok(None);
     }
@@ -288,7 +299,7 @@ fn edited_text(alloc: Global, input: &str, mode: ParseMode) -> Result<Option<Str
         (IsUtf8 (applied 1 (text_edits (seen_mode mode) (chars input.now)) input.now) → ⊥)) }
 {
     let mut parser = Parser::new(alloc, input, None, None, false, mode)?;
-    let (bytes, _) = edit_all(alloc, mode, &mut parser, input, 1)?;
+    let AllEdits { bytes, .. } = edit_all(alloc, mode, &mut parser, input, 1)?;
     Ok(text_of(bytes))
 }
 
