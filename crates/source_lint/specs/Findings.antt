@@ -21,7 +21,7 @@ use Rattle.source_report.specs.declared.report.Help.{Help as FileHelp}
 -- The parts of a call that titles tell, with the numbers that are too large.
 abbrev pub report_in : Call → List ℕ → TitleParts Place
 report_in c ns = record {
-  given = c.given;
+  arguments = c.arguments;
   count = length c.kept;
   pieces = c.pieces;
   total = c.total;

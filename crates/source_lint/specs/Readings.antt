@@ -61,7 +61,7 @@ pieces s = pieces_in s.world (pieces_of (calls s))
 -- A call with this format string, which captures variables or not, and with these arguments.
 abbrev pub call_of : Bool → State → List FormatArgument → CheckedCall
 call_of captures s gs = record {
-  given = gs;
+  arguments = gs;
   kept = kept_indices gs;
   pieces = pieces s;
   counts = counts_before 0 (pieces s);
