@@ -1,1 +1,4 @@
+pub mod EditLaws
+pub mod FaultLaws
 pub mod RoundLaws
+pub mod WalkLaws

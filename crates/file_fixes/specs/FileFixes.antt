@@ -1,16 +1,18 @@
 -- A file with the suggestions to its faults applied.
-use Rattle.std.specs.Prelude.{◌≡◌, ◌⊎◌, ◌++◌, ◌≤◌, ℕ, zero, suc, Bool, List, [], Option, Some, None}
-use Rattle.std.specs.Prelude.{IsUtf8, chars, length, map, string_bytes}
+use Rattle.std.specs.Prelude.{◌≡◌, ◌⊎◌, ◌++◌, ◌∷◌, ◌≤◌, ℕ, zero, suc, Bool, List, [], Option, Some}
+use Rattle.std.specs.Prelude.{None, IsUtf8, chars, if◌then◌else◌, length, map, string_bytes}
 use Rattle.std.specs.declared.alloc.Global.{Global}
 use Rattle.std.specs.declared.string.String.{String}
 use Rattle.fault_fixes.specs.Edits.{Edit, applied}
+use Rattle.fault_fixes.specs.Losing.{IsMerged}
 use Rattle.rust_tokens.specs.Files.{ReadsFile}
 use Rattle.rust_tokens.specs.Placed.{placed}
 use Rattle.rust_tokens.specs.Tokens.{Lexeme}
 use Rattle.format_calls.specs.Rows.{Entry}
 use Rattle.source_lint.specs.Reports.{IsReport}
+use Rattle.source_report.specs.declared.report.Finding.{Finding}
 use Rattle.source_report.specs.declared.report.Report.{Report}
-use Rattle.source_report.specs.Suggestions.{all_edits, mended}
+use Rattle.source_report.specs.Suggestions.{all_edits, edits_of, end_after, is_mended, mended}
 use Rattle.file_fixes.specs.Outside.{KeepsTokens}
 
 -- The bytes of a text.
@@ -24,6 +26,29 @@ pub record IsNoWorse (r q : Report) : Type 0 where
   pub new_is_whole : q.first_break ≡ None
   pub calls : length q.calls.items ≡ length r.calls.items
   pub findings : length q.findings.items ≤ length r.findings.items
+
+-- What a fault is known by in a file that changes: the id of its kind, and its title.
+pub record FaultName : Type 0 where
+  pub id : List ℕ
+  pub title : List ℕ
+
+abbrev pub fault_name : Finding → FaultName
+fault_name x = record { id = x.id.now; title = string_bytes x.title }
+
+-- Of these faults, one after the other, those that are not mended in a round, where the last edit
+-- before them ends at the byte offset `at`: all but those of `mended`.
+abbrev pub unmended : ℕ → List Finding → List Finding
+unmended at [] = []
+unmended at (x ∷ xs) = if is_mended at x then unmended (end_after at (edits_of x)) xs
+    else x ∷ unmended at xs
+
+-- The faults xs become the faults ys in a round: those that are not mended stay, in their order,
+-- and at most as many others come as are mended. The compiler tells of the first fault of a format
+-- string alone, so that another can come where one is mended.
+pub record FaultsStay (xs ys : List Finding) : Type 0 where
+  pub others : List FaultName
+  pub are_all : IsMerged (map fault_name (unmended 0 xs)) others (map fault_name ys)
+  pub few : length others ≤ length (mended 0 xs)
 
 -- The edits of the faults of the report r that are mended in one round.
 abbrev pub round_edits : Report → List Edit
@@ -49,22 +74,26 @@ OthersGo bs r cs = (xs ys : List Lexeme) × AreTokens bs cs xs ys
     × (KeepsTokens (round_edits r) (placed 0 xs) (placed 0 ys) → ⊥)
 
 -- In a round the file with the bytes bs and the report r, of which faults are mended, becomes the
--- bytes cs with the report q. The mended faults have the ids ws. All tokens that no edit touches
--- stay, and no others come but where the edits are.
+-- bytes cs with the report q. The mended faults have the ids ws. The other faults stay, and at most
+-- as many others come as are mended. All tokens that no edit touches stay, and no others come but
+-- where the edits are.
 pub record IsRound (es : List Entry) (is_new : Bool) (bs : List ℕ) (r : Report) (cs : List ℕ)
     (q : Report) (ws : List (List ℕ)) : Type 0 where
   pub text : cs ≡ mended_bytes bs r
   pub ids : ws ≡ map (λ x. x.id.now) (mended 0 r.findings.items)
   pub report : IsReport es is_new cs q
   pub no_worse : IsNoWorse r q
+  pub faults : FaultsStay r.findings.items q.findings.items
   pub tokens : OthersStay bs r cs
 
 -- No round follows on the file with the bytes bs and the report r: no fault is to be mended, or the
--- file with the edits is no text, or is worse, or has other tokens where no edit is.
+-- file with the edits is no text, or is worse, or lacks a fault that is not mended, or has other
+-- tokens where no edit is.
 abbrev pub IsLast : List Entry → Bool → List ℕ → Report → Type 0
 IsLast es is_new bs r = (mended 0 r.findings.items ≡ [])
     ⊎ ((IsUtf8 (mended_bytes bs r) → ⊥)
-    ⊎ (((q : Report) × IsReport es is_new (mended_bytes bs r) q × (IsNoWorse r q → ⊥))
+    ⊎ (((q : Report) × IsReport es is_new (mended_bytes bs r) q
+    × (IsNoWorse r q × FaultsStay r.findings.items q.findings.items → ⊥))
     ⊎ OthersGo bs r (mended_bytes bs r)))
 
 -- The same after rounds in which faults with the ids ws are mended: at most n rounds, and fewer

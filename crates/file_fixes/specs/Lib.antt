@@ -1,3 +1,4 @@
+pub mod FaultSearch
 pub mod FileFixes
 pub mod Outside
-pub mod SeenOutside
+pub mod Walk

@@ -1,46 +1,32 @@
 -- The tokens of a file that no edit touches.
-use Rattle.std.specs.Prelude.{◌≡◌, ◌+◌, ◌-◌, ◌++◌, ℕ, Bool, true, List, [], ◌∷◌, length, nat_le}
+use Rattle.std.specs.Prelude.{◌≡◌, ◌+◌, ◌-◌, ◌||◌, ℕ, Bool, List, [], ◌∷◌, length, map, nat_le}
 use Rattle.std.specs.Prelude.{if◌then◌else◌}
+use Rattle.std.specs.List.{filter, list_all}
+use Rattle.std.specs.declared.ops.Range.{Range}
 use Rattle.fault_fixes.specs.Edits.{Edit}
 use Rattle.rust_tokens.specs.declared.kinds.Token.{Token}
-use Rattle.file_fixes.specs.declared.outside.EditedPart.{EditedPart}
 
--- The parts of a text that edits remove from it. A part has a gap before it, the bytes from the end
--- of the part before it on, or from the offset `at` on, and a width.
-abbrev pub old_parts : ℕ → List Edit → List EditedPart
-old_parts at [] = []
-old_parts at (e ∷ es) =
-    record { gap = e.span.0 - at; width = e.span.1 - e.span.0 } ∷ old_parts e.span.1 es
+-- The byte ranges of a text that edits replace.
+abbrev pub old_ranges : List Edit → List (Range ℕ)
+old_ranges es = map (λ e. record { start = e.span.0; end = e.span.1 }) es
 
--- The parts of the edited text that stand in their place: with the same gaps.
-abbrev pub new_parts : ℕ → List Edit → List EditedPart
-new_parts at [] = []
-new_parts at (e ∷ es) =
-    record { gap = e.span.0 - at; width = length e.text } ∷ new_parts e.span.1 es
+-- The byte ranges of the new text that replace them. The last edit before these ends at the offset
+-- `at` of the old text and `to` of the new one, which are both 0 if there is none.
+abbrev pub new_ranges : ℕ → ℕ → List Edit → List (Range ℕ)
+new_ranges at to [] = []
+new_ranges at to (e ∷ es) = let start = to + (e.span.0 - at) in
+    record { start = start; end = start + length e.text }
+    ∷ new_ranges e.span.1 (start + length e.text) es
 
--- The parts that follow on a place, the end of the part before them, and how many bytes are in all
--- parts up to there.
-pub record Ahead : Type 0 where
-  pub end : ℕ
-  pub width : ℕ
-  pub parts : List EditedPart
+-- The token ends by the start of the range, or does not start before its end.
+abbrev pub is_apart : Token → Range ℕ → Bool
+is_apart t r = nat_le t.span.end r.start || nat_le r.end t.span.start
 
--- All parts of a text.
-abbrev pub from_start : List EditedPart → Ahead
-from_start ps = record { end = 0; width = 0; parts = ps }
-
--- Of these parts those that are ahead at the offset `at`: all from the first one on that does not
--- end by there.
-abbrev pub ahead_of : ℕ → ℕ → ℕ → List EditedPart → Ahead
-ahead_of at end width [] = record { end = end; width = width; parts = [] }
-ahead_of at end width (p ∷ ps) = if nat_le (end + p.gap + p.width) at
-    then ahead_of at (end + p.gap + p.width) (width + p.width) ps
-    else record { end = end; width = width; parts = p ∷ ps }
-
--- No part starts before the offset `at`.
-abbrev pub is_before : ℕ → ℕ → List EditedPart → Bool
-is_before at end [] = true
-is_before at end (p ∷ ps) = nat_le at (end + p.gap)
+-- How many bytes there are in those of these ranges that end by the offset `at`.
+abbrev pub width_before : ℕ → List (Range ℕ) → ℕ
+width_before at [] = 0
+width_before at (r ∷ rs) = if nat_le r.end at then (r.end - r.start) + width_before at rs
+    else width_before at rs
 
 -- A token n bytes further in front.
 abbrev pub moved_up : ℕ → Token → Token
@@ -51,15 +37,13 @@ moved_up n t = record {
   is_ended = t.is_ended;
 }
 
--- Of the tokens of a text those that no part touches, at the places that they have in the text
--- without the parts.
-abbrev pub outside : Ahead → List Token → List Token
-outside a [] = []
-outside a (t ∷ ts) = let b = ahead_of t.span.start a.end a.width a.parts in
-    (if is_before t.span.end b.end b.parts then moved_up b.width t ∷ [] else []) ++ outside b ts
+-- Those of the tokens of a text that are apart from each of these ranges, at the places that they
+-- have in the text without the ranges.
+abbrev pub outside : List (Range ℕ) → List Token → List Token
+outside rs ts = map (λ t. moved_up (width_before t.span.start rs) t)
+    (filter (λ t. list_all (is_apart t) rs) ts)
 
--- The tokens that no edit touches are the same in a text and in the text with the edits: from the
--- text without the parts that the edits remove, and from the other one without those that they add.
+-- The tokens that no edit touches are the same in a text and in the text with the edits, at the
+-- same places but for what the edits remove and add. White space and comments are tokens too.
 abbrev pub KeepsTokens : List Edit → List Token → List Token → Type 0
-KeepsTokens es ts us =
-    outside (from_start (old_parts 0 es)) ts ≡ outside (from_start (new_parts 0 es)) us
+KeepsTokens es ts us = outside (old_ranges es) ts ≡ outside (new_ranges 0 0 es) us

@@ -2,6 +2,7 @@
 //! strings ([`fixes`]).
 #![tactic(auto)]
 
+mod fault_search;
 mod outside;
 mod round_edits;
 mod rounds;

@@ -6,9 +6,10 @@ ghost use Rattle.fault_fixes.specs.SeenEdits.{seen_edit};
 ghost use Rattle.rust_tokens.specs.Files.{ReadsFile};
 ghost use Rattle.rust_tokens.specs.Placed.{placed};
 ghost use Rattle.rust_tokens.specs.Tokens.{Lexeme};
-ghost use Rattle.file_fixes.specs.Outside.{KeepsTokens, ahead_of, from_start, is_before, moved_up};
-ghost use Rattle.file_fixes.specs.Outside.{new_parts, old_parts, outside};
-ghost use Rattle.file_fixes.specs.SeenOutside.{seen_ahead};
+ghost use Rattle.source_report.specs.Suggestions.{are_after};
+ghost use Rattle.file_fixes.specs.Outside.{KeepsTokens, moved_up};
+ghost use Rattle.file_fixes.specs.Walk.{ahead_of, from_start, is_before, new_parts, old_parts};
+ghost use Rattle.file_fixes.specs.Walk.{seen_ahead, walk};
 
 use fault_fixes::Edit;
 use rust_tokens::{Token, tokens};
@@ -119,7 +120,7 @@ fn moved_up(n: usize, token: &Token) -> Token
 /// Returns those tokens of a text that no part touches, at the places that they have in the text
 /// without the parts. Returns `Err` if an allocation fails.
 fn outside(alloc: Global, parts: &[EditedPart], tokens: &[Token]) -> Result<Vec<Token>, AllocError>
-    ensures { IfOk result (λ v. v.items ≡ outside (from_start parts.now) tokens.now) }
+    ensures { IfOk result (λ v. v.items ≡ walk (from_start parts.now) tokens.now) }
 {
     let mut others = Vec::new(alloc);
     let mut ahead = PartsAhead {
@@ -151,6 +152,7 @@ pub(crate) fn keeps_tokens(
     edits: &[Edit<'_>],
     new: &str,
 ) -> Result<bool, AllocError>
+    requires { IsTrue (are_after 0 (map seen_edit edits.now)) }
     ensures { IfOk result (λ b. (xs ys : List Lexeme) × ReadsFile (chars old.now) xs
         × ReadsFile (chars new.now) ys × (IsTrue b
         ↔ KeepsTokens (map seen_edit edits.now) (placed 0 xs) (placed 0 ys))) }

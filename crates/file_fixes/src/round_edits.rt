@@ -10,7 +10,7 @@ use source_report::{Finding, are_after, edits_of};
 use std::alloc::{AllocError, Global};
 
 /// Returns where the last edit ends, or `at` if there is none.
-fn end_after(at: usize, edits: &[Edit<'_>]) -> usize
+pub(crate) fn end_after(at: usize, edits: &[Edit<'_>]) -> usize
     ensures { result ≡ end_after at (map seen_edit edits.now) }
 {
     let mut end = at;

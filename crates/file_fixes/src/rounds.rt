@@ -7,9 +7,10 @@ ghost use Rattle.format_calls.specs.Rows.{entry};
 ghost use Rattle.asm_lint.specs.Spans.{HasSpans};
 ghost use Rattle.source_lint.specs.Reports.{IsReport};
 ghost use Rattle.source_report.specs.declared.report.Report.{Report as ReportValue};
-ghost use Rattle.file_fixes.specs.FileFixes.{AreRounds, OthersGo, OthersStay};
+ghost use Rattle.file_fixes.specs.FileFixes.{AreRounds, FaultsStay, OthersGo, OthersStay};
 ghost use Rattle.file_fixes.specs.FileFixes.{IsLast, IsNoWorse, IsRound, bytes_or};
 
+use crate::fault_search::keeps_unmended;
 use crate::outside::keeps_tokens;
 use crate::round_edits::round_edits;
 use source_lint::file_faults;
@@ -50,6 +51,18 @@ pub fn is_no_worse(old: &Report, new: &Report) -> bool
         && new.findings.len() <= old.findings.len()
 }
 
+/// Returns whether a report on a file after a round is no worse than the one before it, and the
+/// faults that the round does not mend stay. Returns `Err` if an allocation fails.
+fn keeps_faults(alloc: Global, old: &Report, new: &Report) -> Result<bool, AllocError>
+    ensures { IfOk result (λ b. IsTrue b ↔ IsNoWorse old.now new.now
+        × FaultsStay old.now.findings.items new.now.findings.items) }
+{
+    if !is_no_worse(old, new) {
+        return Ok(false);
+    }
+    keeps_unmended(alloc, old.findings.as_slice(), new.findings.as_slice())
+}
+
 /// Returns whether the tokens that no edit of a round touches are the same in a file before and
 /// after the round. Returns `Err` if an allocation fails.
 #[tactic(auto, unfolding(crate::specs::FileFixes::OthersStay, crate::specs::FileFixes::OthersGo))]
@@ -62,7 +75,8 @@ fn keeps_others(alloc: Global, old: &str, report: &Report, new: &str) -> Result<
 }
 
 /// Returns a file after one more round, or `None` if there is nothing to mend or the file with its
-/// edits is worse or has other tokens where no edit is. Returns `Err` if an allocation fails.
+/// edits is worse, lacks a fault that is not mended or has other tokens where no edit is. Returns
+/// `Err` if an allocation fails.
 fn next_round(
     alloc: Global,
     text: &str,
@@ -90,7 +104,7 @@ fn next_round(
         return Ok(None);
     };
     let report = file_faults(alloc, text.as_str(), options)?;
-    if !is_no_worse(&fixed.report, &report) {
+    if !keeps_faults(alloc, &fixed.report, &report)? {
         return Ok(None);
     }
     if !keeps_others(alloc, source, &fixed.report, text.as_str())? {
@@ -124,9 +138,10 @@ fn with_round(fixed: FileFixes, round: Round) -> Result<FileFixes, AllocError>
 ///
 /// In a round the suggestions of all faults are applied whose edits follow each other, and then
 /// those of the new report, in at most sixteen rounds. A round is left out if the file then breaks,
-/// has another number of calls, more faults, or other tokens where no edit is: so a round changes
-/// only the tokens that its edits touch. Nothing is fixed in a file that breaks. Returns `Err` if
-/// an allocation fails.
+/// has another number of calls, more faults, or other tokens where no edit is, or if a fault that
+/// it does not mend is gone: so a round changes only the tokens that its edits touch, the other
+/// faults stay, and at most as many new ones come as it mends. Nothing is fixed in a file that
+/// breaks. Returns `Err` if an allocation fails.
 pub fn fixes(alloc: Global, text: &str, options: &Options<'_>) -> Result<FileFixes, AllocError>
     ensures rounds { IfOk result (λ x. (r : ReportValue)
         × IsReport (map entry options.now.table.rows.items) options.now.is_from_2021 text.now r

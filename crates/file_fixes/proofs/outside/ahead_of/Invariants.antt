@@ -1,5 +1,5 @@
 use Rattle.std.proofs.Common.{◌≡◌, ◌≤◌, ◌-◌, drop, length}
-use Rattle.file_fixes.specs.Outside.{ahead_of}
+use Rattle.file_fixes.specs.Walk.{ahead_of}
 use Rattle.file_fixes.proofs.outside.ahead_of.Given as goal
 
 -- From here on the place is the same as from the start.

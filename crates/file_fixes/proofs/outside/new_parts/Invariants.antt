@@ -1,6 +1,6 @@
 use Rattle.std.proofs.Common.{◌≡◌, ◌++◌, drop, map}
 use Rattle.fault_fixes.specs.SeenEdits.{seen_edit}
-use Rattle.file_fixes.specs.Outside.{new_parts}
+use Rattle.file_fixes.specs.Walk.{new_parts}
 use Rattle.file_fixes.proofs.outside.new_parts.Given as goal
 
 -- With the parts of the edits that are left, these are all.

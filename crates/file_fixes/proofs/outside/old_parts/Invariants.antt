@@ -1,6 +1,6 @@
 use Rattle.std.proofs.Common.{◌≡◌, ◌++◌, drop, map}
 use Rattle.fault_fixes.specs.SeenEdits.{seen_edit}
-use Rattle.file_fixes.specs.Outside.{old_parts}
+use Rattle.file_fixes.specs.Walk.{old_parts}
 use Rattle.file_fixes.proofs.outside.old_parts.Given as goal
 
 -- With the parts of the edits that are left, these are all.

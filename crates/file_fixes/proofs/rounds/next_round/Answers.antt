@@ -4,8 +4,8 @@ use Rattle.source_lint.specs.Reports.{IsReport}
 use Rattle.file_fixes.specs.FileFixes.{bytes_or, mended_bytes}
 use Rattle.file_fixes.proofs.rounds.next_round.Goals as goal
 
-pub returns-then-not-is_no_worse-clause-last : goal.returns-then-not-is_no_worse-clause-last
-returns-then-not-is_no_worse-clause-last c = λ _.
+pub returns-then-not-branch-clause-last : goal.returns-then-not-branch-clause-last
+returns-then-not-branch-clause-last c = λ _.
     let old = c.args.fixed.now in
     let text : string_bytes c.in-Some-ok.text
     ≡ mended_bytes (bytes_or old.text c.args.text.now) old.report = search rules in
@@ -14,5 +14,5 @@ returns-then-not-is_no_worse-clause-last c = λ _.
       subst (λ v. IsReport (map entry c.args.options.now.table.rows.items)
           c.args.options.now.is_from_2021 v c.in_ok-report.report)
           (c.as_str.ensures.value ∙ text) c.in_ok-report.ensures.report,
-      λ h. let t = c.is_no_worse.ensures.1 h in search rules,
+      λ h. let t = c.in_ok-keeps_faults.ensures.1 h in search rules,
     )))
