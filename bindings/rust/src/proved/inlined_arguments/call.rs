@@ -58,7 +58,7 @@ pub struct Inlined {
 }
 
 /// Why a call is left as it is.
-#[derive(Clone, Copy, Debug, PartialEq)]
+#[derive(Clone, Copy, Debug, PartialEq, Eq)]
 pub enum Obstacle {
     /// How many arguments it has is not known.
     Uncounted,
