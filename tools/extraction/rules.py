@@ -80,7 +80,7 @@ ADDED = {("placeholder_check", "Report"): ("Clone", *SHOWN),
             for name in ("Edit", "Finding", "Help", "Label", "Note", "Report")},
          **{("rust_trees", name): SHOWN for name in ("FileBreak", "BreakKind", "Place")},
          **{("format_calls", name): SHOWN for name in ("Reason", "Row", "Rule")},
-         ("inlined_arguments", "Left"): ("Eq",), ("file_inlines", "CallInlining"): SHOWN,
+         ("inlined_arguments", "Obstacle"): ("Eq",), ("file_inlines", "CallInlining"): SHOWN,
          ("file_inlines", "FileInlines"): ("Clone", *SHOWN),
          **{(crate, name): ("Hash",) for crate in ("format_tokens", "rust_tokens")
             for name in ("Kind", "Token")}}

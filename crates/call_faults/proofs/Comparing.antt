@@ -52,7 +52,8 @@ now-known b i o p c e f = ap is_some e ∙ some-inserted b i o ∙ ap (λ d. b |
 
 -- an argument that a lookup means is one of those that count
 index-below : (ks : List Entry) (count n i : ℕ) → AllByRecursion (λ k. k.index < count) ks
-    → option_map_or (λ j. i == j) (option_map (λ (k : Entry). k.index) (slice_get ks n)) false ≡ true
+    → option_map_or (λ j. i == j) (option_map (λ (k : Entry). k.index) (slice_get ks n)) false
+    ≡ true
     → i < count
 index-below [] count n i a e = absurd cc
 index-below (k ∷ ks) count zero i a e = let s = eqb-true i k.index e in let h : k.index < count
@@ -142,7 +143,8 @@ some-named w i (Some v) o ts e = some-found (bytes_eq w v) i o (list_any (bytes_
 some-index : (ks : List Entry) (w : Text) → is_some (index_of ks w)
     ≡ list_any (bytes_eq w) (names ks)
 some-index [] w = refl
-some-index (k ∷ ks) w = some-named w k.index k.argument.name (index_of ks w) (names ks) (some-index ks
+some-index (k ∷ ks) w = some-named w k.index k.argument.name (index_of ks w) (names ks)
+    (some-index ks
     w)
 
 pub holds-knows : (ks : List Entry) (a : Arguments) → Holds ks a → KnowsNames (names ks) a.indices

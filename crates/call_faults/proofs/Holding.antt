@@ -84,7 +84,8 @@ some-more : (ks : List Entry) (k : Entry) (b : Bool) → is_some k.argument.name
     → list_any (λ l. is_some l.argument.name) (ks ++ k ∷ [])
     ≡ (list_any (λ l. is_some l.argument.name) ks || b)
 some-more ks k b e = list_any-append (λ (l : Entry). is_some l.argument.name) ks (k ∷ [])
-    ∙ ap (λ c. list_any (λ (l : Entry). is_some l.argument.name) ks || c) (one (is_some k.argument.name) b
+    ∙ ap (λ c. list_any (λ (l : Entry). is_some l.argument.name) ks || c)
+    (one (is_some k.argument.name) b
     e)
   where
     one : (a b : Bool) → a ≡ b → (a || false) ≡ b

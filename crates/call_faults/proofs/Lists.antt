@@ -52,12 +52,14 @@ precedes : (n : Option Text) → is_some n ≡ false → MayPrecede n None
 precedes None e = tt
 precedes (Some w) e = absurd cc
 
-all-unnamed : (ks : List Entry) → Precede ks None → list_any (λ k. is_some k.argument.name) ks ≡ false
+all-unnamed : (ks : List Entry) → Precede ks None
+    → list_any (λ k. is_some k.argument.name) ks ≡ false
 all-unnamed [] h = refl
 all-unnamed (k ∷ ks) h = or_from (is_some k.argument.name) _ (unnamed k.argument.name h.0)
     (all-unnamed ks h.1)
 
-unnamed-all : (ks : List Entry) → list_any (λ k. is_some k.argument.name) ks ≡ false → Precede ks None
+unnamed-all : (ks : List Entry) → list_any (λ k. is_some k.argument.name) ks ≡ false
+    → Precede ks None
 unnamed-all [] e = tt
 unnamed-all (k ∷ ks) e = let both = or_parts (is_some k.argument.name) _ e in
     (precedes k.argument.name both.0, unnamed-all ks both.1)
@@ -138,7 +140,8 @@ precede-join : (ks : List Entry) (k : Entry) (n : Option Text) → Precede ks n
 precede-join [] k n h p = (p, tt)
 precede-join (l ∷ ks) k n h p = (h.0, precede-join ks k n h.1 p)
 
-rest_after-split : (ks : List Entry) (k : Entry) (gs : List FormatArgument) → After (ks ++ k ∷ []) gs
+rest_after-split : (ks : List Entry) (k : Entry) (gs : List FormatArgument)
+    → After (ks ++ k ∷ []) gs
     → After ks gs × AllByRecursion (λ h. MayPrecede k.argument.name h.name) gs
 rest_after-split ks k [] b = (tt, tt)
 rest_after-split ks k (g ∷ gs) b =

@@ -212,7 +212,8 @@ all-numbered P m (x ∷ gs) h zero g e =
     kept-is m n x g e f = cc
 all-numbered P m (x ∷ gs) h (suc i) g e =
     let s : suc m + i ≡ m + suc i = omega arith in
-    subst (λ (n : ℕ). P (record { index = n; argument = g })) s (all-numbered P (suc m) gs h.1 i g e)
+    subst (λ (n : ℕ). P (record { index = n; argument = g })) s
+    (all-numbered P (suc m) gs h.1 i g e)
 
 numbered-all : (P : Entry → Type 0) (m : ℕ) (gs : List FormatArgument)
     → ((i : ℕ) (g : FormatArgument) → slice_get gs i ≡ Some g

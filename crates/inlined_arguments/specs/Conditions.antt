@@ -7,8 +7,8 @@ use Rattle.rustc_parse_format.specs.Characters.{Text}
 use Rattle.inlined_arguments.specs.Variables.{Argument, has_comment, is_variable}
 use Rattle.inlined_arguments.specs.declared.call.Obstacle.{Obstacle}
 use Rattle.inlined_arguments.specs.declared.call.Obstacle.TheVariants.{Uncounted, NoVariable, Mixed}
-use Rattle.inlined_arguments.specs.declared.call.Obstacle.TheVariants.{CapturesNone, Alone, ConstForm}
-use Rattle.inlined_arguments.specs.declared.call.Obstacle.TheVariants.{Comment}
+use Rattle.inlined_arguments.specs.declared.call.Obstacle.TheVariants.{CapturesNone, Alone}
+use Rattle.inlined_arguments.specs.declared.call.Obstacle.TheVariants.{Comment, ConstForm}
 
 -- A call of a macro that takes a format string: the text and the style of that, the bytes of its
 -- literal if it is known, whether a newline is appended to the text, and whether it captures

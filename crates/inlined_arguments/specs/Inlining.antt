@@ -18,9 +18,9 @@ use Rattle.inlined_arguments.specs.Values.{Slot, given, kept, slots}
 use Rattle.inlined_arguments.specs.Variables.{gone_from}
 use Rattle.inlined_arguments.specs.declared.call.Obstacle.{Obstacle}
 use Rattle.inlined_arguments.specs.declared.call.Obstacle.TheVariants.{Uncounted, NoVariable, Mixed}
-use Rattle.inlined_arguments.specs.declared.call.Obstacle.TheVariants.{CapturesNone, Alone, ConstForm}
+use Rattle.inlined_arguments.specs.declared.call.Obstacle.TheVariants.{CapturesNone, Alone}
 use Rattle.inlined_arguments.specs.declared.call.Obstacle.TheVariants.{Comment, Faulty, NoLiteral}
-use Rattle.inlined_arguments.specs.declared.call.Obstacle.TheVariants.{OtherMeaning}
+use Rattle.inlined_arguments.specs.declared.call.Obstacle.TheVariants.{ConstForm, OtherMeaning}
 
 -- A parser at the start of the format string of a call.
 abbrev pub start : Call → State
@@ -85,7 +85,8 @@ IsUnchanged m c CapturesNone = condition m c ≡ Some CapturesNone
 IsUnchanged m c Alone = condition m c ≡ Some Alone
 IsUnchanged m c ConstForm = condition m c ≡ Some ConstForm
 IsUnchanged m c Comment = condition m c ≡ Some Comment
-IsUnchanged m c Faulty = (condition m c ≡ None) × (IsCleanCall c.captures (slots c.arguments) c.text → ⊥)
+IsUnchanged m c Faulty = (condition m c ≡ None)
+    × (IsCleanCall c.captures (slots c.arguments) c.text → ⊥)
 IsUnchanged m c NoLiteral = (condition m c ≡ None) × (c.literal ≡ None)
 IsUnchanged m c OtherMeaning = (condition m c ≡ None)
     × IsCleanCall c.captures (slots c.arguments) c.text

@@ -124,7 +124,7 @@ fn inline_with<'c>(
     ensures inlined { IfOk result (λ r. IfOk r (λ x. (mixed : Bool)
         → condition mixed (seen_call call.entry) ≡ None
         → IsInlined mixed (seen_call call.entry) (seen_inlined x))) }
-    ensures left { IfOk result (λ r. IfErr r (λ l. (mixed : Bool)
+    ensures unchanged { IfOk result (λ r. IfErr r (λ l. (mixed : Bool)
         → condition mixed (seen_call call.entry) ≡ None
         → IsUnchanged mixed (seen_call call.entry) l)) }
 {
@@ -168,7 +168,8 @@ pub fn inline_arguments(
     // A call that is inlined has the old meaning. One that is left has a reason that holds.
     ensures inlined { IfOk result (λ r. IfOk r (λ x.
         IsInlined allows_mixed (seen_call call.entry) (seen_inlined x))) }
-    ensures left { IfOk result (λ r. IfErr r (λ l. IsUnchanged allows_mixed (seen_call call.entry) l)) }
+    ensures unchanged { IfOk result (λ r. IfErr r
+        (λ o. IsUnchanged allows_mixed (seen_call call.entry) o)) }
 {
     if let Some(reason) = condition(&call, allows_mixed) {
         return Ok(Err(reason));

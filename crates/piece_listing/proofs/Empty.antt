@@ -13,7 +13,7 @@ use Rattle.rustc_parse_format.specs.Faults.{Message}
 use Rattle.rustc_parse_format.specs.State.{after_all, calls, fresh}
 use Rattle.rustc_parse_format.specs.World.{Place, World}
 use Rattle.rustc_parse_format.specs.Seen.{seen_mode}
-use Rattle.piece_listing.specs.declared.given.GivenArguments.{GivenArguments as DeclaredArguments}
+use Rattle.piece_listing.specs.declared.arguments.GivenArguments.{GivenArguments as ArgumentsValue}
 use Rattle.piece_listing.specs.declared.input.Listing.{Listing}
 use Rattle.piece_listing.specs.declared.literal.LiteralText.{LiteralText}
 use Rattle.piece_listing.specs.declared.task.Task.{Task as DeclaredTask}
@@ -58,7 +58,7 @@ empty-no_literal bs e None t (content, us, h, is, v) = empty-no_frame bs e conte
 empty-no_literal bs e (Some n) t h = empty-not_raw bs e n t h
 
 -- the task that the words state, and the list that was read
-nothing-seen : (g : Option DeclaredArguments) → option_map seen_given g ≡ None → g ≡ None
+nothing-seen : (g : Option ArgumentsValue) → option_map seen_given g ≡ None → g ≡ None
 nothing-seen None e = refl
 nothing-seen (Some g) e = absurd cc
 

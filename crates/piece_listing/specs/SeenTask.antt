@@ -1,7 +1,7 @@
 -- A task and the arguments that are given, as a contract sees them.
 use Rattle.std.specs.Prelude.{ℕ, List, [], map, chars, Option, Some, None, option_map}
 use denote.Ref.{Bor}
-use Rattle.piece_listing.specs.declared.given.GivenArguments.{GivenArguments as DeclaredArguments}
+use Rattle.piece_listing.specs.declared.arguments.GivenArguments.{GivenArguments as ArgumentsValue}
 use Rattle.piece_listing.specs.declared.task.Task.{Task as DeclaredTask}
 use Rattle.rustc_parse_format.specs.Characters.{Text}
 use Rattle.rustc_parse_format.specs.Seen.{seen_mode}
@@ -14,7 +14,7 @@ seen_names None = []
 seen_names (Some w) = map chars (parts w.now)
 
 -- The arguments that are given, as a contract sees them.
-abbrev pub seen_given : DeclaredArguments → GivenArguments
+abbrev pub seen_given : ArgumentsValue → GivenArguments
 seen_given g = record { positional = g.positional; names = seen_names g.names }
 
 -- A task as a contract sees it.

@@ -3,7 +3,7 @@
 // Extracted from crates/asm_faults/src/checker.rt by tools/extract: not to be edited.
 // That source has the contracts, and is proved. That this text means the same is only tested.
 
-use crate::proved::asm_faults::compared::{check_unused, look_up};
+use crate::proved::asm_faults::comparison::{check_unused, look_up};
 use crate::proved::asm_faults::faults::AsmFault;
 use crate::proved::asm_faults::lookups::Walk;
 use crate::proved::asm_faults::operands::{operands_of, Operand, Operands};

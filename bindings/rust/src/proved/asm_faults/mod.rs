@@ -5,7 +5,7 @@
 // That source has the contracts, and is proved. That this text means the same is only tested.
 
 pub(crate) mod checker;
-pub(crate) mod compared;
+pub(crate) mod comparison;
 pub(crate) mod faults;
 pub(crate) mod labels;
 pub(crate) mod lookups;

@@ -20,7 +20,7 @@ pub struct FormatArgument<'a> {
 
 /// An argument that counts, since its name is not that of an earlier one.
 #[derive(Clone, Copy)]
-pub(crate) struct Kept<'a> {
+pub(crate) struct Entry<'a> {
     /// Its index among all that are given.
     pub index: usize,
     pub argument: FormatArgument<'a>,
@@ -28,7 +28,7 @@ pub(crate) struct Kept<'a> {
 
 /// The arguments that count.
 pub(crate) struct Arguments<'a> {
-    pub list: Vec<Kept<'a>>,
+    pub list: Vec<Entry<'a>>,
     /// The index of the argument with each name, among all that are given.
     pub indices: BTreeMap<&'a str, usize>,
     /// Whether any has a name.
@@ -83,7 +83,7 @@ fn keep<'a>(
         insert(&mut arguments.indices, name, index)?;
         arguments.has_names = true;
     }
-    arguments.list.try_push(Kept { index, argument })?;
+    arguments.list.try_push(Entry { index, argument })?;
     Ok(())
 }
 
@@ -110,7 +110,7 @@ fn is_late<'a>(arguments: &Arguments<'a>, argument: &FormatArgument<'a>) -> bool
 
 /// Returns the indices of those of arguments that have a name.
 #[inline]
-fn named_of(list: &[Kept<'_>]) -> Result<Vec<usize>, AllocError> {
+fn named_of(list: &[Entry<'_>]) -> Result<Vec<usize>, AllocError> {
     let mut named = Vec::new();
     for entry in list {
         if entry.argument.name.is_some() {

@@ -4,7 +4,7 @@
 // That source has the contracts, and is proved. That this text means the same is only tested.
 
 use crate::proved::call_faults::arguments::{arguments_of, FormatArgument};
-use crate::proved::call_faults::compared::{compare, indices_of};
+use crate::proved::call_faults::comparison::{compare, indices_of};
 use crate::proved::call_faults::faults::CallFault;
 use crate::proved::call_faults::lookups::lookups_of;
 use crate::proved::call_faults::spots::counts_before;

@@ -5,7 +5,7 @@
 
 pub(crate) mod arguments;
 pub(crate) mod checker;
-pub(crate) mod compared;
+pub(crate) mod comparison;
 pub(crate) mod faults;
 pub(crate) mod helps;
 pub(crate) mod labels;

@@ -171,15 +171,23 @@ fn make_next<'a>(
     Ok(())
 }
 
-/// Returns a text with the edits of the errors of all calls of a parser without errors, in a mode,
-/// and whether there are any. The text starts at the byte offset `at`.
+/// A text with the edits of all errors.
+struct AllEdits {
+    /// The bytes of the text.
+    bytes: Vec<u8>,
+    /// Whether there is an edit.
+    has_edits: bool,
+}
+
+/// Returns a text with the edits of the errors of all calls of a parser without errors, in a mode.
+/// The text starts at the byte offset `at`.
 #[inline]
 fn edit_all(
     mode: ParseMode,
     parser: &mut Parser<'_>,
     text: &str,
     at: usize,
-) -> Result<(Vec<u8>, bool), AllocError> {
+) -> Result<AllEdits, AllocError> {
     let mut argument = Argument::default();
     let mut faults = Vec::new();
     let mut edited = Edited {
@@ -193,7 +201,10 @@ fn edit_all(
     }
     let rest = edited.rest;
     edited.bytes.try_extend_from_slice(rest)?;
-    Ok((edited.bytes, edited.end > 0))
+    Ok(AllEdits {
+        bytes: edited.bytes,
+        has_edits: edited.end > 0,
+    })
 }
 
 /// Returns bytes as a text, or `None` if they are not UTF-8.
@@ -214,7 +225,7 @@ fn edited_literal(
 ) -> Result<Option<String>, AllocError> {
     let owned = String::made_from(snippet)?;
     let mut parser = Parser::new(input, style, Some(owned), appended_newline, mode)?;
-    let (bytes, has_edits) = edit_all(mode, &mut parser, snippet, 0)?;
+    let AllEdits { bytes, has_edits } = edit_all(mode, &mut parser, snippet, 0)?;
     if !has_edits {
         return Ok(None);
     }
@@ -225,7 +236,7 @@ fn edited_literal(
 #[inline]
 fn edited_text(input: &str, mode: ParseMode) -> Result<Option<String>, AllocError> {
     let mut parser = Parser::new(input, None, None, false, mode)?;
-    let (bytes, _) = edit_all(mode, &mut parser, input, 1)?;
+    let AllEdits { bytes, .. } = edit_all(mode, &mut parser, input, 1)?;
     Ok(text_of(bytes))
 }
 

@@ -4,6 +4,8 @@
 // Extracted from crates/file_fixes/src/lib.rt by tools/extract: not to be edited.
 // That source has the contracts, and is proved. That this text means the same is only tested.
 
+pub(crate) mod outside;
+pub(crate) mod round_edits;
 pub(crate) mod rounds;
 
 pub use rounds::{fixes, is_no_worse, FileFixes};

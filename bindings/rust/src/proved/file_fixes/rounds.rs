@@ -3,6 +3,8 @@
 // Extracted from crates/file_fixes/src/rounds.rt by tools/extract: not to be edited.
 // That source has the contracts, and is proved. That this text means the same is only tested.
 
+use crate::proved::file_fixes::outside::keeps_tokens;
+use crate::proved::file_fixes::round_edits::round_edits;
 use crate::proved::source_lint::file_faults;
 use crate::proved::source_report::{mend_each, Options, Report};
 use crate::shim::alloc::AllocError;
@@ -39,8 +41,16 @@ pub fn is_no_worse(old: &Report, new: &Report) -> bool {
         && new.findings.len() <= old.findings.len()
 }
 
+/// Returns whether the tokens that no edit of a round touches are the same in a file before and
+/// after the round.
+#[inline]
+fn keeps_others(old: &str, report: &Report, new: &str) -> Result<bool, AllocError> {
+    let edits = round_edits(report.findings.as_slice())?;
+    keeps_tokens(old, edits.as_slice(), new)
+}
+
 /// Returns a file after one more round, or `None` if there is nothing to mend or the file with its
-/// edits is worse.
+/// edits is worse or has other tokens where no edit is.
 #[inline]
 fn next_round(
     text: &str,
@@ -60,6 +70,9 @@ fn next_round(
     };
     let report = file_faults(text.as_str(), options)?;
     if !is_no_worse(&fixed.report, &report) {
+        return Ok(None);
+    }
+    if !keeps_others(source, &fixed.report, text.as_str())? {
         return Ok(None);
     }
     Ok(Some(Round {
@@ -87,7 +100,8 @@ fn with_round(fixed: FileFixes, round: Round) -> Result<FileFixes, AllocError> {
 ///
 /// In a round the suggestions of all faults are applied whose edits follow each other, and then
 /// those of the new report, in at most sixteen rounds. A round is left out if the file then breaks,
-/// has another number of calls, or more faults. Nothing is fixed in a file that breaks.
+/// has another number of calls, more faults, or other tokens where no edit is: so a round changes
+/// only the tokens that its edits touch. Nothing is fixed in a file that breaks.
 #[inline]
 pub fn fixes(text: &str, options: &Options<'_>) -> Result<FileFixes, AllocError> {
     let mut fixed = FileFixes {

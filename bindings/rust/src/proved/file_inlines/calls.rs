@@ -10,7 +10,7 @@ use crate::proved::file_inlines::sources::with_sources;
 use crate::proved::format_calls::{
     arguments, extent_of, is_standard, token_at, Argument, Call, Part, Rule,
 };
-use crate::proved::inlined_arguments::{inline_arguments, Call as FormatCall, Edit, Left};
+use crate::proved::inlined_arguments::{inline_arguments, Call as FormatCall, Edit, Obstacle};
 use crate::proved::rust_trees::Token;
 use crate::proved::source_lint::{
     argument_at, arguments_before, captures, ends_early, index_or, name_at, other_macro, File,
@@ -25,7 +25,7 @@ pub enum CallInlining {
     /// Its format string has the variables that were arguments.
     Inlined,
     /// It is left as it is, for this reason.
-    Left(Left),
+    Unchanged(Obstacle),
     /// It is left as it is, since its format string is not read for this reason.
     Unread(CallReading),
     /// It is left as it is, since it is one of assembly, whose templates capture no variables.
@@ -89,7 +89,7 @@ fn inlined_as(
 ) -> Result<InlinedCall, AllocError> {
     let new_call = match inline_arguments(call, allows_mixed)? {
         Ok(new_call) => new_call,
-        Err(reason) => return Ok(left_for(CallInlining::Left(reason))),
+        Err(reason) => return Ok(unchanged_call(CallInlining::Unchanged(reason))),
     };
     let edits = edits_of(
         site.text,
@@ -103,13 +103,15 @@ fn inlined_as(
             inlining: CallInlining::Inlined,
             edits,
         }),
-        None => Ok(left_for(CallInlining::Left(Left::OtherMeaning))),
+        None => Ok(unchanged_call(CallInlining::Unchanged(
+            Obstacle::OtherMeaning,
+        ))),
     }
 }
 
 /// Returns a call that is left as it is, for this reason.
 #[inline]
-fn left_for(reason: CallInlining) -> InlinedCall {
+fn unchanged_call(reason: CallInlining) -> InlinedCall {
     InlinedCall {
         inlining: reason,
         edits: Vec::new(),
@@ -129,7 +131,7 @@ fn inline_found(
 ) -> Result<InlinedCall, AllocError> {
     let appended_newline = appends_newline(name);
     let Some(literal) = read_literal(site.literal.text, appended_newline)? else {
-        return Ok(left_for(CallInlining::Unread(CallReading::Malformed)));
+        return Ok(unchanged_call(CallInlining::Unread(CallReading::Malformed)));
     };
     let arguments = with_sources(site.text, site.tokens, site.arguments)?;
     let text = literal.text.as_str();
@@ -165,11 +167,11 @@ fn inline_at(
 ) -> Result<InlinedCall, AllocError> {
     let unread = CallInlining::Unread(CallReading::Malformed);
     let Some(string) = argument_at(arguments, index) else {
-        return Ok(left_for(unread));
+        return Ok(unchanged_call(unread));
     };
     let tokens = part.tokens();
     let Some(literal) = token_at(tokens, string.start) else {
-        return Ok(left_for(unread));
+        return Ok(unchanged_call(unread));
     };
     let extent = extent_of(
         part.source(),
@@ -208,7 +210,7 @@ fn inline_one(
     allows_mixed: bool,
 ) -> Result<InlinedCall, AllocError> {
     match call.rule {
-        Rule::Templates => Ok(left_for(CallInlining::Assembly)),
+        Rule::Templates => Ok(unchanged_call(CallInlining::Assembly)),
         Rule::At(_) | Rule::IndexByEdition(_) | Rule::FirstLiteral => {
             inline_at(file, part, call, arguments, index, allows_mixed)
         }
@@ -236,13 +238,13 @@ fn inline_call<'a>(
     allows_mixed: bool,
 ) -> Result<InlinedCall, AllocError> {
     if is_unread(call.rule, reading) {
-        return Ok(left_for(CallInlining::Unread(reading)));
+        return Ok(unchanged_call(CallInlining::Unread(reading)));
     }
     if let Some(reading) = other_macro(file, part.tokens(), call) {
-        return Ok(left_for(CallInlining::Unread(reading)));
+        return Ok(unchanged_call(CallInlining::Unread(reading)));
     }
     let Some(arguments) = arguments(part.source(), call.close)? else {
-        return Ok(left_for(CallInlining::Unread(CallReading::Whole)));
+        return Ok(unchanged_call(CallInlining::Unread(CallReading::Whole)));
     };
     let list = arguments.as_slice();
     match index_or(file, part, call, list) {
@@ -250,7 +252,7 @@ fn inline_call<'a>(
             let inlined_call = inline_one(file, part, call, list, index, allows_mixed)?;
             Ok(inlined_call)
         }
-        Err(reading) => Ok(left_for(CallInlining::Unread(reading))),
+        Err(reading) => Ok(unchanged_call(CallInlining::Unread(reading))),
     }
 }
 

@@ -4,7 +4,7 @@
 // That source has the contracts, and is proved. That this text means the same is only tested.
 
 pub(crate) mod assembly;
-pub(crate) mod counted;
+pub(crate) mod extents;
 pub(crate) mod listing;
 pub(crate) mod marks;
 pub(crate) mod modes;
@@ -15,7 +15,7 @@ pub(crate) mod strings;
 pub(crate) mod table;
 
 pub use assembly::{asm_part, template_count, AsmPart};
-pub use counted::extent_of;
+pub use extents::extent_of;
 pub use listing::{calls, Call};
 pub use marks::{is_mark, is_mark_of, is_word, token_at, word};
 pub use modes::{is_joint, is_text};

@@ -5,7 +5,7 @@
 // Extracted from crates/format_literal/src/lib.rt by tools/extract: not to be edited.
 // That source has the contracts, and is proved. That this text means the same is only tested.
 
+pub(crate) mod validity;
 pub(crate) mod values;
-pub(crate) mod written;
 
 pub use values::Literal;

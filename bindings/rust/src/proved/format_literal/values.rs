@@ -3,7 +3,7 @@
 // Extracted from crates/format_literal/src/values.rt by tools/extract: not to be edited.
 // That source has the contracts, and is proved. That this text means the same is only tested.
 
-use crate::proved::format_literal::written::is_written;
+use crate::proved::format_literal::validity::is_written;
 use crate::proved::piece_listing::literal::{literal_text, LiteralText};
 use crate::proved::rustc_parse_format::ParseMode;
 use crate::shim::alloc::AllocError;

@@ -5,7 +5,7 @@
 
 use crate::proved::file_inlines::CallInlining;
 use crate::proved::formatlint::rewrites::Rewritten;
-use crate::proved::inlined_arguments::Left;
+use crate::proved::inlined_arguments::Obstacle;
 
 /// The numbers of calls that are inlined, and of those that are left, by the reason.
 #[derive(Clone, Copy)]
@@ -52,18 +52,18 @@ fn count(number: &mut usize) {
 impl Inlinings {
     /// Counts a call that is left.
     #[inline]
-    fn add_left(&mut self, reason: Left) {
+    fn add_obstacle(&mut self, reason: Obstacle) {
         match reason {
-            Left::Uncounted => count(&mut self.uncounted),
-            Left::NoVariable => count(&mut self.no_variable),
-            Left::Mixed => count(&mut self.mixed),
-            Left::CapturesNone => count(&mut self.captures_none),
-            Left::Alone => count(&mut self.alone),
-            Left::ConstForm => count(&mut self.const_form),
-            Left::Comment => count(&mut self.comment),
-            Left::Faulty => count(&mut self.faulty),
-            Left::NoLiteral => count(&mut self.no_literal),
-            Left::OtherMeaning => count(&mut self.other_meaning),
+            Obstacle::Uncounted => count(&mut self.uncounted),
+            Obstacle::NoVariable => count(&mut self.no_variable),
+            Obstacle::Mixed => count(&mut self.mixed),
+            Obstacle::CapturesNone => count(&mut self.captures_none),
+            Obstacle::Alone => count(&mut self.alone),
+            Obstacle::ConstForm => count(&mut self.const_form),
+            Obstacle::Comment => count(&mut self.comment),
+            Obstacle::Faulty => count(&mut self.faulty),
+            Obstacle::NoLiteral => count(&mut self.no_literal),
+            Obstacle::OtherMeaning => count(&mut self.other_meaning),
         }
     }
 
@@ -74,7 +74,7 @@ impl Inlinings {
             match *call {
                 CallInlining::Inlined if file.has_inlines => count(&mut self.inlined),
                 CallInlining::Inlined => count(&mut self.spoiled),
-                CallInlining::Left(reason) => self.add_left(reason),
+                CallInlining::Unchanged(reason) => self.add_obstacle(reason),
                 CallInlining::Assembly => count(&mut self.assembly),
                 CallInlining::Unread(_) => {}
             }

@@ -59,7 +59,7 @@ pub struct Inlined {
 
 /// Why a call is left as it is.
 #[derive(Clone, Copy, Debug, PartialEq, Eq)]
-pub enum Left {
+pub enum Obstacle {
     /// How many arguments it has is not known.
     Uncounted,
     /// No argument is a variable.

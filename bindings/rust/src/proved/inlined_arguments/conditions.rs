@@ -3,7 +3,7 @@
 // Extracted from crates/inlined_arguments/src/conditions.rt by tools/extract: not to be edited.
 // That source has the contracts, and is proved. That this text means the same is only tested.
 
-use crate::proved::inlined_arguments::call::{Argument, Call, Left};
+use crate::proved::inlined_arguments::call::{Argument, Call, Obstacle};
 use crate::proved::inlined_arguments::variables::{has_comment, is_variable, split_first};
 
 /// Returns whether one of arguments is a variable.
@@ -41,18 +41,18 @@ fn have_comment(arguments: &[Argument<'_>]) -> bool {
 
 /// Returns the reason in its list of arguments why a call is left, or `None` if there is none.
 #[inline]
-fn list_condition(call: &Call<'_>, allows_mixed: bool) -> Option<Left> {
+fn list_condition(call: &Call<'_>, allows_mixed: bool) -> Option<Obstacle> {
     if !call.is_counted {
-        return Some(Left::Uncounted);
+        return Some(Obstacle::Uncounted);
     }
     if !has_variable(call.arguments) {
-        return Some(Left::NoVariable);
+        return Some(Obstacle::NoVariable);
     }
     if !allows_mixed && has_other(call.arguments) {
-        return Some(Left::Mixed);
+        return Some(Obstacle::Mixed);
     }
     if have_comment(call.arguments) {
-        return Some(Left::Comment);
+        return Some(Obstacle::Comment);
     }
     None
 }
@@ -71,15 +71,15 @@ fn is_bare(text: &str) -> bool {
 
 /// Returns the reason in its macro and its string why a call is left, or `None` if there is none.
 #[inline]
-fn string_condition(call: &Call<'_>) -> Option<Left> {
+fn string_condition(call: &Call<'_>) -> Option<Obstacle> {
     if !call.string.captures {
-        return Some(Left::CapturesNone);
+        return Some(Obstacle::CapturesNone);
     }
     if !call.is_format_alone && !has_other(call.arguments) {
-        return Some(Left::Alone);
+        return Some(Obstacle::Alone);
     }
     if call.has_const_form && is_bare(call.string.text) {
-        return Some(Left::ConstForm);
+        return Some(Obstacle::ConstForm);
     }
     None
 }
@@ -87,7 +87,7 @@ fn string_condition(call: &Call<'_>) -> Option<Left> {
 /// Returns the reason why a call is left that can be seen without reading its string, or `None` if
 /// there is none.
 #[inline]
-pub(crate) fn condition(call: &Call<'_>, allows_mixed: bool) -> Option<Left> {
+pub(crate) fn condition(call: &Call<'_>, allows_mixed: bool) -> Option<Obstacle> {
     match list_condition(call, allows_mixed) {
         Some(reason) => Some(reason),
         None => string_condition(call),

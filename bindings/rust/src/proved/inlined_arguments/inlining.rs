@@ -4,7 +4,7 @@
 // That source has the contracts, and is proved. That this text means the same is only tested.
 
 use crate::proved::call_faults::{FormatArgument, FormatString};
-use crate::proved::inlined_arguments::call::{Call, Inlined, Left};
+use crate::proved::inlined_arguments::call::{Call, Inlined, Obstacle};
 use crate::proved::inlined_arguments::conditions::condition;
 use crate::proved::inlined_arguments::edited::apply_edits;
 use crate::proved::inlined_arguments::edits::edits_of;
@@ -88,12 +88,12 @@ fn inline_with<'c>(
     call: Call<'c>,
     slots: &[Slot<'c>],
     arguments: &'c [FormatArgument<'c>],
-) -> Result<Result<Inlined, Left>, AllocError> {
+) -> Result<Result<Inlined, Obstacle>, AllocError> {
     let Some(snippet) = call.string.snippet else {
-        return Ok(Err(Left::NoLiteral));
+        return Ok(Err(Obstacle::NoLiteral));
     };
     let Some(pieces) = read(call.string, arguments)? else {
-        return Ok(Err(Left::Faulty));
+        return Ok(Err(Obstacle::Faulty));
     };
     let values = values_of(slots)?;
     let old = Meant {
@@ -102,10 +102,10 @@ fn inline_with<'c>(
     };
     let edits = edits_of(old)?;
     let Some(literal) = apply_edits(snippet, &edits)? else {
-        return Ok(Err(Left::OtherMeaning));
+        return Ok(Err(Obstacle::OtherMeaning));
     };
     if !keeps_meaning(call, old, &literal)? {
-        return Ok(Err(Left::OtherMeaning));
+        return Ok(Err(Obstacle::OtherMeaning));
     }
     let gone = variable_indices(call.arguments)?;
     Ok(Ok(Inlined {
@@ -124,7 +124,7 @@ fn inline_with<'c>(
 pub fn inline_arguments(
     call: Call<'_>,
     allows_mixed: bool,
-) -> Result<Result<Inlined, Left>, AllocError> {
+) -> Result<Result<Inlined, Obstacle>, AllocError> {
     if let Some(reason) = condition(&call, allows_mixed) {
         return Ok(Err(reason));
     }

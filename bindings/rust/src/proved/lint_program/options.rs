@@ -87,7 +87,7 @@ static OPTIONS: [Row; 24] = [
     Row {
         name: "stdin-path",
         value: Some("PATH"),
-        help: "The path of standard input in messages; without other paths, it is read",
+        help: "The path that messages give to standard input, which is read if no PATH is given",
         ..FLAG
     },
     Row {
@@ -114,7 +114,7 @@ static OPTIONS: [Row; 24] = [
     },
     Row {
         name: "stats",
-        help: "Say on standard error what was read, and what was not and why",
+        help: "Count on standard error the files, calls and strings that were read, and those that were not, with the reasons",
         ..FLAG
     },
     Row {
@@ -149,7 +149,7 @@ static OPTIONS: [Row; 24] = [
     },
     Row {
         name: "mixed",
-        help: "With --inline: also in calls with other arguments, which stay",
+        help: "With --inline: also in calls that have other arguments; these stay",
         needs: &["inline"],
         ..FLAG
     },
@@ -169,7 +169,7 @@ static OPTIONS: [Row; 24] = [
     },
     Row {
         name: "tokens",
-        help: "Print the tokens of the string, in colours or each in a line, and then the fault",
+        help: "Print the tokens of the string, in colours or each in a line; the fault goes to standard error",
         needs: &["string"],
         conflicts: &["fix"],
         ..FLAG
@@ -191,7 +191,7 @@ static OPTIONS: [Row; 24] = [
     Row {
         name: "args",
         value: Some("LIST"),
-        help: "With --list: name arguments, as in 2,w, and list those that are missing or unused",
+        help: "With --list: the arguments of the call, for example 2,w; list those that are missing or unused",
         needs: &["list"],
         ..FLAG
     },
@@ -215,7 +215,7 @@ static OPTIONS: [Row; 24] = [
     Row {
         name: "color",
         value: Some("WHEN"),
-        help: "Whether tokens and drawings have colours; auto: if standard output is a terminal that has them",
+        help: "Whether tokens and drawings have colours; auto: if standard output is a terminal with colours",
         values: &TIMES,
         default: Some("auto"),
         ..FLAG
@@ -285,7 +285,9 @@ pub fn command<'a>() -> Result<Command<'a>, AllocError> {
         .value_name("PATH")
         .num_args(0..)
         .action(ArgAction::Append)
-        .help("The files and folders to read; - is standard input; without one, this folder");
+        .help(
+            "The files and folders to read; - is standard input; the default is the current folder",
+        );
     let with_all = with_options(named.arg(path)?)?;
     let string = ArgGroup::new("string").arg("literal")?;
     let change = ArgGroup::new("change").arg("fix")?;

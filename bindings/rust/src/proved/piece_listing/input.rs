@@ -3,8 +3,8 @@
 // Extracted from crates/piece_listing/src/input.rt by tools/extract: not to be edited.
 // That source has the contracts, and is proved. That this text means the same is only tested.
 
+use super::arguments::GivenArguments;
 use super::calls::put_calls;
-use super::given::GivenArguments;
 use super::listing::put_faults;
 use super::literal::{literal_text, strip_newline, LiteralText};
 use super::report_lines::{has_entries, put_report, report_for};

@@ -5,9 +5,9 @@
 // That source has the contracts, and is proved. That this text means the same is only tested.
 
 #[cfg(feature = "std")]
-pub(crate) mod calls;
+pub(crate) mod arguments;
 #[cfg(feature = "std")]
-pub(crate) mod given;
+pub(crate) mod calls;
 #[cfg(feature = "std")]
 pub(crate) mod input;
 #[cfg(feature = "std")]

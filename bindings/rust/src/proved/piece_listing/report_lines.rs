@@ -3,7 +3,7 @@
 // Extracted from crates/piece_listing/src/report_lines.rt by tools/extract: not to be edited.
 // That source has the contracts, and is proved. That this text means the same is only tested.
 
-use super::given::{names, GivenArguments};
+use super::arguments::{names, GivenArguments};
 use super::listing::put_quoted;
 use super::numbers::put_number;
 use crate::proved::placeholder_check::{check_uses, Report, Uses};

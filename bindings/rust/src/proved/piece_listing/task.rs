@@ -3,7 +3,7 @@
 // Extracted from crates/piece_listing/src/task.rt by tools/extract: not to be edited.
 // That source has the contracts, and is proved. That this text means the same is only tested.
 
-use super::given::{given_by, GivenArguments};
+use super::arguments::{given_by, GivenArguments};
 use crate::proved::rustc_parse_format::ParseMode;
 use crate::shim::prelude::*;
 

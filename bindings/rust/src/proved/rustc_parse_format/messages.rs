@@ -6,9 +6,9 @@
 // Extracted from crates/rustc_parse_format/src/messages.rt by tools/extract: not to be edited.
 // That source has the contracts, and is proved. That this text means the same is only tested.
 
+use crate::proved::rustc_parse_format::escapes::put_written;
 use crate::proved::rustc_parse_format::faults::Fault;
 use crate::proved::rustc_parse_format::types::{ParseError, Suggestion};
-use crate::proved::rustc_parse_format::written::put_written;
 use crate::shim::alloc::AllocError;
 use crate::shim::prelude::*;
 use core::ops::Range;

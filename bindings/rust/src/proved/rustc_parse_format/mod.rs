@@ -27,6 +27,7 @@ pub(crate) mod characters;
 pub(crate) mod counts;
 pub(crate) mod cursor;
 pub(crate) mod error_list;
+pub(crate) mod escapes;
 pub(crate) mod fault_ids;
 pub(crate) mod faults;
 pub mod laws;
@@ -40,15 +41,14 @@ pub(crate) mod recover;
 pub(crate) mod source;
 pub(crate) mod specification;
 pub(crate) mod types;
-pub(crate) mod written;
 
 #[doc(hidden)]
 pub use blocks::{front_width, Stops};
+#[cfg(feature = "std")]
+#[doc(hidden)]
+pub use escapes::{put_all_written, put_written};
 pub use faults::Fault;
 pub use types::{
     Alignment, Argument, Count, DebugHex, FormatSpec, NextPiece, ParseError, ParseMode, Piece,
     PieceKind, Position, Sign, Suggestion,
 };
-#[cfg(feature = "std")]
-#[doc(hidden)]
-pub use written::{put_all_written, put_written};

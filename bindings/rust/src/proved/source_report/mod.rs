@@ -10,5 +10,6 @@ pub(crate) mod suggestions;
 
 pub use edited::mend_each;
 pub use report::{CallReading, Edit, Finding, Help, Label, Note, Options, Report};
+pub use suggestions::{are_after, edits_of};
 #[cfg(feature = "std")]
 pub use suggestions::{is_applicable, suggestion_of, LabelSuggestion};

@@ -6,7 +6,8 @@ use Rattle.call_faults.specs.Comparison.{means}
 use Rattle.call_faults.specs.Seen.{seen_lookup}
 use Rattle.call_faults.proofs.Comparing.{marked-next, means-below}
 use Rattle.text_faults.proofs.Marks.{or-none, set-length, set-marks}
-use Rattle.call_faults.proofs.comparison.marks.Goals.{in-Some+then-index-len, in-Some+else-index-len}
+use Rattle.call_faults.proofs.comparison.marks.Goals.{in-Some+then-index-len}
+use Rattle.call_faults.proofs.comparison.marks.Goals.{in-Some+else-index-len}
 use Rattle.call_faults.proofs.comparison.marks.Goals.{in_default}
 use Rattle.call_faults.proofs.comparison.marks.Goals as goal
 

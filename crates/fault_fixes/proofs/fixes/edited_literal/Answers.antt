@@ -11,7 +11,7 @@ returns-then-not-has_edits-clause-none c = λ some utf8.
     let e = literal_edits-are (seen_mode c.args.mode) (chars c.args.input.now) c.args.style _
     c.args.snippet.now c.args.appended_newline c.in_ok-parser.parser c.in_ok-parser.ensures.start
     c.in_ok-owned.ensures.ok in
-    let h : false ≡ c.in_ok-bytes.has_edits = cc in
+    let h : false ≡ c.in_ok-bytes.field-0.has_edits = cc in
     some (no-edits _ (h ∙ c.in_ok-bytes.ensures.some ∙ ap (λ es. not (is_empty es)) e))
 
 pub returns-clause-edits : goal.returns-clause-edits
@@ -19,7 +19,7 @@ returns-clause-edits c =
     let e = literal_edits-are (seen_mode c.args.mode) (chars c.args.input.now) c.args.style _
     c.args.snippet.now c.args.appended_newline c.in_ok-parser.parser c.in_ok-parser.ensures.start
     c.in_ok-owned.ensures.ok in
-    let h : true ≡ c.in_ok-bytes.has_edits = cc in
+    let h : true ≡ c.in_ok-bytes.field-0.has_edits = cc in
     if_some (λ s. some-edits _ (h ∙ c.in_ok-bytes.ensures.some
     ∙ ap (λ es. not (is_empty es)) e)) c.text_of.result
 

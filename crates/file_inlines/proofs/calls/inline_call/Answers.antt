@@ -28,8 +28,10 @@ returns-in-Some c =
     (map seen_edit c.unchanged_call-in-Some.result.edits.items))
     (sym c.in-Some.is ∙ (c.other_macro.ensures
     ∙ ap (λ v. skipped (scope c.args.file) c.args.call.now.rule
-    (slice_get v c.args.call.now.name)) c.tokens.ensures))
-    (c.unchanged_call-in-Some.ensures.reason, ap (map seen_edit) c.unchanged_call-in-Some.ensures.none)
+    (slice_get v c.args.call.now.name)) c.tokens.ensures)) (
+      c.unchanged_call-in-Some.ensures.reason,
+      ap (map seen_edit) c.unchanged_call-in-Some.ensures.none,
+    )
 
 pub returns-in_default-2 : goal.returns-in_default-2
 returns-in_default-2 c =
@@ -64,5 +66,7 @@ returns c =
     (slice_get v c.args.call.now.name)) c.tokens.ensures))
     (arguments-here c.args.part.now c.args.call.now c.in-Some-2.arguments.items
     c.as_slice-list.result.now a.0 c.as_slice-list.ensures.value c.requires.pair a.1 a.2)
-    c.in-Err.ensures.value
-    (c.unchanged_call-in-Err.ensures.reason, ap (map seen_edit) c.unchanged_call-in-Err.ensures.none)
+    c.in-Err.ensures.value (
+      c.unchanged_call-in-Err.ensures.reason,
+      ap (map seen_edit) c.unchanged_call-in-Err.ensures.none,
+    )

@@ -1,9 +1,9 @@
 //! The comparison of lookups with the arguments that count.
 
-// Extracted from crates/call_faults/src/compared.rt by tools/extract: not to be edited.
+// Extracted from crates/call_faults/src/comparison.rt by tools/extract: not to be edited.
 // That source has the contracts, and is proved. That this text means the same is only tested.
 
-use crate::proved::call_faults::arguments::{index_of, insert, Arguments, Kept};
+use crate::proved::call_faults::arguments::{index_of, insert, Arguments, Entry};
 use crate::proved::call_faults::faults::{CallFault, Missing, Part};
 use crate::proved::call_faults::lookups::{Lookup, Wanted};
 use crate::shim::alloc::AllocError;
@@ -64,9 +64,9 @@ fn references_from(count: usize, lookups: &[Lookup<'_>]) -> Result<Vec<Missing>,
 /// Returns the arguments that are not marked.
 #[inline]
 fn unmarked_arguments<'a>(
-    arguments: &[Kept<'a>],
+    arguments: &[Entry<'a>],
     marks: &[bool],
-) -> Result<Vec<Kept<'a>>, AllocError> {
+) -> Result<Vec<Entry<'a>>, AllocError> {
     let mut list = Vec::new();
     for entry in arguments {
         if !matches!(marks.get(entry.index), Some(true)) {
@@ -139,7 +139,7 @@ fn positions_of<'a>(lookups: &[Lookup<'a>]) -> Result<BTreeMap<&'a str, usize>, 
 
 /// Returns whether an argument has no name, and is a variable whose name a map has.
 #[inline]
-fn is_redundant<'a>(positions: &BTreeMap<&'a str, usize>, entry: &Kept<'a>) -> bool {
+fn is_redundant<'a>(positions: &BTreeMap<&'a str, usize>, entry: &Entry<'a>) -> bool {
     match (entry.argument.name, entry.argument.variable) {
         (None, Some(variable)) => index_of(positions, variable).is_some(),
         _ => false,
@@ -148,7 +148,10 @@ fn is_redundant<'a>(positions: &BTreeMap<&'a str, usize>, entry: &Kept<'a>) -> b
 
 /// Returns the indices of the redundant ones of arguments that no lookup means.
 #[inline]
-fn redundant_of<'a>(unused: &[Kept<'a>], lookups: &[Lookup<'a>]) -> Result<Vec<usize>, AllocError> {
+fn redundant_of<'a>(
+    unused: &[Entry<'a>],
+    lookups: &[Lookup<'a>],
+) -> Result<Vec<usize>, AllocError> {
     let mut redundant = Vec::new();
     if unused.is_empty() {
         return Ok(redundant);
@@ -164,7 +167,7 @@ fn redundant_of<'a>(unused: &[Kept<'a>], lookups: &[Lookup<'a>]) -> Result<Vec<u
 
 /// Returns the indices of arguments.
 #[inline]
-pub(crate) fn indices_of(arguments: &[Kept<'_>]) -> Result<Vec<usize>, AllocError> {
+pub(crate) fn indices_of(arguments: &[Entry<'_>]) -> Result<Vec<usize>, AllocError> {
     let mut indices = Vec::new();
     for entry in arguments {
         indices.try_push(entry.index)?;
@@ -176,7 +179,7 @@ pub(crate) fn indices_of(arguments: &[Kept<'_>]) -> Result<Vec<usize>, AllocErro
 #[inline]
 fn tell_unused<'a>(
     faults: &mut Vec<CallFault<'a>>,
-    unused: &[Kept<'a>],
+    unused: &[Entry<'a>],
     lookups: &[Lookup<'a>],
 ) -> Result<(), AllocError> {
     let redundant = redundant_of(unused, lookups)?;
@@ -193,7 +196,7 @@ fn tell_unused<'a>(
 
 /// Returns the fault of a lookup, if it means an argument with a name by its index.
 #[inline]
-fn by_index<'a>(arguments: &[Kept<'a>], lookup: &Lookup<'a>) -> Option<CallFault<'a>> {
+fn by_index<'a>(arguments: &[Entry<'a>], lookup: &Lookup<'a>) -> Option<CallFault<'a>> {
     match *lookup {
         Lookup::Refer(reference, Wanted::Index(n)) => match arguments.get(n) {
             Some(entry) if entry.argument.name.is_some() => Some(CallFault::NameUsedByIndex {
@@ -210,7 +213,7 @@ fn by_index<'a>(arguments: &[Kept<'a>], lookup: &Lookup<'a>) -> Option<CallFault
 #[inline]
 fn tell_by_index<'a>(
     faults: &mut Vec<CallFault<'a>>,
-    arguments: &[Kept<'a>],
+    arguments: &[Entry<'a>],
     lookups: &[Lookup<'a>],
 ) -> Result<(), AllocError> {
     for lookup in lookups {
@@ -232,7 +235,7 @@ fn tell_missing(faults: &mut Vec<CallFault<'_>>, missing: Vec<Missing>) -> Resul
 
 /// Returns whether neither a name is missing, nor an argument, nor is one unused.
 #[inline]
-fn is_settled(faults: &[CallFault<'_>], missing: &[Missing], unused: &[Kept<'_>]) -> bool {
+fn is_settled(faults: &[CallFault<'_>], missing: &[Missing], unused: &[Entry<'_>]) -> bool {
     !misses_name(faults) && missing.is_empty() && unused.is_empty()
 }
 

@@ -1,6 +1,6 @@
 //! The comparison of lookups with the operands.
 
-// Extracted from crates/asm_faults/src/compared.rt by tools/extract: not to be edited.
+// Extracted from crates/asm_faults/src/comparison.rt by tools/extract: not to be edited.
 // That source has the contracts, and is proved. That this text means the same is only tested.
 
 use crate::proved::asm_faults::faults::AsmFault;

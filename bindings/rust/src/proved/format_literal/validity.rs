@@ -1,6 +1,6 @@
 //! Whether a string literal can stand in a program.
 
-// Extracted from crates/format_literal/src/written.rt by tools/extract: not to be edited.
+// Extracted from crates/format_literal/src/validity.rt by tools/extract: not to be edited.
 // That source has the contracts, and is proved. That this text means the same is only tested.
 
 use crate::proved::rust_tokens::{first_token, split_first, Kind};

@@ -1,6 +1,6 @@
 //! Where arguments end, and whether their number is known.
 
-// Extracted from crates/format_calls/src/counted.rt by tools/extract: not to be edited.
+// Extracted from crates/format_calls/src/extents.rt by tools/extract: not to be edited.
 // That source has the contracts, and is proved. That this text means the same is only tested.
 
 use crate::proved::format_calls::marks::{is_mark, token_at};

@@ -1,6 +1,6 @@
 //! A list of arguments as a word: their number by position, and then names, each after a comma.
 
-// Extracted from crates/piece_listing/src/given.rt by tools/extract: not to be edited.
+// Extracted from crates/piece_listing/src/arguments.rt by tools/extract: not to be edited.
 // That source has the contracts, and is proved. That this text means the same is only tested.
 
 use crate::shim::alloc::AllocError;

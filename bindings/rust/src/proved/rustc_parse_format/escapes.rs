@@ -1,6 +1,6 @@
 //! How a character is written in an error message and in a quoted text.
 
-// Extracted from crates/rustc_parse_format/src/written.rt by tools/extract: not to be edited.
+// Extracted from crates/rustc_parse_format/src/escapes.rt by tools/extract: not to be edited.
 // That source has the contracts, and is proved. That this text means the same is only tested.
 
 use crate::proved::rustc_parse_format::characters::Class;

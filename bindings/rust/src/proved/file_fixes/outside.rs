@@ -1,0 +1,136 @@
+//! The tokens of a file that no edit touches.
+
+// Extracted from crates/file_fixes/src/outside.rt by tools/extract: not to be edited.
+// That source has the contracts, and is proved. That this text means the same is only tested.
+
+use crate::proved::fault_fixes::Edit;
+use crate::proved::rust_tokens::{tokens, Token};
+use crate::shim::alloc::AllocError;
+use crate::shim::prelude::*;
+
+/// A part of a text that an edit removes from it, or has put into it.
+#[derive(Clone, Copy)]
+struct EditedPart {
+    /// How many bytes stand between it and the part before it, or the start of the text.
+    gap: usize,
+    /// How many bytes it has.
+    width: usize,
+}
+
+/// A place among the parts of a text.
+#[derive(Clone, Copy)]
+struct PartsAhead {
+    /// Where the last part before it ends, or 0 if there is none.
+    end: usize,
+    /// How many bytes the parts before it have.
+    width: usize,
+    /// The index of the first part after it.
+    index: usize,
+}
+
+/// Returns the parts of a text that edits remove from it.
+#[inline]
+fn old_parts(edits: &[Edit<'_>]) -> Result<Vec<EditedPart>, AllocError> {
+    let mut parts = Vec::new();
+    let mut end = 0;
+    for edit in edits {
+        parts.try_push(EditedPart {
+            gap: edit.span.start.saturating_sub(end),
+            width: edit.span.end.saturating_sub(edit.span.start),
+        })?;
+        end = edit.span.end;
+    }
+    Ok(parts)
+}
+
+/// Returns the parts of the edited text that stand in their place.
+#[inline]
+fn new_parts(edits: &[Edit<'_>]) -> Result<Vec<EditedPart>, AllocError> {
+    let mut parts = Vec::new();
+    let mut end = 0;
+    for edit in edits {
+        parts.try_push(EditedPart {
+            gap: edit.span.start.saturating_sub(end),
+            width: edit.text.len(),
+        })?;
+        end = edit.span.end;
+    }
+    Ok(parts)
+}
+
+/// Returns whether a part ends by the offset `at`. The part before it ends at `end`.
+#[inline]
+fn ends_by(at: usize, end: usize, part: EditedPart) -> bool {
+    end <= at && part.gap <= at - end && part.width <= at - end - part.gap
+}
+
+/// Returns the place in front of the first part that does not end by the offset `at`, or the one it
+/// is at if that is further on.
+#[inline]
+fn ahead_of(at: usize, from: PartsAhead, parts: &[EditedPart]) -> PartsAhead {
+    let mut ahead = from;
+    while let Some(part) = parts.get(ahead.index) {
+        if !ends_by(at, ahead.end, *part) {
+            return ahead;
+        }
+        ahead.end += part.gap + part.width;
+        ahead.width += part.width;
+        ahead.index += 1;
+    }
+    ahead
+}
+
+/// Returns whether no part that is ahead starts before the offset `at`.
+#[inline]
+fn is_before(at: usize, ahead: PartsAhead, parts: &[EditedPart]) -> bool {
+    match parts.get(ahead.index) {
+        Some(part) => at.saturating_sub(ahead.end) <= part.gap,
+        None => true,
+    }
+}
+
+/// Returns a token n bytes further in front.
+#[inline]
+fn moved_up(n: usize, token: &Token) -> Token {
+    Token {
+        kind: token.kind,
+        span: token.span.start.saturating_sub(n)..token.span.end.saturating_sub(n),
+        suffix_start: token.suffix_start.saturating_sub(n),
+        is_ended: token.is_ended,
+    }
+}
+
+/// Returns those tokens of a text that no part touches, at the places that they have in the text
+/// without the parts.
+#[inline]
+fn outside(parts: &[EditedPart], tokens: &[Token]) -> Result<Vec<Token>, AllocError> {
+    let mut others = Vec::new();
+    let mut ahead = PartsAhead {
+        end: 0,
+        width: 0,
+        index: 0,
+    };
+    for token in tokens {
+        ahead = ahead_of(token.span.start, ahead, parts);
+        if is_before(token.span.end, ahead, parts) {
+            others.try_push(moved_up(ahead.width, token))?;
+        }
+    }
+    Ok(others)
+}
+
+/// Returns whether two lists have the same tokens.
+#[inline]
+fn are_same(old: &[Token], new: &[Token]) -> bool {
+    old == new
+}
+
+/// Returns whether the tokens that no edit touches are the same in a text and in the edited text.
+#[inline]
+pub(crate) fn keeps_tokens(old: &str, edits: &[Edit<'_>], new: &str) -> Result<bool, AllocError> {
+    let old_tokens = tokens(old)?;
+    let new_tokens = tokens(new)?;
+    let old_others = outside(old_parts(edits)?.as_slice(), old_tokens.as_slice())?;
+    let new_others = outside(new_parts(edits)?.as_slice(), new_tokens.as_slice())?;
+    Ok(are_same(old_others.as_slice(), new_others.as_slice()))
+}
