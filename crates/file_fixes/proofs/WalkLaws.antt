@@ -1,7 +1,7 @@
 -- The walk over the tokens and the edits of a text finds the tokens that no edit touches.
 use Rattle.std.proofs.Common.{◌≡◌, ◌∙◌, ◌+◌, ◌-◌, ◌++◌, ◌∷◌, ◌≤◌, ◌<◌, ◌&&◌, ◌||◌, ℕ, Bool}
-use Rattle.std.proofs.Common.{List, [], ap, arith, cond, false, filter, if◌then◌else◌, length, map, nat_le, refl}
-use Rattle.std.proofs.Common.{sym, true}
+use Rattle.std.proofs.Common.{List, [], ap, arith, cond, false, filter, if◌then◌else◌, length, map}
+use Rattle.std.proofs.Common.{nat_le, refl, sym, true}
 use Rattle.std.specs.List.{list_all}
 use Rattle.std.specs.declared.ops.Range.{Range}
 use Rattle.std.proofs.lemmas.Bool.{cond_both, le-leb, leb-false, leb-true, lt-leb}
