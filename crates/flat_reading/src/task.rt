@@ -99,14 +99,13 @@ pub fn task_of<'a>(input: &'a [u8], snippet: &'a [u8], options: &Options) -> Res
         };
         Some(snippet)
     };
-    let style = style_of(options);
-    if style.unwrap_or(0) > LIMIT || input.len() > LIMIT {
+    if input.len() > LIMIT || options.is_raw != 0 && options.hashes > LIMIT {
         return Err(TOO_LONG);
     }
     Ok(Task {
         mode,
         input: text,
-        style,
+        style: style_of(options),
         snippet,
         appended_newline: options.appended_newline != 0,
         peeks: options.peeks != 0,
