@@ -152,6 +152,7 @@ fn put_error(texts: &mut [u8], size: &mut usize, error: &ParseError, step: usize
 
 /// Writes the records of the errors and their texts as `put_errors` does. It is no part of that
 /// function, which is inlined, so that an input without errors takes no room for a record.
+#[cold]
 #[inline(never)]
 fn put_records(
     errors: &[ParseError],

@@ -289,6 +289,7 @@ impl<'a> Walker<'a> {
 
     /// Makes the call with this number, whose step does not fit. Returns the byte offset up to
     /// which the input is then read, or `Err` if an allocation fails.
+    #[cold]
     #[inline(never)]
     fn step_unwritten(
         &mut self,
