@@ -154,7 +154,7 @@ fn read_by<'a>(
         faults: errors.len(),
         texts: put_errors(errors, &walker.finders, faults, texts),
         lines: spans.len(),
-        fronts: walker.finders.fronts(),
+        front_faults: walker.finders.fronts(),
         is_source_literal,
         peek,
         peek_ahead,
