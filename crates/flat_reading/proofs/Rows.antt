@@ -60,7 +60,14 @@ unfolding spec_at
 beyond-is_no_spec = refl
 
 mode-is_refused : refusal [] []
-    (record { mode = 4; is_raw = 0; hashes = 0; has_snippet = 0; appended_newline = 0; wants_peeks = 0 })
+    (record {
+      mode = 4;
+      is_raw = 0;
+      hashes = 0;
+      has_snippet = 0;
+      appended_newline = 0;
+      wants_peeks = 0;
+    })
     ≡ Some 5
 mode-is_refused = refl
 

@@ -23,7 +23,8 @@ HoldsMaybe texts r (Some t) = (r.is_present ≡ 1) × Holds texts r.start r.end 
 -- The two ranges hold the text of a second label and its place, or there is no second label.
 abbrev pub HoldsSecond : List ℕ → MaybeExtent → Extent → Option (List ℕ × Place) → Type 0
 HoldsSecond texts r s None = r.is_present ≡ 0
-HoldsSecond texts r s (Some x) = (r.is_present ≡ 1) × Holds texts r.start r.end x.0 × (place s ≡ x.1)
+HoldsSecond texts r s (Some x) = (r.is_present ≡ 1) × Holds texts r.start r.end x.0
+    × (place s ≡ x.1)
 
 -- The kind, the span and the text in a record are those of the suggestion.
 abbrev pub HoldsSuggestion : List ℕ → ℕ → Extent → Extent → Suggestion Place → Type 0
@@ -91,8 +92,8 @@ texts_len ms = sum_by message_len ms
 abbrev pub Extends : List ℕ → List ℕ → Type 0
 Extends xs ys = (more : List ℕ) × (ys ≡ xs ++ more)
 
--- Bytes were written from the offset `start` to the offset `end`: those before `start` are unchanged
--- if there was room, and those after `end` are unchanged.
+-- Bytes were written from the offset `start` to the offset `end`: those before `start` are
+-- unchanged if there was room, and those after `end` are unchanged.
 pub record Grows (old new : List ℕ) (start end : ℕ) : Type 0 where
   pub forward : start ≤ end
   pub front : end ≤ length old → Extends (take start old) (take end new)

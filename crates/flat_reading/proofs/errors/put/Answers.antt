@@ -10,7 +10,8 @@ returns-then-end-texts-clause-grows c =
     let size : length c.copy_from_slice.new.self ≡ c.saturating_add-end.result - c.args.size.now =
     c.copy_from_slice.ensures.len
     ∙ length-take-le _ _ (omega (arith, length-drop c.args.size.now c.args.texts.now)) in
-    put_grows c.args.texts.now c.copy_from_slice.new.self c.args.size.now c.saturating_add-end.result
+    put_grows c.args.texts.now c.copy_from_slice.new.self c.args.size.now
+    c.saturating_add-end.result
     forward fit size
 
 pub returns-then-end-texts-clause-holds : goal.returns-then-end-texts-clause-holds

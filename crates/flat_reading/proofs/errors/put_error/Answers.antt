@@ -49,7 +49,8 @@ returns c =
               a3,
             ))) (c.put-label.ensures.holds (omega (arith, a1, a2))));
         span = c.extent.ensures;
-        second = HoldsSecond-grow _ _ c.put_second-second.result.label c.put_second-second.result.span _
+        second = HoldsSecond-grow _ _ c.put_second-second.result.label
+            c.put_second-second.result.span _
             (after_four.front (omega (
               arith,
               a1,
