@@ -278,6 +278,10 @@ pub fn put_shown(
     if text.len() >= 1 << 59 {
         return Err(AllocError);
     }
+    let (front, rest) = split_printable(text, text.len());
+    if window.left == 0 && rest.is_empty() && front.len() <= window.room {
+        return Ok(out.push_str(front)?);
+    }
     let is_wide = columns(text).saturating_sub(window.left) > window.room;
     if window.left == 0 && !is_wide {
         return Ok(put_glyphs(out, text, 0)?);
