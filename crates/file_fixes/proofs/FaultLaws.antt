@@ -1,8 +1,7 @@
 -- The faults that are not mended, and those that come in their place.
-use Rattle.std.proofs.Common.{◌≡◌, ◌∙◌, ◌⊎◌, ◌↔◌, ◌&&◌, ◌+◌, ◌≤◌, ℕ, Bool, IsTrue, true, false}
-use Rattle.std.proofs.Common.{List, [], ◌∷◌}
-use Rattle.std.proofs.Common.{ap, arith, cond, if◌then◌else◌, inl, inr, length, map, refl, subst, sym}
-use Rattle.std.proofs.Common.{string_bytes}
+use Rattle.std.proofs.Common.{◌≡◌, ◌∙◌, ◌↔◌, ◌+◌, ◌≤◌, ℕ, Bool, IsTrue, true, false, List, [], ◌∷◌}
+use Rattle.std.proofs.Common.{ap, arith, if◌then◌else◌, inl, inr, length, map, refl, string_bytes}
+use Rattle.std.proofs.Common.{subst, sym}
 use Rattle.std.specs.Bool.{Decides}
 use Rattle.std.proofs.lemmas.Bool.{cond_both}
 use Rattle.std.proofs.lemmas.Bool.Decides.{Decides-and, Decides-like}
@@ -133,8 +132,8 @@ found-stay : (xs ys : List Finding) → FaultsStay xs ys
     → (length ys ≤ length xs) × (are_found (unmended 0 xs) ys ≡ true)
 found-stay xs ys s =
     let whole = either-way 0 xs in
-    let parts = merged-length (map fault_name (unmended 0 xs)) s.others (map fault_name ys) s.are_all
-    in
+    let parts =
+    merged-length (map fault_name (unmended 0 xs)) s.others (map fault_name ys) s.are_all in
     let olds = length-map (unmended 0 xs) fault_name in
     let news = length-map ys fault_name in
     let few = s.few in (

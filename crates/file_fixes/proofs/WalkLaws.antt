@@ -1,17 +1,17 @@
 -- The walk over the tokens and the edits of a text finds the tokens that no edit touches.
 use Rattle.std.proofs.Common.{◌≡◌, ◌∙◌, ◌+◌, ◌-◌, ◌++◌, ◌∷◌, ◌≤◌, ◌<◌, ◌&&◌, ◌||◌, ℕ, Bool}
-use Rattle.std.proofs.Common.{List, [], ap, arith, cond, false, filter, if◌then◌else◌, length, map, nat_le, refl}
-use Rattle.std.proofs.Common.{sym, true}
+use Rattle.std.proofs.Common.{List, [], ap, arith, false, filter, if◌then◌else◌, length, map}
+use Rattle.std.proofs.Common.{nat_le, refl, sym, true}
 use Rattle.std.specs.List.{list_all}
 use Rattle.std.specs.declared.ops.Range.{Range}
 use Rattle.std.proofs.lemmas.Bool.{cond_both, le-leb, leb-false, leb-true, lt-leb}
 use Rattle.fault_fixes.specs.Edits.{Edit}
-use Rattle.rust_tokens.specs.Placed.{byte_length, end_of, placed}
+use Rattle.rust_tokens.specs.Placed.{end_of, placed}
 use Rattle.rust_tokens.specs.Tokens.{Lexeme}
 use Rattle.rust_tokens.specs.declared.kinds.Token.{Token}
 use Rattle.source_report.specs.Suggestions.{are_after}
 use Rattle.file_fixes.specs.declared.outside.EditedPart.{EditedPart}
-use Rattle.file_fixes.specs.Outside.{KeepsTokens, is_apart, moved_up, new_ranges, old_ranges}
+use Rattle.file_fixes.specs.Outside.{is_apart, moved_up, new_ranges, old_ranges}
 use Rattle.file_fixes.specs.Outside.{outside, width_before}
 use Rattle.file_fixes.specs.Walk.{Ahead, ahead_of, from_start, is_before, new_parts, old_parts}
 use Rattle.file_fixes.specs.Walk.{walk}

@@ -1,7 +1,7 @@
 //! The tokens of a file that no edit touches.
 
-ghost use Rattle.std.specs.Prelude.{◌≡◌, ◌≤◌, ◌+◌, ◌↔◌, IfOk, IsTrue, List, chars, drop, length};
-ghost use Rattle.std.specs.Prelude.{map, nat_le};
+ghost use Rattle.std.specs.Prelude.{◌≡◌, ◌≤◌, ◌+◌, ◌↔◌, IfOk, IsTrue, List, chars, drop, map};
+ghost use Rattle.std.specs.Prelude.{nat_le};
 ghost use Rattle.fault_fixes.specs.SeenEdits.{seen_edit};
 ghost use Rattle.rust_tokens.specs.Files.{ReadsFile};
 ghost use Rattle.rust_tokens.specs.Placed.{placed};

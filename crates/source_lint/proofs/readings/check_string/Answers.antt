@@ -13,5 +13,6 @@ returns-clause-outcome c =
       subst (λ v. AreFindings c.args.is_counted v t.0)
           (call-same (start c.args.string) c.in_ok-checked.checked
           (map seen_given c.args.arguments.now) c.args.string.captures
-          (ap (λ v. map seen_given v.now) k.arguments) k.kept k.walk.0 k.counts k.walk.1 k.faults) t.2,
+          (ap (λ v. map seen_given v.now) k.arguments) k.kept k.walk.0 k.counts k.walk.1 k.faults)
+          t.2,
     )
