@@ -1,5 +1,6 @@
 -- Lemmas on the columns of texts, and on their parts.
-use Rattle.std.proofs.Common.{◌≡◌, ℕ, ◌+◌, ◌-◌, ◌≤◌, Bool, true, false, zero, suc, List, [], ◌∷◌, ◌++◌}
+use Rattle.std.proofs.Common.{◌≡◌, ℕ, ◌+◌, ◌-◌, ◌≤◌, Bool, true, false, zero, suc, List, []}
+use Rattle.std.proofs.Common.{◌∷◌, ◌++◌}
 use Rattle.std.proofs.Common.{◌∙◌, ap, arith, chars, cond, encode_utf8_all, length, nat_lt, refl}
 use Rattle.std.proofs.Common.{replicate, IsUtf8}
 use Rattle.std.specs.Prelude.{◌==◌, ◌||◌, if◌then◌else◌}
