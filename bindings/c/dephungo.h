@@ -26,15 +26,15 @@ extern "C" {
 
 /* a byte range, of the input, the source or the texts */
 typedef struct dephungo_range {
-    size_t from; /* the byte offset of its start */
-    size_t to;   /* the byte offset of its end, which is excluded */
+    size_t start; /* the byte offset of its start */
+    size_t end;   /* the byte offset of its end, which is excluded */
 } dephungo_range;
 
 /* a byte range, or none */
 typedef struct dephungo_maybe_range {
     size_t is_present; /* 0 if there is no range */
-    size_t from;       /* the byte offset of its start */
-    size_t to;         /* the byte offset of its end, which is excluded */
+    size_t start;      /* the byte offset of its start */
+    size_t end;        /* the byte offset of its end, which is excluded */
 } dephungo_maybe_range;
 
 /* the kind of text that the input is, as ParseMode of rustc_parse_format */
@@ -52,7 +52,7 @@ typedef struct dephungo_options {
     size_t hashes;             /* the number of hashes of a raw literal */
     uint32_t has_snippet;      /* not 0 if there is a snippet: the source text that the input should come from */
     uint32_t appended_newline; /* not 0 if a newline was appended to the input that is not in the snippet */
-    uint32_t peeks;            /* not 0 to fill in peek and peek_ahead; otherwise each of them is none */
+    uint32_t wants_peeks;      /* not 0 to fill in peek and peek_ahead; otherwise each of them is none */
 } dephungo_options;
 
 /* the kind of a width or a precision */
@@ -149,11 +149,11 @@ typedef struct dephungo_step {
     dephungo_range position_span;    /* ARGUMENT: the byte range of its position in the source */
     size_t spec;                     /* ARGUMENT: n for record n of specs, from 1, or 0 for the default one, which has none */
     dephungo_maybe_range place;      /* the byte range of the placeholder that the call closed; none without a source literal */
-    size_t read;                     /* the byte offset in the input up to which it is read after the call */
-    size_t next;                     /* the index of the next implicit argument after the call */
+    size_t offset;                   /* the byte offset in the input up to which it is read after the call */
+    size_t next_index;               /* the index of the next implicit argument after the call */
     size_t lines;                    /* the number of lines after the call */
-    dephungo_maybe_range peek;       /* the byte range of the next character in the source, if peeks is set */
-    dephungo_maybe_range peek_ahead; /* the byte range in the source of the character after that, if peeks is set */
+    dephungo_maybe_range peek;       /* the byte range of the next character in the source, if wants_peeks is set */
+    dephungo_maybe_range peek_ahead; /* the byte range in the source of the character after that, if wants_peeks is set */
 } dephungo_step;
 
 /* the suggestion of a fault, as Suggestion of rustc_parse_format */
@@ -187,10 +187,10 @@ typedef struct dephungo_answer {
     size_t faults;                   /* the number of faults, in the order of the parser's list of errors */
     size_t texts;                    /* the number of bytes of the texts of the faults */
     size_t lines;                    /* the number of lines of a source literal, each without its newline and its indent */
-    size_t fronts;                   /* the number of faults that were put at the front of the list when found: they come first */
+    size_t front_faults;             /* the number of faults that were put at the front of the list when found: they come first */
     uint32_t is_source_literal;      /* not 0 if the snippet is the source literal of the input */
-    dephungo_maybe_range peek;       /* the byte range of the first character in the source, if peeks is set */
-    dephungo_maybe_range peek_ahead; /* the byte range of the second character in the source, if peeks is set */
+    dephungo_maybe_range peek;       /* the byte range of the first character in the source, if wants_peeks is set */
+    dephungo_maybe_range peek_ahead; /* the byte range of the second character in the source, if wants_peeks is set */
 } dephungo_answer;
 
 /* the return values of dephungo_read */

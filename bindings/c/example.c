@@ -18,17 +18,17 @@ int main(int argc, char **argv) {
     if (code != DEPHUNGO_DONE) return fprintf(stderr, "code %u\n", (unsigned)code), 2;
     for (size_t i = 0; i < answer.steps; i++) {
         dephungo_step *s = &steps[i];
-        int length = (int)(s->text.to - s->text.from);
-        if (s->kind == DEPHUNGO_PIECE_TEXT) printf("text \"%.*s\"\n", length, input + s->text.from);
+        int length = (int)(s->text.end - s->text.start);
+        if (s->kind == DEPHUNGO_PIECE_TEXT) printf("text \"%.*s\"\n", length, input + s->text.start);
         if (s->kind != DEPHUNGO_PIECE_ARGUMENT) continue;
-        if (s->position == DEPHUNGO_POSITION_NAMED) printf("argument %.*s", length, input + s->text.from);
+        if (s->position == DEPHUNGO_POSITION_NAMED) printf("argument %.*s", length, input + s->text.start);
         else printf("argument %zu", s->number);
         if (s->spec && specs[s->spec - 1].width.kind == DEPHUNGO_COUNT_IS) printf(" width %zu", specs[s->spec - 1].width.number);
-        printf(" at %zu..%zu\n", s->position_span.from, s->position_span.to);
+        printf(" at %zu..%zu\n", s->position_span.start, s->position_span.end);
     }
     for (size_t i = 0; i < answer.faults; i++) {
         dephungo_range d = faults[i].description, at = faults[i].span;
-        printf("fault at %zu..%zu: %.*s\n", at.from, at.to, (int)(d.to - d.from), (const char *)texts + d.from);
+        printf("fault at %zu..%zu: %.*s\n", at.start, at.end, (int)(d.end - d.start), (const char *)texts + d.start);
     }
     return answer.faults != 0;
 }

@@ -53,7 +53,7 @@ int main(int argc, char **argv) {
         std::cerr << "code " << found.code << '\n';
         return 2;
     }
-    const auto cut = [&](const dephungo_range &range) { return input.substr(range.from, range.to - range.from); };
+    const auto cut = [&](const dephungo_range &range) { return input.substr(range.start, range.end - range.start); };
     for (std::size_t at = 0; at < found.answer.steps; at++) {
         const dephungo_step &step = found.steps[at];
         if (step.kind == DEPHUNGO_PIECE_TEXT) {
@@ -68,14 +68,14 @@ int main(int argc, char **argv) {
             if (step.spec && found.specs[step.spec - 1].width.kind == DEPHUNGO_COUNT_IS) {
                 std::cout << " width " << found.specs[step.spec - 1].width.number;
             }
-            std::cout << " at " << step.position_span.from << ".." << step.position_span.to << '\n';
+            std::cout << " at " << step.position_span.start << ".." << step.position_span.end << '\n';
         }
     }
     for (std::size_t at = 0; at < found.answer.faults; at++) {
         const dephungo_fault &fault = found.faults[at];
         const dephungo_range &text = fault.description;
-        std::cout << "fault at " << fault.span.from << ".." << fault.span.to << ": "
-                  << found.texts.substr(text.from, text.to - text.from) << '\n';
+        std::cout << "fault at " << fault.span.start << ".." << fault.span.end << ": "
+                  << found.texts.substr(text.start, text.end - text.start) << '\n';
     }
     return found.answer.faults != 0;
 }

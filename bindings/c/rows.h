@@ -10,10 +10,10 @@ typedef struct {
 static const row rows[] = {
     {"", "", {.mode = DEPHUNGO_MODE_FORMAT}},
     {"plain text, no snippet", "", {.mode = DEPHUNGO_MODE_FORMAT}},
-    {"a{n:>w$.*x?}{}}{_:99999$}{", "", {.mode = DEPHUNGO_MODE_FORMAT, .peeks = 1}},
+    {"a{n:>w$.*x?}{}}{_:99999$}{", "", {.mode = DEPHUNGO_MODE_FORMAT, .wants_peeks = 1}},
     {"{r#a}{a.b}{:?#}{a?}{a+}{a,}{a=}{a<}{:}>", "", {.mode = DEPHUNGO_MODE_FORMAT}},
     {"a{n}", "\"other\"", {.mode = DEPHUNGO_MODE_FORMAT, .has_snippet = 1}},
-    {"a{n:w$}\n  {}{:.*}}", "\"a{n:w$}\\n  \\x7b}{:.\\u{2a}}}\"", {.mode = DEPHUNGO_MODE_FORMAT, .has_snippet = 1, .peeks = 1}},
+    {"a{n:w$}\n  {}{:.*}}", "\"a{n:w$}\\n  \\x7b}{:.\\u{2a}}}\"", {.mode = DEPHUNGO_MODE_FORMAT, .has_snippet = 1, .wants_peeks = 1}},
     {"{_}\n{r#a}{a?}{", "\"{_}\\\n   \\n{r#a}{a?}{\"", {.mode = DEPHUNGO_MODE_FORMAT, .has_snippet = 1}},
     {"a\nb{x}\n", "r#\"a\nb{x}\"#", {.is_raw = 1, .hashes = 1, .has_snippet = 1, .appended_newline = 1}},
     {"mov {0:e}, {_}\n", "\"mov {0:e}, {_}\\n\"", {.mode = DEPHUNGO_MODE_INLINE_ASM, .has_snippet = 1}},

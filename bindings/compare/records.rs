@@ -13,11 +13,11 @@ use std::ops::Range;
 seen_by!(ours, dephungo);
 
 fn range(at: Extent) -> Range<usize> {
-    at.from..at.to
+    at.start..at.end
 }
 
 fn maybe(at: MaybeExtent) -> Option<Range<usize>> {
-    (at.is_present != 0).then_some(at.from..at.to)
+    (at.is_present != 0).then_some(at.start..at.end)
 }
 
 /// The meaning of a number.
@@ -123,7 +123,7 @@ fn read(case: &Case, peeks: bool) -> Buffers {
         hashes: case.style.unwrap_or(0),
         has_snippet: case.snippet.is_some().into(),
         appended_newline: case.newline.into(),
-        peeks: peeks.into(),
+        wants_peeks: peeks.into(),
     };
     let snippet = case.snippet.as_deref().unwrap_or("");
     let mut buffers = Buffers::with_room(blank());
@@ -139,7 +139,7 @@ fn compare(case: &Case, random: &mut Random) -> usize {
     same_as_its_literal(case);
     let has_peeks = random.one_in(2);
     let Buffers { steps, specs, faults, texts, lines, answer } = read(case, has_peeks);
-    let (fronts, backs) = faults.split_at(answer.fronts);
+    let (fronts, backs) = faults.split_at(answer.front_faults);
     assert!(fronts.windows(2).all(|two| two[0].step >= two[1].step), "fronts of {case:?}");
     assert!(backs.windows(2).all(|two| two[0].step <= two[1].step), "backs of {case:?}");
     let mut parser = ours::parser(case);
@@ -150,14 +150,14 @@ fn compare(case: &Case, random: &mut Random) -> usize {
     let (mut more, mut since) = (0, 0);
     let end = steps.len() - 1;
     for number in 0..=end + 3 {
-        let rest = &case.input[last.read..];
-        let mut rest = rest.char_indices().map(|(at, c)| (last.read + at, c));
+        let rest = &case.input[last.offset..];
+        let mut rest = rest.char_indices().map(|(at, c)| (last.offset + at, c));
         for (told, seen) in [(last.peek, parser.peek()), (last.peek_ahead, parser.peek_ahead())] {
             let (place, next) = seen.map(|(place, at, c)| (place, (at, c))).unzip();
             assert_eq!(rest.next(), next, "peek {number} of {case:?}");
             assert_eq!(maybe(told), place.filter(|_| has_peeks), "peek {number} of {case:?}");
         }
-        assert_eq!(parser.curarg, last.next.wrapping_add(more), "curarg {number} of {case:?}");
+        assert_eq!(parser.curarg, last.next_index.wrapping_add(more), "curarg {number} of {case:?}");
         assert_eq!(parser.arg_places, places, "arg_places {number} of {case:?}");
         assert_eq!(parser.line_spans, known_lines, "line_spans {number} of {case:?}");
         let is_kept = |it: &&Fault| since <= it.step && it.step < number;
@@ -165,7 +165,7 @@ fn compare(case: &Case, random: &mut Random) -> usize {
         let [told, seen] = [&told, &parser.errors].map(|it| it.iter().map(ours::error));
         assert!(told.eq(seen), "errors {number} of {case:?}");
         match random.below(24) {
-            0 => (parser.curarg, more) = (7, 7_usize.wrapping_sub(last.next)),
+            0 => (parser.curarg, more) = (7, 7_usize.wrapping_sub(last.next_index)),
             1 => (parser.errors, since) = (vec![], number),
             2 if random.one_in(8) => parser.is_source_literal = false,
             _ => {}

@@ -179,12 +179,12 @@ pub fn lint_each(
     Ok(())
 }
 
-const NO_EXTENT: Extent = Extent { from: 0, to: 0 };
+const NO_EXTENT: Extent = Extent { start: 0, end: 0 };
 
 const NO_PLACE: MaybeExtent = MaybeExtent {
     is_present: 0,
-    from: 0,
-    to: 0,
+    start: 0,
+    end: 0,
 };
 
 const NO_COUNT: CountRecord = CountRecord {
@@ -219,8 +219,8 @@ const NO_STEP: Step = Step {
     position_span: NO_EXTENT,
     spec: 0,
     place: NO_PLACE,
-    read: 0,
-    next: 0,
+    offset: 0,
+    next_index: 0,
     lines: 0,
     peek: NO_PLACE,
     peek_ahead: NO_PLACE,
@@ -245,7 +245,7 @@ const NO_ANSWER: Answer = Answer {
     faults: 0,
     texts: 0,
     lines: 0,
-    fronts: 0,
+    front_faults: 0,
     is_source_literal: 0,
     peek: NO_PLACE,
     peek_ahead: NO_PLACE,
@@ -274,8 +274,8 @@ fn make_buffers(alloc: Global) -> Result<Buffers, AllocError> {
 
 /// Adds a byte range.
 fn add_extent(digest: &mut Digest, extent: &Extent) {
-    digest.add_size(extent.from);
-    digest.add_size(extent.to);
+    digest.add_size(extent.start);
+    digest.add_size(extent.end);
 }
 
 /// Adds the records that a call has written.
@@ -287,8 +287,8 @@ fn add_records(digest: &mut Digest, buffers: &Buffers, answer: &Answer) {
         digest.add_size(step.number);
         add_extent(digest, &step.text);
         add_extent(digest, &step.position_span);
-        digest.add_size(step.place.to);
-        digest.add_size(step.read);
+        digest.add_size(step.place.end);
+        digest.add_size(step.offset);
     }
     for spec in buffers.specs.iter().take(answer.specs) {
         digest.add(u64::from(spec.fill));
@@ -297,7 +297,7 @@ fn add_records(digest: &mut Digest, buffers: &Buffers, answer: &Answer) {
         digest.add_size(spec.width.number);
         add_extent(digest, &spec.width.name);
         digest.add_size(spec.precision.number);
-        digest.add_size(spec.precision_span.to);
+        digest.add_size(spec.precision_span.end);
     }
     for fault in buffers.faults.iter().take(answer.faults) {
         add_extent(digest, &fault.description);

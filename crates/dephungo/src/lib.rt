@@ -50,10 +50,10 @@ pub extern "C" fn dephungo_read(
     // The answer has the lengths of all results; they are written if they fit, which the code
     // says; the records past these lengths in a buffer are unchanged.
     ensures counted { result < 2 → (m : Mode) → mode_meant options.now.mode ≡ Some m
-        → IsCounted (is_set options.now.peeks)
+        → IsCounted (is_set options.now.wants_peeks)
         (begun m options.now input.now snippet.now) answer.new }
     ensures described { result ≡ DONE → (m : Mode) → mode_meant options.now.mode ≡ Some m
-        → IsDescribed (is_set options.now.peeks)
+        → IsDescribed (is_set options.now.wants_peeks)
         (begun m options.now input.now snippet.now) input.now
         (buffers steps.new specs.new faults.new texts.new lines.new) answer.new }
     ensures done { result ≡ DONE

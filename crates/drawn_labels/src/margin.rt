@@ -48,10 +48,43 @@ fn line_columns(source: &str, number: usize) -> usize
     columns(line(source, number))
 }
 
+/// A line of the source, and how many columns it has.
+#[derive(Clone, Copy)]
+struct Measured {
+    line: usize,
+    columns: usize,
+}
+
+/// Returns the line in which a label begins.
+fn start_line(source: &str, label: &Label<'_>) -> Measured
+    requires { length source.now < 2 ^ 59 }
+    ensures { result.columns ≡ line_columns source.now result.line }
+{
+    let line = label.extent.start.line;
+    Measured {
+        line,
+        columns: line_columns(source, line),
+    }
+}
+
+/// Returns how many columns a line of the source has, which most often is the one that is known.
+fn columns_of(source: &str, number: usize, known: Measured) -> usize
+    requires small { length source.now < 2 ^ 59 }
+    requires known { known.columns ≡ line_columns source.now known.line }
+    ensures { result ≡ line_columns source.now number }
+{
+    if number == known.line {
+        known.columns
+    } else {
+        line_columns(source, number)
+    }
+}
+
 /// Returns the reach of a label in one line.
 #[tactic(auto, unfolding(crate::specs::Margins::mark_reach))]
-fn mark_reach(source: &str, mark: &Mark<'_>) -> Reach
+fn mark_reach(source: &str, known: Measured, mark: &Mark<'_>) -> Reach
     requires small { length source.now < 2 ^ 59 }
+    requires known { known.columns ≡ line_columns source.now known.line }
     requires column { mark.now.to < 2 ^ 62 }
     ensures value { result ≡ mark_reach source.now (seen_mark mark.now) }
     ensures to { result.to < 2 ^ 62 }
@@ -61,7 +94,7 @@ fn mark_reach(source: &str, mark: &Mark<'_>) -> Reach
         from: mark.from,
         to: mark.to,
         end: mark.to + text_columns(mark.text),
-        longest: line_columns(source, mark.line),
+        longest: columns_of(source, mark.line, known),
     }
 }
 
@@ -119,18 +152,20 @@ fn long_reach(source: &str, label: &Label<'_>) -> Reach
 }
 
 /// Returns the reach of a label in the line in which it begins.
-fn short_reach(source: &str, label: &Label<'_>) -> Reach
-    requires { length source.now < 2 ^ 59 }
+fn short_reach(source: &str, known: Measured, label: &Label<'_>) -> Reach
+    requires small { length source.now < 2 ^ 59 }
+    requires known { known.columns ≡ line_columns source.now known.line }
     ensures value { result ≡ mark_reach source.now (mark 0 (seen_label label.now)) }
     ensures to { result.to < 2 ^ 62 }
     ensures end { result.end < 2 ^ 63 }
 {
-    mark_reach(source, &mark_of(label, 0))
+    mark_reach(source, known, &mark_of(label, 0))
 }
 
 /// Returns the reach of labels, each in the line in which it begins, and of `first`.
-fn reach_on(source: &str, first: Reach, labels: &[Label<'_>]) -> Reach
+fn reach_on(source: &str, known: Measured, first: Reach, labels: &[Label<'_>]) -> Reach
     requires small { length source.now < 2 ^ 59 }
+    requires known { known.columns ≡ line_columns source.now known.line }
     requires to { first.to < 2 ^ 62 }
     requires end { first.end < 2 ^ 63 }
     ensures value { result ≡ reach_on source.now first (map seen_label labels.now) }
@@ -139,7 +174,7 @@ fn reach_on(source: &str, first: Reach, labels: &[Label<'_>]) -> Reach
 {
     let mut reach = first;
     for label in labels {
-        reach = join_reaches(reach, short_reach(source, label));
+        reach = join_reaches(reach, short_reach(source, known, label));
     }
     reach
 }
@@ -162,10 +197,13 @@ fn reach_of(source: &str, labels: &[Label<'_>]) -> Reach
             if is_long(label) {
                 long_reach(source, label)
             } else {
-                short_reach(source, label)
+                short_reach(source, start_line(source, label), label)
             }
         }
-        [label, rest @ ..] => reach_on(source, short_reach(source, label), rest),
+        [label, rest @ ..] => {
+            let known = start_line(source, label);
+            reach_on(source, known, short_reach(source, known, label), rest)
+        }
     }
 }
 

@@ -1,5 +1,6 @@
 -- Lemmas on the columns of texts, and on their parts.
-use Rattle.std.proofs.Common.{◌≡◌, ℕ, ◌+◌, ◌-◌, Bool, true, false, zero, suc, List, [], ◌∷◌, ◌++◌}
+use Rattle.std.proofs.Common.{◌≡◌, ℕ, ◌+◌, ◌-◌, ◌≤◌, Bool, true, false, zero, suc, List, []}
+use Rattle.std.proofs.Common.{◌∷◌, ◌++◌}
 use Rattle.std.proofs.Common.{◌∙◌, ap, arith, chars, cond, encode_utf8_all, length, nat_lt, refl}
 use Rattle.std.proofs.Common.{replicate, IsUtf8}
 use Rattle.std.specs.Prelude.{◌==◌, ◌||◌, if◌then◌else◌}
@@ -7,7 +8,8 @@ use Rattle.std.specs.Int.{is_in_range}
 use Rattle.std.specs.List.{list_all}
 use Rattle.std.proofs.lemmas.Bool.{and_from, and_parts, cond_both}
 use Rattle.std.proofs.lemmas.Bool.Decides.{nat_tests}
-use Rattle.std.proofs.lemmas.Str.{chars-encodes, scalars-chars}
+use Rattle.std.proofs.lemmas.List.{nil_from_length}
+use Rattle.std.proofs.lemmas.Str.{chars-encodes, chars-nil, scalars-chars}
 use lib.Utf8.{low_scalar, scalar, scalars}
 use Rattle.rustc_parse_format.specs.Characters.{Text}
 use Rattle.drawn_lines.specs.Glyphs.{glyph, glyph_count, glyphs, is_bidi_control, is_printable}
@@ -16,7 +18,7 @@ use Rattle.drawn_lines.specs.Windows.{columns, dotted, in_window, is_wide, left_
 use Rattle.drawn_lines.specs.Windows.{past_columns, shown, within_columns}
 use Rattle.drawn_lines.specs.declared.paint.Palette.{Palette}
 use Rattle.drawn_lines.specs.declared.window.Window.{Window}
-use Rattle.drawn_lines.proofs.PrintableLemmas.{width-printable}
+use Rattle.drawn_lines.proofs.PrintableLemmas.{whole-printable, width-printable}
 
 -- printable characters take a column each
 pub columns-printable : (f : List ℕ) (t : Text) → list_all is_printable f ≡ true
@@ -45,6 +47,17 @@ pub shown-whole : (p : Palette) (w : Window) (t : Text) → w.left ≡ 0 → is_
     → shown p w t ≡ encode_utf8_all (glyphs t)
 unfolding shown
 shown-whole p w t z n = rw (n, past-none w.left (glyphs t) z, z) refl
+
+-- and one of printable characters, for which there is room
+pub shown-printable : (p : Palette) (w : Window) (s front back : List ℕ)
+    → chars s ≡ front ++ chars back → length back ≡ 0 → list_all is_printable front ≡ true
+    → w.left ≡ 0 → length front ≤ w.room → shown p w (chars s) ≡ front
+shown-printable p w s front back parts none e z l =
+    let nil : chars back ≡ [] = ap chars (nil_from_length back none) ∙ chars-nil in
+    let count : columns (chars s) ≡ length front + 0 =
+    ap columns (parts ∙ ap (λ t. front ++ t) nil) ∙ columns-printable front [] e in
+    let narrow : is_wide w (chars s) ≡ false = grind (arith, nat_tests, count, l) in
+    shown-whole p w (chars s) z narrow ∙ whole-printable s front back parts none e
 
 -- and one that may be
 pub shown-cut : (p : Palette) (w : Window) (t s : Text) (wide : Bool) → s ≡ glyphs t

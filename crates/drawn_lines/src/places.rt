@@ -88,40 +88,53 @@ fn past_printable(spot: Spot, front: &str) -> Spot
     }
 }
 
-/// Passes the printable characters at the start of a text that end within `width` bytes. Returns
-/// the place after them, what is left of the text, and how many of the bytes are left.
-fn pass_printable(from: Spot, text: &str, width: usize) -> (Spot, &str, usize)
+/// A text after some characters were passed.
+#[derive(Clone, Copy)]
+struct Rest<'a> {
+    /// The place after these characters.
+    spot: Spot,
+    /// What is left of the text.
+    text: &'a str,
+    /// How many bytes are left to pass.
+    width: usize,
+}
+
+/// Passes the printable characters at the start of a text that end within `width` bytes.
+fn pass_printable(from: Spot, text: &str, width: usize) -> Rest<'_>
     requires after_indent { from.is_indent ≡ false }
     requires small_chars { from.chars + length text.now < 2 ^ 60 }
     requires small_column { from.column + 4 * length text.now < 2 ^ 61 }
-    ensures value { fold past result.0 (within result.2 (chars result.1.now))
+    ensures value { fold past result.spot (within result.width (chars result.text.now))
         ≡ fold past from (within width (chars text.now)) }
     ensures on { (more : ℕ) → fold past from (within (width + more) (chars text.now))
-        ≡ fold past result.0 (within (result.2 + more) (chars result.1.now)) }
-    ensures fewer { result.2 ≤ width }
-    ensures shorter { length result.1.now ≤ length text.now }
-    ensures lines { result.0.line + length result.1.now ≤ from.line + length text.now }
-    ensures chars { result.0.chars + length result.1.now ≤ from.chars + length text.now }
-    ensures columns { result.0.column + 4 * length result.1.now
+        ≡ fold past result.spot (within (result.width + more) (chars result.text.now)) }
+    ensures fewer { result.width ≤ width }
+    ensures shorter { length result.text.now ≤ length text.now }
+    ensures lines { result.spot.line + length result.text.now ≤ from.line + length text.now }
+    ensures chars { result.spot.chars + length result.text.now ≤ from.chars + length text.now }
+    ensures columns { result.spot.column + 4 * length result.text.now
         ≤ from.column + 4 * length text.now }
 {
     let (front, rest) = split_printable(text, width);
-    (past_printable(from, front), rest, width - front.len())
+    Rest {
+        spot: past_printable(from, front),
+        text: rest,
+        width: width - front.len(),
+    }
 }
 
-/// Passes the characters of a text that end within `width` bytes. Returns the place after them,
-/// what is left of the text, and how many of the bytes are left.
-fn pass(from: Spot, text: &str, width: usize) -> (Spot, &str, usize)
+/// Passes the characters of a text that end within `width` bytes.
+fn pass(from: Spot, text: &str, width: usize) -> Rest<'_>
     requires small_line { from.line + length text.now < 2 ^ 60 }
     requires small_chars { from.chars + length text.now < 2 ^ 60 }
     requires small_column { from.column + 4 * length text.now < 2 ^ 61 }
-    ensures value { result.0 ≡ fold past from (within width (chars text.now)) }
+    ensures value { result.spot ≡ fold past from (within width (chars text.now)) }
     ensures on { (more : ℕ) → fold past from (within (width + more) (chars text.now))
-        ≡ fold past result.0 (within (result.2 + more) (chars result.1.now)) }
-    ensures fewer { result.2 ≤ width }
-    ensures lines { result.0.line + length result.1.now ≤ from.line + length text.now }
-    ensures chars { result.0.chars + length result.1.now ≤ from.chars + length text.now }
-    ensures columns { result.0.column + 4 * length result.1.now
+        ≡ fold past result.spot (within (result.width + more) (chars result.text.now)) }
+    ensures fewer { result.width ≤ width }
+    ensures lines { result.spot.line + length result.text.now ≤ from.line + length text.now }
+    ensures chars { result.spot.chars + length result.text.now ≤ from.chars + length text.now }
+    ensures columns { result.spot.column + 4 * length result.text.now
         ≤ from.column + 4 * length text.now }
 {
     let mut at = from;
@@ -135,13 +148,17 @@ fn pass(from: Spot, text: &str, width: usize) -> (Spot, &str, usize)
         at = past(at, c);
         rest = tail;
         if !at.is_indent {
-            let (spot, rest_after, fewer) = pass_printable(at, rest, countdown);
-            at = spot;
-            rest = rest_after;
-            countdown = fewer;
+            let next = pass_printable(at, rest, countdown);
+            at = next.spot;
+            rest = next.text;
+            countdown = next.width;
         }
     }
-    (at, rest, countdown)
+    Rest {
+        spot: at,
+        text: rest,
+        width: countdown,
+    }
 }
 
 /// Returns the first line of a text, and the rest of the text after that line.
@@ -209,7 +226,10 @@ pub fn extent_of(picture: &Picture<'_>, range: &Range<usize>) -> Extent
     ensures small_end_column { result.end.column < 2 ^ 61 }
 {
     let (from, to) = offsets(picture, range);
-    let (start, rest, width) = pass(ORIGIN, picture.source, from);
-    let (end, _, _) = pass(start, rest, width + (to - from));
-    Extent { start, end }
+    let before = pass(ORIGIN, picture.source, from);
+    let after = pass(before.spot, before.text, before.width + (to - from));
+    Extent {
+        start: before.spot,
+        end: after.spot,
+    }
 }

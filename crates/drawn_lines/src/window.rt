@@ -47,13 +47,21 @@ pub fn columns(text: &str) -> usize
     count
 }
 
-/// Returns a text without its first `count` columns, and how many columns are left out.
-fn past_columns(text: &str, count: usize) -> (&str, usize)
+/// A text without its first columns.
+#[derive(Clone, Copy)]
+struct Cut<'a> {
+    rest: &'a str,
+    /// How many columns are left out.
+    columns: usize,
+}
+
+/// Returns a text without its first `count` columns.
+fn past_columns(text: &str, count: usize) -> Cut<'_>
     requires { length text.now < 2 ^ 60 }
-    ensures rest { chars result.0.now ≡ past_columns count (chars text.now) }
-    ensures bytes { result.0.now ≡ encode_utf8_all (past_columns count (chars text.now)) }
-    ensures columns { result.1 ≡ left_out count (chars text.now) }
-    ensures short { length result.0.now ≤ length text.now }
+    ensures rest { chars result.rest.now ≡ past_columns count (chars text.now) }
+    ensures bytes { result.rest.now ≡ encode_utf8_all (past_columns count (chars text.now)) }
+    ensures columns { result.columns ≡ left_out count (chars text.now) }
+    ensures short { length result.rest.now ≤ length text.now }
 {
     let mut rest = text;
     let mut countdown = count;
@@ -66,16 +74,24 @@ fn past_columns(text: &str, count: usize) -> (&str, usize)
         countdown = countdown.saturating_sub(width(c));
         rest = tail;
     }
-    (rest, columns)
+    Cut { rest, columns }
 }
 
-/// Returns how many columns are left out, if the first `count` columns of a text are, of the same
-/// character so often at its start, and how many of these columns are then left.
-fn left_out_of_run(count: usize, times: usize, character: char) -> (usize, usize)
+/// Columns at the start of a text, some of which are left out.
+#[derive(Clone, Copy)]
+struct Countdown {
+    /// How many are left out.
+    columns: usize,
+    /// How many are still to be left out.
+    rest: usize,
+}
+
+/// Leaves the first `count` columns of a text out, of the same character so often at its start.
+fn left_out_of_run(count: usize, times: usize, character: char) -> Countdown
     requires { times ≤ 4 }
     ensures value { (t : Text) → left_out count (replicate times character ++ t)
-        ≡ result.0 + left_out result.1 t }
-    ensures few { result.0 ≤ 16 }
+        ≡ result.columns + left_out result.rest t }
+    ensures few { result.columns ≤ 16 }
 {
     let mut countdown = count;
     let mut columns = 0;
@@ -85,7 +101,10 @@ fn left_out_of_run(count: usize, times: usize, character: char) -> (usize, usize
         countdown = countdown.saturating_sub(width(character));
         rest -= 1;
     }
-    (columns, countdown)
+    Countdown {
+        columns,
+        rest: countdown,
+    }
 }
 
 /// Returns how many columns are left out if the first `count` columns of a text, as it is drawn,
@@ -101,9 +120,9 @@ fn left_out(text: &str, count: usize) -> usize
         if countdown == 0 {
             break;
         }
-        let (more, fewer) = left_out_of_run(countdown, glyph_count(c), glyph(c));
-        columns += more;
-        countdown = fewer;
+        let run = left_out_of_run(countdown, glyph_count(c), glyph(c));
+        columns += run.columns;
+        countdown = run.rest;
         rest = tail;
     }
     columns
@@ -150,7 +169,7 @@ fn put_in_window(
     ensures { OnOk result (string_bytes out.new
         ≡ string_bytes out.old ++ encode_utf8_all (in_window window is_wide (chars row.now))) }
 {
-    let (rest, _) = past_columns(row, window.left);
+    let Cut { rest, .. } = past_columns(row, window.left);
     if is_wide {
         put_within(out, rest, window.most)?;
     } else {
@@ -176,7 +195,7 @@ fn put_dots_before<'a>(
     if window.left == 0 {
         return Ok(part);
     }
-    let (rest, columns) = past_columns(part, 3);
+    let Cut { rest, columns } = past_columns(part, 3);
     put_painted(out, palette, Style::Secondary, "...")?;
     put_run(out, ' ', columns.saturating_sub(3))?;
     Ok(rest)
@@ -258,6 +277,10 @@ pub fn put_shown(
 {
     if text.len() >= 1 << 59 {
         return Err(AllocError);
+    }
+    let (front, rest) = split_printable(text, text.len());
+    if window.left == 0 && rest.is_empty() && front.len() <= window.room {
+        return Ok(out.push_str(front)?);
     }
     let is_wide = columns(text).saturating_sub(window.left) > window.room;
     if window.left == 0 && !is_wide {

@@ -83,13 +83,13 @@ Holds-grow xs ys from to t h k =
 pub HoldsMaybe-grow : (xs ys : List ℕ) (r : MaybeExtent) (o : Option (List ℕ)) → Extends xs ys
     → HoldsMaybe xs r o → HoldsMaybe ys r o
 HoldsMaybe-grow xs ys r None h k = k
-HoldsMaybe-grow xs ys r (Some t) h k = (k.0, Holds-grow xs ys r.from r.to t h k.1)
+HoldsMaybe-grow xs ys r (Some t) h k = (k.0, Holds-grow xs ys r.start r.end t h k.1)
 
 pub HoldsSecond-grow : (xs ys : List ℕ) (r : MaybeExtent) (s : Extent) (o : Option (List ℕ × Place))
     → Extends xs ys → HoldsSecond xs r s o
     → HoldsSecond ys r s o
 HoldsSecond-grow xs ys r s None h k = k
-HoldsSecond-grow xs ys r s (Some x) h k = (k.0, Holds-grow xs ys r.from r.to x.0 h k.1, k.2)
+HoldsSecond-grow xs ys r s (Some x) h k = (k.0, Holds-grow xs ys r.start r.end x.0 h k.1, k.2)
 
 pub HoldsSuggestion-grow : (xs ys : List ℕ) (n : ℕ) (s t : Extent) (g : Suggestion Place)
     → Extends xs ys → HoldsSuggestion xs n s t g
@@ -98,7 +98,7 @@ HoldsSuggestion-grow xs ys n s t Nothing h k = k
 HoldsSuggestion-grow xs ys n s t UsePositional h k = k
 HoldsSuggestion-grow xs ys n s t (RemoveRawIdent p) h k = k
 HoldsSuggestion-grow xs ys n s t (ReorderFormatParameter p x) h k =
-    (k.0, k.1, Holds-grow xs ys t.from t.to x h k.2)
+    (k.0, k.1, Holds-grow xs ys t.start t.end x h k.2)
 HoldsSuggestion-grow xs ys n s t (AddMissingColon p) h k = k
 HoldsSuggestion-grow xs ys n s t UseRustDebugPrintingMacro h k = k
 

@@ -58,14 +58,14 @@ ends bs text from to v u e fit same start =
 -- the text between two places that cut no character
 pub uncut_text : (bs : List ℕ) (from to : ℕ) → from ≤ to → IsCharBoundary bs from
     → IsCharBoundary bs to
-    → text_at bs (record { from = from; to = to }) ≡ chars (slice_range bs from to)
+    → text_at bs (record { start = from; end = to }) ≡ chars (slice_range bs from to)
 unfolding text_at
 uncut_text bs from to h start stop =
     rw (not_backwards from to h, passes bs from start, passes bs to stop) refl
 
 pub cut_text : (bs text : List ℕ) (from : ℕ) → IsUtf8 bs → IsUtf8 text → 0 < length text
     → HasBytes bs from text →
-    text_at bs (record { from = from; to = from + length text }) ≡ chars text
+    text_at bs (record { start = from; end = from + length text }) ≡ chars text
 cut_text bs text from v u some h =
     let start = begins bs text from (from + length text) u some refl h.0 h.1 in
     let stop = ends bs text from (from + length text) v u refl h.0 h.1 start in
@@ -129,7 +129,7 @@ has_after bs xs ys from h =
     )
 
 pub no_text : (bs text : List ℕ) → IsUtf8 bs → length text ≡ 0
-    → text_at bs (record { from = 0; to = 0 }) ≡ chars text
+    → text_at bs (record { start = 0; end = 0 }) ≡ chars text
 unfolding text_at
 no_text bs [] v e = rw (passes bs 0 (IsCharBoundary-start bs v)) refl
 no_text bs (c ∷ text) v e = absurd (omega arith)

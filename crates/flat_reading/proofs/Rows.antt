@@ -27,7 +27,7 @@ calls-go_on : map (λ (e : Event). e.piece) (events false (start (codes "}a")))
 unfolding computing states start
 calls-go_on = refl
 
-calls-read_on : map (λ (e : Event). e.read) (events false (start (codes "}a"))) ≡ 1 ∷ 2 ∷ 2 ∷ []
+calls-read_on : map (λ (e : Event). e.offset) (events false (start (codes "}a"))) ≡ 1 ∷ 2 ∷ 2 ∷ []
 unfolding computing states start
 calls-read_on = refl
 
@@ -45,12 +45,12 @@ unfolding computing states start
 raw-is_one_front = refl
 
 -- Half of a character is no text.
-half-is_no_text : text_at (97 ∷ 195 ∷ 169 ∷ []) (record { from = 1; to = 2 }) ≡ 1114112 ∷ []
+half-is_no_text : text_at (97 ∷ 195 ∷ 169 ∷ []) (record { start = 1; end = 2 }) ≡ 1114112 ∷ []
 unfolding text_at
 half-is_no_text = refl
 
 -- Nor is what runs backwards, though nothing stands there.
-backwards-is_no_text : text_at (97 ∷ 98 ∷ []) (record { from = 2; to = 0 }) ≡ 1114112 ∷ []
+backwards-is_no_text : text_at (97 ∷ 98 ∷ []) (record { start = 2; end = 0 }) ≡ 1114112 ∷ []
 unfolding text_at
 backwards-is_no_text = refl
 
@@ -60,7 +60,14 @@ unfolding spec_at
 beyond-is_no_spec = refl
 
 mode-is_refused : refusal [] []
-    (record { mode = 4; is_raw = 0; hashes = 0; has_snippet = 0; appended_newline = 0; peeks = 0 })
+    (record {
+      mode = 4;
+      is_raw = 0;
+      hashes = 0;
+      has_snippet = 0;
+      appended_newline = 0;
+      wants_peeks = 0;
+    })
     ≡ Some 5
 mode-is_refused = refl
 

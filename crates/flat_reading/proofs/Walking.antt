@@ -230,7 +230,7 @@ pub described : (peeks : Bool) (input : List ℕ) (specs : List SpecRecord) (r :
     piece_meant input (spec_at input specs r.spec) r
     ≡ option_map (piece_in s.world) (next_call s).piece → maybe_place r.place
     ≡ closed_in s.world (next_call s).closes →
-    r.read ≡ position t.input t.rest → r.next ≡ t.next → r.lines ≡ length t.line_spans
+    r.offset ≡ position t.input t.rest → r.next_index ≡ t.next → r.lines ≡ length t.line_spans
     → maybe_place r.peek ≡ looked_for peeks (place_of_first t t.rest) →
     maybe_place r.peek_ahead ≡ looked_for peeks (place_of_first t (after_first t.rest))
     → step_meant input specs r ≡ event peeks s
@@ -265,7 +265,7 @@ no_piece input spec r e = rw e refl
 pub report_end : (peeks : Bool) (input : List ℕ) (specs : List SpecRecord) (r : Step) (s t : State)
     → t ≡ after s (next_call s) → s.rest ≡ [] →
     piece_meant input (spec_at input specs r.spec) r ≡ None → maybe_place r.place ≡ None
-    → r.read ≡ position t.input t.rest → r.next ≡ t.next →
+    → r.offset ≡ position t.input t.rest → r.next_index ≡ t.next →
     r.lines ≡ length t.line_spans → maybe_place r.peek ≡ None → maybe_place r.peek_ahead ≡ None
     → step_meant input specs r ≡ event peeks s
 report_end peeks input specs r s t state e piece place read next lines peek ahead =

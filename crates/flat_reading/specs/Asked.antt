@@ -80,7 +80,7 @@ pub record IsCounted (peeks : Bool) (s : State) (a : Answer) : Type 0 where
   pub faults : a.faults ≡ length (end_of s).errors
   pub texts : a.texts ≡ min (texts_len (end_of s).errors) (2 ^ 64 - 1)
   pub lines : a.lines ≡ length (end_of s).line_spans
-  pub fronts : a.fronts ≡ fronts_of s
+  pub fronts : a.front_faults ≡ fronts_of s
   pub source : is_set a.is_source_literal ≡ s.world.has_source
   pub peek : maybe_place a.peek ≡ looked_for peeks (place_of_first s s.rest)
   pub peek_ahead : maybe_place a.peek_ahead

@@ -22,9 +22,9 @@ pub record Event : Type 0 where
   -- The place of the placeholder that the call closed. Without a source literal there is none.
   pub place : Option Place
   -- The byte offset in the input after the last character that was read.
-  pub read : ℕ
+  pub offset : ℕ
   -- The number that the next implicit argument takes.
-  pub next : ℕ
+  pub next_index : ℕ
   -- The number of lines.
   pub lines : ℕ
   -- The places of the next character and of the one after it. Both are None unless the caller wants
@@ -50,8 +50,8 @@ abbrev pub event_of : Bool → World → Call → State → Event
 event_of peeks w k t = record {
   piece = option_map (piece_in w) k.piece;
   place = closed_in w k.closes;
-  read = position t.input t.rest;
-  next = t.next;
+  offset = position t.input t.rest;
+  next_index = t.next;
   lines = length t.line_spans;
   peek = looked_for peeks (place_of_first t t.rest);
   peek_ahead = looked_for peeks (place_of_first t (after_first t.rest));
@@ -165,8 +165,8 @@ abbrev pub step_meant : List ℕ → List SpecRecord → Step → Event
 step_meant input specs r = record {
   piece = piece_meant input (spec_at input specs r.spec) r;
   place = maybe_place r.place;
-  read = r.read;
-  next = r.next;
+  offset = r.offset;
+  next_index = r.next_index;
   lines = r.lines;
   peek = maybe_place r.peek;
   peek_ahead = maybe_place r.peek_ahead;

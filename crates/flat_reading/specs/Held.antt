@@ -10,20 +10,21 @@ use Rattle.flat_reading.specs.declared.records.MaybeExtent.{MaybeExtent}
 use Rattle.flat_reading.specs.declared.records.Fault.{Fault}
 use Rattle.flat_reading.specs.Meant.{place}
 
--- The text is in the buffer, from the byte `from` to the byte `to`.
-pub record Holds (texts : List ℕ) (from to : ℕ) (text : List ℕ) : Type 0 where
-  pub within : to ≤ length texts
-  pub same : slice_range texts from to ≡ text
+-- The text is in the buffer, from the byte `start` to the byte `end`.
+pub record Holds (texts : List ℕ) (start end : ℕ) (text : List ℕ) : Type 0 where
+  pub within : end ≤ length texts
+  pub same : slice_range texts start end ≡ text
 
 -- The range holds the text, or both are absent.
 abbrev pub HoldsMaybe : List ℕ → MaybeExtent → Option (List ℕ) → Type 0
 HoldsMaybe texts r None = r.is_present ≡ 0
-HoldsMaybe texts r (Some t) = (r.is_present ≡ 1) × Holds texts r.from r.to t
+HoldsMaybe texts r (Some t) = (r.is_present ≡ 1) × Holds texts r.start r.end t
 
 -- The two ranges hold the text of a second label and its place, or there is no second label.
 abbrev pub HoldsSecond : List ℕ → MaybeExtent → Extent → Option (List ℕ × Place) → Type 0
 HoldsSecond texts r s None = r.is_present ≡ 0
-HoldsSecond texts r s (Some x) = (r.is_present ≡ 1) × Holds texts r.from r.to x.0 × (place s ≡ x.1)
+HoldsSecond texts r s (Some x) = (r.is_present ≡ 1) × Holds texts r.start r.end x.0
+    × (place s ≡ x.1)
 
 -- The kind, the span and the text in a record are those of the suggestion.
 abbrev pub HoldsSuggestion : List ℕ → ℕ → Extent → Extent → Suggestion Place → Type 0
@@ -31,15 +32,15 @@ HoldsSuggestion texts kind span text Nothing = kind ≡ 0
 HoldsSuggestion texts kind span text UsePositional = kind ≡ 1
 HoldsSuggestion texts kind span text (RemoveRawIdent s) = (kind ≡ 2) × (place span ≡ s)
 HoldsSuggestion texts kind span text (ReorderFormatParameter s t) = (kind ≡ 3) × (place span ≡ s)
-    × Holds texts text.from text.to t
+    × Holds texts text.start text.end t
 HoldsSuggestion texts kind span text (AddMissingColon s) = (kind ≡ 4) × (place span ≡ s)
 HoldsSuggestion texts kind span text UseRustDebugPrintingMacro = kind ≡ 5
 
 -- The record is the flat form of the error.
 pub record HoldsError (texts : List ℕ) (f : Fault) (m : Message Place) : Type 0 where
-  pub description : Holds texts f.description.from f.description.to m.description
+  pub description : Holds texts f.description.start f.description.end m.description
   pub note : HoldsMaybe texts f.note m.note
-  pub label : Holds texts f.label.from f.label.to m.label
+  pub label : Holds texts f.label.start f.label.end m.label
   pub span : place f.span ≡ m.span
   pub second : HoldsSecond texts f.second_label f.second_span m.second
   pub suggestion : HoldsSuggestion texts f.suggestion f.suggestion_span f.suggestion_text
@@ -91,9 +92,9 @@ texts_len ms = sum_by message_len ms
 abbrev pub Extends : List ℕ → List ℕ → Type 0
 Extends xs ys = (more : List ℕ) × (ys ≡ xs ++ more)
 
--- Bytes were written from the offset `from` to the offset `to`: those before `from` are unchanged
--- if there was room, and those after `to` are unchanged.
-pub record Grows (old new : List ℕ) (from to : ℕ) : Type 0 where
-  pub forward : from ≤ to
-  pub front : to ≤ length old → Extends (take from old) (take to new)
-  pub rest_after : drop to new ≡ drop to old
+-- Bytes were written from the offset `start` to the offset `end`: those before `start` are
+-- unchanged if there was room, and those after `end` are unchanged.
+pub record Grows (old new : List ℕ) (start end : ℕ) : Type 0 where
+  pub forward : start ≤ end
+  pub front : end ≤ length old → Extends (take start old) (take end new)
+  pub rest_after : drop end new ≡ drop end old

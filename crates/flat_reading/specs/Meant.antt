@@ -18,7 +18,7 @@ use Rattle.flat_reading.specs.declared.records.Step.{Step}
 
 -- The place that a range means.
 abbrev pub place : Extent → Place
-place r = (r.from, r.to)
+place r = (r.start, r.end)
 
 -- A character begins at this byte offset, or the text ends there.
 abbrev pub is_boundary : List ℕ → ℕ → Bool
@@ -34,12 +34,12 @@ no_text = 1114112 ∷ []
 -- result is `no_text`.
 unfoldable pub text_at : List ℕ → Extent → Text
 text_at input r =
-    if nat_le r.from r.to && (is_boundary input r.from && is_boundary input r.to)
-    then chars (slice_range input r.from r.to) else no_text
+    if nat_le r.start r.end && (is_boundary input r.start && is_boundary input r.end)
+    then chars (slice_range input r.start r.end) else no_text
 
 -- The characters of a run of text, whose range has to end at `read`, where the call stopped.
 abbrev pub run_at : List ℕ → ℕ → Extent → Text
-run_at input read r = if r.to == read then text_at input r else no_text
+run_at input read r = if r.end == read then text_at input r else no_text
 
 -- The number means true: it is not 0.
 abbrev pub is_set : ℕ → Bool
@@ -47,7 +47,7 @@ is_set n = not (n == 0)
 
 -- The place that an optional range means. None if it is absent.
 abbrev pub maybe_place : MaybeExtent → Option Place
-maybe_place r = if r.is_present == 0 then None else Some (r.from, r.to)
+maybe_place r = if r.is_present == 0 then None else Some (r.start, r.end)
 
 -- The fill that a number stands for: the character with this code, or None for 1114112.
 abbrev pub fill_meant : ℕ → Option ℕ
@@ -139,6 +139,6 @@ argument_meant input spec r = record {
 unfoldable pub piece_meant : List ℕ → Spec Place → Step → Option (Piece Place)
 piece_meant input spec r =
     if r.kind == 0 then None
-    else (if r.kind == 1 then Some (Lit (run_at input r.read r.text))
+    else (if r.kind == 1 then Some (Lit (run_at input r.offset r.text))
     else (if r.kind == 2 then Some (NextArgument (argument_meant input spec r))
     else Some (Lit no_text)))

@@ -24,25 +24,25 @@ use Rattle.flat_reading.specs.Meant.{text_at, type_meant}
 
 -- The input has these bytes from the offset `from` on.
 abbrev pub HasBytes : List ℕ → ℕ → List ℕ → Type 0
-HasBytes input from bytes = (from + length bytes ≤ length input)
-    × (slice_range input from (from + length bytes) ≡ bytes)
+HasBytes input start bytes = (start + length bytes ≤ length input)
+    × (slice_range input start (start + length bytes) ≡ bytes)
 
 -- The input has the bytes of this text from the offset `from` on.
 abbrev pub Stands : List ℕ → ℕ → Text → Type 0
-Stands input from t = HasBytes input from (encode_utf8_all t)
+Stands input start t = HasBytes input start (encode_utf8_all t)
 
 -- The input has the bytes of this text from the offset `from` on, unless the text is empty.
 abbrev pub StandsAt : List ℕ → ℕ → Text → Type 0
-StandsAt input from t = t ≢ [] → Stands input from t
+StandsAt input start t = t ≢ [] → Stands input start t
 
 -- The text is in the input at the offset `from`, or these bytes and then the text are.
 abbrev pub StandsAfter : List ℕ → List ℕ → ℕ → Text → Type 0
-StandsAfter input prefix from t = StandsAt input from t
-    ⊎ HasBytes input from (prefix ++ encode_utf8_all t)
+StandsAfter input prefix start t = StandsAt input start t
+    ⊎ HasBytes input start (prefix ++ encode_utf8_all t)
 
 -- The text was read last: it ends at the offset `read`.
 abbrev pub IsLast : List ℕ → ℕ → Text → Type 0
-IsLast input read t = text_at input (record { from = read - byte_length t; to = read }) ≡ t
+IsLast input read t = text_at input (record { start = read - byte_length t; end = read }) ≡ t
 
 -- The name in a count, if it has one, is in the input at the start of its span, less the offset.
 abbrev pub CountStands : List ℕ → ℕ → Count Place → Type 0
@@ -71,9 +71,9 @@ pub record SpecStands (input : List ℕ) (offset : ℕ) (s : Spec Place) : Type 
 -- The name of a position, if it has one, is in the input at the offset `from`, or after an `r#`
 -- there.
 abbrev pub PositionStands : List ℕ → ℕ → Position → Type 0
-PositionStands input from (Implicit n) = Unit {0}
-PositionStands input from (Index n) = Unit {0}
-PositionStands input from (Named w) = StandsAfter input (codes "r#") from w
+PositionStands input start (Implicit n) = Unit {0}
+PositionStands input start (Index n) = Unit {0}
+PositionStands input start (Named w) = StandsAfter input (codes "r#") start w
 
 -- The texts of an argument are in the input at the start of their spans, less the offset.
 pub record ArgumentStands (input : List ℕ) (offset : ℕ) (a : Argument Place) : Type 0 where
@@ -183,6 +183,6 @@ pub record IsAdded (input : List ℕ) (e : Event) (count used : ℕ) (old new : 
 -- The two steps say the same about the state after the call.
 abbrev pub SameAfter : Step → Step → Type 0
 SameAfter old new =
-    (new.place ≡ old.place) × (new.read ≡ old.read) × (new.next ≡ old.next)
+    (new.place ≡ old.place) × (new.offset ≡ old.offset) × (new.next_index ≡ old.next_index)
     × (new.lines ≡ old.lines) × (new.peek ≡ old.peek)
     × (new.peek_ahead ≡ old.peek_ahead)

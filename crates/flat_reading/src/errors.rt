@@ -25,15 +25,15 @@ fn put(texts: &mut [u8], size: &mut usize, text: &str) -> Extent
     ensures grows { Grows texts.old texts.new size.old size.new }
     ensures counted { size.new ≡ min (size.old + length text.now) usize.MAX }
     ensures holds { size.new ≤ length texts.old
-        → Holds (take size.new texts.new) result.from result.to text.now }
+        → Holds (take size.new texts.new) result.start result.end text.now }
 {
-    let from = *size;
-    let to = from.saturating_add(text.len());
-    *size = to;
-    if to <= texts.len() {
-        texts[from..to].copy_from_slice(text.as_bytes());
+    let start = *size;
+    let end = start.saturating_add(text.len());
+    *size = end;
+    if end <= texts.len() {
+        texts[start..end].copy_from_slice(text.as_bytes());
     }
-    Extent { from, to }
+    Extent { start, end }
 }
 
 /// Writes a note as `put` does, if there is one, and returns its byte range there.
@@ -50,70 +50,101 @@ fn put_note(texts: &mut [u8], size: &mut usize, note: &Option<String>) -> MaybeE
             let at = put(texts, size, note.as_str());
             MaybeExtent {
                 is_present: 1,
-                from: at.from,
-                to: at.to,
+                start: at.start,
+                end: at.end,
             }
         }
         None => NO_EXTENT,
     }
 }
 
-/// Writes a secondary label as `put` does, if there is one. Returns its byte range there, and the
-/// label's span in the source.
+/// The record of a secondary label.
+#[derive(Clone, Copy)]
+struct SecondRecord {
+    /// The byte range of the label in the buffer for texts.
+    label: MaybeExtent,
+    /// The byte range in the source that the label is for.
+    span: Extent,
+}
+
+/// The record of a suggestion.
+#[derive(Clone, Copy)]
+struct SuggestionRecord {
+    /// One of `MEND_..`.
+    kind: u32,
+    /// The byte range in the source that the suggestion is about.
+    span: Extent,
+    /// The byte range of its text in the buffer for texts.
+    text: Extent,
+}
+
+/// Writes a secondary label as `put` does, if there is one, and returns its record.
 fn put_second(
     texts: &mut [u8],
     size: &mut usize,
     second: &Option<(String, Range<usize>)>,
-) -> (MaybeExtent, Extent)
+) -> SecondRecord
     requires { size.old ≤ usize.MAX }
     ensures grows { Grows texts.old texts.new size.old size.new }
     ensures counted { size.new
         ≡ min (size.old + second_len (option_map (λ x. (string_bytes x.0, pair x.1)) second.now))
         usize.MAX }
     ensures holds { size.new ≤ length texts.old
-        → HoldsSecond (take size.new texts.new) result.0 result.1
+        → HoldsSecond (take size.new texts.new) result.label result.span
         (option_map (λ x. (string_bytes x.0, pair x.1)) second.now) }
 {
     match second {
         Some((label, span)) => {
             let at = put(texts, size, label.as_str());
-            let label = MaybeExtent {
-                is_present: 1,
-                from: at.from,
-                to: at.to,
-            };
-            (label, extent(span))
+            SecondRecord {
+                label: MaybeExtent {
+                    is_present: 1,
+                    start: at.start,
+                    end: at.end,
+                },
+                span: extent(span),
+            }
         }
-        None => (NO_EXTENT, NOWHERE),
+        None => SecondRecord {
+            label: NO_EXTENT,
+            span: NOWHERE,
+        },
     }
 }
 
-/// Writes the text of a suggestion as `put` does, if it has one. Returns one of `MEND_..`, the
-/// suggestion's span in the source, and the byte range of its text in `texts`.
-fn put_suggestion(
-    texts: &mut [u8],
-    size: &mut usize,
-    suggestion: &Suggestion,
-) -> (u32, Extent, Extent)
+/// Returns the record of a suggestion that has no text.
+fn bare_suggestion(kind: u32, span: Extent) -> SuggestionRecord
+    ensures { result ≡ record { kind = kind; span = span; text = record { start = 0; end = 0 } } }
+{
+    SuggestionRecord {
+        kind,
+        span,
+        text: NOWHERE,
+    }
+}
+
+/// Writes the text of a suggestion as `put` does, if it has one, and returns its record.
+fn put_suggestion(texts: &mut [u8], size: &mut usize, suggestion: &Suggestion) -> SuggestionRecord
     requires { size.old ≤ usize.MAX }
     ensures grows { Grows texts.old texts.new size.old size.new }
     ensures counted { size.new
         ≡ min (size.old + suggestion_len (seen_suggestion suggestion.now)) usize.MAX }
     ensures holds { size.new ≤ length texts.old
-        → HoldsSuggestion (take size.new texts.new) result.0 result.1 result.2
+        → HoldsSuggestion (take size.new texts.new) result.kind result.span result.text
         (seen_suggestion suggestion.now) }
 {
     match suggestion {
-        Suggestion::None => (MEND_NONE, NOWHERE, NOWHERE),
-        Suggestion::UsePositional => (MEND_USE_POSITIONAL, NOWHERE, NOWHERE),
-        Suggestion::RemoveRawIdent(span) => (MEND_REMOVE_RAW_IDENT, extent(span), NOWHERE),
-        Suggestion::ReorderFormatParameter(span, text) => {
-            let at = put(texts, size, text.as_str());
-            (MEND_REORDER_FORMAT_PARAMETER, extent(span), at)
-        }
-        Suggestion::AddMissingColon(span) => (MEND_ADD_MISSING_COLON, extent(span), NOWHERE),
+        Suggestion::None => bare_suggestion(MEND_NONE, NOWHERE),
+        Suggestion::UsePositional => bare_suggestion(MEND_USE_POSITIONAL, NOWHERE),
+        Suggestion::RemoveRawIdent(span) => bare_suggestion(MEND_REMOVE_RAW_IDENT, extent(span)),
+        Suggestion::ReorderFormatParameter(span, text) => SuggestionRecord {
+            kind: MEND_REORDER_FORMAT_PARAMETER,
+            span: extent(span),
+            text: put(texts, size, text.as_str()),
+        },
+        Suggestion::AddMissingColon(span) => bare_suggestion(MEND_ADD_MISSING_COLON, extent(span)),
         Suggestion::UseRustDebugPrintingMacro => {
-            (MEND_USE_RUST_DEBUG_PRINTING_MACRO, NOWHERE, NOWHERE)
+            bare_suggestion(MEND_USE_RUST_DEBUG_PRINTING_MACRO, NOWHERE)
         }
     }
 }
@@ -130,28 +161,25 @@ fn put_error(texts: &mut [u8], size: &mut usize, error: &ParseError, step: usize
     let description = put(texts, size, error.description.as_str());
     let note = put_note(texts, size, &error.note);
     let label = put(texts, size, error.label.as_str());
-    let (second_label, second_span) = put_second(texts, size, &error.secondary_label);
-    let (suggestion, suggestion_span, suggestion_text) = put_suggestion(
-        texts,
-        size,
-        &error.suggestion,
-    );
+    let second = put_second(texts, size, &error.secondary_label);
+    let suggestion = put_suggestion(texts, size, &error.suggestion);
     Fault {
         description,
         note,
         label,
         span: extent(&error.span),
-        second_label,
-        second_span,
-        suggestion,
-        suggestion_span,
-        suggestion_text,
+        second_label: second.label,
+        second_span: second.span,
+        suggestion: suggestion.kind,
+        suggestion_span: suggestion.span,
+        suggestion_text: suggestion.text,
         step,
     }
 }
 
 /// Writes the records of the errors and their texts as `put_errors` does. It is no part of that
 /// function, which is inlined, so that an input without errors takes no room for a record.
+#[cold]
 #[inline(never)]
 fn put_records(
     errors: &[ParseError],

@@ -28,23 +28,23 @@ use rustc_parse_format::{Alignment, Argument, Count, DebugHex, FormatSpec, Posit
 use std::ops::Range;
 
 /// The byte range in a record that has none.
-pub const NOWHERE: Extent = Extent { from: 0, to: 0 };
+pub const NOWHERE: Extent = Extent { start: 0, end: 0 };
 
 /// Returns a byte range as a record.
 pub fn extent(range: &Range<usize>) -> Extent
     ensures { place_meant result ≡ pair range.now }
 {
     Extent {
-        from: range.start,
-        to: range.end,
+        start: range.start,
+        end: range.end,
     }
 }
 
 /// The record of no byte range.
 pub const NO_EXTENT: MaybeExtent = MaybeExtent {
     is_present: 0,
-    from: 0,
-    to: 0,
+    start: 0,
+    end: 0,
 };
 
 /// Returns a byte range as a record that could hold none.
@@ -54,8 +54,8 @@ pub fn some_extent(range: &Range<usize>) -> MaybeExtent
 {
     MaybeExtent {
         is_present: 1,
-        from: range.start,
-        to: range.end,
+        start: range.start,
+        end: range.end,
     }
 }
 
@@ -128,8 +128,8 @@ fn number_record(kind: u32, number: usize) -> CountRecord
     ensures { result ≡ record {
       kind = kind;
       number = number;
-      name = record { from = 0; to = 0 };
-      name_span = record { from = 0; to = 0 };
+      name = record { start = 0; end = 0 };
+      name_span = record { start = 0; end = 0 };
     } }
 {
     CountRecord {

@@ -138,12 +138,12 @@ fn read_by<'a>(
 {
     let is_source_literal = flag(start.is_source_literal());
     let mut walker = Walker::new(alloc, start, task.input, offset, escapes, task.peeks);
+    let mut specs = SpecBuffer::new(specs);
     let mut peek = NO_EXTENT;
     let mut peek_ahead = NO_EXTENT;
     if task.peeks {
         look_ahead(&walker.parser, &mut peek, &mut peek_ahead);
     }
-    let mut specs = SpecBuffer::new(specs);
     let count = walker.walk(steps, &mut specs)?;
     let errors = walker.parser.errors();
     let spans = walker.parser.line_spans();
@@ -154,7 +154,7 @@ fn read_by<'a>(
         faults: errors.len(),
         texts: put_errors(errors, &walker.finders, faults, texts),
         lines: spans.len(),
-        fronts: walker.finders.fronts(),
+        front_faults: walker.finders.fronts(),
         is_source_literal,
         peek,
         peek_ahead,

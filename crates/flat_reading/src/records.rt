@@ -6,8 +6,8 @@
 #[repr(C)]
 #[derive(Clone, Copy)]
 pub struct Extent {
-    pub from: usize,
-    pub to: usize,
+    pub start: usize,
+    pub end: usize,
 }
 
 /// A byte range if `is_present` is not 0, and none otherwise.
@@ -15,8 +15,8 @@ pub struct Extent {
 #[derive(Clone, Copy)]
 pub struct MaybeExtent {
     pub is_present: usize,
-    pub from: usize,
-    pub to: usize,
+    pub start: usize,
+    pub end: usize,
 }
 
 pub const MODE_FORMAT: u32 = 0;
@@ -42,7 +42,7 @@ pub struct Options {
     /// Not 0 if a newline was appended to the input that is not in the snippet.
     pub appended_newline: u32,
     /// Not 0 to fill in `peek` and `peek_ahead`.
-    pub peeks: u32,
+    pub wants_peeks: u32,
 }
 
 pub const COUNT_IMPLIED: u32 = 0;
@@ -162,9 +162,9 @@ pub struct Step {
     /// The byte range of the placeholder that the call closed; none without a source literal.
     pub place: MaybeExtent,
     /// The byte offset up to which the input is read after the call.
-    pub read: usize,
+    pub offset: usize,
     /// The index of the next implicit argument after the call.
-    pub next: usize,
+    pub next_index: usize,
     /// The number of lines after the call.
     pub lines: usize,
     /// The byte range of the next character in the source.
@@ -220,7 +220,7 @@ pub struct Answer {
     pub lines: usize,
     /// The number of faults that were put at the front of the list when they were found. They are
     /// the first ones of the list.
-    pub fronts: usize,
+    pub front_faults: usize,
     /// Not 0 if the snippet is the source literal of the input.
     pub is_source_literal: u32,
     /// The byte range of the first character in the source.

@@ -81,7 +81,7 @@ pub fn task_of<'a>(input: &'a [u8], snippet: &'a [u8], options: &Options) -> Res
     ensures snippet { IfOk result (λ a. option_map (λ t. chars t.now) a.snippet
         ≡ snippet_meant options.now snippet.now) }
     ensures newline { IfOk result (λ a. a.appended_newline ≡ is_set options.now.appended_newline) }
-    ensures peeks { IfOk result (λ a. a.peeks ≡ is_set options.now.peeks) }
+    ensures peeks { IfOk result (λ a. a.peeks ≡ is_set options.now.wants_peeks) }
     ensures input_length { IfOk result (λ a. length a.input.now ≤ limit) }
     ensures hashes { IfOk result (λ a. hashes a.style ≤ limit) }
 {
@@ -99,16 +99,15 @@ pub fn task_of<'a>(input: &'a [u8], snippet: &'a [u8], options: &Options) -> Res
         };
         Some(snippet)
     };
-    let style = style_of(options);
-    if style.unwrap_or(0) > LIMIT || input.len() > LIMIT {
+    if input.len() > LIMIT || options.is_raw != 0 && options.hashes > LIMIT {
         return Err(TOO_LONG);
     }
     Ok(Task {
         mode,
         input: text,
-        style,
+        style: style_of(options),
         snippet,
         appended_newline: options.appended_newline != 0,
-        peeks: options.peeks != 0,
+        peeks: options.wants_peeks != 0,
     })
 }

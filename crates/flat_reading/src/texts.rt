@@ -46,28 +46,28 @@ pub fn has_texts(argument: &Argument<'_>) -> bool
 /// Returns the byte range of a text that begins at `from`. For an empty text this is 0..0, so that
 /// no offset is inside a character.
 #[inline(always)]
-fn extent_of(input: &str, from: usize, text: &str) -> Extent
-    requires { StandsAt input.now from (chars text.now) }
+fn extent_of(input: &str, start: usize, text: &str) -> Extent
+    requires { StandsAt input.now start (chars text.now) }
     ensures { text_at input.now result ≡ chars text.now }
 {
     if text.is_empty() {
         return NOWHERE;
     }
     Extent {
-        from,
-        to: from + text.len(),
+        start,
+        end: start + text.len(),
     }
 }
 
 /// Returns whether the input has these bytes at `from`.
-fn has_bytes_at(input: &str, from: usize, bytes: &[u8]) -> bool
-    ensures yes { IsTrue result → HasBytes input.now from bytes.now }
-    ensures no { IsFalse result → ¬ (HasBytes input.now from bytes.now) }
+fn has_bytes_at(input: &str, start: usize, bytes: &[u8]) -> bool
+    ensures yes { IsTrue result → HasBytes input.now start bytes.now }
+    ensures no { IsFalse result → ¬ (HasBytes input.now start bytes.now) }
 {
-    let Some(to) = from.checked_add(bytes.len()) else {
+    let Some(end) = start.checked_add(bytes.len()) else {
         return false;
     };
-    match input.as_bytes().get(from..to) {
+    match input.as_bytes().get(start..end) {
         Some(part) => part == bytes,
         None => false,
     }
@@ -76,16 +76,16 @@ fn has_bytes_at(input: &str, from: usize, bytes: &[u8]) -> bool
 /// Returns the byte range of a text that begins at `from`, or after `prefix` if the input has that
 /// at `from`.
 #[inline(never)]
-fn extent_after(input: &str, prefix: &[u8], from: usize, text: &str) -> Extent
-    requires { StandsAfter input.now prefix.now from (chars text.now) }
+fn extent_after(input: &str, prefix: &[u8], start: usize, text: &str) -> Extent
+    requires { StandsAfter input.now prefix.now start (chars text.now) }
     ensures { text_at input.now result ≡ chars text.now }
 {
-    if has_bytes_at(input, from, prefix)
-        && has_bytes_at(input, from + prefix.len(), text.as_bytes())
+    if has_bytes_at(input, start, prefix)
+        && has_bytes_at(input, start + prefix.len(), text.as_bytes())
     {
-        extent_of(input, from + prefix.len(), text)
+        extent_of(input, start + prefix.len(), text)
     } else {
-        extent_of(input, from, text)
+        extent_of(input, start, text)
     }
 }
 
@@ -142,8 +142,8 @@ pub fn name_extent(input: &str, offset: usize, argument: &Argument<'_>) -> Exten
 {
     match &argument.position {
         Position::ArgumentNamed(name) => {
-            let from = argument.position_span.start.saturating_sub(offset);
-            extent_after(input, b"r#", from, name)
+            let start = argument.position_span.start.saturating_sub(offset);
+            extent_after(input, b"r#", start, name)
         }
         _ => NOWHERE,
     }
@@ -176,8 +176,8 @@ pub fn run_extent(read: usize, text: &str) -> Extent
         → run_at input read result ≡ chars text.now }
 {
     Extent {
-        from: read.saturating_sub(text.len()),
-        to: read,
+        start: read.saturating_sub(text.len()),
+        end: read,
     }
 }
 

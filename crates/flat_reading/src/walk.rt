@@ -38,8 +38,8 @@ const BLANK: Step = Step {
     position_span: NOWHERE,
     spec: 0,
     place: NO_EXTENT,
-    read: 0,
-    next: 0,
+    offset: 0,
+    next_index: 0,
     lines: 0,
     peek: NO_EXTENT,
     peek_ahead: NO_EXTENT,
@@ -107,12 +107,12 @@ fn closed_place(parser: &Parser<'_>, old_count: usize) -> MaybeExtent
 /// and the number of lines.
 #[inline(always)]
 fn put_state(parser: &Parser<'_>, step: &mut Step)
-    ensures read { step.new.read ≡ position parser.now.input parser.now.rest }
-    ensures next { step.new.next ≡ parser.now.next }
+    ensures offset { step.new.offset ≡ position parser.now.input parser.now.rest }
+    ensures next_index { step.new.next_index ≡ parser.now.next }
     ensures lines { step.new.lines ≡ length parser.now.line_spans }
 {
-    step.read = parser.position();
-    step.next = parser.curarg();
+    step.offset = parser.position();
+    step.next_index = parser.curarg();
     step.lines = parser.line_spans().len();
 }
 
@@ -211,7 +211,7 @@ impl<'a> Walker<'a> {
         specs: &mut SpecBuffer<'_>,
         step: &mut Step,
     ) -> Result<(), AllocError>
-        requires last { RunStands self.now.input.now step.old.read
+        requires last { RunStands self.now.input.now step.old.offset
             (option_map (seen_taken self.now.argument) piece.now) }
         requires stands { IfNone self.now.escapes
             (PlaceholderStands self.now.input.now self.now.offset
@@ -234,7 +234,7 @@ impl<'a> Walker<'a> {
             None => put_bare_piece(PIECE_NONE, NOWHERE, step),
             Some(PieceKind::Lit(text)) => put_bare_piece(
                 PIECE_TEXT,
-                run_extent(step.read, text),
+                run_extent(step.offset, text),
                 step,
             ),
             Some(PieceKind::NextArgument) => match self.escapes {
@@ -262,7 +262,7 @@ impl<'a> Walker<'a> {
         ensures number { OnOk result (step.new.spec ≤ specs.new.count) }
         ensures adds { OnOk result (Adds (specs_in (given self.old.parser)) specs.old specs.new) }
         ensures call { OnOk result (MakesCall number self.old self.new) }
-        ensures read { OnOk result (step.new.read
+        ensures read { OnOk result (step.new.offset
             ≡ position self.new.parser.input self.new.parser.rest) }
     {
         let start = self.parser.position();
@@ -289,6 +289,7 @@ impl<'a> Walker<'a> {
 
     /// Makes the call with this number, whose step does not fit. Returns the byte offset up to
     /// which the input is then read, or `Err` if an allocation fails.
+    #[cold]
     #[inline(never)]
     fn step_unwritten(
         &mut self,
@@ -307,7 +308,7 @@ impl<'a> Walker<'a> {
     {
         let mut spare = BLANK;
         self.step(number, specs, &mut spare)?;
-        Ok(spare.read)
+        Ok(spare.offset)
     }
 
     /// Makes the call with this number and writes it into the step with this index, if there is
@@ -332,7 +333,7 @@ impl<'a> Walker<'a> {
     {
         if number < steps.len() {
             self.step(number, specs, &mut steps[number])?;
-            Ok(steps[number].read)
+            Ok(steps[number].offset)
         } else {
             self.step_unwritten(number, specs)
         }

@@ -47,6 +47,13 @@ fn faults_of<'a>(alloc: Global, parser: &mut Parser<'a>) -> Result<Findings<'a>,
     Ok(faults)
 }
 
+/// The labels of a source's text, and its faults.
+#[derive(Drop)]
+struct Labelled<'a> {
+    labels: Vec<Label>,
+    faults: Findings<'a>,
+}
+
 /// Returns the labels of a source's text and its faults, by the calls of a parser at its start.
 /// Returns `Err` as `faults_of` does.
 fn labels_of<'a>(
@@ -54,11 +61,11 @@ fn labels_of<'a>(
     parser: &mut Parser<'a>,
     mode: ParseMode,
     source: Source<'a>,
-) -> Result<(Vec<Label>, Findings<'a>), AllocError>
+) -> Result<Labelled<'a>, AllocError>
     requires { parser.old ≡ start (seen_mode mode) (seen_source source) }
-    ensures labels { IfOk result (λ x. x.0.items
+    ensures labels { IfOk result (λ x. x.labels.items
         ≡ map sized (read_tokens (seen_mode mode) (chars source.entry.text.now))) }
-    ensures faults { IfOk result (λ x. Keeps x.1
+    ensures faults { IfOk result (λ x. Keeps x.faults
         (findings (seen_mode mode) (seen_source source.entry))) }
 {
     let text = source.text;
@@ -73,7 +80,7 @@ fn labels_of<'a>(
         let width = text.len().saturating_sub(parser.position());
         rest = label(&mut labels, mode, piece, &argument, width, rest)?;
     }
-    Ok((labels, faults))
+    Ok(Labelled { labels, faults })
 }
 
 /// Returns a parser at the start of a source. Returns `Err` if an allocation fails.
@@ -106,20 +113,27 @@ pub fn faults_in<'a>(
     Ok(faults)
 }
 
+/// The tokens of a source, and its faults.
+#[derive(Drop)]
+pub struct Tokens<'a> {
+    pub tokens: Vec<Token>,
+    pub faults: Findings<'a>,
+}
+
 /// Returns the tokens of a source, and its faults. Returns `Err` as `faults_of` does.
 pub fn tokens_in<'a>(
     alloc: Global,
     mode: ParseMode,
     source: Source<'a>,
-) -> Result<(Vec<Token>, Findings<'a>), AllocError>
+) -> Result<Tokens<'a>, AllocError>
     requires { hashes source.style ≤ limit }
-    ensures tokens { IfOk result (λ x. map seen_token x.0.items
+    ensures tokens { IfOk result (λ x. map seen_token x.tokens.items
         ≡ tokens_in (seen_mode mode) (seen_source source.entry)) }
-    ensures faults { IfOk result (λ x. Keeps x.1
+    ensures faults { IfOk result (λ x. Keeps x.faults
         (findings (seen_mode mode) (seen_source source.entry))) }
 {
     let mut parser = parser_of(alloc, mode, source)?;
-    let (labels, faults) = labels_of(alloc, &mut parser, mode, source)?;
+    let Labelled { labels, faults } = labels_of(alloc, &mut parser, mode, source)?;
     let tokens = place_labels(
         alloc,
         source.text,
@@ -129,5 +143,5 @@ pub fn tokens_in<'a>(
         mode,
         labels.as_slice(),
     )?;
-    Ok((tokens, faults))
+    Ok(Tokens { tokens, faults })
 }

@@ -20,7 +20,7 @@ ghost use Rattle.format_lint.specs.Lint.{with_drawing};
 ghost use Rattle.format_lint.specs.SeenLint.{Keeps, seen_finding, seen_shown, seen_source};
 ghost use Rattle.format_lint.specs.SeenLint.{seen_task};
 
-use super::faults::{Source, faults_in, tokens_in};
+use super::faults::{Source, Tokens, faults_in, tokens_in};
 use super::findings::{Finding, Findings};
 use super::task::{Show, Task};
 use super::tokens::put_tokens;
@@ -274,7 +274,7 @@ fn token_output(alloc: Global, task: Task<'_>, source: Source<'_>) -> Result<Sho
         ≡ lexed (seen_task task.entry) (seen_source source.entry)) }
 {
     let written = source.literal.unwrap_or(source.text);
-    let (tokens, faults) = tokens_in(alloc, task.mode, source)?;
+    let Tokens { tokens, faults } = tokens_in(alloc, task.mode, source)?;
     let mut output = String::new(alloc);
     put_tokens(&mut output, task.colours, written, tokens.as_slice())?;
     if task.colours {

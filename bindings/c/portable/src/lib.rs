@@ -14,17 +14,17 @@ use dephungo::Suggestion;
 use records::*;
 use std::ops::Range;
 
-const NOWHERE: Extent = Extent { from: 0, to: 0 };
-const NONE: MaybeExtent = MaybeExtent { is_present: 0, from: 0, to: 0 };
+const NOWHERE: Extent = Extent { start: 0, end: 0 };
+const NONE: MaybeExtent = MaybeExtent { is_present: 0, start: 0, end: 0 };
 /// The most bytes of an input, and the most hashes of a raw literal.
 const LIMIT: u64 = 1_000_000_000_000;
 
 fn extent(range: &Range<usize>) -> Extent {
-    Extent { from: range.start, to: range.end }
+    Extent { start: range.start, end: range.end }
 }
 
 fn maybe(range: Option<&Range<usize>>) -> MaybeExtent {
-    range.map_or(NONE, |it| MaybeExtent { is_present: 1, from: it.start, to: it.end })
+    range.map_or(NONE, |it| MaybeExtent { is_present: 1, start: it.start, end: it.end })
 }
 
 /// Where a text of an input stands in it, or nowhere if it is another text.
@@ -58,9 +58,9 @@ impl<T> Buffer<'_, T> {
 
 impl Buffer<'_, u8> {
     fn push_text(&mut self, text: &str) -> Extent {
-        let from = self.used;
+        let start = self.used;
         text.bytes().for_each(|byte| self.push(byte));
-        Extent { from, to: self.used }
+        Extent { start, end: self.used }
     }
 }
 
@@ -139,8 +139,8 @@ fn blank_step() -> Step {
         position_span: NOWHERE,
         spec: 0,
         place: NONE,
-        read: 0,
-        next: 0,
+        offset: 0,
+        next_index: 0,
         lines: 0,
         peek: NONE,
         peek_ahead: NONE,
@@ -151,8 +151,8 @@ fn fault(error: &ParseError, step: usize, texts: &mut Buffer<'_, u8>) -> Fault {
     let mut text = |text: &str| texts.push_text(text);
     let mut maybe_text = |it: Option<&String>| {
         it.map_or(NONE, |it| {
-            let Extent { from, to } = text(it);
-            MaybeExtent { is_present: 1, from, to }
+            let Extent { start, end } = text(it);
+            MaybeExtent { is_present: 1, start, end }
         })
     };
     let second = error.secondary_label.as_ref();
@@ -186,7 +186,7 @@ fn fault(error: &ParseError, step: usize, texts: &mut Buffer<'_, u8>) -> Fault {
 
 /// The places of the next two characters, if they are wanted.
 fn peeks(parser: &Parser<'_>, options: &Options) -> (MaybeExtent, MaybeExtent) {
-    if options.peeks == 0 {
+    if options.wants_peeks == 0 {
         return (NONE, NONE);
     }
     let [next, after_next] = [parser.peek(), parser.peek_ahead()];
@@ -266,8 +266,8 @@ fn read(
         let (peek, peek_ahead) = peeks(&parser, options);
         steps.push(Step {
             place: maybe(closed),
-            read: parser.peek().map_or(input.len(), |(_, at, _)| at),
-            next: parser.curarg,
+            offset: parser.peek().map_or(input.len(), |(_, at, _)| at),
+            next_index: parser.curarg,
             lines: parser.line_spans.len(),
             peek,
             peek_ahead,
@@ -290,7 +290,7 @@ fn read(
         faults: faults.used,
         texts: texts.used,
         lines: lines.used,
-        fronts: fronts.len(),
+        front_faults: fronts.len(),
         is_source_literal: parser.is_source_literal.into(),
         peek,
         peek_ahead,

@@ -39,14 +39,41 @@ fn line_columns(source: &str, number: usize) -> usize {
     columns(line(source, number))
 }
 
+/// A line of the source, and how many columns it has.
+#[derive(Clone, Copy)]
+struct Measured {
+    line: usize,
+    columns: usize,
+}
+
+/// Returns the line in which a label begins.
+#[inline]
+fn start_line(source: &str, label: &Label<'_>) -> Measured {
+    let line = label.extent.start.line;
+    Measured {
+        line,
+        columns: line_columns(source, line),
+    }
+}
+
+/// Returns how many columns a line of the source has, which most often is the one that is known.
+#[inline]
+fn columns_of(source: &str, number: usize, known: Measured) -> usize {
+    if number == known.line {
+        known.columns
+    } else {
+        line_columns(source, number)
+    }
+}
+
 /// Returns the reach of a label in one line.
 #[inline]
-fn mark_reach(source: &str, mark: &Mark<'_>) -> Reach {
+fn mark_reach(source: &str, known: Measured, mark: &Mark<'_>) -> Reach {
     Reach {
         from: mark.from,
         to: mark.to,
         end: mark.to + text_columns(mark.text),
-        longest: line_columns(source, mark.line),
+        longest: columns_of(source, mark.line, known),
     }
 }
 
@@ -88,16 +115,16 @@ fn long_reach(source: &str, label: &Label<'_>) -> Reach {
 
 /// Returns the reach of a label in the line in which it begins.
 #[inline]
-fn short_reach(source: &str, label: &Label<'_>) -> Reach {
-    mark_reach(source, &mark_of(label, 0))
+fn short_reach(source: &str, known: Measured, label: &Label<'_>) -> Reach {
+    mark_reach(source, known, &mark_of(label, 0))
 }
 
 /// Returns the reach of labels, each in the line in which it begins, and of `first`.
 #[inline]
-fn reach_on(source: &str, first: Reach, labels: &[Label<'_>]) -> Reach {
+fn reach_on(source: &str, known: Measured, first: Reach, labels: &[Label<'_>]) -> Reach {
     let mut reach = first;
     for label in labels {
-        reach = join_reaches(reach, short_reach(source, label));
+        reach = join_reaches(reach, short_reach(source, known, label));
     }
     reach
 }
@@ -116,10 +143,13 @@ fn reach_of(source: &str, labels: &[Label<'_>]) -> Reach {
             if is_long(label) {
                 long_reach(source, label)
             } else {
-                short_reach(source, label)
+                short_reach(source, start_line(source, label), label)
             }
         }
-        [label, rest @ ..] => reach_on(source, short_reach(source, label), rest),
+        [label, rest @ ..] => {
+            let known = start_line(source, label);
+            reach_on(source, known, short_reach(source, known, label), rest)
+        }
     }
 }
 

@@ -67,18 +67,31 @@ fn past_printable(spot: Spot, front: &str) -> Spot {
     }
 }
 
-/// Passes the printable characters at the start of a text that end within `width` bytes. Returns
-/// the place after them, what is left of the text, and how many of the bytes are left.
-#[inline]
-fn pass_printable(from: Spot, text: &str, width: usize) -> (Spot, &str, usize) {
-    let (front, rest) = split_printable(text, width);
-    (past_printable(from, front), rest, width - front.len())
+/// A text after some characters were passed.
+#[derive(Clone, Copy)]
+struct Rest<'a> {
+    /// The place after these characters.
+    spot: Spot,
+    /// What is left of the text.
+    text: &'a str,
+    /// How many bytes are left to pass.
+    width: usize,
 }
 
-/// Passes the characters of a text that end within `width` bytes. Returns the place after them,
-/// what is left of the text, and how many of the bytes are left.
+/// Passes the printable characters at the start of a text that end within `width` bytes.
 #[inline]
-fn pass(from: Spot, text: &str, width: usize) -> (Spot, &str, usize) {
+fn pass_printable(from: Spot, text: &str, width: usize) -> Rest<'_> {
+    let (front, rest) = split_printable(text, width);
+    Rest {
+        spot: past_printable(from, front),
+        text: rest,
+        width: width - front.len(),
+    }
+}
+
+/// Passes the characters of a text that end within `width` bytes.
+#[inline]
+fn pass(from: Spot, text: &str, width: usize) -> Rest<'_> {
     let mut at = from;
     let mut rest = text;
     let mut countdown = width;
@@ -90,13 +103,17 @@ fn pass(from: Spot, text: &str, width: usize) -> (Spot, &str, usize) {
         at = past(at, c);
         rest = tail;
         if !at.is_indent {
-            let (spot, rest_after, fewer) = pass_printable(at, rest, countdown);
-            at = spot;
-            rest = rest_after;
-            countdown = fewer;
+            let next = pass_printable(at, rest, countdown);
+            at = next.spot;
+            rest = next.text;
+            countdown = next.width;
         }
     }
-    (at, rest, countdown)
+    Rest {
+        spot: at,
+        text: rest,
+        width: countdown,
+    }
 }
 
 /// Returns the first line of a text, and the rest of the text after that line.
@@ -144,7 +161,10 @@ pub fn offsets(picture: &Picture<'_>, range: &Range<usize>) -> (usize, usize) {
 #[inline]
 pub fn extent_of(picture: &Picture<'_>, range: &Range<usize>) -> Extent {
     let (from, to) = offsets(picture, range);
-    let (start, rest, width) = pass(ORIGIN, picture.source, from);
-    let (end, _, _) = pass(start, rest, width + (to - from));
-    Extent { start, end }
+    let before = pass(ORIGIN, picture.source, from);
+    let after = pass(before.spot, before.text, before.width + (to - from));
+    Extent {
+        start: before.spot,
+        end: after.spot,
+    }
 }

@@ -39,9 +39,17 @@ pub fn columns(text: &str) -> usize {
     count
 }
 
-/// Returns a text without its first `count` columns, and how many columns are left out.
+/// A text without its first columns.
+#[derive(Clone, Copy)]
+struct Cut<'a> {
+    rest: &'a str,
+    /// How many columns are left out.
+    columns: usize,
+}
+
+/// Returns a text without its first `count` columns.
 #[inline]
-fn past_columns(text: &str, count: usize) -> (&str, usize) {
+fn past_columns(text: &str, count: usize) -> Cut<'_> {
     let mut rest = text;
     let mut countdown = count;
     let mut columns = 0;
@@ -53,13 +61,21 @@ fn past_columns(text: &str, count: usize) -> (&str, usize) {
         countdown = countdown.saturating_sub(width(c));
         rest = tail;
     }
-    (rest, columns)
+    Cut { rest, columns }
 }
 
-/// Returns how many columns are left out, if the first `count` columns of a text are, of the same
-/// character so often at its start, and how many of these columns are then left.
+/// Columns at the start of a text, some of which are left out.
+#[derive(Clone, Copy)]
+struct Countdown {
+    /// How many are left out.
+    columns: usize,
+    /// How many are still to be left out.
+    rest: usize,
+}
+
+/// Leaves the first `count` columns of a text out, of the same character so often at its start.
 #[inline]
-fn left_out_of_run(count: usize, times: usize, character: char) -> (usize, usize) {
+fn left_out_of_run(count: usize, times: usize, character: char) -> Countdown {
     let mut countdown = count;
     let mut columns = 0;
     let mut rest = times;
@@ -68,7 +84,10 @@ fn left_out_of_run(count: usize, times: usize, character: char) -> (usize, usize
         countdown = countdown.saturating_sub(width(character));
         rest -= 1;
     }
-    (columns, countdown)
+    Countdown {
+        columns,
+        rest: countdown,
+    }
 }
 
 /// Returns how many columns are left out if the first `count` columns of a text, as it is drawn,
@@ -82,9 +101,9 @@ fn left_out(text: &str, count: usize) -> usize {
         if countdown == 0 {
             break;
         }
-        let (more, fewer) = left_out_of_run(countdown, glyph_count(c), glyph(c));
-        columns += more;
-        countdown = fewer;
+        let run = left_out_of_run(countdown, glyph_count(c), glyph(c));
+        columns += run.columns;
+        countdown = run.rest;
         rest = tail;
     }
     columns
@@ -123,7 +142,7 @@ fn put_in_window(
     is_wide: bool,
     row: &str,
 ) -> Result<(), AllocError> {
-    let (rest, _) = past_columns(row, window.left);
+    let Cut { rest, .. } = past_columns(row, window.left);
     if is_wide {
         put_within(out, rest, window.most)?;
     } else {
@@ -144,7 +163,7 @@ fn put_dots_before<'a>(
     if window.left == 0 {
         return Ok(part);
     }
-    let (rest, columns) = past_columns(part, 3);
+    let Cut { rest, columns } = past_columns(part, 3);
     put_painted(out, palette, Style::Secondary, "...")?;
     put_run(out, ' ', columns.saturating_sub(3))?;
     Ok(rest)
@@ -211,6 +230,10 @@ pub fn put_shown(
 ) -> Result<(), AllocError> {
     if text.len() >= 1 << (usize::BITS - 5) {
         return crate::shim::alloc::refuse();
+    }
+    let (front, rest) = split_printable(text, text.len());
+    if window.left == 0 && rest.is_empty() && front.len() <= window.room {
+        return Ok(out.try_push_str(front)?);
     }
     let is_wide = columns(text).saturating_sub(window.left) > window.room;
     if window.left == 0 && !is_wide {

@@ -4,6 +4,7 @@
 // Extracted from crates/file_fixes/src/lib.rt by tools/extract: not to be edited.
 // That source has the contracts, and is proved. That this text means the same is only tested.
 
+pub(crate) mod fault_search;
 pub(crate) mod outside;
 pub(crate) mod round_edits;
 pub(crate) mod rounds;

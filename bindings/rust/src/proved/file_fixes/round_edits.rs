@@ -10,7 +10,7 @@ use crate::shim::prelude::*;
 
 /// Returns where the last edit ends, or `at` if there is none.
 #[inline]
-fn end_after(at: usize, edits: &[Edit<'_>]) -> usize {
+pub(crate) fn end_after(at: usize, edits: &[Edit<'_>]) -> usize {
     let mut end = at;
     for edit in edits {
         end = edit.span.end;

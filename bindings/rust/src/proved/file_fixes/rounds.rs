@@ -3,6 +3,7 @@
 // Extracted from crates/file_fixes/src/rounds.rt by tools/extract: not to be edited.
 // That source has the contracts, and is proved. That this text means the same is only tested.
 
+use crate::proved::file_fixes::fault_search::keeps_unmended;
 use crate::proved::file_fixes::outside::keeps_tokens;
 use crate::proved::file_fixes::round_edits::round_edits;
 use crate::proved::source_lint::file_faults;
@@ -41,6 +42,16 @@ pub fn is_no_worse(old: &Report, new: &Report) -> bool {
         && new.findings.len() <= old.findings.len()
 }
 
+/// Returns whether a report on a file after a round is no worse than the one before it, and the
+/// faults that the round does not mend stay.
+#[inline]
+fn keeps_faults(old: &Report, new: &Report) -> Result<bool, AllocError> {
+    if !is_no_worse(old, new) {
+        return Ok(false);
+    }
+    keeps_unmended(old.findings.as_slice(), new.findings.as_slice())
+}
+
 /// Returns whether the tokens that no edit of a round touches are the same in a file before and
 /// after the round.
 #[inline]
@@ -50,7 +61,7 @@ fn keeps_others(old: &str, report: &Report, new: &str) -> Result<bool, AllocErro
 }
 
 /// Returns a file after one more round, or `None` if there is nothing to mend or the file with its
-/// edits is worse or has other tokens where no edit is.
+/// edits is worse, lacks a fault that is not mended or has other tokens where no edit is.
 #[inline]
 fn next_round(
     text: &str,
@@ -69,7 +80,7 @@ fn next_round(
         return Ok(None);
     };
     let report = file_faults(text.as_str(), options)?;
-    if !is_no_worse(&fixed.report, &report) {
+    if !keeps_faults(&fixed.report, &report)? {
         return Ok(None);
     }
     if !keeps_others(source, &fixed.report, text.as_str())? {
@@ -100,8 +111,10 @@ fn with_round(fixed: FileFixes, round: Round) -> Result<FileFixes, AllocError> {
 ///
 /// In a round the suggestions of all faults are applied whose edits follow each other, and then
 /// those of the new report, in at most sixteen rounds. A round is left out if the file then breaks,
-/// has another number of calls, more faults, or other tokens where no edit is: so a round changes
-/// only the tokens that its edits touch. Nothing is fixed in a file that breaks.
+/// has another number of calls, more faults, or other tokens where no edit is, or if a fault that
+/// it does not mend is gone: so a round changes only the tokens that its edits touch, the other
+/// faults stay, and at most as many new ones come as it mends. Nothing is fixed in a file that
+/// breaks.
 #[inline]
 pub fn fixes(text: &str, options: &Options<'_>) -> Result<FileFixes, AllocError> {
     let mut fixed = FileFixes {

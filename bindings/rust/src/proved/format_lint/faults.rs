@@ -39,6 +39,12 @@ fn faults_of<'a>(parser: &mut Parser<'a>) -> Result<Findings<'a>, AllocError> {
     Ok(faults)
 }
 
+/// The labels of a source's text, and its faults.
+struct Labelled<'a> {
+    labels: Vec<Label>,
+    faults: Findings<'a>,
+}
+
 /// Returns the labels of a source's text and its faults, by the calls of a parser at its start.
 /// Returns `Err` as `faults_of` does.
 #[inline]
@@ -46,7 +52,7 @@ fn labels_of<'a>(
     parser: &mut Parser<'a>,
     mode: ParseMode,
     source: Source<'a>,
-) -> Result<(Vec<Label>, Findings<'a>), AllocError> {
+) -> Result<Labelled<'a>, AllocError> {
     let text = source.text;
     let mut argument = Argument::default();
     let mut labels = Vec::new();
@@ -59,7 +65,7 @@ fn labels_of<'a>(
         let width = text.len().saturating_sub(parser.position());
         rest = label(&mut labels, mode, piece, &argument, width, rest)?;
     }
-    Ok((labels, faults))
+    Ok(Labelled { labels, faults })
 }
 
 /// Returns a parser at the start of a source.
@@ -80,14 +86,17 @@ pub fn faults_in<'a>(mode: ParseMode, source: Source<'a>) -> Result<Findings<'a>
     Ok(faults)
 }
 
+/// The tokens of a source, and its faults.
+pub struct Tokens<'a> {
+    pub tokens: Vec<Token>,
+    pub faults: Findings<'a>,
+}
+
 /// Returns the tokens of a source, and its faults. Returns `Err` as `faults_of` does.
 #[inline]
-pub fn tokens_in<'a>(
-    mode: ParseMode,
-    source: Source<'a>,
-) -> Result<(Vec<Token>, Findings<'a>), AllocError> {
+pub fn tokens_in<'a>(mode: ParseMode, source: Source<'a>) -> Result<Tokens<'a>, AllocError> {
     let mut parser = parser_of(mode, source)?;
-    let (labels, faults) = labels_of(&mut parser, mode, source)?;
+    let Labelled { labels, faults } = labels_of(&mut parser, mode, source)?;
     let tokens = place_labels(
         source.text,
         source.style,
@@ -96,5 +105,5 @@ pub fn tokens_in<'a>(
         mode,
         labels.as_slice(),
     )?;
-    Ok((tokens, faults))
+    Ok(Tokens { tokens, faults })
 }

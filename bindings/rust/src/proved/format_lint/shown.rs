@@ -3,7 +3,7 @@
 // Extracted from crates/format_lint/src/shown.rt by tools/extract: not to be edited.
 // That source has the contracts, and is proved. That this text means the same is only tested.
 
-use super::faults::{faults_in, tokens_in, Source};
+use super::faults::{faults_in, tokens_in, Source, Tokens};
 use super::findings::{Finding, Findings};
 use super::task::{Show, Task};
 use super::tokens::put_tokens;
@@ -202,7 +202,7 @@ fn fixed_output(task: Task<'_>, source: Source<'_>) -> Result<Shown, AllocError>
 #[inline]
 fn token_output(task: Task<'_>, source: Source<'_>) -> Result<Shown, AllocError> {
     let written = source.literal.unwrap_or(source.text);
-    let (tokens, faults) = tokens_in(task.mode, source)?;
+    let Tokens { tokens, faults } = tokens_in(task.mode, source)?;
     let mut output = String::new();
     put_tokens(&mut output, task.colours, written, tokens.as_slice())?;
     if task.colours {

@@ -1,10 +1,19 @@
 use Rattle.std.proofs.Common.{◌≡◌, ◌++◌, ◌∙◌, ap, arith, chars, encode_utf8_all, false}
-use Rattle.std.proofs.Common.{◌-◌, nat_lt, string_bytes, sym}
+use Rattle.std.proofs.Common.{◌-◌, length, nat_lt, string_bytes, sym}
 use Rattle.std.proofs.lemmas.Bool.Decides.{nat_tests}
 use Rattle.drawn_lines.specs.Glyphs.{glyphs}
 use Rattle.drawn_lines.specs.Windows.{is_wide}
-use Rattle.drawn_lines.proofs.WindowLemmas.{glyph-chars, shown-cut, shown-whole}
+use Rattle.drawn_lines.proofs.WindowLemmas.{glyph-chars, shown-cut, shown-printable, shown-whole}
 use Rattle.drawn_lines.proofs.window.put_shown.Goals as goal
+
+pub returns-then-front-window-clause-drawn : goal.returns-then-front-window-clause-drawn
+returns-then-front-window-clause-drawn c =
+    let parts = c.split_printable.ensures in
+    let none : length c.split_printable.result.1.now ≡ 0 = grind (arith, nat_tests) in
+    c.in_ok-push_str.ensures.bytes
+    ∙ ap (λ x. string_bytes c.args.out.now ++ x)
+    (sym (shown-printable c.args.palette c.args.window c.args.text.now _ _ parts.parts none
+    parts.pass (grind (arith, nat_tests)) (grind (arith, nat_tests))))
 
 pub returns-then-not-is_wide-clause-drawn : goal.returns-then-not-is_wide-clause-drawn
 returns-then-not-is_wide-clause-drawn c =
@@ -12,7 +21,7 @@ returns-then-not-is_wide-clause-drawn c =
     grind (arith, nat_tests) in
     c.in_ok-put_glyphs.ensures.drawn
     ∙ ap (λ x. string_bytes c.args.out.now ++ x)
-    (sym (shown-whole c.args.palette c.args.window (chars c.args.text.now) c.if-window-eq0.true
+    (sym (shown-whole c.args.palette c.args.window (chars c.args.text.now) c.if-window-eq0-2.true
     narrow))
 
 pub returns-clause-drawn : goal.returns-clause-drawn

@@ -9,12 +9,12 @@ returns c =
     let one = c.put-description.ensures.grows in
     let two = c.put_note-note.ensures.grows in
     let three = c.put-label.ensures.grows in
-    let four = c.put_second.ensures.grows in
+    let four = c.put_second-second.ensures.grows in
     let five = c.put_suggestion-suggestion.ensures.grows in
     let f2 = two.forward in let f3 = three.forward in let f4 = four.forward in
     let f5 = five.forward in
     let a1 = c.put-description.auto.texts in let a2 = c.put_note-note.auto.texts in
-    let a3 = c.put-label.auto.texts in let a4 = c.put_second.auto.texts in
+    let a3 = c.put-label.auto.texts in let a4 = c.put_second-second.auto.texts in
     let after_four = five in
     let after_three = Grows-trans _ _ _ _ _ _ a4 four after_four in
     let after_two = Grows-trans _ _ _ _ _ _ a3 three after_three in
@@ -27,7 +27,7 @@ returns c =
         c.put-description.ensures.counted,
         c.put_note-note.ensures.counted,
         c.put-label.ensures.counted,
-        c.put_second.ensures.counted,
+        c.put_second-second.ensures.counted,
         c.put_suggestion-suggestion.ensures.counted,
         ap length c.as_str.ensures.value,
         ap length c.as_str-2.ensures.value,
@@ -49,14 +49,15 @@ returns c =
               a3,
             ))) (c.put-label.ensures.holds (omega (arith, a1, a2))));
         span = c.extent.ensures;
-        second = HoldsSecond-grow _ _ c.put_second.result.0 c.put_second.result.1 _
+        second = HoldsSecond-grow _ _ c.put_second-second.result.label
+            c.put_second-second.result.span _
             (after_four.front (omega (
               arith,
               a1,
               a2,
               a3,
               a4,
-            ))) (c.put_second.ensures.holds (omega (arith, a1, a2, a3)));
+            ))) (c.put_second-second.ensures.holds (omega (arith, a1, a2, a3)));
         suggestion = c.put_suggestion-suggestion.ensures.holds (omega (arith, a1, a2, a3, a4));
       };
       step = refl;

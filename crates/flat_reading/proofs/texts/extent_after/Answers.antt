@@ -24,12 +24,12 @@ extent_of-requires c =
 pub extent_of-requires-else-has_bytes_at : goal.extent_of-requires-else-has_bytes_at
 extent_of-requires-else-has_bytes_at c = elim c.else-has_bytes_at.branch [
   | else-has_bytes_at-via-then-has_bytes_at+else-has_bytes_at-2 w ↦
-      no_prefix c.args.input.now c.args.prefix.now c.args.text.now c.args.from c.utf8.text
+      no_prefix c.args.input.now c.args.prefix.now c.args.text.now c.args.start c.utf8.text
       c.requires
       (λ one two. w.has_bytes_at-then-has_bytes_at.ensures.no w.if-has_bytes_at-2.false
       (rw w.as_bytes.ensures.value two))
   | else-has_bytes_at-via-else-has_bytes_at w ↦
-      no_prefix c.args.input.now c.args.prefix.now c.args.text.now c.args.from c.utf8.text
+      no_prefix c.args.input.now c.args.prefix.now c.args.text.now c.args.start c.utf8.text
       c.requires
       (λ one two. c.has_bytes_at.ensures.no w.if-has_bytes_at.false one)
 ]

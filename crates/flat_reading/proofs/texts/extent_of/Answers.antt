@@ -10,13 +10,13 @@ returns-then-is_empty c =
 pub overflow_add-result : goal.overflow_add-result
 overflow_add-result c =
     let some = is_some_of (length c.args.text.now) (sym c.is_empty.ensures ∙ c.if-is_empty.false) in
-    let h = has_bytes c.args.input.now c.args.text.now c.args.from c.utf8.text some c.requires in
-    let within : c.args.from + length c.args.text.now ≤ length c.args.input.now = h.0 in
+    let h = has_bytes c.args.input.now c.args.text.now c.args.start c.utf8.text some c.requires in
+    let within : c.args.start + length c.args.text.now ≤ length c.args.input.now = h.0 in
     omega (arith, c.type_inv.input)
 
 pub returns : goal.returns
 returns c =
     let some = is_some_of (length c.args.text.now) (sym c.is_empty.ensures ∙ c.if-is_empty.false) in
-    cut_text c.args.input.now c.args.text.now c.args.from c.utf8.input c.utf8.text some
-    (has_bytes c.args.input.now c.args.text.now c.args.from c.utf8.text
+    cut_text c.args.input.now c.args.text.now c.args.start c.utf8.input c.utf8.text some
+    (has_bytes c.args.input.now c.args.text.now c.args.start c.utf8.text
     some c.requires)

@@ -11,8 +11,8 @@ returns-clause-described c = λ peeks input specs.
     c.in_ok-_none.ensures.state c.requires
     (no_piece input (spec_at input specs step.spec) step c.put_bare_piece.ensures.kind)
     (ap maybe_place kept.0)
-    (kept.1 ∙ c.put_state.ensures.read)
-    (kept.2 ∙ c.put_state.ensures.next)
+    (kept.1 ∙ c.put_state.ensures.offset)
+    (kept.2 ∙ c.put_state.ensures.next_index)
     (kept.3 ∙ c.put_state.ensures.lines)
     (ap maybe_place kept.4)
     (ap maybe_place kept.5)

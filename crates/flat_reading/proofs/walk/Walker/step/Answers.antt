@@ -12,7 +12,7 @@ use Rattle.flat_reading.proofs.walk.Walker.step.Goals as goal
 
 pub put_given-requires-clause-last : goal.put_given-requires-clause-last
 put_given-requires-clause-last c =
-    let read = c.put_state.ensures.read
+    let read = c.put_state.ensures.offset
     ∙ ap (λ (s : State). position s.input s.rest) c.in_ok-piece.ensures.state in
     let w = c.args.self.now in
     let ready = c.requires.ready in
@@ -67,8 +67,8 @@ returns-clause-described c = λ room.
     (ap maybe_place kept.0
     ∙ place s.arg_places (next_call s).closes (sym (length-map c.arg_places-places.result.now pair)
     ∙ ap length c.arg_places-places.ensures) refl)
-    (kept.1 ∙ c.put_state.ensures.read)
-    (kept.2 ∙ c.put_state.ensures.next)
+    (kept.1 ∙ c.put_state.ensures.offset)
+    (kept.2 ∙ c.put_state.ensures.next_index)
     (kept.3 ∙ c.put_state.ensures.lines)
     (ap maybe_place kept.4 ∙ c.put_peeks.ensures.place)
     (ap maybe_place kept.5 ∙ c.put_peeks.ensures.ahead)
