@@ -294,9 +294,10 @@ pub fn file_faults(text: &str, table: &Table<'_>, is_from_2021: bool) -> Report 
 /// applicable by a machine, but for two: an argument that can be removed, since a comma stays, and the
 /// macro `dbg!` in the place of another one.
 ///
-/// Suggestions are applied until none is left, in at most sixteen rounds. A round is left out if the
-/// file then breaks, has another number of calls, more faults, or other tokens where no edit is. An
-/// allocation failure aborts, as elsewhere in Rust.
+/// Suggestions are applied until none is left, in at most sixteen rounds. A round is left out, and is
+/// the last, if the file then breaks, has another number of calls or more faults, lacks a fault that
+/// the round does not mend, or has other tokens where no edit is. A file that breaks stays as it is.
+/// An allocation failure aborts, as elsewhere in Rust.
 ///
 /// ```
 /// use dephungo::source::{file_fixes, Table};
