@@ -8,4 +8,5 @@ pub mod Standing
 pub mod Escaped
 pub mod Worlds
 pub mod Walking
+pub mod EmptyInput
 pub mod Rows

@@ -253,7 +253,7 @@ end_closes : (s : State) → s.rest ≡ [] → closed_in s.world (next_call s).c
 unfolding call
 end_closes s e = rw e (closed_in-none s.world)
 
-not_looked_for : (peeks : Bool) → looked_for peeks None ≡ None
+pub not_looked_for : (peeks : Bool) → looked_for peeks None ≡ None
 not_looked_for true = refl
 not_looked_for false = refl
 

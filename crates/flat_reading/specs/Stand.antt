@@ -9,7 +9,7 @@ use Rattle.rustc_parse_format.specs.Characters.{Text}
 use Rattle.rustc_parse_format.specs.Characters.{byte_length}
 use Rattle.rustc_parse_format.specs.Types.{Position, Implicit, Index, Named, Count, Is, Name, Param}
 use Rattle.rustc_parse_format.specs.Types.{Star, Implied, Spec, Argument, Piece, Lit, NextArgument}
-use Rattle.rustc_parse_format.specs.Types.{Mode, is_named}
+use Rattle.rustc_parse_format.specs.Types.{Mode}
 use Rattle.rustc_parse_format.specs.Seen.{seen_mode}
 use Rattle.rustc_parse_format.specs.Call.{call}
 use Rattle.rustc_parse_format.specs.World.{World, Place, piece_in, plain_world}
@@ -101,10 +101,9 @@ is_name (Param n) = false
 is_name (Star n) = false
 is_name Implied = false
 
--- The argument has a text that is found by a span: a name, or a type with a span.
-abbrev pub has_texts : {A : Type 0} → Argument A → Bool
-has_texts a = is_named a.position
-    || (is_name a.format.width || (is_name a.format.precision || is_some a.format.ty_span))
+-- The specification has a text that is found by a span: a name, or a type with a span.
+abbrev pub has_texts : {A : Type 0} → Spec A → Bool
+has_texts s = is_name s.width || (is_name s.precision || is_some s.ty_span)
 
 -- A parser in this mode with this next number, which has the input from the byte `start` on left,
 -- returns this piece, whatever its world is.

@@ -5,6 +5,8 @@
 mod errors;
 mod finders;
 mod flat;
+mod near;
+mod nothing;
 pub mod read;
 pub mod records;
 pub mod task;

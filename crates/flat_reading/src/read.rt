@@ -1,19 +1,18 @@
 //! Reads a whole input at once.
 
 ghost use Rattle.std.specs.Prelude.{◌≡◌, ◌≤◌, IfNone, IfOk, IfSome, IsFalse, None, OnErr, OnOk};
-ghost use Rattle.std.specs.Prelude.{Some, chars, drop, length, map, option_map};
-ghost use Rattle.std.specs.Prelude.{string_bytes, take};
+ghost use Rattle.std.specs.Prelude.{Some, chars, drop, length, map, option_map, string_bytes, take};
 ghost use Rattle.rustc_parse_format.specs.Seen.{pair, seen_mode};
 ghost use Rattle.rustc_parse_format.specs.LiteralReading.{is_longer};
 ghost use Rattle.rustc_parse_format.specs.World.{hashes, quote_offset};
 ghost use Rattle.flat_reading.specs.Asked.{Fits, IsCounted, IsKept, IsDescribed, asked_state};
-ghost use Rattle.flat_reading.specs.Asked.{buffers};
-ghost use Rattle.flat_reading.specs.Asked.{limit};
+ghost use Rattle.flat_reading.specs.Asked.{buffers, limit};
 ghost use Rattle.flat_reading.specs.Meant.{place};
 ghost use Rattle.flat_reading.specs.Stand.{IsPlain};
 
 use crate::errors::put_errors;
 use crate::flat::{NO_EXTENT, SpecBuffer, extent, flag};
+use crate::nothing::read_nothing;
 use crate::records::{Answer, Extent, Fault, Spec, Step};
 use crate::task::Task;
 use crate::walk::{Walker, look_ahead};
@@ -102,9 +101,8 @@ fn put_lines(spans: &[Range<usize>], lines: &mut [Extent])
 
 /// Reads an input to its end with a parser that is at its start, and writes the results as `read`
 /// does. `offset` and `escapes` are those of a `Walker`. They are given, as the parser is, so that
-/// no branch comes before the walker is made: the compiler then writes each of its fields once, and
-/// neither fills it with zeros first nor copies the parser. Returns `Err` if an allocation fails,
-/// and `answer` is then unchanged.
+/// no branch comes before the walker is made: the compiler then writes each of its fields once.
+/// Returns `Err` if an allocation fails, and `answer` is then unchanged.
 #[inline(always)]
 fn read_by<'a>(
     alloc: Global,
@@ -203,8 +201,7 @@ fn read_with_snippet(
     )
 }
 
-/// Reads an input, up to and including the call at its end, and writes the results into buffers of
-/// the caller.
+/// Reads an input, also by the call at its end, and writes the results into buffers of the caller.
 ///
 /// The input may have at most 10^12 bytes, and a raw literal at most 10^12 hashes, as in each
 /// `Task` that `task_of` returns. `answer` has the lengths of all results, in records and, for
@@ -234,11 +231,14 @@ pub fn read(
         (buffers steps.new specs.new faults.new texts.new lines.new)) }
     ensures err { OnErr result (answer.new ≡ answer.old) }
 {
-    // (The case without a snippet stands by itself, since the compiler then leaves most of what
-    // `Parser::new` does out of it.)
+    // (Without a snippet the compiler leaves out most of what `Parser::new` does.)
     match task.snippet {
         Some(_) => read_with_snippet(alloc, task, steps, specs, faults, texts, lines, answer),
         None => {
+            if task.input.is_empty() {
+                read_nothing(steps, answer);
+                return Ok(());
+            }
             let start = Parser::new(
                 alloc,
                 task.input,

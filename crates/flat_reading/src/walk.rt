@@ -24,13 +24,14 @@ use crate::finders::Finders;
 use crate::flat::{
     NO_EXTENT, NOWHERE, SpecBuffer, put_argument, put_bare_piece, put_plain_argument, some_extent,
 };
+use crate::near::texts_of;
 use crate::records::{MaybeExtent, PIECE_NONE, PIECE_TEXT, POSITION_IMPLICIT, Step};
-use crate::texts::{has_texts, run_extent, texts_at};
+use crate::texts::run_extent;
 use rustc_parse_format::{Argument, NextPiece, ParseMode, Parser, PieceKind};
 use std::alloc::{AllocError, Global};
 
 /// A step without a piece and without a state.
-const BLANK: Step = Step {
+pub const BLANK: Step = Step {
     kind: PIECE_NONE,
     position: POSITION_IMPLICIT,
     number: 0,
@@ -190,11 +191,7 @@ impl<'a> Walker<'a> {
             then 0 else 1) specs.old specs.new) }
         ensures others { OnOk result (SameAfter step.old step.new) }
     {
-        if !has_texts(&self.argument) {
-            put_plain_argument(&self.argument, self.input, self.offset, specs, step);
-            return Ok(());
-        }
-        let texts = texts_at(self.alloc, mode, self.input, start, next)?;
+        let texts = texts_of(self.alloc, mode, self.input, start, next, &self.argument)?;
         put_argument(&self.argument, &texts, specs, step);
         Ok(())
     }
