@@ -8,4 +8,5 @@ near_texts-requires c = λ none.
     (seen_argument c.args.argument.now) c.requires.read none
 
 pub returns-in_ok-texts-in-None : goal.returns-in_ok-texts-in-None
-returns-in_ok-texts-in-None c = c.in_ok-texts-in-None.ensures (seen_argument c.args.argument.now) c.requires.read
+returns-in_ok-texts-in-None c =
+    c.in_ok-texts-in-None.ensures (seen_argument c.args.argument.now) c.requires.read
