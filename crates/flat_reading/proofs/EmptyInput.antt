@@ -1,5 +1,5 @@
 -- The one call over an empty input without a snippet.
-use Rattle.std.proofs.Common.{◌≡◌, ℕ, ◌+◌, ◌<◌, ◌≤◌, ◌⊎◌, inl, inr, Bool, false, List, []}
+use Rattle.std.proofs.Common.{◌≡◌, ℕ, ◌<◌, ◌≤◌, ◌⊎◌, inl, inr, Bool, false, List, []}
 use Rattle.std.proofs.Common.{◌∷◌, Option, None, length, map, min, take, drop, set, sum_by, refl}
 use Rattle.std.proofs.Common.{sym, ap, ◌∙◌, ◌^◌, ◌-◌, arith}
 use Rattle.std.proofs.lemmas.List.{drop-set-lt, take_more_set}

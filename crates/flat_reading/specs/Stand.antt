@@ -18,6 +18,7 @@ use Rattle.flat_reading.specs.declared.flat.SpecBuffer.{SpecBuffer}
 use Rattle.flat_reading.specs.declared.records.Step.{Step}
 use Rattle.flat_reading.specs.declared.records.Spec.{Spec as SpecRecord}
 use Rattle.flat_reading.specs.declared.texts.Texts.{Texts}
+use Rattle.flat_reading.specs.declared.reading.Reading.{Reading}
 use Rattle.flat_reading.specs.declared.walk.Walker.{Walker}
 use Rattle.flat_reading.specs.Events.{Event, add_finders, fronts_in, step_meant}
 use Rattle.flat_reading.specs.Meant.{text_at, type_meant}
@@ -151,24 +152,22 @@ pub record Adds (n : ℕ) (old new : SpecBuffer) : Type 0 where
   pub front : take old.count new.records.now ≡ take old.count old.records.now
   pub kept : drop new.count new.records.now ≡ drop new.count old.records.now
 
--- The rest of a walker's input is a suffix of the whole, and the places of its parser are those in
--- the input, moved by its offset, or its mode is known.
-pub record IsOnItsWay (w : Walker) : Type 0 where
-  pub utf8 : IsUtf8 w.input.now
-  pub input : chars w.input.now ≡ w.parser.input
+-- The rest of the input is a suffix of the whole, and the places of the parser are those in the
+-- input, moved by the offset, or its mode is known.
+pub record IsOnItsWay (r : Reading) (w : Walker) : Type 0 where
+  pub utf8 : IsUtf8 r.input.now
+  pub input : chars r.input.now ≡ w.parser.input
   pub left : EndsWith w.parser.input w.parser.rest
-  pub plain : IfNone w.escapes (IsPlain w.parser w.offset)
-  pub mode : IfSome w.escapes (λ m. seen_mode m ≡ w.parser.mode)
+  pub plain : IfNone r.escapes (IsPlain w.parser r.offset)
+  pub mode : IfSome r.escapes (λ m. seen_mode m ≡ w.parser.mode)
 
 -- The walker made the next call, which has this number, and recorded the errors that it found.
-pub record MakesCall (number : ℕ) (old new : Walker) : Type 0 where
+pub record MakesCall (number : ℕ) (r : Reading) (old new : Walker) : Type 0 where
   pub state : new.parser ≡ after old.parser (next_call old.parser)
-  pub ready : IsOnItsWay new
+  pub ready : IsOnItsWay r new
   pub finders : new.finders.calls
       ≡ add_finders number old.finders.calls (next_call old.parser).faults
   pub fronts : new.finders.fronts ≡ old.finders.fronts + fronts_in (next_call old.parser)
-  pub input : new.input.now ≡ old.input.now
-  pub peeks : new.peeks ≡ old.peeks
 
 -- A step that describes the event was written at the index `count`, if there is room. By then
 -- `used` specifications are counted.

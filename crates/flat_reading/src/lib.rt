@@ -8,6 +8,7 @@ mod flat;
 mod near;
 mod nothing;
 pub mod read;
+mod reading;
 pub mod records;
 pub mod task;
 mod texts;
