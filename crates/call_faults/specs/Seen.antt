@@ -28,7 +28,7 @@ use Rattle.call_faults.specs.declared.faults.CallFault.TheVariants.{NameUsedByIn
 use Rattle.call_faults.specs.declared.checker.CallReport.{CallReport}
 use Rattle.call_faults.specs.declared.checker.FormatString.{FormatString}
 use Rattle.call_faults.specs.declared.arguments.FormatArgument.{FormatArgument as DeclaredArgument}
-use Rattle.call_faults.specs.declared.arguments.Entry.{Entry as DeclaredKept}
+use Rattle.call_faults.specs.declared.arguments.Entry.{Entry as DeclaredEntry}
 use Rattle.call_faults.specs.declared.arguments.Arguments.{Arguments}
 use Rattle.call_faults.specs.declared.spots.CallEdit.{CallEdit}
 use Rattle.call_faults.specs.declared.spots.CallHelp.{CallHelp}
@@ -54,7 +54,7 @@ abbrev pub seen_given : DeclaredArgument → FormatArgument
 seen_given g = record { name = option_map text g.name; variable = option_map text g.variable }
 
 -- An argument that counts, as a contract sees it.
-abbrev pub seen_entry : DeclaredKept → Entry
+abbrev pub seen_entry : DeclaredEntry → Entry
 seen_entry k = record { index = k.index; argument = seen_given k.argument }
 
 -- A fault as a contract sees it.

@@ -55,7 +55,7 @@ struct Measured {
     columns: usize,
 }
 
-/// Returns the line in which a label begins.
+/// Returns the line in which a label begins, and its columns.
 fn start_line(source: &str, label: &Label<'_>) -> Measured
     requires { length source.now < 2 ^ 59 }
     ensures { result.columns ≡ line_columns source.now result.line }
@@ -67,7 +67,7 @@ fn start_line(source: &str, label: &Label<'_>) -> Measured
     }
 }
 
-/// Returns how many columns a line of the source has, which most often is the one that is known.
+/// Returns how many columns a line of the source has. Most often it is the line `known`.
 fn columns_of(source: &str, number: usize, known: Measured) -> usize
     requires small { length source.now < 2 ^ 59 }
     requires known { known.columns ≡ line_columns source.now known.line }

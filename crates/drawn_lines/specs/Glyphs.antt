@@ -64,7 +64,7 @@ indent n [] = None
 indent n (c ∷ t) =
     if is_whitespace c then indent (n + (if c == 9 then 4 else 1)) t else Some n
 
--- The byte is one of a character that is drawn as it is: no control character of ASCII, and not the
+-- The byte is one of a character that is drawn as it is: no control character of ASCII, nor the
 -- first byte of the characters from U+0080 to U+00BF, from U+0600 to U+063F, and from U+2000 to
 -- U+2FFF.
 abbrev pub is_drawn_as_is : ℕ → Bool

@@ -86,7 +86,8 @@ struct Countdown {
     rest: usize,
 }
 
-/// Leaves the first `count` columns of a text out, of the same character so often at its start.
+/// Leaves out up to `count` columns of a character that stands `times` times at the start of a
+/// text.
 fn left_out_of_run(count: usize, times: usize, character: char) -> Countdown
     requires { times ≤ 4 }
     ensures value { (t : Text) → left_out count (replicate times character ++ t)

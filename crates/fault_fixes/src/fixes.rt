@@ -217,8 +217,8 @@ struct AllEdits {
     has_edits: bool,
 }
 
-/// Returns a text with the edits of the errors of all calls of a parser without errors, in a mode.
-/// The text starts at the byte offset `at`. Returns `Err` if an allocation fails.
+/// Returns a text with the edits, in a mode, of all errors that the calls of a parser find, which
+/// has none yet. The text starts at the byte offset `at`. Returns `Err` if an allocation fails.
 fn edit_all(
     alloc: Global,
     mode: ParseMode,

@@ -16,8 +16,7 @@ ghost use Rattle.fault_fixes.specs.Fixing.{all_faults};
 ghost use Rattle.fault_fixes.specs.Losing.{LosesOnly, MovesFlag, colon_faults, colon_moves, moved};
 
 /// States what the removal of an `r#` does, in each mode: only the fault of the raw identifier
-/// goes. The text that follows the `r#` begins with a word, and not with a raw identifier. Does
-/// nothing.
+/// goes. The text that follows the `r#` begins with a word that is no raw identifier. Does nothing.
 pub fn remove_raw_ident()
     ensures { (mode : Mode) (c : ℕ) (t : Text) → IsTrue (first_passes is_id_start t)
         → IsFalse (begins_raw t)

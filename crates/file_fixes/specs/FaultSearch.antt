@@ -3,7 +3,7 @@ use Rattle.std.specs.Prelude.{◌&&◌, Bool, true, false, List, [], ◌∷◌, 
 use Rattle.std.specs.Str.{bytes_eq}
 use Rattle.source_report.specs.declared.report.Finding.{Finding}
 
--- The two faults have the same name.
+-- The two faults have the same id and title.
 abbrev pub is_alike : Finding → Finding → Bool
 is_alike x y = bytes_eq x.id.now y.id.now
     && bytes_eq (string_bytes x.title) (string_bytes y.title)

@@ -27,7 +27,7 @@ pub record IsNoWorse (r q : Report) : Type 0 where
   pub calls : length q.calls.items ≡ length r.calls.items
   pub findings : length q.findings.items ≤ length r.findings.items
 
--- What a fault is known by in a file that changes: the id of its kind, and its title.
+-- The name of a fault in a file that changes: the id of its kind, and its title.
 pub record FaultName : Type 0 where
   pub id : List ℕ
   pub title : List ℕ
@@ -43,8 +43,8 @@ unmended at (x ∷ xs) = if is_mended at x then unmended (end_after at (edits_of
     else x ∷ unmended at xs
 
 -- The faults xs become the faults ys in a round: those that are not mended stay, in their order,
--- and at most as many others come as are mended. The compiler tells of the first fault of a format
--- string alone, so that another can come where one is mended.
+-- and at most as many others come as are mended. The compiler shows only the first fault of a
+-- format string, so mending it can uncover another.
 pub record FaultsStay (xs ys : List Finding) : Type 0 where
   pub others : List FaultName
   pub are_all : IsMerged (map fault_name (unmended 0 xs)) others (map fault_name ys)
@@ -68,7 +68,7 @@ unfoldable pub OthersStay : List ℕ → Report → List ℕ → Type 0
 OthersStay bs r cs = (xs ys : List Lexeme) × AreTokens bs cs xs ys
     × KeepsTokens (round_edits r) (placed 0 xs) (placed 0 ys)
 
--- They do not stay.
+-- Some token that no edit touches does not stay.
 unfoldable pub OthersGo : List ℕ → Report → List ℕ → Type 0
 OthersGo bs r cs = (xs ys : List Lexeme) × AreTokens bs cs xs ys
     × (KeepsTokens (round_edits r) (placed 0 xs) (placed 0 ys) → ⊥)

@@ -28,7 +28,7 @@ width_before at [] = 0
 width_before at (r ∷ rs) = if nat_le r.end at then (r.end - r.start) + width_before at rs
     else width_before at rs
 
--- A token n bytes further in front.
+-- A token, moved n bytes towards the start of the text.
 abbrev pub moved_up : ℕ → Token → Token
 moved_up n t = record {
   kind = t.kind;

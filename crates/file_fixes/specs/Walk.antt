@@ -36,8 +36,7 @@ from_start ps = record { end = 0; width = 0; parts = ps }
 abbrev pub seen_ahead : List EditedPart → PartsAhead → Ahead
 seen_ahead ps a = record { end = a.end; width = a.width; parts = drop a.index ps }
 
--- Of these parts those that are ahead at the offset `at`: all from the first one on that does not
--- end by there.
+-- These parts from the first one on that ends after the offset `at`.
 abbrev pub ahead_of : ℕ → ℕ → ℕ → List EditedPart → Ahead
 ahead_of at end width [] = record { end = end; width = width; parts = [] }
 ahead_of at end width (p ∷ ps) = if nat_le (end + p.gap + p.width) at

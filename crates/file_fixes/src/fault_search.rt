@@ -16,8 +16,8 @@ fn is_alike(old: &Finding, new: &Finding) -> bool
     old.id == new.id && old.title == new.title
 }
 
-/// Returns the index after the first fault with the id and title of this one, from an index on, or
-/// `None` if there is none.
+/// Returns the index after that of the first fault, from the index `from` on, with the id and title
+/// of this one, or `None` if there is none.
 fn index_after(finding: &Finding, faults: &[Finding], from: usize) -> Option<usize>
     ensures some { IfSome result (λ n. (xs : List FindingValue)
         → are_found (finding.now ∷ xs) (drop from faults.now) ≡ are_found xs (drop n faults.now)) }
@@ -34,8 +34,8 @@ fn index_after(finding: &Finding, faults: &[Finding], from: usize) -> Option<usi
     None
 }
 
-/// Returns where the last edit ends after those of a fault, if it is mended where the last edit
-/// before it ends at `at`, or `None` if it is not mended. Returns `Err` if an allocation fails.
+/// Returns where the last edit of a fault ends, or `None` if the fault is not mended. The last edit
+/// before these ends at `at`. Returns `Err` if an allocation fails.
 fn mended_end(alloc: Global, at: usize, finding: &Finding) -> Result<Option<usize>, AllocError>
     ensures some { IfOk result (λ o. IfSome o (λ n. (xs : List FindingValue)
         → unmended at (finding.now ∷ xs) ≡ unmended n xs)) }

@@ -51,7 +51,7 @@ fn old_parts(alloc: Global, edits: &[Edit<'_>]) -> Result<Vec<EditedPart>, Alloc
     Ok(parts)
 }
 
-/// Returns the parts of the edited text that stand in their place. Returns `Err` if an allocation
+/// Returns the parts of the edited text that edits put into it. Returns `Err` if an allocation
 /// fails.
 fn new_parts(alloc: Global, edits: &[Edit<'_>]) -> Result<Vec<EditedPart>, AllocError>
     ensures { IfOk result (λ v. v.items ≡ new_parts 0 (map seen_edit edits.now)) }
@@ -75,8 +75,7 @@ fn ends_by(at: usize, end: usize, part: EditedPart) -> bool
     end <= at && part.gap <= at - end && part.width <= at - end - part.gap
 }
 
-/// Returns the place in front of the first part that does not end by the offset `at`, or the one it
-/// is at if that is further on.
+/// Returns the place after the place `from` and after all parts that end by the offset `at`.
 fn ahead_of(at: usize, from: PartsAhead, parts: &[EditedPart]) -> PartsAhead
     requires { from.width ≤ from.end }
     ensures ahead { seen_ahead parts.now result
@@ -105,7 +104,7 @@ fn is_before(at: usize, ahead: PartsAhead, parts: &[EditedPart]) -> bool
     }
 }
 
-/// Returns a token n bytes further in front.
+/// Returns a token, moved n bytes towards the start of the text.
 fn moved_up(n: usize, token: &Token) -> Token
     ensures { result ≡ moved_up n token.now }
 {

@@ -66,8 +66,8 @@ abbrev pub edits_of : Finding → List Edit
 edits_of x = if is_applicable x.id.now
     then filter_map label_edit x.labels.items ++ help_edits x.help else []
 
--- No edit starts before the end of the one before it, and the first one does not start before the
--- byte offset `at`.
+-- Each edit starts where the one before it ends or later, the first one at the byte offset `at` or
+-- later, and none ends before it starts.
 abbrev pub are_after : ℕ → List Edit → Bool
 are_after at [] = true
 are_after at (e ∷ es) = nat_le at e.span.0 && nat_le e.span.0 e.span.1 && are_after e.span.1 es
