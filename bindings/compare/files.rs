@@ -75,7 +75,7 @@ macro_rules! seen_by {
 
             fn reason(reason: Reason) -> &'static str {
                 match reason {
-                    Reason::Missing => "missing",
+                    Reason::NoArgument => "missing",
                     Reason::Edition => "edition",
                     Reason::Variable => "variable",
                     Reason::Suffix => "suffix",
@@ -139,13 +139,13 @@ macro_rules! seen_by {
                 let places = Places::new(file);
                 let mut lines = Vec::new();
                 for token in tokens(file) {
-                    let place = places.at(token.span.start);
+                    let place = places.place_of(token.span.start);
                     lines.push(format!("{} {} {token:?}", place.line, place.column));
                 }
                 lines.push(format!("{:?}", first_break(file)));
                 let mut table = Table::with_crates();
                 Table::standard().rows().iter().for_each(|row| table.add(*row));
-                table.add(Row { name: "say", rule: Rule::At(1) });
+                table.add(Row { name: "say", rule: Rule::Index(1) });
                 lines.extend(calls(file, &table, is_from_2021).iter().flat_map(call));
                 let report = file_faults(file, &table, is_from_2021);
                 lines.extend(report.calls.iter().map(|it| format!("{it:?}")));

@@ -15,7 +15,7 @@ fn main() -> ExitCode {
         };
         let places = Places::new(&text);
         for finding in file_faults(&text, &table, true).findings {
-            let place = places.at(finding.span.start);
+            let place = places.place_of(finding.span.start);
             let (line, column) = (place.line, place.column);
             println!("{path}:{line}:{column}: {} [{}]", finding.title, finding.id);
             status = ExitCode::from(1);

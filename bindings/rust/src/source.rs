@@ -11,7 +11,7 @@
 //! let text = "fn main() {\n    println!(\"{} {}\", x);\n}\n";
 //! let places = Places::new(text);
 //! for finding in file_faults(text, &Table::standard(), true).findings {
-//!     let place = places.at(finding.span.start);
+//!     let place = places.place_of(finding.span.start);
 //!     let said = format!("{}:{}: {}", place.line, place.column, finding.title);
 //!     let title = "2 positional arguments in format string, but there is 1 argument";
 //!     assert_eq!(said, format!("2:15: {title}"));
@@ -34,7 +34,7 @@ use alloc::vec::Vec;
 use core::ops::Range;
 
 pub use crate::proved::call_faults::{
-    CallFault, FormatArgument, FormatString, Missing, Part, Reference,
+    CallFault, FormatArgument, FormatString, InvalidReference, Part, Reference,
 };
 pub use crate::proved::file_fixes::FileFixes;
 pub use crate::proved::file_inlines::{CallInlining, FileInlines};
@@ -92,7 +92,7 @@ impl<'a> Places<'a> {
     /// ```
     /// use dephungo::source::Places;
     ///
-    /// let place = Places::new("a\r\né b").at(6);
+    /// let place = Places::new("a\r\né b").place_of(6);
     /// assert_eq!((place.line, place.column), (2, 3));
     /// ```
     ///
@@ -100,8 +100,8 @@ impl<'a> Places<'a> {
     ///
     /// If no character of the text starts there, and it is not its end.
     #[must_use]
-    pub fn at(&self, offset: usize) -> Place {
-        self.places.at(offset)
+    pub fn place_of(&self, offset: usize) -> Place {
+        self.places.place_of(offset)
     }
 }
 
@@ -141,7 +141,7 @@ impl<'a> Table<'a> {
     /// use dephungo::source::{calls, Row, Rule, Table};
     ///
     /// let mut table = Table::standard();
-    /// table.add(Row { name: "say", rule: Rule::At(1) });
+    /// table.add(Row { name: "say", rule: Rule::Index(1) });
     /// let found = calls("say!(to, \"{}\", x)", &table, true);
     /// assert_eq!(found[0].literal(), Some("\"{}\""));
     /// ```

@@ -95,7 +95,7 @@ fn places() {
         ("\u{feff}y!(1);\nfn main() {}\n", 1, 1),
         ("fn main() {\n/* a\r\n b */ y;\n}\n", 3, 7),
     ] {
-        let place = Places::new(text).at(text.find('y').unwrap());
+        let place = Places::new(text).place_of(text.find('y').unwrap());
         assert_eq!((place.line, place.column), (line, column));
     }
 }
@@ -143,7 +143,7 @@ fn reasons() {
     for (text, is_wanted) in [
         (
             "format!()",
-            (|it| matches!(it, Reason::Missing)) as fn(Reason) -> bool,
+            (|it| matches!(it, Reason::NoArgument)) as fn(Reason) -> bool,
         ),
         ("format!($a)", |it| matches!(it, Reason::Variable)),
         ("format!(\"a\"u8)", |it| matches!(it, Reason::Suffix)),
@@ -222,7 +222,7 @@ fn tables() {
     assert!(table.rows().iter().any(|row| row.name == "bail"));
     table.add(Row {
         name: "bail",
-        rule: Rule::At(1),
+        rule: Rule::Index(1),
     });
     let found = calls("bail!(1, \"a\"); info!(b = 2, \"c\")", &table, true);
     let shown: Vec<_> = found.iter().map(|call| call.literal()).collect();
@@ -282,7 +282,7 @@ fn reports() {
             CallReading::NoComma,
             CallReading::RedefinedMacro,
             CallReading::NoComma,
-            CallReading::Unread(Reason::Missing),
+            CallReading::Unread(Reason::NoArgument),
         ]
     ));
     let places = Places::new(&text);
@@ -290,7 +290,7 @@ fn reports() {
         .findings
         .iter()
         .map(|it| {
-            let place = places.at(it.span.start);
+            let place = places.place_of(it.span.start);
             (place.line, place.column, it.id, it.is_warning)
         })
         .collect();

@@ -94,7 +94,7 @@ pub Holds-named : (ss : List Operand) (old new : Operands) (s : DeclaredOperand)
     → index_of ss (chars w.now) ≡ None → new.slots.items ≡ old.slots.items ++ s ∷ []
     → ((t : Text) → found_in new.names t
     ≡ cond (bytes_eq t (chars w.now)) (Some n) (found_in old.names t))
-    → new.named.items ≡ old.named.items ++ n ∷ [] → new.registers.items ≡ old.registers.items
+    → new.named_operands.items ≡ old.named_operands.items ++ n ∷ [] → new.registers.items ≡ old.registers.items
     → Holds (ss ++ Named (chars w.now) ∷ []) new
 Holds-named ss old new s w n h e k f l m p r = record {
   slots = slots-more ss old new s h l ∙ ap (λ (o : Operand). ss ++ o ∷ []) e;
@@ -110,7 +110,7 @@ Holds-named ss old new s w n h e k f l m p r = record {
 pub Holds-nameless : (ss : List Operand) (old new : Operands) (s : DeclaredOperand)
     → Holds ss old → ((t : Text) → has_name t (seen_operand s) ≡ false)
     → is_named (seen_operand s) ≡ false → new.slots.items ≡ old.slots.items ++ s ∷ []
-    → new.names ≡ old.names → new.named.items ≡ old.named.items
+    → new.names ≡ old.names → new.named_operands.items ≡ old.named_operands.items
     → new.registers.items ≡ old.registers.items
     ++ index_if (is_register (seen_operand s)) (length ss)
     → Holds (ss ++ seen_operand s ∷ []) new

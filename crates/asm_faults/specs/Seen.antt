@@ -85,5 +85,5 @@ found_in m w = get_by (λ k. slice_cmp nat_cmp (encode_utf8_all w) k.now) m
 pub record Holds (ss : List Operand) (a : Operands) : Type 0 where
   pub slots : map seen_operand a.slots.items ≡ ss
   pub names : (w : Text) → found_in a.names w ≡ index_of ss w
-  pub named : a.named.items ≡ indices_from is_named 0 ss
+  pub named : a.named_operands.items ≡ indices_from is_named 0 ss
   pub registers : a.registers.items ≡ indices_from is_register 0 ss

@@ -40,7 +40,7 @@ pub(crate) struct Operands<'a> {
     /// The index of the operand with each name.
     pub names: BTreeMap<&'a str, usize>,
     /// The indices of those that have a name.
-    pub named: Vec<usize>,
+    pub named_operands: Vec<usize>,
     /// The indices of those that have a register of their own.
     pub registers: Vec<usize>,
 }
@@ -52,7 +52,7 @@ fn no_operands<'a>(alloc: Global) -> Operands<'a>
     Operands {
         slots: Vec::new(alloc),
         names: BTreeMap::new(alloc),
-        named: Vec::new(alloc),
+        named_operands: Vec::new(alloc),
         registers: Vec::new(alloc),
     }
 }
@@ -91,7 +91,7 @@ fn others_of(alloc: Global, operands: &Operands<'_>) -> Result<Vec<usize>, Alloc
         → v.items ≡ others_of ss) }
 {
     let mut others = Vec::new(alloc);
-    others.extend_from_slice(first_of(&operands.named))?;
+    others.extend_from_slice(first_of(&operands.named_operands))?;
     others.extend_from_slice(first_of(&operands.registers))?;
     Ok(others)
 }
@@ -156,7 +156,7 @@ fn add_named<'a>(
         }
         None => {
             insert(&mut operands.names, name, index)?;
-            operands.named.push(index)?;
+            operands.named_operands.push(index)?;
             operands.slots.push(Operand::Named(name))?;
         }
     }

@@ -12,7 +12,7 @@ use Rattle.rustc_parse_format.specs.Grammar.{Reads}
 use Rattle.rustc_parse_format.specs.Types.{Format, Piece, bare}
 use Rattle.rustc_parse_format.specs.World.{Place}
 use Rattle.placeholder_check.specs.Uses.{Use, ByIndex, ByName, uses}
-use Rattle.call_faults.specs.declared.faults.Missing.{Missing}
+use Rattle.call_faults.specs.declared.faults.InvalidReference.{InvalidReference}
 use Rattle.call_faults.specs.declared.faults.Reference.{Reference}
 use Rattle.call_faults.specs.Arguments.{FormatArgument, Entry, first_of, is_late, kept_after}
 use Rattle.call_faults.specs.Arguments.{list_faults}
@@ -69,7 +69,7 @@ lookup-serious captures known (Refer r (ByName w) ∷ ls) =
     serious-choice (captures || list_any (bytes_eq w) known) _ _ (lookup-serious captures known ls)
     (refl, lookup-serious captures (w ∷ known) ls)
 
-missing-serious : (rs : List Missing) → Serious (missing_faults rs)
+missing-serious : (rs : List InvalidReference) → Serious (missing_faults rs)
 missing-serious [] = tt
 missing-serious (r ∷ rs) = (refl, tt)
 
@@ -97,7 +97,7 @@ by-index-warns ks (Refer r (ByName w) ∷ ls) = by-index-warns ks ls
 by-index-warns ks (Refer r (ByIndex n) ∷ ls) = named-warns r (slice_get ks n) _ (by-index-warns ks
     ls)
 
-no-missing : (rs : List Missing) → missing_faults rs ≡ [] → rs ≡ []
+no-missing : (rs : List InvalidReference) → missing_faults rs ≡ [] → rs ≡ []
 no-missing [] e = refl
 no-missing (r ∷ rs) e = absurd (cc e)
 

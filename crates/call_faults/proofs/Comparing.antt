@@ -15,7 +15,7 @@ use Rattle.std.specs.Str.{bytes_eq}
 use Rattle.std.proofs.lemmas.List.{map-append, append-nil}
 use Rattle.rustc_parse_format.specs.Characters.{Text}
 use Rattle.placeholder_check.specs.Uses.{Use, ByIndex, ByName}
-use Rattle.call_faults.specs.declared.faults.Missing.{Missing}
+use Rattle.call_faults.specs.declared.faults.InvalidReference.{InvalidReference}
 use Rattle.call_faults.specs.declared.faults.Reference.{Reference}
 use Rattle.call_faults.specs.declared.arguments.Arguments.{Arguments}
 use Rattle.call_faults.specs.Seen.{Holds, KnowsNames}
@@ -152,7 +152,7 @@ holds-knows ks a h = record { same = λ w. ap is_some (h.names w) ∙ some-index
 
 -- what was found, part by part
 pub compared-parts : (captures : Bool) (ks : List Entry) (ls : List Lookup) (found : List CallFault)
-    (lacked : List Missing) (left : List Entry) (b : Bool)
+    (lacked : List InvalidReference) (left : List Entry) (b : Bool)
     → found ≡ lookup_faults captures (names ks) ls → lacked ≡ missing ks ls → left ≡ unused ks ls
     → is_settled found lacked left ≡ b
     → found ++ missing_faults lacked ++ left_faults (indices (filter (is_redundant ls) left))

@@ -5,7 +5,7 @@ use Rattle.std.specs.Prelude.{ℕ, Bool, true, false, List}
 use Rattle.rustc_parse_format.specs.Characters.{Text}
 use Rattle.rustc_parse_format.specs.Faults.{Fault}
 use Rattle.rustc_parse_format.specs.World.{Place}
-use Rattle.call_faults.specs.declared.faults.Missing.{Missing}
+use Rattle.call_faults.specs.declared.faults.InvalidReference.{InvalidReference}
 use Rattle.call_faults.specs.declared.faults.Reference.{Reference}
 
 pub data CallFault : Type 0 where
@@ -20,7 +20,7 @@ pub data CallFault : Type 0 where
   -- A placeholder asks by its type for a trait that does not exist.
   UnknownTrait : ℕ → Text → CallFault
   -- The references by an index that is too large.
-  MissingArguments : List Missing → CallFault
+  MissingArguments : List InvalidReference → CallFault
   -- The arguments that no placeholder refers to.
   UnusedArguments : List ℕ → CallFault
   -- Those of them that are a variable which the position of a placeholder has as its name.

@@ -9,7 +9,7 @@ use Rattle.rustc_parse_format.specs.Characters.{Text}
 use Rattle.placeholder_check.specs.Uses.{Use, ByIndex, ByName}
 use Rattle.call_faults.specs.declared.faults.Part.{Part}
 use Rattle.call_faults.specs.declared.faults.Part.TheVariants.{Position, Precision, Width}
-use Rattle.call_faults.specs.declared.faults.Missing.{Missing}
+use Rattle.call_faults.specs.declared.faults.InvalidReference.{InvalidReference}
 use Rattle.call_faults.specs.declared.faults.Reference.{Reference}
 use Rattle.call_faults.specs.Arguments.{FormatArgument, Entry, has_name, index_of}
 use Rattle.call_faults.specs.CallFaults.{CallFault, MissingName, UnknownTrait, MissingArguments}
@@ -44,14 +44,14 @@ abbrev pub names : List Entry → List Text
 names ks = filter_map (λ k. k.argument.name) ks
 
 -- The reference by an index that is at least this count, if the lookup is one.
-abbrev pub beyond : ℕ → Lookup → Option Missing
+abbrev pub beyond : ℕ → Lookup → Option InvalidReference
 beyond count (Refer r (ByIndex n)) = if nat_le count n
     then Some (record { reference = r; index = n }) else None
 beyond count (Refer r (ByName w)) = None
 beyond count (NoTrait k t) = None
 
 -- The references by an index that is too large for these arguments.
-abbrev pub missing : List Entry → List Lookup → List Missing
+abbrev pub missing : List Entry → List Lookup → List InvalidReference
 missing ks ls = filter_map (beyond (length ks)) ls
 
 -- The arguments that no lookup means.
@@ -80,7 +80,7 @@ abbrev pub indices : List Entry → List ℕ
 indices ks = map (λ k. k.index) ks
 
 -- The fault of these references by an index that is too large.
-abbrev pub missing_faults : List Missing → List CallFault
+abbrev pub missing_faults : List InvalidReference → List CallFault
 missing_faults [] = []
 missing_faults (m ∷ ms) = MissingArguments (m ∷ ms) ∷ []
 
@@ -118,7 +118,7 @@ is_missing_name (RedundantArguments is) = false
 is_missing_name (NameUsedByIndex r i) = false
 
 -- Neither a name is missing, nor an argument, nor is one unused.
-abbrev pub is_settled : List CallFault → List Missing → List Entry → Bool
+abbrev pub is_settled : List CallFault → List InvalidReference → List Entry → Bool
 is_settled found lacked left =
     not (list_any is_missing_name found) && (length lacked == 0 && length left == 0)
 

@@ -20,7 +20,7 @@ ghost use Rattle.call_faults.specs.Seen.{seen_lookup};
 ghost use Rattle.call_faults.specs.Seen.{seen_use};
 
 use crate::arguments::{Arguments, Entry, index_of, insert};
-use crate::faults::{CallFault, Missing, Part};
+use crate::faults::{CallFault, InvalidReference, Part};
 use crate::lookups::{Lookup, Wanted};
 use std::alloc::{AllocError, Global};
 use std::collections::BTreeMap;
@@ -61,12 +61,12 @@ fn marks<'a>(
 }
 
 /// Returns the reference of a lookup, if it is one by an index that is at least `count`.
-fn reference_beyond(count: usize, lookup: &Lookup<'_>) -> Option<Missing>
+fn reference_beyond(count: usize, lookup: &Lookup<'_>) -> Option<InvalidReference>
     ensures { result ≡ beyond count (seen_lookup lookup.now) }
 {
     match *lookup {
         Lookup::Refer(reference, Wanted::Index(index)) if index >= count => {
-            Some(Missing { reference, index })
+            Some(InvalidReference { reference, index })
         }
         _ => None,
     }
@@ -78,7 +78,7 @@ fn references_from(
     alloc: Global,
     count: usize,
     lookups: &[Lookup<'_>],
-) -> Result<Vec<Missing>, AllocError>
+) -> Result<Vec<InvalidReference>, AllocError>
     ensures { IfOk result (λ v. v.items
         ≡ filter_map (beyond count) (map seen_lookup lookups.now)) }
 {
@@ -292,7 +292,10 @@ fn tell_by_index<'a>(
 
 /// Adds the fault of references by an index that is too large, if there are any. Returns `Err` if
 /// an allocation fails.
-fn tell_missing(faults: &mut Vec<CallFault<'_>>, missing: Vec<Missing>) -> Result<(), AllocError>
+fn tell_missing(
+    faults: &mut Vec<CallFault<'_>>,
+    missing: Vec<InvalidReference>,
+) -> Result<(), AllocError>
     ensures { OnOk result (map seen_fault faults.new.items ≡ map seen_fault faults.old.items
         ++ missing_faults missing.items) }
 {
@@ -303,7 +306,7 @@ fn tell_missing(faults: &mut Vec<CallFault<'_>>, missing: Vec<Missing>) -> Resul
 }
 
 /// Returns whether neither a name is missing, nor an argument, nor is one unused.
-fn is_settled(faults: &[CallFault<'_>], missing: &[Missing], unused: &[Entry<'_>]) -> bool
+fn is_settled(faults: &[CallFault<'_>], missing: &[InvalidReference], unused: &[Entry<'_>]) -> bool
     ensures { result
         ≡ is_settled (map seen_fault faults.now) missing.now (map seen_entry unused.now) }
 {

@@ -15,5 +15,5 @@ mod titles;
 
 pub use arguments::FormatArgument;
 pub use checker::{CallReport, FormatString, call_faults};
-pub use faults::{CallFault, Missing, Part, Reference};
+pub use faults::{CallFault, InvalidReference, Part, Reference};
 pub use spots::{CallEdit, CallHelp, CallNote};

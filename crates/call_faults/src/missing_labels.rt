@@ -13,7 +13,7 @@ ghost use Rattle.call_faults.specs.Spots.{reference_spot};
 ghost use Rattle.text_faults.specs.declared.spots.Spot.TheVariants.{Value};
 
 use crate::checker::CallReport;
-use crate::faults::Missing;
+use crate::faults::InvalidReference;
 use crate::spots::{first_spot, push_plain, push_secondary, reference_spot, rest_after, spot_of};
 use crate::titles::put_number;
 use rustc_parse_format::{Count, Piece, Position};
@@ -25,7 +25,7 @@ use text_faults::{CallLabel, Spot};
 pub(crate) fn push_missing(
     labels: &mut Vec<CallLabel>,
     pieces: &[Piece<'_>],
-    missing: &[Missing],
+    missing: &[InvalidReference],
 ) -> Result<(), AllocError>
     ensures { OnOk result (map seen_label labels.new.items ≡ map seen_label labels.old.items
         ++ map (λ m. primary (reference_spot (map seen pieces.now) m.reference) []) missing.now) }

@@ -8,8 +8,8 @@ use Rattle.format_calls.specs.Marks.{is_mark_of, is_word}
 use Rattle.format_calls.specs.Modes.{is_text}
 use Rattle.format_calls.specs.Strings.{is_string}
 use Rattle.call_forms.specs.Keywords.{is_control, is_modifier}
-use Rattle.call_forms.specs.declared.commas.Expected.{Expected}
-use Rattle.call_forms.specs.declared.commas.Expected.TheVariants.{Path, Field, Value}
+use Rattle.call_forms.specs.declared.commas.ExpectedTokens.{ExpectedTokens}
+use Rattle.call_forms.specs.declared.commas.ExpectedTokens.TheVariants.{Path, Field, Value}
 
 -- The tokens are a string literal, which may have a suffix, and others after it.
 abbrev pub has_more : List Leaf → Bool
@@ -26,13 +26,13 @@ is_unknown x = is_control x.text || (is_modifier x.text || (is_mark_of (code "|"
 abbrev pub is_period : Option Leaf → Bool
 is_period o = is_mark_of (code ".") o
 
-abbrev pub expected_by : Option Leaf → Option Leaf → Option Leaf → Expected
+abbrev pub expected_by : Option Leaf → Option Leaf → Option Leaf → ExpectedTokens
 expected_by o p None = Value
 expected_by o p (Some z) = if not (is_word z) then Value else
     (if not (is_period p) || is_period o then Path else
     (if is_text z (codes "await") then Value else Field))
 
 -- What rustc expects after the operand that ends before the token n.
-abbrev pub expected_at : List Leaf → ℕ → Expected
+abbrev pub expected_at : List Leaf → ℕ → ExpectedTokens
 expected_at xs n =
     expected_by (slice_get xs (n - 3)) (slice_get xs (n - 2)) (slice_get xs (n - 1))

@@ -19,8 +19,8 @@ use Rattle.call_forms.specs.Commas.{expected_at, has_more, is_unknown}
 use Rattle.call_forms.specs.Expressions.{has_variable, is_operand, is_path, joined}
 use Rattle.call_forms.specs.Operators.{Operator, lacks_left, lacks_operand, operator_at}
 use Rattle.call_forms.specs.Operators.{seen_operator}
-use Rattle.call_forms.specs.declared.commas.Expected.{Expected}
-use Rattle.call_forms.specs.declared.commas.Expected.TheVariants.{Comma}
+use Rattle.call_forms.specs.declared.commas.ExpectedTokens.{ExpectedTokens}
+use Rattle.call_forms.specs.declared.commas.ExpectedTokens.TheVariants.{Comma}
 use Rattle.call_forms.specs.declared.forms.Form.{Form as DeclaredForm}
 use Rattle.call_forms.specs.declared.forms.Form.TheVariants.{NoString as NoStringIn}
 use Rattle.call_forms.specs.declared.forms.Form.TheVariants.{NoLiteral as NoLiteralIn}
@@ -36,7 +36,7 @@ pub data Form : Type 0 where
   -- string literal or not.
   NoLiteral : ℕ → Bool → Form
   -- No comma stands before this token, where rustc expects these tokens.
-  NoComma : Expected → Operator → Form
+  NoComma : ExpectedTokens → Operator → Form
   -- No operand stands before this operator, with which an argument begins.
   NoOperand : Operator → Form
   -- No expression stands where the argument with this index ends, before the end of the call or a

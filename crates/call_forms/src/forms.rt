@@ -11,7 +11,7 @@ ghost use Rattle.call_forms.specs.Forms.{lacks_string, literal_form, needs_strin
 ghost use Rattle.call_forms.specs.Forms.{starts_well};
 ghost use Rattle.call_forms.specs.Operators.{operator_at, seen_operator};
 
-use crate::commas::{Expected, are_unknown, expected_at, has_more};
+use crate::commas::{ExpectedTokens, are_unknown, expected_at, has_more};
 use crate::expressions::{are_path, extra_operand, have_variables, is_operand, tokens_of};
 use crate::operators::{Operator, lacks_left, lacks_operand, operator_at};
 use format_calls::{Argument, Part, Rule, is_standard};
@@ -33,7 +33,7 @@ pub enum Form<'a> {
     /// No comma stands before a token.
     NoComma {
         /// The tokens that rustc expects.
-        expected: Expected,
+        expected: ExpectedTokens,
         /// The token that stands there.
         operator: Operator<'a>,
     },
@@ -119,7 +119,7 @@ fn first_bad(part: &Part<'_>, arguments: &[Argument]) -> Option<usize>
 }
 
 /// Returns the fault that no comma stands before a token, where rustc expects these tokens.
-fn no_comma(expected: Expected, operator: Operator<'_>) -> Form<'_>
+fn no_comma(expected: ExpectedTokens, operator: Operator<'_>) -> Form<'_>
     ensures { seen_form result ≡ NoComma expected (seen_operator operator.entry) }
 {
     Form::NoComma { expected, operator }
@@ -138,7 +138,7 @@ fn joined_form<'a>(tokens: &[Token<'a>], index: usize, is_string: bool) -> Optio
         return None;
     };
     if is_string {
-        Some(no_comma(Expected::Comma, operator))
+        Some(no_comma(ExpectedTokens::Comma, operator))
     } else {
         Some(no_comma(expected_at(tokens, index), operator))
     }
@@ -227,7 +227,7 @@ fn comma_form<'a>(tokens: &[Token<'a>]) -> Option<Form<'a>>
     ensures { option_map seen_form result ≡ comma_form (map leaf tokens.now) }
 {
     match operator_at(tokens, 1) {
-        Some(operator) => Some(no_comma(Expected::Comma, operator)),
+        Some(operator) => Some(no_comma(ExpectedTokens::Comma, operator)),
         None => None,
     }
 }
@@ -305,7 +305,7 @@ fn index_of(rule: Rule, is_from_2021: bool) -> Option<usize>
     ensures { result ≡ index_of is_from_2021 rule }
 {
     match rule {
-        Rule::At(index) => Some(index),
+        Rule::Index(index) => Some(index),
         Rule::IndexByEdition(index) => { if is_from_2021 { Some(index) } else { None } }
         Rule::FirstLiteral | Rule::Templates => None,
     }

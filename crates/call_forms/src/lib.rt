@@ -10,7 +10,7 @@ mod keywords;
 mod operators;
 mod paths;
 
-pub use commas::Expected;
+pub use commas::ExpectedTokens;
 pub use expressions::{have_joined, have_variables, tokens_of};
 pub use forms::{Form, form_here};
 pub use generics::parameters;

@@ -67,8 +67,8 @@ ends : (at : ℕ) (es : List Edit) (bs : List ℕ) → IsUtf8 bs → Ends at es 
 unfolding kept
 ends at [] bs h = record { before = []; are_parts = refl; is_old = refl; is_new = refl }
 ends at (e ∷ es) bs h =
-    let from = max e.from at in
-    let to = max e.to from in
+    let from = max e.start at in
+    let to = max e.end from in
     let one = split-at (from - at) bs h in
     let rest = rest_after (from - at) bs in
     let two = split-at (to - from) rest one.is_text in

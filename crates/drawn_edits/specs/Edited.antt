@@ -18,16 +18,16 @@ use Rattle.drawn_edits.specs.declared.edited.Edit.{Edit as DeclaredEdit}
 pub record Edit : Type 0 where
   pub text : List ℕ
   pub extent : Extent
-  pub from : ℕ
-  pub to : ℕ
+  pub start : ℕ
+  pub end : ℕ
 
 -- An edit as a contract sees it.
 abbrev pub seen_edit : DeclaredEdit → Edit
 seen_edit e = record {
   text = e.text.now;
   extent = seen_extent e.extent;
-  from = e.from;
-  to = e.to;
+  start = e.start;
+  end = e.end;
 }
 
 -- An edit of a range of the literal.
@@ -35,8 +35,8 @@ abbrev pub placed : Picture → List ℕ → Place → Edit
 placed p t s = record {
   text = t;
   extent = extent p s;
-  from = offset p s.0;
-  to = max (offset p s.0) (offset p s.1);
+  start = offset p s.0;
+  end = max (offset p s.0) (offset p s.1);
 }
 
 -- A part of a line as a contract sees it.
@@ -60,8 +60,8 @@ rest_after n bs = drop (length (front n bs)) bs
 abbrev pub parts : ℕ → List Edit → List ℕ → List Piece
 parts at [] bs = piece Plain (first_line bs) ∷ []
 parts at (e ∷ es) bs =
-    let from = max e.from at in
-    let to = max e.to from in
+    let from = max e.start at in
+    let to = max e.end from in
     let rest = rest_after (from - at) bs in
     piece Plain (front (from - at) bs)
     ∷ piece Removal (front (to - from) rest)

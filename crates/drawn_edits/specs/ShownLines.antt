@@ -15,8 +15,8 @@ lines_of bs = slice_split is_line_feed bs
 abbrev pub edited : ℕ → List Edit → List ℕ → List ℕ
 edited at [] bs = bs
 edited at (e ∷ es) bs =
-    let from = max e.from at in
-    let to = max e.to from in
+    let from = max e.start at in
+    let to = max e.end from in
     let rest = rest_after (from - at) bs in
     front (from - at) bs ++ (e.text ++ edited to es (rest_after (to - from) rest))
 
@@ -24,8 +24,8 @@ edited at (e ∷ es) bs =
 abbrev pub after_edits : ℕ → List Edit → List ℕ → List ℕ
 after_edits at [] bs = bs
 after_edits at (e ∷ es) bs =
-    let from = max e.from at in
-    let to = max e.to from in
+    let from = max e.start at in
+    let to = max e.end from in
     after_edits to es (rest_after (to - from) (rest_after (from - at) bs))
 
 -- These are the old and the new lines of edits, where `end` is left of the line in which the last

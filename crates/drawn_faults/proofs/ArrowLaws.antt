@@ -61,7 +61,7 @@ drawing-points mode p m text e =
     }
 
 -- A label has a column.
-label-long : (f : Frame) (l : Label) → (mark_in f l).from ≤ (mark_in f l).to
+label-long : (f : Frame) (l : Label) → (mark_in f l).start ≤ (mark_in f l).end
 unfolding mark
 label-long f l = omega arith
 

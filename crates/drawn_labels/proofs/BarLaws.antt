@@ -39,12 +39,12 @@ pub blank-bars : (ms : List Mark) (k c : ℕ) → Within (IsInBars ms) k (replic
 blank-bars ms k c n l = inl (run-cell n c space (omega (arith, l, run-length c space)))
 
 pub bar-bars : (ms : List Mark) (m : Mark) → IsAmong m ms → (s : Style) → s ≡ style_of m → (k : ℕ)
-    → k ≡ m.from → Within (IsInBars ms) k (cell s 124 ∷ [])
+    → k ≡ m.start → Within (IsInBars ms) k (cell s 124 ∷ [])
 bar-bars ms m among s same k e zero l =
     inr (inl (m, among, omega (arith, e), ap (λ t. cell t 124) same))
 bar-bars ms m among s same k e (suc n) l = absurd (omega (arith, l))
 
-pub text-bars : (ms : List Mark) (m : Mark) → IsAmong m ms → (k : ℕ) → k ≡ m.from
+pub text-bars : (ms : List Mark) (m : Mark) → IsAmong m ms → (k : ℕ) → k ≡ m.start
     → Along (IsInBars ms) k (cells (text_style m) m.text)
 text-bars ms m among k e n = inr (inr (m, among, n, omega (arith, e), refl))
 
@@ -53,26 +53,26 @@ none-bars ms k n = inl refl
 
 -- A row with the bar of a label, or with its text.
 bar_alone : Mark → List Cell
-bar_alone m = replicate m.from space ++ (cell (style_of m) 124 ∷ [])
+bar_alone m = replicate m.start space ++ (cell (style_of m) 124 ∷ [])
 
 pub text_alone : Mark → List Cell
-text_alone m = replicate m.from space ++ cells (text_style m) m.text
+text_alone m = replicate m.start space ++ cells (text_style m) m.text
 
 bar_alone-along : (ms : List Mark) (m : Mark) → IsAmong m ms → Along (IsInBars ms) 0 (bar_alone m)
 unfolding bar_alone
 bar_alone-along ms m among =
-    along (IsInBars ms) 0 m.from (replicate m.from space) (cell (style_of m) 124 ∷ [])
-    (omega (arith, run-length m.from space)) (blank-bars ms 0 m.from)
-    (along (IsInBars ms) m.from (m.from + 1) (cell (style_of m) 124 ∷ []) [] (omega arith)
-    (bar-bars ms m among (style_of m) refl m.from refl) (none-bars ms (m.from + 1)))
+    along (IsInBars ms) 0 m.start (replicate m.start space) (cell (style_of m) 124 ∷ [])
+    (omega (arith, run-length m.start space)) (blank-bars ms 0 m.start)
+    (along (IsInBars ms) m.start (m.start + 1) (cell (style_of m) 124 ∷ []) [] (omega arith)
+    (bar-bars ms m among (style_of m) refl m.start refl) (none-bars ms (m.start + 1)))
 
 pub text_alone-along : (ms : List Mark) (m : Mark) → IsAmong m ms
     → Along (IsInBars ms) 0 (text_alone m)
 unfolding text_alone
 text_alone-along ms m among =
-    along (IsInBars ms) 0 m.from (replicate m.from space) (cells (text_style m) m.text)
-    (omega (arith, run-length m.from space)) (blank-bars ms 0 m.from)
-    (text-bars ms m among m.from refl)
+    along (IsInBars ms) 0 m.start (replicate m.start space) (cells (text_style m) m.text)
+    (omega (arith, run-length m.start space)) (blank-bars ms 0 m.start)
+    (text-bars ms m among m.start refl)
 
 encode-bar : encode_utf8 124 ≡ codes "|"
 unfolding encode
@@ -82,24 +82,24 @@ pub plain-bar : (s : Style) (cs : List Cell) → plain (cell s 124 ∷ cs) ≡ c
 plain-bar s cs = ap (λ t. t ++ plain cs) encode-bar
 
 bar_alone-plain : (p : Palette) (m : Mark) → has_colours p ≡ false
-    → run m.from 32 ++ painted p (style_of m) (codes "|") ≡ written p (bar_alone m)
+    → run m.start 32 ++ painted p (style_of m) (codes "|") ≡ written p (bar_alone m)
 unfolding bar_alone
 bar_alone-plain p m h =
-    ap (λ t. run m.from 32 ++ t) (painted-plain p (style_of m) (codes "|") h)
+    ap (λ t. run m.start 32 ++ t) (painted-plain p (style_of m) (codes "|") h)
     ∙ sym (written-plain p (bar_alone m) h
-    ∙ cells-append (replicate m.from space) (cell (style_of m) 124 ∷ [])
-    ∙ ap (λ t. t ++ plain (cell (style_of m) 124 ∷ [])) (plain-run space.style m.from 32)
-    ∙ ap (λ t. run m.from 32 ++ t) (plain-bar (style_of m) []))
+    ∙ cells-append (replicate m.start space) (cell (style_of m) 124 ∷ [])
+    ∙ ap (λ t. t ++ plain (cell (style_of m) 124 ∷ [])) (plain-run space.style m.start 32)
+    ∙ ap (λ t. run m.start 32 ++ t) (plain-bar (style_of m) []))
 
 pub text_alone-plain : (p : Palette) (m : Mark) → has_colours p ≡ false
-    → run m.from 32 ++ label_text p m ≡ written p (text_alone m)
+    → run m.start 32 ++ label_text p m ≡ written p (text_alone m)
 unfolding text_alone
 text_alone-plain p m h =
-    ap (λ t. run m.from 32 ++ t) (painted-plain p (text_style m) (glyph_bytes m.text) h)
+    ap (λ t. run m.start 32 ++ t) (painted-plain p (text_style m) (glyph_bytes m.text) h)
     ∙ sym (written-plain p (text_alone m) h
-    ∙ cells-append (replicate m.from space) (cells (text_style m) m.text)
-    ∙ ap (λ t. t ++ plain (cells (text_style m) m.text)) (plain-run space.style m.from 32)
-    ∙ ap (λ t. run m.from 32 ++ t) (plain-map (text_style m) (glyphs (chars m.text))))
+    ∙ cells-append (replicate m.start space) (cells (text_style m) m.text)
+    ∙ ap (λ t. t ++ plain (cells (text_style m) m.text)) (plain-run space.style m.start 32)
+    ∙ ap (λ t. run m.start 32 ++ t) (plain-map (text_style m) (glyphs (chars m.text))))
 
 -- The signs of two labels, column by column.
 pub columns-length : (f : ℕ → Cell) (n : ℕ) → length (columns f n) ≡ n
@@ -173,38 +173,38 @@ last-row g t c e = ap (under g) e ∙ sym (append-nil (row_bytes g c))
 
 -- The row of signs and the text of the label on the right.
 hanging_signs : Mark → Mark → List Cell
-hanging_signs l r = columns (sign_at l r) r.to ++ (space ∷ cells (text_style r) r.text)
+hanging_signs l r = columns (sign_at l r) r.end ++ (space ∷ cells (text_style r) r.text)
 
 hanging-plain : (p : Palette) (l r : Mark) → has_colours p ≡ false
-    → signs p l r r.to ++ (codes " " ++ label_text p r) ≡ written p (hanging_signs l r)
+    → signs p l r r.end ++ (codes " " ++ label_text p r) ≡ written p (hanging_signs l r)
 unfolding signs hanging_signs
 hanging-plain p l r h =
     ap (λ t. t ++ (codes " " ++ label_text p r))
-    (written-plain p (columns (sign_at l r) r.to) h)
-    ∙ ap (λ t. plain (columns (sign_at l r) r.to) ++ (codes " " ++ t))
+    (written-plain p (columns (sign_at l r) r.end) h)
+    ∙ ap (λ t. plain (columns (sign_at l r) r.end) ++ (codes " " ++ t))
     (painted-plain p (text_style r) (glyph_bytes r.text) h)
     ∙ sym (written-plain p (hanging_signs l r) h
-    ∙ cells-append (columns (sign_at l r) r.to) (space ∷ cells (text_style r) r.text)
-    ∙ ap (λ t. plain (columns (sign_at l r) r.to) ++ t)
+    ∙ cells-append (columns (sign_at l r) r.end) (space ∷ cells (text_style r) r.text)
+    ∙ ap (λ t. plain (columns (sign_at l r) r.end) ++ t)
     (plain-space (cells (text_style r) r.text)
     ∙ ap (λ t. codes " " ++ t) (plain-map (text_style r) (glyphs (chars r.text)))))
 
-hanging-along : (l r : Mark) (ms : List Mark) → AreTwo l r ms → l.to ≤ r.from → r.from ≤ r.to
+hanging-along : (l r : Mark) (ms : List Mark) → AreTwo l r ms → l.end ≤ r.start → r.start ≤ r.end
     → Along (IsInSigns ms) 0 (hanging_signs l r)
 unfolding hanging_signs
 hanging-along l r ms t apart long =
-    along (IsInSigns ms) 0 r.to (columns (sign_at l r) r.to) (space ∷ cells (text_style r) r.text)
-    (omega (arith, columns-length (sign_at l r) r.to)) (in-columns ms l r t r.to)
-    (along (IsInSigns ms) r.to (r.to + 1) (space ∷ []) (cells (text_style r) r.text) (omega arith)
-    (in-spaces ms r.to 1 (λ n k. free (r.to + n) (omega arith)))
-    (last-text ms r t.right (r.to + 1) refl (λ n. free ((r.to + 1) + n) (omega arith))))
+    along (IsInSigns ms) 0 r.end (columns (sign_at l r) r.end) (space ∷ cells (text_style r) r.text)
+    (omega (arith, columns-length (sign_at l r) r.end)) (in-columns ms l r t r.end)
+    (along (IsInSigns ms) r.end (r.end + 1) (space ∷ []) (cells (text_style r) r.text) (omega arith)
+    (in-spaces ms r.end 1 (λ n k. free (r.end + n) (omega arith)))
+    (last-text ms r t.right (r.end + 1) refl (λ n. free ((r.end + 1) + n) (omega arith))))
   where
-    free : (n : ℕ) → r.to ≤ n → IsFree ms n
+    free : (n : ℕ) → r.end ≤ n → IsFree ms n
     free n k = free-two l r ms t n (after-column l n (omega (arith, apart, long, k)))
         (after-column r n k)
 
 pub hanging-adds : (g : Gutter) (l r : Mark) (ms : List Mark) (old new : List ℕ) → AreTwo l r ms
-    → has_colours g.palette ≡ false → l.to ≤ r.from → r.from ≤ r.to → new ≡ old ++ hanging g l r
+    → has_colours g.palette ≡ false → l.end ≤ r.start → r.start ≤ r.end → new ≡ old ++ hanging g l r
     → AddsRows g ms old new
 unfolding hanging
 hanging-adds g l r ms old new t h apart long e = record {

@@ -5,7 +5,7 @@ use Rattle.std.proofs.Common.{chars, cond, map, nat_lt, refl, replicate}
 use Rattle.std.specs.Str.{NonePass}
 use Rattle.rustc_parse_format.specs.Characters.{Text}
 use Rattle.drawn_lines.specs.Glyphs.{glyphs, is_obeyed}
-use Rattle.drawn_labels.specs.Marks.{Hung, bars, cells, depth, hang, has_text, hung_row, hung_rows}
+use Rattle.drawn_labels.specs.Marks.{HungLabel, bars, cells, depth, hang, has_text, hung_row, hung_rows}
 use Rattle.drawn_labels.specs.Marks.{hung_texts, mark_rows, put_at, put_from, rows_below, rows_of}
 use Rattle.drawn_labels.specs.Marks.{side_texts, sign_row, signs_of, sorted, with_bar}
 use Rattle.drawn_labels.specs.Marks.{with_hung_text, with_mark, with_side_text, with_signs}
@@ -72,14 +72,14 @@ sorted-signed before done (m ∷ ms) p q =
     sorted-signed before (with_mark before m done) ms (with_mark-signed before m done q.0 p) q.1
 
 -- rows under a line
-quiet-side_text : (h : Hung) (row : List Cell) → Quiet row → Quiet (with_side_text h row)
+quiet-side_text : (h : HungLabel) (row : List Cell) → Quiet row → Quiet (with_side_text h row)
 quiet-side_text h row q =
     if_quiet (has_text h.mark && (h.down == 0))
-    (put_from h.mark.to (space ∷ cells (text_style h.mark) h.mark.text) row) row
-    (quiet-put_from h.mark.to (space ∷ cells (text_style h.mark) h.mark.text) row
+    (put_from h.mark.end (space ∷ cells (text_style h.mark) h.mark.text) row) row
+    (quiet-put_from h.mark.end (space ∷ cells (text_style h.mark) h.mark.text) row
     (written-harmless 32 refl, quiet-text (text_style h.mark) h.mark.text) q) q
 
-quiet-side_texts : (hs : List Hung) (row : List Cell) → Quiet row → Quiet (side_texts hs row)
+quiet-side_texts : (hs : List HungLabel) (row : List Cell) → Quiet row → Quiet (side_texts hs row)
 quiet-side_texts [] row q = q
 quiet-side_texts (h ∷ hs) row q =
     quiet-side_texts hs (with_side_text h row) (quiet-side_text h row q)
@@ -88,45 +88,45 @@ quiet-signs : (ms : List Mark) (row : List Cell) → AreSigned ms → Quiet row
     → Quiet (with_signs ms row)
 quiet-signs [] row p q = q
 quiet-signs (m ∷ ms) row p q =
-    quiet-signs ms (put_from m.from (signs_of m) row) p.1
-    (quiet-put_from m.from (signs_of m) row
-    (quiet-replicate (m.to - m.from) (cell (style_of m) m.sign) p.0) q)
+    quiet-signs ms (put_from m.start (signs_of m) row) p.1
+    (quiet-put_from m.start (signs_of m) row
+    (quiet-replicate (m.end - m.start) (cell (style_of m) m.sign) p.0) q)
 
-quiet-sign_row : (ms : List Mark) (hs : List Hung) → AreSigned ms → Quiet (sign_row ms hs)
+quiet-sign_row : (ms : List Mark) (hs : List HungLabel) → AreSigned ms → Quiet (sign_row ms hs)
 unfolding sign_row
 quiet-sign_row ms hs p =
     quiet-signs (sorted is_covered [] ms) (side_texts hs [])
     (sorted-signed is_covered [] ms tt p) (quiet-side_texts hs [] tt)
 
-quiet-bars : (n : ℕ) (hs : List Hung) (row : List Cell) → Quiet row → Quiet (bars n hs row)
+quiet-bars : (n : ℕ) (hs : List HungLabel) (row : List Cell) → Quiet row → Quiet (bars n hs row)
 quiet-bars n [] row q = q
 quiet-bars n (h ∷ hs) row q =
     quiet-bars n hs (with_bar n h row) (if_quiet (has_text h.mark && nat_lt n h.down)
-    (put_at h.mark.from (cell (style_of h.mark) 124) row) row
-    (quiet-put_at h.mark.from (cell (style_of h.mark) 124) row (written-harmless 124 refl) q) q)
+    (put_at h.mark.start (cell (style_of h.mark) 124) row) row
+    (quiet-put_at h.mark.start (cell (style_of h.mark) 124) row (written-harmless 124 refl) q) q)
 
-quiet-texts : (n : ℕ) (hs : List Hung) (row : List Cell) → Quiet row → Quiet (hung_texts n hs row)
+quiet-texts : (n : ℕ) (hs : List HungLabel) (row : List Cell) → Quiet row → Quiet (hung_texts n hs row)
 quiet-texts n [] row q = q
 quiet-texts n (h ∷ hs) row q =
     quiet-texts n hs (with_hung_text n h row)
     (if_quiet (has_text h.mark && (nat_lt 0 h.down && (n == h.down)))
-    (put_from h.mark.from (cells (text_style h.mark) h.mark.text) row) row
-    (quiet-put_from h.mark.from (cells (text_style h.mark) h.mark.text) row
+    (put_from h.mark.start (cells (text_style h.mark) h.mark.text) row) row
+    (quiet-put_from h.mark.start (cells (text_style h.mark) h.mark.text) row
     (quiet-text (text_style h.mark) h.mark.text) q) q)
 
-of_hung_row : (g : Gutter) (n : ℕ) (hs : List Hung)
+of_hung_row : (g : Gutter) (n : ℕ) (hs : List HungLabel)
     → IsColourOf (under g (written g.palette (hung_row n hs)))
     (under (off g) (written Colourless (hung_row n hs)))
 of_hung_row g n hs =
     of_under g (of_written g.palette (hung_row n hs)
     (quiet-texts n hs (bars n hs []) (quiet-bars n hs [] tt)))
 
-of_hung_rows : (g : Gutter) (n : ℕ) (hs : List Hung)
+of_hung_rows : (g : Gutter) (n : ℕ) (hs : List HungLabel)
     → IsColourOf (hung_rows g n hs) (hung_rows (off g) n hs)
 of_hung_rows g zero hs = nothing
 of_hung_rows g (suc n) hs = join (of_hung_rows g n hs) (of_hung_row g n hs)
 
-of_rows_below : (g : Gutter) (n : ℕ) (hs : List Hung)
+of_rows_below : (g : Gutter) (n : ℕ) (hs : List HungLabel)
     → IsColourOf (rows_below g n hs) (rows_below (off g) n hs)
 of_rows_below g n hs =
     either (n == 0) nothing (join (of_hung_rows g n hs) (of_hung_row g n hs))

@@ -75,25 +75,25 @@ of_signs p m n h k c =
 
 of_bars : (p : Palette) (m : Mark) (n : ℕ) → IsColourOf (bars p m n) (bars Colourless m n)
 of_bars p m n =
-    either (nat_lt m.from n)
-    (join (spaces m.from) (join (of_bar p (style_of m)) (spaces (n - m.from - 1)))) (spaces n)
+    either (nat_lt m.start n)
+    (join (spaces m.start) (join (of_bar p (style_of m)) (spaces (n - m.start - 1)))) (spaces n)
 
 of_pointed : (p : Palette) (m : Mark) → is_obeyed m.sign ≡ false
     → IsColourOf (pointed p m) (pointed Colourless m)
 unfolding pointed
 of_pointed p m h =
-    join (of_painted p (style_of m) (run-harmless (m.to - m.from) m.sign h))
+    join (of_painted p (style_of m) (run-harmless (m.end - m.start) m.sign h))
     (join (text (codes " ") refl) (of_label_text p m))
 
 of_alone : (p : Palette) (m : Mark) → is_obeyed m.sign ≡ false
     → IsColourOf (alone p m) (alone Colourless m)
 unfolding alone
-of_alone p m h = join (spaces m.from) (of_pointed p m h)
+of_alone p m h = join (spaces m.start) (of_pointed p m h)
 
 of_covering : (p : Palette) (l r : Mark) → is_obeyed l.sign ≡ false → is_obeyed r.sign ≡ false
     → IsColourOf (covering p l r) (covering Colourless l r)
 of_covering p l r h k =
-    let n = max l.to r.to in
+    let n = max l.end r.end in
     either (is_covered r l) (of_signs p l r h k n) (of_signs p r l k h n)
 
 of_overlapping : (g : Gutter) (l r : Mark) → is_obeyed l.sign ≡ false → is_obeyed r.sign ≡ false
@@ -102,37 +102,37 @@ unfolding overlapping
 of_overlapping g l r h k =
     let p = g.palette in
     join (of_under g (of_covering p l r h k))
-    (join (of_under g (join (of_bars p l r.from) (of_bar p (bar_style l r))))
-    (join (of_under g (join (of_bars p l r.from) (of_label_text p r)))
-    (of_under g (join (spaces l.from) (of_label_text p l)))))
+    (join (of_under g (join (of_bars p l r.start) (of_bar p (bar_style l r))))
+    (join (of_under g (join (of_bars p l r.start) (of_label_text p r)))
+    (of_under g (join (spaces l.start) (of_label_text p l)))))
 
 of_hanging : (g : Gutter) (l r : Mark) → is_obeyed l.sign ≡ false → is_obeyed r.sign ≡ false
     → IsColourOf (hanging g l r) (hanging (off g) l r)
 unfolding hanging
 of_hanging g l r h k =
     let p = g.palette in
-    join (of_under g (join (of_signs p l r h k r.to)
+    join (of_under g (join (of_signs p l r h k r.end)
     (join (text (codes " ") refl) (of_label_text p r))))
-    (join (of_under g (join (spaces l.from) (of_bar p (style_of l))))
-    (of_under g (join (spaces l.from) (of_label_text p l))))
+    (join (of_under g (join (spaces l.start) (of_bar p (style_of l))))
+    (of_under g (join (spaces l.start) (of_label_text p l))))
 
 of_beside : (g : Gutter) (l r : Mark) → is_obeyed l.sign ≡ false → is_obeyed r.sign ≡ false
     → IsColourOf (beside g l r) (beside (off g) l r)
 unfolding beside
 of_beside g l r h k =
     of_under g (join (of_alone g.palette l h)
-    (join (spaces (r.from - (l.to + 1 + length l.text))) (of_pointed g.palette r k)))
+    (join (spaces (r.start - (l.end + 1 + length l.text))) (of_pointed g.palette r k)))
 
 of_pair : (g : Gutter) (l r : Mark) → is_obeyed l.sign ≡ false → is_obeyed r.sign ≡ false
     → IsColourOf (pair_rows g l r) (pair_rows (off g) l r)
 of_pair g l r h k =
-    either (nat_lt r.from l.to) (of_overlapping g l r h k)
-    (either (nat_lt r.from (l.to + length l.text + 2)) (of_hanging g l r h k) (of_beside g l r h k))
+    either (nat_lt r.start l.end) (of_overlapping g l r h k)
+    (either (nat_lt r.start (l.end + length l.text + 2)) (of_hanging g l r h k) (of_beside g l r h k))
 
 of_both : (g : Gutter) (m n : Mark) → is_obeyed m.sign ≡ false → is_obeyed n.sign ≡ false
     → IsColourOf (both g m n) (both (off g) m n)
 unfolding both
-of_both g m n h k = either (nat_lt m.from n.from) (of_pair g m n h k) (of_pair g n m k h)
+of_both g m n h k = either (nat_lt m.start n.start) (of_pair g m n h k) (of_pair g n m k h)
 
 pub of_labelled : (f : Frame) (m : Mark) → is_obeyed m.sign ≡ false
     → IsColourOf (labelled f m) (labelled (plain_frame f) m)

@@ -57,28 +57,28 @@ pub pointed-plain : (p : Palette) (m : Mark) → has_colours p ≡ false
 unfolding pointed
 pointed-plain p m h =
     ap (λ t. t ++ (codes " " ++ label_text p m))
-    (painted-plain p (style_of m) (run (m.to - m.from) m.sign) h)
-    ∙ ap (λ t. run (m.to - m.from) m.sign ++ (codes " " ++ t))
+    (painted-plain p (style_of m) (run (m.end - m.start) m.sign) h)
+    ∙ ap (λ t. run (m.end - m.start) m.sign ++ (codes " " ++ t))
     (painted-plain p (text_style m) (glyph_bytes m.text) h)
     ∙ sym (cells-append (signs_of m) (space ∷ cells (text_style m) m.text)
     ∙ ap (λ t. t ++ plain (space ∷ cells (text_style m) m.text))
-    (plain-run (style_of m) (m.to - m.from) m.sign)
-    ∙ ap (λ t. run (m.to - m.from) m.sign ++ t) (plain-space (cells (text_style m) m.text)
+    (plain-run (style_of m) (m.end - m.start) m.sign)
+    ∙ ap (λ t. run (m.end - m.start) m.sign ++ t) (plain-space (cells (text_style m) m.text)
     ∙ ap (λ t. codes " " ++ t) (plain-map (text_style m) (glyphs (chars m.text)))))
 
 unfoldable pub alone_cells : Mark → List Cell
 alone_cells m =
-    replicate m.from space ++ (signs_of m ++ (space ∷ cells (text_style m) m.text))
+    replicate m.start space ++ (signs_of m ++ (space ∷ cells (text_style m) m.text))
 
 pub alone-plain : (p : Palette) (m : Mark) → has_colours p ≡ false
     → alone p m ≡ plain (alone_cells m)
 unfolding alone alone_cells
 alone-plain p m h =
-    ap (λ t. run m.from 32 ++ t) (pointed-plain p m h)
-    ∙ sym (cells-append (replicate m.from space)
+    ap (λ t. run m.start 32 ++ t) (pointed-plain p m h)
+    ∙ sym (cells-append (replicate m.start space)
     (signs_of m ++ (space ∷ cells (text_style m) m.text))
     ∙ ap (λ t. t ++ plain (signs_of m ++ (space ∷ cells (text_style m) m.text)))
-    (plain-run space.style m.from 32))
+    (plain-run space.style m.start 32))
 
 -- A cell of a row that is two rows after each other.
 pub data Parts (n : ℕ) (a b : List Cell) (c : Cell) : Type 0 where
@@ -139,13 +139,13 @@ free-two l r ms t n e f x among = elim (t.only x among) [
   | inr h ↦ ap (λ y. has_column y n) h ∙ f
 ]
 
-pub before-column : (m : Mark) (n : ℕ) → n < m.from → has_column m n ≡ false
+pub before-column : (m : Mark) (n : ℕ) → n < m.start → has_column m n ≡ false
 before-column m n l = grind (arith, nat_tests)
 
-pub after-column : (m : Mark) (n : ℕ) → m.to ≤ n → has_column m n ≡ false
+pub after-column : (m : Mark) (n : ℕ) → m.end ≤ n → has_column m n ≡ false
 after-column m n l = grind (arith, nat_tests)
 
-in-column : (m : Mark) (n k : ℕ) → k ≡ m.from → n < m.to - m.from → has_column m (k + n) ≡ true
+in-column : (m : Mark) (n k : ℕ) → k ≡ m.start → n < m.end - m.start → has_column m (k + n) ≡ true
 in-column m n k e l = grind (arith, nat_tests)
 
 -- The parts of rows of signs.
@@ -155,47 +155,47 @@ in-spaces ms k c free n l =
     let m : n < c = omega (arith, l, run-length c space) in
     inr (free n m, inl (run-cell n c space m))
 
-pub in-signs : (ms : List Mark) (m : Mark) → IsAmong m ms → (k : ℕ) → k ≡ m.from
+pub in-signs : (ms : List Mark) (m : Mark) → IsAmong m ms → (k : ℕ) → k ≡ m.start
     → Within (IsInSigns ms) k (signs_of m)
 in-signs ms m among k e n l =
     let c = cell (style_of m) m.sign in
-    let few : n < m.to - m.from = omega (arith, l, run-length (m.to - m.from) c) in
-    inl (m, among, in-column m n k e few, run-cell n (m.to - m.from) c few)
+    let few : n < m.end - m.start = omega (arith, l, run-length (m.end - m.start) c) in
+    inl (m, among, in-column m n k e few, run-cell n (m.end - m.start) c few)
 
-pub in-text : (ms : List Mark) (m : Mark) → IsAmong m ms → (k : ℕ) → k ≡ m.to + 1
+pub in-text : (ms : List Mark) (m : Mark) → IsAmong m ms → (k : ℕ) → k ≡ m.end + 1
     → ((n : ℕ) → n < length (cells (text_style m) m.text) → IsFree ms (k + n))
     → Within (IsInSigns ms) k (cells (text_style m) m.text)
 in-text ms m among k e free n l = inr (free n l, inr (m, among, n, omega (arith, e), refl))
 
-pub last-text : (ms : List Mark) (m : Mark) → IsAmong m ms → (k : ℕ) → k ≡ m.to + 1
+pub last-text : (ms : List Mark) (m : Mark) → IsAmong m ms → (k : ℕ) → k ≡ m.end + 1
     → ((n : ℕ) → IsFree ms (k + n)) → Along (IsInSigns ms) k (cells (text_style m) m.text)
 last-text ms m among k e free n = inr (free n, inr (m, among, n, omega (arith, e), refl))
 
 -- The last label of a row of signs, with its text.
-pub last-label : (l r : Mark) (ms : List Mark) → AreTwo l r ms → l.to ≤ r.from ⊎ (l ≡ r)
-    → r.from ≤ r.to
-    → Along (IsInSigns ms) r.from (signs_of r ++ (space ∷ cells (text_style r) r.text))
+pub last-label : (l r : Mark) (ms : List Mark) → AreTwo l r ms → l.end ≤ r.start ⊎ (l ≡ r)
+    → r.start ≤ r.end
+    → Along (IsInSigns ms) r.start (signs_of r ++ (space ∷ cells (text_style r) r.text))
 last-label l r ms t apart long =
-    along (IsInSigns ms) r.from r.to (signs_of r) (space ∷ cells (text_style r) r.text)
-    (omega (arith, run-length (r.to - r.from) (cell (style_of r) r.sign), long))
-    (in-signs ms r t.right r.from refl)
-    (along (IsInSigns ms) r.to (r.to + 1) (space ∷ []) (cells (text_style r) r.text) (omega arith)
-    (in-spaces ms r.to 1 (λ n k. free (r.to + n) (omega arith)))
-    (last-text ms r t.right (r.to + 1) refl (λ n. free ((r.to + 1) + n) (omega arith))))
+    along (IsInSigns ms) r.start r.end (signs_of r) (space ∷ cells (text_style r) r.text)
+    (omega (arith, run-length (r.end - r.start) (cell (style_of r) r.sign), long))
+    (in-signs ms r t.right r.start refl)
+    (along (IsInSigns ms) r.end (r.end + 1) (space ∷ []) (cells (text_style r) r.text) (omega arith)
+    (in-spaces ms r.end 1 (λ n k. free (r.end + n) (omega arith)))
+    (last-text ms r t.right (r.end + 1) refl (λ n. free ((r.end + 1) + n) (omega arith))))
   where
-    ended : l.to ≤ r.to
-    ended = elim apart [ inl k ↦ omega (arith, k, long) | inr e ↦ omega (arith, ap (λ m. m.to) e) ]
+    ended : l.end ≤ r.end
+    ended = elim apart [ inl k ↦ omega (arith, k, long) | inr e ↦ omega (arith, ap (λ m. m.end) e) ]
 
-    free : (n : ℕ) → r.to ≤ n → IsFree ms n
+    free : (n : ℕ) → r.end ≤ n → IsFree ms n
     free n k = free-two l r ms t n (after-column l n (omega (arith, ended, k))) (after-column r n k)
 
-alone-along : (m : Mark) (ms : List Mark) → AreTwo m m ms → m.from ≤ m.to
+alone-along : (m : Mark) (ms : List Mark) → AreTwo m m ms → m.start ≤ m.end
     → Along (IsInSigns ms) 0 (alone_cells m)
 unfolding alone_cells
 alone-along m ms t long =
-    along (IsInSigns ms) 0 m.from (replicate m.from space) _
-    (omega (arith, run-length m.from space))
-    (in-spaces ms 0 m.from (λ n k. free-two m m ms t (0 + n)
+    along (IsInSigns ms) 0 m.start (replicate m.start space) _
+    (omega (arith, run-length m.start space))
+    (in-spaces ms 0 m.start (λ n k. free-two m m ms t (0 + n)
     (before-column m (0 + n) (omega (arith, k))) (before-column m (0 + n) (omega (arith, k)))))
     (last-label m m ms t (inr refl) long)
 
@@ -214,7 +214,7 @@ one-two m = record {
 
 -- The rows of one label.
 pub alone-adds : (g : Gutter) (m : Mark) (old new : List ℕ) → has_colours g.palette ≡ false
-    → m.from ≤ m.to → new ≡ old ++ under g (alone g.palette m) → AddsRows g (m ∷ []) old new
+    → m.start ≤ m.end → new ≡ old ++ under g (alone g.palette m) → AddsRows g (m ∷ []) old new
 alone-adds g m old new h long e = record {
   signs = alone_cells m;
   others = [];
@@ -228,7 +228,7 @@ alone-adds g m old new h long e = record {
 
 -- A line with one label.
 pub labelled-adds : (f : Frame) (m : Mark) (old mid new : List ℕ)
-    → has_colours f.gutter.palette ≡ false → m.from ≤ m.to
+    → has_colours f.gutter.palette ≡ false → m.start ≤ m.end
     → mid ≡ old ++ source_row f (codes " ") m.line
     → new ≡ mid ++ under f.gutter (alone f.gutter.palette m)
     → AddsLabels f m.line (m ∷ []) old new

@@ -43,11 +43,11 @@ columns-spaces f (suc n) each =
     ∙ run-run n 1 32
     ∙ ap (λ k. run k 32) (add-one n)
 
-early-sign : (m n : Mark) (k : ℕ) → k < m.from → k < n.from → sign_at m n k ≡ space
+early-sign : (m n : Mark) (k : ℕ) → k < m.start → k < n.start → sign_at m n k ≡ space
 early-sign m n k l p = grind (arith, nat_tests)
 
 -- no sign is in the columns before both labels
-pub no-sign : (m n : Mark) (c : ℕ) → c ≤ m.from → c ≤ n.from
+pub no-sign : (m n : Mark) (c : ℕ) → c ≤ m.start → c ≤ n.start
     → plain_text (cell_pieces (columns (sign_at m n) c)) ≡ run c 32
 no-sign m n c l p =
     columns-spaces (sign_at m n) c

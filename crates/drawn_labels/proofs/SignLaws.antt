@@ -10,7 +10,7 @@ use Rattle.std.proofs.lemmas.Bool.{cond_both}
 use Rattle.std.proofs.lemmas.Grind.{flat_map-append}
 use Rattle.drawn_lines.specs.Lines.{under}
 use Rattle.drawn_lines.specs.declared.paint.Gutter.{Gutter}
-use Rattle.drawn_labels.specs.Marks.{Hung, bars, cells, depth, depth_after, depth_of, hang}
+use Rattle.drawn_labels.specs.Marks.{HungLabel, bars, cells, depth, depth_after, depth_of, hang}
 use Rattle.drawn_labels.specs.Marks.{has_text}
 use Rattle.drawn_labels.specs.Marks.{hung_row, hung_rows, hung_texts, mark_rows, put_at, put_from}
 use Rattle.drawn_labels.specs.Marks.{rows_below, rows_of, side_texts, sign_row, signs_of, sorted}
@@ -145,10 +145,10 @@ Signed all done row = (n : ℕ)
     → IsSign done n (cell_in n row)
     ⊎ (IsFree done n × ((cell_in n row ≡ space) ⊎ IsText right_of all n (cell_in n row)))
 
-within-column : (m : Mark) (n j : ℕ) → n ≡ m.from + j → j < m.to - m.from → has_column m n ≡ true
+within-column : (m : Mark) (n j : ℕ) → n ≡ m.start + j → j < m.end - m.start → has_column m n ≡ true
 within-column m n j e l = grind (arith, nat_tests)
 
-beside-column : (m : Mark) (n : ℕ) → (n < m.from) ⊎ (m.from + (m.to - m.from) ≤ n)
+beside-column : (m : Mark) (n : ℕ) → (n < m.start) ⊎ (m.start + (m.end - m.start) ≤ n)
     → has_column m n ≡ false
 beside-column m n (inl l) = grind (arith, nat_tests)
 beside-column m n (inr l) = grind (arith, nat_tests)
@@ -176,18 +176,18 @@ sign-kept all done m n c d e off (inr (free, what)) =
     )
 
 sign-over : (all done : List Mark) (m : Mark) (row : List Cell) → Signed all done row
-    → Signed all (m ∷ done) (put_from m.from (signs_of m) row)
-sign-over all done m row h n = by_found (find n m.from (signs_of m) row)
+    → Signed all (m ∷ done) (put_from m.start (signs_of m) row)
+sign-over all done m row h n = by_found (find n m.start (signs_of m) row)
   where
-    long : length (signs_of m) ≡ m.to - m.from
-    long = run-length (m.to - m.from) (cell (style_of m) m.sign)
+    long : length (signs_of m) ≡ m.end - m.start
+    long = run-length (m.end - m.start) (cell (style_of m) m.sign)
 
-    by_found : {c : Cell} → Found n m.from (signs_of m) row c
+    by_found : {c : Cell} → Found n m.start (signs_of m) row c
         → IsSign (m ∷ done) n c
         ⊎ (IsFree (m ∷ done) n × ((c ≡ space) ⊎ IsText right_of all n c))
     by_found (Put j e l f) =
-        let k : j < m.to - m.from = omega (arith, l, long) in
-        inl (m, inl refl, within-column m n j e k, f ∙ run-cell j (m.to - m.from) _ k)
+        let k : j < m.end - m.start = omega (arith, l, long) in
+        inl (m, inl refl, within-column m n j e k, f ∙ run-cell j (m.end - m.start) _ k)
     by_found (Left (inl l) f) =
         sign-kept all done m n _ _ f (beside-column m n (inl l)) (h n)
     by_found (Left (inr l) f) =
@@ -203,7 +203,7 @@ signs-over : (all done ms : List Mark) (row : List Cell) → Signed all done row
 unfolding over
 signs-over all done [] row h = h
 signs-over all done (m ∷ ms) row h =
-    signs-over all (m ∷ done) ms (put_from m.from (signs_of m) row) (sign-over all done m row h)
+    signs-over all (m ∷ done) ms (put_from m.start (signs_of m) row) (sign-over all done m row h)
 
 over-among : (done ms : List Mark) (x : Mark) → IsAmong x (over done ms)
     → IsAmong x done ⊎ IsAmong x ms
@@ -223,29 +223,29 @@ among-over done (m ∷ ms) x (inl h) = among-over (m ∷ done) ms x (inl (inr h)
 among-over done (m ∷ ms) x (inr (inl h)) = among-over (m ∷ done) ms x (inl (inl h))
 among-over done (m ∷ ms) x (inr (inr h)) = among-over (m ∷ done) ms x (inr h)
 
--- Hung labels that are among these.
-AreHung : List Mark → List Hung → Type 0
+-- HungLabel labels that are among these.
+AreHung : List Mark → List HungLabel → Type 0
 AreHung ms hs = AllByRecursion (λ h. IsAmong h.mark ms) hs
 
 -- A row of texts.
 abbrev Texts : (Mark → ℕ) → List Mark → List Cell → Type 0
 Texts start ms row = (n : ℕ) → (cell_in n row ≡ space) ⊎ IsText start ms n (cell_in n row)
 
-side-over : (ms : List Mark) (h : Hung) (row : List Cell) → IsAmong h.mark ms
+side-over : (ms : List Mark) (h : HungLabel) (row : List Cell) → IsAmong h.mark ms
     → Texts right_of ms row → Texts right_of ms (with_side_text h row)
 side-over ms h row among t = cond_both (has_text h.mark && (h.down == 0))
-    (put_from h.mark.to (space ∷ cells (text_style h.mark) h.mark.text) row) row (Texts right_of ms)
-    (λ yes n. by_found n (find n h.mark.to (space ∷ cells (text_style h.mark) h.mark.text) row))
+    (put_from h.mark.end (space ∷ cells (text_style h.mark) h.mark.text) row) row (Texts right_of ms)
+    (λ yes n. by_found n (find n h.mark.end (space ∷ cells (text_style h.mark) h.mark.text) row))
     (λ no. t)
   where
     by_found : (n : ℕ) {c : Cell}
-        → Found n h.mark.to (space ∷ cells (text_style h.mark) h.mark.text) row c
+        → Found n h.mark.end (space ∷ cells (text_style h.mark) h.mark.text) row c
         → (c ≡ space) ⊎ IsText right_of ms n c
     by_found n (Put zero e l f) = inl f
     by_found n (Put (suc j) e l f) = inr (h.mark, among, j, omega (arith, e), f)
     by_found n (Left l f) = same-text right_of ms n _ _ f (t n)
 
-sides-over : (ms : List Mark) (hs : List Hung) (row : List Cell) → AreHung ms hs
+sides-over : (ms : List Mark) (hs : List HungLabel) (row : List Cell) → AreHung ms hs
     → Texts right_of ms row → Texts right_of ms (side_texts hs row)
 unfolding AreHung
 sides-over ms [] row a t = t
@@ -253,7 +253,7 @@ sides-over ms (h ∷ hs) row a t =
     sides-over ms hs (with_side_text h row) a.1 (side-over ms h row a.0 t)
 
 -- The row of signs.
-signs-in : (ms : List Mark) (hs : List Hung) → AreHung ms hs
+signs-in : (ms : List Mark) (hs : List HungLabel) → AreHung ms hs
     → (n : ℕ) → IsInSigns ms n (cell_in n (sign_row ms hs))
 unfolding sign_row
 signs-in ms hs a n = by_kind (signs-over ms [] (sorted is_covered [] ms) (side_texts hs [])
@@ -285,60 +285,60 @@ same-bar ms n c d e (inl same) = inl (e ∙ same)
 same-bar ms n c d e (inr (inl (m, among, at, same))) = inr (inl (m, among, at, e ∙ same))
 same-bar ms n c d e (inr (inr (m, among, k, at, same))) = inr (inr (m, among, k, at, e ∙ same))
 
-bar-over : (ms : List Mark) (k : ℕ) (h : Hung) (row : List Cell) → IsAmong h.mark ms
+bar-over : (ms : List Mark) (k : ℕ) (h : HungLabel) (row : List Cell) → IsAmong h.mark ms
     → Barred ms row → Barred ms (with_bar k h row)
 bar-over ms k h row among t = cond_both (has_text h.mark && nat_lt k h.down)
-    (put_at h.mark.from bar row) row (Barred ms)
-    (λ yes n. by_order n (order n h.mark.from)) (λ no. t)
+    (put_at h.mark.start bar row) row (Barred ms)
+    (λ yes n. by_order n (order n h.mark.start)) (λ no. t)
   where
     bar : Cell
     bar = cell (style_of h.mark) 124
 
-    by_order : (n : ℕ) → Order n h.mark.from
-        → IsInBars ms n (cell_in n (put_at h.mark.from bar row))
+    by_order : (n : ℕ) → Order n h.mark.start
+        → IsInBars ms n (cell_in n (put_at h.mark.start bar row))
     by_order n (Below l) =
-        same-bar ms n (cell_in n row) (cell_in n (put_at h.mark.from bar row))
-        (put-there n h.mark.from bar row (inl l)) (t n)
+        same-bar ms n (cell_in n row) (cell_in n (put_at h.mark.start bar row))
+        (put-there n h.mark.start bar row (inl l)) (t n)
     by_order n (Same e) =
         inr (inl (
           h.mark,
           among,
           e,
-          ap (λ i. cell_in i (put_at h.mark.from bar row)) e
-              ∙ put-here h.mark.from bar row,
+          ap (λ i. cell_in i (put_at h.mark.start bar row)) e
+              ∙ put-here h.mark.start bar row,
         ))
     by_order n (Above l) =
-        same-bar ms n (cell_in n row) (cell_in n (put_at h.mark.from bar row))
-        (put-there n h.mark.from bar row (inr l)) (t n)
+        same-bar ms n (cell_in n row) (cell_in n (put_at h.mark.start bar row))
+        (put-there n h.mark.start bar row (inr l)) (t n)
 
-bars-over : (ms : List Mark) (k : ℕ) (hs : List Hung) (row : List Cell) → AreHung ms hs
+bars-over : (ms : List Mark) (k : ℕ) (hs : List HungLabel) (row : List Cell) → AreHung ms hs
     → Barred ms row → Barred ms (bars k hs row)
 unfolding AreHung
 bars-over ms k [] row a t = t
 bars-over ms k (h ∷ hs) row a t =
     bars-over ms k hs (with_bar k h row) a.1 (bar-over ms k h row a.0 t)
 
-hung-over : (ms : List Mark) (k : ℕ) (h : Hung) (row : List Cell) → IsAmong h.mark ms
+hung-over : (ms : List Mark) (k : ℕ) (h : HungLabel) (row : List Cell) → IsAmong h.mark ms
     → Barred ms row → Barred ms (with_hung_text k h row)
 hung-over ms k h row among t =
     cond_both (has_text h.mark && (nat_lt 0 h.down && (k == h.down)))
-    (put_from h.mark.from (cells (text_style h.mark) h.mark.text) row) row (Barred ms)
-    (λ yes n. by_found n (find n h.mark.from (cells (text_style h.mark) h.mark.text) row))
+    (put_from h.mark.start (cells (text_style h.mark) h.mark.text) row) row (Barred ms)
+    (λ yes n. by_found n (find n h.mark.start (cells (text_style h.mark) h.mark.text) row))
     (λ no. t)
   where
     by_found : (n : ℕ) {c : Cell}
-        → Found n h.mark.from (cells (text_style h.mark) h.mark.text) row c → IsInBars ms n c
+        → Found n h.mark.start (cells (text_style h.mark) h.mark.text) row c → IsInBars ms n c
     by_found n (Put j e l f) = inr (inr (h.mark, among, j, e, f))
     by_found n (Left l f) = same-bar ms n _ _ f (t n)
 
-hungs-over : (ms : List Mark) (k : ℕ) (hs : List Hung) (row : List Cell) → AreHung ms hs
+hungs-over : (ms : List Mark) (k : ℕ) (hs : List HungLabel) (row : List Cell) → AreHung ms hs
     → Barred ms row → Barred ms (hung_texts k hs row)
 unfolding AreHung
 hungs-over ms k [] row a t = t
 hungs-over ms k (h ∷ hs) row a t =
     hungs-over ms k hs (with_hung_text k h row) a.1 (hung-over ms k h row a.0 t)
 
-hung-in : (ms : List Mark) (k : ℕ) (hs : List Hung) → AreHung ms hs → Barred ms (hung_row k hs)
+hung-in : (ms : List Mark) (k : ℕ) (hs : List HungLabel) → AreHung ms hs → Barred ms (hung_row k hs)
 hung-in ms k hs a = hungs-over ms k hs (bars k hs []) a (bars-over ms k hs [] a (λ n. inl refl))
 
 -- The labels that are hung are those of the line.
@@ -355,11 +355,11 @@ hang-among all (m ∷ ms) down h = (
 abbrev row_bytes : Gutter → List Cell → List ℕ
 row_bytes g row = under g (written g.palette row)
 
-first_rows : ℕ → List Hung → List (List Cell)
+first_rows : ℕ → List HungLabel → List (List Cell)
 first_rows zero hs = []
 first_rows (suc n) hs = first_rows n hs ++ hung_row n hs ∷ []
 
-first-bytes : (g : Gutter) (n : ℕ) (hs : List Hung)
+first-bytes : (g : Gutter) (n : ℕ) (hs : List HungLabel)
     → hung_rows g n hs ≡ flat_map (row_bytes g) (first_rows n hs)
 unfolding first_rows
 first-bytes g zero hs = refl
@@ -375,17 +375,17 @@ all-append : (ms : List Mark) (rows : List (List Cell)) (row : List Cell)
 all-append ms [] row a b = (b, tt)
 all-append ms (r ∷ rows) row a b = (a.0, all-append ms rows row a.1 b)
 
-first-in : (ms : List Mark) (n : ℕ) (hs : List Hung) → AreHung ms hs
+first-in : (ms : List Mark) (n : ℕ) (hs : List HungLabel) → AreHung ms hs
     → AllByRecursion (Barred ms) (first_rows n hs)
 unfolding first_rows
 first-in ms zero hs a = tt
 first-in ms (suc n) hs a =
     all-append ms (first_rows n hs) (hung_row n hs) (first-in ms n hs a) (hung-in ms n hs a)
 
-other_rows : ℕ → List Hung → List (List Cell)
+other_rows : ℕ → List HungLabel → List (List Cell)
 other_rows most hs = cond (most == 0) [] (first_rows most hs ++ hung_row most hs ∷ [])
 
-other-bytes : (g : Gutter) (most : ℕ) (hs : List Hung)
+other-bytes : (g : Gutter) (most : ℕ) (hs : List HungLabel)
     → rows_below g most hs ≡ flat_map (row_bytes g) (other_rows most hs)
 unfolding other_rows first_rows
 other-bytes g most hs = by_test (most == 0)
@@ -395,7 +395,7 @@ other-bytes g most hs = by_test (most == 0)
     by_test true = refl
     by_test false = first-bytes g (suc most) hs
 
-other-in : (ms : List Mark) (most : ℕ) (hs : List Hung) → AreHung ms hs
+other-in : (ms : List Mark) (most : ℕ) (hs : List HungLabel) → AreHung ms hs
     → AllByRecursion (Barred ms) (other_rows most hs)
 unfolding other_rows
 other-in ms most hs a = cond_both {A = List (List Cell)} (most == 0) []

@@ -36,14 +36,14 @@ two-turn f m n l =
 
 -- The line of one label, and the rows under it.
 pub one-adds : (f : Frame) (m : Mark) (old : List ℕ) → has_colours f.gutter.palette ≡ false
-    → m.from ≤ m.to → AddsLabels f m.line (m ∷ []) old (old ++ labelled f m)
+    → m.start ≤ m.end → AddsLabels f m.line (m ∷ []) old (old ++ labelled f m)
 unfolding labelled
 one-adds f m old h long =
     labelled-adds f m old (old ++ code_row f m.line) (old ++ labelled f m) h long refl
     (sym (append_assoc old (code_row f m.line) (under f.gutter (alone f.gutter.palette m))))
 
 apart-adds : (f : Frame) (m n : Mark) (old new : List ℕ) → has_colours f.gutter.palette ≡ false
-    → m.from ≤ m.to → n.from ≤ n.to → new ≡ old ++ apart f m n → AddsApart f m n old new
+    → m.start ≤ m.end → n.start ≤ n.end → new ≡ old ++ apart f m n → AddsApart f m n old new
 unfolding apart
 apart-adds f m n old new h long wide e =
     let mid = old ++ labelled f m in
@@ -60,7 +60,7 @@ apart-adds f m n old new h long wide e =
     }
 
 pub two-adds : (f : Frame) (m n : Mark) (old new : List ℕ) → new ≡ old ++ two_labels f m n
-    → has_colours f.gutter.palette ≡ false → m.from ≤ m.to → n.from ≤ n.to → IsNarrow m.text
+    → has_colours f.gutter.palette ≡ false → m.start ≤ m.end → n.start ≤ n.end → IsNarrow m.text
     → IsNarrow n.text → AddsTwo f m n old new
 two-adds f m n old new e h long wide narrow thin = record {
   in_one = λ s. record {

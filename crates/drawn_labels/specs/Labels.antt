@@ -21,8 +21,8 @@ seen_label l = record { sign = l.sign; text = l.text.now; extent = seen_extent l
 unfoldable pub mark : ℕ → Label → Mark
 mark cut l = record {
   line = l.extent.start.line;
-  from = l.extent.start.column - cut;
-  to = max (l.extent.start.column - cut + 1)
+  start = l.extent.start.column - cut;
+  end = max (l.extent.start.column - cut + 1)
       (if l.extent.end.line == l.extent.start.line then l.extent.end.column - cut else 0);
   sign = l.sign;
   text = l.text;

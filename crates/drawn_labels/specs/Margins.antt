@@ -23,18 +23,18 @@ line_columns source n = columns (chars (line n source))
 -- the one after its text, and how many columns the line has.
 unfoldable pub mark_reach : List ℕ → Mark → Reach
 mark_reach source m = record {
-  from = m.from;
-  to = m.to;
-  end = m.to + text_columns m.text;
+  start = m.start;
+  end = m.end;
+  text_end = m.end + text_columns m.text;
   longest = line_columns source m.line;
 }
 
 -- Two reaches as one.
 unfoldable pub joined : Reach → Reach → Reach
 joined r s = record {
-  from = min r.from s.from;
-  to = max r.to s.to;
+  start = min r.start s.start;
   end = max r.end s.end;
+  text_end = max r.text_end s.text_end;
   longest = max r.longest s.longest;
 }
 
@@ -46,11 +46,11 @@ is_long l = not (l.extent.start.line == l.extent.end.line)
 -- its start.
 unfoldable pub long_reach : List ℕ → Label → Reach
 long_reach source l = record {
-  from =
+  start =
       if nat_lt (l.extent.start.line + 1) l.extent.end.line then 0
       else min l.extent.start.column (l.extent.end.column - 1);
-  to = max (l.extent.start.column + 1) l.extent.end.column;
-  end = max (l.extent.start.column + 1) (l.extent.end.column + text_columns l.text);
+  end = max (l.extent.start.column + 1) l.extent.end.column;
+  text_end = max (l.extent.start.column + 1) (l.extent.end.column + text_columns l.text);
   longest =
       max (line_columns source l.extent.start.line) (line_columns source l.extent.end.line);
 }
@@ -62,7 +62,7 @@ reach_on source r (l ∷ ls) = reach_on source (joined r (mark_reach source (mar
 
 -- The reach of no label.
 abbrev pub nowhere : Reach
-nowhere = record { from = 0; to = 0; end = 0; longest = 0 }
+nowhere = record { start = 0; end = 0; text_end = 0; longest = 0 }
 
 -- The reach of these labels.
 abbrev pub reach_of : List ℕ → List Label → Reach
@@ -78,9 +78,9 @@ room n [] = n - 3
 room n (l ∷ []) = n - (if is_long l then 5 else 3)
 room n (l ∷ k ∷ ls) = n - 3
 
--- The window that begins after `left` columns and has n of them.
+-- The window that begins after `start` columns and has n of them.
 abbrev pub window_at : ℕ → ℕ → Window
-window_at left n = record { left = left; room = n; most = n }
+window_at start n = record { start = start; room = n; limit = n }
 
 -- The columns that are cut of lines with this indent: of a deep one 22 columns are left.
 abbrev pub cut_of : ℕ → ℕ
@@ -91,10 +91,10 @@ cut_of n = if nat_lt 26 n then n - 22 else 0
 -- columns as the labels need. Six columns at each side are for dots.
 unfoldable pub around : ℕ → ℕ → Reach → Window
 around n indent r =
-    let from = r.from - 6 in
-    let texts = r.end + 6 - from in
-    let labels = r.to + 6 - from in
-    if nat_le (r.end + 6 - (indent - 6)) n then window_at (indent - 6) n
+    let from = r.start - 6 in
+    let texts = r.text_end + 6 - from in
+    let labels = r.end + 6 - from in
+    if nat_le (r.text_end + 6 - (indent - 6)) n then window_at (indent - 6) n
     else if nat_le texts n then window_at (from - (n - texts) / 2) n
     else if nat_le labels n then window_at (from - (n - labels) / 5 * 2) n
     else window_at from labels
@@ -103,7 +103,7 @@ around n indent r =
 unfoldable pub window : ℕ → ℕ → Reach → Window
 window n indent r =
     if nat_lt n (r.longest - cut_of indent) then around n indent r
-    else record { left = cut_of indent; room = n; most = r.longest - cut_of indent }
+    else record { start = cut_of indent; room = n; limit = r.longest - cut_of indent }
 
 -- The window for these labels, of lines with this indent.
 abbrev pub window_of : Picture → Gutter → ℕ → List Label → Window

@@ -16,14 +16,14 @@ use Rattle.drawn_lines.specs.Lines.{under}
 -- last one and without it, the sign under these columns, and its text.
 pub record Mark : Type 0 where
   pub line : ℕ
-  pub from : ℕ
-  pub to : ℕ
+  pub start : ℕ
+  pub end : ℕ
   pub sign : ℕ
   pub text : List ℕ
 
 -- A label as a contract sees it.
 abbrev pub seen_mark : DeclaredMark → Mark
-seen_mark m = record { line = m.line; from = m.from; to = m.to; sign = m.sign; text = m.text.now }
+seen_mark m = record { line = m.line; start = m.start; end = m.end; sign = m.sign; text = m.text.now }
 
 -- The style of the signs of a label, and of its bar.
 abbrev pub style_of : Mark → Style
@@ -51,7 +51,7 @@ written p cs = pieces p (cell_pieces cs)
 
 -- The label has this column.
 abbrev pub has_column : Mark → ℕ → Bool
-has_column m c = nat_le m.from c && nat_lt c m.to
+has_column m c = nat_le m.start c && nat_lt c m.end
 
 -- The sign in a column under two labels, of which the first one covers the second one.
 abbrev pub sign_at : Mark → Mark → ℕ → Cell
@@ -71,8 +71,8 @@ signs p m n c = written p (columns (sign_at m n) c)
 -- The first n columns of a row with the bar of a label.
 abbrev pub bars : Palette → Mark → ℕ → List ℕ
 bars p m n =
-    if nat_lt m.from n
-    then run m.from 32 ++ (painted p (style_of m) (codes "|") ++ run (n - m.from - 1) 32)
+    if nat_lt m.start n
+    then run m.start 32 ++ (painted p (style_of m) (codes "|") ++ run (n - m.start - 1) 32)
     else run n 32
 
 -- The text of a label.
@@ -82,59 +82,59 @@ label_text p m = painted p (text_style m) (glyph_bytes m.text)
 -- The signs of a label and its text after them.
 unfoldable pub pointed : Palette → Mark → List ℕ
 pointed p m =
-    painted p (style_of m) (run (m.to - m.from) m.sign) ++ (codes " " ++ label_text p m)
+    painted p (style_of m) (run (m.end - m.start) m.sign) ++ (codes " " ++ label_text p m)
 
 -- The row of a label that is alone.
 unfoldable pub alone : Palette → Mark → List ℕ
-alone p m = run m.from 32 ++ pointed p m
+alone p m = run m.start 32 ++ pointed p m
 
 -- The first label is covered by the second one, which is shorter, or as long and primary.
 abbrev pub is_covered : Mark → Mark → Bool
 is_covered m n =
-    nat_lt (n.to - n.from) (m.to - m.from)
-    || ((n.to - n.from == m.to - m.from) && nat_lt m.sign n.sign)
+    nat_lt (n.end - n.start) (m.end - m.start)
+    || ((n.end - n.start == m.end - m.start) && nat_lt m.sign n.sign)
 
 -- The signs of two labels that overlap, of which the first one begins first: the one that covers is
 -- over the other.
 abbrev pub covering : Palette → Mark → Mark → List ℕ
 covering p l r =
-    if is_covered r l then signs p l r (max l.to r.to) else signs p r l (max l.to r.to)
+    if is_covered r l then signs p l r (max l.end r.end) else signs p r l (max l.end r.end)
 
 -- The style of the bar of the second one of two such labels: that of the first one, if they begin
 -- together.
 abbrev pub bar_style : Mark → Mark → Style
-bar_style l r = if nat_lt l.from r.from then style_of r else style_of l
+bar_style l r = if nat_lt l.start r.start then style_of r else style_of l
 
 -- Two such labels: their signs; a bar from each; the text of the second one; the text of the first
 -- one.
 unfoldable pub overlapping : Gutter → Mark → Mark → List ℕ
 overlapping g l r =
     under g (covering g.palette l r)
-    ++ (under g (bars g.palette l r.from ++ painted g.palette (bar_style l r) (codes "|"))
-    ++ (under g (bars g.palette l r.from ++ label_text g.palette r)
-    ++ under g (run l.from 32 ++ label_text g.palette l)))
+    ++ (under g (bars g.palette l r.start ++ painted g.palette (bar_style l r) (codes "|"))
+    ++ (under g (bars g.palette l r.start ++ label_text g.palette r)
+    ++ under g (run l.start 32 ++ label_text g.palette l)))
 
 -- Two labels with no room for the text of the first one between them, where each of its bytes
 -- takes a column, as all texts of labels are ASCII: it hangs from a bar.
 unfoldable pub hanging : Gutter → Mark → Mark → List ℕ
 hanging g l r =
-    under g (signs g.palette l r r.to ++ (codes " " ++ label_text g.palette r))
-    ++ (under g (run l.from 32 ++ painted g.palette (style_of l) (codes "|"))
-    ++ under g (run l.from 32 ++ label_text g.palette l))
+    under g (signs g.palette l r r.end ++ (codes " " ++ label_text g.palette r))
+    ++ (under g (run l.start 32 ++ painted g.palette (style_of l) (codes "|"))
+    ++ under g (run l.start 32 ++ label_text g.palette l))
 
 -- Two labels beside each other.
 unfoldable pub beside : Gutter → Mark → Mark → List ℕ
 beside g l r =
     under g (alone g.palette l
-    ++ (run (r.from - (l.to + 1 + length l.text)) 32 ++ pointed g.palette r))
+    ++ (run (r.start - (l.end + 1 + length l.text)) 32 ++ pointed g.palette r))
 
 -- The rows of two labels, of which the first one begins first.
 abbrev pub pair_rows : Gutter → Mark → Mark → List ℕ
 pair_rows g l r =
-    if nat_lt r.from l.to then overlapping g l r
-    else if nat_lt r.from (l.to + length l.text + 2) then hanging g l r
+    if nat_lt r.start l.end then overlapping g l r
+    else if nat_lt r.start (l.end + length l.text + 2) then hanging g l r
     else beside g l r
 
 -- The rows of two labels in a line. If they begin together, the second one is that on the left.
 unfoldable pub both : Gutter → Mark → Mark → List ℕ
-both g m n = if nat_lt m.from n.from then pair_rows g m n else pair_rows g n m
+both g m n = if nat_lt m.start n.start then pair_rows g m n else pair_rows g n m

@@ -39,11 +39,11 @@ IsText start ms n c =
 
 -- The column in which the text of a label begins right of its signs.
 abbrev pub right_of : Mark → ℕ
-right_of m = m.to + 1
+right_of m = m.end + 1
 
 -- The column in which it begins below them.
 abbrev pub below : Mark → ℕ
-below m = m.from
+below m = m.start
 
 -- The cell may stand in this column of the row of signs: it is the sign of a label there, or no
 -- label is there, and it is a space or in the text of a label.
@@ -52,7 +52,7 @@ IsInSigns ms n c = IsSign ms n c ⊎ (IsFree ms n × ((c ≡ space) ⊎ IsText r
 
 -- The cell is the bar of a label that begins in this column.
 abbrev pub IsBar : List Mark → ℕ → Cell → Type 0
-IsBar ms n c = (m : Mark) × IsAmong m ms × (n ≡ m.from) × (c ≡ cell (style_of m) 124)
+IsBar ms n c = (m : Mark) × IsAmong m ms × (n ≡ m.start) × (c ≡ cell (style_of m) 124)
 
 -- The cell may stand in this column of a row below the signs: it is a space, a bar, or in the text
 -- of a label.

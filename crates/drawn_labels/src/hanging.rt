@@ -12,7 +12,7 @@ use std::alloc::{AllocError, Global};
 /// A label, and how many rows below the signs its text hangs: it stands right of them if that is
 /// none.
 #[derive(Clone, Copy)]
-pub struct Hung<'a> {
+pub struct HungLabel<'a> {
     pub mark: Mark<'a>,
     pub down: usize,
 }
@@ -28,14 +28,14 @@ pub fn has_text(mark: &Mark<'_>) -> bool
 fn is_meeting(n: &Mark<'_>, m: &Mark<'_>) -> bool
     ensures { result ≡ is_meeting 0 (seen_mark n.now) (seen_mark m.now) }
 {
-    (m.from <= n.from && n.from < m.to) || (n.from <= m.from && m.from < n.to)
+    (m.start <= n.start && n.start < m.end) || (n.start <= m.start && m.start < n.end)
 }
 
 /// Returns whether the label `n` has no text, and the columns of `m`.
 fn is_shadow(n: &Mark<'_>, m: &Mark<'_>) -> bool
     ensures { result ≡ is_shadow (seen_mark n.now) (seen_mark m.now) }
 {
-    (n.from == m.from && n.to == m.to) && !has_text(n)
+    (n.start == m.start && n.end == m.end) && !has_text(n)
 }
 
 /// Returns whether the text of a label cannot stand right of its signs, since it meets one of
@@ -59,9 +59,10 @@ fn is_crossed(mark: &Mark<'_>, others: &[Mark<'_>]) -> bool
 fn is_reaching(n: &Mark<'_>, m: &Mark<'_>) -> bool
     ensures { result ≡ is_reaching (seen_mark n.now) (seen_mark m.now) }
 {
-    let columns = m.from.saturating_sub(n.to).saturating_sub(1);
+    let columns = m.start.saturating_sub(n.end).saturating_sub(1);
     has_text(n)
-        && ((m.from <= n.from && n.from < m.to) || (n.from <= m.from && columns <= n.text.len()))
+        && ((m.start <= n.start && n.start < m.end)
+            || (n.start <= m.start && columns <= n.text.len()))
 }
 
 /// Returns whether the texts of labels hang a row below that of a label right of them, which hangs
@@ -70,7 +71,7 @@ fn is_lowering(down: usize, mark: &Mark<'_>, others: &[Mark<'_>]) -> bool
     ensures { result ≡ is_lowering down (seen_mark mark.now) (map seen_mark others.now) }
 {
     for other in others {
-        if is_reaching(other, mark) && (has_text(mark) || (other.to <= mark.to && down == 0)) {
+        if is_reaching(other, mark) && (has_text(mark) || (other.end <= mark.end && down == 0)) {
             return true;
         }
     }
@@ -104,7 +105,7 @@ fn depth_after(down: usize, mark: &Mark<'_>, others: &[Mark<'_>]) -> usize
 
 /// Returns the labels of a line, from right to left, with how far down they hang. Returns `Err` if
 /// an allocation fails.
-pub fn hang<'a>(alloc: Global, marks: &[Mark<'a>]) -> Result<Vec<Hung<'a>>, AllocError>
+pub fn hang<'a>(alloc: Global, marks: &[Mark<'a>]) -> Result<Vec<HungLabel<'a>>, AllocError>
     ensures { IfOk result (λ v. map seen_hung v.items ≡ hang 0 (map seen_mark marks.now)) }
 {
     if marks.len() >= 1 << 59 {
@@ -116,7 +117,7 @@ pub fn hang<'a>(alloc: Global, marks: &[Mark<'a>]) -> Result<Vec<Hung<'a>>, Allo
         let others = &marks[list.len() + 1..];
         let depth = depth_of(down, mark, others);
         down = depth_after(depth, mark, others);
-        list.push(Hung {
+        list.push(HungLabel {
             mark: *mark,
             down: depth,
         })?;
@@ -125,14 +126,14 @@ pub fn hang<'a>(alloc: Global, marks: &[Mark<'a>]) -> Result<Vec<Hung<'a>>, Allo
 }
 
 /// Returns how far down the text of a label hangs.
-fn text_depth(hung: &Hung<'_>) -> usize
+fn text_depth(hung: &HungLabel<'_>) -> usize
     ensures { result ≡ text_depth (seen_hung hung.now) }
 {
     if has_text(&hung.mark) { hung.down } else { 0 }
 }
 
 /// Returns how far down the texts of labels hang at most.
-pub fn depth(hung: &[Hung<'_>]) -> usize
+pub fn depth(hung: &[HungLabel<'_>]) -> usize
     ensures { result ≡ depth 0 (map seen_hung hung.now) }
 {
     let mut most = 0;

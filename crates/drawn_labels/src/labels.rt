@@ -32,20 +32,20 @@ pub fn mark_of<'a>(label: &Label<'a>, first: usize) -> Mark<'a>
     requires { label.now.extent.start.column < 2 ^ 61 }
     ensures value { seen_mark result ≡ mark first (seen_label label.now) }
     ensures line { result.line ≡ label.now.extent.start.line }
-    ensures columns { result.to < 2 ^ 62 }
+    ensures columns { result.end < 2 ^ 62 }
 {
     let start = label.extent.start;
     let end = label.extent.end;
-    let from = start.column.saturating_sub(first);
-    let to = if end.line == start.line {
+    let first_column = start.column.saturating_sub(first);
+    let end_column = if end.line == start.line {
         end.column.saturating_sub(first)
     } else {
         0
     };
     Mark {
         line: start.line,
-        from,
-        to: to.max(from + 1),
+        start: first_column,
+        end: end_column.max(first_column + 1),
         sign: label.sign,
         text: label.text,
     }
@@ -70,7 +70,7 @@ pub fn put_labelled(out: &mut String, frame: &Frame<'_>, mark: &Mark<'_>) -> Res
     // Without colours they are the line of the label, and under it the label's signs in its
     // columns, and no sign elsewhere.
     ensures signs { OnOk result (has_colours frame.now.gutter.palette ≡ false
-        → mark.now.from ≤ mark.now.to
+        → mark.now.start ≤ mark.now.end
         → AddsLabels (seen_frame frame.now) mark.now.line (seen_mark mark.now ∷ [])
         (string_bytes out.old) (string_bytes out.new)) }
 {
@@ -113,7 +113,7 @@ pub fn put_two_labels(
     // Without colours they are the lines of the labels, and under these the signs of the labels in
     // their columns, and no sign elsewhere.
     ensures signs { OnOk result (has_colours frame.now.gutter.palette ≡ false
-        → m.now.from ≤ m.now.to → n.now.from ≤ n.now.to
+        → m.now.start ≤ m.now.end → n.now.start ≤ n.now.end
         → IsNarrow m.now.text.now → IsNarrow n.now.text.now
         → AddsTwo (seen_frame frame.now) (seen_mark m.now) (seen_mark n.now)
         (string_bytes out.old) (string_bytes out.new)) }

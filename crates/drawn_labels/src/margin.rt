@@ -16,11 +16,11 @@ use drawn_lines::{Gutter, Picture, Window, columns, line};
 #[derive(Clone, Copy)]
 pub struct Reach {
     /// The first column of a label.
-    pub from: usize,
+    pub start: usize,
     /// The first column after all labels.
-    pub to: usize,
-    /// The first column after their texts.
     pub end: usize,
+    /// The first column after their texts.
+    pub text_end: usize,
     /// How many columns the longest one of their lines has.
     pub longest: usize,
 }
@@ -85,15 +85,15 @@ fn columns_of(source: &str, number: usize, known: Measured) -> usize
 fn mark_reach(source: &str, known: Measured, mark: &Mark<'_>) -> Reach
     requires small { length source.now < 2 ^ 59 }
     requires known { known.columns ≡ line_columns source.now known.line }
-    requires column { mark.now.to < 2 ^ 62 }
+    requires column { mark.now.end < 2 ^ 62 }
     ensures value { result ≡ mark_reach source.now (seen_mark mark.now) }
-    ensures to { result.to < 2 ^ 62 }
-    ensures end { result.end < 2 ^ 63 }
+    ensures to { result.end < 2 ^ 62 }
+    ensures end { result.text_end < 2 ^ 63 }
 {
     Reach {
-        from: mark.from,
-        to: mark.to,
-        end: mark.to + text_columns(mark.text),
+        start: mark.start,
+        end: mark.end,
+        text_end: mark.end + text_columns(mark.text),
         longest: columns_of(source, mark.line, known),
     }
 }
@@ -101,18 +101,18 @@ fn mark_reach(source: &str, known: Measured, mark: &Mark<'_>) -> Reach
 /// Returns two reaches as one.
 #[tactic(auto, unfolding(crate::specs::Margins::joined))]
 fn join_reaches(r: Reach, s: Reach) -> Reach
-    requires first { r.to < 2 ^ 62 }
-    requires first_end { r.end < 2 ^ 63 }
-    requires second { s.to < 2 ^ 62 }
-    requires second_end { s.end < 2 ^ 63 }
+    requires first { r.end < 2 ^ 62 }
+    requires first_end { r.text_end < 2 ^ 63 }
+    requires second { s.end < 2 ^ 62 }
+    requires second_end { s.text_end < 2 ^ 63 }
     ensures value { result ≡ joined r s }
-    ensures to { result.to < 2 ^ 62 }
-    ensures end { result.end < 2 ^ 63 }
+    ensures to { result.end < 2 ^ 62 }
+    ensures end { result.text_end < 2 ^ 63 }
 {
     Reach {
-        from: r.from.min(s.from),
-        to: r.to.max(s.to),
+        start: r.start.min(s.start),
         end: r.end.max(s.end),
+        text_end: r.text_end.max(s.text_end),
         longest: r.longest.max(s.longest),
     }
 }
@@ -132,21 +132,21 @@ fn long_reach(source: &str, label: &Label<'_>) -> Reach
     requires column { label.now.extent.start.column < 2 ^ 61 }
     requires end_column { label.now.extent.end.column < 2 ^ 61 }
     ensures value { result ≡ long_reach source.now (seen_label label.now) }
-    ensures to { result.to < 2 ^ 62 }
-    ensures end { result.end < 2 ^ 63 }
+    ensures to { result.end < 2 ^ 62 }
+    ensures end { result.text_end < 2 ^ 63 }
 {
     let start = label.extent.start;
     let end = label.extent.end;
-    let from = if end.line > start.line + 1 {
+    let first_column = if end.line > start.line + 1 {
         0
     } else {
         start.column.min(end.column.saturating_sub(1))
     };
     let first = line_columns(source, start.line);
     Reach {
-        from,
-        to: end.column.max(start.column + 1),
-        end: (end.column + text_columns(label.text)).max(start.column + 1),
+        start: first_column,
+        end: end.column.max(start.column + 1),
+        text_end: (end.column + text_columns(label.text)).max(start.column + 1),
         longest: first.max(line_columns(source, end.line)),
     }
 }
@@ -156,8 +156,8 @@ fn short_reach(source: &str, known: Measured, label: &Label<'_>) -> Reach
     requires small { length source.now < 2 ^ 59 }
     requires known { known.columns ≡ line_columns source.now known.line }
     ensures value { result ≡ mark_reach source.now (mark 0 (seen_label label.now)) }
-    ensures to { result.to < 2 ^ 62 }
-    ensures end { result.end < 2 ^ 63 }
+    ensures to { result.end < 2 ^ 62 }
+    ensures end { result.text_end < 2 ^ 63 }
 {
     mark_reach(source, known, &mark_of(label, 0))
 }
@@ -166,11 +166,11 @@ fn short_reach(source: &str, known: Measured, label: &Label<'_>) -> Reach
 fn reach_on(source: &str, known: Measured, first: Reach, labels: &[Label<'_>]) -> Reach
     requires small { length source.now < 2 ^ 59 }
     requires known { known.columns ≡ line_columns source.now known.line }
-    requires to { first.to < 2 ^ 62 }
-    requires end { first.end < 2 ^ 63 }
+    requires to { first.end < 2 ^ 62 }
+    requires end { first.text_end < 2 ^ 63 }
     ensures value { result ≡ reach_on source.now first (map seen_label labels.now) }
-    ensures to { result.to < 2 ^ 62 }
-    ensures end { result.end < 2 ^ 63 }
+    ensures to { result.end < 2 ^ 62 }
+    ensures end { result.text_end < 2 ^ 63 }
 {
     let mut reach = first;
     for label in labels {
@@ -183,14 +183,14 @@ fn reach_on(source: &str, known: Measured, first: Reach, labels: &[Label<'_>]) -
 fn reach_of(source: &str, labels: &[Label<'_>]) -> Reach
     requires { length source.now < 2 ^ 59 }
     ensures value { result ≡ reach_of source.now (map seen_label labels.now) }
-    ensures to { result.to < 2 ^ 62 }
-    ensures end { result.end < 2 ^ 63 }
+    ensures to { result.end < 2 ^ 62 }
+    ensures end { result.text_end < 2 ^ 63 }
 {
     match labels {
         [] => Reach {
-            from: 0,
-            to: 0,
+            start: 0,
             end: 0,
+            text_end: 0,
             longest: 0,
         },
         [label] => {
@@ -224,55 +224,55 @@ fn cut_of(indent: usize) -> usize
     if indent > 26 { indent - 22 } else { 0 }
 }
 
-/// Returns the window that begins after `left` columns.
-fn window_at(left: usize, columns: usize) -> Window
-    ensures { result ≡ window_at left columns }
+/// Returns the window that begins after `start` columns.
+fn window_at(start: usize, columns: usize) -> Window
+    ensures { result ≡ window_at start columns }
 {
     Window {
-        left,
+        start,
         room: columns,
-        most: columns,
+        limit: columns,
     }
 }
 
 /// Returns the window around labels, of lines that do not fit into `room` columns.
 #[tactic(auto, unfolding(crate::specs::Margins::around))]
 fn window_around(room: usize, indent: usize, reach: Reach) -> Window
-    requires to { reach.to < 2 ^ 62 }
-    requires texts { reach.end < 2 ^ 63 }
+    requires to { reach.end < 2 ^ 62 }
+    requires texts { reach.text_end < 2 ^ 63 }
     ensures value { result ≡ around room indent reach }
     // The labels are in the window, with room for dots at its start and at its end.
-    ensures start { indent ≤ reach.from → result.left ≤ reach.from - 6 }
-    ensures end { reach.to ≤ reach.end → reach.to + 6 ≤ result.left + result.most }
+    ensures start { indent ≤ reach.start → result.start ≤ reach.start - 6 }
+    ensures end { reach.end ≤ reach.text_end → reach.end + 6 ≤ result.start + result.limit }
 {
-    let from = reach.from.saturating_sub(6);
-    let texts = (reach.end + 6).saturating_sub(from);
-    let labels = (reach.to + 6).saturating_sub(from);
+    let start = reach.start.saturating_sub(6);
+    let texts = (reach.text_end + 6).saturating_sub(start);
+    let labels = (reach.end + 6).saturating_sub(start);
     let lead = indent.saturating_sub(6);
-    if (reach.end + 6).saturating_sub(lead) <= room {
+    if (reach.text_end + 6).saturating_sub(lead) <= room {
         window_at(lead, room)
     } else if texts <= room {
-        window_at(from.saturating_sub((room - texts) / 2), room)
+        window_at(start.saturating_sub((room - texts) / 2), room)
     } else if labels <= room {
-        window_at(from.saturating_sub((room - labels) / 5 * 2), room)
+        window_at(start.saturating_sub((room - labels) / 5 * 2), room)
     } else {
-        window_at(from, labels)
+        window_at(start, labels)
     }
 }
 
 /// Returns the window of so much room for lines with labels of a reach and an indent.
 #[tactic(auto, unfolding(crate::specs::Margins::window))]
 fn window(room: usize, indent: usize, reach: Reach) -> Window
-    requires to { reach.to < 2 ^ 62 }
-    requires end { reach.end < 2 ^ 63 }
+    requires to { reach.end < 2 ^ 62 }
+    requires end { reach.text_end < 2 ^ 63 }
     ensures { result ≡ window room indent reach }
 {
-    let left = cut_of(indent);
-    let most = reach.longest.saturating_sub(left);
-    if most > room {
+    let start = cut_of(indent);
+    let limit = reach.longest.saturating_sub(start);
+    if limit > room {
         return window_around(room, indent, reach);
     }
-    Window { left, room, most }
+    Window { start, room, limit }
 }
 
 /// Returns the window for labels, of lines with this indent.

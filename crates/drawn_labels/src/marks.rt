@@ -13,25 +13,25 @@ ghost use Rattle.drawn_lines.specs.Lines.{under};
 use crate::cells::{
     Cell, put_after, put_at, put_from, put_run_at, put_written, style_of, text_style,
 };
-use crate::hanging::{Hung, depth, hang, has_text};
+use crate::hanging::{HungLabel, depth, hang, has_text};
 use crate::mark::Mark;
 use crate::order::covered_first;
 use drawn_lines::{Gutter, put_gutter};
 use std::alloc::{AllocError, Global};
 
 /// Puts the text of a label that stands right of its signs into a row.
-fn put_side_text(row: &mut Vec<Cell>, hung: &Hung<'_>) -> Result<(), AllocError>
+fn put_side_text(row: &mut Vec<Cell>, hung: &HungLabel<'_>) -> Result<(), AllocError>
     ensures { OnOk result (row.new.items ≡ with_side_text (seen_hung hung.now) row.old.items) }
 {
     let mark = &hung.mark;
     if has_text(mark) && hung.down == 0 {
-        put_after(row, mark.to, text_style(mark), mark.text)?;
+        put_after(row, mark.end, text_style(mark), mark.text)?;
     }
     Ok(())
 }
 
 /// Puts the texts of labels that stand right of their signs into a row.
-fn put_side_texts(row: &mut Vec<Cell>, hung: &[Hung<'_>]) -> Result<(), AllocError>
+fn put_side_texts(row: &mut Vec<Cell>, hung: &[HungLabel<'_>]) -> Result<(), AllocError>
     ensures { OnOk result (row.new.items
         ≡ side_texts (map seen_hung hung.now) row.old.items) }
 {
@@ -44,12 +44,12 @@ fn put_side_texts(row: &mut Vec<Cell>, hung: &[Hung<'_>]) -> Result<(), AllocErr
 /// Puts the signs of a label into a row.
 fn put_signs_of(row: &mut Vec<Cell>, mark: &Mark<'_>) -> Result<(), AllocError>
     ensures { OnOk result (row.new.items
-        ≡ put_from (seen_mark mark.now).from (signs_of (seen_mark mark.now)) row.old.items) }
+        ≡ put_from (seen_mark mark.now).start (signs_of (seen_mark mark.now)) row.old.items) }
 {
     let style = style_of(mark);
     let character = mark.sign;
-    let columns = mark.to.saturating_sub(mark.from);
-    put_run_at(row, mark.from, columns, Cell { character, style })?;
+    let columns = mark.end.saturating_sub(mark.start);
+    put_run_at(row, mark.start, columns, Cell { character, style })?;
     Ok(())
 }
 
@@ -67,7 +67,11 @@ fn put_signs(row: &mut Vec<Cell>, marks: &[Mark<'_>]) -> Result<(), AllocError>
 /// Returns the row of signs of labels, with the texts right of them. Returns `Err` if an allocation
 /// fails.
 #[tactic(auto, unfolding(crate::specs::Marks::sign_row))]
-fn sign_row(alloc: Global, marks: &[Mark<'_>], hung: &[Hung<'_>]) -> Result<Vec<Cell>, AllocError>
+fn sign_row(
+    alloc: Global,
+    marks: &[Mark<'_>],
+    hung: &[HungLabel<'_>],
+) -> Result<Vec<Cell>, AllocError>
     ensures { IfOk result (λ v. v.items
         ≡ sign_row (map seen_mark marks.now) (map seen_hung hung.now)) }
 {
@@ -79,19 +83,19 @@ fn sign_row(alloc: Global, marks: &[Mark<'_>], hung: &[Hung<'_>]) -> Result<Vec<
 }
 
 /// Puts the bar of a label that hangs more than `n` rows down into a row.
-fn put_bar(row: &mut Vec<Cell>, n: usize, hung: &Hung<'_>) -> Result<(), AllocError>
+fn put_bar(row: &mut Vec<Cell>, n: usize, hung: &HungLabel<'_>) -> Result<(), AllocError>
     ensures { OnOk result (row.new.items ≡ with_bar n (seen_hung hung.now) row.old.items) }
 {
     if has_text(&hung.mark) && n < hung.down {
         let style = style_of(&hung.mark);
         let character = '|';
-        put_at(row, hung.mark.from, Cell { character, style })?;
+        put_at(row, hung.mark.start, Cell { character, style })?;
     }
     Ok(())
 }
 
 /// Puts the bars of labels into the row with `n` rows between it and the signs.
-fn put_bars(row: &mut Vec<Cell>, n: usize, hung: &[Hung<'_>]) -> Result<(), AllocError>
+fn put_bars(row: &mut Vec<Cell>, n: usize, hung: &[HungLabel<'_>]) -> Result<(), AllocError>
     ensures { OnOk result (row.new.items ≡ bars n (map seen_hung hung.now) row.old.items) }
 {
     for first in hung {
@@ -101,18 +105,18 @@ fn put_bars(row: &mut Vec<Cell>, n: usize, hung: &[Hung<'_>]) -> Result<(), Allo
 }
 
 /// Puts the text of a label that hangs `n` rows down into a row.
-fn put_hung_text(row: &mut Vec<Cell>, n: usize, hung: &Hung<'_>) -> Result<(), AllocError>
+fn put_hung_text(row: &mut Vec<Cell>, n: usize, hung: &HungLabel<'_>) -> Result<(), AllocError>
     ensures { OnOk result (row.new.items ≡ with_hung_text n (seen_hung hung.now) row.old.items) }
 {
     let mark = &hung.mark;
     if has_text(mark) && hung.down > 0 && n == hung.down {
-        put_from(row, mark.from, text_style(mark), mark.text)?;
+        put_from(row, mark.start, text_style(mark), mark.text)?;
     }
     Ok(())
 }
 
 /// Puts the texts of labels that hang `n` rows down into a row.
-fn put_hung_texts(row: &mut Vec<Cell>, n: usize, hung: &[Hung<'_>]) -> Result<(), AllocError>
+fn put_hung_texts(row: &mut Vec<Cell>, n: usize, hung: &[HungLabel<'_>]) -> Result<(), AllocError>
     ensures { OnOk result (row.new.items ≡ hung_texts n (map seen_hung hung.now) row.old.items) }
 {
     for first in hung {
@@ -122,7 +126,7 @@ fn put_hung_texts(row: &mut Vec<Cell>, n: usize, hung: &[Hung<'_>]) -> Result<()
 }
 
 /// Returns the row with `n` rows between it and the signs. Returns `Err` if an allocation fails.
-fn hung_row(alloc: Global, n: usize, hung: &[Hung<'_>]) -> Result<Vec<Cell>, AllocError>
+fn hung_row(alloc: Global, n: usize, hung: &[HungLabel<'_>]) -> Result<Vec<Cell>, AllocError>
     ensures { IfOk result (λ v. v.items ≡ hung_row n (map seen_hung hung.now)) }
 {
     let mut row = Vec::new(alloc);
@@ -147,7 +151,7 @@ fn put_hung_rows(
     out: &mut String,
     gutter: Gutter,
     count: usize,
-    hung: &[Hung<'_>],
+    hung: &[HungLabel<'_>],
 ) -> Result<(), AllocError>
     ensures { OnOk result (string_bytes out.new
         ≡ string_bytes out.old ++ hung_rows gutter count (map seen_hung hung.now)) }
@@ -165,7 +169,7 @@ fn put_rows_below(
     out: &mut String,
     gutter: Gutter,
     most: usize,
-    hung: &[Hung<'_>],
+    hung: &[HungLabel<'_>],
 ) -> Result<(), AllocError>
     ensures { OnOk result (string_bytes out.new
         ≡ string_bytes out.old ++ rows_below gutter most (map seen_hung hung.now)) }
@@ -185,7 +189,7 @@ fn put_rows_of(
     out: &mut String,
     gutter: Gutter,
     marks: &[Mark<'_>],
-    hung: &[Hung<'_>],
+    hung: &[HungLabel<'_>],
 ) -> Result<(), AllocError>
     ensures { OnOk result (string_bytes out.new ≡ string_bytes out.old
         ++ rows_of gutter (map seen_mark marks.now) (map seen_hung hung.now)) }

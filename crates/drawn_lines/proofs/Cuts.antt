@@ -56,11 +56,11 @@ one_of false s t u p q = q
 pub drawn-part : (w : Window) (t : Text) → IsPartOf (between_dots w t) (glyphs t)
 drawn-part w t =
     let wide = is_wide w t in
-    let past = past-part w.left (glyphs t) in
+    let past = past-part w.start (glyphs t) in
     let window =
-    one_of wide _ _ _ (inner _ _ _ (within-of w.most (past_columns w.left (glyphs t))) past) past in
+    one_of wide _ _ _ (inner _ _ _ (within-of w.limit (past_columns w.start (glyphs t))) past) past in
     let s = in_window w wide (glyphs t) in
-    let rest = inner _ _ _ (one_of (w.left == 0) _ _ _ (whole s) (past-part 3 s)) window in
+    let rest = inner _ _ _ (one_of (w.start == 0) _ _ _ (whole s) (past-part 3 s)) window in
     let r = after_dots w s in
     one_of wide _ _ _ (inner _ _ _ (within-of (columns r - 3) r) rest) rest
 
@@ -102,22 +102,22 @@ past-enough n (c ∷ t) = by_test (n == 0) refl (past-enough (n - width c) t)
     by_test false e (inr l) = inr l
 
 -- A line that is cut at its end is no wider than that.
-pub cut-narrow : (w : Window) (t : Text) → cut_columns w t ≤ max w.most 3 + 3
-cut-narrow w t = by_test (w.left == 0) (past-enough 3 s)
+pub cut-narrow : (w : Window) (t : Text) → cut_columns w t ≤ max w.limit 3 + 3
+cut-narrow w t = by_test (w.start == 0) (past-enough 3 s)
   where
     s : Text
     s = in_window w true (glyphs t)
 
-    few : columns s ≤ w.most
-    few = within-few w.most (past_columns w.left (glyphs t))
+    few : columns s ≤ w.limit
+    few = within-few w.limit (past_columns w.start (glyphs t))
 
     by_test : (b : Bool) → (3 ≤ left_out 3 s) ⊎ (columns (past_columns 3 s) ≡ 0)
         → cond b 0 (3 + (left_out 3 s - 3))
         + (columns (within_columns (columns (cond b s (past_columns 3 s)) - 3)
-        (cond b s (past_columns 3 s))) + 3) ≤ max w.most 3 + 3
+        (cond b s (past_columns 3 s))) + 3) ≤ max w.limit 3 + 3
     by_test true x =
         let l = within-few (columns s - 3) s in
-        let m : w.most ≤ max w.most 3 = omega arith in
+        let m : w.limit ≤ max w.limit 3 = omega arith in
         let k = few in
         omega (arith, l, k, m)
     by_test false (inl l) =

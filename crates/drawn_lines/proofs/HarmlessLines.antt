@@ -76,7 +76,7 @@ of_dots p = of_painted p Secondary (harmless_text (codes "...") refl)
 of_before : (p : Palette) (w : Window) (t : Text)
     → IsColourOf (dots_before p w t) (dots_before Colourless w t)
 of_before p w t =
-    either (w.left == 0) nothing (join (of_dots p) (spaces (left_out 3 t - 3)))
+    either (w.start == 0) nothing (join (of_dots p) (spaces (left_out 3 t - 3)))
 
 of_up_to : (p : Palette) (wide : Bool) (t : Text) → NonePass is_obeyed t
     → IsColourOf (up_to_dots p wide t) (up_to_dots Colourless wide t)
@@ -89,19 +89,19 @@ of_dotted : (p : Palette) (w : Window) (wide : Bool) (t : Text) → NonePass is_
     → IsColourOf (dotted p w wide t) (dotted Colourless w wide t)
 of_dotted p w wide t h =
     join (of_before p w t)
-    (of_up_to p wide (after_dots w t) (none-cond (w.left == 0) _ _ h (none-past 3 t h)))
+    (of_up_to p wide (after_dots w t) (none-cond (w.start == 0) _ _ h (none-past 3 t h)))
 
 of_shown : (p : Palette) (w : Window) (t : Text) → IsColourOf (shown p w t) (shown Colourless w t)
 unfolding shown
 of_shown p w t =
-    let past = none-past w.left (glyphs t) (none-glyphs t) in
+    let past = none-past w.start (glyphs t) (none-glyphs t) in
     of_dotted p w (is_wide w t) (in_window w (is_wide w t) (glyphs t))
-    (none-cond (is_wide w t) _ _ (none-within w.most (past_columns w.left (glyphs t)) past) past)
+    (none-cond (is_wide w t) _ _ (none-within w.limit (past_columns w.start (glyphs t)) past) past)
 
 of_after_bar : (p : Palette) {front : List ℕ} (w : Window) (t : Text) → IsHarmless front
     → IsColourOf (after_bar p front w t) (after_bar Colourless front w t)
 of_after_bar p w t h =
-    either ((w.left == 0) && (length (encode_utf8_all (glyphs t)) == 0)) nothing
+    either ((w.start == 0) && (length (encode_utf8_all (glyphs t)) == 0)) nothing
     (join (plain h) (of_shown p w t))
 
 pub of_source_line : (f : Frame) {front : List ℕ} (n : ℕ) → IsHarmless front

@@ -43,15 +43,15 @@ pub past-nil : (n : ℕ) (t : Text) → t ≡ [] → past_columns n t ≡ t
 past-nil n t e = rw e refl
 
 -- a line that is not cut
-pub shown-whole : (p : Palette) (w : Window) (t : Text) → w.left ≡ 0 → is_wide w t ≡ false
+pub shown-whole : (p : Palette) (w : Window) (t : Text) → w.start ≡ 0 → is_wide w t ≡ false
     → shown p w t ≡ encode_utf8_all (glyphs t)
 unfolding shown
-shown-whole p w t z n = rw (n, past-none w.left (glyphs t) z, z) refl
+shown-whole p w t z n = rw (n, past-none w.start (glyphs t) z, z) refl
 
 -- and one of printable characters, for which there is room
 pub shown-printable : (p : Palette) (w : Window) (s front back : List ℕ)
     → chars s ≡ front ++ chars back → length back ≡ 0 → list_all is_printable front ≡ true
-    → w.left ≡ 0 → length front ≤ w.room → shown p w (chars s) ≡ front
+    → w.start ≡ 0 → length front ≤ w.room → shown p w (chars s) ≡ front
 shown-printable p w s front back parts none e z l =
     let nil : chars back ≡ [] = ap chars (nil_from_length back none) ∙ chars-nil in
     let count : columns (chars s) ≡ length front + 0 =
@@ -88,9 +88,9 @@ scalars-within n (c ∷ t) e =
 scalars-in_window : (w : Window) (wide : Bool) (t : Text) → scalars t ≡ true
     → scalars (in_window w wide t) ≡ true
 scalars-in_window w wide t e =
-    let past = scalars-past w.left t e in
-    scalars-cond wide (within_columns w.most (past_columns w.left t)) (past_columns w.left t)
-    (scalars-within w.most (past_columns w.left t) past) past
+    let past = scalars-past w.start t e in
+    scalars-cond wide (within_columns w.limit (past_columns w.start t)) (past_columns w.start t)
+    (scalars-within w.limit (past_columns w.start t) past) past
 
 glyph-scalar : (c : ℕ) → scalar c ≡ true → scalar (glyph c) ≡ true
 unfolding glyph

@@ -38,7 +38,7 @@ number_bar f n =
 -- The text after a bar: a line after a text in front of it, or nothing for an empty line.
 abbrev pub after_bar : Palette → List ℕ → Window → Text → List ℕ
 after_bar p front w t =
-    if (w.left == 0) && (length (encode_utf8_all (glyphs t)) == 0) then []
+    if (w.start == 0) && (length (encode_utf8_all (glyphs t)) == 0) then []
     else front ++ shown p w t
 
 -- A line of the source, after a text in front of it.

@@ -36,12 +36,12 @@ within_columns n (c ∷ t) =
 
 -- A line has more columns right of the start of the window than there is room for.
 abbrev pub is_wide : Window → Text → Bool
-is_wide w t = nat_lt w.room (columns t - w.left)
+is_wide w t = nat_lt w.room (columns t - w.start)
 
 -- The part of a line in the window.
 abbrev pub in_window : Window → Bool → Text → Text
 in_window w wide t =
-    if wide then within_columns w.most (past_columns w.left t) else past_columns w.left t
+    if wide then within_columns w.limit (past_columns w.start t) else past_columns w.start t
 
 -- The dots where a line is cut.
 abbrev pub dots : Palette → List ℕ
@@ -49,11 +49,11 @@ dots p = painted p Secondary (codes "...")
 
 -- The dots over the first characters of a part of a line, if the line is cut in front of it.
 abbrev pub dots_before : Palette → Window → Text → List ℕ
-dots_before p w t = if w.left == 0 then [] else dots p ++ run (left_out 3 t - 3) 32
+dots_before p w t = if w.start == 0 then [] else dots p ++ run (left_out 3 t - 3) 32
 
 -- The rest of the part.
 abbrev pub after_dots : Window → Text → Text
-after_dots w t = if w.left == 0 then t else past_columns 3 t
+after_dots w t = if w.start == 0 then t else past_columns 3 t
 
 -- This rest, with dots over its last characters if the line goes on.
 abbrev pub up_to_dots : Palette → Bool → Text → List ℕ
@@ -76,7 +76,7 @@ abbrev pub cut_columns : Window → Text → ℕ
 cut_columns w t =
     let s = in_window w true (glyphs t) in
     let rest = after_dots w s in
-    (if w.left == 0 then 0 else 3 + (left_out 3 s - 3))
+    (if w.start == 0 then 0 else 3 + (left_out 3 s - 3))
     + (columns (within_columns (columns rest - 3) rest) + 3)
 
 -- The text s is a part of t.
@@ -89,4 +89,4 @@ shown p w t = dotted p w (is_wide w t) (in_window w (is_wide w t) (glyphs t))
 
 -- How many columns at the start of a line of the source are cut.
 unfoldable pub shift : Frame → ℕ → ℕ
-shift f n = left_out f.window.left (glyphs (chars (line n f.picture.source)))
+shift f n = left_out f.window.start (glyphs (chars (line n f.picture.source)))

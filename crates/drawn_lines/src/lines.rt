@@ -95,7 +95,7 @@ fn put_after_bar(
     ensures { OnOk result (string_bytes out.new
         ≡ string_bytes out.old ++ after_bar palette front.now window (chars text.now)) }
 {
-    if window.left > 0 || !draws_nothing(text) {
+    if window.start > 0 || !draws_nothing(text) {
         out.push_str(front)?;
         put_shown(out, palette, window, text)?;
     }

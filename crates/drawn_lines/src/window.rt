@@ -23,11 +23,11 @@ use std::alloc::AllocError;
 #[derive(Clone, Copy)]
 pub struct Window {
     /// How many columns at the start of each line are cut.
-    pub left: usize,
+    pub start: usize,
     /// How many columns of a line are drawn right of these without a cut.
     pub room: usize,
     /// How many columns are drawn of a line that has more.
-    pub most: usize,
+    pub limit: usize,
 }
 
 /// Returns how many columns a text takes.
@@ -135,10 +135,10 @@ pub fn shift(frame: &Frame<'_>, number: usize) -> usize
     requires { length frame.now.picture.now.source.now < 2 ^ 59 }
     ensures { result ≡ shift (seen_frame frame.now) number }
 {
-    if frame.window.left == 0 {
+    if frame.window.start == 0 {
         return 0;
     }
-    left_out(line(frame.picture.source, number), frame.window.left)
+    left_out(line(frame.picture.source, number), frame.window.start)
 }
 
 /// Adds the first characters of a text, as many as end within `count` columns.
@@ -170,9 +170,9 @@ fn put_in_window(
     ensures { OnOk result (string_bytes out.new
         ≡ string_bytes out.old ++ encode_utf8_all (in_window window is_wide (chars row.now))) }
 {
-    let Cut { rest, .. } = past_columns(row, window.left);
+    let Cut { rest, .. } = past_columns(row, window.start);
     if is_wide {
-        put_within(out, rest, window.most)?;
+        put_within(out, rest, window.limit)?;
     } else {
         out.push_str(rest)?;
     }
@@ -193,7 +193,7 @@ fn put_dots_before<'a>(
     ensures rest { IfOk result (λ s. chars s.now ≡ after_dots window (chars part.now)) }
     ensures short { IfOk result (λ s. length s.now ≤ length part.now) }
 {
-    if window.left == 0 {
+    if window.start == 0 {
         return Ok(part);
     }
     let Cut { rest, columns } = past_columns(part, 3);
@@ -274,17 +274,17 @@ pub fn put_shown(
     // Between dots a part of the line is drawn. A line that is cut at its end takes with its dots
     // no more columns than it may, or a few if these are not enough for dots.
     ensures part { IsPartOf (between_dots window (chars text.now)) (glyphs (chars text.now)) }
-    ensures narrow { cut_columns window (chars text.now) ≤ max window.most 3 + 3 }
+    ensures narrow { cut_columns window (chars text.now) ≤ max window.limit 3 + 3 }
 {
     if text.len() >= 1 << 59 {
         return Err(AllocError);
     }
     let (front, rest) = split_printable(text, text.len());
-    if window.left == 0 && rest.is_empty() && front.len() <= window.room {
+    if window.start == 0 && rest.is_empty() && front.len() <= window.room {
         return Ok(out.push_str(front)?);
     }
-    let is_wide = columns(text).saturating_sub(window.left) > window.room;
-    if window.left == 0 && !is_wide {
+    let is_wide = columns(text).saturating_sub(window.start) > window.room;
+    if window.start == 0 && !is_wide {
         return Ok(put_glyphs(out, text, 0)?);
     }
     let mut row = String::new(*out.allocator());

@@ -25,7 +25,7 @@ use Rattle.source_lint.specs.Readings.{Scope, arguments_before, captures, ends_e
 use Rattle.source_lint.specs.Readings.{name_at, skipped}
 use Rattle.inlined_arguments.specs.Conditions.{Call as FormatCall}
 use Rattle.inlined_arguments.specs.Edits.{AreApart, Edit, edited}
-use Rattle.inlined_arguments.specs.Inlining.{Inlined, IsInlined, IsUnchanged}
+use Rattle.inlined_arguments.specs.Inlining.{InlinedCall, IsInlined, IsUnchanged}
 use Rattle.file_inlines.specs.declared.calls.CallInlining.{CallInlining}
 use Rattle.file_inlines.specs.declared.calls.CallInlining.TheVariants.{Inlined as IsIn}
 use Rattle.file_inlines.specs.declared.calls.CallInlining.TheVariants.{Assembly, Unchanged, Unread}
@@ -41,7 +41,7 @@ removal bs xs a = record { span = removed bs xs a; text = [] }
 
 -- The edits of a literal in its file: edits of the token with the new texts of r, with which it is
 -- the literal of r, up to the CR before each LF.
-pub record AreLiteralEdits (literal : Leaf) (r : Inlined) (es : List Edit) : Type 0 where
+pub record AreLiteralEdits (literal : Leaf) (r : InlinedCall) (es : List Edit) : Type 0 where
   pub inside : List Edit
   pub texts : map (λ e. e.text) inside ≡ map (λ e. e.text) r.edits
   pub are_apart : AreApart 0 inside (length literal.text)
@@ -51,11 +51,11 @@ pub record AreLiteralEdits (literal : Leaf) (r : Inlined) (es : List Edit) : Typ
 -- The edits of a call in a file with the bytes bs: those of its literal, and the removal of each
 -- argument that goes.
 pub record AreEdits (bs : List ℕ) (xs : List Leaf) (literal : Leaf) (args : List Argument)
-    (r : Inlined) (es : List Edit) : Type 0 where
+    (r : InlinedCall) (es : List Edit) : Type 0 where
   pub of_literal : List Edit
   pub are_of_literal : AreLiteralEdits literal r of_literal
   pub edits : es ≡ of_literal
-      ++ filter_map (λ n. option_map (removal bs xs) (slice_get args n)) r.gone
+      ++ filter_map (λ n. option_map (removal bs xs) (slice_get args n)) r.removed_indices
 
 -- The string of a macro with this rule and this name is known to be a format string if no argument
 -- follows it. Some macros of crates then take any string, as `bail!` of error-chain.
@@ -107,9 +107,9 @@ call_of is_new rule w bs xs literal style t args counted = record {
 }
 
 -- This call is inlined with these edits, or it is left for this reason, and there is no edit.
-abbrev pub Makes : Bool → FormatCall → (Inlined → List Edit → Type 0) → CallInlining → List Edit
+abbrev pub Makes : Bool → FormatCall → (InlinedCall → List Edit → Type 0) → CallInlining → List Edit
     → Type 0
-Makes mixed c Edits IsIn es = (r : Inlined) × IsInlined mixed c r × Edits r es
+Makes mixed c Edits IsIn es = (r : InlinedCall) × IsInlined mixed c r × Edits r es
 Makes mixed c Edits (Unchanged l) es = IsUnchanged mixed c l × (es ≡ [])
 Makes mixed c Edits (Unread q) es = ⊥
 Makes mixed c Edits Assembly es = ⊥

@@ -69,7 +69,7 @@ fn is_format_alone(rule: Rule, name: &[u8], is_from_2021: bool) -> bool
     ensures { result ≡ is_format_alone is_from_2021 rule name.now }
 {
     match rule {
-        Rule::At(_) => is_standard(name),
+        Rule::Index(_) => is_standard(name),
         Rule::IndexByEdition(_) => is_from_2021,
         Rule::FirstLiteral => true,
         Rule::Templates => false,
@@ -256,7 +256,7 @@ fn inline_one(
 {
     match call.rule {
         Rule::Templates => Ok(unchanged_call(alloc, CallInlining::Assembly)),
-        Rule::At(_) | Rule::IndexByEdition(_) | Rule::FirstLiteral => {
+        Rule::Index(_) | Rule::IndexByEdition(_) | Rule::FirstLiteral => {
             inline_at(alloc, file, part, call, arguments, index, allows_mixed)
         }
     }
@@ -268,7 +268,7 @@ fn is_unread(rule: Rule, reading: CallReading) -> bool
 {
     match rule {
         Rule::Templates => false,
-        Rule::At(_) | Rule::IndexByEdition(_) | Rule::FirstLiteral => {
+        Rule::Index(_) | Rule::IndexByEdition(_) | Rule::FirstLiteral => {
             !matches!(reading, CallReading::Whole | CallReading::StringAlone)
         }
     }

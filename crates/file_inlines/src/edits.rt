@@ -11,7 +11,7 @@ ghost use Rattle.file_inlines.specs.CallInlines.{AreEdits, AreLiteralEdits, move
 use crate::sources::removal_range;
 use asm_lint::{dropped_crs, offset_in, without_crs};
 use format_calls::Argument;
-use inlined_arguments::{Edit, Inlined, apply_edits};
+use inlined_arguments::{Edit, InlinedCall, apply_edits};
 use rust_trees::Token;
 use source_lint::argument_at;
 use std::alloc::{AllocError, Global};
@@ -104,7 +104,7 @@ fn is_literal(alloc: Global, token: &str, literal: &str) -> Result<bool, AllocEr
 fn literal_edits(
     alloc: Global,
     literal: Token<'_>,
-    inlining: &Inlined,
+    inlining: &InlinedCall,
 ) -> Result<Option<Vec<Edit>>, AllocError>
     ensures { IfOk result (λ o. IfSome o (λ v.
         AreLiteralEdits (leaf literal.entry) (seen_inlined inlining.now) (map seen_edit v.items))) }
@@ -129,7 +129,7 @@ pub(crate) fn edits_of(
     tokens: &[Token<'_>],
     literal: Token<'_>,
     arguments: &[Argument],
-    inlining: &Inlined,
+    inlining: &InlinedCall,
 ) -> Result<Option<Vec<Edit>>, AllocError>
     ensures { IfOk result (λ o. IfSome o (λ v. AreEdits text.now (map leaf tokens.now)
         (leaf literal.entry) arguments.now (seen_inlined inlining.now) (map seen_edit v.items))) }
@@ -143,7 +143,7 @@ pub(crate) fn edits_of(
         text,
         tokens,
         arguments,
-        inlining.gone.as_slice(),
+        inlining.removed_indices.as_slice(),
     )?;
     Ok(Some(edits))
 }

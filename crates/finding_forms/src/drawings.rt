@@ -94,7 +94,7 @@ fn excerpt_of<'a>(
     requires { file.now.places ≡ file.now.text.now }
 {
     let from = file.text.floor_char_boundary(range.start);
-    let place = file.places.at(from);
+    let place = file.places.place_of(from);
     if range.end.saturating_sub(range.start) > MOST || place.column > MOST {
         return Ok(None);
     }

@@ -8,14 +8,14 @@ use Rattle.std.proofs.lemmas.Bool.{cases_lt, le-ltb, lt-ltb, true≢false}
 use Rattle.std.proofs.lemmas.List.{take_all}
 use Rattle.std.proofs.lemmas.Option.{none-some}
 use Rattle.rust_trees.specs.Leaves.{Leaf}
-use Rattle.format_calls.specs.declared.part.Wanted.{Wanted}
+use Rattle.format_calls.specs.declared.part.Target.{Target}
 use Rattle.format_calls.specs.declared.split.Argument.{Argument}
 use Rattle.format_calls.specs.Arguments.{tokens_of}
 use Rattle.format_calls.specs.Searches.{AreLast, AreLastFrom, IsLast, is_wanted}
 use Rattle.format_calls.proofs.Counting.{or-join, or-nothing}
 
 -- One more token.
-any-more : (w : Wanted) (ys : List Leaf) (n : ℕ) (x : Leaf) → slice_get ys n ≡ Some x
+any-more : (w : Target) (ys : List Leaf) (n : ℕ) (x : Leaf) → slice_get ys n ≡ Some x
     → list_any (is_wanted w) (take (suc n) ys)
     ≡ (list_any (is_wanted w) (take n ys) || is_wanted w x)
 any-more w [] n x e = absurd cc
@@ -32,7 +32,7 @@ get-dropped [] (suc from) n k e = refl
 get-dropped (y ∷ ys) (suc from) n zero e = absurd (omega (arith, e))
 get-dropped (y ∷ ys) (suc from) n (suc k) e = get-dropped ys from n k (omega (arith, e))
 
-any-none : (w : Wanted) (xs : List Leaf) (n from : ℕ) → n ≡ 0
+any-none : (w : Target) (xs : List Leaf) (n from : ℕ) → n ≡ 0
     → list_any (is_wanted w) (take n (drop from xs)) ≡ false
 any-none w xs n from e = ap (λ m. list_any (is_wanted w) (take m (drop from xs))) e
 
@@ -45,7 +45,7 @@ or-parts true b e = absurd (true≢false e)
 or-parts false b e = (refl, e)
 
 -- The number after a token that is wanted, and after one that is not.
-pub last-more : (w : Wanted) (xs : List Leaf) (to last n : ℕ) (x : Leaf) (b : Bool)
+pub last-more : (w : Target) (xs : List Leaf) (to last n : ℕ) (x : Leaf) (b : Bool)
     → slice_get xs to ≡ Some x → b ≡ is_wanted w x → IsLast w xs to last → last ≤ to
     → n ≡ (if b then to + 1 else last) → IsLast w xs (to + 1) n
 last-more w xs to last n x b e h l k m from = by_place (cases_lt from (to + 1)) b h m
@@ -80,7 +80,7 @@ pub last-bound : (to last n : ℕ) (b : Bool) → last ≤ to → n ≡ (if b th
 last-bound to last n true l e = omega (arith, e)
 last-bound to last n false l e = omega (arith, l, e)
 
-pub last-push : (w : Wanted) (xs : List Leaf) (at n : ℕ) (ns : List ℕ) → AreLastFrom w xs at ns
+pub last-push : (w : Target) (xs : List Leaf) (at n : ℕ) (ns : List ℕ) → AreLastFrom w xs at ns
     → IsLast w xs (at + length ns) n → AreLastFrom w xs at (ns ++ n ∷ [])
 last-push w xs at n [] h l =
     let e : at + 0 ≡ at = omega arith in (subst (λ v. IsLast w xs v n) e l, tt)
@@ -88,7 +88,7 @@ last-push w xs at n (m ∷ ns) h l =
     let e : at + length (m ∷ ns) ≡ at + 1 + length ns = omega arith in
     (h.0, last-push w xs (at + 1) n ns h.1 (subst (λ v. IsLast w xs v n) e l))
 
-last-get : (w : Wanted) (xs : List Leaf) (at i n : ℕ) (ns : List ℕ) → AreLastFrom w xs at ns
+last-get : (w : Target) (xs : List Leaf) (at i n : ℕ) (ns : List ℕ) → AreLastFrom w xs at ns
     → slice_get ns i ≡ Some n → IsLast w xs (at + i) n
 last-get w xs at i n [] h e = absurd cc
 last-get w xs at zero n (m ∷ ns) h e =
@@ -98,7 +98,7 @@ last-get w xs at (suc i) n (m ∷ ns) h e =
     let j : at + 1 + i ≡ at + suc i = omega arith in
     subst (λ v. IsLast w xs v n) j (last-get w xs (at + 1) i n ns h.1 e)
 
-get-last : (w : Wanted) (xs : List Leaf) (k n : ℕ) (ns : List ℕ) → AreLastFrom w xs 0 ns
+get-last : (w : Target) (xs : List Leaf) (k n : ℕ) (ns : List ℕ) → AreLastFrom w xs 0 ns
     → slice_get ns k ≡ Some n → IsLast w xs k n
 get-last w xs k n ns h e =
     let i : 0 + k ≡ k = omega arith in
@@ -106,7 +106,7 @@ get-last w xs k n ns h e =
 
 -- Whether a wanted token stands in an argument, by the number for its end, or for that of all
 -- tokens.
-pub found-in : (w : Wanted) (xs : List Leaf) (ns : List ℕ) (a : Argument) (k n : ℕ)
+pub found-in : (w : Target) (xs : List Leaf) (ns : List ℕ) (a : Argument) (k n : ℕ)
     → AreLast w xs ns → slice_get ns k ≡ Some n → k ≡ min a.end (length ns - 1)
     → nat_lt a.start n ≡ list_any (is_wanted w) (tokens_of xs a)
 found-in w xs ns a k n last e m = by_case last.cases (cases_lt a.end (length xs))
@@ -128,7 +128,7 @@ found-in w xs ns a k n last e m = by_case last.cases (cases_lt a.end (length xs)
         (take_all (k - a.start) (drop a.start xs) (omega (arith, d, i))
         ∙ sym (take_all (a.end - a.start) (drop a.start xs) (omega (arith, d, l))))
 
-none-taken : (w : Wanted) (n : ℕ) (xs : List Leaf) → list_any (is_wanted w) xs ≡ false
+none-taken : (w : Target) (n : ℕ) (xs : List Leaf) → list_any (is_wanted w) xs ≡ false
     → list_any (is_wanted w) (take n xs) ≡ false
 none-taken w zero xs e = refl
 none-taken w (suc n) [] e = refl
@@ -136,7 +136,7 @@ none-taken w (suc n) (x ∷ xs) e =
     let h = or-parts (is_wanted w x) (list_any (is_wanted w) xs) e in
     ap (λ b. b || list_any (is_wanted w) (take n xs)) h.0 ∙ none-taken w n xs h.1
 
-none-dropped : (w : Wanted) (n : ℕ) (xs : List Leaf) → list_any (is_wanted w) xs ≡ false
+none-dropped : (w : Target) (n : ℕ) (xs : List Leaf) → list_any (is_wanted w) xs ≡ false
     → list_any (is_wanted w) (drop n xs) ≡ false
 none-dropped w zero xs e = e
 none-dropped w (suc n) [] e = refl
@@ -144,7 +144,7 @@ none-dropped w (suc n) (x ∷ xs) e =
     none-dropped w n xs (or-parts (is_wanted w x) (list_any (is_wanted w) xs) e).1
 
 -- Nothing stands in an argument for whose end there is no number.
-pub found-nowhere : (w : Wanted) (xs : List Leaf) (ns : List ℕ) (a : Argument) (k : ℕ)
+pub found-nowhere : (w : Target) (xs : List Leaf) (ns : List ℕ) (a : Argument) (k : ℕ)
     → AreLast w xs ns → length ns ≤ k → k ≡ min a.end (length ns - 1)
     → false ≡ list_any (is_wanted w) (tokens_of xs a)
 found-nowhere w xs ns a k last l m = by_case last.cases

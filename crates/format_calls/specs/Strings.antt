@@ -8,7 +8,7 @@ use Rattle.rust_tokens.specs.declared.kinds.Kind.TheVariants.{Str, RawStr}
 use Rattle.rust_trees.specs.Leaves.{Leaf}
 use Rattle.format_calls.specs.declared.split.Argument.{Argument}
 use Rattle.format_calls.specs.declared.strings.Reason.{Reason}
-use Rattle.format_calls.specs.declared.strings.Reason.TheVariants.{Missing, Edition, Variable}
+use Rattle.format_calls.specs.declared.strings.Reason.TheVariants.{NoArgument, Edition, Variable}
 use Rattle.format_calls.specs.declared.strings.Reason.TheVariants.{Suffix}
 use Rattle.format_calls.specs.declared.strings.Reason.TheVariants.{Macro, Expression}
 use Rattle.format_calls.specs.declared.table.Rule.{Rule}
@@ -69,7 +69,7 @@ text_or None = Err Expression
 text_or (Some n) = Ok n
 
 abbrev pub argument_or : List Leaf → ℕ → Option Argument → Bool → Result ℕ Reason
-argument_or xs n None b = Err Missing
+argument_or xs n None b = Err NoArgument
 argument_or xs n (Some a) b = if b then Err Edition else
     (if is_text xs a then Ok n else Err (reason_of xs a))
 

@@ -7,7 +7,7 @@ ghost use Rattle.format_calls.specs.Arguments.{tokens_of};
 ghost use Rattle.format_calls.specs.Assembly.{has_raw};
 ghost use Rattle.format_calls.specs.Marks.{is_variable};
 ghost use Rattle.format_calls.specs.Searches.{AreLast, is_wanted};
-ghost use Rattle.format_calls.specs.declared.part.Wanted.{Wanted};
+ghost use Rattle.format_calls.specs.declared.part.Target.{Target};
 
 use crate::marks::is_mark_of;
 use crate::modes::is_text;
@@ -18,7 +18,7 @@ use std::marker::Model;
 
 /// A kind of token that arguments are searched for.
 #[derive(Clone, Copy)]
-pub enum Wanted {
+pub enum Target {
     /// `$`, which begins a variable of a macro, or `#`, which does so in `quote!`.
     Variable,
     /// The word `raw`.
@@ -26,17 +26,17 @@ pub enum Wanted {
 }
 
 /// Returns whether arguments are searched for this token.
-fn is_wanted(wanted: Wanted, token: &Token<'_>) -> bool
+fn is_wanted(wanted: Target, token: &Token<'_>) -> bool
     ensures { result ≡ is_wanted wanted (leaf token.now) }
 {
     match wanted {
-        Wanted::Variable => is_mark_of(token, b'$') || is_mark_of(token, b'#'),
-        Wanted::Raw => is_text(token, "raw"),
+        Target::Variable => is_mark_of(token, b'$') || is_mark_of(token, b'#'),
+        Target::Raw => is_text(token, "raw"),
     }
 }
 
 /// Returns whether one of these tokens is wanted.
-fn is_one_wanted(tokens: &[Token<'_>], wanted: Wanted) -> bool
+fn is_one_wanted(tokens: &[Token<'_>], wanted: Target) -> bool
     ensures { result ≡ list_any (is_wanted wanted) (map leaf tokens.now) }
 {
     for token in tokens {
@@ -49,7 +49,7 @@ fn is_one_wanted(tokens: &[Token<'_>], wanted: Wanted) -> bool
 
 /// Returns for each number of tokens from the first one on how many of them end with the last one
 /// that is wanted, or nothing if none is. Returns `Err` if an allocation fails.
-fn last_ones(alloc: Global, tokens: &[Token<'_>], wanted: Wanted) -> Result<Vec<usize>, AllocError>
+fn last_ones(alloc: Global, tokens: &[Token<'_>], wanted: Target) -> Result<Vec<usize>, AllocError>
     ensures { IfOk result (λ v. AreLast wanted (map leaf tokens.now) v.items) }
 {
     let mut counts = Vec::new(alloc);
@@ -70,7 +70,7 @@ fn last_ones(alloc: Global, tokens: &[Token<'_>], wanted: Wanted) -> Result<Vec<
 /// Returns whether one of the tokens of an argument is wanted, where `last_ones` are the numbers
 /// that are returned for them.
 fn is_one_in(last_ones: &[usize], argument: &Argument) -> bool
-    ensures { (wanted : Wanted) (xs : List Leaf) → AreLast wanted xs last_ones.now
+    ensures { (wanted : Target) (xs : List Leaf) → AreLast wanted xs last_ones.now
         → result ≡ list_any (is_wanted wanted) (tokens_of xs argument.now) }
 {
     let count = last_ones.len().saturating_sub(1);
@@ -93,7 +93,7 @@ impl<'a> Model for Part<'a> {
     ghost use Rattle.std.specs.Prelude.{List};
     ghost use Rattle.rust_trees.specs.Leaves.{Leaf};
     ghost use Rattle.format_calls.specs.Searches.{AreLast};
-    ghost use Rattle.format_calls.specs.declared.part.Wanted.TheVariants.{Raw, Variable};
+    ghost use Rattle.format_calls.specs.declared.part.Target.TheVariants.{Raw, Variable};
 
     ghost Value = { List Leaf };
 
@@ -108,8 +108,8 @@ impl<'a> Part<'a> {
     pub fn new(alloc: Global, source: Source<'a>) -> Result<Self, AllocError>
         ensures { IfOk result (λ p. p ≡ source.entry) }
     {
-        let variables = last_ones(alloc, source.tokens(), Wanted::Variable)?;
-        let raws = last_ones(alloc, source.tokens(), Wanted::Raw)?;
+        let variables = last_ones(alloc, source.tokens(), Target::Variable)?;
+        let raws = last_ones(alloc, source.tokens(), Target::Raw)?;
         Ok(Part {
             source,
             variables,

@@ -27,8 +27,8 @@ const CHUNK: usize = 1 << 16;
 pub struct Request<'a> {
     /// The paths of files and folders.
     pub paths: &'a [&'a str],
-    /// The names of files and folders that are excluded.
-    pub excluded: &'a [&'a str],
+    /// The names of files and folders to leave out.
+    pub excluded_names: &'a [&'a str],
     /// The path that is shown for standard input.
     pub stdin_path: Option<&'a str>,
     /// The form of messages.
@@ -167,14 +167,14 @@ fn text_of(bytes: &[u8]) -> FileText<'_> {
 fn tell_end(rt: &HostRuntime, totals: &mut Totals, file: &File<'_>, extent: Extent, report: &Report)
     requires { file.now.places ≡ file.now.text.now }
 {
-    let end = file.places.at(file.text.len());
+    let end = file.places.place_of(file.text.len());
     match extent {
         Extent::Text => totals.fail_at(rt, file.path, end, "not UTF-8"),
         Extent::Front => totals.fail_at(rt, file.path, end, "longer than 64 MiB"),
         Extent::Whole => {
             if let Some(first_break) = &report.first_break {
                 let start = file.text.floor_char_boundary(first_break.start);
-                let place = file.places.at(start);
+                let place = file.places.place_of(start);
                 totals.fail_at(rt, file.path, place, break_words(first_break.kind));
             }
         }
@@ -350,7 +350,7 @@ impl<'a> Run<'a> {
 
     /// Reads the files below a folder.
     fn lint_folder(&mut self, rt: &HostRuntime, path: &str) -> Result<(), Failure> {
-        let mut walk = Walk::new(rt.alloc(), path, self.request.excluded)?;
+        let mut walk = Walk::new(rt.alloc(), path, self.request.excluded_names)?;
         for _ in 0..u64::MAX {
             match walk.next(rt, &mut self.totals)? {
                 Some(path) => self.lint_file(rt, path.as_str())?,

@@ -1,6 +1,6 @@
 //! The numbers of calls that are inlined, and of those that are left.
 
-use crate::rewrites::Rewritten;
+use crate::rewrites::RewrittenFile;
 use file_inlines::CallInlining;
 use inlined_arguments::Obstacle;
 
@@ -63,7 +63,7 @@ impl Inlinings {
     }
 
     /// Counts the calls of a file.
-    pub fn add(&mut self, file: &Rewritten) {
+    pub fn add(&mut self, file: &RewrittenFile) {
         for call in &file.calls {
             match *call {
                 CallInlining::Inlined if file.has_inlines => count(&mut self.inlined),

@@ -176,7 +176,7 @@ fn files_status(rt: &HostRuntime, matches: &ArgMatches<'_>) -> Result<u8, Error>
     }
     let request = Request {
         paths,
-        excluded: matches.get_strs("exclude").unwrap_or(&[]),
+        excluded_names: matches.get_strs("exclude").unwrap_or(&[]),
         stdin_path,
         form: form_of(
             matches,

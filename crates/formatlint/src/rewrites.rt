@@ -18,7 +18,7 @@ pub struct Rewrite {
 
 /// A file with what a request changes in it.
 #[derive(Drop)]
-pub struct Rewritten {
+pub struct RewrittenFile {
     /// The new text, or `None` if it is the old one.
     pub text: Option<String>,
     /// The number of faults and warnings that are fixed.
@@ -32,9 +32,9 @@ pub struct Rewritten {
 }
 
 /// Returns a text with suggestions applied. Returns `Err` if an allocation fails.
-fn fix_text(alloc: Global, text: &str, options: &Options<'_>) -> Result<Rewritten, AllocError> {
+fn fix_text(alloc: Global, text: &str, options: &Options<'_>) -> Result<RewrittenFile, AllocError> {
     let fixed = fixes(alloc, text, options)?;
-    Ok(Rewritten {
+    Ok(RewrittenFile {
         text: fixed.text,
         fixes: fixed.ids.len(),
         calls: Vec::new(alloc),
@@ -49,9 +49,9 @@ fn inline_text(
     text: &str,
     options: &Options<'_>,
     rewrite: Rewrite,
-) -> Result<Rewritten, AllocError> {
+) -> Result<RewrittenFile, AllocError> {
     let inlined = inlines(alloc, text, options, rewrite.allows_mixed)?;
-    Ok(Rewritten {
+    Ok(RewrittenFile {
         has_inlines: inlined.text.is_some(),
         text: inlined.text,
         fixes: 0,
@@ -67,7 +67,7 @@ pub fn apply_rewrite(
     text: &str,
     options: &Options<'_>,
     rewrite: Rewrite,
-) -> Result<Rewritten, AllocError> {
+) -> Result<RewrittenFile, AllocError> {
     if !rewrite.fixes {
         return inline_text(alloc, text, options, rewrite);
     }

@@ -1,7 +1,7 @@
 //! The totals of a run over files, and the lines about it on standard error.
 
 use crate::inlinings::{Inlinings, NO_CALLS};
-use crate::rewrites::Rewritten;
+use crate::rewrites::RewrittenFile;
 use format_calls::Reason;
 use lint_program::{Progress, StepFailure};
 use lint_words::{put_failure, put_place_failure, system_words};
@@ -89,7 +89,7 @@ impl Unread {
     /// Counts a call.
     fn add(&mut self, reason: Reason) {
         match reason {
-            Reason::Missing => count(&mut self.missing),
+            Reason::NoArgument => count(&mut self.missing),
             Reason::Edition => count(&mut self.edition),
             Reason::Variable => count(&mut self.variable),
             Reason::Suffix => count(&mut self.suffix),
@@ -188,7 +188,7 @@ impl Totals {
     }
 
     /// Counts what inlining makes of the calls of a file.
-    pub fn add_inlinings(&mut self, file: &Rewritten) {
+    pub fn add_inlinings(&mut self, file: &RewrittenFile) {
         self.inlinings.add(file);
     }
 

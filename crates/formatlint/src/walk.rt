@@ -19,8 +19,8 @@ struct Entry {
 pub struct Walk<'a> {
     /// The files and folders that are still to be read, the next one last.
     rest: Vec<Entry>,
-    /// The names of files and folders that are excluded.
-    excluded: &'a [&'a str],
+    /// The names of files and folders to leave out.
+    excluded_names: &'a [&'a str],
 }
 
 /// Returns the path of a name in a folder. An empty path is that of the current folder.
@@ -44,14 +44,17 @@ impl<'a> Walk<'a> {
     pub fn new(
         alloc: Global,
         folder: &str,
-        excluded: &'a [&'a str],
+        excluded_names: &'a [&'a str],
     ) -> Result<Walk<'a>, AllocError> {
         let mut rest = Vec::new(alloc);
         rest.push(Entry {
             path: String::from_str(alloc, folder)?,
             is_folder: true,
         })?;
-        Ok(Walk { rest, excluded })
+        Ok(Walk {
+            rest,
+            excluded_names,
+        })
     }
 
     /// Adds an entry of a folder, if it is to be read.
@@ -63,7 +66,7 @@ impl<'a> Walk<'a> {
         entries: &mut Vec<Entry>,
     ) -> io::Result<()> {
         let name = entry.file_name();
-        if self.excluded.contains(&name) {
+        if self.excluded_names.contains(&name) {
             return Ok(());
         }
         let kind = entry.file_type()?;

@@ -56,16 +56,16 @@ pub record MeansSame {A : Type 0} (c : Call) (ps : List (Piece A)) (literal : Te
 
 -- A call that was inlined: the edits of its literal, the bytes of the literal with them, and the
 -- indices of the arguments that go.
-pub record Inlined : Type 0 where
+pub record InlinedCall : Type 0 where
   pub edits : List Edit
   pub literal : List ℕ
-  pub gone : List ℕ
+  pub removed_indices : List ℕ
 
 -- The call c was inlined, and this is what was made of it.
-pub record IsInlined (allows_mixed : Bool) (c : Call) (r : Inlined) : Type 0 where
+pub record IsInlined (allows_mixed : Bool) (c : Call) (r : InlinedCall) : Type 0 where
   pub may_be : condition allows_mixed c ≡ None
   -- The arguments that go are those that are variables.
-  pub gone : r.gone ≡ gone_from 0 c.arguments
+  pub removed_indices : r.removed_indices ≡ gone_from 0 c.arguments
   -- The literal is the old one with edits where that refers to arguments.
   pub literal : List ℕ
   pub is_literal : c.literal ≡ Some literal

@@ -11,7 +11,7 @@ use Rattle.placeholder_check.specs.Seen.{text}
 use Rattle.inlined_arguments.specs.declared.call.Argument.{Argument as DeclaredArgument}
 use Rattle.inlined_arguments.specs.declared.call.Call.{Call as DeclaredCall}
 use Rattle.inlined_arguments.specs.declared.call.Edit.{Edit as DeclaredEdit}
-use Rattle.inlined_arguments.specs.declared.call.Inlined.{Inlined as DeclaredInlined}
+use Rattle.inlined_arguments.specs.declared.call.InlinedCall.{InlinedCall as DeclaredCall}
 use Rattle.inlined_arguments.specs.declared.values.Amount.{Amount as DeclaredAmount}
 use Rattle.inlined_arguments.specs.declared.values.Amount.TheVariants.{Number as NumberIn}
 use Rattle.inlined_arguments.specs.declared.values.Amount.TheVariants.{ValueOf as ValueIn}
@@ -23,7 +23,7 @@ use Rattle.inlined_arguments.specs.declared.slots.Value.TheVariants.{Expression 
 use Rattle.inlined_arguments.specs.declared.values.Values.{Values}
 use Rattle.inlined_arguments.specs.Conditions.{Call}
 use Rattle.inlined_arguments.specs.Edits.{Edit}
-use Rattle.inlined_arguments.specs.Inlining.{Inlined}
+use Rattle.inlined_arguments.specs.Inlining.{InlinedCall}
 use Rattle.inlined_arguments.specs.Values.{Amount, Number, ValueOf, Absent}
 use Rattle.inlined_arguments.specs.Values.{Value, Variable, Expression, Slot, value_after}
 use Rattle.inlined_arguments.specs.Variables.{Argument}
@@ -64,11 +64,11 @@ abbrev pub seen_slot : DeclaredSlot → Slot
 seen_slot s = record { name = option_map text s.name; value = seen_value s.value }
 
 -- What is made of a call, as a contract sees it.
-abbrev pub seen_inlined : DeclaredInlined → Inlined
+abbrev pub seen_inlined : DeclaredCall → InlinedCall
 seen_inlined r = record {
   edits = map seen_edit r.edits.items;
   literal = string_bytes r.literal;
-  gone = r.gone.items;
+  removed_indices = r.removed_indices.items;
 }
 
 -- A width or a precision as a contract sees it.

@@ -12,7 +12,7 @@ ghost use Rattle.inlined_arguments.specs.Seen.{Knows, seen_argument, seen_call, 
 ghost use Rattle.inlined_arguments.specs.Seen.{seen_slot, seen_slots};
 ghost use Rattle.inlined_arguments.specs.Values.{given as given_of, slots as slots_of};
 
-use crate::call::{Call, Inlined, Obstacle};
+use crate::call::{Call, InlinedCall, Obstacle};
 use crate::conditions::condition;
 use crate::edited::apply_edits;
 use crate::edits::edits_of;
@@ -117,7 +117,7 @@ fn inline_with<'c>(
     call: Call<'c>,
     slots: &[Slot<'c>],
     arguments: &'c [FormatArgument<'c>],
-) -> Result<Result<Inlined, Obstacle>, AllocError>
+) -> Result<Result<InlinedCall, Obstacle>, AllocError>
     requires fits { hashes call.string.style + length call.string.text.now + 2 < 2 ^ 64 }
     requires slots { map seen_slot slots.now ≡ slots_of (map seen_argument call.arguments.now) }
     requires given { map seen_given arguments.now ≡ map given_of (map seen_slot slots.now) }
@@ -146,11 +146,11 @@ fn inline_with<'c>(
     if !keeps_meaning(alloc, call, old, &literal)? {
         return Ok(Err(Obstacle::OtherMeaning));
     }
-    let gone = variable_indices(alloc, call.arguments)?;
-    Ok(Ok(Inlined {
+    let removed_indices = variable_indices(alloc, call.arguments)?;
+    Ok(Ok(InlinedCall {
         edits,
         literal,
-        gone,
+        removed_indices,
     }))
 }
 
@@ -163,7 +163,7 @@ pub fn inline_arguments(
     alloc: Global,
     call: Call<'_>,
     allows_mixed: bool,
-) -> Result<Result<Inlined, Obstacle>, AllocError>
+) -> Result<Result<InlinedCall, Obstacle>, AllocError>
     requires { hashes call.string.style + length call.string.text.now + 2 < 2 ^ 64 }
     // A call that is inlined has the old meaning. One that is left has a reason that holds.
     ensures inlined { IfOk result (λ r. IfOk r (λ x.

@@ -13,6 +13,6 @@ mod slots;
 mod values;
 mod variables;
 
-pub use call::{Argument, Call, Edit, Inlined, Obstacle};
+pub use call::{Argument, Call, Edit, InlinedCall, Obstacle};
 pub use edited::apply_edits;
 pub use inlining::inline_arguments;

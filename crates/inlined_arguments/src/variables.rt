@@ -123,11 +123,11 @@ pub(crate) fn variable_indices(
 ) -> Result<Vec<usize>, AllocError>
     ensures { IfOk result (λ v. v.items ≡ gone_from 0 (map seen_argument arguments.now)) }
 {
-    let mut gone = Vec::new(alloc);
+    let mut removed_indices = Vec::new(alloc);
     for (index, argument) in arguments.iter().enumerate() {
         if is_variable(argument) {
-            gone.push(index)?;
+            removed_indices.push(index)?;
         }
     }
-    Ok(gone)
+    Ok(removed_indices)
 }

@@ -10,7 +10,7 @@ use Rattle.rust_tokens.specs.declared.kinds.Kind.TheVariants.{RawStr}
 use Rattle.rust_tokens.specs.Placed.{byte_length as token_length}
 use Rattle.rust_tokens.specs.Tokens.{Begins, Lexeme}
 use Rattle.literal_faults.specs.declared.fault.FaultKind.{FaultKind}
-use Rattle.literal_faults.specs.declared.fault.FaultKind.TheVariants.{Missing, NotString, Suffix}
+use Rattle.literal_faults.specs.declared.fault.FaultKind.TheVariants.{NoLiteral, NotString, Suffix}
 use Rattle.literal_faults.specs.declared.fault.FaultKind.TheVariants.{UnterminatedString}
 use Rattle.literal_faults.specs.declared.fault.FaultKind.TheVariants.{UnterminatedRawString}
 use Rattle.literal_faults.specs.declared.fault.FaultKind.TheVariants.{BareCarriageReturn}
@@ -78,6 +78,6 @@ pub record IsTokenFault (t : Text) (f : LiteralFault) : Type 0 where
 
 -- The text t is no string literal because of this fault.
 abbrev pub IsFault : Text → LiteralFault → Type 0
-IsFault [] f = f ≡ record { kind = Missing; offset = 0 }
+IsFault [] f = f ≡ record { kind = NoLiteral; offset = 0 }
 IsFault (c ∷ t) f = ((c ≡ code "\"") × IsStringFault (c ∷ t) f)
     ⊎ ((c ≡ code "\"" → ⊥) × IsTokenFault (c ∷ t) f)

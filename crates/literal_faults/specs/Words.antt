@@ -9,7 +9,7 @@ use Rattle.rust_tokens.specs.declared.kinds.Kind.{Kind}
 use Rattle.rust_tokens.specs.declared.kinds.Kind.TheVariants.{ByteStr, RawByteStr, CStr, RawCStr}
 use Rattle.rust_tokens.specs.declared.kinds.Kind.TheVariants.{Byte, Char, Lifetime, RawLifetime}
 use Rattle.literal_faults.specs.declared.fault.FaultKind.{FaultKind}
-use Rattle.literal_faults.specs.declared.fault.FaultKind.TheVariants.{Missing, NotString, Suffix}
+use Rattle.literal_faults.specs.declared.fault.FaultKind.TheVariants.{NoLiteral, NotString, Suffix}
 use Rattle.literal_faults.specs.declared.fault.FaultKind.TheVariants.{UnterminatedString}
 use Rattle.literal_faults.specs.declared.fault.FaultKind.TheVariants.{UnterminatedRawString}
 use Rattle.literal_faults.specs.declared.fault.FaultKind.TheVariants.{InvalidEscape}
@@ -42,7 +42,7 @@ found_title k = codes "expected a string literal"
 
 -- The title of a fault.
 abbrev pub title : FaultKind → List ℕ
-title Missing = codes "expected a string literal, found nothing"
+title NoLiteral = codes "expected a string literal, found nothing"
 title (NotString k) = found_title k
 title UnterminatedString = codes "unterminated double quote string"
 title UnterminatedRawString = codes "unterminated raw string"

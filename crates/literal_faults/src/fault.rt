@@ -15,7 +15,7 @@ use rust_tokens::{Kind, split_first, split_first_token};
 #[derive(Copy, Clone, Debug, Eq, PartialEq)]
 pub enum FaultKind {
     /// The text is empty.
-    Missing,
+    NoLiteral,
     /// The text begins with a token that is no string literal.
     NotString(Kind),
     /// The text ends before a closing quote.
@@ -163,7 +163,7 @@ pub fn literal_fault(text: &str) -> Option<LiteralFault>
     }
     match split_first(text) {
         None => Some(LiteralFault {
-            kind: FaultKind::Missing,
+            kind: FaultKind::NoLiteral,
             offset: 0,
         }),
         Some(('"', content)) => string_fault(text, content),

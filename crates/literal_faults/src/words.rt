@@ -30,7 +30,7 @@ fn title(kind: FaultKind) -> &'static str
     ensures { result.now ≡ title kind }
 {
     match kind {
-        FaultKind::Missing => "expected a string literal, found nothing",
+        FaultKind::NoLiteral => "expected a string literal, found nothing",
         FaultKind::NotString(token) => found_title(token),
         FaultKind::UnterminatedString => "unterminated double quote string",
         FaultKind::UnterminatedRawString => "unterminated raw string",

@@ -121,7 +121,7 @@ known-token w x os g e s = record {
 }
 
 pub known-open : (w : List Leaf) (x : Leaf) (os ns : List Opening) (o : Opening) → GoesOn w os
-    → x.is_ended ≡ true → side x ≡ Opens o.delimiter → o.at ≡ x.start → ns ≡ os ++ o ∷ []
+    → x.is_ended ≡ true → side x ≡ Opens o.delimiter → o.position ≡ x.start → ns ≡ os ++ o ∷ []
     → GoesOn (w ++ x ∷ []) ns
 known-open w x os ns o g e s n f =
     let r : reverse ns ≡ o ∷ reverse os = ap (λ t. reverse t) f ∙ reverse-last os o in record {
@@ -153,7 +153,7 @@ all-known w os None e h = absurd cc
 all-known w os (Some b) e h = subst (λ t. BreaksIn t b.kind b.start) (append-nil w) (h [])
 
 pub all-unclosed : (w : List Leaf) (os ns : List Opening) (o : Opening) → GoesOn w os
-    → os ≡ ns ++ o ∷ [] → BreaksIn w Unclosed o.at
+    → os ≡ ns ++ o ∷ [] → BreaksIn w Unclosed o.position
 all-unclosed w os ns o g f =
     let r : reverse os ≡ o ∷ reverse ns = ap (λ t. reverse t) f ∙ reverse-last ns o in
     let l : AreOpen (o ∷ reverse ns) w = subst (λ t. AreOpen t w) r g.are_open in record {

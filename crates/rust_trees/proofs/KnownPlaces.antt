@@ -9,7 +9,7 @@ use Rattle.std.proofs.lemmas.Str.{IsUtf8-take, chars-append, encodes-chars, leng
 use Rattle.rust_tokens.specs.Texts.{Text}
 use Rattle.rust_tokens.specs.Runs.{first_passes}
 use Rattle.rust_trees.specs.declared.places.Place.{Place}
-use Rattle.rust_trees.specs.declared.places.Known.{Known}
+use Rattle.rust_trees.specs.declared.places.KnownPlace.{KnownPlace}
 use Rattle.rust_trees.specs.Places.{after_char, is_lf, place_after, place_between, place_of, start}
 use Rattle.rust_trees.specs.Places.{without_mark, IsKnown}
 use Rattle.rust_trees.proofs.PlaceSteps.{grows}
@@ -87,7 +87,7 @@ parts bs k n h =
 
 -- The place of an offset, from a place that is known before it: the texts between the two and after
 -- it.
-pub from-known : (bs : List ℕ) (k : Known) (n : ℕ) (middle back : List ℕ) → IsUtf8 bs
+pub from-known : (bs : List ℕ) (k : KnownPlace) (n : ℕ) (middle back : List ℕ) → IsUtf8 bs
     → IsKnown bs k → k.offset ≤ n → middle ≡ take (n - k.offset) (drop k.offset bs)
     → back ≡ drop n bs → IsUtf8 middle
     → place_after k.place (chars middle) (chars back) ≡ place_of bs n
@@ -107,7 +107,7 @@ from-known bs k n middle back u known h m e v =
     ∙ ap (λ q. place_after q (chars middle) (chars back)) (sym known.place))))))
 
 -- The place of an offset is known then.
-pub to-known : (bs : List ℕ) (k : Known) → IsUtf8 bs → IsCharBoundary bs k.offset
+pub to-known : (bs : List ℕ) (k : KnownPlace) → IsUtf8 bs → IsCharBoundary bs k.offset
     → 1 ≤ k.offset → k.offset ≤ length bs → k.place ≡ place_of bs k.offset → IsKnown bs k
 to-known bs k u b h within e =
     let w = IsUtf8-take bs k.offset u b in

@@ -126,7 +126,7 @@ matched-token w x m n s h e f g = record {
 
 -- A delimiter that opens a pair.
 pub matched-open : (w : List Leaf) (x : Leaf) (m n : Matching) (o : Opening)
-    → side x ≡ Opens o.delimiter → IsMatched w m → o.at ≡ length m.partners.items
+    → side x ≡ Opens o.delimiter → IsMatched w m → o.position ≡ length m.partners.items
     → n.partners.items ≡ m.partners.items ++ None ∷ []
     → n.openings.items ≡ m.openings.items ++ o ∷ [] → n.unexpected ≡ m.unexpected
     → IsMatched (w ++ x ∷ []) n
@@ -151,16 +151,16 @@ matched-open w x m n o s h a e f g =
 -- A delimiter that closes the last one that is open.
 pub matched-close : (w : List Leaf) (x : Leaf) (m n : Matching) (os : List Opening) (o : Opening)
     → side x ≡ Closes o.delimiter → IsMatched w m → m.openings.items ≡ os ++ o ∷ []
-    → n.partners.items ≡ with_pair m.partners.items o.at (length m.partners.items)
+    → n.partners.items ≡ with_pair m.partners.items o.position (length m.partners.items)
     → n.openings.items ≡ os → n.unexpected ≡ m.unexpected → IsMatched (w ++ x ∷ []) n
 matched-close w x m n os o s h b e f g =
     let r : reverse m.openings.items ≡ o ∷ reverse os =
     ap (λ t. reverse t) b ∙ reverse-last os o in
     let l : Alive (o ∷ reverse os) w = subst (λ t. Alive t w) r h.has_open.alive in
     record {
-      counted = counted-more w x (set m.partners.items o.at (Some (length m.partners.items)))
-          n.partners.items (Some o.at)
-          (length-set m.partners.items o.at (Some (length m.partners.items)) ∙ h.counted) e;
+      counted = counted-more w x (set m.partners.items o.position (Some (length m.partners.items)))
+          n.partners.items (Some o.position)
+          (length-set m.partners.items o.position (Some (length m.partners.items)) ∙ h.counted) e;
       is_sound = rw e (sound-pair (reverse os) o w x m.partners.items (length m.partners.items) s l
           refl (sym h.counted) h.is_sound);
       is_complete = rw e (complete-pair (reverse os) o w x m.partners.items
@@ -223,7 +223,7 @@ matched-nothing m e f g = record {
 
 -- All that is open at the end.
 pub unclosed : (w : List Leaf) (os : List Opening) (o : Opening) (u : Option ℕ)
-    → HasOpen w (os ++ o ∷ []) u → u ≡ None → IsUnclosed w o.at
+    → HasOpen w (os ++ o ∷ []) u → u ≡ None → IsUnclosed w o.position
 unclosed w os o u h e =
     let l : Alive (o ∷ reverse os) w =
     subst (λ t. Alive t w) (reverse-last os o) h.alive in

@@ -101,7 +101,7 @@ elsewhere ps k n i e f g = by_order (cases_lt i n)
 
 -- The pair that a closing delimiter ends.
 pub pair-new : (os : List Opening) (o : Opening) (w : List Leaf) (x : Leaf)
-    → side x ≡ Closes o.delimiter → Alive (o ∷ os) w → IsPair (w ++ x ∷ []) o.at (length w)
+    → side x ≡ Closes o.delimiter → Alive (o ∷ os) w → IsPair (w ++ x ∷ []) o.position (length w)
 pair-new os o w x s l = record {
   before = l.0;
   opening = l.2;
@@ -116,53 +116,53 @@ pair-new os o w x s l = record {
 }
 
 pub opening-within : (os : List Opening) (o : Opening) (w : List Leaf) → Alive (o ∷ os) w
-    → o.at < length w
+    → o.position < length w
 opening-within os o w l = omega (arith, ap (λ t. length t) l.3, length-at l.0 l.1 l.2, l.4)
 
 pub sound-pair : (os : List Opening) (o : Opening) (w : List Leaf) (x : Leaf)
     (ps : List (Option ℕ)) (n : ℕ) → side x ≡ Closes o.delimiter → Alive (o ∷ os) w
     → length ps ≡ n → length w ≡ n → IsSound w ps
-    → IsSound (w ++ x ∷ []) (with_pair ps o.at n)
+    → IsSound (w ++ x ∷ []) (with_pair ps o.position n)
 sound-pair os o w x ps n s l e f sound i j h =
-    by_cases (cases_eq i o.at) (cases_eq i n)
+    by_cases (cases_eq i o.position) (cases_eq i n)
   where
-    new : IsPair (w ++ x ∷ []) o.at n
-    new = subst (λ t. IsPair (w ++ x ∷ []) o.at t) f (pair-new os o w x s l)
+    new : IsPair (w ++ x ∷ []) o.position n
+    new = subst (λ t. IsPair (w ++ x ∷ []) o.position t) f (pair-new os o w x s l)
 
-    within : o.at < n
+    within : o.position < n
     within = omega (arith, opening-within os o w l, f)
 
-    by_cases : (i ≡ o.at) ⊎ (i ≡ o.at → ⊥) → (i ≡ n) ⊎ (i ≡ n → ⊥)
+    by_cases : (i ≡ o.position) ⊎ (i ≡ o.position → ⊥) → (i ≡ n) ⊎ (i ≡ n → ⊥)
         → ArePartners (w ++ x ∷ []) i j
     by_cases (inl g) k =
-        let same : j ≡ n = same_Some j n (sym h ∙ (ap (λ t. partner (with_pair ps o.at n) t) g
-        ∙ at-opening ps o.at n e within)) in
+        let same : j ≡ n = same_Some j n (sym h ∙ (ap (λ t. partner (with_pair ps o.position n) t) g
+        ∙ at-opening ps o.position n e within)) in
         inl (subst (λ t. IsPair (w ++ x ∷ []) t j) (sym g)
-        (subst (λ t. IsPair (w ++ x ∷ []) o.at t) (sym same) new))
+        (subst (λ t. IsPair (w ++ x ∷ []) o.position t) (sym same) new))
     by_cases (inr g) (inl k) =
-        let same : j ≡ o.at = same_Some j o.at (sym h
-        ∙ (ap (λ t. partner (with_pair ps o.at n) t) k ∙ at-closing ps o.at n e)) in
+        let same : j ≡ o.position = same_Some j o.position (sym h
+        ∙ (ap (λ t. partner (with_pair ps o.position n) t) k ∙ at-closing ps o.position n e)) in
         inr (subst (λ t. IsPair (w ++ x ∷ []) j t) (sym k)
         (subst (λ t. IsPair (w ++ x ∷ []) t n) (sym same) new))
     by_cases (inr g) (inr k) =
-        partners-more w (x ∷ []) i j (sound i j (sym (elsewhere ps o.at n i e g k) ∙ h))
+        partners-more w (x ∷ []) i j (sound i j (sym (elsewhere ps o.position n i e g k) ∙ h))
 
 pub complete-pair : (os : List Opening) (o : Opening) (w : List Leaf) (x : Leaf)
     (ps : List (Option ℕ)) (n : ℕ) → side x ≡ Closes o.delimiter → Alive (o ∷ os) w
     → length ps ≡ n → length w ≡ n → IsComplete w ps
-    → IsComplete (w ++ x ∷ []) (with_pair ps o.at n)
+    → IsComplete (w ++ x ∷ []) (with_pair ps o.position n)
 complete-pair os o w x ps n s l e f c i j p = by_parts (pair-parts w x i j p)
   where
-    within : o.at < n
+    within : o.position < n
     within = omega (arith, opening-within os o w l, f)
 
-    not-opening : (q : IsPair w i j) → i ≡ o.at → ⊥
+    not-opening : (q : IsPair w i j) → i ≡ o.position → ⊥
     not-opening q h =
         let same = same-place q.before (q.inside ++ q.closing ∷ q.after) q.opening l.0 l.1 l.2
         (sym q.joins ∙ l.3) (sym q.starts ∙ (h ∙ l.4)) in
         none-some [] (sym (pair-first_break w i j q) ∙ (ap (λ t. scan (Some []) t) same.2 ∙ l.6))
 
-    not-closing : (q : IsPair w i j) → j ≡ o.at → ⊥
+    not-closing : (q : IsPair w i j) → j ≡ o.position → ⊥
     not-closing q h =
         let place : length (q.before ++ q.opening ∷ q.inside) ≡ length l.0 =
         omega (arith, length-at q.before q.inside q.opening, q.starts, q.ends, h, l.4) in
@@ -171,36 +171,36 @@ complete-pair os o w x ps n s l e f c i j p = by_parts (pair-parts w x i j p)
         (q.closing ∷ q.after) ∙ (sym q.joins ∙ l.3)) place in
         no-open-close o.delimiter q.pairs.0 (sym l.5 ∙ (ap (λ t. side t) (sym same.1) ∙ q.pairs.2))
 
-    by_old : (q : IsPair w i j) → (partner (with_pair ps o.at n) i ≡ Some j)
-        × (partner (with_pair ps o.at n) j ≡ Some i)
+    by_old : (q : IsPair w i j) → (partner (with_pair ps o.position n) i ≡ Some j)
+        × (partner (with_pair ps o.position n) j ≡ Some i)
     by_old q =
         let old = c i j q in
         let in_w = pair-within w i j q in (
-          elsewhere ps o.at n i e (not-opening q) (λ h. omega (arith, h, in_w.0, f)) ∙ old.0,
-          elsewhere ps o.at n j e (not-closing q) (λ h. omega (arith, h, in_w.1, f)) ∙ old.1,
+          elsewhere ps o.position n i e (not-opening q) (λ h. omega (arith, h, in_w.0, f)) ∙ old.0,
+          elsewhere ps o.position n j e (not-closing q) (λ h. omega (arith, h, in_w.1, f)) ∙ old.1,
         )
 
-    at-top : (q : EndsPair w x i j) → Fate (o ∷ os) q.before q.inside q.pairs.0 → i ≡ o.at
+    at-top : (q : EndsPair w x i j) → Fate (o ∷ os) q.before q.inside q.pairs.0 → i ≡ o.position
     at-top q (Dead g) = absurd (none-some [] (sym g ∙ scan-forest q.inside q.is_forest))
     at-top q (Top a rest g h k m) =
         q.starts ∙ (sym k ∙ ap (λ t. t.at) (sym (same-first o a os rest g)))
     at-top q (Under a rest ds g h) = no-cons a.delimiter ds
         (same_Some [] (a.delimiter ∷ ds) (sym (scan-forest q.inside q.is_forest) ∙ h))
 
-    by_new : EndsPair w x i j → (partner (with_pair ps o.at n) i ≡ Some j)
-        × (partner (with_pair ps o.at n) j ≡ Some i)
+    by_new : EndsPair w x i j → (partner (with_pair ps o.position n) i ≡ Some j)
+        × (partner (with_pair ps o.position n) j ≡ Some i)
     by_new q =
-        let k : i ≡ o.at = at-top q
+        let k : i ≡ o.position = at-top q
         (fate (o ∷ os) w q.before q.inside q.opening q.pairs.0 l q.joins q.pairs.1) in
         let m : j ≡ n = q.ends ∙ f in (
-          ap (λ t. partner (with_pair ps o.at n) t) k
-              ∙ (at-opening ps o.at n e within ∙ ap (λ t. Some t) (sym m)),
-          ap (λ t. partner (with_pair ps o.at n) t) m
-              ∙ (at-closing ps o.at n e ∙ ap (λ t. Some t) (sym k)),
+          ap (λ t. partner (with_pair ps o.position n) t) k
+              ∙ (at-opening ps o.position n e within ∙ ap (λ t. Some t) (sym m)),
+          ap (λ t. partner (with_pair ps o.position n) t) m
+              ∙ (at-closing ps o.position n e ∙ ap (λ t. Some t) (sym k)),
         )
 
-    by_parts : IsPair w i j ⊎ EndsPair w x i j → (partner (with_pair ps o.at n) i ≡ Some j)
-        × (partner (with_pair ps o.at n) j ≡ Some i)
+    by_parts : IsPair w i j ⊎ EndsPair w x i j → (partner (with_pair ps o.position n) i ≡ Some j)
+        × (partner (with_pair ps o.position n) j ≡ Some i)
     by_parts (inl q) = by_old q
     by_parts (inr q) = by_new q
 

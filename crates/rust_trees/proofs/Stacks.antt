@@ -30,7 +30,7 @@ no-close-neither d h = absurd (cc)
 pub data Fate (os : List Opening) (u v : List Leaf) (d : Delimiter) : Type 0 where
   Dead : scan (Some []) v ≡ None → Fate os u v d
   Top : (o : Opening) (rest : List Opening) → os ≡ o ∷ rest → scan (Some []) v ≡ Some []
-      → o.at ≡ length u → o.delimiter ≡ d → Fate os u v d
+      → o.position ≡ length u → o.delimiter ≡ d → Fate os u v d
   Under : (o : Opening) (rest : List Opening) (ds : List Delimiter) → os ≡ o ∷ rest
       → scan (Some []) v ≡ Some (o.delimiter ∷ ds) → Fate os u v d
 
@@ -112,7 +112,7 @@ alive-token (o ∷ os) w x s l = (
 )
 
 pub alive-open : (os : List Opening) (o : Opening) (w : List Leaf) (x : Leaf)
-    → side x ≡ Opens o.delimiter → o.at ≡ length w → Alive os w → Alive (o ∷ os) (w ++ x ∷ [])
+    → side x ≡ Opens o.delimiter → o.position ≡ length w → Alive os w → Alive (o ∷ os) (w ++ x ∷ [])
 alive-open os o w x s n l = (w, [], x, refl, n, s, refl, l)
 
 pub alive-close : (os : List Opening) (o : Opening) (w : List Leaf) (x : Leaf)

@@ -70,7 +70,7 @@ BreaksAt xs (Some b) = BreaksIn xs b.kind b.start
 -- the next.
 abbrev pub AreOpen : List Opening → List Leaf → Type 0
 AreOpen [] w = Unit {0}
-AreOpen (o ∷ os) w = (u v : List Leaf) × (a : Leaf) × (w ≡ u ++ a ∷ v) × (o.at ≡ a.start)
+AreOpen (o ∷ os) w = (u v : List Leaf) × (a : Leaf) × (w ≡ u ++ a ∷ v) × (o.position ≡ a.start)
     × (side a ≡ Opens o.delimiter) × (scan (Some []) v ≡ Some []) × AreOpen os u
 
 -- The tokens so far, which do not break yet, and the delimiters that are open.

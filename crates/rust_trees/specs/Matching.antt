@@ -19,7 +19,7 @@ Sealed w = (u v : List Leaf) (a : Leaf) (d : Delimiter) → w ≡ u ++ a ∷ v �
 -- the next.
 abbrev pub Alive : List Opening → List Leaf → Type 0
 Alive [] w = Sealed w
-Alive (o ∷ os) w = (u v : List Leaf) × (a : Leaf) × (w ≡ u ++ a ∷ v) × (o.at ≡ length u)
+Alive (o ∷ os) w = (u v : List Leaf) × (a : Leaf) × (w ≡ u ++ a ∷ v) × (o.position ≡ length u)
     × (side a ≡ Opens o.delimiter) × (scan (Some []) v ≡ Some []) × Alive os u
 
 -- The partner of the token i.

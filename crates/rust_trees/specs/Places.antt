@@ -5,7 +5,7 @@ use Rattle.std.specs.Prelude.{if◌then◌else◌, take}
 use Rattle.std.specs.Str.{IsCharBoundary}
 use Rattle.rust_tokens.specs.Texts.{Text}
 use Rattle.rust_tokens.specs.Runs.{first_passes}
-use Rattle.rust_trees.specs.declared.places.Known.{Known}
+use Rattle.rust_trees.specs.declared.places.KnownPlace.{KnownPlace}
 use Rattle.rust_trees.specs.declared.places.Place.{Place}
 
 -- LF
@@ -41,7 +41,7 @@ abbrev pub place_of : List ℕ → ℕ → Place
 place_of bs n = place_between (chars (take n bs)) (chars (drop n bs))
 
 -- An offset that is not the start of a text, with its place.
-pub record IsKnown (bs : List ℕ) (k : Known) : Type 0 where
+pub record IsKnown (bs : List ℕ) (k : KnownPlace) : Type 0 where
   pub is_after : 1 ≤ k.offset
   pub boundary : IsCharBoundary bs k.offset
   pub place : k.place ≡ place_of bs k.offset

@@ -21,8 +21,8 @@ pub enum DelimiterBreak {
 /// A delimiter that is not closed yet.
 #[derive(Clone, Copy)]
 pub struct Opening {
-    /// The index of the token.
-    pub at: usize,
+    /// The position of the token: its index, or the byte offset at which it starts.
+    pub position: usize,
     /// The kind.
     pub delimiter: Delimiter,
 }
@@ -47,8 +47,8 @@ fn close(matching: &mut Matching, delimiter: Delimiter) -> Result<(), AllocError
     let index = matching.partners.len();
     if let Some(top) = matching.openings.pop() {
         if is_same(top.delimiter, delimiter) {
-            matching.partners[top.at] = Some(index);
-            matching.partners.push(Some(top.at))?;
+            matching.partners[top.position] = Some(index);
+            matching.partners.push(Some(top.position))?;
             return Ok(());
         }
     }
@@ -67,8 +67,11 @@ pub fn add(matching: &mut Matching, token: &Token<'_>) -> Result<(), AllocError>
     match token.side() {
         Side::Neither => matching.partners.push(None)?,
         Side::Opens(delimiter) => {
-            let at = matching.partners.len();
-            matching.openings.push(Opening { at, delimiter })?;
+            let position = matching.partners.len();
+            matching.openings.push(Opening {
+                position,
+                delimiter,
+            })?;
             matching.partners.push(None)?;
         }
         Side::Closes(delimiter) => close(matching, delimiter)?,
@@ -105,7 +108,7 @@ pub fn break_of(unexpected: Option<usize>, mut openings: Vec<Opening>) -> Option
     match unexpected {
         Some(index) => Some(DelimiterBreak::Unexpected(index)),
         None => match openings.pop() {
-            Some(opening) => Some(DelimiterBreak::Unclosed(opening.at)),
+            Some(opening) => Some(DelimiterBreak::Unclosed(opening.position)),
             None => None,
         },
     }

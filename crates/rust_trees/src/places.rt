@@ -95,13 +95,13 @@ const STEP: usize = 256;
 
 /// A byte offset of a text with its place.
 #[derive(Clone, Copy)]
-pub struct Known {
+pub struct KnownPlace {
     pub offset: usize,
     pub place: Place,
 }
 
 /// Returns the place of a byte offset, from the last place before it of those that are known.
-fn place_from(text: &str, known: &[Known], offset: usize) -> Place
+fn place_from(text: &str, known: &[KnownPlace], offset: usize) -> Place
     requires known { All (IsKnown text.now) known.now }
     requires boundary { IsCharBoundary text.now offset }
     ensures { result ≡ place_of text.now offset }
@@ -118,7 +118,7 @@ fn place_from(text: &str, known: &[Known], offset: usize) -> Place
 
 /// Adds a byte offset with its place to those that are known, unless it is 0. Returns `Err` if an
 /// allocation fails.
-fn add_known(known: &mut Vec<Known>, text: &str, offset: usize) -> Result<(), AllocError>
+fn add_known(known: &mut Vec<KnownPlace>, text: &str, offset: usize) -> Result<(), AllocError>
     requires known { All (IsKnown text.now) known.old.items }
     requires boundary { IsCharBoundary text.now offset }
     ensures { All (IsKnown text.now) known.new.items }
@@ -127,7 +127,7 @@ fn add_known(known: &mut Vec<Known>, text: &str, offset: usize) -> Result<(), Al
         return Ok(());
     }
     let place = place_from(text, known, offset);
-    known.push(Known { offset, place })?;
+    known.push(KnownPlace { offset, place })?;
     Ok(())
 }
 
@@ -135,7 +135,7 @@ fn add_known(known: &mut Vec<Known>, text: &str, offset: usize) -> Result<(), Al
 #[derive(Drop)]
 pub struct Places<'a> {
     text: &'a str,
-    known: Vec<Known>,
+    known: Vec<KnownPlace>,
 }
 
 impl<'a> Model for Places<'a> {
@@ -163,7 +163,7 @@ impl<'a> Places<'a> {
     }
 
     /// Returns the place of a byte offset at which a character of the text starts, or at its end.
-    pub fn at(&self, offset: usize) -> Place
+    pub fn place_of(&self, offset: usize) -> Place
         requires { IsCharBoundary self.now offset }
         ensures { result ≡ place_of self.now offset }
     {

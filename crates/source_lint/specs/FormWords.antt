@@ -9,8 +9,8 @@ use Rattle.source_lint.specs.Findings.{TellsHelp}
 use Rattle.call_forms.specs.Keywords.{kind_word}
 use Rattle.call_forms.specs.Forms.{Form, NoString, NoLiteral, NoComma, NoOperand, NoExpression}
 use Rattle.call_forms.specs.Operators.{Operator}
-use Rattle.call_forms.specs.declared.commas.Expected.{Expected}
-use Rattle.call_forms.specs.declared.commas.Expected.TheVariants.{Comma, Path, Field, Value}
+use Rattle.call_forms.specs.declared.commas.ExpectedTokens.{ExpectedTokens}
+use Rattle.call_forms.specs.declared.commas.ExpectedTokens.TheVariants.{Comma, Path, Field, Value}
 
 -- The id of a fault, the same for all of a kind.
 unfoldable pub form_id : Form → List ℕ
@@ -26,7 +26,7 @@ found_text o = kind_word o.first
     ++ (codes "`" ++ (o.first ++ (o.second ++ (o.third ++ codes "`"))))
 
 -- The tokens that rustc expects, in its words.
-unfoldable pub expected_words : Expected → List ℕ
+unfoldable pub expected_words : ExpectedTokens → List ℕ
 expected_words Comma = codes "expected `,`, found "
 expected_words Path =
     codes "expected one of `!`, `,`, `.`, `::`, `?`, `{`, or an operator, found "
@@ -50,7 +50,7 @@ form_title (NoOperand o) = missing_words ++ found_text o
 form_title (NoExpression k b) = end_words b
 
 -- More than six tokens are only counted.
-unfoldable pub expected_label : Expected → List ℕ
+unfoldable pub expected_label : ExpectedTokens → List ℕ
 expected_label Comma = codes "expected `,`"
 expected_label Path = codes "expected one of 7 possible tokens"
 expected_label Field = codes "expected one of `(`, `,`, `.`, `::`, `?`, or an operator"

@@ -18,7 +18,7 @@ ghost use Rattle.source_report.specs.declared.report.Finding.{Finding as Finding
 ghost use Rattle.source_report.specs.declared.report.Label.{Label as LabelValue};
 
 use asm_lint::{call_range, range_in, tokens_range};
-use call_forms::{Expected, Form, Operator, kind_word};
+use call_forms::{ExpectedTokens, Form, Operator, kind_word};
 use format_calls::{Argument, Call};
 use rust_trees::Token;
 use source_report::{Edit, Finding, Help, Label};
@@ -55,16 +55,16 @@ fn put_found(out: &mut String, operator: Operator<'_>) -> Result<(), AllocError>
 
 /// Returns the tokens that rustc expects, in its words, up to the one that it found.
 #[tactic(auto, unfolding(crate::specs::FormWords::expected_words))]
-fn expected_words(expected: Expected) -> &'static str
+fn expected_words(expected: ExpectedTokens) -> &'static str
     ensures { result.now ≡ expected_words expected }
 {
     match expected {
-        Expected::Comma => "expected `,`, found ",
-        Expected::Path => {
+        ExpectedTokens::Comma => "expected `,`, found ",
+        ExpectedTokens::Path => {
             "expected one of `!`, `,`, `.`, `::`, `?`, `{`, or an operator, found "
         }
-        Expected::Field => "expected one of `(`, `,`, `.`, `::`, `?`, or an operator, found ",
-        Expected::Value => "expected one of `,`, `.`, `?`, or an operator, found ",
+        ExpectedTokens::Field => "expected one of `(`, `,`, `.`, `::`, `?`, or an operator, found ",
+        ExpectedTokens::Value => "expected one of `,`, `.`, `?`, or an operator, found ",
     }
 }
 
@@ -113,14 +113,14 @@ fn put_title(out: &mut String, form: Form<'_>) -> Result<(), AllocError>
 
 /// Returns the label of a token where rustc expects others.
 #[tactic(auto, unfolding(crate::specs::FormWords::expected_label))]
-fn expected_label(expected: Expected) -> &'static str
+fn expected_label(expected: ExpectedTokens) -> &'static str
     ensures { result.now ≡ expected_label expected }
 {
     match expected {
-        Expected::Comma => "expected `,`",
-        Expected::Path => "expected one of 7 possible tokens",
-        Expected::Field => "expected one of `(`, `,`, `.`, `::`, `?`, or an operator",
-        Expected::Value => "expected one of `,`, `.`, `?`, or an operator",
+        ExpectedTokens::Comma => "expected `,`",
+        ExpectedTokens::Path => "expected one of 7 possible tokens",
+        ExpectedTokens::Field => "expected one of `(`, `,`, `.`, `::`, `?`, or an operator",
+        ExpectedTokens::Value => "expected one of `,`, `.`, `?`, or an operator",
     }
 }
 

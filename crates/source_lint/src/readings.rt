@@ -116,7 +116,7 @@ pub fn captures(rule: Rule, name: &[u8], is_from_2021: bool) -> bool
 {
     match rule {
         Rule::IndexByEdition(_) => is_from_2021 || name != b"unreachable".as_slice(),
-        Rule::At(_) | Rule::FirstLiteral | Rule::Templates => true,
+        Rule::Index(_) | Rule::FirstLiteral | Rule::Templates => true,
     }
 }
 
@@ -281,7 +281,7 @@ fn read_one<'a>(
 {
     match call.rule {
         Rule::Templates => { read_asm(alloc, findings, file.text, part, call, arguments) }
-        Rule::At(_) | Rule::IndexByEdition(_) | Rule::FirstLiteral => {
+        Rule::Index(_) | Rule::IndexByEdition(_) | Rule::FirstLiteral => {
             read_at(alloc, findings, file, part, call, arguments, index)
         }
     }
@@ -311,7 +311,7 @@ fn has_empty(arguments: &[Argument]) -> bool
 fn are_expressions(rule: Rule) -> bool
     ensures { result ≡ are_expressions rule }
 {
-    matches!(rule, Rule::At(_) | Rule::IndexByEdition(_))
+    matches!(rule, Rule::Index(_) | Rule::IndexByEdition(_))
 }
 
 /// Returns whether an operator lacks an operand in one of these arguments.

@@ -3,7 +3,7 @@ use Rattle.std.specs.Prelude.{◌++◌, ℕ, List, map}
 use Rattle.fault_fixes.specs.Edits.{Edit, applied}
 use Rattle.source_report.specs.declared.report.Finding.{Finding}
 use Rattle.source_report.specs.Suggestions.{LabelSuggestion, all_edits, mended}
-use Rattle.source_report.specs.declared.edited.Edited.{Edited}
+use Rattle.source_report.specs.declared.edited.EditedText.{EditedText}
 use Rattle.source_report.specs.declared.suggestions.LabelSuggestion.{LabelSuggestion as Declared}
 
 -- A suggestion as a contract sees it.
@@ -11,13 +11,13 @@ abbrev pub seen_suggestion : Declared → LabelSuggestion
 seen_suggestion s = record { advice = s.advice.now; text = s.text.now; is_sure = s.is_sure }
 
 -- The text with further edits.
-abbrev pub with_edits : Edited → List Edit → List ℕ
+abbrev pub with_edits : EditedText → List Edit → List ℕ
 with_edits x es = x.bytes.items ++ applied x.end es x.rest.now
 
 -- The text with the edits of those of these faults that are mended.
-abbrev pub with_faults : Edited → List Finding → List ℕ
+abbrev pub with_faults : EditedText → List Finding → List ℕ
 with_faults x fs = with_edits x (all_edits (mended x.end fs))
 
 -- The ids of the faults that are mended, with those of these.
-abbrev pub with_ids : Edited → List Finding → List (List ℕ)
+abbrev pub with_ids : EditedText → List Finding → List (List ℕ)
 with_ids x fs = map (λ w. w.now) x.ids.items ++ map (λ f. f.id.now) (mended x.end fs)

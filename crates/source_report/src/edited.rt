@@ -14,7 +14,7 @@ use std::alloc::{AllocError, Global};
 
 /// A text in the middle of its edits.
 #[derive(Drop)]
-pub struct Edited<'t> {
+pub struct EditedText<'t> {
     /// The part of the text with its edits that is written.
     pub bytes: Vec<u8>,
     /// The rest of the text.
@@ -40,7 +40,7 @@ fn rest_after(bytes: &[u8], n: usize) -> &[u8]
 }
 
 /// Makes an edit. Returns `Err` if an allocation fails.
-fn make(edited: &mut Edited<'_>, edit: &Edit<'_>) -> Result<(), AllocError>
+fn make(edited: &mut EditedText<'_>, edit: &Edit<'_>) -> Result<(), AllocError>
     ensures edit { OnOk result ((es : List EditValue) → with_edits edited.new es
         ≡ with_edits edited.old (seen_edit edit.now ∷ es)) }
     ensures end { OnOk result (edited.new.end ≡ edit.now.span.end) }
@@ -55,7 +55,7 @@ fn make(edited: &mut Edited<'_>, edit: &Edit<'_>) -> Result<(), AllocError>
 }
 
 /// Makes edits, the first one first. Returns `Err` if an allocation fails.
-fn make_each(edited: &mut Edited<'_>, edits: &[Edit<'_>]) -> Result<(), AllocError>
+fn make_each(edited: &mut EditedText<'_>, edits: &[Edit<'_>]) -> Result<(), AllocError>
     ensures edits { OnOk result ((es : List EditValue) → with_edits edited.new es
         ≡ with_edits edited.old (map seen_edit edits.now ++ es)) }
     ensures end { OnOk result (edited.new.end
@@ -70,7 +70,7 @@ fn make_each(edited: &mut Edited<'_>, edits: &[Edit<'_>]) -> Result<(), AllocErr
 
 /// Mends a fault, if it has edits, and these follow the last one. Returns `Err` if an allocation
 /// fails.
-fn mend(alloc: Global, edited: &mut Edited<'_>, finding: &Finding) -> Result<(), AllocError>
+fn mend(alloc: Global, edited: &mut EditedText<'_>, finding: &Finding) -> Result<(), AllocError>
     ensures text { OnOk result ((xs : List FindingValue) → with_faults edited.new xs
         ≡ with_faults edited.old (finding.now ∷ xs)) }
     ensures ids { OnOk result ((xs : List FindingValue) → with_ids edited.new xs
@@ -90,13 +90,13 @@ pub fn mend_each<'t>(
     alloc: Global,
     text: &'t str,
     findings: &[Finding],
-) -> Result<Edited<'t>, AllocError>
+) -> Result<EditedText<'t>, AllocError>
     ensures text { IfOk result (λ x. x.bytes.items
         ≡ applied 0 (all_edits (mended 0 findings.now)) text.now) }
     ensures ids { IfOk result (λ x. map (λ w. w.now) x.ids.items
         ≡ map (λ f. f.id.now) (mended 0 findings.now)) }
 {
-    let mut edited = Edited {
+    let mut edited = EditedText {
         bytes: Vec::new(alloc),
         rest: text.as_bytes(),
         end: 0,

@@ -6,6 +6,6 @@ mod edited;
 mod report;
 mod suggestions;
 
-pub use edited::{Edited, mend_each};
+pub use edited::{EditedText, mend_each};
 pub use report::{CallReading, Edit, Finding, Help, Label, Note, Options, Report};
 pub use suggestions::{LabelSuggestion, are_after, edits_of, is_applicable, suggestion_of};

@@ -2,7 +2,7 @@
 
 use crate::rows::{NUMBERED, ROWS};
 use call_faults::FormatString;
-use inlined_arguments::{Argument, Call, Inlined, Obstacle, inline_arguments};
+use inlined_arguments::{Argument, Call, InlinedCall, Obstacle, inline_arguments};
 use piece_listing::literal::{LiteralText, literal_text};
 use std::alloc::{AllocError, Global};
 use std::test::Fail;
@@ -56,10 +56,14 @@ fn name_of(obstacle: Obstacle) -> &'static str {
 }
 
 /// Returns what stands between the parentheses of a call that is inlined.
-fn after(alloc: Global, made: &Inlined, arguments: &[Argument<'_>]) -> Result<String, AllocError> {
+fn after(
+    alloc: Global,
+    made: &InlinedCall,
+    arguments: &[Argument<'_>],
+) -> Result<String, AllocError> {
     let mut out = String::from_str(alloc, &made.literal)?;
     for (index, argument) in arguments.iter().enumerate() {
-        if !made.gone.contains(&index) {
+        if !made.removed_indices.contains(&index) {
             out.push_str(", ")?;
             out.push_str(str::from_utf8(argument.source).unwrap_or(""))?;
         }

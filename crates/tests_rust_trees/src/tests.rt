@@ -81,7 +81,7 @@ fn places_of_a_long_file(rt: HostRuntime) -> Result<(), Fail> {
     let mut offset = 0;
     while offset <= text.len() {
         if text.is_char_boundary(offset) {
-            let found = places.at(offset);
+            let found = places.place_of(offset);
             let place = place_at(&text, offset);
             assert_eq!(&rt; found.line, place.line);
             assert_eq!(&rt; found.column, place.column);
@@ -89,8 +89,8 @@ fn places_of_a_long_file(rt: HostRuntime) -> Result<(), Fail> {
         offset += 61;
     }
     // the line after 700 line ends, with a tab and `b`
-    assert_eq!(&rt; places.at(text.len()).line, 701);
-    assert_eq!(&rt; places.at(text.len()).column, 3);
+    assert_eq!(&rt; places.place_of(text.len()).line, 701);
+    assert_eq!(&rt; places.place_of(text.len()).column, 3);
     Ok(())
 }
 
@@ -177,7 +177,7 @@ fn macro_calls(rt: HostRuntime) -> Result<(), Fail> {
 fn number(string: Result<usize, Reason>) -> usize {
     match string {
         Ok(index) => index % 10,
-        Err(Reason::Missing) => 10,
+        Err(Reason::NoArgument) => 10,
         Err(Reason::Edition) => 11,
         Err(Reason::Variable) => 12,
         Err(Reason::Suffix) => 13,

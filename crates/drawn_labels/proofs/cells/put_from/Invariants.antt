@@ -9,7 +9,7 @@ abbrev pub invariant-loop-c : goal.invariant-loop-c
 invariant-loop-c l = record {
   is_text : shadow (Utf8 l.rest);
   same : put_from l.column (cells l.style l.rest) l.row.items
-      ≡ put_from l.from (cells l.style l.text) l.fn.row.items;
+      ≡ put_from l.start (cells l.style l.text) l.fn.row.items;
 }
 
 abbrev pub decreases-loop-c : goal.decreases-loop-c

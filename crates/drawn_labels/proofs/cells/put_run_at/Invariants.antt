@@ -7,7 +7,7 @@ use Rattle.drawn_labels.proofs.cells.put_run_at.Given as goal
 abbrev pub invariant-loop-countdown : goal.invariant-loop-countdown
 invariant-loop-countdown l = (cs : List Cell)
     → put_from l.column (replicate l.countdown l.cell ++ cs) l.row.items
-    ≡ put_from l.from (replicate l.count l.cell ++ cs) l.fn.row.items
+    ≡ put_from l.start (replicate l.count l.cell ++ cs) l.fn.row.items
 
 abbrev pub decreases-loop-countdown : goal.decreases-loop-countdown
 decreases-loop-countdown l = l.countdown

@@ -8,6 +8,6 @@ abbrev pub invariant-loop-label : goal.invariant-loop-label
 invariant-loop-label l = record {
   whole : reach_on l.source l.reach (map seen_label (drop l.label-index l.labels))
       ≡ reach_on l.source l.fn.first (map seen_label l.labels);
-  to : l.reach.to < 2 ^ 62;
-  end : l.reach.end < 2 ^ 63;
+  to : l.reach.end < 2 ^ 62;
+  end : l.reach.text_end < 2 ^ 63;
 }

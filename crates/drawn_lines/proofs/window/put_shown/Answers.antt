@@ -32,7 +32,7 @@ returns-clause-drawn c =
     ∙ (c.in_ok-put_glyphs-2.ensures.drawn ∙ ap (λ x. x ++ text) c.new-row.ensures.bytes) in
     let drawn = glyph-chars c.args.text.now c.as_str.result.now c.utf8.text row in
     let right =
-    c.saturating_sub.ensures ∙ ap (λ n. n - c.args.window.left) c.columns.ensures.value in
+    c.saturating_sub.ensures ∙ ap (λ n. n - c.args.window.start) c.columns.ensures.value in
     c.in_ok-put_cut.ensures
     ∙ ap (λ x. string_bytes c.args.out.now ++ x)
     (shown-cut c.args.palette c.args.window (chars c.args.text.now) (chars c.as_str.result.now) _

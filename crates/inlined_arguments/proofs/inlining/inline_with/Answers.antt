@@ -23,7 +23,7 @@ returns-clause-inlined c = λ mixed none.
     (c.in_ok-values.ensures.slots ∙ c.requires.slots) c.if-not-branch.false) in
     record {
       may_be = none;
-      gone = c.in_ok-gone.ensures;
+      removed_indices = c.in_ok-removed_indices.ensures;
       literal = c.in-Some.snippet.now;
       is_literal = ap (option_map (λ s. s.now)) c.in-Some.is;
       is_edited = made.1;

@@ -1,4 +1,4 @@
-use Rattle.format_calls.specs.declared.part.Wanted.TheVariants.{Raw}
+use Rattle.format_calls.specs.declared.part.Target.TheVariants.{Raw}
 use Rattle.format_calls.proofs.part.Part.has_raw.Goals as goal
 
 pub returns : goal.returns

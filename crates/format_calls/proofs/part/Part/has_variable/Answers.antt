@@ -1,4 +1,4 @@
-use Rattle.format_calls.specs.declared.part.Wanted.TheVariants.{Variable}
+use Rattle.format_calls.specs.declared.part.Target.TheVariants.{Variable}
 use Rattle.format_calls.proofs.part.Part.has_variable.Goals as goal
 
 pub returns : goal.returns
