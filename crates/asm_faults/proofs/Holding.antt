@@ -94,7 +94,8 @@ pub Holds-named : (ss : List Operand) (old new : Operands) (s : DeclaredOperand)
     → index_of ss (chars w.now) ≡ None → new.slots.items ≡ old.slots.items ++ s ∷ []
     → ((t : Text) → found_in new.names t
     ≡ cond (bytes_eq t (chars w.now)) (Some n) (found_in old.names t))
-    → new.named_operands.items ≡ old.named_operands.items ++ n ∷ [] → new.registers.items ≡ old.registers.items
+    → new.named_operands.items ≡ old.named_operands.items ++ n ∷ []
+    → new.registers.items ≡ old.registers.items
     → Holds (ss ++ Named (chars w.now) ∷ []) new
 Holds-named ss old new s w n h e k f l m p r = record {
   slots = slots-more ss old new s h l ∙ ap (λ (o : Operand). ss ++ o ∷ []) e;

@@ -5,7 +5,8 @@ use Rattle.std.proofs.Common.{chars, cond, map, nat_lt, refl, replicate}
 use Rattle.std.specs.Str.{NonePass}
 use Rattle.rustc_parse_format.specs.Characters.{Text}
 use Rattle.drawn_lines.specs.Glyphs.{glyphs, is_obeyed}
-use Rattle.drawn_labels.specs.Marks.{HungLabel, bars, cells, depth, hang, has_text, hung_row, hung_rows}
+use Rattle.drawn_labels.specs.Marks.{HungLabel, bars, cells, depth, hang, has_text, hung_row}
+use Rattle.drawn_labels.specs.Marks.{hung_rows}
 use Rattle.drawn_labels.specs.Marks.{hung_texts, mark_rows, put_at, put_from, rows_below, rows_of}
 use Rattle.drawn_labels.specs.Marks.{side_texts, sign_row, signs_of, sorted, with_bar}
 use Rattle.drawn_labels.specs.Marks.{with_hung_text, with_mark, with_side_text, with_signs}
@@ -105,7 +106,8 @@ quiet-bars n (h ∷ hs) row q =
     (put_at h.mark.start (cell (style_of h.mark) 124) row) row
     (quiet-put_at h.mark.start (cell (style_of h.mark) 124) row (written-harmless 124 refl) q) q)
 
-quiet-texts : (n : ℕ) (hs : List HungLabel) (row : List Cell) → Quiet row → Quiet (hung_texts n hs row)
+quiet-texts : (n : ℕ) (hs : List HungLabel) (row : List Cell) → Quiet row
+    → Quiet (hung_texts n hs row)
 quiet-texts n [] row q = q
 quiet-texts n (h ∷ hs) row q =
     quiet-texts n hs (with_hung_text n h row)

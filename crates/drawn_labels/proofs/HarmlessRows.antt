@@ -127,7 +127,8 @@ of_pair : (g : Gutter) (l r : Mark) → is_obeyed l.sign ≡ false → is_obeyed
     → IsColourOf (pair_rows g l r) (pair_rows (off g) l r)
 of_pair g l r h k =
     either (nat_lt r.start l.end) (of_overlapping g l r h k)
-    (either (nat_lt r.start (l.end + length l.text + 2)) (of_hanging g l r h k) (of_beside g l r h k))
+    (either (nat_lt r.start (l.end + length l.text + 2)) (of_hanging g l r h k)
+    (of_beside g l r h k))
 
 of_both : (g : Gutter) (m n : Mark) → is_obeyed m.sign ≡ false → is_obeyed n.sign ≡ false
     → IsColourOf (both g m n) (both (off g) m n)

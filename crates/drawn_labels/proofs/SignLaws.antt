@@ -234,7 +234,8 @@ Texts start ms row = (n : ℕ) → (cell_in n row ≡ space) ⊎ IsText start ms
 side-over : (ms : List Mark) (h : HungLabel) (row : List Cell) → IsAmong h.mark ms
     → Texts right_of ms row → Texts right_of ms (with_side_text h row)
 side-over ms h row among t = cond_both (has_text h.mark && (h.down == 0))
-    (put_from h.mark.end (space ∷ cells (text_style h.mark) h.mark.text) row) row (Texts right_of ms)
+    (put_from h.mark.end (space ∷ cells (text_style h.mark) h.mark.text) row) row
+    (Texts right_of ms)
     (λ yes n. by_found n (find n h.mark.end (space ∷ cells (text_style h.mark) h.mark.text) row))
     (λ no. t)
   where

@@ -23,7 +23,13 @@ pub record Mark : Type 0 where
 
 -- A label as a contract sees it.
 abbrev pub seen_mark : DeclaredMark → Mark
-seen_mark m = record { line = m.line; start = m.start; end = m.end; sign = m.sign; text = m.text.now }
+seen_mark m = record {
+  line = m.line;
+  start = m.start;
+  end = m.end;
+  sign = m.sign;
+  text = m.text.now;
+}
 
 -- The style of the signs of a label, and of its bar.
 abbrev pub style_of : Mark → Style

@@ -58,7 +58,8 @@ drawn-part w t =
     let wide = is_wide w t in
     let past = past-part w.start (glyphs t) in
     let window =
-    one_of wide _ _ _ (inner _ _ _ (within-of w.limit (past_columns w.start (glyphs t))) past) past in
+    one_of wide _ _ _
+    (inner _ _ _ (within-of w.limit (past_columns w.start (glyphs t))) past) past in
     let s = in_window w wide (glyphs t) in
     let rest = inner _ _ _ (one_of (w.start == 0) _ _ _ (whole s) (past-part 3 s)) window in
     let r = after_dots w s in

@@ -33,7 +33,7 @@ pub(crate) struct Operands<'a> {
     /// The index of the operand with each name.
     pub names: BTreeMap<&'a str, usize>,
     /// The indices of those that have a name.
-    pub named: Vec<usize>,
+    pub named_operands: Vec<usize>,
     /// The indices of those that have a register of their own.
     pub registers: Vec<usize>,
 }
@@ -44,7 +44,7 @@ fn no_operands<'a>() -> Operands<'a> {
     Operands {
         slots: Vec::new(),
         names: BTreeMap::new(),
-        named: Vec::new(),
+        named_operands: Vec::new(),
         registers: Vec::new(),
     }
 }
@@ -77,7 +77,7 @@ fn first_of(indices: &[usize]) -> &[usize] {
 #[inline]
 fn others_of(operands: &Operands<'_>) -> Result<Vec<usize>, AllocError> {
     let mut others = Vec::new();
-    others.try_extend_from_slice(first_of(&operands.named))?;
+    others.try_extend_from_slice(first_of(&operands.named_operands))?;
     others.try_extend_from_slice(first_of(&operands.registers))?;
     Ok(others)
 }
@@ -129,7 +129,7 @@ fn add_named<'a>(
         }
         None => {
             insert(&mut operands.names, name, index)?;
-            operands.named.try_push(index)?;
+            operands.named_operands.try_push(index)?;
             operands.slots.try_push(Operand::Named(name))?;
         }
     }

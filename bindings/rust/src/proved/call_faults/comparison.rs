@@ -4,7 +4,7 @@
 // That source has the contracts, and is proved. That this text means the same is only tested.
 
 use crate::proved::call_faults::arguments::{index_of, insert, Arguments, Entry};
-use crate::proved::call_faults::faults::{CallFault, Missing, Part};
+use crate::proved::call_faults::faults::{CallFault, InvalidReference, Part};
 use crate::proved::call_faults::lookups::{Lookup, Wanted};
 use crate::shim::alloc::AllocError;
 use crate::shim::prelude::*;
@@ -40,10 +40,10 @@ fn marks<'a>(
 
 /// Returns the reference of a lookup, if it is one by an index that is at least `count`.
 #[inline]
-fn reference_beyond(count: usize, lookup: &Lookup<'_>) -> Option<Missing> {
+fn reference_beyond(count: usize, lookup: &Lookup<'_>) -> Option<InvalidReference> {
     match *lookup {
         Lookup::Refer(reference, Wanted::Index(index)) if index >= count => {
-            Some(Missing { reference, index })
+            Some(InvalidReference { reference, index })
         }
         _ => None,
     }
@@ -51,7 +51,10 @@ fn reference_beyond(count: usize, lookup: &Lookup<'_>) -> Option<Missing> {
 
 /// Returns the references by an index that is at least `count`.
 #[inline]
-fn references_from(count: usize, lookups: &[Lookup<'_>]) -> Result<Vec<Missing>, AllocError> {
+fn references_from(
+    count: usize,
+    lookups: &[Lookup<'_>],
+) -> Result<Vec<InvalidReference>, AllocError> {
     let mut missing = Vec::new();
     for lookup in lookups {
         if let Some(reference) = reference_beyond(count, lookup) {
@@ -226,7 +229,10 @@ fn tell_by_index<'a>(
 
 /// Adds the fault of references by an index that is too large, if there are any.
 #[inline]
-fn tell_missing(faults: &mut Vec<CallFault<'_>>, missing: Vec<Missing>) -> Result<(), AllocError> {
+fn tell_missing(
+    faults: &mut Vec<CallFault<'_>>,
+    missing: Vec<InvalidReference>,
+) -> Result<(), AllocError> {
     if !missing.is_empty() {
         faults.try_push(CallFault::MissingArguments(missing))?;
     }
@@ -235,7 +241,11 @@ fn tell_missing(faults: &mut Vec<CallFault<'_>>, missing: Vec<Missing>) -> Resul
 
 /// Returns whether neither a name is missing, nor an argument, nor is one unused.
 #[inline]
-fn is_settled(faults: &[CallFault<'_>], missing: &[Missing], unused: &[Entry<'_>]) -> bool {
+fn is_settled(
+    faults: &[CallFault<'_>],
+    missing: &[InvalidReference],
+    unused: &[Entry<'_>],
+) -> bool {
     !misses_name(faults) && missing.is_empty() && unused.is_empty()
 }
 

@@ -28,7 +28,7 @@ pub struct Reference {
 
 /// A reference by an index that is too large.
 #[derive(Clone, Copy, Debug, PartialEq)]
-pub struct Missing {
+pub struct InvalidReference {
     /// Where it is.
     pub reference: Reference,
     /// The index.
@@ -68,7 +68,7 @@ pub enum CallFault<'a> {
         ty: &'a str,
     },
     /// The references by an index that is too large, one or more.
-    MissingArguments(Vec<Missing>),
+    MissingArguments(Vec<InvalidReference>),
     /// The arguments that no placeholder refers to, one or more.
     UnusedArguments(Vec<usize>),
     /// Those of the arguments that no placeholder refers to, one or more, that are a variable which

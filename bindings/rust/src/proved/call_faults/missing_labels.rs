@@ -5,7 +5,7 @@
 // That source has the contracts, and is proved. That this text means the same is only tested.
 
 use crate::proved::call_faults::checker::CallReport;
-use crate::proved::call_faults::faults::Missing;
+use crate::proved::call_faults::faults::InvalidReference;
 use crate::proved::call_faults::spots::{
     first_spot, push_plain, push_secondary, reference_spot, rest_after, spot_of,
 };
@@ -21,7 +21,7 @@ use core::ops::Range;
 pub(crate) fn push_missing(
     labels: &mut Vec<CallLabel>,
     pieces: &[Piece<'_>],
-    missing: &[Missing],
+    missing: &[InvalidReference],
 ) -> Result<(), AllocError> {
     let mut rest = missing;
     while let Some((first, others)) = rest.split_first() {

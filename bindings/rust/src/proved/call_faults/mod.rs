@@ -17,5 +17,5 @@ pub(crate) mod titles;
 
 pub use arguments::FormatArgument;
 pub use checker::{call_faults, CallReport, FormatString};
-pub use faults::{CallFault, Missing, Part, Reference};
+pub use faults::{CallFault, InvalidReference, Part, Reference};
 pub use spots::{CallEdit, CallHelp, CallNote};

@@ -10,7 +10,7 @@ use crate::proved::rust_trees::Token;
 
 /// The tokens that rustc expects where another one stands.
 #[derive(Clone, Copy)]
-pub enum Expected {
+pub enum ExpectedTokens {
     /// A comma, after the format string.
     Comma,
     /// Those after a path.
@@ -69,24 +69,24 @@ fn expected_by(
     previous: Option<Token<'_>>,
     second: Option<Token<'_>>,
     last: Option<Token<'_>>,
-) -> Expected {
+) -> ExpectedTokens {
     match last {
         Some(last) if is_word(&last) => {
             if !is_period(second) || is_period(previous) {
-                Expected::Path
+                ExpectedTokens::Path
             } else if is_text(&last, "await") {
-                Expected::Value
+                ExpectedTokens::Value
             } else {
-                Expected::Field
+                ExpectedTokens::Field
             }
         }
-        _ => Expected::Value,
+        _ => ExpectedTokens::Value,
     }
 }
 
 /// Returns what rustc expects after the operand that ends before the token with an index.
 #[inline]
-pub fn expected_at(tokens: &[Token<'_>], index: usize) -> Expected {
+pub fn expected_at(tokens: &[Token<'_>], index: usize) -> ExpectedTokens {
     let last = token_at(tokens, index.saturating_sub(1));
     let second = token_at(tokens, index.saturating_sub(2));
     let before = token_at(tokens, index.saturating_sub(3));

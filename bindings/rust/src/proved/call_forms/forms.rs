@@ -3,7 +3,7 @@
 // Extracted from crates/call_forms/src/forms.rt by tools/extract: not to be edited.
 // That source has the contracts, and is proved. That this text means the same is only tested.
 
-use crate::proved::call_forms::commas::{are_unknown, expected_at, has_more, Expected};
+use crate::proved::call_forms::commas::{are_unknown, expected_at, has_more, ExpectedTokens};
 use crate::proved::call_forms::expressions::{
     are_path, extra_operand, have_variables, is_operand, tokens_of,
 };
@@ -27,7 +27,7 @@ pub enum Form<'a> {
     /// No comma stands before a token.
     NoComma {
         /// The tokens that rustc expects.
-        expected: Expected,
+        expected: ExpectedTokens,
         /// The token that stands there.
         operator: Operator<'a>,
     },
@@ -106,7 +106,7 @@ fn first_bad(part: &Part<'_>, arguments: &[Argument]) -> Option<usize> {
 
 /// Returns the fault that no comma stands before a token, where rustc expects these tokens.
 #[inline]
-fn no_comma(expected: Expected, operator: Operator<'_>) -> Form<'_> {
+fn no_comma(expected: ExpectedTokens, operator: Operator<'_>) -> Form<'_> {
     Form::NoComma { expected, operator }
 }
 
@@ -121,7 +121,7 @@ fn joined_form<'a>(tokens: &[Token<'a>], index: usize, is_string: bool) -> Optio
         return None;
     };
     if is_string {
-        Some(no_comma(Expected::Comma, operator))
+        Some(no_comma(ExpectedTokens::Comma, operator))
     } else {
         Some(no_comma(expected_at(tokens, index), operator))
     }
@@ -198,7 +198,7 @@ fn starts_well(bad: Option<usize>, index: usize) -> bool {
 #[inline]
 fn comma_form<'a>(tokens: &[Token<'a>]) -> Option<Form<'a>> {
     match operator_at(tokens, 1) {
-        Some(operator) => Some(no_comma(Expected::Comma, operator)),
+        Some(operator) => Some(no_comma(ExpectedTokens::Comma, operator)),
         None => None,
     }
 }
@@ -270,7 +270,7 @@ fn lacks_string(name: &[u8], arguments: &[Argument], close: usize) -> bool {
 #[inline]
 fn index_of(rule: Rule, is_from_2021: bool) -> Option<usize> {
     match rule {
-        Rule::At(index) => Some(index),
+        Rule::Index(index) => Some(index),
         Rule::IndexByEdition(index) => {
             if is_from_2021 {
                 Some(index)

@@ -12,7 +12,7 @@ pub(crate) mod keywords;
 pub(crate) mod operators;
 pub(crate) mod paths;
 
-pub use commas::Expected;
+pub use commas::ExpectedTokens;
 pub use expressions::{have_joined, have_variables, tokens_of};
 pub use forms::{form_here, Form};
 pub use generics::parameters;

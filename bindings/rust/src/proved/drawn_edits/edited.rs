@@ -20,20 +20,20 @@ pub struct Edit<'a> {
     /// Where the text is that it replaces.
     pub extent: Extent,
     /// The byte offset in the source at which that text begins.
-    pub from: usize,
+    pub start: usize,
     /// The byte offset in the source at which it ends.
-    pub to: usize,
+    pub end: usize,
 }
 
 /// Returns an edit with its place in the source.
 #[inline]
 pub fn placed_edit<'a>(picture: &Picture<'_>, text: &'a str, range: &Range<usize>) -> Edit<'a> {
-    let (from, to) = offsets(picture, range);
+    let (start, end) = offsets(picture, range);
     Edit {
         text,
         extent: extent_of(picture, range),
-        from,
-        to,
+        start,
+        end,
     }
 }
 
@@ -80,8 +80,8 @@ pub fn parts_of<'a>(
     let mut at = start;
     let mut rest = text;
     for edit in edits {
-        let from = edit.from.max(at);
-        let to = edit.to.max(from);
+        let from = edit.start.max(at);
+        let to = edit.end.max(from);
         let (before, rest_after) = split_within(rest, from - at);
         let (removed, rest_after) = split_within(rest_after, to - from);
         list.try_push(Part {

@@ -10,7 +10,7 @@ use crate::shim::prelude::*;
 /// A label, and how many rows below the signs its text hangs: it stands right of them if that is
 /// none.
 #[derive(Clone, Copy)]
-pub struct Hung<'a> {
+pub struct HungLabel<'a> {
     pub mark: Mark<'a>,
     pub down: usize,
 }
@@ -24,13 +24,13 @@ pub fn has_text(mark: &Mark<'_>) -> bool {
 /// Returns whether one of two labels begins within the other.
 #[inline]
 fn is_meeting(n: &Mark<'_>, m: &Mark<'_>) -> bool {
-    (m.from <= n.from && n.from < m.to) || (n.from <= m.from && m.from < n.to)
+    (m.start <= n.start && n.start < m.end) || (n.start <= m.start && m.start < n.end)
 }
 
 /// Returns whether the label `n` has no text, and the columns of `m`.
 #[inline]
 fn is_shadow(n: &Mark<'_>, m: &Mark<'_>) -> bool {
-    (n.from == m.from && n.to == m.to) && !has_text(n)
+    (n.start == m.start && n.end == m.end) && !has_text(n)
 }
 
 /// Returns whether the text of a label cannot stand right of its signs, since it meets one of
@@ -52,9 +52,10 @@ fn is_crossed(mark: &Mark<'_>, others: &[Mark<'_>]) -> bool {
 /// `m`.
 #[inline]
 fn is_reaching(n: &Mark<'_>, m: &Mark<'_>) -> bool {
-    let columns = m.from.saturating_sub(n.to).saturating_sub(1);
+    let columns = m.start.saturating_sub(n.end).saturating_sub(1);
     has_text(n)
-        && ((m.from <= n.from && n.from < m.to) || (n.from <= m.from && columns <= n.text.len()))
+        && ((m.start <= n.start && n.start < m.end)
+            || (n.start <= m.start && columns <= n.text.len()))
 }
 
 /// Returns whether the texts of labels hang a row below that of a label right of them, which hangs
@@ -62,7 +63,7 @@ fn is_reaching(n: &Mark<'_>, m: &Mark<'_>) -> bool {
 #[inline]
 fn is_lowering(down: usize, mark: &Mark<'_>, others: &[Mark<'_>]) -> bool {
     for other in others {
-        if is_reaching(other, mark) && (has_text(mark) || (other.to <= mark.to && down == 0)) {
+        if is_reaching(other, mark) && (has_text(mark) || (other.end <= mark.end && down == 0)) {
             return true;
         }
     }
@@ -91,7 +92,7 @@ fn depth_after(down: usize, mark: &Mark<'_>, others: &[Mark<'_>]) -> usize {
 
 /// Returns the labels of a line, from right to left, with how far down they hang.
 #[inline]
-pub fn hang<'a>(marks: &[Mark<'a>]) -> Result<Vec<Hung<'a>>, AllocError> {
+pub fn hang<'a>(marks: &[Mark<'a>]) -> Result<Vec<HungLabel<'a>>, AllocError> {
     if marks.len() >= 1 << (usize::BITS - 5) {
         return crate::shim::alloc::refuse();
     }
@@ -101,7 +102,7 @@ pub fn hang<'a>(marks: &[Mark<'a>]) -> Result<Vec<Hung<'a>>, AllocError> {
         let others = &marks[list.len() + 1..];
         let depth = depth_of(down, mark, others);
         down = depth_after(depth, mark, others);
-        list.try_push(Hung {
+        list.try_push(HungLabel {
             mark: *mark,
             down: depth,
         })?;
@@ -111,7 +112,7 @@ pub fn hang<'a>(marks: &[Mark<'a>]) -> Result<Vec<Hung<'a>>, AllocError> {
 
 /// Returns how far down the text of a label hangs.
 #[inline]
-fn text_depth(hung: &Hung<'_>) -> usize {
+fn text_depth(hung: &HungLabel<'_>) -> usize {
     if has_text(&hung.mark) {
         hung.down
     } else {
@@ -121,7 +122,7 @@ fn text_depth(hung: &Hung<'_>) -> usize {
 
 /// Returns how far down the texts of labels hang at most.
 #[inline]
-pub fn depth(hung: &[Hung<'_>]) -> usize {
+pub fn depth(hung: &[HungLabel<'_>]) -> usize {
     let mut most = 0;
     for first in hung {
         most = text_depth(first).max(most);

@@ -26,16 +26,16 @@ pub struct Label<'a> {
 pub fn mark_of<'a>(label: &Label<'a>, first: usize) -> Mark<'a> {
     let start = label.extent.start;
     let end = label.extent.end;
-    let from = start.column.saturating_sub(first);
-    let to = if end.line == start.line {
+    let first_column = start.column.saturating_sub(first);
+    let end_column = if end.line == start.line {
         end.column.saturating_sub(first)
     } else {
         0
     };
     Mark {
         line: start.line,
-        from,
-        to: to.max(from + 1),
+        start: first_column,
+        end: end_column.max(first_column + 1),
         sign: label.sign,
         text: label.text,
     }

@@ -11,11 +11,11 @@ use crate::proved::drawn_lines::{columns, line, Gutter, Picture, Window};
 #[derive(Clone, Copy)]
 pub struct Reach {
     /// The first column of a label.
-    pub from: usize,
+    pub start: usize,
     /// The first column after all labels.
-    pub to: usize,
-    /// The first column after their texts.
     pub end: usize,
+    /// The first column after their texts.
+    pub text_end: usize,
     /// How many columns the longest one of their lines has.
     pub longest: usize,
 }
@@ -46,7 +46,7 @@ struct Measured {
     columns: usize,
 }
 
-/// Returns the line in which a label begins.
+/// Returns the line in which a label begins, and its columns.
 #[inline]
 fn start_line(source: &str, label: &Label<'_>) -> Measured {
     let line = label.extent.start.line;
@@ -56,7 +56,7 @@ fn start_line(source: &str, label: &Label<'_>) -> Measured {
     }
 }
 
-/// Returns how many columns a line of the source has, which most often is the one that is known.
+/// Returns how many columns a line of the source has. Most often it is the line `known`.
 #[inline]
 fn columns_of(source: &str, number: usize, known: Measured) -> usize {
     if number == known.line {
@@ -70,9 +70,9 @@ fn columns_of(source: &str, number: usize, known: Measured) -> usize {
 #[inline]
 fn mark_reach(source: &str, known: Measured, mark: &Mark<'_>) -> Reach {
     Reach {
-        from: mark.from,
-        to: mark.to,
-        end: mark.to + text_columns(mark.text),
+        start: mark.start,
+        end: mark.end,
+        text_end: mark.end + text_columns(mark.text),
         longest: columns_of(source, mark.line, known),
     }
 }
@@ -81,9 +81,9 @@ fn mark_reach(source: &str, known: Measured, mark: &Mark<'_>) -> Reach {
 #[inline]
 fn join_reaches(r: Reach, s: Reach) -> Reach {
     Reach {
-        from: r.from.min(s.from),
-        to: r.to.max(s.to),
+        start: r.start.min(s.start),
         end: r.end.max(s.end),
+        text_end: r.text_end.max(s.text_end),
         longest: r.longest.max(s.longest),
     }
 }
@@ -99,16 +99,16 @@ fn is_long(label: &Label<'_>) -> bool {
 fn long_reach(source: &str, label: &Label<'_>) -> Reach {
     let start = label.extent.start;
     let end = label.extent.end;
-    let from = if end.line > start.line + 1 {
+    let first_column = if end.line > start.line + 1 {
         0
     } else {
         start.column.min(end.column.saturating_sub(1))
     };
     let first = line_columns(source, start.line);
     Reach {
-        from,
-        to: end.column.max(start.column + 1),
-        end: (end.column + text_columns(label.text)).max(start.column + 1),
+        start: first_column,
+        end: end.column.max(start.column + 1),
+        text_end: (end.column + text_columns(label.text)).max(start.column + 1),
         longest: first.max(line_columns(source, end.line)),
     }
 }
@@ -134,9 +134,9 @@ fn reach_on(source: &str, known: Measured, first: Reach, labels: &[Label<'_>]) -
 fn reach_of(source: &str, labels: &[Label<'_>]) -> Reach {
     match labels {
         [] => Reach {
-            from: 0,
-            to: 0,
+            start: 0,
             end: 0,
+            text_end: 0,
             longest: 0,
         },
         [label] => {
@@ -172,43 +172,43 @@ fn cut_of(indent: usize) -> usize {
     }
 }
 
-/// Returns the window that begins after `left` columns.
+/// Returns the window that begins after `start` columns.
 #[inline]
-fn window_at(left: usize, columns: usize) -> Window {
+fn window_at(start: usize, columns: usize) -> Window {
     Window {
-        left,
+        start,
         room: columns,
-        most: columns,
+        limit: columns,
     }
 }
 
 /// Returns the window around labels, of lines that do not fit into `room` columns.
 #[inline]
 fn window_around(room: usize, indent: usize, reach: Reach) -> Window {
-    let from = reach.from.saturating_sub(6);
-    let texts = (reach.end + 6).saturating_sub(from);
-    let labels = (reach.to + 6).saturating_sub(from);
+    let start = reach.start.saturating_sub(6);
+    let texts = (reach.text_end + 6).saturating_sub(start);
+    let labels = (reach.end + 6).saturating_sub(start);
     let lead = indent.saturating_sub(6);
-    if (reach.end + 6).saturating_sub(lead) <= room {
+    if (reach.text_end + 6).saturating_sub(lead) <= room {
         window_at(lead, room)
     } else if texts <= room {
-        window_at(from.saturating_sub((room - texts) / 2), room)
+        window_at(start.saturating_sub((room - texts) / 2), room)
     } else if labels <= room {
-        window_at(from.saturating_sub((room - labels) / 5 * 2), room)
+        window_at(start.saturating_sub((room - labels) / 5 * 2), room)
     } else {
-        window_at(from, labels)
+        window_at(start, labels)
     }
 }
 
 /// Returns the window of so much room for lines with labels of a reach and an indent.
 #[inline]
 fn window(room: usize, indent: usize, reach: Reach) -> Window {
-    let left = cut_of(indent);
-    let most = reach.longest.saturating_sub(left);
-    if most > room {
+    let start = cut_of(indent);
+    let limit = reach.longest.saturating_sub(start);
+    if limit > room {
         return window_around(room, indent, reach);
     }
-    Window { left, room, most }
+    Window { start, room, limit }
 }
 
 /// Returns the window for labels, of lines with this indent.

@@ -9,9 +9,9 @@ pub struct Mark<'a> {
     /// The number of the line, counted from 0.
     pub line: usize,
     /// The first column of the label.
-    pub from: usize,
+    pub start: usize,
     /// The first column after the label.
-    pub to: usize,
+    pub end: usize,
     /// The sign under its columns.
     pub sign: char,
     /// Its text.

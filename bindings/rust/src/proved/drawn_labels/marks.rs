@@ -7,7 +7,7 @@
 use crate::proved::drawn_labels::cells::{
     put_after, put_at, put_from, put_run_at, put_written, style_of, text_style, Cell,
 };
-use crate::proved::drawn_labels::hanging::{depth, hang, has_text, Hung};
+use crate::proved::drawn_labels::hanging::{depth, hang, has_text, HungLabel};
 use crate::proved::drawn_labels::mark::Mark;
 use crate::proved::drawn_labels::order::covered_first;
 use crate::proved::drawn_lines::{put_gutter, Gutter};
@@ -16,17 +16,17 @@ use crate::shim::prelude::*;
 
 /// Puts the text of a label that stands right of its signs into a row.
 #[inline]
-fn put_side_text(row: &mut Vec<Cell>, hung: &Hung<'_>) -> Result<(), AllocError> {
+fn put_side_text(row: &mut Vec<Cell>, hung: &HungLabel<'_>) -> Result<(), AllocError> {
     let mark = &hung.mark;
     if has_text(mark) && hung.down == 0 {
-        put_after(row, mark.to, text_style(mark), mark.text)?;
+        put_after(row, mark.end, text_style(mark), mark.text)?;
     }
     Ok(())
 }
 
 /// Puts the texts of labels that stand right of their signs into a row.
 #[inline]
-fn put_side_texts(row: &mut Vec<Cell>, hung: &[Hung<'_>]) -> Result<(), AllocError> {
+fn put_side_texts(row: &mut Vec<Cell>, hung: &[HungLabel<'_>]) -> Result<(), AllocError> {
     for first in hung {
         put_side_text(row, first)?;
     }
@@ -38,8 +38,8 @@ fn put_side_texts(row: &mut Vec<Cell>, hung: &[Hung<'_>]) -> Result<(), AllocErr
 fn put_signs_of(row: &mut Vec<Cell>, mark: &Mark<'_>) -> Result<(), AllocError> {
     let style = style_of(mark);
     let character = mark.sign;
-    let columns = mark.to.saturating_sub(mark.from);
-    put_run_at(row, mark.from, columns, Cell { character, style })?;
+    let columns = mark.end.saturating_sub(mark.start);
+    put_run_at(row, mark.start, columns, Cell { character, style })?;
     Ok(())
 }
 
@@ -54,7 +54,7 @@ fn put_signs(row: &mut Vec<Cell>, marks: &[Mark<'_>]) -> Result<(), AllocError> 
 
 /// Returns the row of signs of labels, with the texts right of them.
 #[inline]
-fn sign_row(marks: &[Mark<'_>], hung: &[Hung<'_>]) -> Result<Vec<Cell>, AllocError> {
+fn sign_row(marks: &[Mark<'_>], hung: &[HungLabel<'_>]) -> Result<Vec<Cell>, AllocError> {
     let mut row = Vec::new();
     put_side_texts(&mut row, hung)?;
     let covered = covered_first(marks)?;
@@ -64,18 +64,18 @@ fn sign_row(marks: &[Mark<'_>], hung: &[Hung<'_>]) -> Result<Vec<Cell>, AllocErr
 
 /// Puts the bar of a label that hangs more than `n` rows down into a row.
 #[inline]
-fn put_bar(row: &mut Vec<Cell>, n: usize, hung: &Hung<'_>) -> Result<(), AllocError> {
+fn put_bar(row: &mut Vec<Cell>, n: usize, hung: &HungLabel<'_>) -> Result<(), AllocError> {
     if has_text(&hung.mark) && n < hung.down {
         let style = style_of(&hung.mark);
         let character = '|';
-        put_at(row, hung.mark.from, Cell { character, style })?;
+        put_at(row, hung.mark.start, Cell { character, style })?;
     }
     Ok(())
 }
 
 /// Puts the bars of labels into the row with `n` rows between it and the signs.
 #[inline]
-fn put_bars(row: &mut Vec<Cell>, n: usize, hung: &[Hung<'_>]) -> Result<(), AllocError> {
+fn put_bars(row: &mut Vec<Cell>, n: usize, hung: &[HungLabel<'_>]) -> Result<(), AllocError> {
     for first in hung {
         put_bar(row, n, first)?;
     }
@@ -84,17 +84,17 @@ fn put_bars(row: &mut Vec<Cell>, n: usize, hung: &[Hung<'_>]) -> Result<(), Allo
 
 /// Puts the text of a label that hangs `n` rows down into a row.
 #[inline]
-fn put_hung_text(row: &mut Vec<Cell>, n: usize, hung: &Hung<'_>) -> Result<(), AllocError> {
+fn put_hung_text(row: &mut Vec<Cell>, n: usize, hung: &HungLabel<'_>) -> Result<(), AllocError> {
     let mark = &hung.mark;
     if has_text(mark) && hung.down > 0 && n == hung.down {
-        put_from(row, mark.from, text_style(mark), mark.text)?;
+        put_from(row, mark.start, text_style(mark), mark.text)?;
     }
     Ok(())
 }
 
 /// Puts the texts of labels that hang `n` rows down into a row.
 #[inline]
-fn put_hung_texts(row: &mut Vec<Cell>, n: usize, hung: &[Hung<'_>]) -> Result<(), AllocError> {
+fn put_hung_texts(row: &mut Vec<Cell>, n: usize, hung: &[HungLabel<'_>]) -> Result<(), AllocError> {
     for first in hung {
         put_hung_text(row, n, first)?;
     }
@@ -103,7 +103,7 @@ fn put_hung_texts(row: &mut Vec<Cell>, n: usize, hung: &[Hung<'_>]) -> Result<()
 
 /// Returns the row with `n` rows between it and the signs.
 #[inline]
-fn hung_row(n: usize, hung: &[Hung<'_>]) -> Result<Vec<Cell>, AllocError> {
+fn hung_row(n: usize, hung: &[HungLabel<'_>]) -> Result<Vec<Cell>, AllocError> {
     let mut row = Vec::new();
     put_bars(&mut row, n, hung)?;
     put_hung_texts(&mut row, n, hung)?;
@@ -125,7 +125,7 @@ fn put_hung_rows(
     out: &mut String,
     gutter: Gutter,
     count: usize,
-    hung: &[Hung<'_>],
+    hung: &[HungLabel<'_>],
 ) -> Result<(), AllocError> {
     for above in 0..count {
         let row = hung_row(above, hung)?;
@@ -140,7 +140,7 @@ fn put_rows_below(
     out: &mut String,
     gutter: Gutter,
     most: usize,
-    hung: &[Hung<'_>],
+    hung: &[HungLabel<'_>],
 ) -> Result<(), AllocError> {
     if most == 0 {
         return Ok(());
@@ -157,7 +157,7 @@ fn put_rows_of(
     out: &mut String,
     gutter: Gutter,
     marks: &[Mark<'_>],
-    hung: &[Hung<'_>],
+    hung: &[HungLabel<'_>],
 ) -> Result<(), AllocError> {
     let row = sign_row(marks, hung)?;
     put_row(out, gutter, &row)?;

@@ -15,10 +15,10 @@ use crate::shim::prelude::*;
 /// Returns the sign in a column under two labels, of which `m` covers `n`.
 #[inline]
 fn sign_at(m: &Mark<'_>, n: &Mark<'_>, column: usize) -> Cell {
-    if m.from <= column && column < m.to {
+    if m.start <= column && column < m.end {
         let (character, style) = (m.sign, style_of(m));
         Cell { character, style }
-    } else if n.from <= column && column < n.to {
+    } else if n.start <= column && column < n.end {
         let (character, style) = (n.sign, style_of(n));
         Cell { character, style }
     } else {
@@ -55,7 +55,7 @@ fn put_signs(
     if has_colours(palette) {
         return Ok(put_coloured_signs(out, palette, m, n, columns)?);
     }
-    let lead = m.from.min(n.from).min(columns);
+    let lead = m.start.min(n.start).min(columns);
     put_run(out, ' ', lead)?;
     for column in lead..columns {
         out.try_push(sign_at(m, n, column).character)?;
@@ -71,10 +71,10 @@ fn put_bars(
     m: &Mark<'_>,
     columns: usize,
 ) -> Result<(), AllocError> {
-    if m.from < columns {
-        put_run(out, ' ', m.from)?;
+    if m.start < columns {
+        put_run(out, ' ', m.start)?;
         put_painted(out, palette, style_of(m), "|")?;
-        put_run(out, ' ', columns - m.from - 1)?;
+        put_run(out, ' ', columns - m.start - 1)?;
     } else {
         put_run(out, ' ', columns)?;
     }
@@ -91,7 +91,7 @@ fn put_label_text(out: &mut String, palette: Palette, m: &Mark<'_>) -> Result<()
 /// Adds the signs of a label and its text after them.
 #[inline]
 fn put_pointed(out: &mut String, palette: Palette, m: &Mark<'_>) -> Result<(), AllocError> {
-    let columns = m.to.saturating_sub(m.from);
+    let columns = m.end.saturating_sub(m.start);
     put_painted_run(out, palette, style_of(m), m.sign, columns)?;
     out.try_push_str(" ")?;
     put_label_text(out, palette, m)?;
@@ -101,7 +101,7 @@ fn put_pointed(out: &mut String, palette: Palette, m: &Mark<'_>) -> Result<(), A
 /// Adds a label that is alone, from the first column on.
 #[inline]
 fn put_alone(out: &mut String, palette: Palette, m: &Mark<'_>) -> Result<(), AllocError> {
-    put_run(out, ' ', m.from)?;
+    put_run(out, ' ', m.start)?;
     put_pointed(out, palette, m)?;
     Ok(())
 }
@@ -119,7 +119,7 @@ pub fn put_one(out: &mut String, gutter: Gutter, m: &Mark<'_>) -> Result<(), All
 #[inline]
 fn put_bar_alone(out: &mut String, gutter: Gutter, m: &Mark<'_>) -> Result<(), AllocError> {
     put_gutter(out, gutter)?;
-    put_run(out, ' ', m.from)?;
+    put_run(out, ' ', m.start)?;
     put_painted(out, gutter.palette, style_of(m), "|")?;
     out.try_push_str("\n")?;
     Ok(())
@@ -129,7 +129,7 @@ fn put_bar_alone(out: &mut String, gutter: Gutter, m: &Mark<'_>) -> Result<(), A
 #[inline]
 fn put_text_alone(out: &mut String, gutter: Gutter, m: &Mark<'_>) -> Result<(), AllocError> {
     put_gutter(out, gutter)?;
-    put_run(out, ' ', m.from)?;
+    put_run(out, ' ', m.start)?;
     put_label_text(out, gutter.palette, m)?;
     out.try_push_str("\n")?;
     Ok(())
@@ -138,7 +138,7 @@ fn put_text_alone(out: &mut String, gutter: Gutter, m: &Mark<'_>) -> Result<(), 
 /// Returns the style of the bar of the label `r`, where there is one of `l` too.
 #[inline]
 fn bar_style(l: &Mark<'_>, r: &Mark<'_>) -> Style {
-    if l.from < r.from {
+    if l.start < r.start {
         style_of(r)
     } else {
         style_of(l)
@@ -154,7 +154,7 @@ fn put_two_bars(
     r: &Mark<'_>,
 ) -> Result<(), AllocError> {
     put_gutter(out, gutter)?;
-    put_bars(out, gutter.palette, l, r.from)?;
+    put_bars(out, gutter.palette, l, r.start)?;
     put_painted(out, gutter.palette, bar_style(l, r), "|")?;
     out.try_push_str("\n")?;
     Ok(())
@@ -169,7 +169,7 @@ fn put_bar_and_text(
     r: &Mark<'_>,
 ) -> Result<(), AllocError> {
     put_gutter(out, gutter)?;
-    put_bars(out, gutter.palette, l, r.from)?;
+    put_bars(out, gutter.palette, l, r.start)?;
     put_label_text(out, gutter.palette, r)?;
     out.try_push_str("\n")?;
     Ok(())
@@ -178,7 +178,7 @@ fn put_bar_and_text(
 /// Returns whether the label `m` is covered by the label `n`.
 #[inline]
 pub fn is_covered(m: &Mark<'_>, n: &Mark<'_>) -> bool {
-    let (long, short) = (m.to.saturating_sub(m.from), n.to.saturating_sub(n.from));
+    let (long, short) = (m.end.saturating_sub(m.start), n.end.saturating_sub(n.start));
     short < long || (short == long && m.sign < n.sign)
 }
 
@@ -190,7 +190,7 @@ fn put_covering(
     l: &Mark<'_>,
     r: &Mark<'_>,
 ) -> Result<(), AllocError> {
-    let columns = l.to.max(r.to);
+    let columns = l.end.max(r.end);
     if is_covered(r, l) {
         put_signs(out, palette, l, r, columns)?;
     } else {
@@ -237,7 +237,7 @@ fn put_signs_and_text(
     r: &Mark<'_>,
 ) -> Result<(), AllocError> {
     put_gutter(out, gutter)?;
-    put_signs(out, gutter.palette, l, r, r.to)?;
+    put_signs(out, gutter.palette, l, r, r.end)?;
     out.try_push_str(" ")?;
     put_label_text(out, gutter.palette, r)?;
     out.try_push_str("\n")?;
@@ -261,7 +261,7 @@ fn put_hanging(
 /// Returns how many columns are between the text of the label `l` and the label `r`.
 #[inline]
 fn columns_between(l: &Mark<'_>, r: &Mark<'_>) -> usize {
-    let rest_after = r.from.saturating_sub(l.to);
+    let rest_after = r.start.saturating_sub(l.end);
     rest_after.saturating_sub(1).saturating_sub(l.text.len())
 }
 
@@ -289,9 +289,9 @@ fn put_pair(
     l: &Mark<'_>,
     r: &Mark<'_>,
 ) -> Result<(), AllocError> {
-    if r.from < l.to {
+    if r.start < l.end {
         put_overlapping(out, gutter, l, r)?;
-    } else if (r.from - l.to).saturating_sub(1) <= l.text.len() {
+    } else if (r.start - l.end).saturating_sub(1) <= l.text.len() {
         put_hanging(out, gutter, l, r)?;
     } else {
         put_beside(out, gutter, l, r)?;
@@ -307,7 +307,7 @@ pub fn put_both(
     m: &Mark<'_>,
     n: &Mark<'_>,
 ) -> Result<(), AllocError> {
-    if m.from < n.from {
+    if m.start < n.start {
         put_pair(out, gutter, m, n)?;
     } else {
         put_pair(out, gutter, n, m)?;

@@ -78,7 +78,7 @@ fn put_after_bar(
     text: &str,
     window: Window,
 ) -> Result<(), AllocError> {
-    if window.left > 0 || !draws_nothing(text) {
+    if window.start > 0 || !draws_nothing(text) {
         out.try_push_str(front)?;
         put_shown(out, palette, window, text)?;
     }

@@ -18,11 +18,11 @@ use crate::shim::prelude::*;
 #[derive(Clone, Copy)]
 pub struct Window {
     /// How many columns at the start of each line are cut.
-    pub left: usize,
+    pub start: usize,
     /// How many columns of a line are drawn right of these without a cut.
     pub room: usize,
     /// How many columns are drawn of a line that has more.
-    pub most: usize,
+    pub limit: usize,
 }
 
 /// Returns how many columns a text takes.
@@ -73,7 +73,8 @@ struct Countdown {
     rest: usize,
 }
 
-/// Leaves the first `count` columns of a text out, of the same character so often at its start.
+/// Leaves out up to `count` columns of a character that stands `times` times at the start of a
+/// text.
 #[inline]
 fn left_out_of_run(count: usize, times: usize, character: char) -> Countdown {
     let mut countdown = count;
@@ -112,10 +113,10 @@ fn left_out(text: &str, count: usize) -> usize {
 /// Returns how many columns at the start of a line of the source are cut.
 #[inline]
 pub fn shift(frame: &Frame<'_>, number: usize) -> usize {
-    if frame.window.left == 0 {
+    if frame.window.start == 0 {
         return 0;
     }
-    left_out(line(frame.picture.source, number), frame.window.left)
+    left_out(line(frame.picture.source, number), frame.window.start)
 }
 
 /// Adds the first characters of a text, as many as end within `count` columns.
@@ -142,9 +143,9 @@ fn put_in_window(
     is_wide: bool,
     row: &str,
 ) -> Result<(), AllocError> {
-    let Cut { rest, .. } = past_columns(row, window.left);
+    let Cut { rest, .. } = past_columns(row, window.start);
     if is_wide {
-        put_within(out, rest, window.most)?;
+        put_within(out, rest, window.limit)?;
     } else {
         out.try_push_str(rest)?;
     }
@@ -160,7 +161,7 @@ fn put_dots_before<'a>(
     window: Window,
     part: &'a str,
 ) -> Result<&'a str, AllocError> {
-    if window.left == 0 {
+    if window.start == 0 {
         return Ok(part);
     }
     let Cut { rest, columns } = past_columns(part, 3);
@@ -232,11 +233,11 @@ pub fn put_shown(
         return crate::shim::alloc::refuse();
     }
     let (front, rest) = split_printable(text, text.len());
-    if window.left == 0 && rest.is_empty() && front.len() <= window.room {
+    if window.start == 0 && rest.is_empty() && front.len() <= window.room {
         return Ok(out.try_push_str(front)?);
     }
-    let is_wide = columns(text).saturating_sub(window.left) > window.room;
-    if window.left == 0 && !is_wide {
+    let is_wide = columns(text).saturating_sub(window.start) > window.room;
+    if window.start == 0 && !is_wide {
         return Ok(put_glyphs(out, text, 0)?);
     }
     let mut row = String::new();

@@ -179,8 +179,8 @@ struct AllEdits {
     has_edits: bool,
 }
 
-/// Returns a text with the edits of the errors of all calls of a parser without errors, in a mode.
-/// The text starts at the byte offset `at`.
+/// Returns a text with the edits, in a mode, of all errors that the calls of a parser find, which
+/// has none yet. The text starts at the byte offset `at`.
 #[inline]
 fn edit_all(
     mode: ParseMode,

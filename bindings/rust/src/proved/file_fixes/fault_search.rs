@@ -13,8 +13,8 @@ fn is_alike(old: &Finding, new: &Finding) -> bool {
     old.id == new.id && old.title == new.title
 }
 
-/// Returns the index after the first fault with the id and title of this one, from an index on, or
-/// `None` if there is none.
+/// Returns the index after that of the first fault, from the index `from` on, with the id and title
+/// of this one, or `None` if there is none.
 #[inline]
 fn index_after(finding: &Finding, faults: &[Finding], from: usize) -> Option<usize> {
     let mut index = from;
@@ -27,8 +27,8 @@ fn index_after(finding: &Finding, faults: &[Finding], from: usize) -> Option<usi
     None
 }
 
-/// Returns where the last edit ends after those of a fault, if it is mended where the last edit
-/// before it ends at `at`, or `None` if it is not mended.
+/// Returns where the last edit of a fault ends, or `None` if the fault is not mended. The last edit
+/// before these ends at `at`.
 #[inline]
 fn mended_end(at: usize, finding: &Finding) -> Result<Option<usize>, AllocError> {
     let edits = edits_of(finding)?;

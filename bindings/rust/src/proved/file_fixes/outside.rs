@@ -43,7 +43,7 @@ fn old_parts(edits: &[Edit<'_>]) -> Result<Vec<EditedPart>, AllocError> {
     Ok(parts)
 }
 
-/// Returns the parts of the edited text that stand in their place.
+/// Returns the parts of the edited text that edits put into it.
 #[inline]
 fn new_parts(edits: &[Edit<'_>]) -> Result<Vec<EditedPart>, AllocError> {
     let mut parts = Vec::new();
@@ -64,8 +64,7 @@ fn ends_by(at: usize, end: usize, part: EditedPart) -> bool {
     end <= at && part.gap <= at - end && part.width <= at - end - part.gap
 }
 
-/// Returns the place in front of the first part that does not end by the offset `at`, or the one it
-/// is at if that is further on.
+/// Returns the place after the place `from` and after all parts that end by the offset `at`.
 #[inline]
 fn ahead_of(at: usize, from: PartsAhead, parts: &[EditedPart]) -> PartsAhead {
     let mut ahead = from;
@@ -89,7 +88,7 @@ fn is_before(at: usize, ahead: PartsAhead, parts: &[EditedPart]) -> bool {
     }
 }
 
-/// Returns a token n bytes further in front.
+/// Returns a token, moved n bytes towards the start of the text.
 #[inline]
 fn moved_up(n: usize, token: &Token) -> Token {
     Token {

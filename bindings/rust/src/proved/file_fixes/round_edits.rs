@@ -18,8 +18,8 @@ pub(crate) fn end_after(at: usize, edits: &[Edit<'_>]) -> usize {
     end
 }
 
-/// Adds the edits of a fault, if it is mended, where the last edit ends at `at`, and returns where
-/// the last one ends then.
+/// Adds the edits of a fault if it is mended. The last edit before them ends at `at`. Returns where
+/// the last edit ends now, or `Err` if an allocation fails.
 #[inline]
 fn add_edits<'f>(
     all: &mut Vec<Edit<'f>>,

@@ -109,12 +109,12 @@ fn with_round(fixed: FileFixes, round: Round) -> Result<FileFixes, AllocError> {
 /// rustc calls applicable by a machine, but for two: an argument that can be removed, since a comma
 /// stays, and the macro `dbg!` in the place of another one.
 ///
-/// In a round the suggestions of all faults are applied whose edits follow each other, and then
-/// those of the new report, in at most sixteen rounds. A round is left out if the file then breaks,
-/// has another number of calls, more faults, or other tokens where no edit is, or if a fault that
-/// it does not mend is gone: so a round changes only the tokens that its edits touch, the other
-/// faults stay, and at most as many new ones come as it mends. Nothing is fixed in a file that
-/// breaks.
+/// A round applies the suggestions of all faults whose edits follow each other. The next round does
+/// the same with the new report; there are at most sixteen. A round is left out, and none follows,
+/// if the file then breaks, has another number of calls, more faults, or other tokens where no edit
+/// is, or if a fault that it does not mend is gone. So a round changes only the tokens that its
+/// edits touch, the other faults stay, and at most as many new ones come as it mends. Nothing is
+/// fixed in a file that breaks.
 #[inline]
 pub fn fixes(text: &str, options: &Options<'_>) -> Result<FileFixes, AllocError> {
     let mut fixed = FileFixes {

@@ -53,7 +53,7 @@ pub(crate) struct InlinedCalls {
 #[inline]
 fn is_format_alone(rule: Rule, name: &[u8], is_from_2021: bool) -> bool {
     match rule {
-        Rule::At(_) => is_standard(name),
+        Rule::Index(_) => is_standard(name),
         Rule::IndexByEdition(_) => is_from_2021,
         Rule::FirstLiteral => true,
         Rule::Templates => false,
@@ -211,7 +211,7 @@ fn inline_one(
 ) -> Result<InlinedCall, AllocError> {
     match call.rule {
         Rule::Templates => Ok(unchanged_call(CallInlining::Assembly)),
-        Rule::At(_) | Rule::IndexByEdition(_) | Rule::FirstLiteral => {
+        Rule::Index(_) | Rule::IndexByEdition(_) | Rule::FirstLiteral => {
             inline_at(file, part, call, arguments, index, allows_mixed)
         }
     }
@@ -222,7 +222,7 @@ fn inline_one(
 fn is_unread(rule: Rule, reading: CallReading) -> bool {
     match rule {
         Rule::Templates => false,
-        Rule::At(_) | Rule::IndexByEdition(_) | Rule::FirstLiteral => {
+        Rule::Index(_) | Rule::IndexByEdition(_) | Rule::FirstLiteral => {
             !matches!(reading, CallReading::Whole | CallReading::StringAlone)
         }
     }

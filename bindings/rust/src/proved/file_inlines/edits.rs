@@ -6,7 +6,7 @@
 use crate::proved::asm_lint::{dropped_crs, offset_in, without_crs};
 use crate::proved::file_inlines::sources::removal_range;
 use crate::proved::format_calls::Argument;
-use crate::proved::inlined_arguments::{apply_edits, Edit, Inlined};
+use crate::proved::inlined_arguments::{apply_edits, Edit, InlinedCall};
 use crate::proved::rust_trees::Token;
 use crate::proved::source_lint::argument_at;
 use crate::shim::alloc::AllocError;
@@ -84,7 +84,10 @@ fn is_literal(token: &str, literal: &str) -> Result<bool, AllocError> {
 /// Returns the edits of the literal that a token is, as edits of its file, or `None` if the token
 /// with them is not the new literal.
 #[inline]
-fn literal_edits(literal: Token<'_>, inlining: &Inlined) -> Result<Option<Vec<Edit>>, AllocError> {
+fn literal_edits(
+    literal: Token<'_>,
+    inlining: &InlinedCall,
+) -> Result<Option<Vec<Edit>>, AllocError> {
     let crs = dropped_crs(literal.text)?;
     let inside = in_token(&crs, inlining.edits.as_slice())?;
     let Some(new) = apply_edits(literal.text, &inside)? else {
@@ -104,7 +107,7 @@ pub(crate) fn edits_of(
     tokens: &[Token<'_>],
     literal: Token<'_>,
     arguments: &[Argument],
-    inlining: &Inlined,
+    inlining: &InlinedCall,
 ) -> Result<Option<Vec<Edit>>, AllocError> {
     let Some(mut edits) = literal_edits(literal, inlining)? else {
         return Ok(None);
@@ -114,7 +117,7 @@ pub(crate) fn edits_of(
         text,
         tokens,
         arguments,
-        inlining.gone.as_slice(),
+        inlining.removed_indices.as_slice(),
     )?;
     Ok(Some(edits))
 }

@@ -99,7 +99,7 @@ fn excerpt_of<'a>(
     range: &Range<usize>,
 ) -> Result<Option<Excerpt<'a>>, AllocError> {
     let from = file.text.boundary_at_most(range.start);
-    let place = file.places.at(from);
+    let place = file.places.place_of(from);
     if range.end.saturating_sub(range.start) > MOST || place.column > MOST {
         return Ok(None);
     }

@@ -86,8 +86,8 @@ fn span_of<'a>(file: &File<'a>, form: Form, range: &Range<usize>) -> Span<'a> {
     Span {
         byte_start,
         byte_end,
-        start: file.places.at(byte_start),
-        end: file.places.at(byte_end),
+        start: file.places.place_of(byte_start),
+        end: file.places.place_of(byte_end),
         lines,
         is_primary: true,
         label: None,

@@ -12,7 +12,7 @@ use crate::shim::prelude::*;
 
 /// A kind of token that arguments are searched for.
 #[derive(Clone, Copy)]
-pub enum Wanted {
+pub enum Target {
     /// `$`, which begins a variable of a macro, or `#`, which does so in `quote!`.
     Variable,
     /// The word `raw`.
@@ -21,16 +21,16 @@ pub enum Wanted {
 
 /// Returns whether arguments are searched for this token.
 #[inline]
-fn is_wanted(wanted: Wanted, token: &Token<'_>) -> bool {
+fn is_wanted(wanted: Target, token: &Token<'_>) -> bool {
     match wanted {
-        Wanted::Variable => is_mark_of(token, b'$') || is_mark_of(token, b'#'),
-        Wanted::Raw => is_text(token, "raw"),
+        Target::Variable => is_mark_of(token, b'$') || is_mark_of(token, b'#'),
+        Target::Raw => is_text(token, "raw"),
     }
 }
 
 /// Returns whether one of these tokens is wanted.
 #[inline]
-fn is_one_wanted(tokens: &[Token<'_>], wanted: Wanted) -> bool {
+fn is_one_wanted(tokens: &[Token<'_>], wanted: Target) -> bool {
     for token in tokens {
         if is_wanted(wanted, token) {
             return true;
@@ -42,7 +42,7 @@ fn is_one_wanted(tokens: &[Token<'_>], wanted: Wanted) -> bool {
 /// Returns for each number of tokens from the first one on how many of them end with the last one
 /// that is wanted, or nothing if none is.
 #[inline]
-fn last_ones(tokens: &[Token<'_>], wanted: Wanted) -> Result<Vec<usize>, AllocError> {
+fn last_ones(tokens: &[Token<'_>], wanted: Target) -> Result<Vec<usize>, AllocError> {
     let mut counts = Vec::new();
     if !is_one_wanted(tokens, wanted) {
         return Ok(counts);
@@ -81,8 +81,8 @@ impl<'a> Part<'a> {
     /// Reads the tokens of a part.
     #[inline]
     pub(crate) fn new(source: Source<'a>) -> Result<Self, AllocError> {
-        let variables = last_ones(source.tokens(), Wanted::Variable)?;
-        let raws = last_ones(source.tokens(), Wanted::Raw)?;
+        let variables = last_ones(source.tokens(), Target::Variable)?;
+        let raws = last_ones(source.tokens(), Target::Raw)?;
         Ok(Part {
             source,
             variables,

@@ -13,7 +13,7 @@ use crate::proved::rust_trees::{Source, Token};
 #[derive(Clone, Copy, Debug, Eq, PartialEq)]
 pub enum Reason {
     /// There are too few arguments for one.
-    Missing,
+    NoArgument,
     /// Before the edition 2021 the last argument of some macros is any expression.
     Edition,
     /// It is a variable of a macro, which `$` begins, or `#` in `quote!`.
@@ -94,7 +94,7 @@ fn string_at(
     is_last_none: bool,
 ) -> Result<usize, Reason> {
     if index >= arguments.len() {
-        return Err(Reason::Missing);
+        return Err(Reason::NoArgument);
     }
     let argument = &arguments[index];
     if is_last_none && index + 1 == arguments.len() {
@@ -117,7 +117,7 @@ pub fn format_string(
 ) -> Result<usize, Reason> {
     let tokens = source.tokens();
     match rule {
-        Rule::At(index) => string_at(tokens, arguments, index, false),
+        Rule::Index(index) => string_at(tokens, arguments, index, false),
         Rule::Templates => string_at(tokens, arguments, 0, false),
         Rule::IndexByEdition(index) => string_at(tokens, arguments, index, !is_from_2021),
         Rule::FirstLiteral => match first_text(tokens, arguments) {

@@ -11,7 +11,7 @@ use crate::shim::prelude::*;
 #[derive(Clone, Copy, Debug, Eq, PartialEq)]
 pub enum Rule {
     /// The argument with this index.
-    At(usize),
+    Index(usize),
     /// The argument with this index. Before the edition 2021 it is any expression if it is the
     /// last.
     IndexByEdition(usize),
@@ -41,35 +41,35 @@ pub struct Table<'a> {
 const STANDARD: [Row<'static>; 23] = [
     Row {
         name: "format",
-        rule: Rule::At(0),
+        rule: Rule::Index(0),
     },
     Row {
         name: "format_args",
-        rule: Rule::At(0),
+        rule: Rule::Index(0),
     },
     Row {
         name: "print",
-        rule: Rule::At(0),
+        rule: Rule::Index(0),
     },
     Row {
         name: "println",
-        rule: Rule::At(0),
+        rule: Rule::Index(0),
     },
     Row {
         name: "eprint",
-        rule: Rule::At(0),
+        rule: Rule::Index(0),
     },
     Row {
         name: "eprintln",
-        rule: Rule::At(0),
+        rule: Rule::Index(0),
     },
     Row {
         name: "write",
-        rule: Rule::At(1),
+        rule: Rule::Index(1),
     },
     Row {
         name: "writeln",
-        rule: Rule::At(1),
+        rule: Rule::Index(1),
     },
     Row {
         name: "panic",
@@ -81,11 +81,11 @@ const STANDARD: [Row<'static>; 23] = [
     },
     Row {
         name: "todo",
-        rule: Rule::At(0),
+        rule: Rule::Index(0),
     },
     Row {
         name: "unimplemented",
-        rule: Rule::At(0),
+        rule: Rule::Index(0),
     },
     Row {
         name: "assert",
@@ -97,27 +97,27 @@ const STANDARD: [Row<'static>; 23] = [
     },
     Row {
         name: "assert_eq",
-        rule: Rule::At(2),
+        rule: Rule::Index(2),
     },
     Row {
         name: "assert_ne",
-        rule: Rule::At(2),
+        rule: Rule::Index(2),
     },
     Row {
         name: "debug_assert_eq",
-        rule: Rule::At(2),
+        rule: Rule::Index(2),
     },
     Row {
         name: "debug_assert_ne",
-        rule: Rule::At(2),
+        rule: Rule::Index(2),
     },
     Row {
         name: "assert_matches",
-        rule: Rule::At(2),
+        rule: Rule::Index(2),
     },
     Row {
         name: "debug_assert_matches",
-        rule: Rule::At(2),
+        rule: Rule::Index(2),
     },
     Row {
         name: "asm",
@@ -169,23 +169,23 @@ const CRATES: [Row<'static>; 13] = [
     },
     Row {
         name: "anyhow",
-        rule: Rule::At(0),
+        rule: Rule::Index(0),
     },
     Row {
         name: "eyre",
-        rule: Rule::At(0),
+        rule: Rule::Index(0),
     },
     Row {
         name: "format_err",
-        rule: Rule::At(0),
+        rule: Rule::Index(0),
     },
     Row {
         name: "bail",
-        rule: Rule::At(0),
+        rule: Rule::Index(0),
     },
     Row {
         name: "ensure",
-        rule: Rule::At(1),
+        rule: Rule::Index(1),
     },
 ];
 

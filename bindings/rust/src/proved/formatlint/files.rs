@@ -31,8 +31,8 @@ const CHUNK: usize = 1 << 16;
 pub struct Request<'a> {
     /// The paths of files and folders.
     pub paths: &'a [&'a str],
-    /// The names of files and folders that are excluded.
-    pub excluded: &'a [&'a str],
+    /// The names of files and folders to leave out.
+    pub excluded_names: &'a [&'a str],
     /// The path that is shown for standard input.
     pub stdin_path: Option<&'a str>,
     /// The form of messages.
@@ -179,14 +179,14 @@ fn tell_end(
     extent: Extent,
     report: &Report,
 ) {
-    let end = file.places.at(file.text.len());
+    let end = file.places.place_of(file.text.len());
     match extent {
         Extent::Text => totals.fail_at(rt, file.path, end, "not UTF-8"),
         Extent::Front => totals.fail_at(rt, file.path, end, "longer than 64 MiB"),
         Extent::Whole => {
             if let Some(first_break) = &report.first_break {
                 let start = file.text.boundary_at_most(first_break.start);
-                let place = file.places.at(start);
+                let place = file.places.place_of(start);
                 totals.fail_at(rt, file.path, place, break_words(first_break.kind));
             }
         }
@@ -379,7 +379,7 @@ impl<'a> Run<'a> {
         rt: &crate::shim::host::HostRuntime,
         path: &str,
     ) -> Result<(), Failure> {
-        let mut walk = Walk::new(path, self.request.excluded)?;
+        let mut walk = Walk::new(path, self.request.excluded_names)?;
         for _ in 0..u64::MAX {
             match walk.next(rt, &mut self.totals)? {
                 Some(path) => self.lint_file(rt, path.as_str())?,

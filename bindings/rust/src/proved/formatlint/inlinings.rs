@@ -4,7 +4,7 @@
 // That source has the contracts, and is proved. That this text means the same is only tested.
 
 use crate::proved::file_inlines::CallInlining;
-use crate::proved::formatlint::rewrites::Rewritten;
+use crate::proved::formatlint::rewrites::RewrittenFile;
 use crate::proved::inlined_arguments::Obstacle;
 
 /// The numbers of calls that are inlined, and of those that are left, by the reason.
@@ -69,7 +69,7 @@ impl Inlinings {
 
     /// Counts the calls of a file.
     #[inline]
-    pub fn add(&mut self, file: &Rewritten) {
+    pub fn add(&mut self, file: &RewrittenFile) {
         for call in &file.calls {
             match *call {
                 CallInlining::Inlined if file.has_inlines => count(&mut self.inlined),

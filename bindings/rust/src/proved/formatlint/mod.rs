@@ -196,7 +196,7 @@ fn files_status(
     }
     let request = Request {
         paths,
-        excluded: matches.get_strs("exclude").unwrap_or(&[]),
+        excluded_names: matches.get_strs("exclude").unwrap_or(&[]),
         stdin_path,
         form: form_of(
             matches,

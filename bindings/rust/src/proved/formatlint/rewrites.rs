@@ -21,7 +21,7 @@ pub struct Rewrite {
 }
 
 /// A file with what a request changes in it.
-pub struct Rewritten {
+pub struct RewrittenFile {
     /// The new text, or `None` if it is the old one.
     pub text: Option<String>,
     /// The number of faults and warnings that are fixed.
@@ -36,9 +36,9 @@ pub struct Rewritten {
 
 /// Returns a text with suggestions applied.
 #[inline]
-fn fix_text(text: &str, options: &Options<'_>) -> Result<Rewritten, AllocError> {
+fn fix_text(text: &str, options: &Options<'_>) -> Result<RewrittenFile, AllocError> {
     let fixed = fixes(text, options)?;
-    Ok(Rewritten {
+    Ok(RewrittenFile {
         text: fixed.text,
         fixes: fixed.ids.len(),
         calls: Vec::new(),
@@ -53,9 +53,9 @@ fn inline_text(
     text: &str,
     options: &Options<'_>,
     rewrite: Rewrite,
-) -> Result<Rewritten, AllocError> {
+) -> Result<RewrittenFile, AllocError> {
     let inlined = inlines(text, options, rewrite.allows_mixed)?;
-    Ok(Rewritten {
+    Ok(RewrittenFile {
         has_inlines: inlined.text.is_some(),
         text: inlined.text,
         fixes: 0,
@@ -71,7 +71,7 @@ pub fn apply_rewrite(
     text: &str,
     options: &Options<'_>,
     rewrite: Rewrite,
-) -> Result<Rewritten, AllocError> {
+) -> Result<RewrittenFile, AllocError> {
     if !rewrite.fixes {
         return inline_text(text, options, rewrite);
     }

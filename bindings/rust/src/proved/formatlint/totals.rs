@@ -5,7 +5,7 @@
 
 use crate::proved::format_calls::Reason;
 use crate::proved::formatlint::inlinings::{Inlinings, NO_CALLS};
-use crate::proved::formatlint::rewrites::Rewritten;
+use crate::proved::formatlint::rewrites::RewrittenFile;
 use crate::proved::lint_program::{Progress, StepFailure};
 use crate::proved::lint_words::{put_failure, put_place_failure, system_words};
 use crate::proved::piece_listing::verdict::RunFault;
@@ -98,7 +98,7 @@ impl Unread {
     #[inline]
     fn add(&mut self, reason: Reason) {
         match reason {
-            Reason::Missing => count(&mut self.missing),
+            Reason::NoArgument => count(&mut self.missing),
             Reason::Edition => count(&mut self.edition),
             Reason::Variable => count(&mut self.variable),
             Reason::Suffix => count(&mut self.suffix),
@@ -204,7 +204,7 @@ impl Totals {
 
     /// Counts what inlining makes of the calls of a file.
     #[inline]
-    pub fn add_inlinings(&mut self, file: &Rewritten) {
+    pub fn add_inlinings(&mut self, file: &RewrittenFile) {
         self.inlinings.add(file);
     }
 

@@ -23,8 +23,8 @@ struct Entry {
 pub struct Walk<'a> {
     /// The files and folders that are still to be read, the next one last.
     rest: Vec<Entry>,
-    /// The names of files and folders that are excluded.
-    excluded: &'a [&'a str],
+    /// The names of files and folders to leave out.
+    excluded_names: &'a [&'a str],
 }
 
 /// Returns the path of a name in a folder. An empty path is that of the current folder.
@@ -47,13 +47,16 @@ fn is_left_out(name: &str) -> bool {
 impl<'a> Walk<'a> {
     /// Returns the files below a folder. An empty path is that of the current folder.
     #[inline]
-    pub(crate) fn new(folder: &str, excluded: &'a [&'a str]) -> Result<Walk<'a>, AllocError> {
+    pub(crate) fn new(folder: &str, excluded_names: &'a [&'a str]) -> Result<Walk<'a>, AllocError> {
         let mut rest = Vec::new();
         rest.try_push(Entry {
             path: String::made_from(folder)?,
             is_folder: true,
         })?;
-        Ok(Walk { rest, excluded })
+        Ok(Walk {
+            rest,
+            excluded_names,
+        })
     }
 
     /// Adds an entry of a folder, if it is to be read.
@@ -66,7 +69,7 @@ impl<'a> Walk<'a> {
         entries: &mut Vec<Entry>,
     ) -> io::Result<()> {
         let name = entry.file_name();
-        if self.excluded.contains(&name) {
+        if self.excluded_names.contains(&name) {
             return Ok(());
         }
         let kind = entry.file_type()?;

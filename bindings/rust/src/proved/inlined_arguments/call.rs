@@ -48,13 +48,13 @@ pub struct Edit {
 
 /// What inlining makes of a call.
 #[derive(Debug, PartialEq)]
-pub struct Inlined {
+pub struct InlinedCall {
     /// The edits of the literal, in the order of the source.
     pub edits: Vec<Edit>,
     /// The literal with these edits.
     pub literal: String,
     /// The indices of the arguments that go, in ascending order. Each goes with its `source`.
-    pub gone: Vec<usize>,
+    pub removed_indices: Vec<usize>,
 }
 
 /// Why a call is left as it is.

@@ -4,7 +4,7 @@
 // That source has the contracts, and is proved. That this text means the same is only tested.
 
 use crate::proved::call_faults::{FormatArgument, FormatString};
-use crate::proved::inlined_arguments::call::{Call, Inlined, Obstacle};
+use crate::proved::inlined_arguments::call::{Call, InlinedCall, Obstacle};
 use crate::proved::inlined_arguments::conditions::condition;
 use crate::proved::inlined_arguments::edited::apply_edits;
 use crate::proved::inlined_arguments::edits::edits_of;
@@ -88,7 +88,7 @@ fn inline_with<'c>(
     call: Call<'c>,
     slots: &[Slot<'c>],
     arguments: &'c [FormatArgument<'c>],
-) -> Result<Result<Inlined, Obstacle>, AllocError> {
+) -> Result<Result<InlinedCall, Obstacle>, AllocError> {
     let Some(snippet) = call.string.snippet else {
         return Ok(Err(Obstacle::NoLiteral));
     };
@@ -107,11 +107,11 @@ fn inline_with<'c>(
     if !keeps_meaning(call, old, &literal)? {
         return Ok(Err(Obstacle::OtherMeaning));
     }
-    let gone = variable_indices(call.arguments)?;
-    Ok(Ok(Inlined {
+    let removed_indices = variable_indices(call.arguments)?;
+    Ok(Ok(InlinedCall {
         edits,
         literal,
-        gone,
+        removed_indices,
     }))
 }
 
@@ -124,7 +124,7 @@ fn inline_with<'c>(
 pub fn inline_arguments(
     call: Call<'_>,
     allows_mixed: bool,
-) -> Result<Result<Inlined, Obstacle>, AllocError> {
+) -> Result<Result<InlinedCall, Obstacle>, AllocError> {
     if let Some(reason) = condition(&call, allows_mixed) {
         return Ok(Err(reason));
     }

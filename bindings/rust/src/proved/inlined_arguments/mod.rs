@@ -15,6 +15,6 @@ pub(crate) mod slots;
 pub(crate) mod values;
 pub(crate) mod variables;
 
-pub use call::{Argument, Call, Edit, Inlined, Obstacle};
+pub use call::{Argument, Call, Edit, InlinedCall, Obstacle};
 pub use edited::apply_edits;
 pub use inlining::inline_arguments;

@@ -106,11 +106,11 @@ pub(crate) fn has_comment(argument: &Argument<'_>) -> bool {
 /// Returns the indices of the arguments that are variables.
 #[inline]
 pub(crate) fn variable_indices(arguments: &[Argument<'_>]) -> Result<Vec<usize>, AllocError> {
-    let mut gone = Vec::new();
+    let mut removed_indices = Vec::new();
     for (index, argument) in arguments.iter().enumerate() {
         if is_variable(argument) {
-            gone.try_push(index)?;
+            removed_indices.try_push(index)?;
         }
     }
-    Ok(gone)
+    Ok(removed_indices)
 }

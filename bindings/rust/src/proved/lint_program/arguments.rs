@@ -189,7 +189,7 @@ fn row_of(word: &str) -> Option<Row<'_>> {
     let index = index.parse::<usize>().ok()?;
     is_name(name).then_some(Row {
         name,
-        rule: Rule::At(index),
+        rule: Rule::Index(index),
     })
 }
 

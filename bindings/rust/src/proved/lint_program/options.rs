@@ -114,7 +114,7 @@ static OPTIONS: [Row; 24] = [
     },
     Row {
         name: "stats",
-        help: "Count on standard error the files, calls and strings that were read, and those that were not, with the reasons",
+        help: "Say on standard error how many files, calls and strings were read, how many were not, and why",
         ..FLAG
     },
     Row {
@@ -191,7 +191,7 @@ static OPTIONS: [Row; 24] = [
     Row {
         name: "args",
         value: Some("LIST"),
-        help: "With --list: the arguments of the call, for example 2,w; list those that are missing or unused",
+        help: "With --list: the number of positional arguments and the names of the others, as 2,w; those that are missing or unused are listed",
         needs: &["list"],
         ..FLAG
     },

@@ -13,7 +13,7 @@ use crate::proved::rust_tokens::{split_first, split_first_token, Kind};
 #[derive(Copy, Clone, Debug, Eq, PartialEq)]
 pub enum FaultKind {
     /// The text is empty.
-    Missing,
+    NoLiteral,
     /// The text begins with a token that is no string literal.
     NotString(Kind),
     /// The text ends before a closing quote.
@@ -147,7 +147,7 @@ pub fn literal_fault(text: &str) -> Option<LiteralFault> {
     }
     match split_first(text) {
         None => Some(LiteralFault {
-            kind: FaultKind::Missing,
+            kind: FaultKind::NoLiteral,
             offset: 0,
         }),
         Some(('"', content)) => string_fault(text, content),

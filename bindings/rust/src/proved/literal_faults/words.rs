@@ -28,7 +28,7 @@ fn found_title(kind: Kind) -> &'static str {
 #[inline]
 fn title(kind: FaultKind) -> &'static str {
     match kind {
-        FaultKind::Missing => "expected a string literal, found nothing",
+        FaultKind::NoLiteral => "expected a string literal, found nothing",
         FaultKind::NotString(token) => found_title(token),
         FaultKind::UnterminatedString => "unterminated double quote string",
         FaultKind::UnterminatedRawString => "unterminated raw string",

@@ -77,7 +77,7 @@ impl Balance {
         match token.side() {
             Side::Neither => {}
             Side::Opens(delimiter) => self.openings.try_push(Opening {
-                at: token.start,
+                position: token.start,
                 delimiter,
             })?,
             Side::Closes(delimiter) => self.close(delimiter, token.start),
@@ -103,7 +103,7 @@ impl Balance {
         match self.openings.pop() {
             Some(opening) => Some(FileBreak {
                 kind: BreakKind::Unclosed,
-                start: opening.at,
+                start: opening.position,
             }),
             None => None,
         }

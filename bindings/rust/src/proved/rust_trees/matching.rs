@@ -20,8 +20,8 @@ pub enum DelimiterBreak {
 /// A delimiter that is not closed yet.
 #[derive(Clone, Copy)]
 pub struct Opening {
-    /// The index of the token.
-    pub at: usize,
+    /// The position of the token: its index, or the byte offset at which it starts.
+    pub position: usize,
     /// The kind.
     pub delimiter: Delimiter,
 }
@@ -42,8 +42,8 @@ fn close(matching: &mut Matching, delimiter: Delimiter) -> Result<(), AllocError
     let index = matching.partners.len();
     if let Some(top) = matching.openings.pop() {
         if is_same(top.delimiter, delimiter) {
-            matching.partners[top.at] = Some(index);
-            matching.partners.try_push(Some(top.at))?;
+            matching.partners[top.position] = Some(index);
+            matching.partners.try_push(Some(top.position))?;
             return Ok(());
         }
     }
@@ -59,8 +59,11 @@ pub fn add(matching: &mut Matching, token: &Token<'_>) -> Result<(), AllocError>
     match token.side() {
         Side::Neither => matching.partners.try_push(None)?,
         Side::Opens(delimiter) => {
-            let at = matching.partners.len();
-            matching.openings.try_push(Opening { at, delimiter })?;
+            let position = matching.partners.len();
+            matching.openings.try_push(Opening {
+                position,
+                delimiter,
+            })?;
             matching.partners.try_push(None)?;
         }
         Side::Closes(delimiter) => close(matching, delimiter)?,
@@ -94,7 +97,7 @@ pub fn break_of(unexpected: Option<usize>, mut openings: Vec<Opening>) -> Option
     match unexpected {
         Some(index) => Some(DelimiterBreak::Unexpected(index)),
         None => match openings.pop() {
-            Some(opening) => Some(DelimiterBreak::Unclosed(opening.at)),
+            Some(opening) => Some(DelimiterBreak::Unclosed(opening.position)),
             None => None,
         },
     }

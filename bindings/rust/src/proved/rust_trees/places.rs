@@ -80,14 +80,14 @@ const STEP: usize = 256;
 
 /// A byte offset of a text with its place.
 #[derive(Clone, Copy)]
-pub struct Known {
+pub struct KnownPlace {
     pub offset: usize,
     pub place: Place,
 }
 
 /// Returns the place of a byte offset, from the last place before it of those that are known.
 #[inline]
-fn place_from(text: &str, known: &[Known], offset: usize) -> Place {
+fn place_from(text: &str, known: &[KnownPlace], offset: usize) -> Place {
     let count = known.len().min(offset / STEP);
     if count > 0 {
         let last = known[count - 1];
@@ -100,19 +100,19 @@ fn place_from(text: &str, known: &[Known], offset: usize) -> Place {
 
 /// Adds a byte offset with its place to those that are known, unless it is 0.
 #[inline]
-fn add_known(known: &mut Vec<Known>, text: &str, offset: usize) -> Result<(), AllocError> {
+fn add_known(known: &mut Vec<KnownPlace>, text: &str, offset: usize) -> Result<(), AllocError> {
     if offset == 0 {
         return Ok(());
     }
     let place = place_from(text, known, offset);
-    known.try_push(Known { offset, place })?;
+    known.try_push(KnownPlace { offset, place })?;
     Ok(())
 }
 
 /// A text in which a place is found in a time that does not grow with the text.
 pub struct Places<'a> {
     text: &'a str,
-    known: Vec<Known>,
+    known: Vec<KnownPlace>,
 }
 
 impl<'a> Places<'a> {
@@ -128,7 +128,7 @@ impl<'a> Places<'a> {
 
     /// Returns the place of a byte offset at which a character of the text starts, or at its end.
     #[inline]
-    pub fn at(&self, offset: usize) -> Place {
+    pub fn place_of(&self, offset: usize) -> Place {
         place_from(self.text, &self.known, offset)
     }
 }

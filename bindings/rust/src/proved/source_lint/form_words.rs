@@ -4,7 +4,7 @@
 // That source has the contracts, and is proved. That this text means the same is only tested.
 
 use crate::proved::asm_lint::{call_range, range_in, tokens_range};
-use crate::proved::call_forms::{kind_word, Expected, Form, Operator};
+use crate::proved::call_forms::{kind_word, ExpectedTokens, Form, Operator};
 use crate::proved::format_calls::{Argument, Call};
 use crate::proved::rust_trees::Token;
 use crate::proved::source_report::{Edit, Finding, Help, Label};
@@ -37,12 +37,14 @@ fn put_found(out: &mut String, operator: Operator<'_>) -> Result<(), AllocError>
 
 /// Returns the tokens that rustc expects, in its words, up to the one that it found.
 #[inline]
-fn expected_words(expected: Expected) -> &'static str {
+fn expected_words(expected: ExpectedTokens) -> &'static str {
     match expected {
-        Expected::Comma => "expected `,`, found ",
-        Expected::Path => "expected one of `!`, `,`, `.`, `::`, `?`, `{`, or an operator, found ",
-        Expected::Field => "expected one of `(`, `,`, `.`, `::`, `?`, or an operator, found ",
-        Expected::Value => "expected one of `,`, `.`, `?`, or an operator, found ",
+        ExpectedTokens::Comma => "expected `,`, found ",
+        ExpectedTokens::Path => {
+            "expected one of `!`, `,`, `.`, `::`, `?`, `{`, or an operator, found "
+        }
+        ExpectedTokens::Field => "expected one of `(`, `,`, `.`, `::`, `?`, or an operator, found ",
+        ExpectedTokens::Value => "expected one of `,`, `.`, `?`, or an operator, found ",
     }
 }
 
@@ -84,12 +86,12 @@ fn put_title(out: &mut String, form: Form<'_>) -> Result<(), AllocError> {
 
 /// Returns the label of a token where rustc expects others.
 #[inline]
-fn expected_label(expected: Expected) -> &'static str {
+fn expected_label(expected: ExpectedTokens) -> &'static str {
     match expected {
-        Expected::Comma => "expected `,`",
-        Expected::Path => "expected one of 7 possible tokens",
-        Expected::Field => "expected one of `(`, `,`, `.`, `::`, `?`, or an operator",
-        Expected::Value => "expected one of `,`, `.`, `?`, or an operator",
+        ExpectedTokens::Comma => "expected `,`",
+        ExpectedTokens::Path => "expected one of 7 possible tokens",
+        ExpectedTokens::Field => "expected one of `(`, `,`, `.`, `::`, `?`, or an operator",
+        ExpectedTokens::Value => "expected one of `,`, `.`, `?`, or an operator",
     }
 }
 

@@ -81,7 +81,7 @@ fn read_string(
 pub fn captures(rule: Rule, name: &[u8], is_from_2021: bool) -> bool {
     match rule {
         Rule::IndexByEdition(_) => is_from_2021 || name != b"unreachable".as_slice(),
-        Rule::At(_) | Rule::FirstLiteral | Rule::Templates => true,
+        Rule::Index(_) | Rule::FirstLiteral | Rule::Templates => true,
     }
 }
 
@@ -196,7 +196,7 @@ fn read_one<'a>(
 ) -> Result<CallReading, AllocError> {
     match call.rule {
         Rule::Templates => read_asm(findings, file.text, part, call, arguments),
-        Rule::At(_) | Rule::IndexByEdition(_) | Rule::FirstLiteral => {
+        Rule::Index(_) | Rule::IndexByEdition(_) | Rule::FirstLiteral => {
             read_at(findings, file, part, call, arguments, index)
         }
     }
@@ -223,7 +223,7 @@ fn has_empty(arguments: &[Argument]) -> bool {
 /// those of tracing and of slog have forms of their own.
 #[inline]
 fn are_expressions(rule: Rule) -> bool {
-    matches!(rule, Rule::At(_) | Rule::IndexByEdition(_))
+    matches!(rule, Rule::Index(_) | Rule::IndexByEdition(_))
 }
 
 /// Returns whether an operator lacks an operand in one of these arguments.

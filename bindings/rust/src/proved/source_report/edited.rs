@@ -10,7 +10,7 @@ use crate::shim::alloc::AllocError;
 use crate::shim::prelude::*;
 
 /// A text in the middle of its edits.
-pub struct Edited<'t> {
+pub struct EditedText<'t> {
     /// The part of the text with its edits that is written.
     pub bytes: Vec<u8>,
     /// The rest of the text.
@@ -35,7 +35,7 @@ fn rest_after(bytes: &[u8], n: usize) -> &[u8] {
 
 /// Makes an edit.
 #[inline]
-fn make(edited: &mut Edited<'_>, edit: &Edit<'_>) -> Result<(), AllocError> {
+fn make(edited: &mut EditedText<'_>, edit: &Edit<'_>) -> Result<(), AllocError> {
     let source = front(edited.rest, edit.span.start.saturating_sub(edited.end));
     edited.bytes.try_extend_from_slice(source)?;
     edited.bytes.try_extend_from_slice(edit.text.as_bytes())?;
@@ -46,7 +46,7 @@ fn make(edited: &mut Edited<'_>, edit: &Edit<'_>) -> Result<(), AllocError> {
 
 /// Makes edits, the first one first.
 #[inline]
-fn make_each(edited: &mut Edited<'_>, edits: &[Edit<'_>]) -> Result<(), AllocError> {
+fn make_each(edited: &mut EditedText<'_>, edits: &[Edit<'_>]) -> Result<(), AllocError> {
     for edit in edits {
         make(edited, edit)?;
     }
@@ -55,7 +55,7 @@ fn make_each(edited: &mut Edited<'_>, edits: &[Edit<'_>]) -> Result<(), AllocErr
 
 /// Mends a fault, if it has edits, and these follow the last one.
 #[inline]
-fn mend(edited: &mut Edited<'_>, finding: &Finding) -> Result<(), AllocError> {
+fn mend(edited: &mut EditedText<'_>, finding: &Finding) -> Result<(), AllocError> {
     let edits = edits_of(finding)?;
     if !edits.is_empty() && are_after(edited.end, edits.as_slice()) {
         make_each(edited, edits.as_slice())?;
@@ -66,8 +66,8 @@ fn mend(edited: &mut Edited<'_>, finding: &Finding) -> Result<(), AllocError> {
 
 /// Mends the faults of a text that can be mended in one round.
 #[inline]
-pub fn mend_each<'t>(text: &'t str, findings: &[Finding]) -> Result<Edited<'t>, AllocError> {
-    let mut edited = Edited {
+pub fn mend_each<'t>(text: &'t str, findings: &[Finding]) -> Result<EditedText<'t>, AllocError> {
+    let mut edited = EditedText {
         bytes: Vec::new(),
         rest: text.as_bytes(),
         end: 0,

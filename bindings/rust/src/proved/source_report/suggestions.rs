@@ -111,8 +111,8 @@ pub fn edits_of<'f>(finding: &'f Finding) -> Result<Vec<Edit<'f>>, AllocError> {
     Ok(edits)
 }
 
-/// Returns whether no edit starts before the end of the one before it, and the first not before the
-/// byte offset `at`.
+/// Returns whether each edit starts where the one before it ends or later, the first one at the
+/// byte offset `at` or later, and none ends before it starts.
 #[inline]
 pub fn are_after(at: usize, edits: &[Edit<'_>]) -> bool {
     let mut end = at;
