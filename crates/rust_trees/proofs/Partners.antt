@@ -183,7 +183,7 @@ complete-pair os o w x ps n s l e f c i j p = by_parts (pair-parts w x i j p)
     at-top : (q : EndsPair w x i j) → Fate (o ∷ os) q.before q.inside q.pairs.0 → i ≡ o.position
     at-top q (Dead g) = absurd (none-some [] (sym g ∙ scan-forest q.inside q.is_forest))
     at-top q (Top a rest g h k m) =
-        q.starts ∙ (sym k ∙ ap (λ t. t.at) (sym (same-first o a os rest g)))
+        q.starts ∙ (sym k ∙ ap (λ t. t.position) (sym (same-first o a os rest g)))
     at-top q (Under a rest ds g h) = no-cons a.delimiter ds
         (same_Some [] (a.delimiter ∷ ds) (sym (scan-forest q.inside q.is_forest) ∙ h))
 
