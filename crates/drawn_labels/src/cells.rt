@@ -75,14 +75,14 @@ pub fn put_at(row: &mut Vec<Cell>, column: usize, cell: Cell) -> Result<(), Allo
 /// Puts a cell into so many columns of a row. Returns the column after them.
 pub fn put_run_at(
     row: &mut Vec<Cell>,
-    from: usize,
+    start: usize,
     count: usize,
     cell: Cell,
 ) -> Result<usize, AllocError>
     ensures { IfOk result (λ n. (cs : List CellValue) → put_from n cs row.new.items
-        ≡ put_from from (replicate count cell ++ cs) row.old.items) }
+        ≡ put_from start (replicate count cell ++ cs) row.old.items) }
 {
-    let mut column = from;
+    let mut column = start;
     let mut countdown = count;
     while countdown > 0 {
         put_at(row, column, cell)?;
@@ -95,14 +95,14 @@ pub fn put_run_at(
 /// Puts a space and then a text, as it is drawn, into a row from a column on.
 pub fn put_after(
     row: &mut Vec<Cell>,
-    from: usize,
+    start: usize,
     style: Style,
     text: &str,
 ) -> Result<(), AllocError>
     ensures { OnOk result (row.new.items
-        ≡ put_from from (space ∷ cells style text.now) row.old.items) }
+        ≡ put_from start (space ∷ cells style text.now) row.old.items) }
 {
-    let column = put_run_at(row, from, 1, space())?;
+    let column = put_run_at(row, start, 1, space())?;
     put_from(row, column, style, text)?;
     Ok(())
 }
@@ -110,13 +110,13 @@ pub fn put_after(
 /// Puts a text, as it is drawn, into a row from a column on.
 pub fn put_from(
     row: &mut Vec<Cell>,
-    from: usize,
+    start: usize,
     style: Style,
     text: &str,
 ) -> Result<(), AllocError>
-    ensures { OnOk result (row.new.items ≡ put_from from (cells style text.now) row.old.items) }
+    ensures { OnOk result (row.new.items ≡ put_from start (cells style text.now) row.old.items) }
 {
-    let mut column = from;
+    let mut column = start;
     let mut rest = text;
     while let Some((c, tail)) = split_first(rest) {
         let character = glyph(c);
