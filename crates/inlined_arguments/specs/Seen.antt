@@ -11,7 +11,7 @@ use Rattle.placeholder_check.specs.Seen.{text}
 use Rattle.inlined_arguments.specs.declared.call.Argument.{Argument as DeclaredArgument}
 use Rattle.inlined_arguments.specs.declared.call.Call.{Call as DeclaredCall}
 use Rattle.inlined_arguments.specs.declared.call.Edit.{Edit as DeclaredEdit}
-use Rattle.inlined_arguments.specs.declared.call.InlinedCall.{InlinedCall as DeclaredCall}
+use Rattle.inlined_arguments.specs.declared.call.InlinedCall.{InlinedCall as DeclaredInlinedCall}
 use Rattle.inlined_arguments.specs.declared.values.Amount.{Amount as DeclaredAmount}
 use Rattle.inlined_arguments.specs.declared.values.Amount.TheVariants.{Number as NumberIn}
 use Rattle.inlined_arguments.specs.declared.values.Amount.TheVariants.{ValueOf as ValueIn}
@@ -64,7 +64,7 @@ abbrev pub seen_slot : DeclaredSlot → Slot
 seen_slot s = record { name = option_map text s.name; value = seen_value s.value }
 
 -- What is made of a call, as a contract sees it.
-abbrev pub seen_inlined : DeclaredCall → InlinedCall
+abbrev pub seen_inlined : DeclaredInlinedCall → InlinedCall
 seen_inlined r = record {
   edits = map seen_edit r.edits.items;
   literal = string_bytes r.literal;
