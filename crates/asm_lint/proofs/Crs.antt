@@ -1,8 +1,10 @@
 -- Texts whose lines end with LF, one character after the other.
-use Rattle.std.proofs.Common.{◌≡◌, ◌++◌, ℕ, true, false, [], ◌∷◌, Some, ap, sym}
-use Rattle.std.proofs.Common.{◌∙◌}
+use Rattle.std.proofs.Common.{◌≡◌, ◌++◌, ℕ, List, true, false, [], ◌∷◌, Some, IsUtf8, ap, chars}
+use Rattle.std.proofs.Common.{◌∙◌, refl, subst, sym}
 use Rattle.std.specs.Prelude.{◌==◌, ◌&&◌, if◌then◌else◌}
+use Rattle.std.specs.Str.{NoCharPasses, NonePass}
 use Rattle.std.proofs.lemmas.List.{append_assoc}
+use Rattle.std.proofs.lemmas.Str.{chars_from_encodes}
 use Rattle.rust_tokens.specs.Runs.{first_passes}
 use Rattle.rust_tokens.specs.Texts.{Text, split_first}
 use Rattle.rust_trees.specs.Places.{is_lf}
@@ -26,3 +28,15 @@ pub cr-dropped : (done all t : Text) (c : ℕ) (more : Text) → Some (c, more) 
 cr-dropped done all t c more f b h =
     ap (λ v. done ++ v) (sym (ap (λ v. without_crs v) (split-some t more c f)
     ∙ ap (λ v. if v then without_crs more else c ∷ without_crs more) b)) ∙ h
+
+-- A text without CR stays as it is.
+all-kept : (t : Text) → NonePass (λ c. c == 13) t → t ≡ without_crs t
+all-kept [] n = refl
+all-kept (c ∷ t) n =
+    ap (λ u. c ∷ u) (all-kept t n.1)
+    ∙ ap (λ b. if b && first_passes is_lf t then without_crs t else c ∷ without_crs t) (sym n.0)
+
+pub no-cr : (bs : List ℕ) → IsUtf8 bs → NoCharPasses (λ c. c == 13) bs
+    → chars bs ≡ without_crs (chars bs)
+no-cr bs u h = subst (λ t. t ≡ without_crs t) (chars_from_encodes h.0 bs u h.1)
+    (all-kept h.0 h.2)

@@ -45,6 +45,9 @@ fn is_dropped(c: char, rest: &str) -> bool
 pub fn without_crs(alloc: Global, text: &str) -> Result<String, AllocError>
     ensures { IfOk result (λ s. chars (string_bytes s) ≡ without_crs (chars text.now)) }
 {
+    if !text.contains('\r') {
+        return Ok(String::from_str(alloc, text)?);
+    }
     let mut lines = String::new(alloc);
     let mut rest = text;
     while let Some((c, more)) = split_first(rest) {

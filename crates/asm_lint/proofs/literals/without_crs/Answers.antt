@@ -4,8 +4,13 @@ use Rattle.std.proofs.lemmas.List.{append-nil}
 use Rattle.rust_trees.proofs.PlaceSteps.{split-none}
 use Rattle.rustc_parse_format.proofs.Literals.Texts.{chars-push}
 use Rattle.asm_lint.specs.Literals.{without_crs}
-use Rattle.asm_lint.proofs.Crs.{cr-dropped, cr-kept}
+use Rattle.asm_lint.proofs.Crs.{cr-dropped, cr-kept, no-cr}
 use Rattle.asm_lint.proofs.literals.without_crs.Goals as goal
+
+pub returns-then-not-contains : goal.returns-then-not-contains
+returns-then-not-contains c =
+    ap chars c.in_ok-from_str.ensures.ok
+    ∙ no-cr c.args.text.now c.utf8.text c.if-not-contains.ensures.cases
 
 pub loop-c-init : goal.loop-c-init
 loop-c-init c = record {
