@@ -36,6 +36,9 @@ fn is_dropped(c: char, rest: &str) -> bool {
 /// Returns a text without the CR before each LF.
 #[inline]
 pub fn without_crs(text: &str) -> Result<String, AllocError> {
+    if !text.contains('\r') {
+        return Ok(String::made_from(text)?);
+    }
     let mut lines = String::new();
     let mut rest = text;
     while let Some((c, more)) = split_first(rest) {

@@ -65,11 +65,11 @@ pub fn put_at(row: &mut Vec<Cell>, column: usize, cell: Cell) -> Result<(), Allo
 #[inline]
 pub fn put_run_at(
     row: &mut Vec<Cell>,
-    from: usize,
+    start: usize,
     count: usize,
     cell: Cell,
 ) -> Result<usize, AllocError> {
-    let mut column = from;
+    let mut column = start;
     let mut countdown = count;
     while countdown > 0 {
         put_at(row, column, cell)?;
@@ -83,11 +83,11 @@ pub fn put_run_at(
 #[inline]
 pub fn put_after(
     row: &mut Vec<Cell>,
-    from: usize,
+    start: usize,
     style: Style,
     text: &str,
 ) -> Result<(), AllocError> {
-    let column = put_run_at(row, from, 1, space())?;
+    let column = put_run_at(row, start, 1, space())?;
     put_from(row, column, style, text)?;
     Ok(())
 }
@@ -96,11 +96,11 @@ pub fn put_after(
 #[inline]
 pub fn put_from(
     row: &mut Vec<Cell>,
-    from: usize,
+    start: usize,
     style: Style,
     text: &str,
 ) -> Result<(), AllocError> {
-    let mut column = from;
+    let mut column = start;
     let mut rest = text;
     while let Some((c, tail)) = split_first(rest) {
         let character = glyph(c);
