@@ -15,7 +15,7 @@ use Rattle.format_calls.specs.declared.strings.Reason.{Reason}
 use Rattle.format_calls.specs.declared.strings.Reason.TheVariants.{Variable, Suffix, Macro}
 use Rattle.format_calls.specs.declared.strings.Reason.TheVariants.{Edition, Expression}
 use Rattle.format_calls.specs.declared.table.Rule.{Rule}
-use Rattle.format_calls.specs.declared.table.Rule.TheVariants.{At, IndexByEdition, FirstLiteral}
+use Rattle.format_calls.specs.declared.table.Rule.TheVariants.{Index, IndexByEdition, FirstLiteral}
 use Rattle.format_calls.specs.declared.table.Rule.TheVariants.{Templates}
 use Rattle.format_calls.specs.Marks.{is_mark, is_word}
 use Rattle.format_calls.specs.Strings.{argument_or, begins_text, begins_text_at, first_text}
@@ -143,7 +143,7 @@ pub string-same : (xs ys : List Leaf) (g from to : ℕ) (r : Rule) (bs : List Ar
     (is_new : Bool) → Embeds xs ys g → to < length xs
     → AllByRecursion (λ a. LiesIn from to a) bs
     → format_string ys r (map (shifted g) bs) is_new ≡ format_string xs r bs is_new
-string-same xs ys g from to (At n) bs is_new e h l = chosen-same xs ys g from to n bs false e h l
+string-same xs ys g from to (Index n) bs is_new e h l = chosen-same xs ys g from to n bs false e h l
 string-same xs ys g from to (IndexByEdition n) bs is_new e h l =
     ap (λ k. argument_or ys n (slice_get (map (shifted g) bs) n) (not is_new && (n + 1) == k))
     (length-map bs (shifted g))

@@ -13,7 +13,7 @@ use Rattle.format_calls.specs.Standard.{standard}
 use Rattle.format_calls.specs.Strings.{is_string}
 use Rattle.format_calls.specs.declared.split.Argument.{Argument}
 use Rattle.format_calls.specs.declared.table.Rule.{Rule}
-use Rattle.format_calls.specs.declared.table.Rule.TheVariants.{At, IndexByEdition, FirstLiteral}
+use Rattle.format_calls.specs.declared.table.Rule.TheVariants.{Index, IndexByEdition, FirstLiteral}
 use Rattle.format_calls.specs.declared.table.Rule.TheVariants.{Templates}
 use Rattle.call_forms.specs.Commas.{expected_at, has_more, is_unknown}
 use Rattle.call_forms.specs.Expressions.{has_variable, is_operand, is_path, joined}
@@ -157,7 +157,7 @@ lacks_string w close (a ∷ b ∷ bs) = false
 -- The index of the argument that should be the format string. Before the edition 2021 it may be any
 -- expression for some macros, and templates have rules of their own.
 abbrev pub index_of : Bool → Rule → Option ℕ
-index_of is_new (At n) = Some n
+index_of is_new (Index n) = Some n
 index_of is_new (IndexByEdition n) = if is_new then Some n else None
 index_of is_new FirstLiteral = None
 index_of is_new Templates = None

@@ -10,7 +10,7 @@ use Rattle.rust_trees.specs.Leaves.{Leaf}
 use Rattle.format_calls.specs.declared.listing.Call.{Call}
 use Rattle.format_calls.specs.declared.split.Argument.{Argument}
 use Rattle.format_calls.specs.declared.table.Rule.{Rule}
-use Rattle.format_calls.specs.declared.table.Rule.TheVariants.{At, IndexByEdition, FirstLiteral}
+use Rattle.format_calls.specs.declared.table.Rule.TheVariants.{Index, IndexByEdition, FirstLiteral}
 use Rattle.format_calls.specs.declared.table.Rule.TheVariants.{Templates}
 use Rattle.call_faults.specs.Arguments.{FormatArgument}
 use Rattle.source_report.specs.declared.report.CallReading.{CallReading}
@@ -62,7 +62,7 @@ unread-one : (rule : Rule) (is_new mixed : Bool) (bs : List ℕ) (xs : List Leaf
     (args : List Argument) (n : ℕ) (q : CallReading) (fs : List Finding)
     → IsTrue (is_unread rule q) → ReadsOne rule is_new xs c args n q fs
     → InlinesOne rule is_new mixed bs xs c args n (Unread q) []
-unread-one (At m) is_new mixed bs xs c args n q fs u h =
+unread-one (Index m) is_new mixed bs xs c args n q fs u h =
     unread-at is_new mixed bs xs c args n q fs u h
 unread-one (IndexByEdition m) is_new mixed bs xs c args n q fs u h =
     unread-at is_new mixed bs xs c args n q fs u h

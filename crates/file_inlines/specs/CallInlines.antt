@@ -13,7 +13,7 @@ use Rattle.format_calls.specs.Standard.{standard}
 use Rattle.format_calls.specs.declared.listing.Call.{Call}
 use Rattle.format_calls.specs.declared.split.Argument.{Argument}
 use Rattle.format_calls.specs.declared.table.Rule.{Rule}
-use Rattle.format_calls.specs.declared.table.Rule.TheVariants.{At, IndexByEdition, FirstLiteral}
+use Rattle.format_calls.specs.declared.table.Rule.TheVariants.{Index, IndexByEdition, FirstLiteral}
 use Rattle.format_calls.specs.declared.table.Rule.TheVariants.{Templates}
 use Rattle.source_report.specs.declared.report.CallReading.{CallReading}
 use Rattle.source_report.specs.declared.report.CallReading.TheVariants.{ForeignMacro, Malformed}
@@ -60,14 +60,14 @@ pub record AreEdits (bs : List ℕ) (xs : List Leaf) (literal : Leaf) (args : Li
 -- The string of a macro with this rule and this name is known to be a format string if no argument
 -- follows it. Some macros of crates then take any string, as `bail!` of error-chain.
 abbrev pub is_format_alone : Bool → Rule → List ℕ → Bool
-is_format_alone is_new (At n) w = is_some (rule_of standard w)
+is_format_alone is_new (Index n) w = is_some (rule_of standard w)
 is_format_alone is_new (IndexByEdition n) w = is_new
 is_format_alone is_new FirstLiteral w = true
 is_format_alone is_new Templates w = false
 
 -- A `const fn` may call the macro with one argument and the string `{}`.
 abbrev pub has_const_form : Rule → Bool
-has_const_form (At n) = false
+has_const_form (Index n) = false
 has_const_form (IndexByEdition n) = true
 has_const_form FirstLiteral = false
 has_const_form Templates = false
@@ -85,7 +85,7 @@ has_string Malformed = false
 
 -- The same for a macro with this rule, where the format string was not read.
 abbrev pub is_unread : Rule → CallReading → Bool
-is_unread (At n) q = not (has_string q)
+is_unread (Index n) q = not (has_string q)
 is_unread (IndexByEdition n) q = not (has_string q)
 is_unread FirstLiteral q = not (has_string q)
 is_unread Templates q = false
@@ -142,7 +142,7 @@ pub record InlinesAt (is_new mixed : Bool) (bs : List ℕ) (xs : List Leaf) (c :
 -- The same where the argument n is the format string by this rule. Templates of assembly stay.
 abbrev pub InlinesOne : Rule → Bool → Bool → List ℕ → List Leaf → Call → List Argument → ℕ
     → CallInlining → List Edit → Type 0
-InlinesOne (At m) is_new mixed bs xs c args n r es = InlinesAt is_new mixed bs xs c args n r es
+InlinesOne (Index m) is_new mixed bs xs c args n r es = InlinesAt is_new mixed bs xs c args n r es
 InlinesOne (IndexByEdition m) is_new mixed bs xs c args n r es =
     InlinesAt is_new mixed bs xs c args n r es
 InlinesOne FirstLiteral is_new mixed bs xs c args n r es =

@@ -1,7 +1,7 @@
 -- The macros of the standard library that take a format string, or templates of assembly.
 use Rattle.std.specs.Prelude.{ℕ, List, [], ◌∷◌, codes}
 use Rattle.format_calls.specs.declared.table.Rule.{Rule}
-use Rattle.format_calls.specs.declared.table.Rule.TheVariants.{At, IndexByEdition, FirstLiteral}
+use Rattle.format_calls.specs.declared.table.Rule.TheVariants.{Index, IndexByEdition, FirstLiteral}
 use Rattle.format_calls.specs.declared.table.Rule.TheVariants.{Templates}
 use Rattle.format_calls.specs.Rows.{Entry}
 
@@ -11,16 +11,17 @@ at w r = record { name = w; rule = r }
 
 abbrev pub standard : List Entry
 standard =
-    at (codes "format") (At 0) ∷ at (codes "format_args") (At 0) ∷ at (codes "print") (At 0)
-    ∷ at (codes "println") (At 0) ∷ at (codes "eprint") (At 0) ∷ at (codes "eprintln") (At 0)
-    ∷ at (codes "write") (At 1) ∷ at (codes "writeln") (At 1) ∷ at (codes "panic")
+    at (codes "format") (Index 0) ∷ at (codes "format_args") (Index 0)
+    ∷ at (codes "print") (Index 0) ∷ at (codes "println") (Index 0)
+    ∷ at (codes "eprint") (Index 0) ∷ at (codes "eprintln") (Index 0)
+    ∷ at (codes "write") (Index 1) ∷ at (codes "writeln") (Index 1) ∷ at (codes "panic")
     (IndexByEdition 0)
-    ∷ at (codes "unreachable") (IndexByEdition 0) ∷ at (codes "todo") (At 0)
-    ∷ at (codes "unimplemented") (At 0) ∷ at (codes "assert") (IndexByEdition 1)
-    ∷ at (codes "debug_assert") (IndexByEdition 1) ∷ at (codes "assert_eq") (At 2)
-    ∷ at (codes "assert_ne") (At 2) ∷ at (codes "debug_assert_eq") (At 2)
-    ∷ at (codes "debug_assert_ne") (At 2) ∷ at (codes "assert_matches") (At 2)
-    ∷ at (codes "debug_assert_matches") (At 2) ∷ at (codes "asm") Templates
+    ∷ at (codes "unreachable") (IndexByEdition 0) ∷ at (codes "todo") (Index 0)
+    ∷ at (codes "unimplemented") (Index 0) ∷ at (codes "assert") (IndexByEdition 1)
+    ∷ at (codes "debug_assert") (IndexByEdition 1) ∷ at (codes "assert_eq") (Index 2)
+    ∷ at (codes "assert_ne") (Index 2) ∷ at (codes "debug_assert_eq") (Index 2)
+    ∷ at (codes "debug_assert_ne") (Index 2) ∷ at (codes "assert_matches") (Index 2)
+    ∷ at (codes "debug_assert_matches") (Index 2) ∷ at (codes "asm") Templates
     ∷ at (codes "global_asm") Templates ∷ at (codes "naked_asm") Templates ∷ []
 
 -- Macros of the crates log, tracing, slog, anyhow and eyre.
@@ -31,5 +32,5 @@ with_crates =
     ∷ at (codes "debug") FirstLiteral ∷ at (codes "trace") FirstLiteral
     ∷ at (codes "crit") FirstLiteral ∷ at (codes "log") FirstLiteral ∷ at
     (codes "event") FirstLiteral
-    ∷ at (codes "anyhow") (At 0) ∷ at (codes "eyre") (At 0) ∷ at (codes "format_err") (At 0)
-    ∷ at (codes "bail") (At 0) ∷ at (codes "ensure") (At 1) ∷ []
+    ∷ at (codes "anyhow") (Index 0) ∷ at (codes "eyre") (Index 0)
+    ∷ at (codes "format_err") (Index 0) ∷ at (codes "bail") (Index 0) ∷ at (codes "ensure") (Index 1) ∷ []

@@ -12,7 +12,7 @@ use Rattle.format_calls.specs.declared.strings.Reason.TheVariants.{NoArgument, E
 use Rattle.format_calls.specs.declared.strings.Reason.TheVariants.{Suffix}
 use Rattle.format_calls.specs.declared.strings.Reason.TheVariants.{Macro, Expression}
 use Rattle.format_calls.specs.declared.table.Rule.{Rule}
-use Rattle.format_calls.specs.declared.table.Rule.TheVariants.{At, IndexByEdition, FirstLiteral}
+use Rattle.format_calls.specs.declared.table.Rule.TheVariants.{Index, IndexByEdition, FirstLiteral}
 use Rattle.format_calls.specs.declared.table.Rule.TheVariants.{Templates}
 use Rattle.format_calls.specs.Marks.{is_mark, is_word}
 
@@ -59,7 +59,7 @@ first_text xs bs = position (λ a. begins_text xs a) bs
 
 -- The argument is the format string by this rule. For macros of slog key-values may follow it.
 abbrev pub is_string_by : Rule → List Leaf → Argument → Bool
-is_string_by (At n) xs a = is_text xs a
+is_string_by (Index n) xs a = is_text xs a
 is_string_by (IndexByEdition n) xs a = is_text xs a
 is_string_by FirstLiteral xs a = begins_text xs a
 is_string_by Templates xs a = is_text xs a
@@ -76,7 +76,7 @@ argument_or xs n (Some a) b = if b then Err Edition else
 -- The index of the argument that is the format string, by the rule. Before the edition 2021, where
 -- `is_new` is false, the last argument is none for some. Of several templates it is the first.
 abbrev pub format_string : List Leaf → Rule → List Argument → Bool → Result ℕ Reason
-format_string xs (At n) bs is_new = argument_or xs n (slice_get bs n) false
+format_string xs (Index n) bs is_new = argument_or xs n (slice_get bs n) false
 format_string xs (IndexByEdition n) bs is_new =
     argument_or xs n (slice_get bs n) (not is_new && (n + 1) == length bs)
 format_string xs FirstLiteral bs is_new = text_or (first_text xs bs)

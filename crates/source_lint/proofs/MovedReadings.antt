@@ -14,7 +14,7 @@ use Rattle.format_calls.specs.Strings.{format_string}
 use Rattle.format_calls.specs.declared.listing.Call.{Call}
 use Rattle.format_calls.specs.declared.split.Argument.{Argument}
 use Rattle.format_calls.specs.declared.table.Rule.{Rule}
-use Rattle.format_calls.specs.declared.table.Rule.TheVariants.{At, IndexByEdition, FirstLiteral}
+use Rattle.format_calls.specs.declared.table.Rule.TheVariants.{Index, IndexByEdition, FirstLiteral}
 use Rattle.format_calls.specs.declared.table.Rule.TheVariants.{Templates}
 use Rattle.source_report.specs.declared.report.CallReading.{CallReading}
 use Rattle.source_report.specs.declared.report.Finding.{Finding}
@@ -79,7 +79,7 @@ one-same : (rule : Rule) (is_new : Bool) (xs ys : List Leaf) (g : ℕ) (c : Call
     → IsPair xs (c.name + 2) c.close → AreArguments xs (c.name + 3) bs c.close
     → ReadsOne rule is_new xs c bs n r fs
     → ReadsOne rule is_new ys (moved g c) (map (shifted g) bs) n r fs
-one-same (At m) is_new xs ys g c bs n r fs e p k h = at-same is_new xs ys g c bs n r fs e p k h
+one-same (Index m) is_new xs ys g c bs n r fs e p k h = at-same is_new xs ys g c bs n r fs e p k h
 one-same (IndexByEdition m) is_new xs ys g c bs n r fs e p k h =
     at-same is_new xs ys g c bs n r fs e p k h
 one-same FirstLiteral is_new xs ys g c bs n r fs e p k h =

@@ -21,7 +21,7 @@ use Rattle.format_calls.specs.declared.listing.Call.{Call}
 use Rattle.format_calls.specs.declared.split.Argument.{Argument}
 use Rattle.format_calls.specs.declared.strings.Reason.{Reason}
 use Rattle.format_calls.specs.declared.table.Rule.{Rule}
-use Rattle.format_calls.specs.declared.table.Rule.TheVariants.{At, IndexByEdition, FirstLiteral}
+use Rattle.format_calls.specs.declared.table.Rule.TheVariants.{Index, IndexByEdition, FirstLiteral}
 use Rattle.format_calls.specs.declared.table.Rule.TheVariants.{Templates}
 use Rattle.format_calls.specs.Assembly.{template_count}
 use Rattle.call_faults.specs.Arguments.{FormatArgument}
@@ -101,14 +101,14 @@ name_at xs i = name_of_leaf (slice_get xs i)
 -- The format string of a macro captures variables, unless the macro puts it into another text: so
 -- does `unreachable!` of the standard library before the edition 2021.
 abbrev pub captures : Bool → Rule → List ℕ → Bool
-captures is_new (At n) w = true
+captures is_new (Index n) w = true
 captures is_new (IndexByEdition n) w = is_new || not (bytes_eq w (codes "unreachable"))
 captures is_new FirstLiteral w = true
 captures is_new Templates w = true
 
 -- `;` ends the arguments of a macro with this rule: key-values follow it in those of slog.
 abbrev pub ends_early : Rule → Bool
-ends_early (At n) = false
+ends_early (Index n) = false
 ends_early (IndexByEdition n) = false
 ends_early FirstLiteral = true
 ends_early Templates = false
@@ -139,7 +139,7 @@ pub record ReadsAt (is_new : Bool) (xs : List Leaf) (c : Call) (args : List Argu
 -- template.
 abbrev pub ReadsOne : Rule → Bool → List Leaf → Call → List Argument → ℕ → CallReading
     → List Finding → Type 0
-ReadsOne (At m) is_new xs c args n r fs = ReadsAt is_new xs c args n r fs
+ReadsOne (Index m) is_new xs c args n r fs = ReadsAt is_new xs c args n r fs
 ReadsOne (IndexByEdition m) is_new xs c args n r fs = ReadsAt is_new xs c args n r fs
 ReadsOne FirstLiteral is_new xs c args n r fs = ReadsAt is_new xs c args n r fs
 ReadsOne Templates is_new xs c args n r fs =
@@ -168,7 +168,7 @@ index_if lacks joins o =
 -- The arguments of a macro with this rule are expressions, up to the last one: those of tracing and
 -- of slog have forms of their own.
 abbrev pub are_expressions : Rule → Bool
-are_expressions (At n) = true
+are_expressions (Index n) = true
 are_expressions (IndexByEdition n) = true
 are_expressions FirstLiteral = false
 are_expressions Templates = false
@@ -181,7 +181,7 @@ lack_expression r ps = are_expressions r
 
 -- The arguments of a macro with this rule are expressions: operands are none.
 abbrev pub has_expressions : Rule → Bool
-has_expressions (At n) = true
+has_expressions (Index n) = true
 has_expressions (IndexByEdition n) = true
 has_expressions FirstLiteral = true
 has_expressions Templates = false
@@ -212,7 +212,7 @@ offset_of_leaf (Some x) = x.start
 
 -- A macro with this rule and this name is one of log, tracing or slog, if no path says otherwise.
 abbrev pub is_log : Rule → List ℕ → Bool
-is_log (At n) w = false
+is_log (Index n) w = false
 is_log (IndexByEdition n) w = false
 is_log FirstLiteral w = is_some (rule_of with_crates w)
 is_log Templates w = false

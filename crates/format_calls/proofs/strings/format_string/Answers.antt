@@ -3,9 +3,9 @@ use Rattle.format_calls.specs.Strings.{first_text}
 use Rattle.format_calls.proofs.StringArguments.{text-found}
 use Rattle.format_calls.proofs.strings.format_string.Goals as goal
 
-pub returns-in-At-clause-literal : goal.returns-in-At-clause-literal
-returns-in-At-clause-literal c =
-    rw c.in-At.is (rw c.tokens-tokens.ensures at c.string_at.ensures.literal)
+pub returns-in-Index-clause-literal : goal.returns-in-Index-clause-literal
+returns-in-Index-clause-literal c =
+    rw c.in-Index.is (rw c.tokens-tokens.ensures at c.string_at.ensures.literal)
 
 pub returns-in-Templates-clause-literal : goal.returns-in-Templates-clause-literal
 returns-in-Templates-clause-literal c =
