@@ -33,4 +33,5 @@ with_crates =
     ∷ at (codes "crit") FirstLiteral ∷ at (codes "log") FirstLiteral ∷ at
     (codes "event") FirstLiteral
     ∷ at (codes "anyhow") (Index 0) ∷ at (codes "eyre") (Index 0)
-    ∷ at (codes "format_err") (Index 0) ∷ at (codes "bail") (Index 0) ∷ at (codes "ensure") (Index 1) ∷ []
+    ∷ at (codes "format_err") (Index 0) ∷ at (codes "bail") (Index 0)
+    ∷ at (codes "ensure") (Index 1) ∷ []
