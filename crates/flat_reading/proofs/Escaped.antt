@@ -7,7 +7,6 @@ use Rattle.std.specs.Prelude.{IfSome, option_map}
 use Rattle.std.specs.Str.{IsCharBoundary}
 use Rattle.std.proofs.lemmas.Str.{IsUtf8-drop, IsUtf8-take, chars-append, chars-encodes}
 use Rattle.std.proofs.lemmas.Str.{scalars-chars}
-use Rattle.std.proofs.lemmas.Bool.{or_parts}
 use Rattle.std.proofs.lemmas.List.{append-nil, take_all}
 use Rattle.std.proofs.Math.Utf8.{scalars}
 use Rattle.rustc_parse_format.specs.declared.types.ParseMode.{ParseMode}
@@ -20,9 +19,9 @@ use Rattle.rustc_parse_format.specs.Call.{call}
 use Rattle.rustc_parse_format.specs.Characters.{Text, byte_length}
 use Rattle.rustc_parse_format.specs.Marks.{Span}
 use Rattle.rustc_parse_format.specs.State.{State, first_state, next_call}
-use Rattle.rustc_parse_format.specs.Types.{Argument, Count, Implicit, Implied, Index, Is, Lit, Mode}
-use Rattle.rustc_parse_format.specs.Types.{Name, Named, NextArgument, Param, Piece, Position}
-use Rattle.rustc_parse_format.specs.Types.{Star, is_named, map_argument, map_count}
+use Rattle.rustc_parse_format.specs.Types.{Argument, Count, Implied, Is, Lit, Mode}
+use Rattle.rustc_parse_format.specs.Types.{Name, NextArgument, Param, Piece}
+use Rattle.rustc_parse_format.specs.Types.{Star, map_argument, map_count}
 use Rattle.rustc_parse_format.specs.World.{Place, World, input_end, piece_in, place_of, world}
 use Rattle.rustc_parse_format.proofs.Grammar.Rests.{IsRest-self}
 use Rattle.rustc_parse_format.proofs.Literals.Widths.{width-append}
@@ -35,62 +34,37 @@ use Rattle.rustc_parse_format.proofs.Spans.TextPlaces.{call_stands as call_texts
 use Rattle.flat_reading.specs.declared.texts.Texts.{Texts}
 use Rattle.flat_reading.specs.Events.{position}
 use Rattle.flat_reading.specs.Meant.{text_at}
-use Rattle.flat_reading.specs.Stand.{ArgumentStands, CountAt, CountStands, EndsWith, IsReadAt}
-use Rattle.flat_reading.specs.Stand.{PositionAt, PositionStands, SpecAt, TypeStands}
-use Rattle.flat_reading.specs.Stand.{has_texts, is_name}
+use Rattle.flat_reading.specs.Stand.{ArgumentStands, CountAt, EndsWith, IsReadAt}
+use Rattle.flat_reading.specs.Stand.{PositionAt, SpecAt}
+use Rattle.flat_reading.specs.Stand.{IsListed}
 use Rattle.flat_reading.proofs.Standing.{argument_stands, scalars-right}
 
--- A placeholder without texts.
-no_position : (bytes : List ℕ) (from : ℕ) (p : Position) → is_named p ≡ false
-    → PositionStands bytes from p
-no_position bytes from (Implicit n) e = tt
-no_position bytes from (Index n) e = tt
-no_position bytes from (Named w) e = cc
+listed_type : (f : Span → Place) (P : Span → Text → Type 0) (mode : Mode) (ty : Text)
+    (o : Option Span) → is_some (option_map f o) ≡ false → TypeTexts P mode ty o → IsListed ty
+listed_type f P mode ty None e h = h
+listed_type f P mode ty (Some s) e h = cc
 
-no_count : (bytes : List ℕ) (at : ℕ) (k : Count Place) → is_name k ≡ false → CountStands bytes at k
-no_count bytes at (Is n) e = tt
-no_count bytes at (Name w s) e = cc
-no_count bytes at (Param n) e = tt
-no_count bytes at (Star n) e = tt
-no_count bytes at Implied e = tt
+listed_argument : (f : Span → Place) (N P : Span → Text → Type 0) (mode : Mode) (a : Argument Span)
+    → is_some (option_map f a.format.ty_span) ≡ false → ArgumentTexts N P mode a
+    → IsListed a.format.ty
+listed_argument f N P mode a e h = listed_type f P mode a.format.ty a.format.ty_span e h.format.ty
 
-no_type : (bytes : List ℕ) (at : ℕ) (f : Span → Place) (P : Span → Text → Type 0) (mode : Mode)
-    (ty : Text) (o : Option Span) → is_some (option_map f o) ≡ false → TypeTexts P mode ty o
-    → TypeStands bytes at (option_map f o) ty
-no_type bytes at f P mode ty None e h = h
-no_type bytes at f P mode ty (Some s) e h = cc
-
-no_texts : (bytes : List ℕ) (at : ℕ) (f : Span → Place) (N P : Span → Text → Type 0) (mode : Mode)
-    (a : Argument Span) → has_texts (map_argument f a) ≡ false → ArgumentTexts N P mode a
-    → ArgumentStands bytes at (map_argument f a)
-no_texts bytes at f N P mode a e h =
-    let one = or_parts (is_named a.position) _ e in
-    let two = or_parts (is_name (map_count f a.format.width)) _ one.1 in
-    let three = or_parts (is_name (map_count f a.format.precision)) _ two.1 in
-    record {
-      position = no_position bytes _ a.position one.0;
-      format = record {
-        width = no_count bytes at _ two.0;
-        precision = no_count bytes at _ three.0;
-        ty = no_type bytes at f P mode a.format.ty a.format.ty_span three.1 h.format.ty;
-      };
-    }
-
-textless_piece : (bytes : List ℕ) (at : ℕ) (w : World) (mode : Mode) (t r : Text)
-    (o : Option (Piece Span)) (a : Argument Place) → TextPieceStands mode t r o
-    → Some (NextArgument a) ≡ option_map (piece_in w) o → has_texts a ≡ false
-    → ArgumentStands bytes at a
-textless_piece bytes at w mode t r None a h e none = cc
-textless_piece bytes at w mode t r (Some (Lit u)) a h e none = cc
-textless_piece bytes at w mode t r (Some (NextArgument b)) a h e none =
+listed_piece : (w : World) (mode : Mode) (t r : Text) (o : Option (Piece Span))
+    (a : Argument Place) → TextPieceStands mode t r o
+    → Some (NextArgument a) ≡ option_map (piece_in w) o → is_some a.format.ty_span ≡ false
+    → IsListed a.format.ty
+listed_piece w mode t r None a h e none = cc
+listed_piece w mode t r (Some (Lit u)) a h e none = cc
+listed_piece w mode t r (Some (NextArgument b)) a h e none =
     let same : a ≡ map_argument (place_of w) b = cc in
-    rw same (no_texts bytes at (place_of w) _ _ mode b (rw same at none) h)
+    rw same (listed_argument (place_of w) _ _ mode b (rw same at none) h)
 
-pub textless : (bytes : List ℕ) (at : ℕ) (mode : Mode) (next start : ℕ) (a : Argument Place)
-    → IsReadAt bytes mode next start (Some (NextArgument a)) → has_texts a ≡ false
-    → ArgumentStands bytes at a
-textless bytes at mode next start a h none =
-    textless_piece bytes at h.world mode (chars (drop start bytes)) _ _ a
+-- The type of an argument that has no span is one that may have none.
+pub listed : (bytes : List ℕ) (mode : Mode) (next start : ℕ) (a : Argument Place)
+    → IsReadAt bytes mode next start (Some (NextArgument a)) → is_some a.format.ty_span ≡ false
+    → IsListed a.format.ty
+listed bytes mode next start a h none =
+    listed_piece h.world mode (chars (drop start bytes)) _ _ a
     (call_texts mode next (chars (drop start bytes))) h.gives none
 
 -- Texts do not depend on the world.

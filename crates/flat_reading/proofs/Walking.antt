@@ -3,7 +3,7 @@ use Rattle.std.proofs.Common.{◌≡◌, ◌≢◌, ℕ, zero, suc, ◌+◌, ◌
 use Rattle.std.proofs.Common.{true, false, cond, List, [], ◌∷◌, Option, Some, None}
 use Rattle.std.proofs.Common.{length, map, take, drop, set, sum_by, refl, sym, ap, ◌∙◌}
 use Rattle.std.proofs.Common.{append_assoc, arith, add-one, length-set}
-use Rattle.std.specs.Prelude.{option_map}
+use Rattle.std.specs.Prelude.{◌&&◌, if◌then◌else◌, option_map}
 use Rattle.std.proofs.lemmas.List.{map-append, take_more_set, take_all}
 use Rattle.std.proofs.lemmas.List.Sums.{sum_by-cons}
 use Rattle.std.proofs.lemmas.Bool.{cases_lt}
@@ -17,7 +17,7 @@ use Rattle.rustc_parse_format.proofs.Lines.StateLines.{at_end, closed_in-none, e
 use Rattle.flat_reading.specs.declared.flat.SpecBuffer.{SpecBuffer}
 use Rattle.flat_reading.specs.declared.records.Step.{Step}
 use Rattle.flat_reading.specs.declared.records.Spec.{Spec as SpecRecord}
-use Rattle.rustc_parse_format.specs.Lines.{closed_in}
+use Rattle.rustc_parse_format.specs.Lines.{closed_in, with_last}
 use Rattle.flat_reading.specs.Meant.{maybe_place, piece_meant, spec_at}
 use Rattle.flat_reading.specs.Events.{Event, place_of_first, position, event, events, end_of}
 use Rattle.flat_reading.specs.Events.{found_by}
@@ -26,7 +26,7 @@ use Rattle.flat_reading.specs.Events.{looked_for}
 use Rattle.flat_reading.specs.Events.{spec_count, specs_in, is_default, states, states_for}
 use Rattle.flat_reading.specs.Events.{step_meant}
 use Rattle.flat_reading.specs.Held.{Found}
-use Rattle.flat_reading.specs.Stand.{Adds, IsAdded}
+use Rattle.flat_reading.specs.Stand.{Adds, AllFew, IsAdded, IsUpTo}
 use Rattle.flat_reading.proofs.Finding.{length-add_finders, length-after}
 use Rattle.flat_reading.proofs.Lists.{keep_more, keep_put, still_after}
 use Rattle.flat_reading.proofs.Specs.{spec_at-front}
@@ -76,11 +76,6 @@ pub states-more : (s new : State) → s.rest ≢ [] → new ≡ after s (next_ca
 unfolding states
 states-more s new h e = rw e (more_for (length s.rest) s refl h)
 
--- the numbers of the specifications are at most this one
-abbrev pub AllFew : ℕ → List Step → Type 0
-AllFew k [] = Unit {0}
-AllFew k (r ∷ rs) = (r.spec ≤ k) × AllFew k rs
-
 more_few : (k m : ℕ) (rs : List Step) → k ≤ m → AllFew k rs → AllFew m rs
 more_few k m [] h few = tt
 more_few k m (r ∷ rs) h few = (omega (arith, few.0), more_few k m rs h few.1)
@@ -106,22 +101,6 @@ specs_in-le (Some (NextArgument a)) = by_test (is_default a.format)
     by_test : (b : Bool) → cond b 0 1 ≤ 1
     by_test true = omega arith
     by_test false = omega arith
-
--- So far so many steps and specifications are noted of the calls from the state s0 on, which came
--- to
--- s; the calls at the states `todo` are left.
-pub record IsUpTo (peeks : Bool) (input : List ℕ) (s0 : State) (todo : List State) (s : State)
-    (count used : ℕ) (found : Found) (steps : List Step)
-    (specs : List SpecRecord) : Type 0 where
-  pub counted : count + length todo ≡ length (states s0)
-  pub specs_counted : used + sum_by (λ (t : State). specs_in (given t)) todo ≡ spec_count s0
-  pub fewer : used ≤ count
-  pub state : after_all s (map next_call todo) ≡ end_of s0
-  pub finders : finders_from count found.calls (map next_call todo) ≡ found_by s0
-  pub fronts : found.fronts + sum_by fronts_in (map next_call todo) ≡ fronts_of s0
-  pub few : AllFew used (take count steps)
-  pub written : count ≤ length steps → used ≤ length specs
-      → map (step_meant input specs) (take count steps) ++ map (event peeks) todo ≡ events peeks s0
 
 -- a step was put where there is room
 abbrev IsPut : List Step → ℕ → Step → List Step → Type 0
@@ -241,6 +220,14 @@ described peeks input specs r s t state piece place read next lines peek ahead =
 -- for.
 pub end_specs : (s : State) → s.rest ≡ [] → specs_in (given s) ≡ 0
 end_specs s e = ap (λ o. specs_in (option_map (piece_in s.world) o)) (at_end s e).0
+
+pub end_stays : (s : State) → s.rest ≡ [] → s.world.has_source ≡ false
+    → s ≡ after s (next_call s)
+end_stays s e none =
+    sym ((at_end s e).1 ∙ ap (λ b. record s {
+      line_spans = if b && is_nil s.rest
+          then with_last (s.line_start, s.world.end) s.line_spans else s.line_spans;
+    }) none)
 
 pub end_fronts : (s : State) → s.rest ≡ [] → fronts_in (next_call s) ≡ 0
 end_fronts s e = rw (end_faults s e) refl

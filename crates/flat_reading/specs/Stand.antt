@@ -1,7 +1,7 @@
 -- The places of the texts of a piece in the input. Private definitions, for contracts of private
 -- functions.
-use Rattle.std.specs.Prelude.{◌≡◌, ◌≢◌, ℕ, ◌+◌, ◌-◌, ◌<◌, ◌≤◌, ◌^◌, ◌⊎◌, ◌||◌, List, [], ◌++◌}
-use Rattle.std.specs.Prelude.{length, take, drop, set, option_map, Bool, true, false, Option, Some}
+use Rattle.std.specs.Prelude.{◌≡◌, ◌≢◌, ℕ, ◌+◌, ◌-◌, ◌<◌, ◌≤◌, ◌^◌, ◌⊎◌, ◌||◌, List, [], ◌∷◌, ◌++◌}
+use Rattle.std.specs.Prelude.{length, map, sum_by, take, drop, set, option_map, Bool, true, false, Option, Some}
 use Rattle.std.specs.Prelude.{None, IfNone, IfSome, is_some, chars, codes, encode_utf8_all}
 use Rattle.std.specs.Prelude.{slice_range}
 use Rattle.std.specs.Str.{IsCharBoundary, IsUtf8}
@@ -9,17 +9,21 @@ use Rattle.rustc_parse_format.specs.Characters.{Text}
 use Rattle.rustc_parse_format.specs.Characters.{byte_length}
 use Rattle.rustc_parse_format.specs.Types.{Position, Implicit, Index, Named, Count, Is, Name, Param}
 use Rattle.rustc_parse_format.specs.Types.{Star, Implied, Spec, Argument, Piece, Lit, NextArgument}
-use Rattle.rustc_parse_format.specs.Types.{Mode, is_named}
+use Rattle.rustc_parse_format.specs.Types.{Mode}
 use Rattle.rustc_parse_format.specs.Seen.{seen_mode}
 use Rattle.rustc_parse_format.specs.Call.{call}
 use Rattle.rustc_parse_format.specs.World.{World, Place, piece_in, plain_world}
-use Rattle.rustc_parse_format.specs.State.{State, after, next_call}
+use Rattle.rustc_parse_format.specs.State.{State, after, after_all, next_call}
 use Rattle.flat_reading.specs.declared.flat.SpecBuffer.{SpecBuffer}
 use Rattle.flat_reading.specs.declared.records.Step.{Step}
 use Rattle.flat_reading.specs.declared.records.Spec.{Spec as SpecRecord}
 use Rattle.flat_reading.specs.declared.texts.Texts.{Texts}
+use Rattle.flat_reading.specs.declared.reading.Reading.{Reading}
 use Rattle.flat_reading.specs.declared.walk.Walker.{Walker}
-use Rattle.flat_reading.specs.Events.{Event, add_finders, fronts_in, step_meant}
+use Rattle.flat_reading.specs.Events.{Event, add_finders, end_of, event, events, finders_from}
+use Rattle.flat_reading.specs.Events.{found_by, fronts_in, fronts_of, given, spec_count, specs_in}
+use Rattle.flat_reading.specs.Events.{states, step_meant}
+use Rattle.flat_reading.specs.Held.{Found}
 use Rattle.flat_reading.specs.Meant.{text_at, type_meant}
 
 -- The input has these bytes from the offset `from` on.
@@ -101,10 +105,9 @@ is_name (Param n) = false
 is_name (Star n) = false
 is_name Implied = false
 
--- The argument has a text that is found by a span: a name, or a type with a span.
-abbrev pub has_texts : {A : Type 0} → Argument A → Bool
-has_texts a = is_named a.position
-    || (is_name a.format.width || (is_name a.format.precision || is_some a.format.ty_span))
+-- The specification has a text that is found by a span: a name, or a type with a span.
+abbrev pub has_texts : {A : Type 0} → Spec A → Bool
+has_texts s = is_name s.width || (is_name s.precision || is_some s.ty_span)
 
 -- A parser in this mode with this next number, which has the input from the byte `start` on left,
 -- returns this piece, whatever its world is.
@@ -152,24 +155,22 @@ pub record Adds (n : ℕ) (old new : SpecBuffer) : Type 0 where
   pub front : take old.count new.records.now ≡ take old.count old.records.now
   pub kept : drop new.count new.records.now ≡ drop new.count old.records.now
 
--- The rest of a walker's input is a suffix of the whole, and the places of its parser are those in
--- the input, moved by its offset, or its mode is known.
-pub record IsOnItsWay (w : Walker) : Type 0 where
-  pub utf8 : IsUtf8 w.input.now
-  pub input : chars w.input.now ≡ w.parser.input
+-- The rest of the input is a suffix of the whole, and the places of the parser are those in the
+-- input, moved by the offset, or its mode is known.
+pub record IsOnItsWay (r : Reading) (w : Walker) : Type 0 where
+  pub utf8 : IsUtf8 r.input.now
+  pub input : chars r.input.now ≡ w.parser.input
   pub left : EndsWith w.parser.input w.parser.rest
-  pub plain : IfNone w.escapes (IsPlain w.parser w.offset)
-  pub mode : IfSome w.escapes (λ m. seen_mode m ≡ w.parser.mode)
+  pub plain : IfNone r.escapes (IsPlain w.parser r.offset)
+  pub mode : IfSome r.escapes (λ m. seen_mode m ≡ w.parser.mode)
 
 -- The walker made the next call, which has this number, and recorded the errors that it found.
-pub record MakesCall (number : ℕ) (old new : Walker) : Type 0 where
+pub record MakesCall (number : ℕ) (r : Reading) (old new : Walker) : Type 0 where
   pub state : new.parser ≡ after old.parser (next_call old.parser)
-  pub ready : IsOnItsWay new
+  pub ready : IsOnItsWay r new
   pub finders : new.finders.calls
       ≡ add_finders number old.finders.calls (next_call old.parser).faults
   pub fronts : new.finders.fronts ≡ old.finders.fronts + fronts_in (next_call old.parser)
-  pub input : new.input.now ≡ old.input.now
-  pub peeks : new.peeks ≡ old.peeks
 
 -- A step that describes the event was written at the index `count`, if there is room. By then
 -- `used` specifications are counted.
@@ -186,3 +187,23 @@ SameAfter old new =
     (new.place ≡ old.place) × (new.offset ≡ old.offset) × (new.next_index ≡ old.next_index)
     × (new.lines ≡ old.lines) × (new.peek ≡ old.peek)
     × (new.peek_ahead ≡ old.peek_ahead)
+
+-- The numbers of the specifications of these steps are at most k.
+abbrev pub AllFew : ℕ → List Step → Type 0
+AllFew k [] = Unit {0}
+AllFew k (r ∷ rs) = (r.spec ≤ k) × AllFew k rs
+
+-- So far so many steps and specifications are noted of the calls from the state s0 on, which came
+-- to s; the calls at the states `todo` are left.
+pub record IsUpTo (peeks : Bool) (input : List ℕ) (s0 : State) (todo : List State) (s : State)
+    (count used : ℕ) (found : Found) (steps : List Step)
+    (specs : List SpecRecord) : Type 0 where
+  pub counted : count + length todo ≡ length (states s0)
+  pub specs_counted : used + sum_by (λ (t : State). specs_in (given t)) todo ≡ spec_count s0
+  pub fewer : used ≤ count
+  pub state : after_all s (map next_call todo) ≡ end_of s0
+  pub finders : finders_from count found.calls (map next_call todo) ≡ found_by s0
+  pub fronts : found.fronts + sum_by fronts_in (map next_call todo) ≡ fronts_of s0
+  pub few : AllFew used (take count steps)
+  pub written : count ≤ length steps → used ≤ length specs
+      → map (step_meant input specs) (take count steps) ++ map (event peeks) todo ≡ events peeks s0

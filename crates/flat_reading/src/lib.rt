@@ -5,7 +5,9 @@
 mod errors;
 mod finders;
 mod flat;
+mod near;
 pub mod read;
+mod reading;
 pub mod records;
 pub mod task;
 mod texts;

@@ -1,19 +1,17 @@
 //! Reads a whole input at once.
 
-ghost use Rattle.std.specs.Prelude.{◌≡◌, ◌≤◌, IfNone, IfOk, IfSome, IsFalse, None, OnErr, OnOk};
-ghost use Rattle.std.specs.Prelude.{Some, chars, drop, length, map, option_map};
-ghost use Rattle.std.specs.Prelude.{string_bytes, take};
+ghost use Rattle.std.specs.Prelude.{◌≡◌, ◌≤◌, IfNone, IfOk, IfSome, None, OnErr, OnOk};
+ghost use Rattle.std.specs.Prelude.{Some, chars, drop, length, map, option_map, string_bytes, take};
 ghost use Rattle.rustc_parse_format.specs.Seen.{pair, seen_mode};
-ghost use Rattle.rustc_parse_format.specs.LiteralReading.{is_longer};
-ghost use Rattle.rustc_parse_format.specs.World.{hashes, quote_offset};
+ghost use Rattle.rustc_parse_format.specs.World.{hashes};
 ghost use Rattle.flat_reading.specs.Asked.{Fits, IsCounted, IsKept, IsDescribed, asked_state};
-ghost use Rattle.flat_reading.specs.Asked.{buffers};
-ghost use Rattle.flat_reading.specs.Asked.{limit};
+ghost use Rattle.flat_reading.specs.Asked.{buffers, limit};
 ghost use Rattle.flat_reading.specs.Meant.{place};
 ghost use Rattle.flat_reading.specs.Stand.{IsPlain};
 
 use crate::errors::put_errors;
 use crate::flat::{NO_EXTENT, SpecBuffer, extent, flag};
+use crate::reading::{Reading, mode_with_escapes, offset_of};
 use crate::records::{Answer, Extent, Fault, Spec, Step};
 use crate::task::Task;
 use crate::walk::{Walker, look_ahead};
@@ -32,61 +30,6 @@ fn owned_snippet(alloc: Global, snippet: Option<&str>) -> Result<Option<String>,
     }
 }
 
-/// Returns the number of bytes before the text in its literal: its opening quote, and the `r` and
-/// the hashes of a raw literal.
-fn offset_of(style: Option<usize>) -> usize
-    requires { hashes style ≤ limit }
-    ensures { result ≡ quote_offset style }
-{
-    match style {
-        None => 1,
-        Some(hashes) => hashes + 2,
-    }
-}
-
-/// Returns whether an ordinary literal is not as long as its two quotes and the input, without an
-/// appended newline: it may then have escapes.
-fn is_longer(input: &str, literal: &str, appended_newline: bool) -> bool
-    requires { length input.now ≤ limit }
-    ensures { result
-        ≡ is_longer (chars input.now) None (Some (chars literal.now)) appended_newline }
-{
-    let quotes = if appended_newline { 1 } else { 2 };
-    literal.len() != input.len() + quotes
-}
-
-/// Returns whether the literal is an ordinary one that may have escapes.
-fn may_have_escapes(task: &Task<'_>) -> bool
-    requires { length task.now.input.now ≤ limit }
-    ensures { IsFalse result → IsPlain (asked_state task.now) (quote_offset task.now.style) }
-{
-    if task.style.is_some() {
-        return false;
-    }
-    match task.snippet {
-        Some(literal) => is_longer(task.input, literal, task.appended_newline),
-        None => false,
-    }
-}
-
-/// Returns the mode of a parser, or `None` if byte offsets in the source and in the input differ by
-/// a constant. In an ordinary source literal with escapes they do not.
-fn mode_with_escapes(parser: &Parser<'_>, task: &Task<'_>) -> Option<ParseMode>
-    requires { length task.now.input.now ≤ limit }
-    ensures plain { parser.now ≡ asked_state task.now
-        → IfNone result (IsPlain parser.now (quote_offset task.now.style)) }
-    ensures mode { IfSome result (λ m. m ≡ task.now.mode) }
-{
-    if !parser.is_source_literal() {
-        return None;
-    }
-    if may_have_escapes(task) {
-        Some(task.mode)
-    } else {
-        None
-    }
-}
-
 /// Writes the byte ranges of the lines, as far as they fit.
 fn put_lines(spans: &[Range<usize>], lines: &mut [Extent])
     ensures held { length spans.now ≤ length lines.old
@@ -101,10 +44,9 @@ fn put_lines(spans: &[Range<usize>], lines: &mut [Extent])
 }
 
 /// Reads an input to its end with a parser that is at its start, and writes the results as `read`
-/// does. `offset` and `escapes` are those of a `Walker`. They are given, as the parser is, so that
-/// no branch comes before the walker is made: the compiler then writes each of its fields once, and
-/// neither fills it with zeros first nor copies the parser. Returns `Err` if an allocation fails,
-/// and `answer` is then unchanged.
+/// does. `offset` and `escapes` are those of a `Reading`. They are given, as the parser is, so that
+/// no branch comes before the walker is made: the compiler then writes each of its fields once.
+/// Returns `Err` if an allocation fails, and `answer` is then unchanged.
 #[inline(always)]
 fn read_by<'a>(
     alloc: Global,
@@ -137,14 +79,15 @@ fn read_by<'a>(
     ensures err { OnErr result (answer.new ≡ answer.old) }
 {
     let is_source_literal = flag(start.is_source_literal());
-    let mut walker = Walker::new(alloc, start, task.input, offset, escapes, task.peeks);
+    let mut walker = Walker::new(alloc, start);
+    let reading = Reading::new(task.input, offset, escapes, task.peeks);
     let mut specs = SpecBuffer::new(specs);
     let mut peek = NO_EXTENT;
     let mut peek_ahead = NO_EXTENT;
     if task.peeks {
         look_ahead(&walker.parser, &mut peek, &mut peek_ahead);
     }
-    let count = walker.walk(steps, &mut specs)?;
+    let count = walker.walk(&reading, steps, &mut specs)?;
     let errors = walker.parser.errors();
     let spans = walker.parser.line_spans();
     put_lines(spans, lines);
@@ -203,6 +146,48 @@ fn read_with_snippet(
     )
 }
 
+/// Reads an input without a snippet as `read` does. The compiler then leaves out most of what
+/// `Parser::new` does. No branch comes before that.
+#[inline(always)]
+fn read_bare(
+    alloc: Global,
+    task: Task<'_>,
+    steps: &mut [Step],
+    specs: &mut [Spec],
+    faults: &mut [Fault],
+    texts: &mut [u8],
+    lines: &mut [Extent],
+    answer: &mut Answer,
+) -> Result<(), AllocError>
+    requires input_length { length task.input.now ≤ limit }
+    requires hashes { hashes task.style ≤ limit }
+    requires bare { task.snippet ≡ None }
+    ensures counted { OnOk result
+        (IsCounted task.entry.peeks (asked_state task.entry) answer.new) }
+    ensures described { OnOk result
+        (Fits (buffers steps.old specs.old faults.old texts.old lines.old) answer.new
+        → IsDescribed task.entry.peeks (asked_state task.entry) task.entry.input.now
+        (buffers steps.new specs.new faults.new texts.new lines.new) answer.new) }
+    ensures kept { OnOk result
+        (IsKept answer.new (buffers steps.old specs.old faults.old texts.old lines.old)
+        (buffers steps.new specs.new faults.new texts.new lines.new)) }
+    ensures err { OnErr result (answer.new ≡ answer.old) }
+{
+    let start = Parser::new(
+        alloc,
+        task.input,
+        task.style,
+        None,
+        task.appended_newline,
+        task.mode,
+    )?;
+    let escapes = mode_with_escapes(&start, &task);
+    let offset = offset_of(task.style);
+    read_by(
+        alloc, start, task, offset, escapes, steps, specs, faults, texts, lines, answer,
+    )
+}
+
 /// Reads an input, up to and including the call at its end, and writes the results into buffers of
 /// the caller.
 ///
@@ -234,24 +219,8 @@ pub fn read(
         (buffers steps.new specs.new faults.new texts.new lines.new)) }
     ensures err { OnErr result (answer.new ≡ answer.old) }
 {
-    // (The case without a snippet stands by itself, since the compiler then leaves most of what
-    // `Parser::new` does out of it.)
     match task.snippet {
         Some(_) => read_with_snippet(alloc, task, steps, specs, faults, texts, lines, answer),
-        None => {
-            let start = Parser::new(
-                alloc,
-                task.input,
-                task.style,
-                None,
-                task.appended_newline,
-                task.mode,
-            )?;
-            let escapes = mode_with_escapes(&start, &task);
-            let offset = offset_of(task.style);
-            read_by(
-                alloc, start, task, offset, escapes, steps, specs, faults, texts, lines, answer,
-            )
-        }
+        None => read_bare(alloc, task, steps, specs, faults, texts, lines, answer),
     }
 }

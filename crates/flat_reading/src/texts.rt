@@ -1,7 +1,7 @@
 //! The byte ranges of a piece's texts in the input.
 
-ghost use Rattle.std.specs.Prelude.{◌≡◌, ℕ, ◌-◌, IfOk, IsFalse, IsTrue, List, Some, chars};
-ghost use Rattle.std.specs.Prelude.{option_map};
+ghost use Rattle.std.specs.Prelude.{◌≡◌, ℕ, ◌-◌, IfOk, IsFalse, IsTrue, List, Some};
+ghost use Rattle.std.specs.Prelude.{chars, false, is_some, option_map};
 ghost use Rattle.rustc_parse_format.specs.Seen.{pair, seen_argument, seen_count, seen_mode};
 ghost use Rattle.rustc_parse_format.specs.Seen.{seen_position, seen_spec};
 ghost use Rattle.rustc_parse_format.specs.Types.{Argument as ReadArgument, NextArgument};
@@ -32,21 +32,20 @@ pub struct Texts {
     pub ty: Extent,
 }
 
-/// Returns whether a placeholder has a text that is found by its span: a name, or a type with a
-/// span.
+/// Returns whether the specification of a placeholder has a text that is found by its span: a name,
+/// or a type with a span.
 pub fn has_texts(argument: &Argument<'_>) -> bool
-    ensures { result ≡ has_texts (seen_argument argument.now) }
+    ensures { result ≡ has_texts (seen_spec argument.now.format) }
 {
-    matches!(argument.position, Position::ArgumentNamed(_))
-        || matches!(argument.format.width, Count::CountIsName(_, _))
+    matches!(argument.format.width, Count::CountIsName(_, _))
         || matches!(argument.format.precision, Count::CountIsName(_, _))
         || argument.format.ty_span.is_some()
 }
 
-/// Returns the byte range of a text that begins at `from`. For an empty text this is 0..0, so that
+/// Returns the byte range of a text that begins at `start`. For an empty text this is 0..0, so that
 /// no offset is inside a character.
 #[inline(always)]
-fn extent_of(input: &str, start: usize, text: &str) -> Extent
+pub fn extent_of(input: &str, start: usize, text: &str) -> Extent
     requires { StandsAt input.now start (chars text.now) }
     ensures { text_at input.now result ≡ chars text.now }
 {
@@ -59,8 +58,8 @@ fn extent_of(input: &str, start: usize, text: &str) -> Extent
     }
 }
 
-/// Returns whether the input has these bytes at `from`.
-fn has_bytes_at(input: &str, start: usize, bytes: &[u8]) -> bool
+/// Returns whether the input has these bytes at `start`.
+pub fn has_bytes_at(input: &str, start: usize, bytes: &[u8]) -> bool
     ensures yes { IsTrue result → HasBytes input.now start bytes.now }
     ensures no { IsFalse result → ¬ (HasBytes input.now start bytes.now) }
 {
@@ -73,8 +72,8 @@ fn has_bytes_at(input: &str, start: usize, bytes: &[u8]) -> bool
     }
 }
 
-/// Returns the byte range of a text that begins at `from`, or after `prefix` if the input has that
-/// at `from`.
+/// Returns the byte range of a text that begins at `start`, or after `prefix` if the input has that
+/// at `start`.
 #[inline(never)]
 fn extent_after(input: &str, prefix: &[u8], start: usize, text: &str) -> Extent
     requires { StandsAfter input.now prefix.now start (chars text.now) }
@@ -104,7 +103,7 @@ fn count_extent(input: &str, offset: usize, count: &Count<'_>) -> Extent
 }
 
 /// Returns the kind of a type that has no span.
-fn listed_type(ty: &str) -> u32
+pub fn listed_type(ty: &str) -> u32
     ensures { (r : ExtentRecord) → IsListed (chars ty.now) → (input : List ℕ)
         → type_meant input result r ≡ chars ty.now }
 {

@@ -17,20 +17,22 @@ ghost use Rattle.flat_reading.specs.Events.{end_of, event, events, found_by, fro
 ghost use Rattle.flat_reading.specs.Events.{given, is_default, looked_for, place_of_first};
 ghost use Rattle.flat_reading.specs.Events.{position, spec_count, specs_in, states, step_meant};
 ghost use Rattle.flat_reading.specs.Meant.{maybe_place, piece_meant, spec_at};
-ghost use Rattle.flat_reading.specs.Stand.{Adds, IsAdded, IsOnItsWay, IsPlain, IsReadAt, MakesCall};
+ghost use Rattle.flat_reading.specs.Stand.{Adds, IsAdded, IsOnItsWay, IsReadAt, IsUpTo, MakesCall};
 ghost use Rattle.flat_reading.specs.Stand.{PlaceholderStands, RunStands, SameAfter};
 
 use crate::finders::Finders;
 use crate::flat::{
     NO_EXTENT, NOWHERE, SpecBuffer, put_argument, put_bare_piece, put_plain_argument, some_extent,
 };
+use crate::near::texts_of;
+use crate::reading::Reading;
 use crate::records::{MaybeExtent, PIECE_NONE, PIECE_TEXT, POSITION_IMPLICIT, Step};
-use crate::texts::{has_texts, run_extent, texts_at};
+use crate::texts::run_extent;
 use rustc_parse_format::{Argument, NextPiece, ParseMode, Parser, PieceKind};
 use std::alloc::{AllocError, Global};
 
 /// A step without a piece and without a state.
-const BLANK: Step = Step {
+pub const BLANK: Step = Step {
     kind: PIECE_NONE,
     position: POSITION_IMPLICIT,
     number: 0,
@@ -121,48 +123,19 @@ fn put_state(parser: &Parser<'_>, step: &mut Step)
 pub struct Walker<'a> {
     alloc: Global,
     pub parser: Parser<'a>,
-    pub input: &'a str,
-    /// The number of bytes by which the parser's spans are after the byte ranges in the input,
-    /// unless the literal may have escapes.
-    pub offset: usize,
-    /// The mode of the parser, if the literal may have escapes.
-    pub escapes: Option<ParseMode>,
-    /// Whether the byte ranges of the next two characters are wanted.
-    pub peeks: bool,
-    /// The argument into which placeholders are read.
-    pub argument: Argument<'a>,
     pub finders: Finders,
 }
 
 impl<'a> Walker<'a> {
-    /// Creates a walker at the start of an input. Does not allocate.
+    /// Creates a walker. Does not allocate.
     #[inline(always)]
-    pub fn new(
-        alloc: Global,
-        parser: Parser<'a>,
-        input: &'a str,
-        offset: usize,
-        escapes: Option<ParseMode>,
-        peeks: bool,
-    ) -> Walker<'a>
-        requires input { chars input.now ≡ parser.input }
-        requires start { parser.rest ≡ parser.input }
-        requires plain { IfNone escapes (IsPlain parser offset) }
-        requires mode { IfSome escapes (λ m. seen_mode m ≡ parser.mode) }
-        ensures ready { IsOnItsWay result }
+    pub fn new(alloc: Global, parser: Parser<'a>) -> Walker<'a>
         ensures parser { result.parser ≡ parser.entry }
-        ensures input { result.input.now ≡ input.now }
-        ensures peeks { result.peeks ≡ peeks }
         ensures finders { result.finders ≡ record { calls = []; fronts = 0 } }
     {
         Walker {
             alloc,
             parser,
-            input,
-            offset,
-            escapes,
-            peeks,
-            argument: Argument::default(),
             finders: Finders::new(alloc),
         }
     }
@@ -172,30 +145,28 @@ impl<'a> Walker<'a> {
     #[inline(never)]
     fn put_escaped(
         &self,
+        input: &str,
         mode: ParseMode,
+        argument: &Argument<'_>,
         start: usize,
         next: usize,
         specs: &mut SpecBuffer<'_>,
         step: &mut Step,
     ) -> Result<(), AllocError>
-        requires read { IsReadAt self.now.input.now (seen_mode mode) next start
-            (Some (NextArgument (seen_argument self.now.argument))) }
+        requires read { IsReadAt input.now (seen_mode mode) next start
+            (Some (NextArgument (seen_argument argument.now))) }
         requires room { specs.old.count < usize.MAX }
         ensures described { OnOk result (specs.new.count ≤ length specs.old.records.now
-            → piece_meant self.now.input.now
-            (spec_at self.now.input.now specs.new.records.now step.new.spec) step.new
-            ≡ Some (NextArgument (seen_argument self.now.argument))) }
+            → piece_meant input.now
+            (spec_at input.now specs.new.records.now step.new.spec) step.new
+            ≡ Some (NextArgument (seen_argument argument.now))) }
         ensures number { OnOk result (step.new.spec ≤ specs.new.count) }
-        ensures adds { OnOk result (Adds (if is_default (seen_spec self.now.argument.format)
+        ensures adds { OnOk result (Adds (if is_default (seen_spec argument.now.format)
             then 0 else 1) specs.old specs.new) }
         ensures others { OnOk result (SameAfter step.old step.new) }
     {
-        if !has_texts(&self.argument) {
-            put_plain_argument(&self.argument, self.input, self.offset, specs, step);
-            return Ok(());
-        }
-        let texts = texts_at(self.alloc, mode, self.input, start, next)?;
-        put_argument(&self.argument, &texts, specs, step);
+        let texts = texts_of(self.alloc, mode, input, start, next, argument)?;
+        put_argument(argument, &texts, specs, step);
         Ok(())
     }
 
@@ -205,28 +176,30 @@ impl<'a> Walker<'a> {
     #[inline(always)]
     fn put_given(
         &self,
+        reading: &Reading<'_>,
+        argument: &Argument<'_>,
         piece: &Option<PieceKind<'_>>,
         start: usize,
         next: usize,
         specs: &mut SpecBuffer<'_>,
         step: &mut Step,
     ) -> Result<(), AllocError>
-        requires last { RunStands self.now.input.now step.old.offset
-            (option_map (seen_taken self.now.argument) piece.now) }
-        requires stands { IfNone self.now.escapes
-            (PlaceholderStands self.now.input.now self.now.offset
-            (option_map (seen_taken self.now.argument) piece.now)) }
-        requires read { IfSome self.now.escapes
-            (λ m. IsReadAt self.now.input.now (seen_mode m) next start
-            (option_map (seen_taken self.now.argument) piece.now)) }
+        requires last { RunStands reading.now.input.now step.old.offset
+            (option_map (seen_taken argument.now) piece.now) }
+        requires stands { IfNone reading.now.escapes
+            (PlaceholderStands reading.now.input.now reading.now.offset
+            (option_map (seen_taken argument.now) piece.now)) }
+        requires read { IfSome reading.now.escapes
+            (λ m. IsReadAt reading.now.input.now (seen_mode m) next start
+            (option_map (seen_taken argument.now) piece.now)) }
         requires room { specs.old.count < usize.MAX }
         ensures described { OnOk result (specs.new.count ≤ length specs.old.records.now
-            → piece_meant self.now.input.now
-            (spec_at self.now.input.now specs.new.records.now step.new.spec) step.new
-            ≡ option_map (seen_taken self.now.argument) piece.now) }
+            → piece_meant reading.now.input.now
+            (spec_at reading.now.input.now specs.new.records.now step.new.spec) step.new
+            ≡ option_map (seen_taken argument.now) piece.now) }
         ensures number { OnOk result (step.new.spec ≤ specs.new.count) }
         ensures adds { OnOk result
-            (Adds (specs_in (option_map (seen_taken self.now.argument) piece.now)) specs.old
+            (Adds (specs_in (option_map (seen_taken argument.now) piece.now)) specs.old
             specs.new) }
         ensures others { OnOk result (SameAfter step.old step.new) }
     {
@@ -237,9 +210,19 @@ impl<'a> Walker<'a> {
                 run_extent(step.offset, text),
                 step,
             ),
-            Some(PieceKind::NextArgument) => match self.escapes {
-                Some(mode) => return self.put_escaped(mode, start, next, specs, step),
-                None => put_plain_argument(&self.argument, self.input, self.offset, specs, step),
+            Some(PieceKind::NextArgument) => match reading.escapes {
+                Some(mode) => {
+                    return self.put_escaped(
+                        reading.input,
+                        mode,
+                        argument,
+                        start,
+                        next,
+                        specs,
+                        step,
+                    );
+                }
+                None => put_plain_argument(argument, reading.input, reading.offset, specs, step),
             },
         }
         Ok(())
@@ -250,18 +233,20 @@ impl<'a> Walker<'a> {
     #[inline(always)]
     fn step(
         &mut self,
+        reading: &Reading<'_>,
+        argument: &mut Argument<'a>,
         number: usize,
         specs: &mut SpecBuffer<'_>,
         step: &mut Step,
     ) -> Result<(), AllocError>
-        requires ready { IsOnItsWay self.old }
+        requires ready { IsOnItsWay reading.now self.old }
         requires room { specs.old.count < usize.MAX }
         ensures described { OnOk result (specs.new.count ≤ length specs.old.records.now
-            → step_meant self.old.input.now specs.new.records.now step.new
-            ≡ event self.old.peeks self.old.parser) }
+            → step_meant reading.now.input.now specs.new.records.now step.new
+            ≡ event reading.now.peeks self.old.parser) }
         ensures number { OnOk result (step.new.spec ≤ specs.new.count) }
         ensures adds { OnOk result (Adds (specs_in (given self.old.parser)) specs.old specs.new) }
-        ensures call { OnOk result (MakesCall number self.old self.new) }
+        ensures call { OnOk result (MakesCall number reading.now self.old self.new) }
         ensures read { OnOk result (step.new.offset
             ≡ position self.new.parser.input self.new.parser.rest) }
     {
@@ -272,18 +257,18 @@ impl<'a> Walker<'a> {
         let NextPiece {
             piece,
             front_errors,
-        } = self.parser.next_into(&mut self.argument)?;
+        } = self.parser.next_into(argument)?;
         put_state(&self.parser, step);
         step.place = closed_place(&self.parser, places);
         put_peeks(
             &self.parser,
-            self.peeks,
+            reading.peeks,
             &mut step.peek,
             &mut step.peek_ahead,
         );
         self.finders
             .add(number, front_errors, self.parser.errors().len() - faults)?;
-        self.put_given(&piece, start, next, specs, step)?;
+        self.put_given(reading, argument, &piece, start, next, specs, step)?;
         Ok(())
     }
 
@@ -293,21 +278,23 @@ impl<'a> Walker<'a> {
     #[inline(never)]
     fn step_unwritten(
         &mut self,
+        reading: &Reading<'_>,
+        argument: &mut Argument<'a>,
         number: usize,
         specs: &mut SpecBuffer<'_>,
     ) -> Result<usize, AllocError>
-        requires ready { IsOnItsWay self.old }
+        requires ready { IsOnItsWay reading.now self.old }
         requires room { specs.old.count < usize.MAX }
         ensures added { OnOk result ((full : List StepRecord) → length full ≤ number
-            → IsAdded self.old.input.now
-            (event self.old.peeks self.old.parser) number specs.new.count full full
+            → IsAdded reading.now.input.now
+            (event reading.now.peeks self.old.parser) number specs.new.count full full
             specs.new.records.now) }
         ensures adds { OnOk result (Adds (specs_in (given self.old.parser)) specs.old specs.new) }
-        ensures call { OnOk result (MakesCall number self.old self.new) }
+        ensures call { OnOk result (MakesCall number reading.now self.old self.new) }
         ensures read { IfOk result (λ n. n ≡ position self.new.parser.input self.new.parser.rest) }
     {
         let mut spare = BLANK;
-        self.step(number, specs, &mut spare)?;
+        self.step(reading, argument, number, specs, &mut spare)?;
         Ok(spare.offset)
     }
 
@@ -317,26 +304,46 @@ impl<'a> Walker<'a> {
     #[inline(always)]
     fn add_step(
         &mut self,
+        reading: &Reading<'_>,
+        argument: &mut Argument<'a>,
         number: usize,
         steps: &mut [Step],
         specs: &mut SpecBuffer<'_>,
     ) -> Result<usize, AllocError>
-        requires ready { IsOnItsWay self.old }
+        requires ready { IsOnItsWay reading.now self.old }
         requires room { specs.old.count < usize.MAX }
         ensures added { OnOk result
-            (IsAdded self.old.input.now
-            (event self.old.peeks self.old.parser) number specs.new.count steps.old steps.new
+            (IsAdded reading.now.input.now
+            (event reading.now.peeks self.old.parser) number specs.new.count steps.old steps.new
             specs.new.records.now) }
         ensures adds { OnOk result (Adds (specs_in (given self.old.parser)) specs.old specs.new) }
-        ensures call { OnOk result (MakesCall number self.old self.new) }
+        ensures call { OnOk result (MakesCall number reading.now self.old self.new) }
         ensures read { IfOk result (λ n. n ≡ position self.new.parser.input self.new.parser.rest) }
     {
         if number < steps.len() {
-            self.step(number, specs, &mut steps[number])?;
+            self.step(reading, argument, number, specs, &mut steps[number])?;
             Ok(steps[number].offset)
         } else {
-            self.step_unwritten(number, specs)
+            let copied = *reading;
+            self.step_unwritten(&copied, argument, number, specs)
         }
+    }
+
+    /// Makes the call at the end of the input, which does nothing without a source literal. Returns
+    /// `Err` if an allocation fails.
+    #[inline(always)]
+    fn end(&mut self) -> Result<(), AllocError>
+        requires { self.old.parser.rest ≡ [] }
+        ensures state { OnOk result (self.new.parser
+            ≡ after self.old.parser (next_call self.old.parser)) }
+        ensures finders { OnOk result (self.new.finders ≡ self.old.finders) }
+    {
+        if !self.parser.is_source_literal() {
+            return Ok(());
+        }
+        let mut unused = Argument::default();
+        let _none = self.parser.next_into(&mut unused)?;
+        Ok(())
     }
 
     /// Makes the call at the end of the input and writes it into its step. The call returns no
@@ -351,7 +358,7 @@ impl<'a> Walker<'a> {
             ≡ after self.old.parser (next_call self.old.parser)) }
         ensures finders { OnOk result (self.new.finders ≡ self.old.finders) }
     {
-        let _none = self.parser.next_into(&mut self.argument)?;
+        self.end()?;
         put_state(&self.parser, step);
         step.place = NO_EXTENT;
         step.peek = NO_EXTENT;
@@ -381,16 +388,53 @@ impl<'a> Walker<'a> {
         Ok(())
     }
 
+    /// Makes the calls before the end of the input, and returns their number. The steps and the
+    /// specifications that fit are written. Returns `Err` if an allocation fails.
+    #[inline(always)]
+    fn add_steps(
+        &mut self,
+        reading: &Reading<'_>,
+        steps: &mut [Step],
+        specs: &mut SpecBuffer<'_>,
+    ) -> Result<usize, AllocError>
+        requires ready { IsOnItsWay reading.now self.old }
+        requires small { length self.old.parser.rest < 2 ^ 63 }
+        requires none { self.old.finders ≡ record { calls = []; fronts = 0 } }
+        requires start { self.old.parser.rest ≡ self.old.parser.input }
+        requires empty { specs.old.count ≡ 0 }
+        ensures end { OnOk result (self.new.parser.rest ≡ []) }
+        ensures small { IfOk result (λ k. k < 2 ^ 63) }
+        ensures up_to { IfOk result (λ k. IsUpTo reading.now.peeks reading.now.input.now
+            self.old.parser (states self.new.parser) self.new.parser k specs.new.count
+            self.new.finders steps.new specs.new.records.now) }
+        ensures specs { OnOk result (Adds specs.new.count specs.old specs.new) }
+        ensures kept_steps { IfOk result (λ k. drop k steps.new ≡ drop k steps.old) }
+    {
+        // (an empty input needs no argument)
+        if reading.input.is_empty() {
+            return Ok(0);
+        }
+        let mut argument = Argument::default();
+        let mut count = 0;
+        let mut read = 0;
+        while read < reading.input.len() {
+            read = self.add_step(reading, &mut argument, count, steps, specs)?;
+            count += 1;
+        }
+        Ok(count)
+    }
+
     /// Makes all calls up to and including the one at the end of the input, and returns their
     /// number. The steps and the specifications that fit are written. Returns `Err` if an
     /// allocation fails.
     #[inline(always)]
     pub fn walk(
         &mut self,
+        reading: &Reading<'_>,
         steps: &mut [Step],
         specs: &mut SpecBuffer<'_>,
     ) -> Result<usize, AllocError>
-        requires ready { IsOnItsWay self.old }
+        requires ready { IsOnItsWay reading.now self.old }
         requires small { length self.old.parser.rest < 2 ^ 63 }
         requires none { self.old.finders ≡ record { calls = []; fronts = 0 } }
         requires start { self.old.parser.rest ≡ self.old.parser.input }
@@ -399,19 +443,14 @@ impl<'a> Walker<'a> {
         ensures specs { OnOk result (Adds (spec_count self.old.parser) specs.old specs.new) }
         ensures written { IfOk result (λ k. k ≤ length steps.old → specs.new.count
             ≤ length specs.old.records.now
-            → map (step_meant self.old.input.now (take specs.new.count specs.new.records.now))
-            (take k steps.new) ≡ events self.old.peeks self.old.parser) }
+            → map (step_meant reading.now.input.now (take specs.new.count specs.new.records.now))
+            (take k steps.new) ≡ events reading.now.peeks self.old.parser) }
         ensures state { OnOk result (self.new.parser ≡ end_of self.old.parser) }
         ensures finders { OnOk result (self.new.finders.calls ≡ found_by self.old.parser) }
         ensures fronts { OnOk result (self.new.finders.fronts ≡ fronts_of self.old.parser) }
         ensures kept_steps { IfOk result (λ k. drop k steps.new ≡ drop k steps.old) }
     {
-        let mut count = 0;
-        let mut read = 0;
-        while read < self.input.len() {
-            read = self.add_step(count, steps, specs)?;
-            count += 1;
-        }
+        let count = self.add_steps(reading, steps, specs)?;
         self.add_end(count, steps)?;
         Ok(count + 1)
     }

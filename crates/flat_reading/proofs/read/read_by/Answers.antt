@@ -1,4 +1,4 @@
-use Rattle.std.proofs.Common.{[], length, sym, ap, ◌∙◌, arith}
+use Rattle.std.proofs.Common.{[], chars, length, sym, ap, ◌∙◌, arith}
 use Rattle.std.proofs.lemmas.List.{length-map}
 use Rattle.rustc_parse_format.specs.Seen.{seen_error}
 use Rattle.rustc_parse_format.specs.State.{State}
@@ -14,6 +14,18 @@ walk-requires-clause-small c =
       c.requires.short,
       c.requires.input_length,
     )
+
+pub walk-requires-clause-ready : goal.walk-requires-clause-ready
+walk-requires-clause-ready c =
+    let e = c.new-walker.ensures.parser ∙ c.requires.start in
+    let r = c.new-reading.ensures in
+    record {
+      utf8 = r.utf8;
+      input = ap chars r.input ∙ sym (ap (λ (s : State). s.input) e);
+      left = ([], ap (λ (s : State). s.input) e ∙ sym (ap (λ (s : State). s.rest) e));
+      plain = rw (r.escapes, r.offset, c.new-walker.ensures.parser) c.requires.plain;
+      mode = rw (r.escapes, c.new-walker.ensures.parser) c.requires.mode;
+    }
 
 pub put_errors-requires : goal.put_errors-requires
 put_errors-requires c =

@@ -7,8 +7,8 @@ pub returns-clause-described : goal.returns-clause-described
 returns-clause-described c = λ peeks input specs.
     let step = c.put_bare_piece.new.step in
     let kept = c.put_bare_piece.ensures.others in
-    report_end peeks input specs step c.args.self.now.parser c.next_into.new.self
-    c.in_ok-_none.ensures.state c.requires
+    report_end peeks input specs step c.args.self.now.parser c.end.new.self.parser
+    c.in_ok-end.ensures.state c.requires
     (no_piece input (spec_at input specs step.spec) step c.put_bare_piece.ensures.kind)
     (ap maybe_place kept.0)
     (kept.1 ∙ c.put_state.ensures.offset)

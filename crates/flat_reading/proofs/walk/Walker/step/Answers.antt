@@ -15,21 +15,24 @@ put_given-requires-clause-last c =
     let read = c.put_state.ensures.offset
     ∙ ap (λ (s : State). position s.input s.rest) c.in_ok-piece.ensures.state in
     let w = c.args.self.now in
+    let r = c.args.reading.now in
     let ready = c.requires.ready in
-    last w.input.now w.parser _ _ ready.utf8 ready.input ready.left read c.in_ok-piece.ensures.piece
+    last r.input.now w.parser _ _ ready.utf8 ready.input ready.left read c.in_ok-piece.ensures.piece
 
 pub put_given-requires-clause-stands : goal.put_given-requires-clause-stands
 put_given-requires-clause-stands c =
     let w = c.args.self.now in
+    let r = c.args.reading.now in
     let ready = c.requires.ready in
-    stands w.input.now w.parser w.offset w.escapes _ ready.utf8 ready.input ready.left ready.plain
+    stands r.input.now w.parser r.offset r.escapes _ ready.utf8 ready.input ready.left ready.plain
     c.in_ok-piece.ensures.piece
 
 pub put_given-requires-clause-read : goal.put_given-requires-clause-read
 put_given-requires-clause-read c =
     let w = c.args.self.now in
+    let r = c.args.reading.now in
     let ready = c.requires.ready in
-    read_at w.input.now w.parser w.escapes _ _ _ ready.utf8 ready.input ready.left ready.mode
+    read_at r.input.now w.parser r.escapes _ _ _ ready.utf8 ready.input ready.left ready.mode
     c.position-start.ensures c.curarg-next.ensures.value
     c.curarg-next.ensures.fits c.in_ok-piece.ensures.piece
 
@@ -56,13 +59,13 @@ add-requires c =
 
 pub returns-clause-described : goal.returns-clause-described
 returns-clause-described c = λ room.
-    let w = c.args.self.now in
-    let s = w.parser in
+    let r = c.args.reading.now in
+    let s = c.args.self.now.parser in
     let state = c.in_ok-piece.ensures.state in
     let kept = c.in_ok-put_given.ensures.others in
     let place = rw state at c.closed_place-step.ensures in
     let t = c.next_into.new.self in
-    described w.peeks w.input.now c.put_given.new.specs.records.now c.put_given.new.step s t state
+    described r.peeks r.input.now c.put_given.new.specs.records.now c.put_given.new.step s t state
     (c.in_ok-put_given.ensures.described room ∙ c.in_ok-piece.ensures.piece)
     (ap maybe_place kept.0
     ∙ place s.arg_places (next_call s).closes (sym (length-map c.arg_places-places.result.now pair)
@@ -101,6 +104,4 @@ returns-clause-call c =
       finders = rw (found, fronts) at c.in_ok-add.ensures.calls
           ∙ sym (add_finders-is c.args.number old.finders.calls fs);
       fronts = c.in_ok-add.ensures.fronts ∙ ap (λ n. old.finders.fronts + n) fronts;
-      input = refl;
-      peeks = refl;
     }

@@ -2,7 +2,7 @@ use Rattle.std.proofs.Common.{chars, sym, ap, ◌∙◌, refl}
 use Rattle.rustc_parse_format.specs.Seen.{seen_mode}
 use Rattle.rustc_parse_format.specs.State.{State}
 use Rattle.flat_reading.proofs.Worlds.{sourceless_plain}
-use Rattle.flat_reading.proofs.read.mode_with_escapes.Goals as goal
+use Rattle.flat_reading.proofs.reading.mode_with_escapes.Goals as goal
 
 pub returns-then-not-is_source_literal-clause-plain
     : goal.returns-then-not-is_source_literal-clause-plain

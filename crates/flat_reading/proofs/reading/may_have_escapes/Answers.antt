@@ -1,7 +1,7 @@
 use Rattle.std.proofs.Common.{◌≡◌, None, chars, refl}
 use Rattle.rustc_parse_format.specs.Seen.{seen_mode}
 use Rattle.flat_reading.proofs.Worlds.{bare_plain, literal_plain, no_style, raw_plain}
-use Rattle.flat_reading.proofs.read.may_have_escapes.Goals as goal
+use Rattle.flat_reading.proofs.reading.may_have_escapes.Goals as goal
 
 pub returns-then-is_some : goal.returns-then-is_some
 returns-then-is_some c = λ no.

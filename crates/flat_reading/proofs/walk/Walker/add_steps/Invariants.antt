@@ -1,19 +1,15 @@
 use Rattle.std.proofs.Common.{◌≡◌, ◌+◌, ◌≤◌, length, drop}
 use Rattle.flat_reading.specs.Events.{position, states}
-use Rattle.flat_reading.specs.Stand.{Adds, IsOnItsWay}
-use Rattle.flat_reading.proofs.Walking.{IsUpTo}
-use Rattle.flat_reading.proofs.walk.Walker.walk.Given as goal
+use Rattle.flat_reading.specs.Stand.{Adds, IsOnItsWay, IsUpTo}
+use Rattle.flat_reading.proofs.walk.Walker.add_steps.Given as goal
 
 abbrev pub invariant-loop-read : goal.invariant-loop-read
 invariant-loop-read l = record {
-  ready : IsOnItsWay l.self;
-  input : l.self.input.now ≡ l.fn.self.input.now;
-  peeks : l.self.peeks ≡ l.fn.self.peeks;
+  ready : IsOnItsWay l.reading l.self;
   read : l.read ≡ position l.self.parser.input l.self.parser.rest;
   room : l.count + length l.self.parser.rest ≤ length l.fn.self.parser.rest;
   up_to : (
-      let old = l.fn.self in
-      IsUpTo old.peeks old.input.now old.parser
+      IsUpTo l.reading.peeks l.reading.input.now l.fn.self.parser
       (states l.self.parser) l.self.parser l.count l.specs.count l.self.finders l.steps
       l.specs.records.now
       );

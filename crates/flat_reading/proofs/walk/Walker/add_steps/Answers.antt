@@ -1,0 +1,104 @@
+use Rattle.std.proofs.Common.{◌+◌, [], length, take, refl, sym, ap, ◌∙◌, arith}
+use Rattle.rustc_parse_format.specs.State.{State}
+use Rattle.flat_reading.specs.Events.{event, given, specs_in, states}
+use Rattle.flat_reading.proofs.Widths.{none_left, some_left}
+use Rattle.flat_reading.proofs.Cuts.{is_none_of}
+use Rattle.flat_reading.proofs.Walking.{added_on, begin, goes_on, kept_put, one_more, states-more}
+use Rattle.flat_reading.proofs.walk.Walker.add_steps.Goals as goal
+
+pub returns-then-is_empty : goal.returns-then-is_empty
+returns-then-is_empty c =
+    let r = c.args.reading.now in
+    let w = c.args.self.now in
+    let s = w.parser in
+    let ready = c.requires.ready in
+    record {
+      end = none_left r.input.now s.input s.rest 0 ready.utf8 ready.input ready.left
+          (rw c.requires.start (omega arith))
+          (omega (arith, is_none_of _ (sym c.is_empty.ensures ∙ c.if-is_empty.true)));
+      small = omega arith;
+      up_to = rw c.requires.empty
+          (begin r.peeks r.input.now s w.finders c.args.steps.now c.args.specs.now.records.now
+          (ap (λ f. f.calls) c.requires.none) (ap (λ f. f.fronts) c.requires.none));
+      specs = record {
+        same = refl;
+        room = refl;
+        used = omega (arith, c.requires.empty);
+        front = refl;
+        kept = refl;
+      };
+      kept_steps = refl;
+    }
+
+pub loop-read-init : goal.loop-read-init
+loop-read-init c =
+    let w = c.args.self.now in
+    let r = c.args.reading.now in
+    record {
+      ready = c.requires.ready;
+      read = rw c.requires.start (omega arith);
+      room = omega arith;
+      up_to = rw c.requires.empty
+          (begin r.peeks r.input.now w.parser w.finders c.args.steps.now
+          c.args.specs.now.records.now
+          (ap (λ f. f.calls) c.requires.none) (ap (λ f. f.fronts) c.requires.none));
+      kept_steps = refl;
+      specs = record {
+        same = refl;
+        room = refl;
+        used = omega (arith, c.requires.empty);
+        front = refl;
+        kept = refl;
+      };
+    }
+
+pub loop-read-smaller : goal.loop-read-smaller
+loop-read-smaller c =
+    let w = c.loop-read.self in
+    let r = c.args.reading.now in
+    let more =
+    some_left r.input.now w.parser.input w.parser.rest c.loop-read.read
+    c.loop-read.invariant.ready.utf8 c.loop-read.invariant.ready.input
+    c.loop-read.invariant.read c.loop-read-test.true in
+    rw (ap (λ (s : State). length s.rest) c.in_ok-read.ensures.call.state) (goes_on w.parser more)
+
+pub loop-read-preserved : goal.loop-read-preserved
+loop-read-preserved c =
+    let r = c.args.reading.now in
+    let s0 = c.args.self.now.parser in
+    let w = c.loop-read.self in
+    let s = w.parser in
+    let new = c.add_step.new.self in
+    let invariant = c.loop-read.invariant in
+    let call = c.in_ok-read.ensures.call in
+    let adds = c.in_ok-read.ensures.adds in
+    let more =
+    some_left r.input.now s.input s.rest c.loop-read.read invariant.ready.utf8
+    invariant.ready.input invariant.read c.loop-read-test.true in
+    let fewer = goes_on s more in
+    let added = c.in_ok-read.ensures.added in
+    record {
+      ready = call.ready;
+      read = c.in_ok-read.ensures.read;
+      room = omega (arith, invariant.room, fewer, ap (λ (s : State). length s.rest) call.state);
+      up_to = one_more r.peeks r.input.now s0 s new.parser
+          (states new.parser) c.loop-read.count c.loop-read.specs.count c.add_step.new.specs.count
+          w.finders new.finders c.loop-read.steps c.add_step.new.steps c.loop-read.specs.records.now
+          c.add_step.new.specs.records.now
+          (rw (states-more s new.parser more call.state) at invariant.up_to) call.state adds.used
+          call.finders call.fronts added adds.front adds.room;
+      kept_steps =
+          kept_put r.input.now (event r.peeks s) c.loop-read.steps c.add_step.new.steps
+          c.args.steps.now c.add_step.new.specs.records.now
+          c.loop-read.count c.add_step.new.specs.count added invariant.kept_steps;
+      specs = added_on (specs_in (given s)) c.args.specs.now c.loop-read.specs c.add_step.new.specs
+          c.requires.empty invariant.specs adds;
+    }
+
+pub returns-clause-end : goal.returns-clause-end
+returns-clause-end c =
+    let w = c.loop-read.self in
+    let r = c.args.reading.now in
+    none_left r.input.now w.parser.input w.parser.rest c.loop-read.read
+    c.loop-read.invariant.ready.utf8 c.loop-read.invariant.ready.input
+    c.loop-read.invariant.ready.left c.loop-read.invariant.read c.loop-read-test.false

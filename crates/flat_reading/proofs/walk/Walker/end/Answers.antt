@@ -1,0 +1,9 @@
+use Rattle.std.proofs.Common.{sym, ◌∙◌}
+use Rattle.flat_reading.proofs.Walking.{end_stays}
+use Rattle.flat_reading.proofs.walk.Walker.end.Goals as goal
+
+pub returns-then-not-is_source_literal-clause-state
+    : goal.returns-then-not-is_source_literal-clause-state
+returns-then-not-is_source_literal-clause-state c =
+    end_stays c.args.self.now.parser c.requires
+    (sym c.is_source_literal.ensures ∙ c.if-not-is_source_literal.true)
