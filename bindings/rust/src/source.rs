@@ -119,8 +119,20 @@ impl<'a> Table<'a> {
         }
     }
 
-    /// Returns macros of the crates log, tracing, slog, anyhow and eyre. An allocation failure
-    /// aborts, as elsewhere in Rust.
+    /// Returns macros of the crates log, tracing, slog, anyhow and eyre alone. For a table with those
+    /// of the standard library too, add each of these rows to [`Table::standard`]. An allocation
+    /// failure aborts, as elsewhere in Rust.
+    ///
+    /// ```
+    /// use dephungo::source::Table;
+    ///
+    /// let mut table = Table::standard();
+    /// for row in Table::with_crates().rows() {
+    ///     table.add(*row);
+    /// }
+    /// assert!(table.rows().iter().any(|row| row.name == "println"));
+    /// assert!(table.rows().iter().any(|row| row.name == "info"));
+    /// ```
     #[must_use]
     pub fn with_crates() -> Table<'a> {
         Table {
