@@ -103,7 +103,7 @@ enum {
     DEPHUNGO_TYPE_DEBUG = 4,     /* `?` */
 };
 
-/* a value that means none where each other one means something */
+/* a value that means none, in a field whose other values each mean something */
 enum {
     DEPHUNGO_NO_FILL = 0x110000, /* there is no fill character: no character has this code */
 };
@@ -147,7 +147,7 @@ typedef struct dephungo_step {
     size_t number;                   /* IMPLICIT and INDEX: the index of the argument, from 0 */
     dephungo_range text;             /* TEXT: the text; NAMED: the name; as a range of the input */
     dephungo_range position_span;    /* ARGUMENT: the byte range of its position in the source */
-    size_t spec;                     /* ARGUMENT: n for record n of specs, from 1, or 0 for the default one, which has none */
+    size_t spec;                     /* ARGUMENT: the number of its record in specs, from 1, or 0 for the default specification, which has no record */
     dephungo_maybe_range place;      /* the byte range of the placeholder that the call closed; none without a source literal */
     size_t offset;                   /* the byte offset in the input up to which it is read after the call */
     size_t next_index;               /* the index of the next implicit argument after the call */

@@ -1,4 +1,4 @@
-//! The faults of a string literal for the one who wrote it: [`draw`] draws a fault under its
+//! The faults of a string literal for the one who wrote it: [`draw`] draws an error under its
 //! source, as rustc does, and [`fix`] applies the edits that the suggestions of faults have. A
 //! [`Fault`] is what an error is made of, with the [`id`](Fault::id) of its kind.
 use crate::proved::drawn_faults::draw as draw_in;
@@ -25,9 +25,9 @@ pub use crate::proved::rustc_parse_format::Fault;
 /// suggestion, if one is made in this mode (see [`edits`]); an empty line. A suggestion to remove or
 /// to insert something is a second label, one to replace a text shows the old and the new lines.
 /// Those for which the arguments of the call are needed, `UsePositional` and
-/// `UseRustDebugPrintingMacro`, are left out. Long lines are not cut at their right. Of two labels
-/// each is drawn in the line in which it begins. The columns that a character takes are those of the
-/// crate `unicode_width`, of Unicode 18.
+/// `UseRustDebugPrintingMacro`, are left out. Lines that are longer than the width of the picture are
+/// cut, but for those of a suggestion. Of two labels each is drawn in the line in which it begins.
+/// The columns that a character takes are those of the crate `unicode_width`, of Unicode 18.
 ///
 /// A span that does not fit is drawn too: an offset inside a character means the start of that
 /// character, one past the source its end, and a range that ends before it begins is empty.
@@ -114,7 +114,7 @@ pub fn errors_of(
 /// aborts, as elsewhere in Rust.
 ///
 /// In the list of [`errors_of`] the error of each fault comes before those of all earlier faults if
-/// [`Fault::is_front`] says so, and else after them.
+/// [`Fault::is_front`] says so, and otherwise after them.
 ///
 /// ```
 /// use dephungo::faults::faults_of;
@@ -163,9 +163,9 @@ pub fn error_of(fault: &Fault<'_>) -> ParseError {
 /// and each of these faults the input has too.
 ///
 /// The edits of all faults are made in a round, and then those that the result suggests, in at most
-/// eight rounds. Of all that the literal becomes without a new fault, the result is the one with the
-/// fewest calls that find a fault, and of two with as few the earlier one. Faults are compared by
-/// their kinds, as [`Fault::id`] names them.
+/// eight rounds. Of the literals that these rounds make and that have no new fault, the result is the
+/// one in which the fewest calls find a fault, and the earliest of several with as few. Faults are
+/// compared by their kinds, as [`Fault::id`] names them.
 ///
 /// Returns `None` if there is no such literal: if there is no edit, if all lead to new faults, or if
 /// the snippet is not the source literal of the input, so that no edit is made in a foreign literal.

@@ -12,8 +12,7 @@ mod parser;
 pub mod programs;
 // These sources are extracted from another language. It lacks some forms that clippy wants, and has
 // parameters that only its contracts read, or that only give the allocator there; public items of
-// one of its crates may be unused here, and where memory is refused there an error has no value
-// here.
+// one of its crates may be unused here, and the error of a failed allocation has no value here.
 #[allow(dead_code, unused_variables, irrefutable_let_patterns, clippy::all)]
 #[deny(clippy::incompatible_msrv)]
 mod proved;

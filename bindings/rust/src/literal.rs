@@ -134,9 +134,9 @@ impl<'a> Literal<'a> {
     }
 }
 
-/// Returns the characters that the content of an ordinary string literal, which is what is between
-/// its quotes, stands for. Each comes with the byte range of the content that it is written as.
-/// Returns `None` if the text is not such a content.
+/// Returns the characters that a *content* stands for: the text between the quotes of an ordinary
+/// string literal. Each character comes with its byte range in the content. Returns `None` if the
+/// text is no such content.
 ///
 /// The rules are those of string literals in the Rust Reference. A backslash before a newline
 /// stands for nothing, together with the newline and all tabs, newlines, carriage returns and

@@ -6,9 +6,9 @@ use crate::Piece;
 
 pub use crate::proved::placeholder_check::Report;
 
-/// Compares the arguments that the pieces use with those that are given: `positional` many by
-/// position, with the indices from 0, and those in `names` by name. Returns the report on missing
-/// and unused arguments.
+/// Compares the arguments that the pieces use with those that are given. `positional` is the number
+/// of those that are given by position, whose indices begin at 0. `names` has the names of the
+/// others. Returns the report on missing and unused arguments.
 ///
 /// The position, the width and the precision of a placeholder can each use an argument, as in the
 /// documentation of `std::fmt`; but here an index never refers to an argument that is given by

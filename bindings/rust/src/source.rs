@@ -72,8 +72,7 @@ pub fn tokens(text: &str) -> Vec<Token> {
     answer(tokens_in(text))
 }
 
-/// A text in which the place of a byte offset is found in a time that is not longer in a longer
-/// text.
+/// A text in which finding the place of a byte offset takes no longer if the text is longer.
 pub struct Places<'a> {
     places: PlacesIn<'a>,
 }
@@ -120,8 +119,20 @@ impl<'a> Table<'a> {
         }
     }
 
-    /// Returns macros of the crates log, tracing, slog, anyhow and eyre. An allocation failure
-    /// aborts, as elsewhere in Rust.
+    /// Returns macros of the crates log, tracing, slog, anyhow and eyre alone. For a table with those
+    /// of the standard library too, add each of these rows to [`Table::standard`]. An allocation
+    /// failure aborts, as elsewhere in Rust.
+    ///
+    /// ```
+    /// use dephungo::source::Table;
+    ///
+    /// let mut table = Table::standard();
+    /// for row in Table::with_crates().rows() {
+    ///     table.add(*row);
+    /// }
+    /// assert!(table.rows().iter().any(|row| row.name == "println"));
+    /// assert!(table.rows().iter().any(|row| row.name == "info"));
+    /// ```
     #[must_use]
     pub fn with_crates() -> Table<'a> {
         Table {
@@ -129,7 +140,7 @@ impl<'a> Table<'a> {
         }
     }
 
-    /// Returns the macros, the first one first.
+    /// Returns the macros in their order: of two with one name the first one counts.
     #[must_use]
     pub fn rows(&self) -> &[Row<'a>] {
         &self.table.rows
@@ -251,8 +262,8 @@ pub fn calls<'a>(text: &'a str, table: &Table<'_>, is_from_2021: bool) -> Vec<Ca
     found
 }
 
-/// Returns where the delimiters of a file stop to match, which is the byte offset of one of them, or
-/// `None` if they match. An allocation failure aborts, as elsewhere in Rust.
+/// Returns where the delimiters of a file no longer match: the byte offset of one of them. Returns
+/// `None` if all match. An allocation failure aborts, as elsewhere in Rust.
 ///
 /// ```
 /// use dephungo::source::first_break;
@@ -360,7 +371,7 @@ pub struct CheckedCall<'a> {
 }
 
 /// Checks a call of a macro that takes a format string: reads the string, compares its placeholders
-/// with the arguments that are given, in the order of the source, and finds the faults that rustc
+/// with the arguments, which are given in the order of the source, and finds the faults that rustc
 /// finds.
 ///
 /// The number of hashes, the length of the text in bytes, and 2 must together fit into a `usize`. An
