@@ -1,6 +1,7 @@
 use Rattle.std.proofs.Common.{◌≡◌, if◌then◌else◌, ap, refl, ◌∙◌, sym}
 use Rattle.rustc_parse_format.proofs.Sources.PlainPlaces.{width_chars}
-use Rattle.flat_reading.proofs.reading.is_longer.Goals.{then-appended_newline, else-appended_newline}
+use Rattle.flat_reading.proofs.reading.is_longer.Goals.{then-appended_newline}
+use Rattle.flat_reading.proofs.reading.is_longer.Goals.{else-appended_newline}
 use Rattle.flat_reading.proofs.reading.is_longer.Goals as goal
 
 pub returns : goal.returns
