@@ -19,11 +19,10 @@ use Rattle.flat_reading.specs.declared.records.Step.{Step}
 use Rattle.flat_reading.specs.declared.records.Spec.{Spec as SpecRecord}
 use Rattle.rustc_parse_format.specs.Lines.{closed_in, with_last}
 use Rattle.flat_reading.specs.Meant.{maybe_place, piece_meant, spec_at}
-use Rattle.flat_reading.specs.Events.{Event, place_of_first, position, event, events, end_of}
-use Rattle.flat_reading.specs.Events.{found_by}
-use Rattle.flat_reading.specs.Events.{finders_from, add_finders, fronts_in, fronts_of, given}
+use Rattle.flat_reading.specs.Events.{Event, add_finders, event, finders_from, fronts_in, given}
+use Rattle.flat_reading.specs.Events.{place_of_first, position}
 use Rattle.flat_reading.specs.Events.{looked_for}
-use Rattle.flat_reading.specs.Events.{spec_count, specs_in, is_default, states, states_for}
+use Rattle.flat_reading.specs.Events.{specs_in, is_default, states, states_for}
 use Rattle.flat_reading.specs.Events.{step_meant}
 use Rattle.flat_reading.specs.Held.{Found}
 use Rattle.flat_reading.specs.Stand.{Adds, AllFew, IsAdded, IsUpTo}

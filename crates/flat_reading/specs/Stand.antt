@@ -1,10 +1,9 @@
--- The places of the texts of a piece in the input. Private definitions, for contracts of private
--- functions.
+-- The places of the texts of a piece in the input, and what a walk has written so far. Private
+-- definitions, for contracts of private functions.
 use Rattle.std.specs.Prelude.{◌≡◌, ◌≢◌, ℕ, ◌+◌, ◌-◌, ◌<◌, ◌≤◌, ◌^◌, ◌⊎◌, ◌||◌, List, [], ◌∷◌, ◌++◌}
 use Rattle.std.specs.Prelude.{length, map, sum_by, take, drop, set, option_map, Bool, true, false}
-use Rattle.std.specs.Prelude.{Option, Some}
-use Rattle.std.specs.Prelude.{None, IfNone, IfSome, is_some, chars, codes, encode_utf8_all}
-use Rattle.std.specs.Prelude.{slice_range}
+use Rattle.std.specs.Prelude.{Option, Some, None, IfNone, IfSome, is_some, chars, codes}
+use Rattle.std.specs.Prelude.{encode_utf8_all, slice_range}
 use Rattle.std.specs.Str.{IsCharBoundary, IsUtf8}
 use Rattle.rustc_parse_format.specs.Characters.{Text}
 use Rattle.rustc_parse_format.specs.Characters.{byte_length}

@@ -1,4 +1,4 @@
-use Rattle.std.proofs.Common.{◌+◌, [], length, take, refl, sym, ap, ◌∙◌, arith}
+use Rattle.std.proofs.Common.{length, refl, sym, ap, ◌∙◌, arith}
 use Rattle.rustc_parse_format.specs.State.{State}
 use Rattle.flat_reading.specs.Events.{event, given, specs_in, states}
 use Rattle.flat_reading.proofs.Widths.{none_left, some_left}
