@@ -1,4 +1,5 @@
-/* The proved parser of Rust's format strings, for C.
+/* The parser of Rust's format strings, for C. The library that ./library builds is proved; the one
+ * of bindings/c/portable is made from the crate for Rust, which is only tested.
  *
  * One call, dephungo_read, reads a whole input and writes the results into buffers of the
  * caller. The library owns nothing and keeps nothing after the call. A record is plain
