@@ -21,18 +21,18 @@ use Rattle.rustc_parse_format.specs.Lines.{lines_in, closed_in, read_lines}
 -- The numbers that a cursor counts: of the characters that it has read, those that it gave back
 -- included, and of the characters that were left when it last went back.
 pub record Passed : Type 0 where
-  pub made : ℕ
-  pub left : ℕ
+  pub pass_count : ℕ
+  pub left_count : ℕ
 
 -- The characters that were given back, where t is left of the input n, by the number of those that
 -- were read again.
 abbrev pub back_at : Text → Text → Passed → Back
-back_at n t p = record { again = (p.made + length t) - length n; left = p.left }
+back_at n t p = record { again = (p.pass_count + length t) - length n; left = p.left_count }
 
 -- The count covers all characters that were read, and those that were given back are bounded as
 -- `IsPaid` says.
 pub record IsCounted (n t : Text) (p : Passed) : Type 0 where
-  pub made : length n ≤ p.made + length t
+  pub made : length n ≤ p.pass_count + length t
   pub paid : IsPaid n t (back_at n t p)
 
 -- The text that a cursor has left to read: a suffix of an input, in the world of its source.

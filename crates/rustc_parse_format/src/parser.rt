@@ -1,6 +1,6 @@
 //! The parser: each call reads one piece, up to the end of the input.
 
-pub mod ahead;
+pub mod lookahead;
 mod step;
 mod steps;
 mod with_faults;
@@ -10,7 +10,7 @@ use crate::lists::Lists;
 use crate::reader::Reader;
 use crate::source::{quote_offset, source_of};
 use crate::types::{Argument, NextPiece, ParseError, ParseMode, Piece};
-use ahead::Ahead;
+use lookahead::Lookahead;
 use std::alloc::{AllocError, Global};
 use std::marker::Model;
 use std::ops::Range;
@@ -119,7 +119,7 @@ impl<'input> Parser<'input> {
         ensures short { IfOk result (λ p. length p.rest ≤ length input.now) }
     {
         let source = source_of(input, style, snippet, appended_newline);
-        let cursor = Cursor::new(source, Ahead::new(input));
+        let cursor = Cursor::new(source, Lookahead::new(input));
         Ok(Parser {
             alloc,
             mode,

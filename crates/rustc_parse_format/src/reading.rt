@@ -26,7 +26,7 @@ use std::alloc::{AllocError, Global};
 const PIECE_BYTES: usize = 10;
 
 /// The most pieces after the first one for which a list makes room.
-const MOST_ROOM: usize = 16;
+const MAX_ROOM: usize = 16;
 
 /// Makes room in an empty list for a piece and those that are likely to follow it in so many bytes.
 /// Returns `Err` if an allocation fails.
@@ -35,7 +35,7 @@ fn make_room(pieces: &mut Vec<Piece<'_>>, bytes: usize) -> Result<(), AllocError
     ensures { pieces.new.items ≡ pieces.old.items }
 {
     if pieces.is_empty() {
-        pieces.reserve(1 + (bytes / PIECE_BYTES).min(MOST_ROOM))?;
+        pieces.reserve(1 + (bytes / PIECE_BYTES).min(MAX_ROOM))?;
     }
     Ok(())
 }

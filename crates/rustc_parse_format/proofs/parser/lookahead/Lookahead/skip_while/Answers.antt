@@ -2,7 +2,7 @@ use Rattle.std.proofs.Common.{chars}
 use Rattle.rustc_parse_format.specs.Characters.{front}
 use Rattle.rustc_parse_format.specs.Classes.{passes}
 use Rattle.rustc_parse_format.proofs.Grammar.Fronts.{front-rest_after}
-use Rattle.rustc_parse_format.proofs.parser.ahead.Ahead.skip_while.Goals as goal
+use Rattle.rustc_parse_format.proofs.parser.lookahead.Lookahead.skip_while.Goals as goal
 
 pub count_before-requires : goal.count_before-requires
 count_before-requires c =

@@ -1,9 +1,9 @@
 use Rattle.std.proofs.Common.{◌∙◌, rules, chars, refl, sym}
 use Rattle.rustc_parse_format.specs.Characters.{word}
 use Rattle.rustc_parse_format.proofs.Grammar.Fronts.{word-rest_after}
-use Rattle.rustc_parse_format.proofs.parser.ahead.Ahead.word.Goals as goal
-use Rattle.rustc_parse_format.proofs.parser.ahead.Ahead.word.Goals.{then-is_underscore}
-use Rattle.rustc_parse_format.proofs.parser.ahead.Ahead.word.Goals.{else-is_underscore}
+use Rattle.rustc_parse_format.proofs.parser.lookahead.Lookahead.word.Goals as goal
+use Rattle.rustc_parse_format.proofs.parser.lookahead.Lookahead.word.Goals.{then-is_underscore}
+use Rattle.rustc_parse_format.proofs.parser.lookahead.Lookahead.word.Goals.{else-is_underscore}
 
 pub count_before-requires : goal.count_before-requires
 count_before-requires c =

@@ -27,17 +27,17 @@ use denote.Triple.Spec.{Meets, triple_of}
 use denote.Triple.Table.{entered}
 use denote.Triple.Walked.{says, stay_none_ref, Stays, walk_of, Walks, ends_at, walked}
 use denote.Triple.Walked.{Goes-none_ref, walk_Meets}
-use Rattle.rustc_parse_format.specs.contracts.parser.steps.Steps.more.Key.{name as key}
-use Rattle.rustc_parse_format.specs.contracts.parser.steps.Steps.more as f
-use Rattle.rustc_parse_format.proofs.parser.steps.Steps.more.Statement as stated
-use Rattle.rustc_parse_format.proofs.parser.steps.Steps.more.Code as code
-use Rattle.rustc_parse_format.specs.contracts.parser.steps.Steps as made
+use Rattle.rustc_parse_format.specs.contracts.parser.steps.Steps.sum.Key.{name as key}
+use Rattle.rustc_parse_format.specs.contracts.parser.steps.Steps.sum as f
+use Rattle.rustc_parse_format.proofs.parser.steps.Steps.sum.Statement as stated
+use Rattle.rustc_parse_format.proofs.parser.steps.Steps.sum.Code as code
+use Rattle.rustc_parse_format.specs.contracts.parser.steps.Steps as steps
 use denote.Builtin.{u64}
 use Prim.Native.Nat.{◌+◌}
 
 abbrev stayed : Stays (f.ended).signature.params (f.ended).kept
 stayed = (
-  stay_none_ref (0 ∷ []) tt (plain (λ _. made.the_row)) yes,
+  stay_none_ref (0 ∷ []) tt (plain (λ _. steps.the_row)) yes,
   (stay_none_ref (1 ∷ []) tt (plain (λ _. u64)) yes, tt),
 )
 
@@ -68,10 +68,10 @@ module _ {M : Type 1} {𝓤 : Ura M} (𝓛 : Logic 𝓤) (mem : Memory → SProp
         (agg ! (no_more !)) refl (tt, tt) $
         returns ! (look_at ! 0 refl) $ free_all ! refl $
         suffices ! _ (ends_at 𝓛 f.ended stayed (f.clauses 𝓛 mem run) bound (vstruct vnil)
-        (record { made = a.0.now.made + a.1.0.now })
+        (record { number = a.0.now.number + a.1.0.now })
         (tt, (tt, tt)) (tt, (tt, tt))) $
         says ! refl $ pure_i !
-        (made.the_row.own_val (record { made = a.0.now.made + a.1.0.now }) (vstruct vnil ∷ []))
+        (steps.the_row.own_val (record { number = a.0.now.number + a.1.0.now }) (vstruct vnil ∷ []))
         ((λ vss. (tt, tt)), tt) ((tt, (refl, tt)), tt) $
         move ! (1 ∷ 2 ∷ 0 ∷ []) $ done !)
 
@@ -79,7 +79,7 @@ module _ {M : Type 1} {𝓤 : Ura M} (𝓛 : Logic 𝓤) (mem : Memory → SProp
   walks =
       walked 𝓛 f.ended stayed (f.clauses 𝓛 mem run) (WpFn 𝓤 H C Λ code.function)
       (λ κs. (shr_vals, (shr_vals, tt)))
-      (λ κs. (shr_Tells (named 0) κs.0 made.the_row, (shr_Tells (named 1) κs.1.0 u64, tt)))
+      (λ κs. (shr_Tells (named 0) κs.0 steps.the_row, (shr_Tells (named 1) κs.1.0 u64, tt)))
       (λ κs qs bounds a g are. via 𝓤 _ (fst∗ 𝓤 _ (emp 𝓤)) (walk κs qs a))
 
 meets : {M : Type 1} {𝓤 : Ura M} (𝓛 : Logic 𝓤) (mem : Memory → SProp 𝓤) (run : Routine → Fun 𝓤)
@@ -87,7 +87,7 @@ meets : {M : Type 1} {𝓤 : Ura M} (𝓛 : Logic 𝓤) (mem : Memory → SProp 
     → Meets 𝓛 f.signature (WpFn 𝓤 𝓛.H 𝓣.C 𝓣.Λ code.function) (f.spec 𝓛 mem run)
 meets {𝓤 = 𝓤} 𝓛 mem run 𝓣 =
     walk_Meets 𝓛 f.ended stayed (
-      Goes-none_ref 𝓛 2 (0 ∷ []) tt (plain (λ _. made.the_row)) yes,
+      Goes-none_ref 𝓛 2 (0 ∷ []) tt (plain (λ _. steps.the_row)) yes,
       (Goes-none_ref 𝓛 2 (1 ∷ []) tt (plain (λ _. u64)) yes, tt),
     )
     (f.clauses 𝓛 mem run) (WpFn 𝓤 𝓛.H 𝓣.C 𝓣.Λ code.function)

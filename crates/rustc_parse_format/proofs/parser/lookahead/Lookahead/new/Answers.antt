@@ -1,6 +1,6 @@
 use Rattle.std.proofs.lemmas.Str.{is_utf8-from_IsUtf8}
 use Rattle.rustc_parse_format.proofs.Sources.Places.{left_self}
-use Rattle.rustc_parse_format.proofs.parser.ahead.Ahead.new.Goals as goal
+use Rattle.rustc_parse_format.proofs.parser.lookahead.Lookahead.new.Goals as goal
 
 pub returns-clause-left : goal.returns-clause-left
 returns-clause-left c =

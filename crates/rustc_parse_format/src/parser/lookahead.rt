@@ -9,8 +9,8 @@ ghost use Rattle.rustc_parse_format.specs.World.{place_of};
 
 use super::steps::{Steps, Tally, count_before, count_next};
 use crate::characters::{
-    Class, LeadingNumber, after_first, after_while, before, begins, begins_digit, begins_white,
-    begins_word, first, is_underscore, leading_number, split_word,
+    Class, LeadingNumber, after_first, after_while, begins, begins_digit, begins_white,
+    begins_word, first, is_underscore, leading_number, split_word, text_before,
 };
 use crate::source::{Anchor, Source};
 use std::ops::Range;
@@ -24,7 +24,7 @@ pub struct Spot<'input> {
 /// The rest of a text that is still to be read, with the count of the steps made so far. There is
 /// no way on but the moves, and each counts its steps.
 #[derive(Drop)]
-pub struct Ahead<'input> {
+pub struct Lookahead<'input> {
     rest: Spot<'input>,
     tally: Tally,
     undo_count: Steps,
@@ -60,7 +60,7 @@ impl<'input> Spot<'input> {
 
     /// Returns whether the character is `c`, which is ASCII.
     #[inline(always)]
-    pub fn is(self, c: char) -> bool
+    pub fn is_char(self, c: char) -> bool
         requires { c < 128 }
         ensures { result ≡ begins_with c (chars self.entry.text.now) }
     {
@@ -187,10 +187,10 @@ fn place_through<'input>(
     from.start(source, anchor)..to.stop(source, anchor)
 }
 
-impl<'input> Ahead<'input> {
+impl<'input> Lookahead<'input> {
     ghost use Rattle.std.specs.Prelude.{◌≡◌, ◌+◌, ◌++◌, List, None, Some, ℕ, bytes_eq, chars};
     ghost use Rattle.std.specs.Prelude.{codes, if◌then◌else◌, length, option_map, true};
-    ghost use Rattle.rustc_parse_format.specs.Ahead.{Moves};
+    ghost use Rattle.rustc_parse_format.specs.Lookahead.{Moves};
     ghost use Rattle.rustc_parse_format.specs.Bytes.{IsLeft};
     ghost use Rattle.rustc_parse_format.specs.Characters.{Text, after_digits, after_first};
     ghost use Rattle.rustc_parse_format.specs.Characters.{after_word, digits, first_passes};
@@ -204,13 +204,14 @@ impl<'input> Ahead<'input> {
 
     /// Returns the whole of a text, over which no step was made. Only a parser can make one.
     #[inline(always)]
-    pub(super) fn new(text: &'input str) -> Ahead<'input>
+    pub(super) fn new(text: &'input str) -> Lookahead<'input>
         ensures rest { result.rest.text.now ≡ text.now }
-        ensures tally { result.tally ≡ record { made = 0; left = length (chars text.now) } }
-        ensures undo_count { result.undo_count.made ≡ 0 }
+        ensures tally { result.tally
+            ≡ record { pass_count = 0; left_count = length (chars text.now) } }
+        ensures undo_count { result.undo_count.number ≡ 0 }
         ensures left { IsLeft text.now result.rest.text.now }
     {
-        Ahead {
+        Lookahead {
             rest: Spot { text },
             tally: Tally::new(text),
             undo_count: Steps::start(),
@@ -247,18 +248,18 @@ impl<'input> Ahead<'input> {
         Checkpoint {
             rest: self.rest,
             anchor,
-            tally: self.tally.same(),
+            tally: self.tally.copy(),
         }
     }
 
-    /// Returns the text between `from` and the next character.
+    /// Returns the text between `start` and the next character.
     #[inline(always)]
-    pub fn since(&self, from: Spot<'input>) -> &'input str
-        requires { (read : Text) × (chars from.text.now ≡ read ++ chars self.now.rest.text.now) }
-        ensures { (read : Text) → chars from.entry.text.now ≡ read ++ chars self.now.rest.text.now
-            → chars result.now ≡ read }
+    pub fn text_since(&self, start: Spot<'input>) -> &'input str
+        requires { (text : Text) × (chars start.text.now ≡ text ++ chars self.now.rest.text.now) }
+        ensures { (text : Text) → chars start.entry.text.now ≡ text ++ chars self.now.rest.text.now
+            → chars result.now ≡ text }
     {
-        before(from.text, self.rest.text)
+        text_before(start.text, self.rest.text)
     }
 
     /// Moves past the next character, if there is one.
@@ -361,7 +362,7 @@ impl<'input> Ahead<'input> {
         } = leading_number(self.rest.text);
         let over = if is_over {
             let place = place_through(&self.rest, &Spot { text: rest }, source, anchor);
-            Some((before(self.rest.text, rest), place))
+            Some((text_before(self.rest.text, rest), place))
         } else {
             None
         };
@@ -370,29 +371,29 @@ impl<'input> Ahead<'input> {
         (number, over)
     }
 
-    /// Goes back to the earlier place `to`. The characters from there on can then be read again,
+    /// Goes back to the earlier place `spot`. The characters from there on can then be read again,
     /// which counts as new steps.
     #[inline(always)]
-    pub fn rewind(&mut self, to: Spot<'input>)
-        ensures rest { self.new.rest.text.now ≡ to.entry.text.now }
+    pub fn rewind(&mut self, spot: Spot<'input>)
+        ensures rest { self.new.rest.text.now ≡ spot.entry.text.now }
         ensures tally { self.new.tally
-            ≡ record self.old.tally { left = length (chars self.old.rest.text.now) } }
+            ≡ record self.old.tally { left_count = length (chars self.old.rest.text.now) } }
         ensures undo_count { self.new.undo_count ≡ self.old.undo_count }
     {
         self.tally.rewind(self.rest.text);
-        self.rest = to;
+        self.rest = spot;
     }
 
-    /// Goes back to the position `to`, before a call in which an allocation failed. The steps of
-    /// that call then do not count.
+    /// Goes back to the position `checkpoint`, before a call in which an allocation failed. The
+    /// steps of that call then do not count.
     #[inline(always)]
-    pub fn undo(&mut self, to: Checkpoint<'input>)
-        ensures rest { self.new.rest.text.now ≡ to.entry.rest.text.now }
-        ensures tally { self.new.tally ≡ to.entry.tally }
-        ensures undo_count { self.new.undo_count.made ≡ self.old.undo_count.made + 1 }
+    pub fn undo(&mut self, checkpoint: Checkpoint<'input>)
+        ensures rest { self.new.rest.text.now ≡ checkpoint.entry.rest.text.now }
+        ensures tally { self.new.tally ≡ checkpoint.entry.tally }
+        ensures undo_count { self.new.undo_count.number ≡ self.old.undo_count.number + 1 }
     {
-        self.rest = to.rest;
-        self.tally = to.tally;
-        self.undo_count = Steps::more(&self.undo_count, &1);
+        self.rest = checkpoint.rest;
+        self.tally = checkpoint.tally;
+        self.undo_count = Steps::sum(&self.undo_count, &1);
     }
 }

@@ -1,5 +1,5 @@
 use Rattle.rustc_parse_format.proofs.Bytes.Texts.{parts, rest_after-le, cut_boundary, chars_front}
-use Rattle.rustc_parse_format.proofs.characters.before.Goals as goal
+use Rattle.rustc_parse_format.proofs.characters.text_before.Goals as goal
 
 pub overflow_sub-text : goal.overflow_sub-text
 overflow_sub-text c = rest_after-le _ _ c.requires.0
