@@ -9,7 +9,7 @@ use Rattle.std.specs.Str.{bytes_eq, encode_utf8_all}
 use denote.Ref.{Bor}
 use Rattle.rustc_parse_format.specs.Characters.{Text}
 use Rattle.rustc_parse_format.specs.SeenFaults.{seen_fault as seen_text_fault}
-use Rattle.rustc_parse_format.specs.Seen.{seen}
+use Rattle.rustc_parse_format.specs.Seen.{seen_piece}
 use Rattle.rustc_parse_format.specs.State.{State, first_state}
 use Rattle.rustc_parse_format.specs.World.{Place}
 use Rattle.rustc_parse_format.specs.Types.{Format}
@@ -102,7 +102,7 @@ abbrev pub title_parts : CallReport → List ℕ → TitleParts Place
 title_parts c numbers = record {
   arguments = map seen_given c.arguments.now;
   count = length c.indices.items;
-  pieces = map seen c.pieces.items;
+  pieces = map seen_piece c.pieces.items;
   total = c.parser.next;
   numbers = numbers;
 }
@@ -129,7 +129,7 @@ abbrev pub seen_call : CallReport → Call
 seen_call c = record {
   arguments = map seen_given c.arguments.now;
   kept = c.indices.items;
-  pieces = map seen c.pieces.items;
+  pieces = map seen_piece c.pieces.items;
   counts = c.counts.items;
   places = c.parser.arg_places;
   total = c.parser.next;

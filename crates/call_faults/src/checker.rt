@@ -4,7 +4,7 @@ ghost use Rattle.std.specs.Prelude.{◌≡◌, ◌+◌, ◌<◌, ◌^◌, ◌↔
 ghost use Rattle.std.specs.Prelude.{is_none, length, map, option_map};
 ghost use Rattle.std.specs.List.{All};
 ghost use Rattle.rustc_parse_format.specs.Call.{pieces_of};
-ghost use Rattle.rustc_parse_format.specs.Seen.{seen, seen_snippet};
+ghost use Rattle.rustc_parse_format.specs.Seen.{seen_piece, seen_snippet};
 ghost use Rattle.rustc_parse_format.specs.State.{after_all, calls};
 ghost use Rattle.rustc_parse_format.specs.World.{hashes, pieces_in};
 ghost use Rattle.call_faults.specs.CallFaults.{is_warning};
@@ -105,7 +105,7 @@ fn faults_of<'a>(
     ensures faults { IfOk result (λ v. is_none (text_fault (start string.entry)) ≡ is_read
         → map seen_fault v.items ≡ call_faults string.entry.captures
         (map seen_given call_arguments.now) (text_fault (start string.entry))
-        (map seen pieces.now)) }
+        (map seen_piece pieces.now)) }
 {
     let mut faults = Vec::new(alloc);
     let Some(mut arguments) = arguments_of(alloc, &mut faults, call_arguments)? else {
@@ -145,15 +145,16 @@ pub fn call_faults<'a>(
     // The pieces and the parser are those of the calls of a parser at the start of the string, and
     // the faults are those that the definition names, in its order.
     ensures walk { IfOk result (λ x. let s = start string.entry in
-        (map seen x.pieces.items ≡ pieces_in s.world (pieces_of (calls s)))
+        (map seen_piece x.pieces.items ≡ pieces_in s.world (pieces_of (calls s)))
         × (x.parser ≡ after_all s (calls s))) }
     ensures arguments { IfOk result (λ x. x.arguments ≡ arguments.entry) }
     ensures kept { IfOk result (λ x. x.indices.items
         ≡ kept_indices (map seen_given arguments.now)) }
-    ensures counts { IfOk result (λ x. x.counts.items ≡ counts_before 0 (map seen x.pieces.items)) }
+    ensures counts { IfOk result (λ x. x.counts.items
+        ≡ counts_before 0 (map seen_piece x.pieces.items)) }
     ensures faults { IfOk result (λ x. map seen_fault x.faults.items
         ≡ call_faults string.entry.captures (map seen_given arguments.now)
-        (text_fault (start string.entry)) (map seen x.pieces.items)) }
+        (text_fault (start string.entry)) (map seen_piece x.pieces.items)) }
 
     // Nothing but warnings is found exactly if the call is clean.
     ensures clean { IfOk result (λ x. All (λ f. IsTrue (is_warning f)) (map seen_fault

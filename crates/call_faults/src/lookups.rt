@@ -2,7 +2,8 @@
 
 ghost use Rattle.std.specs.Prelude.{◌≡◌, ◌∷◌, ◌++◌, ◌==◌, [], IfOk, OnOk, chars, codes, map};
 ghost use Rattle.std.specs.List.{list_any};
-ghost use Rattle.rustc_parse_format.specs.Seen.{seen, seen_argument, seen_count, seen_position};
+ghost use Rattle.rustc_parse_format.specs.Seen.{seen_piece, seen_argument, seen_count};
+ghost use Rattle.rustc_parse_format.specs.Seen.{seen_position};
 ghost use Rattle.placeholder_check.specs.Uses.{count_uses, position_use};
 ghost use Rattle.call_faults.specs.Lookups.{argument_lookups, is_known, lookups_from};
 ghost use Rattle.call_faults.specs.Lookups.{piece_lookups, refer};
@@ -109,7 +110,7 @@ fn push_piece<'a>(
     piece: &Piece<'a>,
 ) -> Result<(), AllocError>
     ensures { OnOk result (map seen_lookup list.new.items ≡ map seen_lookup list.old.items
-        ++ piece_lookups index (seen piece.now)) }
+        ++ piece_lookups index (seen_piece piece.now)) }
 {
     match piece {
         Piece::Lit(_) => Ok(()),
@@ -122,7 +123,8 @@ pub(crate) fn lookups_of<'a>(
     alloc: Global,
     pieces: &[Piece<'a>],
 ) -> Result<Vec<Lookup<'a>>, AllocError>
-    ensures { IfOk result (λ v. map seen_lookup v.items ≡ lookups_from 0 (map seen pieces.now)) }
+    ensures { IfOk result (λ v. map seen_lookup v.items
+        ≡ lookups_from 0 (map seen_piece pieces.now)) }
 {
     let mut list = Vec::new(alloc);
     for (index, piece) in pieces.iter().enumerate() {

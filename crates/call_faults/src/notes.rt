@@ -6,7 +6,8 @@ ghost use Rattle.std.specs.Prelude.{option_map, string_bytes};
 ghost use Rattle.std.specs.List.{list_any};
 ghost use Rattle.rustc_parse_format.specs.Characters.{Text};
 ghost use Rattle.rustc_parse_format.specs.Faults.{message};
-ghost use Rattle.rustc_parse_format.specs.Seen.{seen, seen_alignment, seen_count, seen_position};
+ghost use Rattle.rustc_parse_format.specs.Seen.{seen_piece, seen_alignment, seen_count};
+ghost use Rattle.rustc_parse_format.specs.Seen.{seen_position};
 ghost use Rattle.rustc_parse_format.specs.Seen.{seen_spec};
 ghost use Rattle.rustc_parse_format.specs.SeenFaults.{seen_fault as seen_text_fault};
 ghost use Rattle.call_faults.specs.Notes.{ambiguity_text, are_missing, capture_text, count_note};
@@ -140,7 +141,7 @@ fn has_flags(format: &FormatSpec<'_>) -> bool
 
 /// Returns whether a piece has more than a trait.
 fn is_flagged(piece: &Piece<'_>) -> bool
-    ensures { result ≡ is_flagged (seen piece.now) }
+    ensures { result ≡ is_flagged (seen_piece piece.now) }
 {
     match piece {
         Piece::Lit(_) => false,
@@ -150,7 +151,7 @@ fn is_flagged(piece: &Piece<'_>) -> bool
 
 /// Returns whether one of these pieces has more than a trait.
 fn are_flagged(pieces: &[Piece<'_>]) -> bool
-    ensures { result ≡ list_any is_flagged (map seen pieces.now) }
+    ensures { result ≡ list_any is_flagged (map seen_piece pieces.now) }
 {
     for piece in pieces {
         if is_flagged(piece) {
@@ -162,7 +163,7 @@ fn are_flagged(pieces: &[Piece<'_>]) -> bool
 
 /// Returns whether a piece takes an argument by `*`.
 fn has_star(piece: &Piece<'_>) -> bool
-    ensures { result ≡ has_star (seen piece.now) }
+    ensures { result ≡ has_star (seen_piece piece.now) }
 {
     match piece {
         Piece::Lit(_) => false,
@@ -172,7 +173,7 @@ fn has_star(piece: &Piece<'_>) -> bool
 
 /// Returns whether one of these pieces takes an argument by `*`.
 fn have_stars(pieces: &[Piece<'_>]) -> bool
-    ensures { result ≡ list_any has_star (map seen pieces.now) }
+    ensures { result ≡ list_any has_star (map seen_piece pieces.now) }
 {
     for piece in pieces {
         if has_star(piece) {
@@ -202,7 +203,7 @@ fn flags_note() -> &'static str
 #[tactic(auto, using(std::proofs::Common::append_assoc))]
 fn push_missing(notes: &mut Vec<CallNote>, pieces: &[Piece<'_>]) -> Result<(), AllocError>
     ensures { OnOk result (map seen_note notes.new.items
-        ≡ map seen_note notes.old.items ++ missing_notes (map seen pieces.now)) }
+        ≡ map seen_note notes.old.items ++ missing_notes (map seen_piece pieces.now)) }
 {
     let is_counted = have_numbers(pieces) || have_stars(pieces);
     push_if(notes, is_counted, count_note())?;
@@ -300,7 +301,7 @@ fn push_position<'a>(
     piece: &Piece<'a>,
 ) -> Result<(), AllocError>
     ensures { OnOk result (spots.new.items ≡ spots.old.items
-        ++ named_position (λ w. is_some (found_in names.now w)) (seen piece.now)) }
+        ++ named_position (λ w. is_some (found_in names.now w)) (seen_piece piece.now)) }
 {
     if let Piece::NextArgument(argument) = piece {
         if is_name(names, &argument.position) {
@@ -318,7 +319,7 @@ fn named_positions<'a>(
     pieces: &[Piece<'a>],
 ) -> Result<Vec<Spot>, AllocError>
     ensures { IfOk result (λ v. v.items
-        ≡ named_positions (λ w. is_some (found_in names.now w)) (map seen pieces.now)) }
+        ≡ named_positions (λ w. is_some (found_in names.now w)) (map seen_piece pieces.now)) }
 {
     let mut spots = Vec::new(alloc);
     for piece in pieces {

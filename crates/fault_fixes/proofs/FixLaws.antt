@@ -16,7 +16,7 @@ use Rattle.rustc_parse_format.specs.Faults.{Nothing, TupleIndex}
 use Rattle.rustc_parse_format.specs.Call.{call}
 use Rattle.rustc_parse_format.specs.Types.{Mode, Format, InlineAsm, Diagnostic, DiagnosticNamed}
 use Rattle.rustc_parse_format.specs.World.{Place, World, faults_in, place_of}
-use Rattle.rustc_parse_format.specs.State.{State, after, first_state, next_call}
+use Rattle.rustc_parse_format.specs.State.{State, state_after, first_state, next_call}
 use Rattle.rustc_parse_format.proofs.Walking.Progress.{call-lt}
 use Rattle.fault_fixes.specs.Edits.{Edit, applied, edit_of, edits, is_empty, joined, made, offered}
 use Rattle.fault_fixes.specs.Edits.{suggested}
@@ -91,7 +91,7 @@ left_edits-are mode s none =
 
 -- They are those of the first call, and then those of the calls after it.
 pub left_edits-step : (mode : Mode) (s new : State)
-    → new ≡ record (after s (next_call s)) { errors = [] } → is_nil s.rest ≡ false
+    → new ≡ record (state_after s (next_call s)) { errors = [] } → is_nil s.rest ≡ false
     → fault_edits mode (faults_in s.world (next_call s).faults) ++ left_edits mode new
     ≡ left_edits mode s
 left_edits-step mode s new e h =
@@ -138,7 +138,7 @@ edited-end mode s new out start end rest at t none h e =
     (ap (λ x. x.0) done, sym (false-or (nat_lt 0 end)) ∙ ap (λ x. x.1) done)
 
 -- A call before the end reads on.
-pub left-shorter : (s new : State) → new ≡ record (after s (next_call s)) { errors = [] }
+pub left-shorter : (s new : State) → new ≡ record (state_after s (next_call s)) { errors = [] }
     → is_nil s.rest ≡ false → length new.rest < length s.rest
 left-shorter s new e some =
     rw e (call-lt s.mode s.next s.rest (λ n. false≢true (sym some ∙ ap is_nil n)))

@@ -8,7 +8,7 @@ use Rattle.rustc_parse_format.specs.Characters.{Text, begins_raw, begins_with, a
 use Rattle.rustc_parse_format.specs.Characters.{after_white, first_passes, is_id_start}
 use Rattle.rustc_parse_format.specs.Types.{Mode, Format, InlineAsm, Diagnostic, DiagnosticNamed}
 use Rattle.rustc_parse_format.specs.Types.{Named, NextArgument}
-use Rattle.rustc_parse_format.specs.Marks.{Mark, Start, End, Span, through, up_to}
+use Rattle.rustc_parse_format.specs.Marks.{Mark, Start, End, Span, span_through, up_to}
 use Rattle.rustc_parse_format.specs.Faults.{Fault, RawIdentifier, map_fault}
 use Rattle.rustc_parse_format.specs.Placeholder.{Cut, cut, position}
 use Rattle.rustc_parse_format.specs.Syntax.{RawWord, Word}
@@ -39,7 +39,8 @@ abbrev removes : Text → Span → Span
 removes t = moved (length t) 2 0
 
 abbrev raw_fault : Text → Fault Span
-raw_fault t = RawIdentifier (up_to (114 ∷ 35 ∷ t) (after_word t)) (through (114 ∷ 35 ∷ t) (35 ∷ t))
+raw_fault t = RawIdentifier (up_to (114 ∷ 35 ∷ t) (after_word t))
+    (span_through (114 ∷ 35 ∷ t) (35 ∷ t))
 
 -- The cuts before and after it.
 abbrev raw_cut : Mode → Text → Cut

@@ -17,7 +17,7 @@ use Rattle.rustc_parse_format.specs.Faults.{LateDebug, LateAlign, Grouping, Debu
 use Rattle.rustc_parse_format.specs.Faults.{FieldAccess, TupleIndex}
 use Rattle.rustc_parse_format.specs.Literal.{IsSource, raw_closing, raw_frame, raw_opening}
 use Rattle.rustc_parse_format.specs.Marks.{Span}
-use Rattle.rustc_parse_format.specs.State.{State, after, next_call}
+use Rattle.rustc_parse_format.specs.State.{State, state_after, next_call}
 use Rattle.rustc_parse_format.specs.Types.{Mode}
 use Rattle.rustc_parse_format.specs.World.{Place, World, faults_in, hashes, place_of}
 use Rattle.rustc_parse_format.proofs.Literals.Widths.{width-append, width-chars, width-cons}
@@ -62,14 +62,14 @@ abbrev pub left_ids : State → List (List ℕ)
 left_ids s = map fault_id (all_faults s.mode s.next s.rest)
 
 -- Each call reads a character.
-pub ids-shorter : (s new : State) → new ≡ record (after s (next_call s)) { errors = s.errors }
+pub ids-shorter : (s new : State) → new ≡ record (state_after s (next_call s)) { errors = s.errors }
     → is_nil s.rest ≡ false → length new.rest < length s.rest
 ids-shorter s new e some =
     rw e (call-lt s.mode s.next s.rest (λ n. false≢true (sym some ∙ ap is_nil n)))
 
 -- With a call, its faults are found and no longer left.
 pub ids-step : (s new : State) (old found : List (Fault Place)) (all : List (List ℕ))
-    → new ≡ record (after s (next_call s)) { errors = s.errors } → is_nil s.rest ≡ false
+    → new ≡ record (state_after s (next_call s)) { errors = s.errors } → is_nil s.rest ≡ false
     → found ≡ old ++ faults_in s.world (next_call s).faults
     → map fault_id old ++ left_ids s ≡ all → map fault_id found ++ left_ids new ≡ all
 ids-step s new old found all e h g before =
@@ -138,7 +138,7 @@ faulty-end s h = at_end s.mode s.next s.rest h
 
 -- With a call that finds faults there is one more, and one less is left.
 pub faulty-step : (s new : State) (old found : List (Fault Place)) (count all : ℕ)
-    → new ≡ record (after s (next_call s)) { errors = s.errors } → is_nil s.rest ≡ false
+    → new ≡ record (state_after s (next_call s)) { errors = s.errors } → is_nil s.rest ≡ false
     → found ≡ old ++ faults_in s.world (next_call s).faults → count + left_faulty s ≡ all
     → (if nat_lt (length old) (length found) then count + 1 else count) + left_faulty new ≡ all
 faulty-step s new old found count all e h g before =
@@ -168,7 +168,7 @@ faulty-step s new old found count all e h g before =
 
 -- The same where it finds some, and where it finds none.
 pub faulty-more : (s new : State) (old found : List (Fault Place)) (count all : ℕ)
-    → new ≡ record (after s (next_call s)) { errors = s.errors } → is_nil s.rest ≡ false
+    → new ≡ record (state_after s (next_call s)) { errors = s.errors } → is_nil s.rest ≡ false
     → found ≡ old ++ faults_in s.world (next_call s).faults → count + left_faulty s ≡ all
     → length old < length found → count + 1 + left_faulty new ≡ all
 faulty-more s new old found count all e h g before lt =
@@ -176,7 +176,7 @@ faulty-more s new old found count all e h g before lt =
     let more = faulty-step s new old found count all e h g before in rw yes at more
 
 pub faulty-same : (s new : State) (old found : List (Fault Place)) (count all : ℕ)
-    → new ≡ record (after s (next_call s)) { errors = s.errors } → is_nil s.rest ≡ false
+    → new ≡ record (state_after s (next_call s)) { errors = s.errors } → is_nil s.rest ≡ false
     → found ≡ old ++ faults_in s.world (next_call s).faults → count + left_faulty s ≡ all
     → length found ≤ length old → count + left_faulty new ≡ all
 faulty-same s new old found count all e h g before le =

@@ -7,7 +7,7 @@ use Rattle.rustc_parse_format.specs.Placeholder.{cut}
 use Rattle.rustc_parse_format.specs.Meaning.{argument}
 use Rattle.rustc_parse_format.specs.Call.{unclosed_fault}
 use Rattle.fault_fixes.specs.Fixing.{all_faults}
-use Rattle.rustc_parse_format.specs.Marks.{Mark, Start, End, Span, up_to, over_first, through}
+use Rattle.rustc_parse_format.specs.Marks.{Mark, Start, End, Span, up_to, over_first, span_through}
 use Rattle.rustc_parse_format.specs.Faults.{Fault, map_fault, MissingBrace, MissingColon, LateFlag}
 use Rattle.rustc_parse_format.specs.Faults.{UnmatchedBrace}
 use Prim.Native.Char.{code}
@@ -62,7 +62,7 @@ colon_faults u r =
 abbrev pub late_flag_faults : ℕ → Text → Text → ℕ → Text → Text → List (Fault Span)
 late_flag_faults c u s f z r =
     let inside = u ++ (codes ":" ++ (s ++ (codes "?" ++ f ∷ z))) in
-    LateFlag f (over_first (f ∷ z)) (through (codes "?" ++ f ∷ z) (f ∷ z))
+    LateFlag f (over_first (f ∷ z)) (span_through (codes "?" ++ f ∷ z) (f ∷ z))
     ∷ unclosed_fault (codes "{" ++ inside) (argument c (cut Format inside)).format (f ∷ z)
     ∷ UnmatchedBrace (over_first (codes "}" ++ r)) ∷ []
 

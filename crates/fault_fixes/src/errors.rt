@@ -4,7 +4,7 @@ ghost use Rattle.std.specs.Prelude.{◌≡◌, ◌+◌, ◌<◌, ◌^◌, [], If
 ghost use Rattle.rustc_parse_format.specs.Faults.{add_errors};
 ghost use Rattle.rustc_parse_format.specs.Seen.{seen_error, seen_mode, seen_snippet};
 ghost use Rattle.rustc_parse_format.specs.SeenFaults.{seen_fault};
-ghost use Rattle.rustc_parse_format.specs.State.{after, first_state, next_call};
+ghost use Rattle.rustc_parse_format.specs.State.{state_after, first_state, next_call};
 ghost use Rattle.rustc_parse_format.specs.World.{faults_in, hashes};
 ghost use Rattle.fault_fixes.specs.Fixing.{all_errors};
 ghost use Rattle.fault_fixes.specs.SeenEdits.{seen_errors};
@@ -49,7 +49,7 @@ fn add_next<'a>(
     requires none { parser.old.errors ≡ [] }
     requires empty { faults.old.items ≡ [] }
     ensures state { OnOk result (parser.new
-        ≡ record (after parser.old (next_call parser.old)) { errors = [] }) }
+        ≡ record (state_after parser.old (next_call parser.old)) { errors = [] }) }
     ensures errors { OnOk result (seen_errors errors.new ≡ add_errors (seen_errors errors.old)
         (faults_in parser.old.world (next_call parser.old).faults)) }
     ensures added { OnOk result (faults.new.items ≡ []) }

@@ -10,7 +10,7 @@ ghost use Rattle.rustc_parse_format.specs.Faults.{Nothing, message};
 ghost use Rattle.rustc_parse_format.specs.Seen.{seen_error, seen_mode, seen_snippet};
 ghost use Rattle.rustc_parse_format.specs.Seen.{seen_suggestion};
 ghost use Rattle.rustc_parse_format.specs.SeenFaults.{seen_fault};
-ghost use Rattle.rustc_parse_format.specs.State.{after, first_state, next_call};
+ghost use Rattle.rustc_parse_format.specs.State.{state_after, first_state, next_call};
 ghost use Rattle.rustc_parse_format.specs.World.{faults_in, hashes};
 ghost use Rattle.rustc_parse_format.specs.Literal.{IsSource};
 ghost use Rattle.fault_fixes.specs.Edits.{AreInOrder, Edit as EditValue, applied, edit_of, edits};
@@ -196,7 +196,7 @@ fn make_next<'a>(
     requires none { parser.old.errors ≡ [] }
     requires empty { faults.old.items ≡ [] }
     ensures state { OnOk result (parser.new
-        ≡ record (after parser.old (next_call parser.old)) { errors = [] }) }
+        ≡ record (state_after parser.old (next_call parser.old)) { errors = [] }) }
     ensures edits { OnOk result ((es : List EditValue) → with_edits edited.new es ≡ with_edits
         edited.old (fault_edits (seen_mode mode)
         (faults_in parser.old.world (next_call parser.old).faults) ++ es)) }

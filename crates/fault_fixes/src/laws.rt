@@ -8,7 +8,7 @@ ghost use Rattle.std.specs.Prelude.{◌≡◌, ◌++◌, ℕ, IsTrue, IsFalse, [
 ghost use Rattle.rustc_parse_format.specs.Characters.{Text, begins_raw, after_word, first_passes};
 ghost use Rattle.rustc_parse_format.specs.Characters.{begins_with, is_id_start};
 ghost use Rattle.rustc_parse_format.specs.Faults.{RawIdentifier};
-ghost use Rattle.rustc_parse_format.specs.Marks.{through, up_to};
+ghost use Rattle.rustc_parse_format.specs.Marks.{span_through, up_to};
 ghost use Rattle.rustc_parse_format.specs.Types.{Diagnostic, Format, Mode};
 ghost use Rattle.rustc_parse_format.specs.Placeholder.{cut};
 ghost use Rattle.rustc_parse_format.specs.Specification.{alternate_at, type_at};
@@ -21,7 +21,7 @@ pub fn remove_raw_ident()
     ensures { (mode : Mode) (c : ℕ) (t : Text) → IsTrue (first_passes is_id_start t)
         → IsFalse (begins_raw t)
         → LosesOnly (RawIdentifier (up_to (codes "r#" ++ t) (after_word t))
-        (through (codes "r#" ++ t) (codes "#" ++ t)) ∷ []) (moved (length t) 2 0)
+        (span_through (codes "r#" ++ t) (codes "#" ++ t)) ∷ []) (moved (length t) 2 0)
         (all_faults mode c (codes "{r#" ++ t)) (all_faults mode c (codes "{" ++ t)) }
 {}
 

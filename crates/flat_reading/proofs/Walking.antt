@@ -11,7 +11,7 @@ use Rattle.rustc_parse_format.specs.Characters.{Text, is_nil, after_first}
 use Rattle.rustc_parse_format.specs.Types.{Piece, Lit, NextArgument, Spec}
 use Rattle.rustc_parse_format.specs.World.{Place, piece_in}
 use Rattle.rustc_parse_format.specs.Call.{Call, call}
-use Rattle.rustc_parse_format.specs.State.{State, next_call, after, after_all}
+use Rattle.rustc_parse_format.specs.State.{State, next_call, state_after, after_all}
 use Rattle.rustc_parse_format.proofs.Walking.Progress.{call-lt}
 use Rattle.rustc_parse_format.proofs.Lines.StateLines.{at_end, closed_in-none, end_faults}
 use Rattle.flat_reading.specs.declared.flat.SpecBuffer.{SpecBuffer}
@@ -43,7 +43,7 @@ goes_past : (t : Text) (es : List State) → t ≢ [] → cond (is_nil t) [] es 
 goes_past [] es h = absurd (h refl)
 goes_past (c ∷ t) es h = refl
 
-pub goes_on : (s : State) → s.rest ≢ [] → length (after s (next_call s)).rest < length s.rest
+pub goes_on : (s : State) → s.rest ≢ [] → length (state_after s (next_call s)).rest < length s.rest
 goes_on s h = call-lt s.mode s.next s.rest h
 
 enough : (n m : ℕ) (s : State) → length s.rest ≤ n → length s.rest ≤ m
@@ -54,23 +54,24 @@ enough (suc n) zero s h k = ap (λ es. s ∷ es) (cut_at_end s.rest _ k)
 enough (suc n) (suc m) s h k =
     ap (λ es. s ∷ es) (same_later s.rest _ _ (λ more.
     let l = goes_on s more in
-    enough n m (after s (next_call s)) (omega arith) (omega arith)))
+    enough n m (state_after s (next_call s)) (omega arith) (omega arith)))
 
 pub states-end : (s : State) → s.rest ≡ [] → states s ≡ s ∷ []
 unfolding states
 states-end s e = rw e refl
 
 more_for : (n : ℕ) (s : State) → length s.rest ≡ n → s.rest ≢ []
-    → states_for n s ≡ s ∷ states (after s (next_call s))
+    → states_for n s ≡ s ∷ states (state_after s (next_call s))
 unfolding states
 more_for zero s e h = let l = goes_on s h in absurd (omega arith)
 more_for (suc n) s e h =
     let l = goes_on s h in
     ap (λ es. s ∷ es)
-    (goes_past s.rest _ h ∙ enough n (length (after s (next_call s)).rest) (after s (next_call s))
+    (goes_past s.rest _ h ∙ enough n (length (state_after s (next_call s)).rest)
+    (state_after s (next_call s))
     (omega arith) (omega arith))
 
-pub states-more : (s new : State) → s.rest ≢ [] → new ≡ after s (next_call s)
+pub states-more : (s new : State) → s.rest ≢ [] → new ≡ state_after s (next_call s)
     → states s ≡ s ∷ states new
 unfolding states
 states-more s new h e = rw e (more_for (length s.rest) s refl h)
@@ -128,7 +129,8 @@ put_length count old new r put = by_room (cases_lt count (length old))
 pub one_more : (peeks : Bool) (input : List ℕ) (s0 s new : State) (todo : List State)
     (count used used' : ℕ) (found found' : Found) (steps steps' : List Step)
     (specs specs' : List SpecRecord) →
-    IsUpTo peeks input s0 (s ∷ todo) s count used found steps specs → new ≡ after s (next_call s)
+    IsUpTo peeks input s0 (s ∷ todo) s count used found steps specs
+    → new ≡ state_after s (next_call s)
     → used' ≡ used + specs_in (given s) →
     found'.calls ≡ add_finders count found.calls (next_call s).faults
     → found'.fronts ≡ found.fronts + fronts_in (next_call s) →
@@ -204,7 +206,7 @@ kept_put input e old new orig specs count used added h = by_room (cases_lt count
 
 -- A step describes its call.
 pub described : (peeks : Bool) (input : List ℕ) (specs : List SpecRecord) (r : Step) (s t : State)
-    → t ≡ after s (next_call s) →
+    → t ≡ state_after s (next_call s) →
     piece_meant input (spec_at input specs r.spec) r
     ≡ option_map (piece_in s.world) (next_call s).piece → maybe_place r.place
     ≡ closed_in s.world (next_call s).closes →
@@ -221,7 +223,7 @@ pub end_specs : (s : State) → s.rest ≡ [] → specs_in (given s) ≡ 0
 end_specs s e = ap (λ o. specs_in (option_map (piece_in s.world) o)) (at_end s e).0
 
 pub end_stays : (s : State) → s.rest ≡ [] → s.world.has_source ≡ false
-    → s ≡ after s (next_call s)
+    → s ≡ state_after s (next_call s)
 end_stays s e none =
     sym ((at_end s e).1 ∙ ap (λ b. record s {
       line_spans = if b && is_nil s.rest
@@ -249,7 +251,7 @@ unfolding piece_meant
 no_piece input spec r e = rw e refl
 
 pub report_end : (peeks : Bool) (input : List ℕ) (specs : List SpecRecord) (r : Step) (s t : State)
-    → t ≡ after s (next_call s) → s.rest ≡ [] →
+    → t ≡ state_after s (next_call s) → s.rest ≡ [] →
     piece_meant input (spec_at input specs r.spec) r ≡ None → maybe_place r.place ≡ None
     → r.offset ≡ position t.input t.rest → r.next_index ≡ t.next →
     r.lines ≡ length t.line_spans → maybe_place r.peek ≡ None → maybe_place r.peek_ahead ≡ None
@@ -270,7 +272,7 @@ pub length-finders : (n : ℕ) (old : List ℕ) (s : State) (ks : List Call)
     ≡ length (after_all s ks).errors
 length-finders n old s [] e = e
 length-finders n old s (k ∷ ks) e =
-    length-finders (suc n) (add_finders n old k.faults) (after s k) ks
+    length-finders (suc n) (add_finders n old k.faults) (state_after s k) ks
     (omega (arith, length-add_finders n old k.faults, length-after s k, e))
 
 pub begin : (peeks : Bool) (input : List ℕ) (s : State) (found : Found) (steps : List Step)

@@ -11,7 +11,7 @@ use Rattle.rustc_parse_format.specs.Faults.{Fault, is_front}
 use Rattle.rustc_parse_format.specs.Call.{Call}
 use Rattle.rustc_parse_format.specs.Lines.{closed_in}
 use Rattle.rustc_parse_format.specs.World.{World, Place, piece_in}
-use Rattle.rustc_parse_format.specs.State.{State, first_of, next_call, after, after_all}
+use Rattle.rustc_parse_format.specs.State.{State, first_of, next_call, state_after, after_all}
 use Rattle.flat_reading.specs.declared.records.Step.{Step}
 use Rattle.flat_reading.specs.declared.records.Spec.{Spec as SpecRecord}
 use Rattle.flat_reading.specs.Meant.{maybe_place, piece_meant, spec_at}
@@ -59,7 +59,7 @@ event_of peeks w k t = record {
 
 -- The event of the next call.
 abbrev pub event : Bool → State → Event
-event peeks s = event_of peeks s.world (next_call s) (after s (next_call s))
+event peeks s = event_of peeks s.world (next_call s) (state_after s (next_call s))
 
 -- The piece that the next call returns.
 abbrev pub given : State → Option (Piece Place)
@@ -69,7 +69,8 @@ given s = option_map (piece_in s.world) (next_call s).piece
 -- it. Each of those reads a character.
 abbrev pub states_for : ℕ → State → List State
 states_for zero s = s ∷ []
-states_for (suc n) s = s ∷ (if is_nil s.rest then [] else states_for n (after s (next_call s)))
+states_for (suc n) s = s ∷ (if is_nil s.rest then [] else states_for n
+    (state_after s (next_call s)))
 
 -- The states before each call, up to the call at the end of the input.
 unfoldable pub states : State → List State

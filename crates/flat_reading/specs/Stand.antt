@@ -13,7 +13,7 @@ use Rattle.rustc_parse_format.specs.Types.{Mode}
 use Rattle.rustc_parse_format.specs.Seen.{seen_mode}
 use Rattle.rustc_parse_format.specs.Call.{call}
 use Rattle.rustc_parse_format.specs.World.{World, Place, piece_in, plain_world}
-use Rattle.rustc_parse_format.specs.State.{State, after, after_all, next_call}
+use Rattle.rustc_parse_format.specs.State.{State, state_after, after_all, next_call}
 use Rattle.flat_reading.specs.declared.flat.SpecBuffer.{SpecBuffer}
 use Rattle.flat_reading.specs.declared.records.Step.{Step}
 use Rattle.flat_reading.specs.declared.records.Spec.{Spec as SpecRecord}
@@ -166,7 +166,7 @@ pub record IsOnItsWay (r : Reading) (w : Walker) : Type 0 where
 
 -- The walker made the next call, which has this number, and recorded the errors that it found.
 pub record MakesCall (number : ℕ) (r : Reading) (old new : Walker) : Type 0 where
-  pub state : new.parser ≡ after old.parser (next_call old.parser)
+  pub state : new.parser ≡ state_after old.parser (next_call old.parser)
   pub ready : IsOnItsWay r new
   pub finders : new.finders.calls
       ≡ add_finders number old.finders.calls (next_call old.parser).faults

@@ -8,7 +8,7 @@ ghost use Rattle.rustc_parse_format.specs.Lines.{closed_in, place_list};
 ghost use Rattle.rustc_parse_format.specs.Marks.{Span};
 ghost use Rattle.rustc_parse_format.specs.Seen.{pair, seen_argument, seen_mode, seen_spec};
 ghost use Rattle.rustc_parse_format.specs.Seen.{seen_taken};
-ghost use Rattle.rustc_parse_format.specs.State.{after, next_call};
+ghost use Rattle.rustc_parse_format.specs.State.{state_after, next_call};
 ghost use Rattle.rustc_parse_format.specs.Types.{NextArgument};
 ghost use Rattle.rustc_parse_format.specs.World.{Place};
 ghost use Rattle.flat_reading.specs.declared.records.Spec.{Spec as SpecRecord};
@@ -335,7 +335,7 @@ impl<'a> Walker<'a> {
     fn end(&mut self) -> Result<(), AllocError>
         requires { self.old.parser.rest ≡ [] }
         ensures state { OnOk result (self.new.parser
-            ≡ after self.old.parser (next_call self.old.parser)) }
+            ≡ state_after self.old.parser (next_call self.old.parser)) }
         ensures finders { OnOk result (self.new.finders ≡ self.old.finders) }
     {
         if !self.parser.is_source_literal() {
@@ -355,7 +355,7 @@ impl<'a> Walker<'a> {
             → step_meant input specs step.new ≡ event peeks self.old.parser) }
         ensures number { OnOk result (step.new.spec ≡ 0) }
         ensures state { OnOk result (self.new.parser
-            ≡ after self.old.parser (next_call self.old.parser)) }
+            ≡ state_after self.old.parser (next_call self.old.parser)) }
         ensures finders { OnOk result (self.new.finders ≡ self.old.finders) }
     {
         self.end()?;
@@ -376,7 +376,7 @@ impl<'a> Walker<'a> {
             ((peeks : Bool) (input : List ℕ) (used : ℕ) (specs : List SpecRecord)
             → IsAdded input (event peeks self.old.parser) number used steps.old steps.new specs) }
         ensures state { OnOk result (self.new.parser
-            ≡ after self.old.parser (next_call self.old.parser)) }
+            ≡ state_after self.old.parser (next_call self.old.parser)) }
         ensures finders { OnOk result (self.new.finders ≡ self.old.finders) }
     {
         if number >= steps.len() {

@@ -5,7 +5,7 @@ use Rattle.std.proofs.Common.{append-nil, append_assoc, if◌then◌else◌, len
 use Rattle.rustc_parse_format.specs.Call.{Call, call}
 use Rattle.rustc_parse_format.specs.Characters.{Text, is_nil}
 use Rattle.rustc_parse_format.specs.Faults.{Fault, Message}
-use Rattle.rustc_parse_format.specs.State.{State, after, next_call}
+use Rattle.rustc_parse_format.specs.State.{State, state_after, next_call}
 use Rattle.rustc_parse_format.specs.Types.{Mode}
 use Rattle.rustc_parse_format.specs.World.{World, Place, faults_in}
 use Rattle.rustc_parse_format.proofs.Walking.Progress.{call-lt}
@@ -113,7 +113,7 @@ findings-step : (waits : Bool) (s : State) → is_nil s.rest ≡ false
     ≡ marked_all waits false (add_faults [] (faults_in s.world (next_call s).faults))
     ++ findings_from
     (waits_after_all waits (add_faults [] (faults_in s.world (next_call s).faults)))
-    (after s (next_call s))
+    (state_after s (next_call s))
 unfolding findings_from
 findings-step waits s h = step s.world s.mode s.next s.rest h
   where
@@ -157,20 +157,20 @@ found-start s f e k w = record {
 
 -- A call without errors before it leaves none.
 pub no_errors : (s new : State) → s.errors ≡ []
-    → new ≡ record (after s (next_call s)) { errors = s.errors }
-    → new ≡ record (after s (next_call s)) { errors = [] }
-no_errors s new none e = e ∙ ap (λ es. record (after s (next_call s)) { errors = es }) none
+    → new ≡ record (state_after s (next_call s)) { errors = s.errors }
+    → new ≡ record (state_after s (next_call s)) { errors = [] }
+no_errors s new none e = e ∙ ap (λ es. record (state_after s (next_call s)) { errors = es }) none
 
 pub found-next : (s new : State) (f g : Findings) (found : List (Fault Place))
     (whole : List Finding) → AreFound s f whole
-    → new ≡ record (after s (next_call s)) { errors = s.errors } → is_nil s.rest ≡ false
+    → new ≡ record (state_after s (next_call s)) { errors = s.errors } → is_nil s.rest ≡ false
     → found ≡ faults_in s.world (next_call s).faults
     → ((fs : List Finding) → Keeps f fs
     → Keeps g (fs ++ marked_all f.waits false (add_faults [] found)))
     → g.waits ≡ waits_after_all f.waits (add_faults [] found) → AreFound new g whole
 unfolding findings_from
 found-next s new f g found whole h e some is k w =
-    let later = after s (next_call s) in
+    let later = state_after s (next_call s) in
     let own = marked_all f.waits false (add_faults [] found) in
     let same : findings_from f.waits s ≡ own ++ findings_from g.waits new =
     findings-step f.waits s some

@@ -14,7 +14,7 @@ use Rattle.std.specs.Fmt.{digits, digits_onto, digit_glyph}
 use Rattle.std.specs.List.{list_all}
 use Rattle.std.specs.Prelude.{◌==◌, ◌||◌, codes, flat_map, if◌then◌else◌, nat_lt, not}
 use Rattle.rustc_parse_format.specs.Characters.{Text}
-use Rattle.rustc_parse_format.specs.Written.{plainly_written, written}
+use Rattle.rustc_parse_format.specs.Written.{plainly_written, written_character}
 use Rattle.rustc_parse_format.proofs.Grammar.Fronts.{list_all-weaker}
 use Rattle.piece_listing.specs.Listing.{quoted}
 use Rattle.drawn_lines.specs.Glyphs.{glyph_bytes, is_drawn_as_it_is, is_drawn_as_is, is_printable}
@@ -66,8 +66,8 @@ plain-spelled c =
 abbrev IsEscaped : ℕ → Option (List ℕ) → Type 0
 IsEscaped c o = IsSpelled c (elim o [ Some s ↦ s | None ↦ plainly_written c ])
 
-spelled : (c : ℕ) → IsSpelled c (written c)
-unfolding written
+spelled : (c : ℕ) → IsSpelled c (written_character c)
+unfolding written_character
 spelled c =
     let backslash = if c == code "\\" then Some (codes "\\\\") else None in
     let quote = if c == code "\"" then Some (codes "\\\"") else backslash in
@@ -118,20 +118,20 @@ spelled-utf8 c bs (inr (l, same)) s =
     (c ∷ [], (rw s refl, append-nil (encode c) ∙ sym same))
 
 text-drawn : (t : Text) → list_all is_drawn_as_it_is (encode_utf8_all t) ≡ true
-    → list_all is_drawn_as_is (flat_map written t) ≡ true
+    → list_all is_drawn_as_is (flat_map written_character t) ≡ true
 text-drawn [] e = refl
 text-drawn (c ∷ t) e =
     let parts = and_parts _ _
     (sym (list_all-append is_drawn_as_it_is (encode c) (encode_utf8_all t)) ∙ e) in
-    both is_drawn_as_is (written c) (flat_map written t)
-    (spelled-drawn c (written c) (spelled c) parts.0) (text-drawn t parts.1)
+    both is_drawn_as_is (written_character c) (flat_map written_character t)
+    (spelled-drawn c (written_character c) (spelled c) parts.0) (text-drawn t parts.1)
 
-text-utf8 : (t : Text) → scalars t ≡ true → IsUtf8 (flat_map written t)
+text-utf8 : (t : Text) → scalars t ≡ true → IsUtf8 (flat_map written_character t)
 text-utf8 [] s = IsUtf8-nil
 text-utf8 (c ∷ t) s =
     let parts = and_parts (scalar c) (scalars t) s in
-    IsUtf8-append (written c) (flat_map written t)
-    (spelled-utf8 c (written c) (spelled c) parts.0) (text-utf8 t parts.1)
+    IsUtf8-append (written_character c) (flat_map written_character t)
+    (spelled-utf8 c (written_character c) (spelled c) parts.0) (text-utf8 t parts.1)
 
 -- A quoted text.
 pub quoted-as-is : (t : Text) → scalars t ≡ true
@@ -141,7 +141,7 @@ quoted-as-is t s e =
     IsUtf8-from_ascii (codes "\"") (ascii-printable (codes "\"") refl)
     in
     whole-as-is (quoted t)
-    (IsUtf8-append (codes "\"") (flat_map written t ++ codes "\"") quote
-    (IsUtf8-append (flat_map written t) (codes "\"") (text-utf8 t s) quote))
-    (both is_drawn_as_is (codes "\"") (flat_map written t ++ codes "\"") refl
-    (both is_drawn_as_is (flat_map written t) (codes "\"") (text-drawn t e) refl))
+    (IsUtf8-append (codes "\"") (flat_map written_character t ++ codes "\"") quote
+    (IsUtf8-append (flat_map written_character t) (codes "\"") (text-utf8 t s) quote))
+    (both is_drawn_as_is (codes "\"") (flat_map written_character t ++ codes "\"") refl
+    (both is_drawn_as_is (flat_map written_character t) (codes "\"") (text-drawn t e) refl))

@@ -34,7 +34,7 @@ impl<'a> Literal<'a> {
     ghost use Rattle.std.specs.Prelude.{string_bytes};
     ghost use Rattle.rustc_parse_format.specs.Call.{pieces_of};
     ghost use Rattle.rustc_parse_format.specs.Characters.{Text};
-    ghost use Rattle.rustc_parse_format.specs.Seen.{seen, seen_mode};
+    ghost use Rattle.rustc_parse_format.specs.Seen.{seen_piece, seen_mode};
     ghost use Rattle.rustc_parse_format.specs.State.{after_all, calls};
     ghost use Rattle.rustc_parse_format.specs.World.{pieces_in};
     ghost use Rattle.placeholder_check.specs.Report.{IsReport};
@@ -108,7 +108,7 @@ impl<'a> Literal<'a> {
     /// errors are in [`Parser::errors`]. Returns `Err` if an allocation fails.
     pub fn read_all(&self, alloc: Global) -> Result<Reading<'_>, AllocError>
         ensures { IfOk result (λ x. let s = start self.now in
-            (map seen x.pieces.items ≡ pieces_in s.world (pieces_of (calls s)))
+            (map seen_piece x.pieces.items ≡ pieces_in s.world (pieces_of (calls s)))
             × (x.parser ≡ after_all s (calls s))) }
     {
         let snippet = String::from_str(alloc, self.snippet)?;

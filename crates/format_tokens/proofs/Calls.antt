@@ -12,7 +12,7 @@ use Rattle.rustc_parse_format.specs.Characters.{Text, is_brace, is_no_brace, fro
 use Rattle.rustc_parse_format.specs.Characters.{begins_with, after_first, after_white}
 use Rattle.rustc_parse_format.specs.Characters.{byte_length}
 use Rattle.rustc_parse_format.specs.Characters.{first_passes}
-use Rattle.rustc_parse_format.specs.Types.{Mode, Argument, Piece, Lit, NextArgument, bare}
+use Rattle.rustc_parse_format.specs.Types.{Mode, Argument, Piece, Lit, NextArgument, bare_piece}
 use Rattle.rustc_parse_format.specs.Types.{bare_argument}
 use Rattle.rustc_parse_format.specs.Marks.{Span}
 use Rattle.rustc_parse_format.specs.Meaning.{argument}
@@ -242,7 +242,8 @@ pub record Given (o : Option (Piece Span)) (x : Argument Place) : Type 0 where
   pub is : o ≡ Some (NextArgument argument)
   pub same : bare_argument x ≡ bare_argument argument
 
-same_bare : (x : Argument Place) (a : Argument Span) → bare (NextArgument x) ≡ bare (NextArgument a)
+same_bare : (x : Argument Place) (a : Argument Span)
+    → bare_piece (NextArgument x) ≡ bare_piece (NextArgument a)
     → bare_argument x ≡ bare_argument a
 same_bare x a e = cc
 
@@ -253,7 +254,7 @@ argument-given w (Some (Lit m)) x e = absurd (cc e)
 argument-given w (Some (NextArgument a)) x e = record {
   argument = a;
   is = refl;
-  same = same_bare x a (ap bare (some_same e) ∙ bare-piece_in w (NextArgument a));
+  same = same_bare x a (ap bare_piece (some_same e) ∙ bare-piece_in w (NextArgument a));
 }
   where
     some_same : {p q : Piece Place} → Some p ≡ Some q → p ≡ q

@@ -8,7 +8,7 @@ use Rattle.rustc_parse_format.specs.Characters.{Text, byte_length}
 use Rattle.rustc_parse_format.specs.Literal.{IsSource, content_value, newline}
 use Rattle.rustc_parse_format.specs.LiteralUnits.{LiteralUnit}
 use Rattle.rustc_parse_format.specs.Marks.{Start}
-use Rattle.rustc_parse_format.specs.Source.{unappended}
+use Rattle.rustc_parse_format.specs.Source.{unappended_input}
 use Rattle.rustc_parse_format.specs.Types.{Mode}
 use Rattle.rustc_parse_format.specs.World.{Place, World, content_places, last_stop, number_of}
 use Rattle.rustc_parse_format.specs.World.{quote_offset, world}
@@ -125,7 +125,7 @@ text-cover w n m i (x ∷ ls) h some e l =
 -- The input is its text and an appended newline.
 pub source-length : (input : Text) (style : Option ℕ) (source : Text) (b : Bool)
     → IsSource input style source b
-    → length input ≡ length (unappended b input) + length (newline b)
+    → length input ≡ length (unappended_input b input) + length (newline b)
 source-length input style source b h =
     let k = known input style source b h in
     omega (

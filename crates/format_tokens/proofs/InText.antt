@@ -8,7 +8,7 @@ use Rattle.std.proofs.lemmas.List.{append-nil, take-append-drop}
 use Rattle.std.proofs.lemmas.Str.{len_utf8_bounds}
 use Rattle.rustc_parse_format.specs.Characters.{Text, byte_length}
 use Rattle.rustc_parse_format.specs.Marks.{Start}
-use Rattle.rustc_parse_format.specs.Source.{HasSource, is_source, unappended}
+use Rattle.rustc_parse_format.specs.Source.{HasSource, is_source, unappended_input}
 use Rattle.rustc_parse_format.specs.Types.{Mode}
 use Rattle.rustc_parse_format.specs.World.{Place, number_of, plain_world}
 use Rattle.rustc_parse_format.proofs.Literals.Widths.{width-append, width-cons}
@@ -141,13 +141,13 @@ text-slices bytes before after (l ∷ ls) v e =
 pub text-of : (mode : Mode) (bytes : List ℕ) (style : Option ℕ) (snippet : Option Text) (b : Bool)
     (ts : List Placed) → IsUtf8 bytes → ts ≡ tokens mode (chars bytes) style snippet b
     → (HasSource (chars bytes) style snippet b → ⊥)
-    → IsCover 0 (byte_length (unappended b (chars bytes))) (ranges_of ts)
+    → IsCover 0 (byte_length (unappended_input b (chars bytes))) (ranges_of ts)
     × (slices bytes ts ≡ encoded (shown mode (chars bytes) b))
 text-of mode bytes style snippet b ts v e none =
     let input = chars bytes in
     let (after, between) = shown-between mode input b in
     let ls = shown mode input b in
-    let size : 0 + byte_length (joined ls) ≡ byte_length (unappended b input) =
+    let size : 0 + byte_length (joined ls) ≡ byte_length (unappended_input b input) =
     omega (arith, ap byte_length (shown-joined mode input b)) in
     rw (e ∙ text-tokens mode input style snippet b none) (
       subst (λ n. IsCover 0 n (ranges_of (in_text 0 ls))) size

@@ -10,9 +10,9 @@ use Rattle.rustc_parse_format.specs.Call.{call, placeholder}
 use Rattle.rustc_parse_format.specs.Characters.{Text, begins_raw, begins_with, after_first}
 use Rattle.rustc_parse_format.specs.Characters.{after_white, front, is_brace, is_no_brace}
 use Rattle.rustc_parse_format.specs.Placeholder.{cut}
-use Rattle.rustc_parse_format.specs.Source.{unappended}
-use Rattle.rustc_parse_format.specs.Spelling.{IsPart, absent, fixed, identifier, integer}
-use Rattle.rustc_parse_format.specs.Spelling.{optional_identifier, run, unless}
+use Rattle.rustc_parse_format.specs.Source.{unappended_input}
+use Rattle.rustc_parse_format.specs.Spelling.{IsPart, absent_part, fixed_part, identifier, integer}
+use Rattle.rustc_parse_format.specs.Spelling.{optional_identifier, run, part_unless}
 use Rattle.rustc_parse_format.specs.Syntax.{CountText, NumberCount, IndexCount, NameCount, NoCount}
 use Rattle.rustc_parse_format.specs.Syntax.{DiagnosticText, FieldText, FormatText, Formatting}
 use Rattle.rustc_parse_format.specs.Syntax.{Default, DotPrecision, Modifier, NoPrecision}
@@ -72,34 +72,34 @@ position-splits : (t : Text) (p : PositionText) (r : Text) → IsPart t (positio
     → Splits (position_tokens p) t r
 position-splits t (Digits ds) r h = splits _ ds h.whole
 position-splits t (Word w) r h =
-    let s = two-split t (absent begins_raw) (identifier w) r h in
+    let s = two-split t (absent_part begins_raw) (identifier w) r h in
     splits _ w (s.first.whole ∙ s.second.whole)
 position-splits t (RawWord w) r h =
-    let s = two-split t (fixed (codes "r#")) (identifier w) r h in
+    let s = two-split t (fixed_part (codes "r#")) (identifier w) r h in
     also (splits _ (codes "r#") s.first.whole) (splits _ w s.second.whole)
 position-splits t NoPosition r h = none h.whole
 
 count-splits : (t : Text) (k : CountText) (r : Text) → IsPart t (count_part k) r
     → Splits (count_tokens k) t r
 count-splits t (NumberCount ds) r h =
-    let s = two-split t (integer ds) (absent (begins_with 36)) r h in
+    let s = two-split t (integer ds) (absent_part (begins_with 36)) r h in
     splits _ ds (s.first.whole ∙ ap (λ u. ds ++ u) s.second.whole)
 count-splits t (IndexCount ds) r h =
-    let s = two-split t (integer ds) (fixed (codes "$")) r h in
+    let s = two-split t (integer ds) (fixed_part (codes "$")) r h in
     also (splits _ ds s.first.whole) (splits _ (codes "$") s.second.whole)
 count-splits t (NameCount w) r h =
-    let s = two-split t (name_part w) (fixed (codes "$")) r h in
+    let s = two-split t (name_part w) (fixed_part (codes "$")) r h in
     also (splits _ w s.first.whole) (splits _ (codes "$") s.second.whole)
 count-splits t NoCount r h = none h.whole
 
 width-splits : (t : Text) (w : WidthText) (r : Text) → IsPart t (width_part w) r
     → Splits (width_tokens w) t r
 width-splits t (PaddedWidth k) r h =
-    let s = two-split t (unless (codes "0") (begins_with 36)) (count_part k) r h in
+    let s = two-split t (part_unless (codes "0") (begins_with 36)) (count_part k) r h in
     also (splits _ (codes "0") s.first.whole) (count-splits s.seam k r s.second)
 width-splits t ZeroIndexWidth r h = record { whole = h.whole }
 width-splits t (PlainWidth k) r h =
-    let s = two-split t (absent (begins_with 48)) (count_part k) r h in
+    let s = two-split t (absent_part (begins_with 48)) (count_part k) r h in
     also (none s.first.whole) (count-splits s.seam k r s.second)
 
 precision-splits : (t : Text) (p : PrecisionText) (r : Text) → IsPart t (precision_part p) r
@@ -107,7 +107,7 @@ precision-splits : (t : Text) (p : PrecisionText) (r : Text) → IsPart t (preci
 precision-splits t NoPrecision r h = none h.whole
 precision-splits t StarPrecision r h = record { whole = h.whole }
 precision-splits t (DotPrecision k) r h =
-    let s = two-split t (unless (codes ".") (begins_with 42)) (count_part k) r h in
+    let s = two-split t (part_unless (codes ".") (begins_with 42)) (count_part k) r h in
     also (splits _ (codes ".") s.first.whole) (count-splits s.seam k r s.second)
 
 format-splits : (t : Text) (p : FormatText) (r : Text) → IsPart t (format_part p) r
@@ -138,17 +138,17 @@ optional-whole (c ∷ w) h = h.whole
 text-splits : (t u r : Text) → IsPart t (spec_part Diagnostic (DiagnosticText u)) r
     → Splits (spec_tokens (DiagnosticText u)) t r
 text-splits t u r h =
-    let s = two-split t (fixed (codes ":")) (run is_no_brace u) r h in
+    let s = two-split t (fixed_part (codes ":")) (run is_no_brace u) r h in
     also (splits Colon (codes ":") s.first.whole) (splits _ u s.second.whole)
 
 spec-splits : (mode : Mode) (t : Text) (k : SpecText) (r : Text) → IsPart t (spec_part mode k) r
     → Splits (spec_tokens k) t r
 spec-splits mode t Default r h = none h.whole
 spec-splits Format t (Formatting p) r h =
-    let s = two-split t (fixed (codes ":")) (format_part p) r h in
+    let s = two-split t (fixed_part (codes ":")) (format_part p) r h in
     also (splits Colon (codes ":") s.first.whole) (format-splits s.seam p r s.second)
 spec-splits InlineAsm t (Modifier w) r h =
-    let s = two-split t (fixed (codes ":")) (optional_identifier w) r h in
+    let s = two-split t (fixed_part (codes ":")) (optional_identifier w) r h in
     also (splits Colon (codes ":") s.first.whole) (splits _ w (optional-whole w s.second))
 spec-splits Diagnostic t (DiagnosticText u) r h = text-splits t u r h
 spec-splits DiagnosticNamed t (DiagnosticText u) r h = text-splits t u r h
@@ -279,7 +279,8 @@ within-joined n (l ∷ ls) = joined-append (token l.0 (take n l.1)) (within (n -
     ∙ (ap (λ t. take n l.1 ++ t) (within-joined (n - length l.1) ls)
     ∙ sym (take-both n l.1 (joined ls))))
 
-take-unappended : (b : Bool) (t : Text) → take (length (unappended b t)) t ≡ unappended b t
+take-unappended : (b : Bool) (t : Text) → take (length (unappended_input b t)) t
+    ≡ unappended_input b t
 take-unappended true t =
     let e : length (take (length t - 1) t) ≡ length t - 1 =
     omega (arith, length-take (length t - 1) t) in
@@ -288,8 +289,8 @@ take-unappended false t = take_all (length t) t (omega arith)
 
 -- What is shown of them is the input without an appended newline.
 pub shown-joined : (mode : Mode) (input : Text) (b : Bool)
-    → joined (shown mode input b) ≡ unappended b input
+    → joined (shown mode input b) ≡ unappended_input b input
 shown-joined mode input b =
-    within-joined (length (unappended b input)) (tokens_of mode input)
-    ∙ (ap (λ t. take (length (unappended b input)) t) (tokens-joined mode input)
+    within-joined (length (unappended_input b input)) (tokens_of mode input)
+    ∙ (ap (λ t. take (length (unappended_input b input)) t) (tokens-joined mode input)
     ∙ take-unappended b input)

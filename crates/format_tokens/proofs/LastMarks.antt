@@ -12,7 +12,7 @@ use Rattle.rustc_parse_format.specs.Call.{call}
 use Rattle.rustc_parse_format.specs.Characters.{Text, after_first, after_white, begins_with, front}
 use Rattle.rustc_parse_format.specs.Characters.{is_brace, is_no_brace}
 use Rattle.rustc_parse_format.specs.Placeholder.{cut}
-use Rattle.rustc_parse_format.specs.Source.{unappended}
+use Rattle.rustc_parse_format.specs.Source.{unappended_input}
 use Rattle.rustc_parse_format.specs.Syntax.{FieldText}
 use Rattle.rustc_parse_format.specs.Types.{Mode, wants_names}
 use Rattle.format_tokens.specs.declared.culprits.Role.{Role}
@@ -356,7 +356,7 @@ shown-marks mode input false h =
     (omega (arith, ap length (tokens-joined mode input)))) ∙ text-marks mode input
 shown-marks mode input true (t, e) =
     let ls = tokens_within (length input) mode 0 input in
-    let n : length (unappended true input) ≡ length t = omega (
+    let n : length (unappended_input true input) ≡ length t = omega (
       arith,
       length-take (length input - 1) input,
       ap length e,

@@ -10,7 +10,7 @@ use Rattle.std.proofs.Math.Seq.{get_or-append_seam}
 use Rattle.rustc_parse_format.specs.Characters.{Text, byte_length}
 use Rattle.rustc_parse_format.specs.Literal.{IsSource, content_value, newline}
 use Rattle.rustc_parse_format.specs.Marks.{Start}
-use Rattle.rustc_parse_format.specs.Source.{HasSource, unappended}
+use Rattle.rustc_parse_format.specs.Source.{HasSource, unappended_input}
 use Rattle.rustc_parse_format.specs.Types.{Mode, wants_names}
 use Rattle.rustc_parse_format.specs.World.{Place, World, content_places, last_stop, newline_places}
 use Rattle.rustc_parse_format.specs.World.{number_of, plain_world, quote_offset, world}
@@ -68,7 +68,7 @@ sizes-placed w n k (l ∷ ls) =
     one-placed w n k (min (length l.1) k) l ls (λ m i. sizes-placed w m i ls) refl
 
 -- How many characters are shown.
-pub kept-is : (b : Bool) (t : Text) → length t - from_bool b ≡ length (unappended b t)
+pub kept-is : (b : Bool) (t : Text) → length t - from_bool b ≡ length (unappended_input b t)
 kept-is true t = omega (arith, length-take (length t - 1) t)
 kept-is false t = omega arith
 
@@ -96,7 +96,7 @@ kept-small w n kept starts e f h = omega (arith, ap length e, length-starts w, f
 
 -- The tokens of the text.
 shown-tokens : (w : World) (mode : Mode) (input : Text) (b : Bool) (kept : ℕ)
-    → length w.places ≡ length input → kept ≡ length (unappended b input)
+    → length w.places ≡ length input → kept ≡ length (unappended_input b input)
     → placed_sizes w (length w.places) kept
     (marked (wants_names mode) false (pairs (map sized (read_tokens mode input))))
     ≡ placed w (length input) (shown mode input b)
@@ -108,7 +108,7 @@ shown-tokens w mode input b kept n e =
     ∙ ap (λ k. placed w (length input) (within k (tokens_of mode input))) e)
 
 pub plain-tokens : (mode : Mode) (input : Text) (style : Option ℕ) (snippet : Option Text)
-    (b : Bool) (kept : ℕ) (all : List Placed) → kept ≡ length (unappended b input)
+    (b : Bool) (kept : ℕ) (all : List Placed) → kept ≡ length (unappended_input b input)
     → (HasSource input style snippet b → ⊥)
     → (let w = plain_world false 0 input (byte_length input) in
     all ≡ placed_sizes w (length w.places) kept
@@ -130,7 +130,7 @@ around : (a b c d m n : ℕ) (x y : List Placed) → a ≡ b → c ≡ d → m �
 around a b c d m n x y e f g h = rw (e, f, g, h) refl
 
 pub quoted-tokens : (mode : Mode) (input : Text) (style : Option ℕ) (literal : Text) (b : Bool)
-    (kept n : ℕ) (starts : List ℕ) (all : List Placed) → kept ≡ length (unappended b input)
+    (kept n : ℕ) (starts : List ℕ) (all : List Placed) → kept ≡ length (unappended_input b input)
     → IsSource input style literal b
     → starts ≡ starts_of (world input style (Some literal) b) → n ≡ byte_length literal
     → (let w = world input style (Some literal) b in

@@ -12,7 +12,7 @@ use Rattle.rustc_parse_format.proofs.Sources.PlainPlaces.{width_chars}
 use Rattle.rustc_parse_format.specs.Characters.{Text, byte_length}
 use Rattle.rustc_parse_format.specs.Types.{Mode}
 use Rattle.rustc_parse_format.specs.Call.{call}
-use Rattle.rustc_parse_format.specs.State.{State, after, next_call}
+use Rattle.rustc_parse_format.specs.State.{State, state_after, next_call}
 use Rattle.rustc_parse_format.proofs.Grammar.Rests.{IsRest}
 use Rattle.rustc_parse_format.proofs.Walking.ParserLaws.{call_rest}
 use Rattle.rustc_parse_format.proofs.Walking.Progress.{call-lt}
@@ -42,7 +42,7 @@ forgotten s = record s { errors = [] }
 
 -- How many bytes are left after a call, by the position of the parser after it.
 pub left_after : (mode : Mode) (input : Text) (x : List Sized) (rest : Text) (s new : State)
-    (m w p : ℕ) → IsSoFar mode input x rest s → new ≡ forgotten (after s (next_call s))
+    (m w p : ℕ) → IsSoFar mode input x rest s → new ≡ forgotten (state_after s (next_call s))
     → m ≡ w - p → w ≡ byte_length input → p ≡ byte_length new.input - byte_length new.rest
     → m ≡ byte_length (call mode s.next rest).rest
 left_after mode input x rest s new m w p h e i j k =
@@ -90,7 +90,7 @@ joins : (x y a b w : List Sized) → y ≡ x ++ a → x ++ (a ++ b) ≡ w → y 
 joins x y a b w e f = ap (λ z. z ++ b) e ∙ (append_assoc x a b ∙ f)
 
 pub so_far-next : (mode : Mode) (input : Text) (x y : List Sized) (rest : Text) (t : List ℕ)
-    (s new : State) → IsSoFar mode input x rest s → new ≡ forgotten (after s (next_call s))
+    (s new : State) → IsSoFar mode input x rest s → new ≡ forgotten (state_after s (next_call s))
     → rest ≢ []
     → Took (call_tokens mode rest (call mode s.next rest).rest) (call mode s.next rest).rest x y t
     → IsSoFar mode input y (chars t) new
@@ -140,7 +140,7 @@ piece_so_far mode input x rest s h =
 
 -- Each call leaves fewer characters.
 pub smaller : (mode : Mode) (input : Text) (x : List Sized) (rest : Text) (s new : State)
-    → IsSoFar mode input x rest s → new ≡ forgotten (after s (next_call s)) → rest ≢ []
+    → IsSoFar mode input x rest s → new ≡ forgotten (state_after s (next_call s)) → rest ≢ []
     → length new.rest < length s.rest
 smaller mode input x rest s new h e some =
     rw e (call-lt s.mode s.next s.rest (λ n. some (h.rest_is ∙ n)))

@@ -5,7 +5,7 @@ use Rattle.std.specs.Prelude.{Some, None}
 use Rattle.rustc_parse_format.specs.Characters.{Text, byte_length}
 use Rattle.rustc_parse_format.specs.Marks.{Start}
 use Rattle.rustc_parse_format.specs.Types.{Mode}
-use Rattle.rustc_parse_format.specs.Source.{is_source, unappended}
+use Rattle.rustc_parse_format.specs.Source.{is_source, unappended_input}
 use Rattle.rustc_parse_format.specs.World.{World, number_of, place_of, world}
 use Rattle.format_tokens.specs.declared.kinds.Kind.TheVariants.{Quote}
 use Rattle.format_tokens.specs.Tokens.{Label, token}
@@ -19,7 +19,7 @@ within n (l ∷ ls) = token l.0 (take n l.1) ++ within (n - length l.1) ls
 
 -- The tokens of an input, faulty or not, without an appended newline.
 abbrev pub shown : Mode → Text → Bool → List Label
-shown mode input appended = within (length (unappended appended input)) (tokens_of mode input)
+shown mode input appended = within (length (unappended_input appended input)) (tokens_of mode input)
 
 -- The tokens with their byte ranges, where n characters are left at the first of them. A token goes
 -- from where its first character starts to where the next character starts, or to the end of the

@@ -4,7 +4,7 @@ ghost use Rattle.std.specs.Prelude.{◌≡◌, ℕ, Bool, List, Option, false, f
 ghost use Rattle.std.specs.List.{AllByRecursion};
 ghost use Rattle.rustc_parse_format.specs.Characters.{Text};
 ghost use Rattle.rustc_parse_format.specs.Grammar.{Reads, piece_values};
-ghost use Rattle.rustc_parse_format.specs.Source.{unappended};
+ghost use Rattle.rustc_parse_format.specs.Source.{unappended_input};
 ghost use Rattle.rustc_parse_format.specs.Syntax.{PieceText};
 ghost use Rattle.rustc_parse_format.specs.Types.{Mode, Piece, wants_names};
 ghost use Rattle.format_tokens.specs.Culprits.{marked};
@@ -20,7 +20,7 @@ ghost use Rattle.format_tokens.specs.Walk.{IsWritten, tokens_of};
 /// an appended newline, even if it has faults. Does nothing.
 pub fn tokens_join()
     ensures { (mode : Mode) (input : Text) (appended : Bool)
-        → joined (shown mode input appended) ≡ unappended appended input }
+        → joined (shown mode input appended) ≡ unappended_input appended input }
 {}
 
 /// States that the tokens of a text that is in the grammar are its parts as they are written: of

@@ -5,7 +5,7 @@ ghost use Rattle.std.specs.Prelude.{List, length, map};
 ghost use Rattle.rustc_parse_format.specs.Characters.{Text, byte_length};
 ghost use Rattle.rustc_parse_format.specs.Literal.{IsSource};
 ghost use Rattle.rustc_parse_format.specs.Seen.{seen_mode, seen_snippet};
-ghost use Rattle.rustc_parse_format.specs.Source.{HasSource, unappended};
+ghost use Rattle.rustc_parse_format.specs.Source.{HasSource, unappended_input};
 ghost use Rattle.rustc_parse_format.specs.Types.{Mode, wants_names};
 ghost use Rattle.rustc_parse_format.specs.World.{hashes, world};
 ghost use Rattle.format_tokens.specs.Covers.{AreParts, IsCover, encoded, in_quotes};
@@ -211,7 +211,7 @@ pub fn tokens(
     // token.
     ensures in_text { IfOk result (λ v.
         (HasSource (chars input.now) style (seen_snippet snippet) appended_newline → ⊥)
-        → IsCover 0 (byte_length (unappended appended_newline (chars input.now)))
+        → IsCover 0 (byte_length (unappended_input appended_newline (chars input.now)))
         (ranges_of (map seen_token v.items))
         × (slices input.now (map seen_token v.items)
         ≡ encoded (shown (seen_mode mode) (chars input.now) appended_newline))) }

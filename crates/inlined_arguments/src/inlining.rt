@@ -3,7 +3,7 @@
 ghost use Rattle.std.specs.Prelude.{◌≡◌, ◌+◌, ◌<◌, ◌≤◌, ◌^◌, ◌++◌, Bool, IfErr, IfOk, IsTrue};
 ghost use Rattle.std.specs.Prelude.{None, OnOk, chars, length, map, string_bytes};
 ghost use Rattle.rustc_parse_format.specs.Literal.{newline};
-ghost use Rattle.rustc_parse_format.specs.Seen.{seen};
+ghost use Rattle.rustc_parse_format.specs.Seen.{seen_piece};
 ghost use Rattle.rustc_parse_format.specs.World.{hashes};
 ghost use Rattle.call_faults.specs.Seen.{seen_given};
 ghost use Rattle.inlined_arguments.specs.Conditions.{condition};
@@ -64,7 +64,8 @@ fn means_same_with<'c>(
     ensures { IfOk result (λ b. Knows old.entry.values.now
         → map seen_given arguments.now ≡ map given_of (map seen_slot slots.now) → IsTrue b
         → IsCleanAs string.entry.captures (seen_slots old.entry.values.now)
-        (map seen old.entry.pieces.now) (map seen_slot slots.now) (chars string.entry.text.now)) }
+        (map seen_piece old.entry.pieces.now) (map seen_slot slots.now)
+        (chars string.entry.text.now)) }
 {
     let Some(pieces) = read(alloc, string, arguments)? else {
         return Ok(false);
@@ -88,7 +89,8 @@ fn keeps_meaning(
     ensures { IfOk result (λ b. Knows old.entry.values.now
         → seen_slots old.entry.values.now ≡ slots_of (map seen_argument call.entry.arguments.now)
         → IsTrue b
-        → MeansSame (seen_call call.entry) (map seen old.entry.pieces.now) (chars literal.now)) }
+        → MeansSame (seen_call call.entry) (map seen_piece old.entry.pieces.now)
+        (chars literal.now)) }
 {
     let Some(LiteralText { mut text, style }) = literal_text(alloc, literal)? else {
         return Ok(false);

@@ -6,7 +6,7 @@ ghost use Rattle.json.specs.Json.{Json, max_depth};
 ghost use Rattle.json.specs.Tree.{depth, json_tokens};
 ghost use Rattle.rustc_parse_format.specs.Seen.{seen_taken};
 ghost use Rattle.rustc_parse_format.specs.SeenFaults.{seen_fault};
-ghost use Rattle.rustc_parse_format.specs.State.{after, calls, next_call};
+ghost use Rattle.rustc_parse_format.specs.State.{state_after, calls, next_call};
 ghost use Rattle.rustc_parse_format.specs.World.{faults_in};
 ghost use Rattle.listing_json.specs.Lines.{Adds, call_values, calls_values, given_values};
 ghost use Rattle.listing_json.specs.Lines.{has_faults};
@@ -106,7 +106,7 @@ fn put_call<'a>(
     ensures faults { OnOk result (map seen_fault faults.new.items
         ≡ faults_in parser.old.world (next_call parser.old).faults) }
     ensures state { OnOk result (parser.new
-        ≡ record (after parser.old (next_call parser.old)) { errors = parser.old.errors }) }
+        ≡ record (state_after parser.old (next_call parser.old)) { errors = parser.old.errors }) }
     ensures goes_on { IfOk result (λ b. b ≡ is_some (next_call parser.old).piece) }
 {
     let piece = parser.next_with_faults(argument, faults)?;

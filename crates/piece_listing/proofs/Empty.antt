@@ -10,7 +10,7 @@ use Rattle.rustc_parse_format.specs.Literal.{IsLiteral, ordinary_frame, raw_fram
 use Rattle.rustc_parse_format.specs.Types.{Mode}
 use Rattle.rustc_parse_format.specs.Call.{call, walk}
 use Rattle.rustc_parse_format.specs.Faults.{Message}
-use Rattle.rustc_parse_format.specs.State.{after_all, calls, fresh}
+use Rattle.rustc_parse_format.specs.State.{after_all, calls, fresh_state}
 use Rattle.rustc_parse_format.specs.World.{Place, World}
 use Rattle.rustc_parse_format.specs.Seen.{seen_mode}
 use Rattle.piece_listing.specs.declared.arguments.GivenArguments.{GivenArguments as ArgumentsValue}
@@ -27,7 +27,7 @@ use Rattle.piece_listing.proofs.Literals.{raw_frame-parts}
 
 -- an empty text has no errors and so no fault
 errors-nil : (mode : Mode) (w : World) (start : ℕ)
-    → (after_all (fresh mode w [] start) (calls (fresh mode w [] start))).errors ≡ []
+    → (after_all (fresh_state mode w [] start) (calls (fresh_state mode w [] start))).errors ≡ []
 unfolding walk call
 errors-nil mode w start = refl
 
@@ -39,7 +39,8 @@ pub chars-empty : (bs : List ℕ) → bs ≡ [] → chars bs ≡ []
 chars-empty bs e = ap chars e ∙ chars-nil
 
 pub no_faults : (mode : Mode) (w : World) (start : ℕ) (text : List ℕ) → text ≡ []
-    → (after_all (fresh mode w (chars text) start) (calls (fresh mode w (chars text) start))).errors
+    → (after_all (fresh_state mode w (chars text) start)
+    (calls (fresh_state mode w (chars text) start))).errors
     ≡ []
 no_faults mode w start text e = rw (chars-empty text e) (errors-nil mode w start)
 

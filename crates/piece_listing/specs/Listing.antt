@@ -4,7 +4,7 @@ use Rattle.std.specs.Prelude.{ℕ, Bool, true, false, List, [], ◌∷◌, ◌++
 use Rattle.std.specs.Prelude.{flat_map, codes, decimal}
 use Rattle.std.specs.Str.{encode_utf8_all}
 use Rattle.rustc_parse_format.specs.Characters.{Text}
-use Rattle.rustc_parse_format.specs.Written.{written}
+use Rattle.rustc_parse_format.specs.Written.{written_character}
 use Rattle.rustc_parse_format.specs.Types.{Alignment, Left, Right, Center, Unknown, Sign, Plus}
 use Rattle.rustc_parse_format.specs.Types.{Minus, DebugHex, Lower, Upper, Position, Implicit, Index}
 use Rattle.rustc_parse_format.specs.Types.{Named}
@@ -14,9 +14,9 @@ use Rattle.rustc_parse_format.specs.Faults.{Message}
 use Rattle.rustc_parse_format.specs.World.{Place}
 use Rattle.placeholder_check.specs.Report.{Report}
 
--- A text between quotes, each character written as `written` says.
+-- A text between quotes, each character written as `written_character` says.
 abbrev pub quoted : Text → List ℕ
-quoted t = codes "\"" ++ (flat_map written t ++ codes "\"")
+quoted t = codes "\"" ++ (flat_map written_character t ++ codes "\"")
 
 -- A span: its two offsets with `..` between them.
 abbrev pub span_text : Place → List ℕ

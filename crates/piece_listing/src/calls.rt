@@ -5,7 +5,8 @@ ghost use Rattle.std.specs.Prelude.{◌≡◌, ◌++◌, [], false, IfOk, IsOk, 
 ghost use Rattle.std.specs.Prelude.{flat_map, option_map, string_bytes};
 ghost use Rattle.rustc_parse_format.specs.Call.{pieces_of};
 ghost use Rattle.rustc_parse_format.specs.Seen.{seen_taken};
-ghost use Rattle.rustc_parse_format.specs.State.{AddsNothing, after, after_all, calls, next_call};
+ghost use Rattle.rustc_parse_format.specs.State.{AddsNothing, state_after, after_all, calls};
+ghost use Rattle.rustc_parse_format.specs.State.{next_call};
 ghost use Rattle.rustc_parse_format.specs.World.{piece_in, pieces_in};
 ghost use Rattle.placeholder_check.specs.Noted.{Holds};
 ghost use Rattle.placeholder_check.specs.Uses.{Use, piece_uses, uses};
@@ -24,7 +25,7 @@ fn next_piece<'a>(
 ) -> Result<Option<PieceKind<'a>>, AllocError>
     ensures piece { IfOk result (λ t. option_map (seen_taken argument.new) t
         ≡ option_map (piece_in parser.old.world) (next_call parser.old).piece) }
-    ensures state { OnOk result (parser.new ≡ after parser.old (next_call parser.old)) }
+    ensures state { OnOk result (parser.new ≡ state_after parser.old (next_call parser.old)) }
     ensures spare { AddsNothing parser.old (next_call parser.old) → IsOk result }
 {
     let NextPiece {

@@ -3,8 +3,8 @@
 
 ghost use Rattle.std.specs.Prelude.{◌≡◌, ◌++◌, [], IsOk, OnOk, map, chars, codes};
 ghost use Rattle.std.specs.Prelude.{encode_utf8_all, flat_map, option_map, string_bytes};
-ghost use Rattle.rustc_parse_format.specs.Written.{written};
-ghost use Rattle.rustc_parse_format.specs.Seen.{pair, seen, seen_alignment, seen_count};
+ghost use Rattle.rustc_parse_format.specs.Written.{written_character};
+ghost use Rattle.rustc_parse_format.specs.Seen.{pair, seen_piece, seen_alignment, seen_count};
 ghost use Rattle.rustc_parse_format.specs.Seen.{seen_debug_hex, seen_error, seen_position};
 ghost use Rattle.rustc_parse_format.specs.Seen.{seen_sign, seen_spec};
 ghost use Rattle.piece_listing.specs.Listing.{align_entry, at_entry, count_entry, count_text};
@@ -274,7 +274,7 @@ pub(crate) fn put_argument(out: &mut String, argument: &Argument<'_>) -> Result<
 /// may then be in `out`.
 pub fn put_piece(out: &mut String, piece: &Piece<'_>) -> Result<(), AllocError>
     ensures { OnOk result (string_bytes out.new ≡ string_bytes out.old
-        ++ piece_line (seen piece.now)) }
+        ++ piece_line (seen_piece piece.now)) }
 {
     match piece {
         Piece::Lit(text) => put_literal(out, text)?,

@@ -1,7 +1,7 @@
 //! The report on missing and unused arguments.
 
 ghost use Rattle.std.specs.Prelude.{◌≡◌, [], IfOk, IsOk, List, map};
-ghost use Rattle.rustc_parse_format.specs.Seen.{seen};
+ghost use Rattle.rustc_parse_format.specs.Seen.{seen_piece};
 ghost use Rattle.placeholder_check.specs.Noted.{Holds, IsNew};
 ghost use Rattle.placeholder_check.specs.Uses.{Use, uses};
 ghost use Rattle.placeholder_check.specs.Report.{IsReport, Report as ReportOf};
@@ -70,10 +70,11 @@ pub fn check<'a>(
     names: &[&'a str],
 ) -> Result<Report<'a>, AllocError>
     ensures report { IfOk result
-        (λ r. IsReport (uses (map seen pieces.now)) positional (texts names.now) (seen_report r)) }
+        (λ r. IsReport (uses (map seen_piece pieces.now)) positional (texts names.now)
+        (seen_report r)) }
     // No other report satisfies this.
     ensures only { IfOk result (λ r. (s : ReportOf)
-        → IsReport (uses (map seen pieces.now)) positional (texts names.now) s
+        → IsReport (uses (map seen_piece pieces.now)) positional (texts names.now) s
         → s ≡ seen_report r) }
     // If there are no pieces and no arguments, the call succeeds even if every allocation fails.
     ensures empty { pieces.now ≡ [] → positional ≡ 0 → names.now ≡ [] → IsOk result }

@@ -8,7 +8,7 @@ use Rattle.rustc_parse_format.specs.declared.source.Source.{Source}
 use Rattle.rustc_parse_format.specs.Characters.{Text, front, rest_after, after_first, begins_with}
 use Rattle.rustc_parse_format.specs.Characters.{is_no_brace}
 use Rattle.rustc_parse_format.specs.Back.{Back, IsPaid}
-use Rattle.rustc_parse_format.specs.Marks.{Span, run_texts, through}
+use Rattle.rustc_parse_format.specs.Marks.{Span, run_texts, span_through}
 use Rattle.rustc_parse_format.specs.Faults.{Fault}
 use Rattle.rustc_parse_format.specs.World.{World, Place, StartAfter, faults_in, place_at}
 use Rattle.rustc_parse_format.specs.Call.{Call, unclosed_fault}
@@ -167,8 +167,8 @@ after_sign s None = s
 after_sign s (Some f) = record s { rest = after_first s.rest; faults = s.faults ++ f ∷ [] }
 
 -- The state after a recovery.
-abbrev pub recovered : Midway → Recovery → Midway
-recovered s k = read_texts (read_tries (read_to s k.rest k.next k.faults) k.tries) k.texts
+abbrev pub recovered_state : Midway → Recovery → Midway
+recovered_state s k = read_texts (read_tries (read_to s k.rest k.next k.faults) k.tries) k.texts
 
 -- The state after the place of the closing brace: after the brace if it is there, or after the
 -- fault and the recovery. The placeholder begins at o and has the argument a.
@@ -177,7 +177,7 @@ after_closing mode o a s =
     if begins_with (code "}") s.rest
     then record s {
       rest = after_first s.rest;
-      closed_place = closed_then s.closed_place (closed_in s.world (Some (through o s.rest)));
+      closed_place = closed_then s.closed_place (closed_in s.world (Some (span_through o s.rest)));
     }
-    else recovered (read_to s s.rest s.next (unclosed_fault o a.format s.rest ∷ []))
+    else recovered_state (read_to s s.rest s.next (unclosed_fault o a.format s.rest ∷ []))
     (recovery mode s.next o a s.rest)

@@ -16,7 +16,7 @@ impl<'input> Reader<'input> {
     ghost use Rattle.rustc_parse_format.specs.Faults.{brace_fill, no_brace};
     ghost use Rattle.rustc_parse_format.specs.Marks.{End, Span, over_first, up_to};
     ghost use Rattle.rustc_parse_format.specs.Reads.{Reaches};
-    ghost use Rattle.rustc_parse_format.specs.Seen.{pair, seen, seen_argument, seen_mode};
+    ghost use Rattle.rustc_parse_format.specs.Seen.{pair, seen_piece, seen_argument, seen_mode};
     ghost use Rattle.rustc_parse_format.specs.Seen.{seen_position, seen_spec, seen_taken};
     ghost use Rattle.rustc_parse_format.specs.Midway.{FindsNothing, after_closing};
     ghost use Rattle.rustc_parse_format.specs.Midway.{opens_placeholder, read_call};
@@ -159,7 +159,7 @@ impl<'input> Reader<'input> {
         mode: ParseMode,
     ) -> Result<Option<Piece<'input>>, AllocError>
         requires numbers { self.old.next + length self.old.rest < 2 ^ 64 }
-        ensures piece { IfOk result (λ p. option_map seen p
+        ensures piece { IfOk result (λ p. option_map seen_piece p
             ≡ option_map (piece_in self.old.world)
             (call (seen_mode mode) self.old.next self.old.rest).piece) }
         ensures reads { let k = call (seen_mode mode) self.old.next self.old.rest in

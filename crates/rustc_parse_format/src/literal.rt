@@ -16,7 +16,7 @@ ghost use Rattle.rustc_parse_format.specs.LiteralUnits.{LiteralUnit, at_most_one
 ghost use Rattle.rustc_parse_format.specs.LiteralUnits.{meaning};
 ghost use Rattle.rustc_parse_format.specs.LiteralUnits.{unit_at};
 ghost use Rattle.rustc_parse_format.specs.Characters.{Text, rest_after, front};
-ghost use Rattle.rustc_parse_format.specs.World.{later, literal_end, newline_places, world};
+ghost use Rattle.rustc_parse_format.specs.World.{later_place, literal_end, newline_places, world};
 
 mod rest;
 mod unit;
@@ -111,7 +111,7 @@ pub fn read_content(
     ensures places { IfOk result (λ o. IfSome o (λ v. (input : Text) (appended : Bool)
         → IsSource input None (ordinary_frame (chars content.now)) appended
         → (let w = world input None (Some (ordinary_frame (chars content.now))) appended in
-        w.places ≡ map (λ x. later 1 x.0) (seen_characters v.items)
+        w.places ≡ map (λ x. later_place 1 x.0) (seen_characters v.items)
         ++ newline_places w.end appended))) }
     ensures empty { content.now ≡ [] → IsOk result }
 {

@@ -5,9 +5,9 @@
 
 ghost use Rattle.std.specs.Prelude.{◌≡◌, ◌∷◌, [], IfOk, None, OnOk, Some};
 ghost use Rattle.std.specs.Prelude.{chars, codes, encode_utf8_all, string_bytes};
-ghost use Rattle.rustc_parse_format.specs.Faults.{align_after, debug_after, error, expected};
+ghost use Rattle.rustc_parse_format.specs.Faults.{align_after, debug_after, error, expected_brace};
 ghost use Rattle.rustc_parse_format.specs.Faults.{local_variable, message, out_of_range};
-ghost use Rattle.rustc_parse_format.specs.Faults.{UsePositional, suggesting};
+ghost use Rattle.rustc_parse_format.specs.Faults.{UsePositional, with_suggestion};
 ghost use Rattle.rustc_parse_format.specs.Seen.{pair, seen_error};
 ghost use Rattle.rustc_parse_format.specs.SeenFaults.{seen_fault};
 
@@ -20,7 +20,7 @@ use std::ops::Range;
 /// Returns the description of a missing closing brace, from the character found in its place, or
 /// `None` at the end of the input. Returns `Err` if an allocation fails.
 fn expected_brace(alloc: Global, character: Option<char>) -> Result<String, AllocError>
-    ensures { IfOk result (λ s. string_bytes s ≡ expected character) }
+    ensures { IfOk result (λ s. string_bytes s ≡ expected_brace character) }
 {
     let Some(c) = character else {
         return String::from_str(alloc, "expected `}` but string was terminated");
@@ -157,7 +157,7 @@ fn set_field_error(
     span: &Range<usize>,
 ) -> Result<(), AllocError>
     requires { seen_error parse_error.old
-        ≡ suggesting UsePositional (error [] None [] (0, 0) None) }
+        ≡ with_suggestion UsePositional (error [] None [] (0, 0) None) }
     ensures { OnOk result (seen_error parse_error.new
         ≡ local_variable description.now (pair span.now)) }
 {

@@ -2,7 +2,7 @@
 //! a move counts the characters that are passed.
 
 ghost use Rattle.std.specs.Prelude.{◌≡◌, chars};
-ghost use Rattle.rustc_parse_format.specs.Marks.{through, up_to};
+ghost use Rattle.rustc_parse_format.specs.Marks.{span_through, up_to};
 ghost use Rattle.rustc_parse_format.specs.Seen.{pair};
 ghost use Rattle.rustc_parse_format.specs.SeenSource.{IsAnchored, seen_world};
 ghost use Rattle.rustc_parse_format.specs.World.{place_of};
@@ -182,7 +182,7 @@ fn place_through<'input>(
     requires from { IsAnchored source.now from.now.text.now anchor.now }
     requires to { IsAnchored source.now to.now.text.now anchor.now }
     ensures { let text = chars from.now.text.now in
-        pair result ≡ place_of (seen_world source.now) (through text (chars to.now.text.now)) }
+        pair result ≡ place_of (seen_world source.now) (span_through text (chars to.now.text.now)) }
 {
     from.start(source, anchor)..to.stop(source, anchor)
 }
@@ -197,7 +197,7 @@ impl<'input> Lookahead<'input> {
     ghost use Rattle.rustc_parse_format.specs.Characters.{is_id_start, is_over, number};
     ghost use Rattle.rustc_parse_format.specs.Characters.{rest_after, word};
     ghost use Rattle.rustc_parse_format.specs.Classes.{passes};
-    ghost use Rattle.rustc_parse_format.specs.Marks.{through, up_to};
+    ghost use Rattle.rustc_parse_format.specs.Marks.{span_through, up_to};
     ghost use Rattle.rustc_parse_format.specs.Seen.{pair};
     ghost use Rattle.rustc_parse_format.specs.SeenSource.{IsAnchored, seen_world};
     ghost use Rattle.rustc_parse_format.specs.World.{Place, place_at, place_of};
@@ -349,7 +349,7 @@ impl<'input> Lookahead<'input> {
         ensures over { let t = chars self.old.rest.text.now in
             option_map {U = Text × Place} (λ x. (chars x.0.now, pair x.1)) result.1
             ≡ if is_over (digits t)
-            then Some (digits t, place_of (seen_world source.now) (through t (after_digits t)))
+            then Some (digits t, place_of (seen_world source.now) (span_through t (after_digits t)))
             else None }
         ensures moves { Moves self.old self.new (after_digits (chars self.old.rest.text.now)) }
         ensures left { (input : List ℕ) → IsLeft input self.old.rest.text.now

@@ -1,6 +1,6 @@
 use Rattle.std.proofs.Common.{◌≡◌, ◌++◌, ◌∙◌, ap, sym, chars, false, length, map, arith, refl, Some}
 use Rattle.rustc_parse_format.specs.Characters.{byte_length}
-use Rattle.rustc_parse_format.specs.Source.{unappended}
+use Rattle.rustc_parse_format.specs.Source.{unappended_input}
 use Rattle.rustc_parse_format.specs.World.{plain_world}
 use Rattle.rustc_parse_format.proofs.Sources.PlainPlaces.{length-plain_places}
 use Rattle.rustc_parse_format.specs.Seen.{seen_mode}
@@ -27,7 +27,8 @@ pub returns-in_default : goal.returns-in_default
 returns-in_default c labels =
     let mode = seen_mode c.args.mode in
     let input = chars c.args.input.now in
-    let kept : c.saturating_sub-count.result ≡ length (unappended c.args.appended_newline input) =
+    let kept : c.saturating_sub-count.result
+    ≡ length (unappended_input c.args.appended_newline input) =
     rw (c.saturating_sub-count.ensures, c.length_of.ensures, c.from.ensures)
     (kept-is c.args.appended_newline input) in
     let w = plain_world false 0 input (byte_length input) in

@@ -1,5 +1,5 @@
 use Rattle.std.proofs.Common.{◌≡◌, ◌++◌, ◌∙◌, ap, chars, false, length, map, arith, Some}
-use Rattle.rustc_parse_format.specs.Source.{unappended}
+use Rattle.rustc_parse_format.specs.Source.{unappended_input}
 use Rattle.rustc_parse_format.specs.Types.{wants_names}
 use Rattle.rustc_parse_format.specs.World.{world}
 use Rattle.format_tokens.specs.Culprits.{marked}
@@ -22,7 +22,8 @@ place-requires c =
 pub returns : goal.returns
 returns c mode labels names =
     let input = chars c.args.input.now in
-    let kept : c.saturating_sub-count.result ≡ length (unappended c.args.appended_newline input) =
+    let kept : c.saturating_sub-count.result
+    ≡ length (unappended_input c.args.appended_newline input) =
     rw (c.saturating_sub-count.ensures, c.length_of.ensures, c.from.ensures)
     (kept-is c.args.appended_newline input) in
     let literal = chars c.args.literal.now in

@@ -1,7 +1,7 @@
 use Rattle.std.proofs.Common.{◌∙◌, List, ap, chars, map, string_bytes, subst}
 use Rattle.std.specs.Prelude.{option_map}
-use Rattle.rustc_parse_format.specs.Seen.{seen}
-use Rattle.rustc_parse_format.specs.Types.{bare}
+use Rattle.rustc_parse_format.specs.Seen.{seen_piece}
+use Rattle.rustc_parse_format.specs.Types.{bare_piece}
 use Rattle.call_faults.specs.Arguments.{FormatArgument}
 use Rattle.inlined_arguments.specs.Edits.{AreAtReferences}
 use Rattle.inlined_arguments.specs.Inlining.{ReadsClean}
@@ -15,7 +15,7 @@ returns-clause-inlined c = λ mixed none.
     let call = seen_call c.args.call in
     let read = rw c.in-Some-2.is at c.in_ok-pieces.ensures in
     let are_read = subst (λ (gs : List FormatArgument). ReadsClean call.captures gs call.text
-    (map bare (map seen c.in-Some-2.pieces.items)))
+    (map bare_piece (map seen_piece c.in-Some-2.pieces.items)))
     (c.requires.given ∙ ap (λ ss. map given_of ss) c.requires.slots) read.1 in
     let made = rw (c.in-Some-3.is, c.deref-2.ensures.value) at c.in_ok-literal.ensures.some in
     let same = rw (c.deref.ensures.value, c.deref-3.ensures)
@@ -33,6 +33,6 @@ returns-clause-inlined c = λ mixed none.
           call.appended_newline)
           (rw c.deref.ensures.value at c.in_ok-edits.ensures);
       old = are_read.0;
-      means_same = bare-same call (map seen c.in-Some-2.pieces.items) are_read.0.pieces
+      means_same = bare-same call (map seen_piece c.in-Some-2.pieces.items) are_read.0.pieces
           (chars (string_bytes c.in-Some-3.literal)) are_read.1 same;
     }
