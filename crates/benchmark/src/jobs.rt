@@ -330,7 +330,7 @@ fn record(
         style,
         snippet: Some(literal),
         appended_newline: false,
-        peeks: false,
+        wants_peeks: false,
     };
     let mut answer = NO_ANSWER;
     read(

@@ -133,12 +133,12 @@ pub one_more : (peeks : Bool) (input : List ℕ) (s0 s new : State) (todo : List
     → new ≡ state_after s (next_call s)
     → used' ≡ used + specs_in (given s) →
     found'.calls ≡ add_finders count found.calls (next_call s).faults
-    → found'.fronts ≡ found.fronts + fronts_in (next_call s) →
+    → found'.front_count ≡ found.front_count + fronts_in (next_call s) →
     IsAdded input (event peeks s) count used' steps steps' specs'
     → take used specs' ≡ take used specs → length specs' ≡ length specs →
     IsUpTo peeks input s0 todo new (count + 1) used' found' steps' specs'
 one_more peeks input s0 s new todo count used used' found found' steps steps' specs specs' h state
-    more finders fronts added front long =
+    more finders front_count added front long =
     let r = added.step in
     let put = added.put in
     let one = specs_in-le (given s) in
@@ -154,10 +154,10 @@ one_more peeks input s0 s new todo count used used' found found' steps steps' sp
       fewer = omega (arith, h.fewer, more, one);
       state = rw state h.state;
       finders = rw (add-one, finders) h.finders;
-      fronts = omega (
+      front_count = omega (
         arith,
-        h.fronts,
-        fronts,
+        h.front_count,
+        front_count,
         sum_by-cons fronts_in (next_call s) (map next_call todo),
       );
       few = put_few used used' steps steps' count r put wide added.few h.few;
@@ -276,7 +276,7 @@ length-finders n old s (k ∷ ks) e =
     (omega (arith, length-add_finders n old k.faults, length-after s k, e))
 
 pub begin : (peeks : Bool) (input : List ℕ) (s : State) (found : Found) (steps : List Step)
-    (specs : List SpecRecord) → found.calls ≡ [] → found.fronts ≡ 0 →
+    (specs : List SpecRecord) → found.calls ≡ [] → found.front_count ≡ 0 →
     IsUpTo peeks input s (states s) s 0 0 found steps specs
 begin peeks input s found steps specs e f = record {
   counted = omega arith;
@@ -284,7 +284,7 @@ begin peeks input s found steps specs e f = record {
   fewer = omega arith;
   state = refl;
   finders = rw e refl;
-  fronts = omega (arith, f);
+  front_count = omega (arith, f);
   few = tt;
   written = λ room specs_room. refl;
 }

@@ -42,24 +42,24 @@ place_of_first s t = option_map (λ x. x.0) (first_of s.world s.input t)
 
 -- The place, if the caller wants peeks, and otherwise None.
 abbrev pub looked_for : Bool → Option Place → Option Place
-looked_for peeks p = if peeks then p else None
+looked_for wants_peeks p = if wants_peeks then p else None
 
 -- The event of the call k, which leaves the parser in the state t. The flag says whether the caller
 -- wants peeks.
 abbrev pub event_of : Bool → World → Call → State → Event
-event_of peeks w k t = record {
+event_of wants_peeks w k t = record {
   piece = option_map (piece_in w) k.piece;
   place = closed_in w k.closes;
   offset = position t.input t.rest;
   next_index = t.next;
   lines = length t.line_spans;
-  peek = looked_for peeks (place_of_first t t.rest);
-  peek_ahead = looked_for peeks (place_of_first t (after_first t.rest));
+  peek = looked_for wants_peeks (place_of_first t t.rest);
+  peek_ahead = looked_for wants_peeks (place_of_first t (after_first t.rest));
 }
 
 -- The event of the next call.
 abbrev pub event : Bool → State → Event
-event peeks s = event_of peeks s.world (next_call s) (state_after s (next_call s))
+event wants_peeks s = event_of wants_peeks s.world (next_call s) (state_after s (next_call s))
 
 -- The piece that the next call returns.
 abbrev pub given : State → Option (Piece Place)
@@ -83,7 +83,7 @@ calls s = map next_call (states s)
 
 -- The events of all calls.
 abbrev pub events : Bool → State → List Event
-events peeks s = map (event peeks) (states s)
+events wants_peeks s = map (event wants_peeks) (states s)
 
 -- The state after all calls.
 abbrev pub end_of : State → State

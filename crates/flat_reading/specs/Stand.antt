@@ -170,7 +170,8 @@ pub record MakesCall (number : ℕ) (r : Reading) (old new : Walker) : Type 0 wh
   pub ready : IsOnItsWay r new
   pub finders : new.finders.calls
       ≡ add_finders number old.finders.calls (next_call old.parser).faults
-  pub fronts : new.finders.fronts ≡ old.finders.fronts + fronts_in (next_call old.parser)
+  pub front_count : new.finders.front_count
+      ≡ old.finders.front_count + fronts_in (next_call old.parser)
 
 -- A step that describes the event was written at the index `count`, if there is room. By then
 -- `used` specifications are counted.
@@ -195,7 +196,7 @@ AllFew k (r ∷ rs) = (r.spec ≤ k) × AllFew k rs
 
 -- So far so many steps and specifications are noted of the calls from the state s0 on, which came
 -- to s; the calls at the states `todo` are left.
-pub record IsUpTo (peeks : Bool) (input : List ℕ) (s0 : State) (todo : List State) (s : State)
+pub record IsUpTo (wants_peeks : Bool) (input : List ℕ) (s0 : State) (todo : List State) (s : State)
     (count used : ℕ) (found : Found) (steps : List Step)
     (specs : List SpecRecord) : Type 0 where
   pub counted : count + length todo ≡ length (states s0)
@@ -203,7 +204,8 @@ pub record IsUpTo (peeks : Bool) (input : List ℕ) (s0 : State) (todo : List St
   pub fewer : used ≤ count
   pub state : after_all s (map next_call todo) ≡ end_of s0
   pub finders : finders_from count found.calls (map next_call todo) ≡ found_by s0
-  pub fronts : found.fronts + sum_by fronts_in (map next_call todo) ≡ fronts_of s0
+  pub front_count : found.front_count + sum_by fronts_in (map next_call todo) ≡ fronts_of s0
   pub few : AllFew used (take count steps)
   pub written : count ≤ length steps → used ≤ length specs
-      → map (step_meant input specs) (take count steps) ++ map (event peeks) todo ≡ events peeks s0
+      → map (step_meant input specs) (take count steps) ++ map (event wants_peeks) todo
+      ≡ events wants_peeks s0

@@ -14,7 +14,7 @@ use Rattle.rustc_parse_format.specs.Faults.{LateFlag, MissingColon, LateDebug, L
 use Rattle.rustc_parse_format.specs.Faults.{DebugPrint, LateSign, FieldAccess, TupleIndex}
 use Rattle.rustc_parse_format.specs.Types.{Mode}
 use Rattle.rustc_parse_format.specs.World.{Place}
-use Rattle.piece_listing.specs.Listing.{quoted}
+use Rattle.piece_listing.specs.Listing.{quoted_text}
 use Rattle.drawn_lines.specs.Glyphs.{IsHarmless}
 use Rattle.drawn_lines.specs.Painting.{IsColoured, IsHarmlessWith}
 use Rattle.drawn_lines.specs.Places.{Picture, within}
@@ -130,7 +130,7 @@ of_lines t (x ∷ xs) =
     let n = x.1.1 - x.1.0 in
     join (join (text (kind_name x.0) (name-written x.0)) (join (text (codes " ") refl)
     (join (join (decimal-harmless x.1.0) (join (text (codes "..") refl) (decimal-harmless x.1.1)))
-    (join (text (codes " ") refl) (join (glyphs-harmless (chars (quoted (within n t))))
+    (join (text (codes " ") refl) (join (glyphs-harmless (chars (quoted_text (within n t))))
     (text (codes "\n") refl)))))) (of_lines (rest_after n t) xs)
 
 -- tokens in colours

@@ -16,7 +16,7 @@ use Rattle.std.specs.Prelude.{◌==◌, ◌||◌, codes, flat_map, if◌then◌e
 use Rattle.rustc_parse_format.specs.Characters.{Text}
 use Rattle.rustc_parse_format.specs.Written.{plainly_written, written_character}
 use Rattle.rustc_parse_format.proofs.Grammar.Fronts.{list_all-weaker}
-use Rattle.piece_listing.specs.Listing.{quoted}
+use Rattle.piece_listing.specs.Listing.{quoted_text}
 use Rattle.drawn_lines.specs.Glyphs.{glyph_bytes, is_drawn_as_it_is, is_drawn_as_is, is_printable}
 use Rattle.drawn_lines.proofs.PrintableLemmas.{ascii-printable, whole-as-is}
 
@@ -135,12 +135,13 @@ text-utf8 (c ∷ t) s =
 
 -- A quoted text.
 pub quoted-as-is : (t : Text) → scalars t ≡ true
-    → list_all is_drawn_as_it_is (encode_utf8_all t) ≡ true → glyph_bytes (quoted t) ≡ quoted t
+    → list_all is_drawn_as_it_is (encode_utf8_all t) ≡ true
+    → glyph_bytes (quoted_text t) ≡ quoted_text t
 quoted-as-is t s e =
     let quote : IsUtf8 (codes "\"") =
     IsUtf8-from_ascii (codes "\"") (ascii-printable (codes "\"") refl)
     in
-    whole-as-is (quoted t)
+    whole-as-is (quoted_text t)
     (IsUtf8-append (codes "\"") (flat_map written_character t ++ codes "\"") quote
     (IsUtf8-append (flat_map written_character t) (codes "\"") (text-utf8 t s) quote))
     (both is_drawn_as_is (codes "\"") (flat_map written_character t ++ codes "\"") refl

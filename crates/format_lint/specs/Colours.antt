@@ -3,7 +3,7 @@ use Rattle.std.specs.Prelude.{ℕ, ◌-◌, ◌++◌, Bool, true, false, List, [
 use Rattle.std.specs.Prelude.{Some, codes, drop, length}
 use Rattle.std.specs.Str.{encode_utf8_all}
 use Rattle.rustc_parse_format.specs.Characters.{Text}
-use Rattle.piece_listing.specs.Listing.{quoted, span_text}
+use Rattle.piece_listing.specs.Listing.{quoted_text, span_text}
 use Rattle.drawn_lines.specs.Glyphs.{glyph_bytes, glyphs, is_drawn_as_it_is, is_drawn_as_is}
 use Rattle.drawn_lines.specs.Places.{within}
 use Rattle.format_tokens.specs.Escapes.{Placed}
@@ -82,7 +82,7 @@ in_colour (Some n) u = codes "\u{1b}[" ++ (n ++ (codes "m" ++ (u ++ codes "\u{1b
 abbrev pub shown_token : Bool → Placed → Text → List ℕ
 shown_token true x u = in_colour (colour x.0) (encode_utf8_all (glyphs u))
 shown_token false x u = kind_name x.0
-    ++ (codes " " ++ (span_text x.1 ++ (codes " " ++ (glyph_bytes (quoted u) ++ codes "\n"))))
+    ++ (codes " " ++ (span_text x.1 ++ (codes " " ++ (glyph_bytes (quoted_text u) ++ codes "\n"))))
 
 -- The byte is one of a character that is shown as it is in a colour, or that is quoted as it is.
 abbrev pub stays : Bool → ℕ → Bool

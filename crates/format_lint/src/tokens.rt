@@ -7,7 +7,7 @@ ghost use Rattle.std.specs.Prelude.{false, map, string_bytes, true};
 ghost use Rattle.drawn_lines.specs.Glyphs.{glyph_bytes, is_drawn_as_it_is, is_drawn_as_is};
 ghost use Rattle.drawn_lines.specs.Places.{within};
 ghost use Rattle.format_tokens.specs.Seen.{seen_token};
-ghost use Rattle.piece_listing.specs.Listing.{quoted};
+ghost use Rattle.piece_listing.specs.Listing.{quoted_text};
 ghost use Rattle.format_lint.specs.Colours.{rest_after, colour, in_colour, kind_name};
 ghost use Rattle.format_lint.specs.Colours.{shown_token, shown_tokens, stays};
 
@@ -105,7 +105,7 @@ fn put_in_colour(out: &mut String, as_is: bool, kind: Kind, text: &str) -> Resul
 fn put_drawn_quoted(out: &mut String, as_is: bool, text: &str) -> Result<(), AllocError>
     requires { IsTrue as_is → list_all is_drawn_as_it_is text.now ≡ true }
     ensures { OnOk result (string_bytes out.new
-        ≡ string_bytes out.old ++ glyph_bytes (quoted (chars text.now))) }
+        ≡ string_bytes out.old ++ glyph_bytes (quoted_text (chars text.now))) }
 {
     if as_is {
         return put_quoted(out, text);

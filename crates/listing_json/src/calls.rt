@@ -54,7 +54,7 @@ fn put_piece_line(
 }
 
 /// Appends the line of a piece, if there is one.
-fn put_given(
+fn put_maybe_piece(
     alloc: Global,
     out: &mut Vec<u8>,
     piece: &Option<PieceKind<'_>>,
@@ -107,10 +107,10 @@ fn put_call<'a>(
         ≡ faults_in parser.old.world (next_call parser.old).faults) }
     ensures state { OnOk result (parser.new
         ≡ record (state_after parser.old (next_call parser.old)) { errors = parser.old.errors }) }
-    ensures goes_on { IfOk result (λ b. b ≡ is_some (next_call parser.old).piece) }
+    ensures has_piece { IfOk result (λ b. b ≡ is_some (next_call parser.old).piece) }
 {
     let piece = parser.next_with_faults(argument, faults)?;
-    put_given(alloc, out, &piece, argument)?;
+    put_maybe_piece(alloc, out, &piece, argument)?;
     put_faults(alloc, out, faults.as_slice())?;
     Ok(piece.is_some())
 }
@@ -129,9 +129,9 @@ pub fn put_calls<'a>(
     let mut argument = Argument::default();
     let mut faults = Vec::new(alloc);
     let mut has_faults = false;
-    let mut goes_on = true;
-    while goes_on {
-        goes_on = put_call(alloc, out, parser, &mut argument, &mut faults)?;
+    let mut has_piece = true;
+    while has_piece {
+        has_piece = put_call(alloc, out, parser, &mut argument, &mut faults)?;
         has_faults |= !faults.is_empty();
         faults.clear();
     }

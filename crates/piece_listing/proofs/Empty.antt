@@ -20,7 +20,7 @@ use Rattle.piece_listing.specs.declared.task.Task.{Task as DeclaredTask}
 use Rattle.piece_listing.specs.declared.verdict.RunFault.{RunFault}
 use Rattle.piece_listing.specs.declared.verdict.RunFault.TheVariants.{NotLiteral}
 use Rattle.piece_listing.specs.Listing.{report_lines}
-use Rattle.piece_listing.specs.Program.{IsListed, Task, errors, listed, no_entries, pieces}
+use Rattle.piece_listing.specs.Program.{IsListed, Task, errors, listing_of, no_entries, pieces}
 use Rattle.piece_listing.specs.SeenTask.{seen_given, seen_task}
 use Rattle.piece_listing.specs.Source.{IsSourceOf, Source, bare_source}
 use Rattle.piece_listing.proofs.Literals.{raw_frame-parts}
@@ -31,7 +31,7 @@ errors-nil : (mode : Mode) (w : World) (start : ℕ)
 unfolding walk call
 errors-nil mode w start = refl
 
-listed-nil : (mode : Mode) → listed mode (bare_source []) no_entries ≡ ([], false)
+listed-nil : (mode : Mode) → listing_of mode (bare_source []) no_entries ≡ ([], false)
 unfolding pieces errors walk call report_lines
 listed-nil mode = refl
 
@@ -110,8 +110,8 @@ empty-listed t x bs e bare refused found = by_literal t.is_literal refused found
     by_literal true refused found = absurd (let no_listing = refused e refl in cc)
     by_literal false refused (s, is, (r, report, given)) =
         let none : r ≡ no_entries = rw bare at report in
-        let same = given ∙ ap (listed (seen_mode t.mode) s) none
-        ∙ ap (λ s. listed (seen_mode t.mode) s no_entries) (is
+        let same = given ∙ ap (listing_of (seen_mode t.mode) s) none
+        ∙ ap (λ s. listing_of (seen_mode t.mode) s no_entries) (is
         ∙ ap bare_source (chars-empty bs e))
         ∙ listed-nil (seen_mode t.mode) in
         (refl, ap (λ (x : List ℕ × Bool). x.0) same, ap (λ (x : List ℕ × Bool). x.1) same)

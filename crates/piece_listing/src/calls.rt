@@ -36,7 +36,7 @@ fn next_piece<'a>(
 }
 
 /// Appends the line of a piece. Returns `Err` if an allocation fails.
-fn put_taken(
+fn put_piece_kind(
     out: &mut String,
     piece: &PieceKind<'_>,
     argument: &Argument<'_>,
@@ -55,31 +55,31 @@ fn put_taken(
 /// Returns `Err` if an allocation fails.
 fn add_uses<'a>(
     uses: &mut Uses<'a>,
-    compares: bool,
+    compares_arguments: bool,
     piece: &PieceKind<'a>,
     argument: &Argument<'a>,
 ) -> Result<(), AllocError>
-    ensures { OnOk result (IsTrue compares → (us : List Use) → Holds us uses.old
+    ensures { OnOk result (IsTrue compares_arguments → (us : List Use) → Holds us uses.old
         → Holds (us ++ piece_uses (seen_taken argument.now piece.now)) uses.new) }
 {
-    if compares && matches!(piece, PieceKind::NextArgument) {
+    if compares_arguments && matches!(piece, PieceKind::NextArgument) {
         uses.add(argument)?;
     }
     Ok(())
 }
 
 /// Appends the lines of the pieces of a parser up to the first call that returns `None`, and adds
-/// the arguments that they use to `all_uses` if `compares` is set. Returns `Err` if an allocation
-/// fails.
+/// the arguments that they use to `all_uses` if `compares_arguments` is set. Returns `Err` if an
+/// allocation fails.
 pub fn put_calls<'a>(
     out: &mut String,
     all_uses: &mut Uses<'a>,
-    compares: bool,
+    compares_arguments: bool,
     parser: &mut Parser<'a>,
 ) -> Result<(), AllocError>
     ensures lines { OnOk result (string_bytes out.new ≡ string_bytes out.old
         ++ flat_map piece_line (pieces_in parser.old.world (pieces_of (calls parser.old)))) }
-    ensures used { OnOk result (IsTrue compares → (us : List Use) → Holds us all_uses.old
+    ensures used { OnOk result (IsTrue compares_arguments → (us : List Use) → Holds us all_uses.old
         → Holds (us ++ uses (pieces_in parser.old.world (pieces_of (calls parser.old))))
         all_uses.new) }
     ensures state { OnOk result (parser.new ≡ after_all parser.old (calls parser.old)) }
@@ -91,8 +91,8 @@ pub fn put_calls<'a>(
         format: FormatSpec::default(),
     };
     while let Some(piece) = next_piece(parser, &mut argument)? {
-        put_taken(out, &piece, &argument)?;
-        add_uses(all_uses, compares, &piece, &argument)?;
+        put_piece_kind(out, &piece, &argument)?;
+        add_uses(all_uses, compares_arguments, &piece, &argument)?;
     }
     Ok(())
 }

@@ -11,7 +11,7 @@ ghost use Rattle.piece_listing.specs.Listing.{align_entry, at_entry, count_entry
 ghost use Rattle.piece_listing.specs.Listing.{fault_line, fill_entry, flag_entry, flag_entries};
 ghost use Rattle.piece_listing.specs.Listing.{hex_entry};
 ghost use Rattle.piece_listing.specs.Listing.{piece_line, position_text, precision_entry};
-ghost use Rattle.piece_listing.specs.Listing.{quoted, sign_entry, span_text, type_entry};
+ghost use Rattle.piece_listing.specs.Listing.{quoted_text, sign_entry, span_text, type_entry};
 ghost use Rattle.piece_listing.specs.Listing.{value_entries, width_entry};
 
 use super::numbers::{put_number, put_span};
@@ -24,7 +24,8 @@ use std::ops::Range;
 
 /// Adds a text, escaped, between quotes.
 pub fn put_quoted(out: &mut String, text: &str) -> Result<(), AllocError>
-    ensures { OnOk result (string_bytes out.new ≡ string_bytes out.old ++ quoted (chars text.now)) }
+    ensures { OnOk result (string_bytes out.new
+        ≡ string_bytes out.old ++ quoted_text (chars text.now)) }
 {
     out.push('"')?;
     put_all_written(out, text)?;
@@ -35,7 +36,7 @@ pub fn put_quoted(out: &mut String, text: &str) -> Result<(), AllocError>
 /// Adds the line of a piece of literal text.
 pub(crate) fn put_literal(out: &mut String, text: &str) -> Result<(), AllocError>
     ensures { OnOk result (string_bytes out.new ≡ string_bytes out.old ++
-        (codes "lit " ++ (quoted (chars text.now) ++ codes "\n"))) }
+        (codes "lit " ++ (quoted_text (chars text.now) ++ codes "\n"))) }
 {
     out.push_str("lit \"")?;
     put_all_written(out, text)?;
@@ -55,7 +56,7 @@ fn put_name(out: &mut String, label: &str, name: &str) -> Result<(), AllocError>
 }
 
 /// Adds the span of the part before it, if that has one.
-fn put_at(out: &mut String, span: &Option<Range<usize>>) -> Result<(), AllocError>
+fn put_span_at(out: &mut String, span: &Option<Range<usize>>) -> Result<(), AllocError>
     ensures { OnOk result (string_bytes out.new ≡ string_bytes out.old ++
         at_entry (option_map pair span.now)) }
 {
@@ -91,7 +92,7 @@ fn put_fill(
         out.push_str(" fill=\"")?;
         put_written(out, c)?;
         out.push('"')?;
-        put_at(out, span)?;
+        put_span_at(out, span)?;
     }
     Ok(())
 }
@@ -179,7 +180,7 @@ fn put_named_count(
 {
     out.push_str(name)?;
     put_count(out, count)?;
-    put_at(out, span)?;
+    put_span_at(out, span)?;
     Ok(())
 }
 
@@ -237,7 +238,7 @@ fn put_type(out: &mut String, ty: &str, span: &Option<Range<usize>>) -> Result<(
     }
     out.push_str(" ty=")?;
     put_quoted(out, ty)?;
-    put_at(out, span)?;
+    put_span_at(out, span)?;
     Ok(())
 }
 

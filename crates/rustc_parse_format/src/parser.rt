@@ -255,7 +255,7 @@ impl<'input> Parser<'input> {
     ) -> Result<NextPiece<'input>, AllocError>
         ensures piece { IfOk result (λ x. option_map (seen_taken argument.new) x.piece
             ≡ option_map (piece_in self.old.world) (next_call self.old).piece) }
-        ensures fronts { IfOk result (λ x. x.front_errors
+        ensures front_count { IfOk result (λ x. x.front_errors
             ≡ length (filter is_front (next_call self.old).faults)) }
         ensures state { OnOk result (self.new ≡ state_after self.old (next_call self.old)) }
         ensures err { OnErr result (IsPutBack self.old self.new) }

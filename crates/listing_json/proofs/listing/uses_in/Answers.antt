@@ -1,5 +1,5 @@
 use Rattle.piece_listing.specs.Program.{pieces}
-use Rattle.listing_json.proofs.listing.used_by.Goals as goal
+use Rattle.listing_json.proofs.listing.uses_in.Goals as goal
 
 pub returns : goal.returns
 unfolding pieces
