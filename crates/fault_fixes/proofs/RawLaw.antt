@@ -25,7 +25,7 @@ use Rattle.rustc_parse_format.proofs.Spans.Forward.{cut_faults-forward, argument
 use Rattle.rustc_parse_format.proofs.Spans.Forward.{AreForward, AreFaultsForward}
 use Rattle.rustc_parse_format.proofs.Walking.Progress.{call-lt}
 use Rattle.fault_fixes.specs.Fixing.{all_faults}
-use Rattle.fault_fixes.specs.Losing.{IsMerged, LosesOnly, moved, moved_count}
+use Rattle.fault_fixes.specs.Losing.{IsMerged, LosesOnly, moved_span, moved_count}
 use Rattle.fault_fixes.proofs.Merging.{merged-append, merged-first, merged-second}
 use Rattle.fault_fixes.proofs.Moving.{faults-fixed, moved-rest_after, moved_count-before}
 use Rattle.fault_fixes.proofs.Moving.{moved_mark-rest_after, span_of}
@@ -36,7 +36,7 @@ use Rattle.fault_fixes.proofs.RecoveryMoves.{unclosed_fault-moved}
 
 -- The removal of the two characters before t, and the fault that goes.
 abbrev removes : Text → Span → Span
-removes t = moved (length t) 2 0
+removes t = moved_span (length t) 2 0
 
 abbrev raw_fault : Text → Fault Span
 raw_fault t = RawIdentifier (up_to (114 ∷ 35 ∷ t) (after_word t))

@@ -23,8 +23,8 @@ moved_mark n removed added (Start k) = Start (moved_count n removed added k)
 moved_mark n removed added (End k) = End (moved_count n removed added k)
 
 -- A span in the edited text.
-abbrev pub moved : ℕ → ℕ → ℕ → Span → Span
-moved n removed added s = record {
+abbrev pub moved_span : ℕ → ℕ → ℕ → Span → Span
+moved_span n removed added s = record {
   from = moved_mark n removed added s.from;
   to = moved_mark n removed added s.to;
 }
@@ -46,7 +46,7 @@ pub record LosesOnly (own : List (Fault Span)) (move : Span → Span)
 -- Where u is between an opening brace and a `?`, and the closing brace after the `?` is followed by
 -- r: the `?` becomes `:?`.
 abbrev pub colon_moves : Text → Span → Span
-colon_moves r = moved (length (codes "}" ++ r)) 1 2
+colon_moves r = moved_span (length (codes "}" ++ r)) 1 2
 
 -- The faults of the missing colon: the missing brace, the `?` in its place, and then the brace that
 -- closes nothing.

@@ -3,7 +3,7 @@ use Rattle.std.specs.Prelude.{◌≡◌, ◌⊎◌, ◌++◌, ◌∷◌, ◌≤�
 use Rattle.std.specs.Prelude.{None, IsUtf8, chars, if◌then◌else◌, length, map, string_bytes}
 use Rattle.std.specs.declared.alloc.Global.{Global}
 use Rattle.std.specs.declared.string.String.{String}
-use Rattle.fault_fixes.specs.Edits.{Edit, applied}
+use Rattle.fault_fixes.specs.Edits.{Edit, edited_bytes}
 use Rattle.fault_fixes.specs.Losing.{IsMerged}
 use Rattle.rust_tokens.specs.Files.{ReadsFile}
 use Rattle.rust_tokens.specs.Placed.{placed}
@@ -56,7 +56,7 @@ round_edits r = all_edits (mended 0 r.findings.items)
 
 -- The bytes bs with these edits.
 abbrev pub mended_bytes : List ℕ → Report → List ℕ
-mended_bytes bs r = applied 0 (round_edits r) bs
+mended_bytes bs r = edited_bytes 0 (round_edits r) bs
 
 -- The file with the bytes bs reads as the tokens xs, and the one with the bytes cs as ys.
 abbrev pub AreTokens : List ℕ → List ℕ → List Lexeme → List Lexeme → Type 0

@@ -19,9 +19,10 @@ use Rattle.flat_reading.specs.declared.records.Step.{Step}
 use Rattle.flat_reading.specs.declared.records.Spec.{Spec as SpecRecord}
 use Rattle.rustc_parse_format.specs.Lines.{closed_in, with_last}
 use Rattle.flat_reading.specs.Meant.{maybe_place, piece_meant, spec_at}
-use Rattle.flat_reading.specs.Events.{Event, add_finders, event, finders_from, fronts_in, given}
+use Rattle.flat_reading.specs.Events.{Event, add_finders, event, finders_from, fronts_in}
+use Rattle.flat_reading.specs.Events.{given_piece}
 use Rattle.flat_reading.specs.Events.{place_of_first, position}
-use Rattle.flat_reading.specs.Events.{looked_for}
+use Rattle.flat_reading.specs.Events.{looked_for_place}
 use Rattle.flat_reading.specs.Events.{specs_in, is_default, states, states_for}
 use Rattle.flat_reading.specs.Events.{step_meant}
 use Rattle.flat_reading.specs.Held.{Found}
@@ -131,7 +132,7 @@ pub one_more : (peeks : Bool) (input : List ℕ) (s0 s new : State) (todo : List
     (specs specs' : List SpecRecord) →
     IsUpTo peeks input s0 (s ∷ todo) s count used found steps specs
     → new ≡ state_after s (next_call s)
-    → used' ≡ used + specs_in (given s) →
+    → used' ≡ used + specs_in (given_piece s) →
     found'.calls ≡ add_finders count found.calls (next_call s).faults
     → found'.front_count ≡ found.front_count + fronts_in (next_call s) →
     IsAdded input (event peeks s) count used' steps steps' specs'
@@ -141,7 +142,7 @@ one_more peeks input s0 s new todo count used used' found found' steps steps' sp
     more finders front_count added front long =
     let r = added.step in
     let put = added.put in
-    let one = specs_in-le (given s) in
+    let one = specs_in-le (given_piece s) in
     let wide : used ≤ used' = omega (arith, more) in
     record {
       counted = omega (arith, h.counted);
@@ -149,7 +150,7 @@ one_more peeks input s0 s new todo count used used' found found' steps steps' sp
         arith,
         h.specs_counted,
         more,
-        sum_by-cons (λ (t : State). specs_in (given t)) s todo,
+        sum_by-cons (λ (t : State). specs_in (given_piece t)) s todo,
       );
       fewer = omega (arith, h.fewer, more, one);
       state = rw state h.state;
@@ -211,15 +212,15 @@ pub described : (peeks : Bool) (input : List ℕ) (specs : List SpecRecord) (r :
     ≡ option_map (piece_in s.world) (next_call s).piece → maybe_place r.place
     ≡ closed_in s.world (next_call s).closes →
     r.offset ≡ position t.input t.rest → r.next_index ≡ t.next → r.lines ≡ length t.line_spans
-    → maybe_place r.peek ≡ looked_for peeks (place_of_first t t.rest) →
-    maybe_place r.peek_ahead ≡ looked_for peeks (place_of_first t (after_first t.rest))
+    → maybe_place r.peek ≡ looked_for_place peeks (place_of_first t t.rest) →
+    maybe_place r.peek_ahead ≡ looked_for_place peeks (place_of_first t (after_first t.rest))
     → step_meant input specs r ≡ event peeks s
 described peeks input specs r s t state piece place read next lines peek ahead =
     rw (piece, place, read, next, lines, peek, ahead, state) refl
 
 -- The call at the end gives nothing, finds nothing and closes nothing, and there is nothing to look
 -- for.
-pub end_specs : (s : State) → s.rest ≡ [] → specs_in (given s) ≡ 0
+pub end_specs : (s : State) → s.rest ≡ [] → specs_in (given_piece s) ≡ 0
 end_specs s e = ap (λ o. specs_in (option_map (piece_in s.world) o)) (at_end s e).0
 
 pub end_stays : (s : State) → s.rest ≡ [] → s.world.has_source ≡ false
@@ -241,7 +242,7 @@ end_closes : (s : State) → s.rest ≡ [] → closed_in s.world (next_call s).c
 unfolding call
 end_closes s e = rw e (closed_in-none s.world)
 
-not_looked_for : (peeks : Bool) → looked_for peeks None ≡ None
+not_looked_for : (peeks : Bool) → looked_for_place peeks None ≡ None
 not_looked_for true = refl
 not_looked_for false = refl
 
@@ -258,8 +259,9 @@ pub report_end : (peeks : Bool) (input : List ℕ) (specs : List SpecRecord) (r 
     → step_meant input specs r ≡ event peeks s
 report_end peeks input specs r s t state e piece place read next lines peek ahead =
     let none : t.rest ≡ [] = ap (λ (u : State). u.rest) (state ∙ (at_end s e).1) ∙ e in
-    let no_peek = ap (λ u. looked_for peeks (place_of_first t u)) none ∙ not_looked_for peeks in
-    let no_ahead = ap (λ u. looked_for peeks (place_of_first t (after_first u))) none
+    let no_peek = ap (λ u. looked_for_place peeks (place_of_first t u)) none
+    ∙ not_looked_for peeks in
+    let no_ahead = ap (λ u. looked_for_place peeks (place_of_first t (after_first u))) none
     ∙ not_looked_for peeks in
     described peeks input specs r s t state (piece
     ∙ sym (ap (option_map (piece_in s.world)) (at_end s e).0))

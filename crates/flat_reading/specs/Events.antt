@@ -41,8 +41,8 @@ abbrev pub place_of_first : State → Text → Option Place
 place_of_first s t = option_map (λ x. x.0) (first_of s.world s.input t)
 
 -- The place, if the caller wants peeks, and otherwise None.
-abbrev pub looked_for : Bool → Option Place → Option Place
-looked_for wants_peeks p = if wants_peeks then p else None
+abbrev pub looked_for_place : Bool → Option Place → Option Place
+looked_for_place wants_peeks p = if wants_peeks then p else None
 
 -- The event of the call k, which leaves the parser in the state t. The flag says whether the caller
 -- wants peeks.
@@ -53,8 +53,8 @@ event_of wants_peeks w k t = record {
   offset = position t.input t.rest;
   next_index = t.next;
   lines = length t.line_spans;
-  peek = looked_for wants_peeks (place_of_first t t.rest);
-  peek_ahead = looked_for wants_peeks (place_of_first t (after_first t.rest));
+  peek = looked_for_place wants_peeks (place_of_first t t.rest);
+  peek_ahead = looked_for_place wants_peeks (place_of_first t (after_first t.rest));
 }
 
 -- The event of the next call.
@@ -62,8 +62,8 @@ abbrev pub event : Bool → State → Event
 event wants_peeks s = event_of wants_peeks s.world (next_call s) (state_after s (next_call s))
 
 -- The piece that the next call returns.
-abbrev pub given : State → Option (Piece Place)
-given s = option_map (piece_in s.world) (next_call s).piece
+abbrev pub given_piece : State → Option (Piece Place)
+given_piece s = option_map (piece_in s.world) (next_call s).piece
 
 -- The states before each call, up to the call at the end of the input, and at most n calls before
 -- it. Each of those reads a character.
@@ -102,8 +102,8 @@ finders_from n old [] = old
 finders_from n old (k ∷ ks) = finders_from (suc n) (add_finders n old k.faults) ks
 
 -- For each error, in the order of the list of errors, the number of the call that found it.
-abbrev pub found_by : State → List ℕ
-found_by s = finders_from 0 [] (calls s)
+abbrev pub finders_of : State → List ℕ
+finders_of s = finders_from 0 [] (calls s)
 
 -- The number of errors of a call that are added at the start of the list.
 abbrev pub fronts_in : Call → ℕ
@@ -159,7 +159,7 @@ specs_in (Some (NextArgument a)) = if is_default a.format then 0 else 1
 
 -- The number of records of specifications: one for each specification that has a part.
 abbrev pub spec_count : State → ℕ
-spec_count s = sum_by (λ (t : State). specs_in (given t)) (states s)
+spec_count s = sum_by (λ (t : State). specs_in (given_piece t)) (states s)
 
 -- The event that a step describes.
 abbrev pub step_meant : List ℕ → List SpecRecord → Step → Event

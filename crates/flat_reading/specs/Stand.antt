@@ -21,7 +21,8 @@ use Rattle.flat_reading.specs.declared.texts.Texts.{Texts}
 use Rattle.flat_reading.specs.declared.reading.Reading.{Reading}
 use Rattle.flat_reading.specs.declared.walk.Walker.{Walker}
 use Rattle.flat_reading.specs.Events.{Event, add_finders, end_of, event, events, finders_from}
-use Rattle.flat_reading.specs.Events.{found_by, fronts_in, fronts_of, given, spec_count, specs_in}
+use Rattle.flat_reading.specs.Events.{finders_of, fronts_in, fronts_of, given_piece, spec_count}
+use Rattle.flat_reading.specs.Events.{specs_in}
 use Rattle.flat_reading.specs.Events.{states, step_meant}
 use Rattle.flat_reading.specs.Held.{Found}
 use Rattle.flat_reading.specs.Meant.{text_at, type_meant}
@@ -200,10 +201,10 @@ pub record IsUpTo (wants_peeks : Bool) (input : List ℕ) (s0 : State) (todo : L
     (count used : ℕ) (found : Found) (steps : List Step)
     (specs : List SpecRecord) : Type 0 where
   pub counted : count + length todo ≡ length (states s0)
-  pub specs_counted : used + sum_by (λ (t : State). specs_in (given t)) todo ≡ spec_count s0
+  pub specs_counted : used + sum_by (λ (t : State). specs_in (given_piece t)) todo ≡ spec_count s0
   pub fewer : used ≤ count
   pub state : after_all s (map next_call todo) ≡ end_of s0
-  pub finders : finders_from count found.calls (map next_call todo) ≡ found_by s0
+  pub finders : finders_from count found.calls (map next_call todo) ≡ finders_of s0
   pub front_count : found.front_count + sum_by fronts_in (map next_call todo) ≡ fronts_of s0
   pub few : AllFew used (take count steps)
   pub written : count ≤ length steps → used ≤ length specs

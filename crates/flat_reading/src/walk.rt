@@ -13,8 +13,9 @@ ghost use Rattle.rustc_parse_format.specs.Types.{NextArgument};
 ghost use Rattle.rustc_parse_format.specs.World.{Place};
 ghost use Rattle.flat_reading.specs.declared.records.Spec.{Spec as SpecRecord};
 ghost use Rattle.flat_reading.specs.declared.records.Step.{Step as StepRecord};
-ghost use Rattle.flat_reading.specs.Events.{end_of, event, events, found_by, fronts_of};
-ghost use Rattle.flat_reading.specs.Events.{given, is_default, looked_for, place_of_first};
+ghost use Rattle.flat_reading.specs.Events.{end_of, event, events, finders_of, fronts_of};
+ghost use Rattle.flat_reading.specs.Events.{given_piece, is_default, looked_for_place};
+ghost use Rattle.flat_reading.specs.Events.{place_of_first};
 ghost use Rattle.flat_reading.specs.Events.{position, spec_count, specs_in, states, step_meant};
 ghost use Rattle.flat_reading.specs.Meant.{maybe_place, piece_meant, spec_at};
 ghost use Rattle.flat_reading.specs.Stand.{Adds, IsAdded, IsOnItsWay, IsReadAt, IsUpTo, MakesCall};
@@ -83,9 +84,9 @@ fn put_peeks(
     peek_ahead: &mut MaybeExtent,
 )
     ensures place { maybe_place peek.new
-        ≡ looked_for wants_peeks (place_of_first parser.now parser.now.rest) }
+        ≡ looked_for_place wants_peeks (place_of_first parser.now parser.now.rest) }
     ensures ahead { maybe_place peek_ahead.new
-        ≡ looked_for wants_peeks (place_of_first parser.now (after_first parser.now.rest)) }
+        ≡ looked_for_place wants_peeks (place_of_first parser.now (after_first parser.now.rest)) }
 {
     *peek = NO_EXTENT;
     *peek_ahead = NO_EXTENT;
@@ -251,7 +252,8 @@ impl<'a> Walker<'a> {
             → step_meant reading.now.input.now specs.new.records.now step.new
             ≡ event reading.now.wants_peeks self.old.parser) }
         ensures number { OnOk result (step.new.spec ≤ specs.new.count) }
-        ensures adds { OnOk result (Adds (specs_in (given self.old.parser)) specs.old specs.new) }
+        ensures adds { OnOk result (Adds (specs_in
+            (given_piece self.old.parser)) specs.old specs.new) }
         ensures call { OnOk result (MakesCall number reading.now self.old self.new) }
         ensures read { OnOk result (step.new.offset
             ≡ position self.new.parser.input self.new.parser.rest) }
@@ -295,7 +297,8 @@ impl<'a> Walker<'a> {
             → IsAdded reading.now.input.now
             (event reading.now.wants_peeks self.old.parser) number specs.new.count full full
             specs.new.records.now) }
-        ensures adds { OnOk result (Adds (specs_in (given self.old.parser)) specs.old specs.new) }
+        ensures adds { OnOk result (Adds (specs_in
+            (given_piece self.old.parser)) specs.old specs.new) }
         ensures call { OnOk result (MakesCall number reading.now self.old self.new) }
         ensures read { IfOk result (λ n. n ≡ position self.new.parser.input self.new.parser.rest) }
     {
@@ -323,7 +326,8 @@ impl<'a> Walker<'a> {
             (event reading.now.wants_peeks self.old.parser) number specs.new.count steps.old
             steps.new
             specs.new.records.now) }
-        ensures adds { OnOk result (Adds (specs_in (given self.old.parser)) specs.old specs.new) }
+        ensures adds { OnOk result (Adds (specs_in
+            (given_piece self.old.parser)) specs.old specs.new) }
         ensures call { OnOk result (MakesCall number reading.now self.old self.new) }
         ensures read { IfOk result (λ n. n ≡ position self.new.parser.input self.new.parser.rest) }
     {
@@ -455,7 +459,7 @@ impl<'a> Walker<'a> {
             → map (step_meant reading.now.input.now (take specs.new.count specs.new.records.now))
             (take k steps.new) ≡ events reading.now.wants_peeks self.old.parser) }
         ensures state { OnOk result (self.new.parser ≡ end_of self.old.parser) }
-        ensures finders { OnOk result (self.new.finders.calls ≡ found_by self.old.parser) }
+        ensures finders { OnOk result (self.new.finders.calls ≡ finders_of self.old.parser) }
         ensures front_count { OnOk result (self.new.finders.front_count
             ≡ fronts_of self.old.parser) }
         ensures kept_steps { IfOk result (λ k. drop k steps.new ≡ drop k steps.old) }

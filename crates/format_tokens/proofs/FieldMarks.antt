@@ -23,7 +23,7 @@ use Rattle.rustc_parse_format.specs.Types.{wants_names}
 use Rattle.rustc_parse_format.specs.Values.{given_position, is_name, type_of}
 use Rattle.rustc_parse_format.proofs.Grammar.PartLaws.{IsRow, only, opened, two-split}
 use Rattle.format_tokens.specs.declared.kinds.Kind.{Kind}
-use Rattle.format_tokens.specs.declared.kinds.Kind.TheVariants.{Align, Colon}
+use Rattle.format_tokens.specs.declared.kinds.Kind.TheVariants.{Alignment, Colon}
 use Rattle.format_tokens.specs.declared.kinds.Kind.TheVariants.{Fill, Identifier}
 use Rattle.format_tokens.specs.declared.kinds.Kind.TheVariants.{Modifier as ModifierKind}
 use Rattle.format_tokens.specs.declared.kinds.Kind.TheVariants.{DiagnosticText as DiagnosticKind}
@@ -54,7 +54,7 @@ format-inner : (names : Bool) (p : FormatText)
 unfolding is_mark role_of
 format-inner names p =
     both (quiet names Fill (fill_part p.fill).spelling tt refl)
-    (both (quiet names Align (align_part p.align).spelling tt refl)
+    (both (quiet names Alignment (align_part p.align).spelling tt refl)
     (both (quiet names Sign (sign_part p.sign).spelling tt refl)
     (both (quiet names NumberSign (alternate_part p.alternate).spelling tt refl)
     (both (width-inner names p.width)

@@ -30,10 +30,11 @@ use Rattle.rustc_parse_format.proofs.Grammar.PartLaws.{IsRow, only, opened, two-
 use Rattle.rustc_parse_format.proofs.Readers.Recoveries.{recovery_rest}
 use Rattle.rustc_parse_format.proofs.Walking.Progress.{call-lt}
 use Rattle.format_tokens.specs.declared.kinds.Kind.{Kind}
-use Rattle.format_tokens.specs.declared.kinds.Kind.TheVariants.{Close, Colon}
-use Rattle.format_tokens.specs.Culprits.{marked}
-use Rattle.format_tokens.specs.Placed.{shown, within}
-use Rattle.format_tokens.specs.Tokens.{Label, count_tokens, field_tokens, format_tokens, joined}
+use Rattle.format_tokens.specs.declared.kinds.Kind.TheVariants.{CloseBrace, Colon}
+use Rattle.format_tokens.specs.Culprits.{marked_tokens}
+use Rattle.format_tokens.specs.Placed.{input_tokens, first_tokens}
+use Rattle.format_tokens.specs.Tokens.{Label, count_tokens, field_tokens, format_tokens}
+use Rattle.format_tokens.specs.Tokens.{joined_text}
 use Rattle.format_tokens.specs.Tokens.{opened_tokens, position_tokens, precision_tokens}
 use Rattle.format_tokens.specs.Tokens.{spec_tokens, token, width_tokens}
 use Rattle.format_tokens.specs.Walk.{call_tokens, is_closed, placeholder_tokens, read_tokens}
@@ -41,18 +42,18 @@ use Rattle.format_tokens.specs.Walk.{skipped_tokens, tokens_of, tokens_within}
 use Rattle.format_tokens.proofs.Calls.{cut_first, take-rest, white-rest_after}
 use Rattle.format_tokens.proofs.Skipping.{closed-shape}
 
-pub joined-append : (x y : List Label) → joined (x ++ y) ≡ joined x ++ joined y
+pub joined-append : (x y : List Label) → joined_text (x ++ y) ≡ joined_text x ++ joined_text y
 joined-append [] y = refl
 joined-append (l ∷ x) y = ap (λ t. l.1 ++ t) (joined-append x y)
-    ∙ sym (append_assoc l.1 (joined x) (joined y))
+    ∙ sym (append_assoc l.1 (joined_text x) (joined_text y))
 
-pub token-joined : (k : Kind) (u : Text) → joined (token k u) ≡ u
+pub token-joined : (k : Kind) (u : Text) → joined_text (token k u) ≡ u
 token-joined k [] = refl
 token-joined k (c ∷ u) = append-nil (c ∷ u)
 
 -- The text t is that of these tokens, followed by r.
 record Splits (ls : List Label) (t r : Text) : Type 0 where
-  whole : t ≡ joined ls ++ r
+  whole : t ≡ joined_text ls ++ r
 
 splits : (k : Kind) (u : Text) {t r : Text} → t ≡ u ++ r → Splits (token k u) t r
 splits k u {r = r} e = record { whole = e ∙ ap (λ v. v ++ r) (sym (token-joined k u)) }
@@ -62,8 +63,8 @@ none e = record { whole = e }
 
 also : {x y : List Label} {t s r : Text} → Splits x t s → Splits y s r → Splits (x ++ y) t r
 also {x = x} {y = y} {r = r} h k = record {
-  whole = h.whole ∙ (ap (λ u. joined x ++ u) k.whole
-      ∙ (sym (append_assoc (joined x) (joined y) r)
+  whole = h.whole ∙ (ap (λ u. joined_text x ++ u) k.whole
+      ∙ (sym (append_assoc (joined_text x) (joined_text y) r)
       ∙ ap (λ u. u ++ r) (sym (joined-append x y))));
 }
 
@@ -214,7 +215,7 @@ call-splits mode n (b ∷ t) = by_brace (is_brace b) refl
         (call mode n (b ∷ t)).rest
     by_sign true e q o = rw (e, q, o) (also (none (ap (λ c. c ∷ t) (eqb-true b 123 o)))
         (placeholder-splits mode n (b ∷ t) t))
-    by_sign false e q o = rw (e, q, o) (splits Close (b ∷ []) refl)
+    by_sign false e q o = rw (e, q, o) (splits CloseBrace (b ∷ []) refl)
 
     by_double : (v : Bool) → is_brace b ≡ true → begins_with b t ≡ v
         → Splits (call_tokens mode (b ∷ t) (call mode n (b ∷ t)).rest) (b ∷ t)
@@ -242,19 +243,19 @@ all-splits (suc n) mode c (b ∷ t) h =
     also (call-splits mode c (b ∷ t)) (all-splits n mode k.next k.rest
     (omega (arith, h, call-lt mode c (b ∷ t) (λ e. cc e))))
 
-pub read-joined : (mode : Mode) (t : Text) → joined (read_tokens mode t) ≡ t
+pub read-joined : (mode : Mode) (t : Text) → joined_text (read_tokens mode t) ≡ t
 unfolding read_tokens
 read-joined mode t =
     sym ((all-splits (length t) mode 0 t (omega arith)).whole
-    ∙ append-nil (joined (read_tokens mode t)))
+    ∙ append-nil (joined_text (read_tokens mode t)))
 
 -- A mark changes no characters.
 marked-joined : (names : Bool) (ls : List Label) (inside : Bool)
-    → joined (marked names inside ls) ≡ joined ls
+    → joined_text (marked_tokens names inside ls) ≡ joined_text ls
 marked-joined names [] inside = refl
 marked-joined names (l ∷ ls) inside = ap (λ t. l.1 ++ t) (marked-joined names ls _)
 
-pub tokens-joined : (mode : Mode) (t : Text) → joined (tokens_of mode t) ≡ t
+pub tokens-joined : (mode : Mode) (t : Text) → joined_text (tokens_of mode t) ≡ t
 tokens-joined mode t = marked-joined (wants_names mode) (read_tokens mode t) false
     ∙ read-joined mode t
 
@@ -271,13 +272,14 @@ take-both (suc n) (c ∷ u) r =
     let e : n - length u ≡ suc n - length (c ∷ u) = omega arith in
     ap (λ v. c ∷ v) (take-both n u r ∙ ap (λ k. take n u ++ take k r) e)
 
-within-joined : (n : ℕ) (ls : List Label) → joined (within n ls) ≡ take n (joined ls)
+within-joined : (n : ℕ) (ls : List Label)
+    → joined_text (first_tokens n ls) ≡ take n (joined_text ls)
 within-joined zero [] = refl
 within-joined (suc n) [] = refl
-within-joined n (l ∷ ls) = joined-append (token l.0 (take n l.1)) (within (n - length l.1) ls)
-    ∙ (ap (λ t. t ++ joined (within (n - length l.1) ls)) (token-joined l.0 (take n l.1))
+within-joined n (l ∷ ls) = joined-append (token l.0 (take n l.1)) (first_tokens (n - length l.1) ls)
+    ∙ (ap (λ t. t ++ joined_text (first_tokens (n - length l.1) ls)) (token-joined l.0 (take n l.1))
     ∙ (ap (λ t. take n l.1 ++ t) (within-joined (n - length l.1) ls)
-    ∙ sym (take-both n l.1 (joined ls))))
+    ∙ sym (take-both n l.1 (joined_text ls))))
 
 take-unappended : (b : Bool) (t : Text) → take (length (unappended_input b t)) t
     ≡ unappended_input b t
@@ -289,7 +291,7 @@ take-unappended false t = take_all (length t) t (omega arith)
 
 -- What is shown of them is the input without an appended newline.
 pub shown-joined : (mode : Mode) (input : Text) (b : Bool)
-    → joined (shown mode input b) ≡ unappended_input b input
+    → joined_text (input_tokens mode input b) ≡ unappended_input b input
 shown-joined mode input b =
     within-joined (length (unappended_input b input)) (tokens_of mode input)
     ∙ (ap (λ t. take (length (unappended_input b input)) t) (tokens-joined mode input)

@@ -17,7 +17,7 @@ use Rattle.rustc_parse_format.proofs.Grammar.Rests.{IsRest}
 use Rattle.rustc_parse_format.proofs.Walking.ParserLaws.{call_rest}
 use Rattle.rustc_parse_format.proofs.Walking.Progress.{call-lt}
 use Rattle.format_tokens.specs.declared.kinds.Label.{Label as Sized}
-use Rattle.format_tokens.specs.Midway.{Took, sized}
+use Rattle.format_tokens.specs.Midway.{Took, sized_token}
 use Rattle.format_tokens.specs.Walk.{call_tokens, read_tokens, tokens_within}
 
 pub IsRest-width : {t r : Text} → IsRest t r → byte_length r ≤ byte_length t
@@ -33,8 +33,8 @@ pub record IsSoFar (mode : Mode) (input : Text) (x : List Sized) (rest : Text) (
   pub within : byte_length s.rest ≤ byte_length input
   pub turns : ℕ
   pub enough : length s.rest ≤ turns
-  pub tokens : x ++ map sized (tokens_within turns mode s.next s.rest)
-      ≡ map sized (read_tokens mode input)
+  pub tokens : x ++ map sized_token (tokens_within turns mode s.next s.rest)
+      ≡ map sized_token (read_tokens mode input)
 
 -- A parser without its errors.
 abbrev pub forgotten : State → State
@@ -105,8 +105,8 @@ so_far-next mode input x y rest t s new h e some took =
     let f = step mode h.turns s.next rest some (rw h.rest_is h.enough) in
     let less : byte_length k.rest ≤ byte_length rest = IsRest-width (call_rest mode s.next rest) in
     let small : byte_length rest ≤ byte_length input = rw h.rest_is h.within in
-    let all : x ++ map sized (tokens_within h.turns mode s.next rest)
-    ≡ map sized (read_tokens mode input) = rw h.rest_is h.tokens in
+    let all : x ++ map sized_token (tokens_within h.turns mode s.next rest)
+    ≡ map sized_token (read_tokens mode input) = rw h.rest_is h.tokens in
     record {
       mode_is = ap (λ (u : State). u.mode) e ∙ h.mode_is;
       input_is = ap (λ (u : State). u.input) e ∙ h.input_is;
@@ -115,10 +115,11 @@ so_far-next mode input x y rest t s new h e some took =
       turns = f.fewer;
       enough = rw rest_after_part f.enough;
       tokens = rw (rest_after_part, next_after)
-          (joins x y (map sized (call_tokens mode rest k.rest))
-          (map sized (tokens_within f.fewer mode k.next k.rest)) _ took.adds
-          (ap (λ l. x ++ l) (sym (map-append sized (call_tokens mode rest k.rest)
-          (tokens_within f.fewer mode k.next k.rest)) ∙ ap (map sized) (sym f.unfolds)) ∙ all));
+          (joins x y (map sized_token (call_tokens mode rest k.rest))
+          (map sized_token (tokens_within f.fewer mode k.next k.rest)) _ took.adds
+          (ap (λ l. x ++ l) (sym (map-append sized_token (call_tokens mode rest k.rest)
+          (tokens_within f.fewer mode k.next k.rest)) ∙ ap (map sized_token) (sym f.unfolds))
+          ∙ all));
     }
 
 -- At the end all tokens are there.
@@ -127,9 +128,9 @@ none_within mode zero c = refl
 none_within mode (suc n) c = refl
 
 pub so_far-end : (mode : Mode) (input : Text) (x : List Sized) (s : State)
-    → IsSoFar mode input x [] s → x ≡ map sized (read_tokens mode input)
+    → IsSoFar mode input x [] s → x ≡ map sized_token (read_tokens mode input)
 so_far-end mode input x s h =
-    sym (append-nil x) ∙ (ap (λ l. x ++ map sized l) (sym (none_within mode h.turns s.next))
+    sym (append-nil x) ∙ (ap (λ l. x ++ map sized_token l) (sym (none_within mode h.turns s.next))
     ∙ rw (sym h.rest_is) at h.tokens)
 
 -- What a call does where the parser stands.

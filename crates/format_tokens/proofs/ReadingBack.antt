@@ -21,8 +21,8 @@ use Rattle.rustc_parse_format.proofs.Spans.Worlds.{known}
 use Rattle.format_tokens.specs.Covers.{AreParts, IsCover, in_quotes, read_back, ranges_of}
 use Rattle.format_tokens.specs.declared.kinds.Kind.TheVariants.{Quote}
 use Rattle.format_tokens.specs.Escapes.{Placed}
-use Rattle.format_tokens.specs.Placed.{cut_in, placed, shown, tokens, whole_tokens}
-use Rattle.format_tokens.specs.Tokens.{Label, joined}
+use Rattle.format_tokens.specs.Placed.{cut_in, placed_tokens, input_tokens, tokens, whole_tokens}
+use Rattle.format_tokens.specs.Tokens.{Label, joined_text}
 use Rattle.format_tokens.proofs.Covering.{source-length, source-tokens, start-end}
 use Rattle.format_tokens.proofs.CutCovering.{source-cut, tokens-cover}
 use Rattle.format_tokens.proofs.Joining.{shown-joined}
@@ -54,26 +54,27 @@ one-reads input style source b d u r n h e f =
     ∙ (ap (λ t. drop (length d) (take (length d + length u) t)) e ∙ middle d u r)))
 
 text-reads : (input : Text) (style : Option ℕ) (source : Text) (b : Bool) (d : Text) (n : ℕ)
-    (ls : List Label) → IsSource input style source b → unappended_input b input ≡ d ++ joined ls
+    (ls : List Label) → IsSource input style source b
+    → unappended_input b input ≡ d ++ joined_text ls
     → n + length d ≡ length input
-    → read_back input style source b (placed (world input style (Some source) b) n ls) ≡ ls
+    → read_back input style source b (placed_tokens (world input style (Some source) b) n ls) ≡ ls
 text-reads input style source b d n [] h e f = refl
 text-reads input style source b d n (l ∷ ls) h e f =
     let whole = source-length input style source b h in
-    let one = one-reads input style source b d l.1 (joined ls) n h e f in
+    let one = one-reads input style source b d l.1 (joined_text ls) n h e f in
     let others = text-reads input style source b (d ++ l.1) (n - length l.1) ls h
-    (e ∙ sym (append_assoc d l.1 (joined ls)))
+    (e ∙ sym (append_assoc d l.1 (joined_text ls)))
     (omega (
       arith,
       f,
       whole,
       ap length e,
-      length-append d (l.1 ++ joined ls),
-      length-append l.1 (joined ls),
+      length-append d (l.1 ++ joined_text ls),
+      length-append l.1 (joined_text ls),
       length-append d l.1,
     )) in
     ap (λ u. (l.0, u) ∷ read_back input style source b
-    (placed (world input style (Some source) b) (n - length l.1) ls)) one
+    (placed_tokens (world input style (Some source) b) (n - length l.1) ls)) one
     ∙ ap (λ ms. l ∷ ms) others
 
 -- No unit that stands for a character is in front of the first token,
@@ -124,14 +125,14 @@ ends-alike x y u v ls ms e f g = rw (e, f, g) refl
 pub tokens-read_back : (mode : Mode) (input : Text) (style : Option ℕ) (source : Text) (b : Bool)
     → IsSource input style source b
     → read_back input style source b (whole_tokens mode input style (Some source) b)
-    ≡ in_quotes (shown mode input b)
+    ≡ in_quotes (input_tokens mode input b)
 tokens-read_back mode input style source b h =
     let w = world input style (Some source) b in
     let q = quote_offset style in
     let us = source_units input style source b in
-    let ts = placed w (length input) (shown mode input b) in
+    let ts = placed_tokens w (length input) (input_tokens mode input b) in
     let last : Placed = (Quote, (w.end, byte_length source)) in
-    let text = text-reads input style source b [] (length input) (shown mode input b) h
+    let text = text-reads input style source b [] (length input) (input_tokens mode input b) h
     (sym (shown-joined mode input b)) (omega arith) in
     ap (read_back input style source b) (source-tokens mode input style source b h)
     ∙ (ap (λ ls. (Quote, text_inside (0, number_of w (Start (length input))) q us) ∷ ls)
@@ -151,7 +152,7 @@ pub reads_back-of : (mode : Mode) (input : Text) (style : Option ℕ) (snippet :
     (b : Bool) (ts : List Placed) → ts ≡ tokens mode input style snippet b
     → (source : Text) → snippet ≡ Some source → IsSource input style source b
     → (whole : List Placed) × (ts ≡ cut_in style source whole) × AreParts whole ts
-    × (read_back input style source b whole ≡ in_quotes (shown mode input b))
+    × (read_back input style source b whole ≡ in_quotes (input_tokens mode input b))
 reads_back-of mode input style snippet b ts e source f h =
     let whole = whole_tokens mode input style (Some source) b in
     let same : ts ≡ cut_in style source whole =

@@ -46,5 +46,5 @@ abbrev pub slices : List ℕ → List Placed → List (Kind × List ℕ)
 slices bytes ts = map (λ (t : Placed). (t.0, slice_range bytes t.1.0 t.1.1)) ts
 
 -- The tokens with their characters in UTF-8.
-abbrev pub encoded : List Label → List (Kind × List ℕ)
-encoded ls = map (λ (l : Label). (l.0, encode_utf8_all l.1)) ls
+abbrev pub encoded_tokens : List Label → List (Kind × List ℕ)
+encoded_tokens ls = map (λ (l : Label). (l.0, encode_utf8_all l.1)) ls

@@ -1,7 +1,7 @@
 //! A text with the edits of faults.
 
 ghost use Rattle.std.specs.Prelude.{◌≡◌, ◌++◌, ◌∷◌, IfOk, List, OnOk, drop, map, take};
-ghost use Rattle.fault_fixes.specs.Edits.{Edit as EditValue, applied};
+ghost use Rattle.fault_fixes.specs.Edits.{Edit as EditValue, edited_bytes};
 ghost use Rattle.fault_fixes.specs.SeenEdits.{seen_edit};
 ghost use Rattle.source_report.specs.Suggestions.{all_edits, end_after, mended};
 ghost use Rattle.source_report.specs.SeenEdited.{with_edits, with_faults, with_ids};
@@ -92,7 +92,7 @@ pub fn mend_each<'t>(
     findings: &[Finding],
 ) -> Result<EditedText<'t>, AllocError>
     ensures text { IfOk result (λ x. x.bytes.items
-        ≡ applied 0 (all_edits (mended 0 findings.now)) text.now) }
+        ≡ edited_bytes 0 (all_edits (mended 0 findings.now)) text.now) }
     ensures ids { IfOk result (λ x. map (λ w. w.now) x.ids.items
         ≡ map (λ f. f.id.now) (mended 0 findings.now)) }
 {

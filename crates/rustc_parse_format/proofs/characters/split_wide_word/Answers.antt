@@ -12,6 +12,6 @@ text_before-requires c = let t = chars c.args.text.now in (
 
 pub returns-clause-word : goal.returns-clause-word
 returns-clause-word c = let t = chars c.args.text.now in
-    c.text_before-2.ensures (word t)
+    c.text_before.ensures (word t)
     (rw (c.after_while-rest.ensures.rest, c.after_first.ensures.rest)
     (word-rest t c.requires))

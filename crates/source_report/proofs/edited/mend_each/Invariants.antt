@@ -1,5 +1,5 @@
 use Rattle.std.proofs.Common.{◌≡◌, drop, map}
-use Rattle.fault_fixes.specs.Edits.{applied}
+use Rattle.fault_fixes.specs.Edits.{edited_bytes}
 use Rattle.source_report.specs.SeenEdited.{with_faults, with_ids}
 use Rattle.source_report.specs.Suggestions.{all_edits, mended}
 use Rattle.source_report.proofs.edited.mend_each.Given as goal
@@ -8,7 +8,7 @@ use Rattle.source_report.proofs.edited.mend_each.Given as goal
 abbrev pub invariant-loop-finding : goal.invariant-loop-finding
 invariant-loop-finding l = record {
   text : with_faults l.edited (drop l.finding-index l.findings)
-      ≡ applied 0 (all_edits (mended 0 l.findings)) l.text;
+      ≡ edited_bytes 0 (all_edits (mended 0 l.findings)) l.text;
   ids : with_ids l.edited (drop l.finding-index l.findings)
       ≡ map (λ f. f.id.now) (mended 0 l.findings);
 }

@@ -1,6 +1,6 @@
 use Rattle.std.proofs.Common.{length, refl, sym, ap, ◌∙◌, arith}
 use Rattle.rustc_parse_format.specs.State.{State}
-use Rattle.flat_reading.specs.Events.{event, given, specs_in, states}
+use Rattle.flat_reading.specs.Events.{event, given_piece, specs_in, states}
 use Rattle.flat_reading.proofs.Widths.{none_left, some_left}
 use Rattle.flat_reading.proofs.Cuts.{is_none_of}
 use Rattle.flat_reading.proofs.Walking.{added_on, begin, goes_on, kept_put, one_more, states-more}
@@ -93,7 +93,7 @@ loop-offset-preserved c =
           kept_put r.input.now (event r.wants_peeks s) c.loop-offset.steps c.add_step.new.steps
           c.args.steps.now c.add_step.new.specs.records.now
           c.loop-offset.count c.add_step.new.specs.count added invariant.kept_steps;
-      specs = added_on (specs_in (given s)) c.args.specs.now c.loop-offset.specs
+      specs = added_on (specs_in (given_piece s)) c.args.specs.now c.loop-offset.specs
           c.add_step.new.specs
           c.requires.empty invariant.specs adds;
     }

@@ -1,7 +1,7 @@
 use Rattle.std.proofs.Common.{◌≡◌, ◌+◌, [], take, refl, sym, ap, ◌∙◌, arith}
 use Rattle.std.proofs.lemmas.List.{append-nil, take-take}
 use Rattle.rustc_parse_format.specs.State.{next_call}
-use Rattle.flat_reading.specs.Events.{event, fronts_in, given, spec_count, specs_in}
+use Rattle.flat_reading.specs.Events.{event, fronts_in, given_piece, spec_count, specs_in}
 use Rattle.flat_reading.proofs.Walking.{end_finders, end_fronts, end_specs, kept_put, one_more}
 use Rattle.flat_reading.proofs.Walking.{same_meant, states-end}
 use Rattle.flat_reading.proofs.walk.Walker.walk.Goals as goal
@@ -20,7 +20,7 @@ returns c =
     let specs = c.add_steps.new.specs.records.now in
     let found = w.finders in
     let added = c.in_ok-add_end.ensures.added r.wants_peeks r.input.now used specs in
-    let none : used ≡ used + specs_in (given s) = omega (arith, end_specs s end) in
+    let none : used ≡ used + specs_in (given_piece s) = omega (arith, end_specs s end) in
     let no_fronts : found.front_count ≡ found.front_count + fronts_in (next_call s) =
     omega (arith, end_fronts s end) in
     let last =

@@ -93,9 +93,9 @@ meets {𝓤 = 𝓤} 𝓛 mem run 𝓣 =
     (f.clauses 𝓛 mem run) (WpFn 𝓤 𝓛.H 𝓣.C 𝓣.Λ code.function)
     (WpFn-mono 𝓤 𝓛.H 𝓛.laws 𝓣 code.function) (walks 𝓛 mem run 𝓣.C 𝓣.Λ)
 
-pub more_spec : {M : Type 1} → stated.statement M
+pub sum_spec : {M : Type 1} → stated.statement M
 unfolding tables_of
-more_spec 𝓤 𝓛 𝓜 𝓡 wired =
+sum_spec 𝓤 𝓛 𝓜 𝓡 wired =
     entered 𝓤 𝓛.H (triple_of 𝓛 f.signature (f.spec 𝓛 𝓜.mem 𝓡.returns))
     (tables 𝓤 𝓛.H 𝓜 𝓡 𝓡.env).C (tables 𝓤 𝓛.H 𝓜 𝓡 𝓡.env).Λ key code.function
     (code.unfolded 𝓤 𝓛.H 𝓜 𝓡 wired)
