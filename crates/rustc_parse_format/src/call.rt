@@ -93,29 +93,29 @@ impl<'input> Reader<'input> {
         self.recover(mode, argument, opening)
     }
 
-    /// Reads a placeholder, with its opening brace, into `argument`, whose position is still
+    /// Reads a placeholder, with its opening brace, into `slot`, whose position is still
     /// implicit and whose format is the default. Returns `Err` if an allocation fails.
     #[tactic(auto, using(crate::proofs::Readers::Steps::part_le, crate::proofs::Readers::Placeholders::placeholder_given))]
     pub fn placeholder(
         &mut self,
         mode: ParseMode,
-        argument: &mut Argument<'input>,
+        slot: &mut Argument<'input>,
     ) -> Result<(), AllocError>
-        requires implicit { seen_position argument.old.position ≡ Implicit 0 }
-        requires blank { seen_spec argument.old.format ≡ default_spec }
+        requires implicit { seen_position slot.old.position ≡ Implicit 0 }
+        requires blank { seen_spec slot.old.format ≡ default_spec }
         requires opens { opens_placeholder self.old.rest ≡ true }
         requires numbers { self.old.next + length self.old.rest < 2 ^ 64 }
         ensures value { (let k = call (seen_mode mode) self.old.next self.old.rest in
-            OnOk result (Some (NextArgument (seen_argument argument.new))
+            OnOk result (Some (NextArgument (seen_argument slot.new))
             ≡ option_map (piece_in self.old.world) k.piece)) }
         ensures reads { let k = call (seen_mode mode) self.old.next self.old.rest in
             Reaches self.old result self.new (read_call self.old k)
             (FindsNothing self.old k.faults k.texts) }
     {
         let opening = self.cursor.consume_place();
-        self.argument(mode, argument)?;
+        self.argument(mode, slot)?;
         self.cursor.ws();
-        self.closing_brace(mode, argument, opening)?;
+        self.closing_brace(mode, slot, opening)?;
         Ok(())
     }
 

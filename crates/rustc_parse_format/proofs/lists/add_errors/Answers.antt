@@ -12,7 +12,7 @@ loop-fault-preserved c =
           c.args.errors.now c.loop-fault.errors c.add_error.new.errors
           (seen_fault c.in-Some.fault.now) c.loop-fault.front_count c.in-Ok.number
           c.loop-fault.invariant.added c.in-Some.ensures c.in-Ok.ensures.ok
-              c.in-Ok.ensures.front_count;
+          c.in-Ok.ensures.front_count;
     }
 
 pub overflow_add-front_count : goal.overflow_add-front_count

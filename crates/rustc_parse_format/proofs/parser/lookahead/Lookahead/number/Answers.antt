@@ -20,7 +20,7 @@ returns-clause-over c =
     let test = c.leading_number-number.ensures.over in
     elim c.if-is_over.branch [
       | then-is_over w ↦
-          let read = w.text_before-then-is_over.ensures (digits t)
+          let read = w.text_before.ensures (digits t)
           (rw c.leading_number-number.ensures.rest (digits-rest_after t)) in
           rw (w.over-is, sym test ∙ w.if-is_over.true) (search rules)
       | else-is_over w ↦ rw (w.over-is, sym test ∙ w.if-is_over.false) refl
