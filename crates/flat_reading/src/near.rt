@@ -78,9 +78,6 @@ pub fn texts_of(
 {
     match near_texts(input, start, argument) {
         Some(texts) => Ok(texts),
-        None => {
-            let texts = texts_at(alloc, mode, input, start, next)?;
-            Ok(texts)
-        }
+        None => Ok(texts_at(alloc, mode, input, start, next)?),
     }
 }

@@ -80,5 +80,5 @@ pub fn check<'a>(
     ensures empty { pieces.now ≡ [] → positional ≡ 0 → names.now ≡ [] → IsOk result }
 {
     let uses = uses_of(alloc, pieces)?;
-    check_uses(alloc, &uses, positional, names)
+    Ok(check_uses(alloc, &uses, positional, names)?)
 }

@@ -6,7 +6,7 @@ use Rattle.placeholder_check.proofs.checker.check.Goals as goal
 
 pub returns-clause-report : goal.returns-clause-report
 returns-clause-report c =
-    c.in_ok-report.ensures.report (uses (map seen_piece c.args.pieces.now))
+    c.in_ok-check_uses.ensures.report (uses (map seen_piece c.args.pieces.now))
     c.in_ok-uses.ensures.uses
 
 pub returns-clause-only : goal.returns-clause-only

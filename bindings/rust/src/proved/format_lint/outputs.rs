@@ -1,11 +1,11 @@
 //! The result of a task for an input in UTF-8.
 
-// Extracted from crates/format_lint/src/shown.rt by tools/extract: not to be edited.
+// Extracted from crates/format_lint/src/outputs.rt by tools/extract: not to be edited.
 // That source has the contracts, and is proved. That this text means the same is only tested.
 
 use super::faults::{faults_in, tokens_in, Source, Tokens};
 use super::findings::{Finding, Findings};
-use super::task::{Show, Task};
+use super::task::{OutputKind, Task};
 use super::tokens::put_tokens;
 use crate::proved::drawn_faults::put_drawing;
 use crate::proved::drawn_lines::Picture;
@@ -18,19 +18,19 @@ use crate::shim::alloc::AllocError;
 use crate::shim::prelude::*;
 
 /// The result of a task for an input.
-pub struct Shown {
+pub struct Outputs {
     /// The text for the output.
     pub output: String,
     /// The drawing for the error output, where the output is no drawing.
     pub error_output: String,
     /// The number of mistakes that are left.
-    pub mistakes: usize,
+    pub mistake_count: usize,
 }
 
 /// Appends a line with the id of a fault, which says whether it follows from the one before.
 #[inline]
 fn put_id(out: &mut String, finding: &Finding<'_>) -> Result<(), AllocError> {
-    out.try_push_str(if finding.follows {
+    out.try_push_str(if finding.is_consequence {
         "follows: "
     } else {
         "fault: "
@@ -55,7 +55,7 @@ fn put_finding(
 
 /// Appends the drawings of faults to a text, each after a line with its id.
 #[inline]
-fn put_each(
+fn put_each_finding(
     out: &mut String,
     mode: ParseMode,
     picture: &Picture<'_>,
@@ -70,7 +70,7 @@ fn put_each(
 
 /// Appends a line that says how many faults are not drawn, if there are any.
 #[inline]
-fn put_more(out: &mut String, count: usize) -> Result<(), AllocError> {
+fn put_more_line(out: &mut String, count: usize) -> Result<(), AllocError> {
     if count == 0 {
         return Ok(());
     }
@@ -105,12 +105,12 @@ fn put_drawings(
     faults: &Findings<'_>,
 ) -> Result<usize, AllocError> {
     if all {
-        put_each(out, mode, picture, faults.first.as_slice())?;
-        put_more(out, faults.others)?;
+        put_each_finding(out, mode, picture, faults.first.as_slice())?;
+        put_more_line(out, faults.others)?;
     } else {
         put_first(out, mode, picture, faults.first.as_slice())?;
     }
-    Ok(faults.mistakes)
+    Ok(faults.mistake_count)
 }
 
 /// Appends the drawing of a source with these faults to a text. Returns how many of them are
@@ -136,14 +136,14 @@ fn put_faults(
 
 /// Returns the drawing of a source as the output.
 #[inline]
-fn drawn_output(all: bool, task: Task<'_>, source: Source<'_>) -> Result<Shown, AllocError> {
+fn drawn_output(all: bool, task: Task<'_>, source: Source<'_>) -> Result<Outputs, AllocError> {
     let faults = faults_in(task.mode, source)?;
     let mut output = String::new();
-    let mistakes = put_faults(&mut output, all, task, source, &faults)?;
-    Ok(Shown {
+    let mistake_count = put_faults(&mut output, all, task, source, &faults)?;
+    Ok(Outputs {
         output,
         error_output: String::new(),
-        mistakes,
+        mistake_count,
     })
 }
 
@@ -154,19 +154,19 @@ fn with_drawing(
     task: Task<'_>,
     source: Source<'_>,
     faults: &Findings<'_>,
-) -> Result<Shown, AllocError> {
+) -> Result<Outputs, AllocError> {
     let mut error_output = String::new();
-    let mistakes = put_faults(&mut error_output, false, task, source, faults)?;
-    Ok(Shown {
+    let mistake_count = put_faults(&mut error_output, false, task, source, faults)?;
+    Ok(Outputs {
         output,
         error_output,
-        mistakes,
+        mistake_count,
     })
 }
 
 /// Returns a source as it is written and a line end, with the drawing of its first fault.
 #[inline]
-fn kept_output(task: Task<'_>, source: Source<'_>) -> Result<Shown, AllocError> {
+fn kept_output(task: Task<'_>, source: Source<'_>) -> Result<Outputs, AllocError> {
     let mut output = String::new();
     output.try_push_str(source.literal.unwrap_or(source.text))?;
     output.try_push_str("\n")?;
@@ -177,21 +177,21 @@ fn kept_output(task: Task<'_>, source: Source<'_>) -> Result<Shown, AllocError> 
 /// Returns the literal of a source with the edits that its faults suggest, with the drawing of the
 /// first fault that it then has.
 #[inline]
-fn fixed_output(task: Task<'_>, source: Source<'_>) -> Result<Shown, AllocError> {
+fn fixed_output(task: Task<'_>, source: Source<'_>) -> Result<Outputs, AllocError> {
     let Some(literal) = source.literal else {
         return Ok(kept_output(task, source)?);
     };
     match fix(source.text, source.style, literal, false, task.mode)? {
-        Some(fixed) => {
-            let mended = Source {
-                text: fixed.text.as_str(),
+        Some(fixed_literal) => {
+            let fixed_source = Source {
+                text: fixed_literal.text.as_str(),
                 style: source.style,
-                literal: Some(fixed.snippet.as_str()),
-                lines: fixed.snippet.as_str(),
+                literal: Some(fixed_literal.snippet.as_str()),
+                lines: fixed_literal.snippet.as_str(),
                 line_start: 1,
                 start: 0,
             };
-            Ok(kept_output(task, mended)?)
+            Ok(kept_output(task, fixed_source)?)
         }
         None => Ok(kept_output(task, source)?),
     }
@@ -200,11 +200,11 @@ fn fixed_output(task: Task<'_>, source: Source<'_>) -> Result<Shown, AllocError>
 /// Returns the tokens of a source, in colours with a line end after them or each in a line, with
 /// the drawing of its first fault.
 #[inline]
-fn token_output(task: Task<'_>, source: Source<'_>) -> Result<Shown, AllocError> {
-    let written = source.literal.unwrap_or(source.text);
+fn token_output(task: Task<'_>, source: Source<'_>) -> Result<Outputs, AllocError> {
+    let source_text = source.literal.unwrap_or(source.text);
     let Tokens { tokens, faults } = tokens_in(task.mode, source)?;
     let mut output = String::new();
-    put_tokens(&mut output, task.colours, written, tokens.as_slice())?;
+    put_tokens(&mut output, task.colours, source_text, tokens.as_slice())?;
     if task.colours {
         output.try_push_str("\n")?;
     }
@@ -213,12 +213,12 @@ fn token_output(task: Task<'_>, source: Source<'_>) -> Result<Shown, AllocError>
 
 /// Returns the result of a task for a source.
 #[inline]
-fn shown_of(source: Source<'_>, task: Task<'_>) -> Result<Shown, AllocError> {
-    match task.show {
-        Show::Fault => drawn_output(false, task, source),
-        Show::All => drawn_output(true, task, source),
-        Show::Tokens => token_output(task, source),
-        Show::Fix => fixed_output(task, source),
+fn outputs_of(source: Source<'_>, task: Task<'_>) -> Result<Outputs, AllocError> {
+    match task.output_kind {
+        OutputKind::Fault => drawn_output(false, task, source),
+        OutputKind::All => drawn_output(true, task, source),
+        OutputKind::Tokens => token_output(task, source),
+        OutputKind::Fix => fixed_output(task, source),
     }
 }
 
@@ -226,7 +226,7 @@ fn shown_of(source: Source<'_>, task: Task<'_>) -> Result<Shown, AllocError> {
 /// before it and white space around it. Returns `Err` if the input is not a string literal or an
 /// allocation fails.
 #[inline]
-fn shown_of_literal(input: &str, task: Task<'_>) -> Result<Shown, RunFault> {
+fn outputs_of_literal(input: &str, task: Task<'_>) -> Result<Outputs, RunFault> {
     let snippet = snippet_of(input);
     let Some(LiteralText { text, style }) = literal_text(snippet.text)? else {
         return Err(RunFault::NotLiteral);
@@ -239,7 +239,7 @@ fn shown_of_literal(input: &str, task: Task<'_>) -> Result<Shown, RunFault> {
         line_start: 1,
         start: snippet.start,
     };
-    Ok(shown_of(source, task)?)
+    Ok(outputs_of(source, task)?)
 }
 
 /// Returns a text that is in no literal, with the lines that it is drawn in.
@@ -258,11 +258,11 @@ fn text_source<'a>(text: &'a str, lines: &'a str) -> Source<'a> {
 /// Returns the result of a task for an input. Returns `Err` if the task needs a string literal and
 /// the input is none, or if an allocation fails.
 #[inline]
-pub fn shown_of_input(input: &str, task: Task<'_>) -> Result<Shown, RunFault> {
+pub fn outputs_of_input(input: &str, task: Task<'_>) -> Result<Outputs, RunFault> {
     if task.is_literal {
-        return shown_of_literal(input, task);
+        return outputs_of_literal(input, task);
     }
     // without a literal a span is one more than in the text, and so is the place in these lines
     let lines = crate::shim::try_format!("\n{input}")?;
-    Ok(shown_of(text_source(input, lines.as_str()), task)?)
+    Ok(outputs_of(text_source(input, lines.as_str()), task)?)
 }

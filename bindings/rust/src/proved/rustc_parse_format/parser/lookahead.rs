@@ -1,12 +1,12 @@
 //! The rest of a text, which no other module sees: others can look at one character, or move, and
 //! a move counts the characters that are passed.
 
-// Extracted from crates/rustc_parse_format/src/parser/ahead.rt by tools/extract: not to be edited.
+// Extracted from crates/rustc_parse_format/src/parser/lookahead.rt by tools/extract: not to be edited.
 // That source has the contracts, and is proved. That this text means the same is only tested.
 
 use crate::proved::rustc_parse_format::characters::{
-    after_first, after_while, before, begins, begins_digit, begins_white, begins_word, first,
-    is_underscore, leading_number, split_word, Class, LeadingNumber,
+    after_first, after_while, begins, begins_digit, begins_white, begins_word, first,
+    is_underscore, leading_number, split_word, text_before, Class, LeadingNumber,
 };
 use crate::proved::rustc_parse_format::source::{Anchor, Source};
 use core::ops::Range;
@@ -19,7 +19,7 @@ pub struct Spot<'input> {
 
 /// The rest of a text that is still to be read, with the count of the steps made so far. There is
 /// no way on but the moves, and each counts its steps.
-pub struct Ahead<'input> {
+pub struct Lookahead<'input> {
     rest: Spot<'input>,
 }
 
@@ -38,7 +38,7 @@ impl<'input> Spot<'input> {
 
     /// Returns whether the character is `c`, which is ASCII.
     #[inline(always)]
-    pub fn is(self, c: char) -> bool {
+    pub fn is_char(self, c: char) -> bool {
         begins(self.text, c)
     }
 
@@ -126,11 +126,11 @@ fn place_through<'input>(
     from.start(source, anchor)..to.stop(source, anchor)
 }
 
-impl<'input> Ahead<'input> {
+impl<'input> Lookahead<'input> {
     /// Returns the whole of a text, over which no step was made. Only a parser can make one.
     #[inline(always)]
-    pub(crate) fn new(text: &'input str) -> Ahead<'input> {
-        Ahead {
+    pub(crate) fn new(text: &'input str) -> Lookahead<'input> {
+        Lookahead {
             rest: Spot { text },
         }
     }
@@ -158,10 +158,10 @@ impl<'input> Ahead<'input> {
         }
     }
 
-    /// Returns the text between `from` and the next character.
+    /// Returns the text between `start` and the next character.
     #[inline(always)]
-    pub fn since(&self, from: Spot<'input>) -> &'input str {
-        before(from.text, self.rest.text)
+    pub fn text_since(&self, start: Spot<'input>) -> &'input str {
+        text_before(start.text, self.rest.text)
     }
 
     /// Moves past the next character, if there is one.
@@ -230,7 +230,7 @@ impl<'input> Ahead<'input> {
         } = leading_number(self.rest.text);
         let over = if is_over {
             let place = place_through(&self.rest, &Spot { text: rest }, source, anchor);
-            Some((before(self.rest.text, rest), place))
+            Some((text_before(self.rest.text, rest), place))
         } else {
             None
         };
@@ -239,10 +239,10 @@ impl<'input> Ahead<'input> {
         (number, over)
     }
 
-    /// Goes back to the earlier place `to`. The characters from there on can then be read again,
+    /// Goes back to the earlier place `spot`. The characters from there on can then be read again,
     /// which counts as new steps.
     #[inline(always)]
-    pub fn rewind(&mut self, to: Spot<'input>) {
-        self.rest = to;
+    pub fn rewind(&mut self, spot: Spot<'input>) {
+        self.rest = spot;
     }
 }
