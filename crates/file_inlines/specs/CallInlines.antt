@@ -21,7 +21,8 @@ use Rattle.source_report.specs.declared.report.CallReading.TheVariants.{NoComma,
 use Rattle.source_report.specs.declared.report.CallReading.TheVariants.{RedefinedMacro, StringAlone}
 use Rattle.source_report.specs.declared.report.CallReading.TheVariants.{Unread as CannotRead, Whole}
 use Rattle.asm_lint.specs.Literals.{appends_newline, without_crs}
-use Rattle.source_lint.specs.Readings.{Scope, arguments_before, captures, ends_early, index_or}
+use Rattle.source_lint.specs.Readings.{Scope, arguments_before, captures_variables, ends_early}
+use Rattle.source_lint.specs.Readings.{index_or}
 use Rattle.source_lint.specs.Readings.{name_at, skipped}
 use Rattle.inlined_arguments.specs.Conditions.{Call as FormatCall}
 use Rattle.inlined_arguments.specs.Edits.{AreApart, Edit, edited}
@@ -99,7 +100,7 @@ call_of is_new rule w bs xs literal style t args counted = record {
   style = style;
   literal = Some (encode_utf8_all literal);
   appended_newline = appends_newline w;
-  captures = captures is_new rule w;
+  captures_variables = captures_variables is_new rule w;
   arguments = map (with_source bs xs) args;
   is_counted = counted;
   is_format_alone = is_format_alone is_new rule w;

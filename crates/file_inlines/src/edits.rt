@@ -18,7 +18,7 @@ use std::alloc::{AllocError, Global};
 
 /// Returns the edits of a literal with lines that end with LF as edits of its token, which has
 /// these CRs more. Returns `Err` if an allocation fails.
-fn in_token(alloc: Global, crs: &[usize], edits: &[Edit]) -> Result<Vec<Edit>, AllocError>
+fn token_edits(alloc: Global, crs: &[usize], edits: &[Edit]) -> Result<Vec<Edit>, AllocError>
     ensures { IfOk result (λ v. map (λ e. e.text) (map seen_edit v.items)
         ≡ map (λ e. e.text) (map seen_edit edits.now)) }
 {
@@ -110,14 +110,14 @@ fn literal_edits(
         AreLiteralEdits (leaf literal.entry) (seen_inlined inlining.now) (map seen_edit v.items))) }
 {
     let crs = dropped_crs(alloc, literal.text)?;
-    let inside = in_token(alloc, &crs, inlining.edits.as_slice())?;
-    let Some(new) = apply_edits(alloc, literal.text, &inside)? else {
+    let inside_edits = token_edits(alloc, &crs, inlining.edits.as_slice())?;
+    let Some(new) = apply_edits(alloc, literal.text, &inside_edits)? else {
         return Ok(None);
     };
     if !is_literal(alloc, new.as_str(), inlining.literal.as_str())? {
         return Ok(None);
     }
-    move_edits(alloc, inside.as_slice(), literal.start)
+    move_edits(alloc, inside_edits.as_slice(), literal.start)
 }
 
 /// Returns the edits that inline a call, with this token as its literal and these arguments after

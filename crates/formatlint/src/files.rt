@@ -61,9 +61,9 @@ struct Run<'a> {
 /// Returns why a file is not read further.
 fn break_words(kind: BreakKind) -> &'static str {
     match kind {
-        BreakKind::Unclosed => "this delimiter is not closed",
-        BreakKind::Unexpected => "unexpected closing delimiter",
-        BreakKind::Unended => "this literal or comment has no end",
+        BreakKind::UnclosedDelimiter => "this delimiter is not closed",
+        BreakKind::UnexpectedDelimiter => "unexpected closing delimiter",
+        BreakKind::UnterminatedToken => "this literal or comment has no end",
     }
 }
 

@@ -51,7 +51,7 @@ pub record IsCleanAs {A : Type 0} (captures : Bool) (ss : List Slot) (ps : List 
 pub record MeansSame {A : Type 0} (c : Call) (ps : List (Piece A)) (literal : Text) : Type 0 where
   pub text : Text
   pub is_literal : IsLiteral c.style literal text
-  pub new : IsCleanAs c.captures (slots c.arguments) ps (kept (slots c.arguments))
+  pub new : IsCleanAs c.captures_variables (slots c.arguments) ps (kept (slots c.arguments))
       (text ++ newline c.appended_newline)
 
 -- A call that was inlined: the edits of its literal, the bytes of the literal with them, and the
@@ -73,7 +73,7 @@ pub record IsInlined (allows_mixed : Bool) (c : Call) (r : InlinedCall) : Type 0
   pub are_apart : AreApart 0 r.edits (length literal)
   pub are_at_references : AreAtReferences (pieces c) r.edits
   -- Nothing was wrong with the call, so each of its arguments was used. It means what it meant.
-  pub old : IsCleanCall c.captures (slots c.arguments) c.text
+  pub old : IsCleanCall c.captures_variables (slots c.arguments) c.text
   pub means_same : MeansSame c old.pieces (chars r.literal)
 
 -- The call c is left as it is for this reason.
@@ -86,7 +86,7 @@ IsUnchanged m c Alone = condition m c ≡ Some Alone
 IsUnchanged m c ConstForm = condition m c ≡ Some ConstForm
 IsUnchanged m c Comment = condition m c ≡ Some Comment
 IsUnchanged m c Faulty = (condition m c ≡ None)
-    × (IsCleanCall c.captures (slots c.arguments) c.text → ⊥)
+    × (IsCleanCall c.captures_variables (slots c.arguments) c.text → ⊥)
 IsUnchanged m c NoLiteral = (condition m c ≡ None) × (c.literal ≡ None)
 IsUnchanged m c OtherMeaning = (condition m c ≡ None)
-    × IsCleanCall c.captures (slots c.arguments) c.text
+    × IsCleanCall c.captures_variables (slots c.arguments) c.text

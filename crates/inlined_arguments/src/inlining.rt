@@ -63,7 +63,7 @@ fn means_same_with<'c>(
     requires { hashes string.style + length string.text.now + 2 < 2 ^ 64 }
     ensures { IfOk result (λ b. Knows old.entry.values.now
         → map seen_given arguments.now ≡ map given_of (map seen_slot slots.now) → IsTrue b
-        → IsCleanAs string.entry.captures (seen_slots old.entry.values.now)
+        → IsCleanAs string.entry.captures_variables (seen_slots old.entry.values.now)
         (map seen old.entry.pieces.now) (map seen_slot slots.now) (chars string.entry.text.now)) }
 {
     let Some(pieces) = read(alloc, string, arguments)? else {
@@ -102,7 +102,7 @@ fn keeps_meaning(
         style,
         snippet: Some(literal),
         appended_newline: call.string.appended_newline,
-        captures: call.string.captures,
+        captures_variables: call.string.captures_variables,
     };
     let slots = expression_slots(alloc, old.values.slots)?;
     let arguments = givens(alloc, &slots)?;

@@ -304,8 +304,8 @@ fn form_help(
     let Some(others) = lacks_literal(form) else {
         return Ok(None);
     };
-    let says = "you might be missing a string literal to format with";
-    let words = String::from_str(alloc, says)?;
+    let message = "you might be missing a string literal to format with";
+    let words = String::from_str(alloc, message)?;
     let literal = literal_for(alloc, others)?;
     let mut edits = Vec::new(alloc);
     edits.push(Edit {

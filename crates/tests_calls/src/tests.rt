@@ -12,7 +12,7 @@ pub fn plain(text: &str) -> FormatString<'_> {
         style: None,
         snippet: None,
         appended_newline: false,
-        captures: true,
+        captures_variables: true,
     }
 }
 
@@ -115,7 +115,7 @@ fn names_that_are_not_captured(rt: HostRuntime) -> Result<(), Fail> {
     ];
     for (text, list, expected) in rows {
         let mut string = plain(text);
-        string.captures = false;
+        string.captures_variables = false;
         let said = titles(alloc, string, list)?;
         assert_eq!(&rt; said.as_str(), expected, "{} {}", text, list);
     }
@@ -191,7 +191,7 @@ fn each_kind_has_its_id(rt: HostRuntime) -> Result<(), Fail> {
     ];
     for (text, list, expected) in rows {
         let mut string = plain(text);
-        string.captures = list.starts_with('a') && text == "{a}";
+        string.captures_variables = list.starts_with('a') && text == "{a}";
         let said = ids(alloc, string, list)?;
         assert_eq!(&rt; said.as_str(), expected, "{} {}", text, list);
     }

@@ -11,7 +11,7 @@ use std::test::Fail;
 /// Reads a file with all macros that are known.
 fn report(alloc: Global, text: &str, is_from_2021: bool) -> Result<Report, AllocError> {
     let mut table = Table::standard(alloc)?;
-    let others = Table::with_crates(alloc)?;
+    let others = Table::with_crate_macros(alloc)?;
     for row in &others.rows {
         table.rows.push(*row)?;
     }

@@ -75,7 +75,7 @@ fn after(
 #[derive(Clone, Copy)]
 struct Case {
     appended_newline: bool,
-    captures: bool,
+    captures_variables: bool,
     is_counted: bool,
     is_format_alone: bool,
     has_const_form: bool,
@@ -85,7 +85,7 @@ struct Case {
 /// The case of `format!`, with mixed calls allowed.
 const FORMAT: Case = Case {
     appended_newline: false,
-    captures: true,
+    captures_variables: true,
     is_counted: true,
     is_format_alone: true,
     has_const_form: false,
@@ -107,7 +107,7 @@ fn said(alloc: Global, case: Case, literal: &str, list: &str) -> Result<String, 
         style,
         snippet: Some(literal),
         appended_newline: case.appended_newline,
-        captures: case.captures,
+        captures_variables: case.captures_variables,
     };
     let call = Call {
         string,

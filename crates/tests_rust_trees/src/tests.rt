@@ -160,7 +160,7 @@ fn macro_calls(rt: HostRuntime) -> Result<(), Fail> {
     check(&rt, alloc, &table, "$todo!() todo() todo! a != (b)", &[])?;
     check(&rt, alloc, &table, "( ] assert!(a) panic!(", &[(2, 6)])?;
     check(&rt, alloc, &table, "info!(\"a\")", &[])?;
-    let crates = Table::with_crates(alloc)?;
+    let crates = Table::with_crate_macros(alloc)?;
     for row in &crates.rows {
         table.add(*row)?;
     }
@@ -190,7 +190,7 @@ fn number(string: Result<usize, Reason>) -> usize {
 fn strings_of_calls(rt: HostRuntime) -> Result<(), Fail> {
     let alloc = rt.alloc();
     let mut table = Table::standard(alloc)?;
-    let crates = Table::with_crates(alloc)?;
+    let crates = Table::with_crate_macros(alloc)?;
     for row in &crates.rows {
         table.add(*row)?;
     }

@@ -14,7 +14,8 @@ pub returns-clause-inlined : goal.returns-clause-inlined
 returns-clause-inlined c = λ mixed none.
     let call = seen_call c.args.call in
     let read = rw c.in-Some-2.is at c.in_ok-pieces.ensures in
-    let are_read = subst (λ (gs : List FormatArgument). ReadsClean call.captures gs call.text
+    let are_read = subst (λ (gs : List FormatArgument). ReadsClean call.captures_variables gs
+    call.text
     (map bare (map seen c.in-Some-2.pieces.items)))
     (c.requires.given ∙ ap (λ ss. map given_of ss) c.requires.slots) read.1 in
     let made = rw (c.in-Some-3.is, c.deref-2.ensures.value) at c.in_ok-literal.ensures.some in

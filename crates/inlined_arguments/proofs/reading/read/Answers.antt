@@ -14,7 +14,7 @@ returns-then-are_warnings c =
     let all : list_all is_warning (map seen_fault c.in_ok-checked.checked.faults.items) ≡ true
     = rw c.deref.ensures.value at (sym c.are_warnings.ensures ∙ c.if-are_warnings.true) in (
       walk,
-      clean-pieces c.args.string.captures (map seen_given c.args.arguments.now)
+      clean-pieces c.args.string.captures_variables (map seen_given c.args.arguments.now)
           (chars c.args.string.text.now) (start c.args.string).world
           (quote_offset c.args.string.style) _ walk
           (c.in_ok-checked.ensures.clean.0 (AllPass-from_list_all is_warning _ all)),
