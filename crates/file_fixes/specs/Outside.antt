@@ -29,8 +29,8 @@ width_before at (r ∷ rs) = if nat_le r.end at then (r.end - r.start) + width_b
     else width_before at rs
 
 -- A token, moved n bytes towards the start of the text.
-abbrev pub moved_up : ℕ → Token → Token
-moved_up n t = record {
+abbrev pub moved_token : ℕ → Token → Token
+moved_token n t = record {
   kind = t.kind;
   span = record { start = t.span.start - n; end = t.span.end - n };
   suffix_start = t.suffix_start - n;
@@ -40,7 +40,7 @@ moved_up n t = record {
 -- Those of the tokens of a text that are apart from each of these ranges, at the places that they
 -- have in the text without the ranges.
 abbrev pub outside : List (Range ℕ) → List Token → List Token
-outside rs ts = map (λ t. moved_up (width_before t.span.start rs) t)
+outside rs ts = map (λ t. moved_token (width_before t.span.start rs) t)
     (filter (λ t. list_all (is_apart t) rs) ts)
 
 -- The tokens that no edit touches are the same in a text and in the text with the edits, at the

@@ -88,4 +88,4 @@ seen_slots v = map seen_slot v.slots.now
 
 -- The map of the values has the values of names.
 abbrev pub Knows : Values → Type 0
-Knows v = (w : Text) → found_in v.named w ≡ value_after None (seen_slots v) w
+Knows v = (w : Text) → found_in v.named_values w ≡ value_after None (seen_slots v) w

@@ -16,7 +16,7 @@ use crate::call::{Call, InlinedCall, Obstacle};
 use crate::conditions::condition;
 use crate::edited::apply_edits;
 use crate::edits::edits_of;
-use crate::meaning::{Meant, means_same};
+use crate::meaning::{CallMeaning, means_same};
 use crate::reading::read;
 use crate::slots::{Slot, expression_slots, givens, slots};
 use crate::values::values_of;
@@ -26,13 +26,13 @@ use piece_listing::literal::{LiteralText, literal_text};
 use std::alloc::{AllocError, Global};
 
 /// Adds the newline that a macro appends, if it does. Returns `Err` if an allocation fails.
-fn put_newline(text: &mut String, appended: bool) -> Result<(), AllocError>
+fn put_newline(text: &mut String, appends_newline: bool) -> Result<(), AllocError>
     ensures text { OnOk result (chars (string_bytes text.new)
-        ≡ chars (string_bytes text.old) ++ newline appended) }
+        ≡ chars (string_bytes text.old) ++ newline appends_newline) }
     ensures short { OnOk result (length (string_bytes text.new)
         ≤ length (string_bytes text.old) + 1) }
 {
-    if appended {
+    if appends_newline {
         text.push('\n')?;
         return Ok(());
     }
@@ -55,7 +55,7 @@ fn is_same_style(left: Option<usize>, right: Option<usize>) -> bool
 /// fails.
 fn means_same_with<'c>(
     alloc: Global,
-    old: Meant<'_, '_>,
+    old: CallMeaning<'_, '_>,
     string: FormatString<'c>,
     slots: &[Slot<'c>],
     arguments: &'c [FormatArgument<'c>],
@@ -70,7 +70,7 @@ fn means_same_with<'c>(
         return Ok(false);
     };
     let values = values_of(alloc, slots)?;
-    let new = Meant {
+    let new = CallMeaning {
         pieces: &pieces,
         values: &values,
     };
@@ -82,7 +82,7 @@ fn means_same_with<'c>(
 fn keeps_meaning(
     alloc: Global,
     call: Call<'_>,
-    old: Meant<'_, '_>,
+    old: CallMeaning<'_, '_>,
     literal: &str,
 ) -> Result<bool, AllocError>
     ensures { IfOk result (λ b. Knows old.entry.values.now
@@ -135,7 +135,7 @@ fn inline_with<'c>(
         return Ok(Err(Obstacle::Faulty));
     };
     let values = values_of(alloc, slots)?;
-    let old = Meant {
+    let old = CallMeaning {
         pieces: &pieces,
         values: &values,
     };

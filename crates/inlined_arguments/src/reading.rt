@@ -52,9 +52,9 @@ pub(crate) fn read<'a>(
         × ReadsClean string.entry.captures_variables (map seen_given arguments.now)
         (chars string.entry.text.now) (map bare (map seen v.items)))) }
 {
-    let checked = call_faults(alloc, string, arguments)?;
-    if are_warnings(&checked.faults) {
-        Ok(Some(checked.pieces))
+    let report = call_faults(alloc, string, arguments)?;
+    if are_warnings(&report.faults) {
+        Ok(Some(report.pieces))
     } else {
         Ok(None)
     }
