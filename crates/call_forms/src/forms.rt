@@ -26,7 +26,7 @@ pub enum Form<'a> {
     /// The format string is no string literal.
     NoLiteral {
         /// How many arguments stand after it.
-        others: usize,
+        other_count: usize,
         /// Whether it is a byte string literal.
         is_bytes: bool,
     },
@@ -60,15 +60,15 @@ fn is_bytes(tokens: &[Token<'_>]) -> bool
 
 /// Returns what is wrong with an argument that should be the format string, where so many others
 /// stand after it, or `None` if nothing is known to be.
-fn literal_form<'a>(tokens: &[Token<'a>], others: usize) -> Option<Form<'a>>
-    ensures { option_map seen_form result ≡ literal_form others (map leaf tokens.now) }
+fn literal_form<'a>(tokens: &[Token<'a>], other_count: usize) -> Option<Form<'a>>
+    ensures { option_map seen_form result ≡ literal_form other_count (map leaf tokens.now) }
 {
     let Some(first) = tokens.first() else {
         return None;
     };
     if !matches!(first.kind, Kind::Str | Kind::RawStr) && is_operand(first) && are_path(tokens) {
         return Some(Form::NoLiteral {
-            others,
+            other_count,
             is_bytes: is_bytes(tokens),
         });
     }

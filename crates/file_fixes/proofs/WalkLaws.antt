@@ -12,7 +12,7 @@ use Rattle.rust_tokens.specs.declared.kinds.Token.{Token}
 use Rattle.source_report.specs.Suggestions.{are_after}
 use Rattle.file_fixes.specs.declared.outside.EditedPart.{EditedPart}
 use Rattle.file_fixes.specs.Outside.{is_apart, moved_token, new_ranges, old_ranges}
-use Rattle.file_fixes.specs.Outside.{outside, width_before}
+use Rattle.file_fixes.specs.Outside.{untouched_tokens, width_before}
 use Rattle.file_fixes.specs.Walk.{Ahead, place_after, from_start, is_before, new_parts, old_parts}
 use Rattle.file_fixes.specs.Walk.{walk}
 
@@ -118,7 +118,7 @@ one-more f p x xs y ys false e g h = rw (sym e, h) refl
 
 -- The walk finds the tokens that are apart from each range,
 walk-finds : (at : ℕ) (a : Ahead) (rs : List (Range ℕ)) (ts : List Token) → StartFrom at ts
-    → SaysAll at a rs → walk a ts ≡ outside rs ts
+    → SaysAll at a rs → walk a ts ≡ untouched_tokens rs ts
 walk-finds at a rs [] s h = refl
 walk-finds at a rs (t ∷ ts) s h =
     let later : SaysAll t.span.start a rs = record {
@@ -183,16 +183,18 @@ ranges-new at to (e ∷ es) = ap (λ rs. record {
 
 -- So the walk decides whether the tokens stay that no edit touches.
 pub walk-outside : (ps : List EditedPart) (xs : List Lexeme)
-    → walk (from_start ps) (placed 0 xs) ≡ outside (ranges_of 0 ps) (placed 0 xs)
+    → walk (from_start ps) (placed 0 xs) ≡ untouched_tokens (ranges_of 0 ps) (placed 0 xs)
 walk-outside ps xs = walk-finds 0 (from_start ps) (ranges_of 0 ps) (placed 0 xs)
     (start-placed 0 xs) (record { apart = λ t k. refl; width = λ n k. omega arith })
 
 pub walk-old : (es : List Edit) (xs : List Lexeme) → are_after 0 es ≡ true
-    → walk (from_start (old_parts 0 es)) (placed 0 xs) ≡ outside (old_ranges es) (placed 0 xs)
+    → walk (from_start (old_parts 0 es)) (placed 0 xs)
+    ≡ untouched_tokens (old_ranges es) (placed 0 xs)
 walk-old es xs h = walk-outside (old_parts 0 es) xs
-    ∙ ap (λ rs. outside rs (placed 0 xs)) (ranges-old 0 es h)
+    ∙ ap (λ rs. untouched_tokens rs (placed 0 xs)) (ranges-old 0 es h)
 
 pub walk-new : (es : List Edit) (xs : List Lexeme)
-    → walk (from_start (new_parts 0 es)) (placed 0 xs) ≡ outside (new_ranges 0 0 es) (placed 0 xs)
+    → walk (from_start (new_parts 0 es)) (placed 0 xs)
+    ≡ untouched_tokens (new_ranges 0 0 es) (placed 0 xs)
 walk-new es xs = walk-outside (new_parts 0 es) xs
-    ∙ ap (λ rs. outside rs (placed 0 xs)) (ranges-new 0 0 es)
+    ∙ ap (λ rs. untouched_tokens rs (placed 0 xs)) (ranges-new 0 0 es)

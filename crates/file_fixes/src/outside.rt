@@ -118,7 +118,11 @@ fn moved_token(n: usize, token: &Token) -> Token
 
 /// Returns those tokens of a text that no part touches, at the places that they have in the text
 /// without the parts. Returns `Err` if an allocation fails.
-fn outside(alloc: Global, parts: &[EditedPart], tokens: &[Token]) -> Result<Vec<Token>, AllocError>
+fn untouched_tokens(
+    alloc: Global,
+    parts: &[EditedPart],
+    tokens: &[Token],
+) -> Result<Vec<Token>, AllocError>
     ensures { IfOk result (λ v. v.items ≡ walk (from_start parts.now) tokens.now) }
 {
     let mut others = Vec::new(alloc);
@@ -158,12 +162,12 @@ pub(crate) fn keeps_tokens(
 {
     let old_tokens = tokens(alloc, old)?;
     let new_tokens = tokens(alloc, new)?;
-    let old_others = outside(
+    let old_others = untouched_tokens(
         alloc,
         old_parts(alloc, edits)?.as_slice(),
         old_tokens.as_slice(),
     )?;
-    let new_others = outside(
+    let new_others = untouched_tokens(
         alloc,
         new_parts(alloc, edits)?.as_slice(),
         new_tokens.as_slice(),

@@ -23,7 +23,7 @@ returns-clause-read c =
       t.1,
       inr (
         ts,
-        rw c.in-Some.is at c.in_ok-read.ensures.read,
+        rw c.in-Some.is at c.in_ok-template_list.ensures.read,
         (
           c.reading_of.ensures,
           subst (λ (os : List Operand). TellAllAsm (slots_after [] os)

@@ -1,6 +1,6 @@
 use Rattle.std.proofs.Common.{◌≡◌, ◌≤◌, ◌++◌, drop}
 use Rattle.file_fixes.specs.Walk.{from_start, seen_ahead, walk}
-use Rattle.file_fixes.proofs.outside.outside.Given as goal
+use Rattle.file_fixes.proofs.outside.untouched_tokens.Given as goal
 
 -- With those of the tokens that are left, these are all.
 abbrev pub invariant-loop-token : goal.invariant-loop-token
