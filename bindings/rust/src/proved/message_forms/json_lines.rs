@@ -47,20 +47,20 @@ fn length_of(text: &str) -> usize {
     text.chars().count()
 }
 
-/// Adds the lines of a span that begins and ends at these columns, where `more` lines come after
-/// the first one.
+/// Adds the lines of a span that begins and ends at these columns, where `line_count` lines come
+/// after the first one.
 #[inline]
 fn put_lines(
     out: &mut String,
     lines: &str,
     from: usize,
     to: usize,
-    more: usize,
+    line_count: usize,
 ) -> Result<(), AllocError> {
     out.try_push_str("[")?;
     let mut rest = lines;
     let mut start = from;
-    let mut countdown = more;
+    let mut countdown = line_count;
     while countdown > 0 {
         let (line, tail) = split_line(rest);
         put_line(out, line, start, length_of(line) + 1)?;
