@@ -300,9 +300,13 @@ impl<'a> CallReport<'a> {
             | CallFault::UnknownTrait { .. }
             | CallFault::MissingArguments(_) => Ok(None),
             CallFault::Text(fault) => text_help(alloc, self, fault),
-            CallFault::UnusedArguments(unused) => unused_help(alloc, self, unused.len()),
-            CallFault::RedundantArguments(redundant) => {
-                redundant_help(alloc, self.arguments, redundant)
+            CallFault::UnusedArguments(unused_indices) => unused_help(
+                alloc,
+                self,
+                unused_indices.len(),
+            ),
+            CallFault::RedundantArguments(redundant_indices) => {
+                redundant_help(alloc, self.arguments, redundant_indices)
             }
             CallFault::NameUsedByIndex { reference, index } => {
                 let help = by_index_help(alloc, self, *reference, *index)?;

@@ -341,11 +341,11 @@ impl<'a> Run<'a> {
 
     /// Reads a file.
     fn lint_file(&mut self, rt: &HostRuntime, path: &str) -> Result<(), Failure> {
-        let read = match fs::open(rt, path) {
+        let result = match fs::open(rt, path) {
             Ok(file) => read_all(rt, file),
             Err(error) => Err(error),
         };
-        match read {
+        match result {
             Ok(bytes) => self.lint(rt, path, bytes.as_slice(), Origin::File),
             Err(error) => {
                 self.totals.fail(rt, path, &error);

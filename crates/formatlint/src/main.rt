@@ -161,11 +161,11 @@ fn files_status(rt: &HostRuntime, matches: &ArgMatches<'_>) -> Result<u8, Error>
     let table = match table_of(rt.alloc(), matches.get_strs("macro").unwrap_or(&[])) {
         Ok(table) => table,
         Err(Some(word)) => {
-            let why = format!(in rt.alloc();
+            let reason = format!(in rt.alloc();
                 "invalid value '{word}' for '--macro <NAME:INDEX>': \
                 it is the name of a macro and a number, as in say:0"
             )?;
-            return value_error(rt, why.as_str());
+            return value_error(rt, reason.as_str());
         }
         Err(None) => return Err(Error::from(AllocError)),
     };

@@ -239,8 +239,10 @@ impl<'a> CallReport<'a> {
             | CallFault::UnknownTrait { .. }
             | CallFault::MissingArguments(_) => Ok(None),
             CallFault::Text(fault) => text_help(self, fault),
-            CallFault::UnusedArguments(unused) => unused_help(self, unused.len()),
-            CallFault::RedundantArguments(redundant) => redundant_help(self.arguments, redundant),
+            CallFault::UnusedArguments(unused_indices) => unused_help(self, unused_indices.len()),
+            CallFault::RedundantArguments(redundant_indices) => {
+                redundant_help(self.arguments, redundant_indices)
+            }
             CallFault::NameUsedByIndex { reference, index } => {
                 let help = by_index_help(self, *reference, *index)?;
                 Ok(Some(help))

@@ -181,11 +181,11 @@ fn files_status(
     let table = match table_of(matches.get_strs("macro").unwrap_or(&[])) {
         Ok(table) => table,
         Err(Some(word)) => {
-            let why = crate::shim::try_format!(
+            let reason = crate::shim::try_format!(
                 "invalid value '{word}' for '--macro <NAME:INDEX>': \
                 it is the name of a macro and a number, as in say:0"
             )?;
-            return value_error(rt, why.as_str());
+            return value_error(rt, reason.as_str());
         }
         Err(None) => return Err(crate::shim::alloc::refused()),
     };

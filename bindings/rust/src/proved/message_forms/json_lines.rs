@@ -112,8 +112,14 @@ fn applicability(suggestion: &Option<Suggestion<'_>>) -> Option<&'static str> {
 fn put_details(out: &mut String, span: &Span<'_>) -> Result<(), AllocError> {
     put_truth(out, true, "is_primary", span.is_primary)?;
     put_key(out, true, "text")?;
-    let more = span.end.line.saturating_sub(span.start.line);
-    put_lines(out, span.lines, span.start.column, span.end.column, more)?;
+    let line_count = span.end.line.saturating_sub(span.start.line);
+    put_lines(
+        out,
+        span.lines,
+        span.start.column,
+        span.end.column,
+        line_count,
+    )?;
     put_text_or_null(out, "label", span.label)?;
     let text = replacement(&span.suggestion);
     put_text_or_null(out, "suggested_replacement", text)?;
