@@ -221,8 +221,8 @@ fn status(rt: &HostRuntime, words: &[String]) -> Result<u8, Error> {
 }
 
 /// Writes to standard error why the arguments cannot be read, and returns this exit status.
-fn fail(rt: &HostRuntime, why: &str, status: u8) -> ExitCode {
-    let _ = eprintln!(rt; "formatlint: {why}");
+fn fail(rt: &HostRuntime, reason: &str, status: u8) -> ExitCode {
+    let _ = eprintln!(rt; "formatlint: {reason}");
     ExitCode::from(status)
 }
 

@@ -243,8 +243,8 @@ fn status(rt: &crate::shim::host::HostRuntime, words: &[String]) -> Result<u8, E
 
 /// Writes to standard error why the arguments cannot be read, and returns this exit status.
 #[inline]
-fn fail(rt: &crate::shim::host::HostRuntime, why: &str, status: u8) -> ExitCode {
-    let _ = crate::shim::eprintln_in!(rt; "formatlint: {why}");
+fn fail(rt: &crate::shim::host::HostRuntime, reason: &str, status: u8) -> ExitCode {
+    let _ = crate::shim::eprintln_in!(rt; "formatlint: {reason}");
     ExitCode::from(status)
 }
 
