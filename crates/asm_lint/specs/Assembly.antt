@@ -31,13 +31,13 @@ reading_of true = Whole
 reading_of false = StringAlone
 
 -- An operand without a register of its own, with this name or none.
-abbrev pub named : Option Text → Operand
-named None = Unnamed
-named (Some w) = Named w
+abbrev pub named_operand : Option Text → Operand
+named_operand None = Unnamed
+named_operand (Some w) = Named w
 
 -- The operand that an argument is, if it is one.
 abbrev pub operand_of : List Leaf → Argument → AsmPart → Option Operand
-operand_of xs a OperandPart = Some (named (name_of xs a))
+operand_of xs a OperandPart = Some (named_operand (name_of xs a))
 operand_of xs a RegisterPart = Some (Register a.is_named)
 operand_of xs a Raw = None
 operand_of xs a Setting = None

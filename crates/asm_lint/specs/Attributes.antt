@@ -97,8 +97,8 @@ ReadsText name ps literal fs =
     × TellMessages name (message_faults (Some ps) (message_start literal t)) fs)
 
 -- The option sets this word.
-abbrev pub sets : List Leaf → Argument → List ℕ → Bool
-sets xs a w = a.is_named && has_word_at xs a.start w
+abbrev pub sets_word : List Leaf → Argument → List ℕ → Bool
+sets_word xs a w = a.is_named && has_word_at xs a.start w
 
 -- The literal that an option sets, if it is one.
 abbrev pub literal_if : Bool → Option Leaf → Option Leaf
@@ -110,9 +110,10 @@ literal_of xs a = literal_if (a.end == a.start + 3) (slice_get xs (a.start + 2))
 
 -- An option counts, where a message and a label have been there or not: of several of these only
 -- the first counts.
-abbrev pub counts : List Leaf → Bool → Bool → Argument → Bool
-counts xs m l a = (sets xs a (codes "message") && not m) || ((sets xs a (codes "label") && not l)
-    || sets xs a (codes "note"))
+abbrev pub is_effective : List Leaf → Bool → Bool → Argument → Bool
+is_effective xs m l a = (sets_word xs a (codes "message") && not m)
+    || ((sets_word xs a (codes "label") && not l)
+    || sets_word xs a (codes "note"))
 
 -- The literals that options set, one after the other.
 abbrev pub literal_list : Bool → Option Leaf → List Leaf
@@ -121,8 +122,9 @@ literal_list b (Some x) = if b then x ∷ [] else []
 
 abbrev pub texts_from : List Leaf → Bool → Bool → List Argument → List Leaf
 texts_from xs m l [] = []
-texts_from xs m l (a ∷ bs) = literal_list (counts xs m l a) (literal_of xs a)
-    ++ texts_from xs (m || sets xs a (codes "message")) (l || sets xs a (codes "label")) bs
+texts_from xs m l (a ∷ bs) = literal_list (is_effective xs m l a) (literal_of xs a)
+    ++ texts_from xs (m || sets_word xs a (codes "message")) (l
+    || sets_word xs a (codes "label")) bs
 
 -- These are the findings in these literals, one after the other.
 abbrev pub ReadsTexts : Text → List (List ℕ) → List Leaf → List Finding → Type 0

@@ -12,9 +12,9 @@ use Rattle.rustc_parse_format.specs.World.{Place, pieces_in}
 use Rattle.call_faults.specs.Arguments.{FormatArgument}
 use Rattle.call_faults.specs.Clean.{IsClean}
 use Rattle.inlined_arguments.specs.Conditions.{Call, condition}
-use Rattle.inlined_arguments.specs.Edits.{AreApart, AreAtReferences, Edit, edited}
+use Rattle.inlined_arguments.specs.Edits.{AreApart, AreAtReferences, Edit, edited_text}
 use Rattle.inlined_arguments.specs.Meaning.{meaning}
-use Rattle.inlined_arguments.specs.Values.{Slot, given, kept, slots}
+use Rattle.inlined_arguments.specs.Values.{Slot, slot_argument, kept, slots}
 use Rattle.inlined_arguments.specs.Variables.{gone_from}
 use Rattle.inlined_arguments.specs.declared.call.Obstacle.{Obstacle}
 use Rattle.inlined_arguments.specs.declared.call.Obstacle.TheVariants.{Uncounted, NoVariable, Mixed}
@@ -36,7 +36,7 @@ ReadsClean captures gs t ps = (c : IsClean captures gs t) × (c.pieces ≡ ps)
 
 -- Nothing is wrong with a call with these slots and this string.
 abbrev pub IsCleanCall : Bool → List Slot → Text → Type 0
-IsCleanCall captures ss t = IsClean captures (map given ss) t
+IsCleanCall captures ss t = IsClean captures (map slot_argument ss) t
 
 -- Nothing is wrong with a call with the slots ts and the string t, and it means what a call means
 -- that has the slots ss and a string with the pieces ps.
@@ -69,7 +69,7 @@ pub record IsInlined (allows_mixed : Bool) (c : Call) (r : InlinedCall) : Type 0
   -- The literal is the old one with edits where that refers to arguments.
   pub literal : List ℕ
   pub is_literal : c.literal ≡ Some literal
-  pub is_edited : r.literal ≡ edited 0 r.edits literal
+  pub is_edited : r.literal ≡ edited_text 0 r.edits literal
   pub are_apart : AreApart 0 r.edits (length literal)
   pub are_at_references : AreAtReferences (pieces c) r.edits
   -- Nothing was wrong with the call, so each of its arguments was used. It means what it meant.

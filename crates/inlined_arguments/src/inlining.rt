@@ -10,7 +10,7 @@ ghost use Rattle.inlined_arguments.specs.Conditions.{condition};
 ghost use Rattle.inlined_arguments.specs.Inlining.{IsCleanAs, IsInlined, IsUnchanged, MeansSame};
 ghost use Rattle.inlined_arguments.specs.Seen.{Knows, seen_argument, seen_call, seen_inlined};
 ghost use Rattle.inlined_arguments.specs.Seen.{seen_slot, seen_slots};
-ghost use Rattle.inlined_arguments.specs.Values.{given as given_of, slots as slots_of};
+ghost use Rattle.inlined_arguments.specs.Values.{slot_argument, slots as slots_of};
 
 use crate::call::{Call, InlinedCall, Obstacle};
 use crate::conditions::condition;
@@ -62,7 +62,7 @@ fn means_same_with<'c>(
 ) -> Result<bool, AllocError>
     requires { hashes string.style + length string.text.now + 2 < 2 ^ 64 }
     ensures { IfOk result (λ b. Knows old.entry.values.now
-        → map seen_given arguments.now ≡ map given_of (map seen_slot slots.now) → IsTrue b
+        → map seen_given arguments.now ≡ map slot_argument (map seen_slot slots.now) → IsTrue b
         → IsCleanAs string.entry.captures_variables (seen_slots old.entry.values.now)
         (map seen old.entry.pieces.now) (map seen_slot slots.now) (chars string.entry.text.now)) }
 {
@@ -120,7 +120,7 @@ fn inline_with<'c>(
 ) -> Result<Result<InlinedCall, Obstacle>, AllocError>
     requires fits { hashes call.string.style + length call.string.text.now + 2 < 2 ^ 64 }
     requires slots { map seen_slot slots.now ≡ slots_of (map seen_argument call.arguments.now) }
-    requires given { map seen_given arguments.now ≡ map given_of (map seen_slot slots.now) }
+    requires given { map seen_given arguments.now ≡ map slot_argument (map seen_slot slots.now) }
     ensures inlined { IfOk result (λ r. IfOk r (λ x. (mixed : Bool)
         → condition mixed (seen_call call.entry) ≡ None
         → IsInlined mixed (seen_call call.entry) (seen_inlined x))) }
