@@ -60,7 +60,7 @@ fn titles(file: &str, text: &str) -> String {
             style: None,
             snippet: call.literal(),
             appended_newline: false,
-            captures: true,
+            captures_variables: true,
         },
         &given,
     );

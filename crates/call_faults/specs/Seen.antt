@@ -37,8 +37,8 @@ use Rattle.call_faults.specs.declared.spots.CallNote.{CallNote}
 use Rattle.call_faults.specs.declared.lookups.Lookup.{Lookup as DeclaredLookup}
 use Rattle.call_faults.specs.declared.lookups.Lookup.TheVariants.{Refer as ReferIn}
 use Rattle.call_faults.specs.declared.lookups.Lookup.TheVariants.{NoTrait as NoTraitIn}
-use Rattle.call_faults.specs.declared.lookups.Wanted.{Wanted}
-use Rattle.call_faults.specs.declared.lookups.Wanted.TheVariants.{Index, Name}
+use Rattle.call_faults.specs.declared.lookups.ArgRef.{ArgRef}
+use Rattle.call_faults.specs.declared.lookups.ArgRef.TheVariants.{Index, Name}
 use Rattle.call_faults.specs.Arguments.{FormatArgument, Entry, index_of}
 use Rattle.call_faults.specs.CallFaults.{CallFault, PositionalAfterNamed, RepeatedName, TextFault}
 use Rattle.call_faults.specs.CallFaults.{MissingName, UnknownTrait, MissingArguments}
@@ -74,7 +74,7 @@ abbrev pub start : FormatString → State
 start s = first_state Format (text s.text) s.style (option_map text s.snippet) s.appended_newline
 
 -- The argument that a reference wants, as a contract sees it.
-abbrev pub seen_use : Wanted → Use
+abbrev pub seen_use : ArgRef → Use
 seen_use (Index n) = ByIndex n
 seen_use (Name w) = ByName (text w)
 

@@ -38,7 +38,7 @@ pub struct FormatString<'a> {
     pub appended_newline: bool,
     /// Whether a name that no argument has is a variable, as it is where the literal stands in the
     /// call itself.
-    pub captures: bool,
+    pub captures_variables: bool,
 }
 
 /// A call that was checked.
@@ -103,7 +103,7 @@ fn faults_of<'a>(
     ensures kept { OnOk result (indices.old.items ≡ []
         → indices.new.items ≡ kept_indices (map seen_given call_arguments.now)) }
     ensures faults { IfOk result (λ v. is_none (text_fault (start string.entry)) ≡ is_read
-        → map seen_fault v.items ≡ call_faults string.entry.captures
+        → map seen_fault v.items ≡ call_faults string.entry.captures_variables
         (map seen_given call_arguments.now) (text_fault (start string.entry))
         (map seen_piece pieces.now)) }
 {
@@ -122,7 +122,7 @@ fn faults_of<'a>(
     compare(
         alloc,
         &mut faults,
-        string.captures,
+        string.captures_variables,
         &mut arguments,
         call_arguments.len(),
         &lookups,
@@ -153,13 +153,13 @@ pub fn call_faults<'a>(
     ensures counts { IfOk result (λ x. x.counts.items
         ≡ counts_before 0 (map seen_piece x.pieces.items)) }
     ensures faults { IfOk result (λ x. map seen_fault x.faults.items
-        ≡ call_faults string.entry.captures (map seen_given arguments.now)
+        ≡ call_faults string.entry.captures_variables (map seen_given arguments.now)
         (text_fault (start string.entry)) (map seen_piece x.pieces.items)) }
 
     // Nothing but warnings is found exactly if the call is clean.
     ensures clean { IfOk result (λ x. All (λ f. IsTrue (is_warning f)) (map seen_fault
         x.faults.items)
-        ↔ IsClean string.entry.captures (map seen_given arguments.now)
+        ↔ IsClean string.entry.captures_variables (map seen_given arguments.now)
         (chars string.entry.text.now)) }
 {
     let snippet = owned_string(alloc, string.snippet)?;

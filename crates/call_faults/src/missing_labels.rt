@@ -25,13 +25,13 @@ use text_faults::{CallLabel, Spot};
 pub(crate) fn push_missing(
     labels: &mut Vec<CallLabel>,
     pieces: &[Piece<'_>],
-    missing: &[InvalidReference],
+    references: &[InvalidReference],
 ) -> Result<(), AllocError>
     ensures { OnOk result (map seen_label labels.new.items ≡ map seen_label labels.old.items
         ++ map (λ m. primary (reference_spot (map seen_piece pieces.now) m.reference) [])
-        missing.now) }
+        references.now) }
 {
-    let mut rest = missing;
+    let mut rest = references;
     while let Some((first, others)) = rest.split_first() {
         push_plain(labels, reference_spot(pieces, first.reference))?;
         rest = others;

@@ -45,11 +45,11 @@ fn push_plain(notes: &mut Vec<CallNote>, text: &str) -> Result<(), AllocError>
 }
 
 /// Adds a note that shows no place, if a test holds.
-fn push_if(notes: &mut Vec<CallNote>, holds: bool, text: &str) -> Result<(), AllocError>
+fn push_if(notes: &mut Vec<CallNote>, has_note: bool, text: &str) -> Result<(), AllocError>
     ensures { OnOk result (map seen_note notes.new.items
-        ≡ map seen_note notes.old.items ++ note_if holds text.now) }
+        ≡ map seen_note notes.old.items ++ note_if has_note text.now) }
 {
-    if holds {
+    if has_note {
         push_plain(notes, text)?;
     }
     Ok(())
@@ -73,8 +73,8 @@ fn capture_text(alloc: Global, name: &str) -> Result<String, AllocError>
     ensures { IfOk result (λ s. string_bytes s ≡ capture_text (chars name.now)) }
 {
     let mut text = String::new(alloc);
-    let before = "did you intend to capture a variable ";
-    put_name_between(&mut text, before, name, " from the surrounding scope?")?;
+    let front = "did you intend to capture a variable ";
+    put_name_between(&mut text, front, name, " from the surrounding scope?")?;
     Ok(text)
 }
 
@@ -344,14 +344,14 @@ fn push_redundant<'a>(
     alloc: Global,
     notes: &mut Vec<CallNote>,
     call: &CallReport<'a>,
-    redundant: &[usize],
+    redundant_indices: &[usize],
 ) -> Result<(), AllocError>
     ensures { OnOk result (map seen_note notes.new.items ≡ map seen_note notes.old.items
-        ++ redundant_note (seen_call call.now) redundant.now ∷ []) }
+        ++ redundant_note (seen_call call.now) redundant_indices.now ∷ []) }
 {
-    let names = variables_of(alloc, call.arguments, redundant)?;
+    let names = variables_of(alloc, call.arguments, redundant_indices)?;
     let spots = named_positions(alloc, &names, &call.pieces)?;
-    let text = String::from_str(alloc, redundant_text(redundant.len()))?;
+    let text = String::from_str(alloc, redundant_text(redundant_indices.len()))?;
     notes.push(CallNote { text, spots })?;
     Ok(())
 }
@@ -378,9 +378,13 @@ impl<'a> CallReport<'a> {
             CallFault::MissingName { name, .. } => push_name(&mut notes, name)?,
             CallFault::UnknownTrait { .. } => push_plain(&mut notes, traits_text())?,
             CallFault::MissingArguments(_) => push_missing(&mut notes, &self.pieces)?,
-            CallFault::UnusedArguments(unused) => push_unused(&mut notes, self, unused.len())?,
-            CallFault::RedundantArguments(redundant) => {
-                push_redundant(alloc, &mut notes, self, redundant)?;
+            CallFault::UnusedArguments(unused_indices) => push_unused(
+                &mut notes,
+                self,
+                unused_indices.len(),
+            )?,
+            CallFault::RedundantArguments(redundant_indices) => {
+                push_redundant(alloc, &mut notes, self, redundant_indices)?;
             }
         }
         Ok(notes)

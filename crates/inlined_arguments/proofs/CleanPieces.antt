@@ -18,7 +18,7 @@ use Rattle.call_faults.specs.Clean.{IsClean}
 use Rattle.inlined_arguments.specs.Conditions.{Call}
 use Rattle.inlined_arguments.specs.Inlining.{IsCleanAs, MeansSame, ReadsClean}
 use Rattle.inlined_arguments.specs.Meaning.{Part, ValuePart, flags, meaning, part}
-use Rattle.inlined_arguments.specs.Values.{Amount, Slot, amount_of, given, slots, value_of}
+use Rattle.inlined_arguments.specs.Values.{Amount, Slot, amount_of, slot_argument, slots, value_of}
 
 -- The pieces of a clean call are those that were read.
 pub clean-pieces : (captures : Bool) (gs : List FormatArgument) (t : Text) (w : World) (at : ℕ)
@@ -57,10 +57,11 @@ meaning-bare ts (p ∷ ps) = rw (part-bare ts p) (ap (λ (xs : List Part). part 
 
 -- A call that was read, and that means the same.
 pub clean-as : (captures : Bool) (ss ts : List Slot) (gs : List FormatArgument) (t : Text)
-    (ps qs : List (Piece Place)) → gs ≡ map given ts → ReadsClean captures gs t (map bare_piece qs)
+    (ps qs : List (Piece Place)) → gs ≡ map slot_argument ts
+    → ReadsClean captures gs t (map bare_piece qs)
     → meaning ss ps ≡ meaning ts qs → IsCleanAs captures ss ps ts t
 clean-as captures ss ts gs t ps qs e r m =
-    let new : ReadsClean captures (map given ts) t (map bare_piece qs) =
+    let new : ReadsClean captures (map slot_argument ts) t (map bare_piece qs) =
     subst (λ (hs : List FormatArgument). ReadsClean captures hs t (map bare_piece qs)) e r in
     record {
       clean = new.0;

@@ -8,7 +8,7 @@ ghost use Rattle.inlined_arguments.specs.Edits.{AreAt, AreAtReferences, referenc
 ghost use Rattle.inlined_arguments.specs.Seen.{seen_edit};
 
 use crate::call::Edit;
-use crate::meaning::Meant;
+use crate::meaning::CallMeaning;
 use crate::slots::Value;
 use crate::values::{Amount, Values, amount_of, position_value};
 use itoa::Buffer;
@@ -183,7 +183,7 @@ fn push_piece<'a>(
 /// Returns the edits of a literal whose text has these pieces: they put variables in the place of
 /// references to arguments that are these, and make the others those to the arguments that stay.
 /// Returns `Err` if an allocation fails.
-pub(crate) fn edits_of(alloc: Global, call: Meant<'_, '_>) -> Result<Vec<Edit>, AllocError>
+pub(crate) fn edits_of(alloc: Global, call: CallMeaning<'_, '_>) -> Result<Vec<Edit>, AllocError>
     ensures { IfOk result (λ v.
         AreAtReferences (map seen_piece call.entry.pieces.now) (map seen_edit v.items)) }
 {

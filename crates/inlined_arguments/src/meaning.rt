@@ -97,7 +97,7 @@ fn are_same_flags(left: &FormatSpec<'_>, right: &FormatSpec<'_>) -> bool
 
 /// A format string and the values that it refers to.
 #[derive(Clone, Copy)]
-pub(crate) struct Meant<'s, 'a> {
+pub(crate) struct CallMeaning<'s, 'a> {
     /// Its pieces.
     pub pieces: &'s [Piece<'a>],
     /// The values of its arguments.
@@ -148,7 +148,7 @@ fn are_same_parts<'a, 'b>(
 }
 
 /// Returns whether two calls mean the same.
-pub(crate) fn means_same<'a, 'b>(left: Meant<'_, 'a>, right: Meant<'_, 'b>) -> bool
+pub(crate) fn means_same<'a, 'b>(left: CallMeaning<'_, 'a>, right: CallMeaning<'_, 'b>) -> bool
     ensures { Knows left.entry.values.now → Knows right.entry.values.now → IsTrue result
         → meaning (seen_slots left.entry.values.now) (map seen_piece left.entry.pieces.now)
         ≡ meaning (seen_slots right.entry.values.now) (map seen_piece right.entry.pieces.now) }

@@ -44,16 +44,17 @@ pub(crate) fn read<'a>(
 ) -> Result<Option<Vec<Piece<'a>>>, AllocError>
     requires { hashes string.style + length string.text.now + 2 < 2 ^ 64 }
     ensures { IfOk result (λ o. MatchOption o
-        (IsClean string.entry.captures (map seen_given arguments.now) (chars string.entry.text.now)
+        (IsClean string.entry.captures_variables (map seen_given arguments.now)
+        (chars string.entry.text.now)
         → ⊥)
         (λ v. let s = start string.entry in
         (map seen_piece v.items ≡ pieces_in s.world (pieces_of (calls s)))
-        × ReadsClean string.entry.captures (map seen_given arguments.now)
+        × ReadsClean string.entry.captures_variables (map seen_given arguments.now)
         (chars string.entry.text.now) (map bare_piece (map seen_piece v.items)))) }
 {
-    let checked = call_faults(alloc, string, arguments)?;
-    if are_warnings(&checked.faults) {
-        Ok(Some(checked.pieces))
+    let report = call_faults(alloc, string, arguments)?;
+    if are_warnings(&report.faults) {
+        Ok(Some(report.pieces))
     } else {
         Ok(None)
     }

@@ -181,10 +181,10 @@ pub fn table_of<'a>(alloc: Global, words: &[&'a str]) -> Result<Table<'a>, Optio
     let Ok(mut table) = Table::standard(alloc) else {
         return Err(None);
     };
-    let Ok(others) = Table::with_crates(alloc) else {
+    let Ok(crate_macros) = Table::with_crate_macros(alloc) else {
         return Err(None);
     };
-    for row in &others.rows {
+    for row in &crate_macros.rows {
         if table.rows.push(*row).is_err() {
             return Err(None);
         }

@@ -200,10 +200,10 @@ pub fn table_of<'a>(words: &[&'a str]) -> Result<Table<'a>, Option<&'a str>> {
     let Ok(mut table) = Table::standard() else {
         return Err(None);
     };
-    let Ok(others) = Table::with_crates() else {
+    let Ok(crate_macros) = Table::with_crate_macros() else {
         return Err(None);
     };
-    for row in &others.rows {
+    for row in &crate_macros.rows {
         if table.rows.try_push(*row).is_err() {
             return Err(None);
         }

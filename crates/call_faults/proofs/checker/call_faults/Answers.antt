@@ -33,7 +33,8 @@ returns c =
     = read-is s c.errors.result.now seen_error refl
     (λ e. sym errors ∙ ap (map seen_error) e)
     (λ e. map-nil seen_error c.errors.result.now (errors ∙ e)) ∙ sym c.is_empty-is_read.ensures in
-    let faults : map seen_fault c.in_ok-faults.faults.items ≡ call_faults c.args.string.captures
+    let faults : map seen_fault c.in_ok-faults.faults.items
+    ≡ call_faults c.args.string.captures_variables
     (map seen_given c.args.arguments.now) (text_fault s)
     (map seen_piece c.in_ok-pieces.field-0.pieces.items)
     = rw c.deref.ensures.value at (c.in_ok-faults.ensures.faults read) in
@@ -44,7 +45,7 @@ returns c =
       counts = c.in_ok-counts.ensures
           ∙ ap (counts_before 0) (ap (map seen_piece) c.deref-2.ensures.value);
       faults = faults;
-      clean = clean-is c.args.string.captures (map seen_given c.args.arguments.now)
+      clean = clean-is c.args.string.captures_variables (map seen_given c.args.arguments.now)
           (chars c.args.string.text.now) s (map seen_piece c.in_ok-pieces.field-0.pieces.items)
           (map seen_fault c.in_ok-faults.faults.items) c.in_ok-pieces.field-0.parser refl parser
           c.in_ok-pieces.ensures.clean c.in_ok-pieces.ensures.reading

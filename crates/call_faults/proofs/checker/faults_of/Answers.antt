@@ -30,10 +30,10 @@ returns-clause-faults c = λ e.
     let looked : map seen_lookup c.deref-2.result.now
     ≡ lookups_from 0 (map seen_piece c.args.pieces.now)
     = rw c.deref-2.ensures.value c.in_ok-lookups.ensures in
-    read-total c.args.string.captures gs (text_fault (start c.args.string))
+    read-total c.args.string.captures_variables gs (text_fault (start c.args.string))
     (map seen_piece c.args.pieces.now) (map seen_fault c.compare.new.faults.items)
     (e ∙ c.if-not-is_read.false) goes_on
     (c.in_ok-compare.ensures ks holds below
     ∙ ap (λ (xs : List CallFault). xs
-    ++ compared c.args.string.captures ks (map seen_lookup c.deref-2.result.now)) outcome
-    ∙ ap (λ ls. list_faults [] 0 gs ++ compared c.args.string.captures ks ls) looked)
+    ++ compared c.args.string.captures_variables ks (map seen_lookup c.deref-2.result.now)) outcome
+    ∙ ap (λ ls. list_faults [] 0 gs ++ compared c.args.string.captures_variables ks ls) looked)

@@ -10,7 +10,7 @@ abbrev pub invariant-loop-first : goal.invariant-loop-first
 invariant-loop-first l = map seen_label l.labels.items
     ++ map (λ m. primary (reference_spot (map seen_piece l.pieces) m.reference) []) l.rest
     ≡ map seen_label l.fn.labels.items
-    ++ map (λ m. primary (reference_spot (map seen_piece l.pieces) m.reference) []) l.missing
+    ++ map (λ m. primary (reference_spot (map seen_piece l.pieces) m.reference) []) l.references
 
 abbrev pub decreases-loop-first : goal.decreases-loop-first
 decreases-loop-first l = length l.rest

@@ -12,9 +12,9 @@ invariant-loop-token l = record {
   fewer : length l.rest.rest ≤ length l.initial.rest.rest;
   gap : (gap : List Leaf) × IsGap (map entry l.table.rows.items) gap (seen_window l.last)
       × ((left : List Leaf) → AreLeft l.rest left → AreLeft l.initial.rest
-      (gap ++ (window (seen_window l.last).name (seen_window l.last).mark ++ left)))
+      (gap ++ (window (seen_window l.last).name (seen_window l.last).bang ++ left)))
       × ((w : List Leaf) → IsBalanced w l.initial.balance → IsBalanced
-      (w ++ (gap ++ window (seen_window l.last).name (seen_window l.last).mark)) l.balance);
+      (w ++ (gap ++ window (seen_window l.last).name (seen_window l.last).bang)) l.balance);
 }
 
 abbrev pub decreases-loop-token : goal.decreases-loop-token

@@ -8,7 +8,7 @@ use Rattle.inlined_arguments.proofs.inlining.means_same_with.Goals as goal
 pub returns : goal.returns
 returns c = λ knows given same.
     let read = rw c.in-Some.is at c.in_ok-pieces.ensures in
-    clean-as c.args.string.captures (seen_slots c.args.old.values.now)
+    clean-as c.args.string.captures_variables (seen_slots c.args.old.values.now)
     (map seen_slot c.args.slots.now) (map seen_given c.args.arguments.now)
     (chars c.args.string.text.now) (map seen_piece c.args.old.pieces.now)
     (map seen_piece c.in-Some.pieces.items) given read.1

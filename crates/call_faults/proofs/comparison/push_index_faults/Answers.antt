@@ -5,8 +5,8 @@ use Rattle.call_faults.specs.CallFaults.{CallFault}
 use Rattle.call_faults.specs.Comparison.{by_index}
 use Rattle.call_faults.specs.Seen.{seen_fault, seen_entry, seen_lookup}
 use Rattle.text_faults.proofs.Collecting.{gathered-rest_after}
-use Rattle.call_faults.proofs.comparison.tell_by_index.Goals.{in-Some+in_ok-push, in_default}
-use Rattle.call_faults.proofs.comparison.tell_by_index.Goals as goal
+use Rattle.call_faults.proofs.comparison.push_index_faults.Goals.{in-Some+in_ok-push, in_default}
+use Rattle.call_faults.proofs.comparison.push_index_faults.Goals as goal
 
 pub loop-lookup-preserved : goal.loop-lookup-preserved
 loop-lookup-preserved c = elim c.match-by_index.branch [

@@ -7,7 +7,7 @@ use Rattle.inlined_arguments.specs.Conditions.{Call as FormatCall}
 use Rattle.inlined_arguments.specs.Seen.{seen_argument, seen_edit}
 use Rattle.file_inlines.specs.CallInlines.{AreEdits, Makes}
 use Rattle.file_inlines.proofs.Calling.{call-same}
-use Rattle.file_inlines.proofs.calls.inline_found.Goals as goal
+use Rattle.file_inlines.proofs.calls.inline_site.Goals as goal
 
 pub returns-in_default : goal.returns-in_default
 returns-in_default c = inl (
@@ -16,8 +16,8 @@ returns-in_default c = inl (
   ap (map seen_edit) c.unchanged_call.ensures.none,
 )
 
-pub inlined_as-requires : goal.inlined_as-requires
-inlined_as-requires c =
+pub inline_format_call-requires : goal.inline_format_call-requires
+inline_format_call-requires c =
     rw c.as_str-text.ensures.value (rw c.in-Some.is at c.in_ok-literal.ensures.short)
 
 pub returns : goal.returns
@@ -34,7 +34,7 @@ returns c =
     c.in-Some.literal.style found.arguments.now c.args.is_counted _ _ _ _
     (map seen_argument c.as_slice-list.result.now)
     (ap chars c.as_str-text.ensures.value ∙ r.text) snippet
-    c.appends_newline-appended_newline.ensures c.captures-2.ensures
+    c.appends_newline-appended_newline.ensures c.captures_variables-2.ensures
     (ap (map seen_argument) c.as_slice-list.ensures.value ∙ c.in_ok-arguments.ensures)
     c.is_format_alone.ensures c.has_const_form.ensures in
     inr (
