@@ -38,7 +38,9 @@ fn put_lines(spans: &[Range<usize>], lines: &mut [Extent])
 {
     for i in 0..spans.len() {
         if i < lines.len() {
-            lines[i] = extent(&spans[i]);
+            // (a copy of both at once would wait for the two that the parser has just written)
+            lines[i].start = spans[i].start;
+            lines[i].end = spans[i].end;
         }
     }
 }
