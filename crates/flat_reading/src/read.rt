@@ -10,7 +10,7 @@ ghost use Rattle.flat_reading.specs.Meant.{place};
 ghost use Rattle.flat_reading.specs.Stand.{IsPlain};
 
 use crate::errors::put_errors;
-use crate::flat::{NO_EXTENT, SpecBuffer, extent, flag};
+use crate::flat::{NO_EXTENT, SpecBuffer, flag};
 use crate::reading::{Reading, mode_with_escapes, offset_of};
 use crate::records::{Answer, Extent, Fault, Spec, Step};
 use crate::task::Task;
