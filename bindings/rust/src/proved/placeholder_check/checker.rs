@@ -59,5 +59,5 @@ pub fn check<'a>(
     names: &[&'a str],
 ) -> Result<Report<'a>, AllocError> {
     let uses = uses_of(pieces)?;
-    check_uses(&uses, positional, names)
+    Ok(check_uses(&uses, positional, names)?)
 }
