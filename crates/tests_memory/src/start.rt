@@ -70,7 +70,11 @@ fn taken_errors(parser: &mut Parser<'_>) -> Result<Sheet, fmt::Error> {
 }
 
 /// Adds the errors that a parser has, which are then taken out.
-pub fn put_taken_errors(rt: &impl Abort, parser: &mut Parser<'_>, out: &mut Sheet) -> Result<(), Fail> {
+pub fn put_taken_errors(
+    rt: &impl Abort,
+    parser: &mut Parser<'_>,
+    out: &mut Sheet,
+) -> Result<(), Fail> {
     let held = held(parser)?;
     let errors = taken_errors(parser)?;
     assert_eq!(rt; errors.text(), held.text());

@@ -1,5 +1,5 @@
 use Rattle.std.proofs.Common.{◌≡◌, ◌+◌, ◌++◌, ◌∙◌, ap, arith, replicate, sym}
-use Rattle.drawn_lines.proofs.WindowLemmas.{left_out_columns-none}
+use Rattle.drawn_lines.proofs.WindowLemmas.{left_out-none}
 use Rattle.drawn_lines.proofs.window.left_out_of_run.Goals as goal
 
 pub returns-else-countdown-gt0-clause-value : goal.returns-else-countdown-gt0-clause-value
@@ -8,5 +8,5 @@ returns-else-countdown-gt0-clause-value c = λ t.
     let rest = replicate c.loop-rest.rest c.args.character ++ t in
     sym (c.loop-rest.invariant.whole t)
     ∙ ap (λ k. c.loop-rest.columns + k)
-    (left_out_columns-none c.loop-rest.countdown rest none
-    ∙ sym (left_out_columns-none c.loop-rest.countdown t none))
+    (left_out-none c.loop-rest.countdown rest none
+    ∙ sym (left_out-none c.loop-rest.countdown t none))
