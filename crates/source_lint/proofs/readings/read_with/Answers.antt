@@ -14,6 +14,6 @@ returns-clause-read c =
       reads-by _ _ _ _ _ _ _ _ _ _ _
           (c.appends_newline-appended_newline.ensures ∙ ap appends_newline name)
           (c.captures_variables-captures_variables.ensures
-          ∙ ap (captures c.args.file.is_from_2021 c.args.call.now.rule) name)
+          ∙ ap (captures_variables c.args.file.is_from_2021 c.args.call.now.rule) name)
           refl refl r.2,
     )
