@@ -99,7 +99,7 @@ is_last bytes input rest r w read v c left x e =
     let from : read - byte_length w ≡ byte_length before = omega (arith, e, all) in
     let to : read ≡ byte_length before + byte_length w = omega (arith, e, all) in
     let there = text-bytes bytes (byte_length before) w v
-    (record { before = before; state_after = r; whole = c ∙ whole; from_is = refl }) in
+    (record { before = before; after = r; whole = c ∙ whole; from_is = refl }) in
     let known =
     scalars-left w r
     (scalars-right before (w ++ r) (ap scalars (sym (c ∙ whole)) ∙ scalars-chars bytes v))

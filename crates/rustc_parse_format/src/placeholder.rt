@@ -103,7 +103,8 @@ impl<'input> Reader<'input> {
         ensures value { OnOk result
             (seen_position argument.new.position ≡ position_of 0 (position self.old.rest).0) }
         ensures span { (let p = position self.old.rest in OnOk result
-            (pair argument.new.position_span ≡ place_of self.old.world (up_to self.old.rest (after_white p.1)))) }
+            (pair argument.new.position_span
+            ≡ place_of self.old.world (up_to self.old.rest (after_white p.1)))) }
         ensures format { argument.new.format ≡ argument.old.format }
         ensures state { OnOk result (self.new ≡ (let p = position self.old.rest in
             let fs = position_faults self.old.rest p.0 in

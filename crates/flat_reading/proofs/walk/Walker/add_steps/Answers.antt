@@ -60,7 +60,7 @@ loop-offset-smaller c =
     some_left r.input.now w.parser.input w.parser.rest c.loop-offset.offset
     c.loop-offset.invariant.ready.utf8 c.loop-offset.invariant.ready.input
     c.loop-offset.invariant.read c.loop-offset-test.true in
-    rw (ap (λ (s : State). length s.rest) c.in_ok-read.ensures.call.state) (goes_on w.parser more)
+    rw (ap (λ (s : State). length s.rest) c.in_ok-offset.ensures.call.state) (goes_on w.parser more)
 
 pub loop-offset-preserved : goal.loop-offset-preserved
 loop-offset-preserved c =
@@ -70,16 +70,16 @@ loop-offset-preserved c =
     let s = w.parser in
     let new = c.add_step.new.self in
     let invariant = c.loop-offset.invariant in
-    let call = c.in_ok-read.ensures.call in
-    let adds = c.in_ok-read.ensures.adds in
+    let call = c.in_ok-offset.ensures.call in
+    let adds = c.in_ok-offset.ensures.adds in
     let more =
     some_left r.input.now s.input s.rest c.loop-offset.offset invariant.ready.utf8
     invariant.ready.input invariant.read c.loop-offset-test.true in
     let fewer = goes_on s more in
-    let added = c.in_ok-read.ensures.added in
+    let added = c.in_ok-offset.ensures.added in
     record {
       ready = call.ready;
-      read = c.in_ok-read.ensures.read;
+      read = c.in_ok-offset.ensures.read;
       room = omega (arith, invariant.room, fewer, ap (λ (s : State). length s.rest) call.state);
       up_to = one_more r.wants_peeks r.input.now s0 s new.parser
           (states new.parser) c.loop-offset.count c.loop-offset.specs.count

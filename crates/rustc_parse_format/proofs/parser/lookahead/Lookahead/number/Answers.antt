@@ -2,7 +2,8 @@ use Rattle.std.proofs.Common.{◌∙◌, rules, chars, refl, sym}
 use Rattle.rustc_parse_format.specs.Characters.{digits}
 use Rattle.rustc_parse_format.proofs.Grammar.Fronts.{digits-rest_after}
 use Rattle.rustc_parse_format.proofs.parser.lookahead.Lookahead.number.Goals as goal
-use Rattle.rustc_parse_format.proofs.parser.lookahead.Lookahead.number.Goals.{then-is_over, else-is_over}
+use Rattle.rustc_parse_format.proofs.parser.lookahead.Lookahead.number.Goals.{then-is_over}
+use Rattle.rustc_parse_format.proofs.parser.lookahead.Lookahead.number.Goals.{else-is_over}
 
 pub count_before-requires : goal.count_before-requires
 count_before-requires c =
