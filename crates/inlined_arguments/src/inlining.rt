@@ -64,7 +64,8 @@ fn means_same_with<'c>(
     ensures { IfOk result (λ b. Knows old.entry.values.now
         → map seen_given arguments.now ≡ map slot_argument (map seen_slot slots.now) → IsTrue b
         → IsCleanAs string.entry.captures_variables (seen_slots old.entry.values.now)
-        (map seen_piece old.entry.pieces.now) (map seen_slot slots.now) (chars string.entry.text.now)) }
+        (map seen_piece old.entry.pieces.now) (map seen_slot slots.now)
+        (chars string.entry.text.now)) }
 {
     let Some(pieces) = read(alloc, string, arguments)? else {
         return Ok(false);
