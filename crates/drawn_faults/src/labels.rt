@@ -118,7 +118,7 @@ fn edit_line(edit: &Option<Edit<'_>>) -> usize
 
 /// Returns the line of the second label, or else the last one of the first label.
 fn other_line(label: &Label<'_>, second: &Option<Label<'_>>) -> usize
-    ensures { result ≡ other_line (seen_label label.now) (option_map seen_label second_label.now) }
+    ensures { result ≡ other_line (seen_label label.now) (option_map seen_label second.now) }
 {
     match second {
         None => label.extent.end.line,
@@ -166,11 +166,10 @@ pub fn frame_for<'a>(
 ) -> Frame<'a>
     requires source { length picture.now.source.now < 2 ^ 59 }
     requires small { label.now.extent.end.line < 2 ^ 59 }
-    requires small_second { IfSome second_label.now (λ l. l.extent.end.line < 2 ^ 59) }
+    requires small_second { IfSome second.now (λ l. l.extent.end.line < 2 ^ 59) }
     requires small_edit { IfSome edit.now (λ e. e.extent.end.line < 2 ^ 59) }
     ensures value { seen_frame result ≡ frame (seen_picture picture.now)
-        (seen_label label.now) (option_map seen_label second_label.now)
-        (option_map seen_edit edit.now) }
+        (seen_label label.now) (option_map seen_label second.now) (option_map seen_edit edit.now) }
     ensures source { length result.picture.now.source.now < 2 ^ 59 }
 {
     let last = label
