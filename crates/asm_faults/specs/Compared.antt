@@ -39,8 +39,8 @@ unused_from used i [] = []
 unused_from used i (s ∷ ss) = unused_one used i s ++ unused_from used (suc i) ss
 
 -- The indices of the operands that no lookup means and that have no register of their own.
-abbrev pub unused : List Operand → List Lookup → List ℕ
-unused ss ls = unused_from (λ i. list_any (means ss i) ls) 0 ss
+abbrev pub unused_operands : List Operand → List Lookup → List ℕ
+unused_operands ss ls = unused_from (λ i. list_any (means ss i) ls) 0 ss
 
 -- The fault of these operands that no lookup means.
 abbrev pub unused_faults : List ℕ → List AsmFault

@@ -66,9 +66,9 @@ slots_after ss [] = ss
 slots_after ss (o ∷ os) = slots_after (ss ++ slot ss o ∷ []) os
 
 -- The fault of the operand of the index i, if the first one with its name is this one.
-abbrev pub repeated : ℕ → Option ℕ → List AsmFault
-repeated i None = []
-repeated i (Some f) = RepeatedName i f ∷ []
+abbrev pub repeated_name_faults : ℕ → Option ℕ → List AsmFault
+repeated_name_faults i None = []
+repeated_name_faults i (Some f) = RepeatedName i f ∷ []
 
 -- The index i, if a test holds.
 abbrev pub index_if : Bool → ℕ → List ℕ
@@ -92,7 +92,7 @@ late_faults i (j ∷ js) = PositionalAfter i (j ∷ js) ∷ []
 -- The faults of an operand of the index i after those of ss.
 abbrev pub faults_of : List Operand → ℕ → Operand → List AsmFault
 faults_of ss i Unnamed = late_faults i (others_of ss)
-faults_of ss i (Named w) = repeated i (index_of ss w)
+faults_of ss i (Named w) = repeated_name_faults i (index_of ss w)
 faults_of ss i (Register b) = if b then RegisterName i ∷ [] else []
 
 -- The faults of the operands os, of which the first has the index i, after those of ss.

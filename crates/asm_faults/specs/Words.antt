@@ -5,7 +5,7 @@ use Rattle.std.specs.List.{slice_get}
 use Rattle.rustc_parse_format.specs.Characters.{Text}
 use Rattle.rustc_parse_format.specs.FaultIds.{fault_id}
 use Rattle.rustc_parse_format.specs.Faults.{message}
-use Rattle.text_faults.specs.Words.{quoted}
+use Rattle.text_faults.specs.Words.{quoted_name}
 use Rattle.asm_faults.specs.AsmFaults.{AsmFault, PositionalAfter, RepeatedName, RegisterName}
 use Rattle.asm_faults.specs.AsmFaults.{WrongIndex, MissingName, LongModifier, TemplateFault}
 use Rattle.asm_faults.specs.AsmFaults.{UnusedOperands}
@@ -51,10 +51,10 @@ unfoldable pub title : List Operand → AsmFault → List ℕ
 title ss (PositionalAfter i js) =
     codes "positional arguments cannot follow named arguments or explicit register arguments"
 title ss (RepeatedName i f) =
-    codes "duplicate argument named " ++ quoted (name_of (slice_get ss f))
+    codes "duplicate argument named " ++ quoted_name (name_of (slice_get ss f))
 title ss (RegisterName i) = codes "explicit register arguments cannot have names"
 title ss (WrongIndex s i n) = codes "invalid reference to argument at index " ++ decimal i
-title ss (MissingName s w) = codes "there is no argument named " ++ quoted w
+title ss (MissingName s w) = codes "there is no argument named " ++ quoted_name w
 title ss (LongModifier s) = codes "asm template modifier must be a single character"
 title ss (TemplateFault k f) = codes "invalid asm template string: " ++ (message f).description
 title ss (UnusedOperands is) = unused_title ss is

@@ -3,7 +3,7 @@
 ghost use Rattle.std.specs.Prelude.{◌≡◌, ◌+◌, ◌<◌, ◌^◌, ◌++◌, [], List, IfOk, OnOk, length, map};
 ghost use Rattle.std.specs.List.{AllByRecursion};
 ghost use Rattle.rustc_parse_format.specs.World.{hashes};
-ghost use Rattle.asm_faults.specs.Calls.{asm_faults, compared};
+ghost use Rattle.asm_faults.specs.Calls.{asm_faults, comparison_faults};
 ghost use Rattle.asm_faults.specs.Operands.{Operand as OperandValue, slots_after};
 ghost use Rattle.asm_faults.specs.Seen.{Holds, seen_fault, seen_operand, seen_template};
 ghost use Rattle.asm_faults.specs.Templates.{lookups_from, template_fault};
@@ -36,7 +36,7 @@ fn compare<'a>(
         templates.now }
     ensures { OnOk result ((ss : List OperandValue) → Holds ss operands.now
         → map seen_fault faults.new.items ≡ map seen_fault faults.old.items
-        ++ compared ss (lookups_from 0 0 (map seen_template templates.now))
+        ++ comparison_faults ss (lookups_from 0 0 (map seen_template templates.now))
         (template_fault 0 (map seen_template templates.now))) }
 {
     let mut walk = Walk {

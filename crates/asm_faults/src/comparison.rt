@@ -5,7 +5,8 @@ ghost use Rattle.std.specs.Prelude.{map, option_map};
 ghost use Rattle.std.specs.Option.{option_map_or};
 ghost use Rattle.std.specs.List.{filter_map, list_any};
 ghost use Rattle.asm_faults.specs.Operands.{Operand as OperandValue, count_unnamed, is_register};
-ghost use Rattle.asm_faults.specs.Compared.{fault_of, means, unused, unused_faults, unused_from};
+ghost use Rattle.asm_faults.specs.Compared.{fault_of, means, unused_operands, unused_faults};
+ghost use Rattle.asm_faults.specs.Compared.{unused_from};
 ghost use Rattle.asm_faults.specs.Compared.{unused_one};
 ghost use Rattle.asm_faults.specs.Seen.{Holds, seen_fault, seen_lookup, seen_operand};
 
@@ -159,7 +160,7 @@ pub(crate) fn check_unused<'a>(
 ) -> Result<(), AllocError>
     ensures { OnOk result ((ss : List OperandValue) → Holds ss operands.now
         → map seen_fault faults.new.items ≡ map seen_fault faults.old.items
-        ++ unused_faults (unused ss (map seen_lookup lookups.now))) }
+        ++ unused_faults (unused_operands ss (map seen_lookup lookups.now))) }
 {
     let marks = marks(alloc, operands, lookups)?;
     let unused_indices = unmarked_operands(alloc, &operands.slots, &marks)?;

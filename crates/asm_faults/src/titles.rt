@@ -6,7 +6,7 @@ ghost use Rattle.std.specs.Prelude.{string_bytes};
 ghost use Rattle.std.specs.List.{slice_get};
 ghost use Rattle.rustc_parse_format.specs.Faults.{message};
 ghost use Rattle.rustc_parse_format.specs.SeenFaults.{seen_fault as seen_text_fault};
-ghost use Rattle.text_faults.specs.Words.{quoted};
+ghost use Rattle.text_faults.specs.Words.{quoted_name};
 ghost use Rattle.asm_faults.specs.Seen.{seen_fault, seen_operand};
 ghost use Rattle.placeholder_check.specs.Seen.{text};
 ghost use Rattle.asm_faults.specs.Words.{asm_id, given_name, name_of, never_used, title};
@@ -55,7 +55,7 @@ pub(crate) fn put_number(out: &mut String, number: usize) -> Result<(), AllocErr
 /// Adds a text and a name between backquotes.
 fn put_named(out: &mut String, text: &str, name: &str) -> Result<(), AllocError>
     ensures { OnOk result (string_bytes out.new
-        ≡ string_bytes out.old ++ (text.now ++ quoted (chars name.now))) }
+        ≡ string_bytes out.old ++ (text.now ++ quoted_name (chars name.now))) }
 {
     out.push_str(text)?;
     out.push_str("`")?;

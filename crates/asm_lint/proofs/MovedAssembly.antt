@@ -20,7 +20,7 @@ use Rattle.format_calls.specs.Arguments.{AreArguments}
 use Rattle.format_calls.specs.Counted.{AreTrees, is_uncounted}
 use Rattle.format_calls.specs.Assembly.{asm_part, has_raw, part_of}
 use Rattle.format_calls.specs.Assembly.{template_count, token_in, value_start}
-use Rattle.format_calls.specs.Parts.{moved}
+use Rattle.format_calls.specs.Parts.{moved_call}
 use Rattle.format_calls.specs.Strings.{is_text}
 use Rattle.asm_faults.specs.Operands.{Operand}
 use Rattle.asm_faults.specs.Templates.{Template}
@@ -183,7 +183,8 @@ pub asm-same : (xs ys : List Leaf) (g : ℕ) (c : Call) (bs : List Argument) (r 
     (fs : List Finding) → Embeds xs ys g → IsPair xs (c.name + 2) c.close
     → AreArguments xs (c.name + 3) bs c.close
     → ReadsTemplates xs c bs (template_count xs bs) r fs
-    → ReadsTemplates ys (moved g c) (map (shifted g) bs) (template_count ys (map (shifted g) bs))
+    → ReadsTemplates ys (moved_call g c) (map (shifted g) bs)
+    (template_count ys (map (shifted g) bs))
     r fs
 asm-same xs ys g c bs r fs e p k h =
     let w = (pair-within xs (c.name + 2) c.close p).1 in

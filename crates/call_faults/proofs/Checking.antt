@@ -15,7 +15,7 @@ use Rattle.call_faults.specs.Arguments.{FormatArgument, kept_after, list_faults}
 use Rattle.call_faults.specs.CallFaults.{CallFault, is_warning}
 use Rattle.call_faults.specs.Calls.{call_faults, is_last}
 use Rattle.call_faults.specs.Clean.{IsClean}
-use Rattle.call_faults.specs.Comparison.{compared}
+use Rattle.call_faults.specs.Comparison.{comparison_faults}
 use Rattle.call_faults.specs.Lookups.{lookups_from}
 use Rattle.text_faults.specs.Texts.{text_fault}
 use Rattle.call_faults.proofs.Cleaning.{clean-of, warnings-clean}
@@ -29,7 +29,8 @@ none-is (Some x) e = absurd cc
 pub read-total : (captures : Bool) (gs : List FormatArgument) (fault : Option (Fault Place))
     (ps : List (Piece Place)) (all : List CallFault) → is_none fault ≡ true
     → list_any is_last (list_faults [] 0 gs) ≡ false
-    → all ≡ list_faults [] 0 gs ++ compared captures (kept_after [] 0 gs) (lookups_from 0 ps)
+    → all ≡ list_faults [] 0 gs
+    ++ comparison_faults captures (kept_after [] 0 gs) (lookups_from 0 ps)
     → all ≡ call_faults captures gs fault ps
 read-total captures gs fault ps all n l e = rw (none-is fault n, l) e
 

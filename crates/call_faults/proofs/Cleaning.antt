@@ -16,15 +16,17 @@ use Rattle.call_faults.specs.declared.faults.InvalidReference.{InvalidReference}
 use Rattle.call_faults.specs.declared.faults.Reference.{Reference}
 use Rattle.call_faults.specs.Arguments.{FormatArgument, Entry, first_of, is_late, kept_after}
 use Rattle.call_faults.specs.Arguments.{list_faults}
-use Rattle.call_faults.specs.Arguments.{repeated, with_given}
+use Rattle.call_faults.specs.Arguments.{repeated_name_faults, with_given}
 use Rattle.call_faults.specs.CallFaults.{CallFault, is_warning, PositionalAfterNamed, RepeatedName}
 use Rattle.call_faults.specs.CallFaults.{TextFault, MissingName, UnknownTrait, MissingArguments}
 use Rattle.call_faults.specs.CallFaults.{UnusedArguments, RedundantArguments, NameUsedByIndex}
 use Rattle.call_faults.specs.Calls.{call_faults, is_last, string_faults}
 use Rattle.call_faults.specs.Clean.{IsClean, IsMet, IsUsed, HasTrait}
-use Rattle.call_faults.specs.Comparison.{by_index, compared, indices, is_missing_name, is_redundant}
-use Rattle.call_faults.specs.Comparison.{left_faults, lookup_faults, missing, missing_faults}
-use Rattle.call_faults.specs.Comparison.{named_use, names, unused, unused_faults}
+use Rattle.call_faults.specs.Comparison.{by_index, comparison_faults, indices, is_missing_name}
+use Rattle.call_faults.specs.Comparison.{is_redundant}
+use Rattle.call_faults.specs.Comparison.{left_faults, lookup_faults, invalid_references}
+use Rattle.call_faults.specs.Comparison.{missing_faults}
+use Rattle.call_faults.specs.Comparison.{named_use, names, unused_arguments, unused_faults}
 use Rattle.call_faults.specs.Lookups.{Lookup, NoTrait, Refer, lookups_from}
 use Rattle.call_faults.proofs.Empty.{all-join, all-left, all-right}
 use Rattle.call_faults.proofs.Lists.{InOrder, none-order, numbered, order-none, order-pairs}
@@ -50,14 +52,14 @@ serious-choice : (b : Bool) (xs ys : List CallFault) → Serious xs → Serious 
 serious-choice true xs ys s t = s
 serious-choice false xs ys s t = t
 
-repeated-serious : (i : ℕ) (o : Option ℕ) → Serious (repeated i o)
+repeated-serious : (i : ℕ) (o : Option ℕ) → Serious (repeated_name_faults i o)
 repeated-serious i None = tt
 repeated-serious i (Some f) = (refl, tt)
 
 list-serious : (ks : List Entry) (i : ℕ) (gs : List FormatArgument) → Serious (list_faults ks i gs)
 list-serious ks i [] = tt
 list-serious ks i (g ∷ gs) = serious-choice (is_late ks g) _ _ (refl, tt)
-    (all-join _ (repeated i (first_of ks g)) _ (repeated-serious i (first_of ks g))
+    (all-join _ (repeated_name_faults i (first_of ks g)) _ (repeated-serious i (first_of ks g))
     (list-serious (with_given ks i g) (suc i) gs))
 
 lookup-serious : (captures : Bool) (known : List Text) (ls : List Lookup)
@@ -116,15 +118,15 @@ no-index (k ∷ ks) e = absurd (cc e)
 -- nothing but warnings between arguments and lookups
 pub record Quiet (captures : Bool) (ks : List Entry) (ls : List Lookup) : Type 0 where
   pub looked : lookup_faults captures (names ks) ls ≡ []
-  pub lacked : missing ks ls ≡ []
-  pub left : unused ks ls ≡ []
+  pub lacked : invalid_references ks ls ≡ []
+  pub left : unused_arguments ks ls ≡ []
 
 quiet-of : (captures : Bool) (ks : List Entry) (ls : List Lookup)
-    → Warnings (compared captures ks ls) → Quiet captures ks ls
+    → Warnings (comparison_faults captures ks ls) → Quiet captures ks ls
 quiet-of captures ks ls w =
     let found = lookup_faults captures (names ks) ls in
-    let lacked = missing ks ls in
-    let left = unused ks ls in
+    let lacked = invalid_references ks ls in
+    let left = unused_arguments ks ls in
     let outcome = left_faults (indices (filter (is_redundant ls) left)) (indices left) in
     let three = all-left _ ((found ++ missing_faults lacked) ++ outcome) _ w in
     let two = all-left _ (found ++ missing_faults lacked) outcome three in
@@ -139,7 +141,7 @@ quiet-of captures ks ls w =
     }
 
 pub quiet-compared : (captures : Bool) (ks : List Entry) (ls : List Lookup) → Quiet captures ks ls
-    → compared captures ks ls ≡ filter_map (by_index ks) ls
+    → comparison_faults captures ks ls ≡ filter_map (by_index ks) ls
 quiet-compared captures ks ls q = rw (q.looked, q.lacked, q.left) refl
 
 -- the parts of a clean call

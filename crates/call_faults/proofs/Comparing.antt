@@ -23,9 +23,12 @@ use Rattle.call_faults.specs.Arguments.{FormatArgument, Entry, first_of, has_nam
 use Rattle.call_faults.specs.Arguments.{kept_after}
 use Rattle.call_faults.specs.Arguments.{with_given}
 use Rattle.call_faults.specs.CallFaults.{CallFault, MissingName}
-use Rattle.call_faults.specs.Comparison.{by_index, compared, indices, is_missing_name, is_redundant}
-use Rattle.call_faults.specs.Comparison.{is_position, left_faults, lookup_faults, meant, means}
-use Rattle.call_faults.specs.Comparison.{is_settled, missing, missing_faults, names, unused}
+use Rattle.call_faults.specs.Comparison.{by_index, comparison_faults, indices, is_missing_name}
+use Rattle.call_faults.specs.Comparison.{is_redundant}
+use Rattle.call_faults.specs.Comparison.{is_position, left_faults, lookup_faults, meant_index}
+use Rattle.call_faults.specs.Comparison.{means}
+use Rattle.call_faults.specs.Comparison.{is_settled, invalid_references, missing_faults, names}
+use Rattle.call_faults.specs.Comparison.{unused_arguments}
 use Rattle.call_faults.specs.Lookups.{Lookup, NoTrait, Refer}
 use Rattle.text_faults.proofs.Collecting.{list_any-next, map-next}
 
@@ -123,7 +126,7 @@ redundant-is ls n (Some w) found h = ap (λ b. is_none n && b) (h w)
 -- the arguments that are not marked
 pub left-is : (marks : List Bool) (ks : List Entry) (ls : List Lookup)
     → ((i : ℕ) → get_or marks i false ≡ list_any (means ks i) ls)
-    → filter (λ k. not (get_or marks k.index false)) ks ≡ unused ks ls
+    → filter (λ k. not (get_or marks k.index false)) ks ≡ unused_arguments ks ls
 left-is marks ks ls h = filter_agree (λ (k : Entry). not (get_or marks k.index false))
     (λ (k : Entry). not (list_any (means ks k.index) ls)) (λ k. ap not (h k.index)) ks
 
@@ -153,11 +156,12 @@ holds-knows ks a h = record { same = λ w. ap is_some (h.names w) ∙ some-index
 -- what was found, part by part
 pub compared-parts : (captures : Bool) (ks : List Entry) (ls : List Lookup) (found : List CallFault)
     (lacked : List InvalidReference) (left : List Entry) (b : Bool)
-    → found ≡ lookup_faults captures (names ks) ls → lacked ≡ missing ks ls → left ≡ unused ks ls
+    → found ≡ lookup_faults captures (names ks) ls → lacked ≡ invalid_references ks ls → left
+    ≡ unused_arguments ks ls
     → is_settled found lacked left ≡ b
     → found ++ missing_faults lacked ++ left_faults (indices (filter (is_redundant ls) left))
     (indices left)
-    ++ cond b (filter_map (by_index ks) ls) [] ≡ compared captures ks ls
+    ++ cond b (filter_map (by_index ks) ls) [] ≡ comparison_faults captures ks ls
 compared-parts captures ks ls found lacked left b e f g h =
     rw (← e, ← f, ← g, h) refl
 

@@ -16,7 +16,8 @@ use Rattle.std.proofs.lemmas.Slice.Eq.{bytes_eq-Decides}
 use Rattle.rustc_parse_format.specs.Characters.{Text}
 use Rattle.call_faults.specs.Arguments.{FormatArgument, Entry, MayPrecede, first_of, has_name}
 use Rattle.call_faults.specs.Arguments.{index_of}
-use Rattle.call_faults.specs.Arguments.{is_late, kept_after, list_faults, repeated, with_given}
+use Rattle.call_faults.specs.Arguments.{is_late, kept_after, list_faults, repeated_name_faults}
+use Rattle.call_faults.specs.Arguments.{with_given}
 use Rattle.call_faults.specs.CallFaults.{CallFault, PositionalAfterNamed, RepeatedName}
 use Rattle.call_faults.proofs.Empty.{else-nil, left-nil, right-nil}
 
@@ -118,7 +119,7 @@ numbered i (g ∷ gs) = record { index = i; argument = g } ∷ numbered (suc i) 
 abbrev pub After : List Entry → List FormatArgument → Type 0
 After ks gs = AllByRecursion (λ g. Precede ks g.name) gs
 
-no_repeat : (i : ℕ) (o : Option ℕ) → repeated i o ≡ [] → o ≡ None
+no_repeat : (i : ℕ) (o : Option ℕ) → repeated_name_faults i o ≡ [] → o ≡ None
 no_repeat i None e = refl
 no_repeat i (Some f) e = absurd (cc e)
 

@@ -17,7 +17,7 @@ use Rattle.call_faults.specs.declared.faults.Part.TheVariants.{Position, Precisi
 use Rattle.call_faults.specs.declared.faults.Reference.{Reference}
 use Rattle.call_faults.specs.CallFaults.{CallFault, MissingName, UnknownTrait}
 use Rattle.call_faults.specs.Clean.{HasTrait}
-use Rattle.call_faults.specs.Comparison.{beyond, lookup_faults}
+use Rattle.call_faults.specs.Comparison.{invalid_reference, lookup_faults}
 use Rattle.call_faults.specs.Lookups.{Lookup, NoTrait, Refer, argument_lookups, is_known}
 use Rattle.call_faults.specs.Lookups.{lookups_from, refer}
 use Rattle.call_faults.proofs.Empty.{else-nil}
@@ -218,20 +218,21 @@ option-none true r rs e f = absurd cc
 option-none false r rs e f = f
 
 -- no index is too large
-pub far-of : (count : ℕ) (ls : List Lookup) → filter_map (beyond count) ls ≡ []
+pub far-of : (count : ℕ) (ls : List Lookup) → filter_map (invalid_reference count) ls ≡ []
     → list_any (by_use (is_far count)) ls ≡ false
 far-of count [] e = refl
 far-of count (NoTrait k t ∷ ls) e = far-of count ls e
 far-of count (Refer r (ByName w) ∷ ls) e = far-of count ls e
 far-of count (Refer r (ByIndex n) ∷ ls) e =
-    let both = no-option (nat_le count n) _ (filter_map (beyond count) ls) e in
+    let both = no-option (nat_le count n) _ (filter_map (invalid_reference count) ls) e in
     or_from (nat_le count n) _ both.0 (far-of count ls both.1)
 
 pub of-far : (count : ℕ) (ls : List Lookup) → list_any (by_use (is_far count)) ls ≡ false
-    → filter_map (beyond count) ls ≡ []
+    → filter_map (invalid_reference count) ls ≡ []
 of-far count [] e = refl
 of-far count (NoTrait k t ∷ ls) e = of-far count ls e
 of-far count (Refer r (ByName w) ∷ ls) e = of-far count ls e
 of-far count (Refer r (ByIndex n) ∷ ls) e =
     let both = or_parts (nat_le count n) (list_any (by_use (is_far count)) ls) e in
-    option-none (nat_le count n) _ (filter_map (beyond count) ls) both.0 (of-far count ls both.1)
+    option-none (nat_le count n) _ (filter_map (invalid_reference count) ls) both.0
+        (of-far count ls both.1)

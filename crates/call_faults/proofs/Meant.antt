@@ -19,7 +19,7 @@ use Rattle.rustc_parse_format.specs.Characters.{Text}
 use Rattle.placeholder_check.specs.Uses.{Use, ByIndex, ByName}
 use Rattle.call_faults.specs.Arguments.{FormatArgument, Entry, MayPrecede, has_name, index_of}
 use Rattle.call_faults.specs.Clean.{IsMet, IsUsed}
-use Rattle.call_faults.specs.Comparison.{means, meant, names, unused}
+use Rattle.call_faults.specs.Comparison.{means, meant_index, names, unused_arguments}
 use Rattle.call_faults.specs.Lookups.{Lookup, NoTrait, Refer}
 use Rattle.call_faults.proofs.Empty.{else-nil, here, none-passes, passes, there}
 use Rattle.call_faults.proofs.Lists.{InOrder, numbered, skipped}
@@ -122,7 +122,7 @@ by-name m (suc i) (h ∷ gs) g w o e =
     (rw s (by-name (suc m) i gs g w o.1 e)) refl
 
 pub meant-use : (i : ℕ) (gs : List FormatArgument) (g : FormatArgument) (u : Use) → InOrder gs
-    → slice_get gs i ≡ Some g → is_index i (meant (numbered 0 gs) u) ≡ is_use i g u
+    → slice_get gs i ≡ Some g → is_index i (meant_index (numbered 0 gs) u) ≡ is_use i g u
 meant-use i gs g (ByIndex n) o e =
     ap (is_index i) (index-at 0 n gs (slice_get gs n) refl)
     ∙ by-index i n gs g (slice_get gs n) e refl
@@ -230,7 +230,8 @@ numbered-all P m (x ∷ gs) h = (
 
 -- where none is left, each argument is used
 pub all-used : (gs : List FormatArgument) (ls : List Lookup) (us : List Use) → InOrder gs
-    → ((q : Use → Bool) → list_any (by_use q) ls ≡ list_any q us) → unused (numbered 0 gs) ls ≡ []
+    → ((q : Use → Bool) → list_any (by_use q) ls ≡ list_any q us)
+    → unused_arguments (numbered 0 gs) ls ≡ []
     → (i : ℕ) (g : FormatArgument) → slice_get gs i ≡ Some g → IsUsed us i g
 all-used gs ls us o same e i g f =
     let left = filter-nil (λ (k : Entry). not (list_any (means (numbered 0 gs) k.index) ls))
@@ -244,7 +245,7 @@ all-used gs ls us o same e i g f =
 pub used-all : (gs : List FormatArgument) (ls : List Lookup) (us : List Use) → InOrder gs
     → ((q : Use → Bool) → list_any (by_use q) ls ≡ list_any q us)
     → ((i : ℕ) (g : FormatArgument) → slice_get gs i ≡ Some g → IsUsed us i g)
-    → unused (numbered 0 gs) ls ≡ []
+    → unused_arguments (numbered 0 gs) ls ≡ []
 used-all gs ls us o same h =
     nil-filter (λ (k : Entry). not (list_any (means (numbered 0 gs) k.index) ls)) (numbered 0 gs)
     (numbered-all (λ k. not (list_any (means (numbered 0 gs) k.index) ls) ≡ false) 0 gs

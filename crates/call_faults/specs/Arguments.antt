@@ -58,13 +58,13 @@ abbrev pub named_of : List Entry → List ℕ
 named_of ks = map (λ k. k.index) (filter (λ k. is_some k.argument.name) ks)
 
 -- The fault of the argument with the index i, if the first argument with its name is this one.
-abbrev pub repeated : ℕ → Option ℕ → List CallFault
-repeated i None = []
-repeated i (Some f) = RepeatedName i f ∷ []
+abbrev pub repeated_name_faults : ℕ → Option ℕ → List CallFault
+repeated_name_faults i None = []
+repeated_name_faults i (Some f) = RepeatedName i f ∷ []
 
 -- The faults of the list of arguments, where ks are those that count of the first i ones, and
 -- gs are the others. The first one without a name after one with a name ends it.
 abbrev pub list_faults : List Entry → ℕ → List FormatArgument → List CallFault
 list_faults ks i [] = []
 list_faults ks i (g ∷ gs) = if is_late ks g then PositionalAfterNamed i (named_of ks) ∷ []
-    else repeated i (first_of ks g) ++ list_faults (with_given ks i g) (suc i) gs
+    else repeated_name_faults i (first_of ks g) ++ list_faults (with_given ks i g) (suc i) gs

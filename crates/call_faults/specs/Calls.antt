@@ -9,7 +9,7 @@ use Rattle.call_faults.specs.Arguments.{FormatArgument, list_faults, kept_after}
 use Rattle.call_faults.specs.CallFaults.{CallFault, PositionalAfterNamed, RepeatedName, TextFault}
 use Rattle.call_faults.specs.CallFaults.{MissingName, UnknownTrait, MissingArguments}
 use Rattle.call_faults.specs.CallFaults.{UnusedArguments, RedundantArguments, NameUsedByIndex}
-use Rattle.call_faults.specs.Comparison.{compared, indices}
+use Rattle.call_faults.specs.Comparison.{comparison_faults, indices}
 use Rattle.call_faults.specs.Lookups.{lookups_from}
 
 -- The fault ends the work before the string is read.
@@ -35,7 +35,8 @@ kept_indices gs = if list_any is_last (list_faults [] 0 gs) then []
 abbrev pub string_faults : Bool → List FormatArgument → Option (Fault Place) → List (Piece Place)
     → List CallFault
 string_faults captures gs (Some f) ps = TextFault f ∷ []
-string_faults captures gs None ps = compared captures (kept_after [] 0 gs) (lookups_from 0 ps)
+string_faults captures gs None ps =
+    comparison_faults captures (kept_after [] 0 gs) (lookups_from 0 ps)
 
 -- The faults of the list of arguments gs, and then of the string.
 abbrev pub call_faults : Bool → List FormatArgument → Option (Fault Place) → List (Piece Place)

@@ -19,13 +19,13 @@ use Rattle.call_faults.specs.Lookups.{Lookup, Refer, NoTrait}
 
 -- The index of the argument that is meant by a use, if there is one. A number counts through all
 -- arguments that count, those with a name too.
-abbrev pub meant : List Entry → Use → Option ℕ
-meant ks (ByIndex n) = option_map (λ k. k.index) (slice_get ks n)
-meant ks (ByName w) = index_of ks w
+abbrev pub meant_index : List Entry → Use → Option ℕ
+meant_index ks (ByIndex n) = option_map (λ k. k.index) (slice_get ks n)
+meant_index ks (ByName w) = index_of ks w
 
 -- The lookup means the argument of this index.
 abbrev pub means : List Entry → ℕ → Lookup → Bool
-means ks i (Refer r u) = option_map_or (λ j. i == j) (meant ks u) false
+means ks i (Refer r u) = option_map_or (λ j. i == j) (meant_index ks u) false
 means ks i (NoTrait k t) = false
 
 -- Traits that do not exist, and names that are neither among these nor captured. A name is reported
@@ -44,19 +44,19 @@ abbrev pub names : List Entry → List Text
 names ks = filter_map (λ k. k.argument.name) ks
 
 -- The reference by an index that is at least this count, if the lookup is one.
-abbrev pub beyond : ℕ → Lookup → Option InvalidReference
-beyond count (Refer r (ByIndex n)) = if nat_le count n
+abbrev pub invalid_reference : ℕ → Lookup → Option InvalidReference
+invalid_reference count (Refer r (ByIndex n)) = if nat_le count n
     then Some (record { reference = r; index = n }) else None
-beyond count (Refer r (ByName w)) = None
-beyond count (NoTrait k t) = None
+invalid_reference count (Refer r (ByName w)) = None
+invalid_reference count (NoTrait k t) = None
 
 -- The references by an index that is too large for these arguments.
-abbrev pub missing : List Entry → List Lookup → List InvalidReference
-missing ks ls = filter_map (beyond (length ks)) ls
+abbrev pub invalid_references : List Entry → List Lookup → List InvalidReference
+invalid_references ks ls = filter_map (invalid_reference (length ks)) ls
 
 -- The arguments that no lookup means.
-abbrev pub unused : List Entry → List Lookup → List Entry
-unused ks ls = filter (λ k. not (list_any (means ks k.index) ls)) ks
+abbrev pub unused_arguments : List Entry → List Lookup → List Entry
+unused_arguments ks ls = filter (λ k. not (list_any (means ks k.index) ls)) ks
 
 -- The part is a position.
 abbrev pub is_at_position : Part → Bool
@@ -124,11 +124,11 @@ is_settled found lacked left =
 
 -- The faults between the arguments ks that count and these lookups. References by index to
 -- arguments with names are reported only if no name and no argument is missing or unused.
-abbrev pub compared : Bool → List Entry → List Lookup → List CallFault
-compared captures ks ls =
+abbrev pub comparison_faults : Bool → List Entry → List Lookup → List CallFault
+comparison_faults captures ks ls =
     let found = lookup_faults captures (names ks) ls in
-    let lacked = missing ks ls in
-    let left = unused ks ls in
+    let lacked = invalid_references ks ls in
+    let left = unused_arguments ks ls in
     found ++ missing_faults lacked
     ++ left_faults (indices (filter (is_redundant ls) left)) (indices left)
     ++ (if is_settled found lacked left then filter_map (by_index ks) ls else [])

@@ -19,7 +19,7 @@ use Rattle.call_faults.specs.Spots.{rest_after, named_spot, reference_spot}
 use Rattle.text_faults.specs.Spots.{secondary}
 use Rattle.call_faults.specs.Spots.{spot_of, type_spot, use_spot}
 use Rattle.call_faults.specs.Words.{has_number, name_of, never_used}
-use Rattle.text_faults.specs.Words.{quoted}
+use Rattle.text_faults.specs.Words.{quoted_name}
 use Rattle.call_faults.specs.declared.faults.Reference.{Reference}
 use Rattle.text_faults.specs.declared.spots.Spot.TheVariants.{Argument as WholeArgument}
 use Rattle.text_faults.specs.declared.spots.Spot.TheVariants.{Name as NameOf}
@@ -195,7 +195,7 @@ by_index_text =
 -- The label of the use by index of an argument with this name.
 unfoldable pub use_text : Text → List ℕ
 use_text w = codes "this formatting argument uses named argument "
-    ++ (quoted w ++ codes " by position")
+    ++ (quoted_name w ++ codes " by position")
 
 -- The labels of a use by index of an argument with a name.
 abbrev pub by_index_labels : Call → Reference → ℕ → List Label

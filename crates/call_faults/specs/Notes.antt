@@ -18,10 +18,10 @@ use Rattle.call_faults.specs.CallFaults.{CallFault, PositionalAfterNamed, Repeat
 use Rattle.call_faults.specs.CallFaults.{MissingName, UnknownTrait, MissingArguments}
 use Rattle.call_faults.specs.CallFaults.{UnusedArguments, RedundantArguments, NameUsedByIndex}
 use Rattle.call_faults.specs.Labels.{Call, have_names, is_last, star_of}
-use Rattle.call_faults.specs.Spots.{Edit, Help, Note, edit, index_spot, plain}
+use Rattle.call_faults.specs.Spots.{Edit, Help, Note, edit, index_spot, plain_note}
 use Rattle.text_faults.specs.Spots.{bytes_at}
 use Rattle.call_faults.specs.Words.{has_number, name_of, plural}
-use Rattle.text_faults.specs.Words.{quoted}
+use Rattle.text_faults.specs.Words.{quoted_name}
 use Rattle.call_faults.specs.declared.faults.Part.{Part}
 use Rattle.call_faults.specs.declared.faults.Part.TheVariants.{Position as PositionPart}
 use Rattle.call_faults.specs.declared.faults.Part.TheVariants.{Precision as PrecisionPart}
@@ -35,12 +35,12 @@ use Rattle.text_faults.specs.declared.spots.Spot.TheVariants.{Call as WholeCall}
 -- The note of an error of the string.
 abbrev pub text_notes : Option (List ℕ) → List Note
 text_notes None = []
-text_notes (Some t) = plain t ∷ []
+text_notes (Some t) = plain_note t ∷ []
 
 -- The first note of a name that no argument has.
 unfoldable pub capture_text : Text → List ℕ
 capture_text w = codes "did you intend to capture a variable "
-    ++ (quoted w ++ codes " from the surrounding scope?")
+    ++ (quoted_name w ++ codes " from the surrounding scope?")
 
 -- The note of a name, where no variable is captured.
 unfoldable pub ambiguity_text : List ℕ
@@ -93,7 +93,7 @@ has_star (NextArgument a) = is_some (star_of a.format.precision)
 
 -- This note, if the test holds.
 abbrev pub note_if : Bool → List ℕ → List Note
-note_if b t = if b then plain t ∷ [] else []
+note_if b t = if b then plain_note t ∷ [] else []
 
 -- The note on how arguments are counted.
 unfoldable pub count_note : List ℕ
@@ -220,8 +220,8 @@ by_index_help c r i = record {
 }
 
 -- The help that puts a text in the place of another one.
-abbrev pub replacing : Spot → List ℕ → Help
-replacing s t = record {
+abbrev pub replacement : Spot → List ℕ → Help
+replacement s t = record {
   text = codes "did you mean `" ++ (t ++ codes "`?");
   edits = edit s t ∷ [];
 }
@@ -263,25 +263,25 @@ debug_help (i ∷ []) = Some (record {
 debug_help (i ∷ j ∷ is) = None
 
 -- The help for an error of the string at this place, with this suggestion.
-abbrev pub suggested : Call → Place → Suggestion Place → Option Help
-suggested c s Nothing = None
-suggested c s UsePositional = Some (positional_help c.arguments s)
-suggested c s (RemoveRawIdent r) = None
-suggested c s (ReorderFormatParameter r t) = Some (replacing (bytes_at r) t)
-suggested c s (AddMissingColon r) = None
-suggested c s UseRustDebugPrintingMacro = debug_help c.kept
+abbrev pub suggestion_help : Call → Place → Suggestion Place → Option Help
+suggestion_help c s Nothing = None
+suggestion_help c s UsePositional = Some (positional_help c.arguments s)
+suggestion_help c s (RemoveRawIdent r) = None
+suggestion_help c s (ReorderFormatParameter r t) = Some (replacement (bytes_at r) t)
+suggestion_help c s (AddMissingColon r) = None
+suggestion_help c s UseRustDebugPrintingMacro = debug_help c.kept
 
 -- The help for an error of the string, if it is no label.
 abbrev pub text_help : Call → Message Place → Option Help
-text_help c m = suggested c m.span m.suggestion
+text_help c m = suggestion_help c m.span m.suggestion
 
 -- The notes of a fault.
 unfoldable pub notes : Call → CallFault → List Note
 notes c (PositionalAfterNamed i ns) = []
 notes c (RepeatedName i f) = []
 notes c (TextFault f) = text_notes (message f).note
-notes c (MissingName r w) = plain (capture_text w) ∷ plain ambiguity_text ∷ []
-notes c (UnknownTrait k t) = plain traits_text ∷ []
+notes c (MissingName r w) = plain_note (capture_text w) ∷ plain_note ambiguity_text ∷ []
+notes c (UnknownTrait k t) = plain_note traits_text ∷ []
 notes c (MissingArguments ms) = missing_notes c.pieces
 notes c (UnusedArguments is) = unused_notes c (length is)
 notes c (RedundantArguments is) = redundant_note c is ∷ []

@@ -19,8 +19,8 @@ pub record Note : Type 0 where
   pub spots : List Spot
 
 -- A note that shows no place.
-abbrev pub plain : List ℕ → Note
-plain t = record { text = t; spots = [] }
+abbrev pub plain_note : List ℕ → Note
+plain_note t = record { text = t; spots = [] }
 
 -- An edit of a help: where the text is that it replaces, and the new text, which may have the
 -- source of a place in it, between two others.

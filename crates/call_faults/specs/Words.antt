@@ -8,7 +8,7 @@ use Rattle.rustc_parse_format.specs.FaultIds.{fault_id}
 use Rattle.rustc_parse_format.specs.Faults.{message}
 use Rattle.rustc_parse_format.specs.Types.{Argument, Count, Implied, Index, Implicit, Is, Lit, Name}
 use Rattle.rustc_parse_format.specs.Types.{Named, NextArgument, Param, Piece, Position, Star}
-use Rattle.text_faults.specs.Words.{quoted}
+use Rattle.text_faults.specs.Words.{quoted_name}
 use Rattle.call_faults.specs.Arguments.{FormatArgument}
 use Rattle.call_faults.specs.CallFaults.{CallFault, PositionalAfterNamed, RepeatedName, TextFault}
 use Rattle.call_faults.specs.CallFaults.{MissingName, UnknownTrait, MissingArguments}
@@ -63,9 +63,9 @@ separator (n ∷ []) = codes " and "
 separator (m ∷ n ∷ ns) = codes ", "
 
 -- Numbers one after the other.
-abbrev pub listed : List ℕ → List ℕ
-listed [] = []
-listed (n ∷ ns) = decimal n ++ (separator ns ++ listed ns)
+abbrev pub number_list : List ℕ → List ℕ
+number_list [] = []
+number_list (n ∷ ns) = decimal n ++ (separator ns ++ number_list ns)
 
 -- The name of an argument, or nothing if it has none.
 abbrev pub name_of : Option FormatArgument → Text
@@ -81,7 +81,7 @@ is_named (Some g) = is_some g.name
 abbrev pub numbers_title : List ℕ → ℕ → List ℕ
 numbers_title ns count = codes "invalid reference to positional "
     ++ (plural (codes "argument") (length ns)
-    ++ (codes " " ++ (listed ns ++ (codes " (" ++ (count_text count ++ codes ")")))))
+    ++ (codes " " ++ (number_list ns ++ (codes " (" ++ (count_text count ++ codes ")")))))
 
 -- The title of too few arguments, where `count` are given and the placeholders take this many, one
 -- after the other.
@@ -113,13 +113,13 @@ pub record TitleParts (A : Type 0) : Type 0 where
 unfoldable pub title : {A : Type 0} → TitleParts A → CallFault → List ℕ
 title c (PositionalAfterNamed i ns) = codes "positional arguments cannot follow named arguments"
 title c (RepeatedName i f) =
-    codes "duplicate argument named " ++ quoted (name_of (slice_get c.arguments i))
+    codes "duplicate argument named " ++ quoted_name (name_of (slice_get c.arguments i))
 title c (TextFault f) = codes "invalid format string: " ++ (message f).description
-title c (MissingName r w) = codes "there is no argument named " ++ quoted w
-title c (UnknownTrait k t) = codes "unknown format trait " ++ quoted t
+title c (MissingName r w) = codes "there is no argument named " ++ quoted_name w
+title c (UnknownTrait k t) = codes "unknown format trait " ++ quoted_name t
 title c (MissingArguments ms) = if list_any has_number c.pieces then numbers_title c.numbers c.count
     else few_title c.total c.count
 title c (UnusedArguments is) = unused_title c.arguments is
 title c (RedundantArguments is) = plural (codes "redundant argument") (length is)
 title c (NameUsedByIndex r i) = codes "named argument "
-    ++ (quoted (name_of (slice_get c.arguments i)) ++ codes " is not used by name")
+    ++ (quoted_name (name_of (slice_get c.arguments i)) ++ codes " is not used by name")

@@ -6,7 +6,8 @@ ghost use Rattle.std.specs.List.{list_any};
 ghost use Rattle.std.specs.Str.{bytes_eq};
 ghost use Rattle.rustc_parse_format.specs.Characters.{Text};
 ghost use Rattle.call_faults.specs.Arguments.{Entry as EntryValue, first_of, is_late, kept_after};
-ghost use Rattle.call_faults.specs.Arguments.{list_faults, named_of, repeated, with_given};
+ghost use Rattle.call_faults.specs.Arguments.{list_faults, named_of, repeated_name_faults};
+ghost use Rattle.call_faults.specs.Arguments.{with_given};
 ghost use Rattle.call_faults.specs.Calls.{is_last};
 ghost use Rattle.call_faults.specs.Seen.{Holds, found_in, seen_fault, seen_given, seen_entry};
 
@@ -116,7 +117,7 @@ fn add<'a>(
         → Holds (with_given ks index (seen_given argument.entry)) arguments.new) }
     ensures outcome { OnOk result ((ks : List EntryValue) → Holds ks arguments.old
         → map seen_fault faults.new.items ≡ map seen_fault faults.old.items
-        ++ repeated index (first_of ks (seen_given argument.entry))) }
+        ++ repeated_name_faults index (first_of ks (seen_given argument.entry))) }
 {
     match first_of(arguments, &argument) {
         Some(first_index) => faults.push(CallFault::RepeatedName { index, first_index })?,

@@ -10,7 +10,8 @@ ghost use Rattle.std.specs.Str.{bytes_eq};
 ghost use Rattle.rustc_parse_format.specs.Characters.{Text};
 ghost use Rattle.call_faults.specs.Arguments.{Entry as EntryValue};
 ghost use Rattle.call_faults.specs.CallFaults.{CallFault as FaultValue};
-ghost use Rattle.call_faults.specs.Comparison.{beyond, by_index, compared, indices};
+ghost use Rattle.call_faults.specs.Comparison.{invalid_reference, by_index, comparison_faults};
+ghost use Rattle.call_faults.specs.Comparison.{indices};
 ghost use Rattle.call_faults.specs.Comparison.{is_missing_name, is_position, is_redundant};
 ghost use Rattle.call_faults.specs.Comparison.{left_faults};
 ghost use Rattle.call_faults.specs.Comparison.{is_settled, lookup_faults, means, missing_faults};
@@ -62,7 +63,7 @@ fn marks<'a>(
 
 /// Returns the reference of a lookup, if it is one by an index that is at least `count`.
 fn reference_beyond(count: usize, lookup: &Lookup<'_>) -> Option<InvalidReference>
-    ensures { result ≡ beyond count (seen_lookup lookup.now) }
+    ensures { result ≡ invalid_reference count (seen_lookup lookup.now) }
 {
     match *lookup {
         Lookup::Refer(reference, ArgRef::Index(index)) if index >= count => {
@@ -80,7 +81,7 @@ fn references_from(
     lookups: &[Lookup<'_>],
 ) -> Result<Vec<InvalidReference>, AllocError>
     ensures { IfOk result (λ v. v.items
-        ≡ filter_map (beyond count) (map seen_lookup lookups.now)) }
+        ≡ filter_map (invalid_reference count) (map seen_lookup lookups.now)) }
 {
     let mut references = Vec::new(alloc);
     for lookup in lookups {
@@ -330,7 +331,7 @@ pub(crate) fn compare<'a>(
     ensures { OnOk result ((ks : List EntryValue) → Holds ks arguments.old
         → AllByRecursion (λ k. k.index < count) ks
         → map seen_fault faults.new.items ≡ map seen_fault faults.old.items
-        ++ compared captures_variables ks (map seen_lookup lookups.now)) }
+        ++ comparison_faults captures_variables ks (map seen_lookup lookups.now)) }
 {
     let marks = marks(alloc, arguments, count, lookups)?;
     let rest = unmarked_arguments(alloc, &arguments.list, &marks)?;

@@ -8,7 +8,7 @@ ghost use Rattle.rustc_parse_format.specs.SeenFaults.{seen_fault as seen_text_fa
 ghost use Rattle.call_faults.specs.Notes.{added_spot, after_name, by_index_help, debug_help};
 ghost use Rattle.call_faults.specs.Notes.{name_in, placeholders, positional_help};
 ghost use Rattle.call_faults.specs.Notes.{redundant_help, removal, removed_spot};
-ghost use Rattle.call_faults.specs.Notes.{replacing, text_help};
+ghost use Rattle.call_faults.specs.Notes.{replacement, text_help};
 ghost use Rattle.call_faults.specs.Notes.{unnamed_count, unused_help};
 ghost use Rattle.call_faults.specs.Seen.{seen_call, seen_edit, seen_given, seen_help};
 ghost use Rattle.call_faults.specs.Spots.{edit};
@@ -173,7 +173,7 @@ fn by_index_help(
 
 /// Returns the help that replaces a text. Returns `Err` if an allocation fails.
 fn replacement_help(alloc: Global, spot: Spot, new: &str) -> Result<CallHelp, AllocError>
-    ensures { IfOk result (λ h. seen_help h ≡ replacing spot new.now) }
+    ensures { IfOk result (λ h. seen_help h ≡ replacement spot new.now) }
 {
     let mut text = String::from_str(alloc, "did you mean `")?;
     text.push_str(new)?;

@@ -19,7 +19,7 @@ ghost use Rattle.call_faults.specs.Notes.{redundant_text, specifiers, text_notes
 ghost use Rattle.call_faults.specs.Notes.{unused_notes, variable_of};
 ghost use Rattle.placeholder_check.specs.Seen.{text};
 ghost use Rattle.call_faults.specs.Seen.{found_in, seen_call, seen_fault, seen_given, seen_note};
-ghost use Rattle.call_faults.specs.Spots.{plain};
+ghost use Rattle.call_faults.specs.Spots.{plain_note};
 
 use crate::arguments::{FormatArgument, index_of, insert};
 use crate::checker::CallReport;
@@ -35,7 +35,7 @@ use text_faults::Spot;
 /// Adds a note that shows no place.
 fn push_plain(notes: &mut Vec<CallNote>, text: &str) -> Result<(), AllocError>
     ensures { OnOk result (map seen_note notes.new.items
-        ≡ map seen_note notes.old.items ++ plain text.now ∷ []) }
+        ≡ map seen_note notes.old.items ++ plain_note text.now ∷ []) }
 {
     let alloc = *notes.allocator();
     let text = String::from_str(alloc, text)?;
@@ -90,7 +90,7 @@ fn ambiguity_text() -> &'static str
 #[tactic(auto, using(std::proofs::Common::append_assoc))]
 fn push_name(notes: &mut Vec<CallNote>, name: &str) -> Result<(), AllocError>
     ensures { OnOk result (map seen_note notes.new.items ≡ map seen_note notes.old.items
-        ++ plain (capture_text (chars name.now)) ∷ plain ambiguity_text ∷ []) }
+        ++ plain_note (capture_text (chars name.now)) ∷ plain_note ambiguity_text ∷ []) }
 {
     let text = capture_text(*notes.allocator(), name)?;
     push_plain(notes, &text)?;

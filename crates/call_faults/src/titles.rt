@@ -11,9 +11,9 @@ ghost use Rattle.placeholder_check.specs.Report.{IsReport, Report};
 ghost use Rattle.placeholder_check.specs.Uses.{uses};
 ghost use Rattle.call_faults.specs.Seen.{seen_fault, seen_given, title_parts};
 ghost use Rattle.call_faults.specs.Words.{call_id, count_text, few_title, has_number, is_counted};
-ghost use Rattle.call_faults.specs.Words.{is_named, is_number, listed, name_of, never_used};
+ghost use Rattle.call_faults.specs.Words.{is_named, is_number, number_list, name_of, never_used};
 ghost use Rattle.call_faults.specs.Words.{numbers_title, plural, separator};
-ghost use Rattle.text_faults.specs.Words.{quoted};
+ghost use Rattle.text_faults.specs.Words.{quoted_name};
 ghost use Rattle.call_faults.specs.Words.{title, unused_title};
 
 use crate::arguments::FormatArgument;
@@ -101,7 +101,7 @@ fn put_separator(out: &mut String, others: &[usize]) -> Result<(), AllocError>
 
 /// Adds numbers one after the other.
 fn put_numbers(out: &mut String, numbers: &[usize]) -> Result<(), AllocError>
-    ensures { OnOk result (string_bytes out.new ≡ string_bytes out.old ++ listed numbers.now) }
+    ensures { OnOk result (string_bytes out.new ≡ string_bytes out.old ++ number_list numbers.now) }
 {
     let mut rest = numbers;
     while let Some((first, others)) = rest.split_first() {
@@ -114,7 +114,8 @@ fn put_numbers(out: &mut String, numbers: &[usize]) -> Result<(), AllocError>
 
 /// Adds a name between backquotes.
 fn put_quoted(out: &mut String, name: &str) -> Result<(), AllocError>
-    ensures { OnOk result (string_bytes out.new ≡ string_bytes out.old ++ quoted (chars name.now)) }
+    ensures { OnOk result (string_bytes out.new ≡ string_bytes out.old
+        ++ quoted_name (chars name.now)) }
 {
     out.push('`')?;
     out.push_str(name)?;
@@ -125,7 +126,7 @@ fn put_quoted(out: &mut String, name: &str) -> Result<(), AllocError>
 /// Adds a text and a name between backquotes.
 fn put_named(out: &mut String, text: &str, name: &str) -> Result<(), AllocError>
     ensures { OnOk result (string_bytes out.new
-        ≡ string_bytes out.old ++ (text.now ++ quoted (chars name.now))) }
+        ≡ string_bytes out.old ++ (text.now ++ quoted_name (chars name.now))) }
 {
     out.push_str(text)?;
     put_quoted(out, name)?;
@@ -140,7 +141,7 @@ pub(crate) fn put_name_between(
     suffix: &str,
 ) -> Result<(), AllocError>
     ensures { OnOk result (string_bytes out.new ≡ string_bytes out.old
-        ++ (prefix.now ++ (quoted (chars name.now) ++ suffix.now))) }
+        ++ (prefix.now ++ (quoted_name (chars name.now) ++ suffix.now))) }
 {
     put_named(out, prefix, name)?;
     out.push_str(suffix)?;

@@ -11,7 +11,8 @@ use Rattle.rust_trees.specs.Sides.{is_opening}
 use Rattle.format_calls.specs.Marks.{is_mark}
 use Rattle.format_calls.specs.Modes.{is_text}
 use Rattle.call_forms.specs.declared.generics.Place.{Place}
-use Rattle.call_forms.specs.Generics.{angles_after, closes, ended, is_char, parameter, parameters}
+use Rattle.call_forms.specs.Generics.{angles_after, closes, place_at_end, is_char, parameter}
+use Rattle.call_forms.specs.Generics.{parameters}
 use Rattle.call_forms.specs.Generics.{parameters_from, place_after, plain_after, start}
 use Rattle.call_forms.specs.Generics.{with_delimiters}
 
@@ -32,11 +33,11 @@ place-few p x = by_kind (is_text x (codes "trait")) (is_opening (side x)) (close
     (p.open_delimiters == 0)
   where
     by_kind : (t o c z : Bool)
-        → (if t then ended else (if o then with_delimiters p (p.open_delimiters + 1) else
-        (if c then (if z then ended else with_delimiters p (p.open_delimiters - 1)) else
+        → (if t then place_at_end else (if o then with_delimiters p (p.open_delimiters + 1) else
+        (if c then (if z then place_at_end else with_delimiters p (p.open_delimiters - 1)) else
         (if z then plain_after p x else with_delimiters p p.open_delimiters)))).angles
-        + (if t then ended else (if o then with_delimiters p (p.open_delimiters + 1) else
-        (if c then (if z then ended else with_delimiters p (p.open_delimiters - 1)) else
+        + (if t then place_at_end else (if o then with_delimiters p (p.open_delimiters + 1) else
+        (if c then (if z then place_at_end else with_delimiters p (p.open_delimiters - 1)) else
         (if z then plain_after p x else with_delimiters p p.open_delimiters)))).open_delimiters
         ≤ p.angles + p.open_delimiters + 1
     by_kind true o c z = omega arith

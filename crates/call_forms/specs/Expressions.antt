@@ -76,8 +76,8 @@ abbrev pub has_variable : List Leaf → Bool
 has_variable xs = list_any is_variable xs
 
 -- The index of the first operand of an argument that stands right after another one.
-abbrev pub joined : List Leaf → Option ℕ
-joined xs = if has_variable xs then None else next_operand false 0 0 xs
+abbrev pub joined_operand : List Leaf → Option ℕ
+joined_operand xs = if has_variable xs then None else next_operand false 0 0 xs
 
 -- A token of a path or of the access to a field.
 abbrev pub is_path : Leaf → Bool

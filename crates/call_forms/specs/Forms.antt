@@ -16,7 +16,7 @@ use Rattle.format_calls.specs.declared.table.Rule.{Rule}
 use Rattle.format_calls.specs.declared.table.Rule.TheVariants.{Index, IndexByEdition, FirstLiteral}
 use Rattle.format_calls.specs.declared.table.Rule.TheVariants.{Templates}
 use Rattle.call_forms.specs.Commas.{expected_at, has_more, is_unknown}
-use Rattle.call_forms.specs.Expressions.{has_variable, is_operand, is_path, joined}
+use Rattle.call_forms.specs.Expressions.{has_variable, is_operand, is_path, joined_operand}
 use Rattle.call_forms.specs.Operators.{Operator, lacks_left, lacks_operand, operator_at}
 use Rattle.call_forms.specs.Operators.{seen_operator}
 use Rattle.call_forms.specs.declared.commas.ExpectedTokens.{ExpectedTokens}
@@ -61,7 +61,7 @@ lacks_expression xs = is_nil xs || lacks_operand xs
 -- The argument is no expression: it has no token, an operator lacks an operand, or two operands
 -- stand next to each other.
 abbrev pub is_bad : List Leaf → Bool
-is_bad xs = lacks_expression xs || is_some (joined xs)
+is_bad xs = lacks_expression xs || is_some (joined_operand xs)
 
 -- The index of the first argument that is no expression, where k stand before these.
 abbrev pub first_bad : ℕ → List (List Leaf) → Option ℕ
@@ -81,7 +81,7 @@ joined_form is_string xs (Some n) =
 unfoldable pub bad_form : ℕ → Bool → Bool → List Leaf → Option Form
 bad_form k is_string is_last xs =
     if lacks_left xs then option_map (λ o. NoOperand o) (operator_at xs 0) else
-    (if is_some (joined xs) then joined_form is_string xs (joined xs) else
+    (if is_some (joined_operand xs) then joined_form is_string xs (joined_operand xs) else
     Some (NoExpression k is_last))
 
 abbrev pub is_byte_string : Kind → Bool

@@ -49,15 +49,16 @@ with_delimiters p n = record
     { angles = p.angles; open_delimiters = n; is_first = p.is_first; is_arrow = false }
 
 -- The list has ended.
-abbrev pub ended : Place
-ended = record { angles = 0; open_delimiters = 0; is_first = false; is_arrow = false }
+abbrev pub place_at_end : Place
+place_at_end = record { angles = 0; open_delimiters = 0; is_first = false; is_arrow = false }
 
 -- The place after a token of the list, which ends at the latest before another trait.
 abbrev pub place_after : Place → Leaf → Place
-place_after p x = if is_text x (codes "trait") then ended else
+place_after p x = if is_text x (codes "trait") then place_at_end else
     (if is_opening (side x) then with_delimiters p (p.open_delimiters + 1) else
     (if closes (side x) then
-    (if p.open_delimiters == 0 then ended else with_delimiters p (p.open_delimiters - 1)) else
+    (if p.open_delimiters == 0 then place_at_end else with_delimiters p (p.open_delimiters - 1))
+        else
     (if p.open_delimiters == 0 then plain_after p x else with_delimiters p p.open_delimiters)))
 
 -- The name of the parameter that a token is, if it is one.

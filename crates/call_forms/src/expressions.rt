@@ -9,7 +9,7 @@ ghost use Rattle.format_calls.specs.Arguments.{tokens_of};
 ghost use Rattle.call_forms.specs.Expressions.{closes_parentheses, depth_after, ends_operand};
 ghost use Rattle.call_forms.specs.Expressions.{ends_pair};
 ghost use Rattle.call_forms.specs.Expressions.{has_variable, is_literal, is_operand};
-ghost use Rattle.call_forms.specs.Expressions.{is_path, joined, next_operand};
+ghost use Rattle.call_forms.specs.Expressions.{is_path, joined_operand, next_operand};
 
 use crate::keywords::{is_control, is_modifier, is_special};
 use format_calls::{Argument, Part, closing_token, is_mark_of, token_at};
@@ -158,7 +158,7 @@ fn next_operand(source: &Source<'_>, argument: &Argument) -> Option<usize>
 /// Returns the index in an argument of its first operand that stands right after another one, or
 /// `None` if there is none or a variable of a macro stands there.
 pub fn extra_operand(part: &Part<'_>, argument: &Argument) -> Option<usize>
-    ensures { result ≡ joined (tokens_of part.now argument.now) }
+    ensures { result ≡ joined_operand (tokens_of part.now argument.now) }
 {
     if part.has_variable(argument) {
         return None;
@@ -199,7 +199,8 @@ pub fn have_variables(part: &Part<'_>, arguments: &[Argument]) -> bool
 
 /// Returns whether an argument that has tokens is no expression.
 pub fn have_joined(part: &Part<'_>, arguments: &[Argument]) -> bool
-    ensures { result ≡ list_any (λ p. is_some (joined p)) (map (tokens_of part.now) arguments.now) }
+    ensures { result ≡ list_any (λ p. is_some (joined_operand p))
+        (map (tokens_of part.now) arguments.now) }
 {
     for argument in arguments {
         if extra_operand(part, argument).is_some() {

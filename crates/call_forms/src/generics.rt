@@ -2,7 +2,8 @@
 
 ghost use Rattle.std.specs.Prelude.{◌≡◌, ◌+◌, ◌<◌, ◌^◌, ◌++◌, IfOk, OnOk, map};
 ghost use Rattle.rust_trees.specs.Leaves.{leaf};
-ghost use Rattle.call_forms.specs.Generics.{angles_after, ended, first_after, names, parameter};
+ghost use Rattle.call_forms.specs.Generics.{angles_after, place_at_end, first_after, names};
+ghost use Rattle.call_forms.specs.Generics.{parameter};
 ghost use Rattle.call_forms.specs.Generics.{parameters, place_after, plain_after, start};
 ghost use Rattle.call_forms.specs.Generics.{parameters_from, with_delimiters};
 
@@ -78,7 +79,7 @@ fn with_delimiters(place: Place, open_delimiters: usize) -> Place
 
 /// Returns the place where a list has ended.
 fn end_place() -> Place
-    ensures { result ≡ ended }
+    ensures { result ≡ place_at_end }
 {
     Place {
         angles: 0,

@@ -10,7 +10,7 @@ use Rattle.std.proofs.lemmas.Slice.Eq.{bytes_eq-Decides}
 use Rattle.fault_fixes.specs.Losing.{IsMerged}
 use Rattle.source_report.specs.declared.report.Finding.{Finding}
 use Rattle.source_report.specs.declared.report.Report.{Report}
-use Rattle.source_report.specs.Suggestions.{edits_of, end_after, is_mended, mended}
+use Rattle.source_report.specs.Suggestions.{edits_of, end_after, is_mended, mended_faults}
 use Rattle.file_fixes.specs.FaultSearch.{are_found, is_alike}
 use Rattle.file_fixes.specs.FileFixes.{FaultName, FaultsStay, IsNoWorse, fault_name}
 use Rattle.file_fixes.specs.FileFixes.{unmended_findings}
@@ -98,16 +98,17 @@ merged-length xs ys (z ∷ zs) h = elim h [
 
 -- Each fault is mended or not.
 either-way : (at : ℕ) (xs : List Finding)
-    → length (mended at xs) + length (unmended_findings at xs) ≡ length xs
+    → length (mended_faults at xs) + length (unmended_findings at xs) ≡ length xs
 either-way at [] = refl
 either-way at (x ∷ xs) = one (is_mended at x) (either-way (end_after at (edits_of x)) xs)
     (either-way at xs)
   where
     one : (b : Bool)
-        → length (mended (end_after at (edits_of x)) xs)
+        → length (mended_faults (end_after at (edits_of x)) xs)
         + length (unmended_findings (end_after at (edits_of x)) xs) ≡ length xs
-        → length (mended at xs) + length (unmended_findings at xs) ≡ length xs
-        → length (if b then x ∷ mended (end_after at (edits_of x)) xs else mended at xs)
+        → length (mended_faults at xs) + length (unmended_findings at xs) ≡ length xs
+        → length (if b then x ∷ mended_faults (end_after at (edits_of x)) xs
+        else mended_faults at xs)
         + length (if b then unmended_findings (end_after at (edits_of x)) xs else x
         ∷ unmended_findings at xs)
         ≡ length (x ∷ xs)

@@ -6,7 +6,7 @@ use Rattle.std.specs.List.{list_all}
 use Rattle.std.specs.declared.ops.Range.{Range}
 use Rattle.std.proofs.lemmas.Bool.{cond_both, le-leb, leb-false, leb-true, lt-leb}
 use Rattle.fault_fixes.specs.Edits.{Edit}
-use Rattle.rust_tokens.specs.Placed.{end_of, placed}
+use Rattle.rust_tokens.specs.Placed.{end_of, placed_tokens}
 use Rattle.rust_tokens.specs.Tokens.{Lexeme}
 use Rattle.rust_tokens.specs.declared.kinds.Token.{Token}
 use Rattle.source_report.specs.Suggestions.{are_after}
@@ -137,11 +137,11 @@ walk-finds at a rs (t ∷ ts) s h =
     (ap (λ n. moved_token n t) width) (walk-finds t.span.start b rs ts s.1 k)
 
 -- of all tokens of a text.
-start-placed : (at : ℕ) (xs : List Lexeme) → StartFrom at (placed at xs)
+start-placed : (at : ℕ) (xs : List Lexeme) → StartFrom at (placed_tokens at xs)
 start-placed at [] = tt
 start-placed at (x ∷ xs) = (
   omega arith,
-  from at (end_of at x) (placed (end_of at x) xs)
+  from at (end_of at x) (placed_tokens (end_of at x) xs)
       (omega arith) (start-placed (end_of at x) xs),
 )
   where
@@ -183,18 +183,19 @@ ranges-new at to (e ∷ es) = ap (λ rs. record {
 
 -- So the walk decides whether the tokens stay that no edit touches.
 pub walk-outside : (ps : List EditedPart) (xs : List Lexeme)
-    → walk (from_start ps) (placed 0 xs) ≡ untouched_tokens (ranges_of 0 ps) (placed 0 xs)
-walk-outside ps xs = walk-finds 0 (from_start ps) (ranges_of 0 ps) (placed 0 xs)
+    → walk (from_start ps) (placed_tokens 0 xs)
+    ≡ untouched_tokens (ranges_of 0 ps) (placed_tokens 0 xs)
+walk-outside ps xs = walk-finds 0 (from_start ps) (ranges_of 0 ps) (placed_tokens 0 xs)
     (start-placed 0 xs) (record { apart = λ t k. refl; width = λ n k. omega arith })
 
 pub walk-old : (es : List Edit) (xs : List Lexeme) → are_after 0 es ≡ true
-    → walk (from_start (old_parts 0 es)) (placed 0 xs)
-    ≡ untouched_tokens (old_ranges es) (placed 0 xs)
+    → walk (from_start (old_parts 0 es)) (placed_tokens 0 xs)
+    ≡ untouched_tokens (old_ranges es) (placed_tokens 0 xs)
 walk-old es xs h = walk-outside (old_parts 0 es) xs
-    ∙ ap (λ rs. untouched_tokens rs (placed 0 xs)) (ranges-old 0 es h)
+    ∙ ap (λ rs. untouched_tokens rs (placed_tokens 0 xs)) (ranges-old 0 es h)
 
 pub walk-new : (es : List Edit) (xs : List Lexeme)
-    → walk (from_start (new_parts 0 es)) (placed 0 xs)
-    ≡ untouched_tokens (new_ranges 0 0 es) (placed 0 xs)
+    → walk (from_start (new_parts 0 es)) (placed_tokens 0 xs)
+    ≡ untouched_tokens (new_ranges 0 0 es) (placed_tokens 0 xs)
 walk-new es xs = walk-outside (new_parts 0 es) xs
-    ∙ ap (λ rs. untouched_tokens rs (placed 0 xs)) (ranges-new 0 0 es)
+    ∙ ap (λ rs. untouched_tokens rs (placed_tokens 0 xs)) (ranges-new 0 0 es)

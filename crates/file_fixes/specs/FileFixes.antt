@@ -6,13 +6,14 @@ use Rattle.std.specs.declared.string.String.{String}
 use Rattle.fault_fixes.specs.Edits.{Edit, edited_bytes}
 use Rattle.fault_fixes.specs.Losing.{IsMerged}
 use Rattle.rust_tokens.specs.Files.{ReadsFile}
-use Rattle.rust_tokens.specs.Placed.{placed}
+use Rattle.rust_tokens.specs.Placed.{placed_tokens}
 use Rattle.rust_tokens.specs.Tokens.{Lexeme}
 use Rattle.format_calls.specs.Rows.{Entry}
 use Rattle.source_lint.specs.Reports.{IsReport}
 use Rattle.source_report.specs.declared.report.Finding.{Finding}
 use Rattle.source_report.specs.declared.report.Report.{Report}
-use Rattle.source_report.specs.Suggestions.{all_edits, edits_of, end_after, is_mended, mended}
+use Rattle.source_report.specs.Suggestions.{all_edits, edits_of, end_after, is_mended}
+use Rattle.source_report.specs.Suggestions.{mended_faults}
 use Rattle.file_fixes.specs.Outside.{KeepsTokens}
 
 -- The bytes of a text.
@@ -36,7 +37,7 @@ abbrev pub fault_name : Finding → FaultName
 fault_name x = record { id = x.id.now; title = string_bytes x.title }
 
 -- Of these faults, one after the other, those that are not mended in a round, where the last edit
--- before them ends at the byte offset `at`: all but those of `mended`.
+-- before them ends at the byte offset `at`: all but those of `mended_faults`.
 abbrev pub unmended_findings : ℕ → List Finding → List Finding
 unmended_findings at [] = []
 unmended_findings at (x
@@ -49,11 +50,11 @@ unmended_findings at (x
 pub record FaultsStay (xs ys : List Finding) : Type 0 where
   pub others : List FaultName
   pub are_all : IsMerged (map fault_name (unmended_findings 0 xs)) others (map fault_name ys)
-  pub few : length others ≤ length (mended 0 xs)
+  pub few : length others ≤ length (mended_faults 0 xs)
 
 -- The edits of the faults of the report r that are mended in one round.
 abbrev pub round_edits : Report → List Edit
-round_edits r = all_edits (mended 0 r.findings.items)
+round_edits r = all_edits (mended_faults 0 r.findings.items)
 
 -- The bytes bs with these edits.
 abbrev pub mended_bytes : List ℕ → Report → List ℕ
@@ -67,12 +68,12 @@ AreTokens bs cs xs ys = ReadsFile (chars bs) xs × ReadsFile (chars cs) ys
 -- with the bytes cs that the edits make of it.
 unfoldable pub OthersStay : List ℕ → Report → List ℕ → Type 0
 OthersStay bs r cs = (xs ys : List Lexeme) × AreTokens bs cs xs ys
-    × KeepsTokens (round_edits r) (placed 0 xs) (placed 0 ys)
+    × KeepsTokens (round_edits r) (placed_tokens 0 xs) (placed_tokens 0 ys)
 
 -- Some token that no edit touches does not stay.
 unfoldable pub OthersGo : List ℕ → Report → List ℕ → Type 0
 OthersGo bs r cs = (xs ys : List Lexeme) × AreTokens bs cs xs ys
-    × (KeepsTokens (round_edits r) (placed 0 xs) (placed 0 ys) → ⊥)
+    × (KeepsTokens (round_edits r) (placed_tokens 0 xs) (placed_tokens 0 ys) → ⊥)
 
 -- In a round the file with the bytes bs and the report r, of which faults are mended, becomes the
 -- bytes cs with the report q. The mended faults have the ids ws. The other faults stay, and at most
@@ -81,7 +82,7 @@ OthersGo bs r cs = (xs ys : List Lexeme) × AreTokens bs cs xs ys
 pub record IsRound (es : List Entry) (is_new : Bool) (bs : List ℕ) (r : Report) (cs : List ℕ)
     (q : Report) (ws : List (List ℕ)) : Type 0 where
   pub text : cs ≡ mended_bytes bs r
-  pub ids : ws ≡ map (λ x. x.id.now) (mended 0 r.findings.items)
+  pub ids : ws ≡ map (λ x. x.id.now) (mended_faults 0 r.findings.items)
   pub report : IsReport es is_new cs q
   pub no_worse : IsNoWorse r q
   pub faults : FaultsStay r.findings.items q.findings.items
@@ -91,7 +92,7 @@ pub record IsRound (es : List Entry) (is_new : Bool) (bs : List ℕ) (r : Report
 -- file with the edits is no text, or is worse, or lacks a fault that is not mended, or has other
 -- tokens where no edit is.
 abbrev pub IsLast : List Entry → Bool → List ℕ → Report → Type 0
-IsLast es is_new bs r = (mended 0 r.findings.items ≡ [])
+IsLast es is_new bs r = (mended_faults 0 r.findings.items ≡ [])
     ⊎ ((IsUtf8 (mended_bytes bs r) → ⊥)
     ⊎ (((q : Report) × IsReport es is_new (mended_bytes bs r) q
     × (IsNoWorse r q × FaultsStay r.findings.items q.findings.items → ⊥))

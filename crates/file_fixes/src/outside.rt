@@ -4,7 +4,7 @@ ghost use Rattle.std.specs.Prelude.{◌≡◌, ◌≤◌, ◌+◌, ◌↔◌, If
 ghost use Rattle.std.specs.Prelude.{nat_le};
 ghost use Rattle.fault_fixes.specs.SeenEdits.{seen_edit};
 ghost use Rattle.rust_tokens.specs.Files.{ReadsFile};
-ghost use Rattle.rust_tokens.specs.Placed.{placed};
+ghost use Rattle.rust_tokens.specs.Placed.{placed_tokens};
 ghost use Rattle.rust_tokens.specs.Tokens.{Lexeme};
 ghost use Rattle.source_report.specs.Suggestions.{are_after};
 ghost use Rattle.file_fixes.specs.Outside.{KeepsTokens, moved_token};
@@ -158,7 +158,7 @@ pub(crate) fn keeps_tokens(
     requires { IsTrue (are_after 0 (map seen_edit edits.now)) }
     ensures { IfOk result (λ b. (xs ys : List Lexeme) × ReadsFile (chars old.now) xs
         × ReadsFile (chars new.now) ys × (IsTrue b
-        ↔ KeepsTokens (map seen_edit edits.now) (placed 0 xs) (placed 0 ys))) }
+        ↔ KeepsTokens (map seen_edit edits.now) (placed_tokens 0 xs) (placed_tokens 0 ys))) }
 {
     let old_tokens = tokens(alloc, old)?;
     let new_tokens = tokens(alloc, new)?;

@@ -3,7 +3,7 @@
 ghost use Rattle.std.specs.Prelude.{◌≡◌, ◌++◌, ◌∷◌, IfOk, List, map};
 ghost use Rattle.fault_fixes.specs.SeenEdits.{seen_edit};
 ghost use Rattle.source_report.specs.declared.report.Finding.{Finding as FindingValue};
-ghost use Rattle.source_report.specs.Suggestions.{all_edits, end_after, mended};
+ghost use Rattle.source_report.specs.Suggestions.{all_edits, end_after, mended_faults};
 
 use fault_fixes::Edit;
 use source_report::{Finding, are_after, edits_of};
@@ -29,8 +29,8 @@ fn add_edits<'f>(
     finding: &'f Finding,
 ) -> Result<usize, AllocError>
     ensures { IfOk result (λ n. (xs : List FindingValue)
-        → map seen_edit all.new.items ++ all_edits (mended n xs)
-        ≡ map seen_edit all.old.items ++ all_edits (mended at (finding.now ∷ xs))) }
+        → map seen_edit all.new.items ++ all_edits (mended_faults n xs)
+        ≡ map seen_edit all.old.items ++ all_edits (mended_faults at (finding.now ∷ xs))) }
 {
     let mut edits = edits_of(alloc, finding)?;
     if edits.is_empty() || !are_after(at, edits.as_slice()) {
@@ -47,7 +47,7 @@ pub(crate) fn round_edits<'f>(
     alloc: Global,
     findings: &'f [Finding],
 ) -> Result<Vec<Edit<'f>>, AllocError>
-    ensures { IfOk result (λ v. map seen_edit v.items ≡ all_edits (mended 0 findings.now)) }
+    ensures { IfOk result (λ v. map seen_edit v.items ≡ all_edits (mended_faults 0 findings.now)) }
 {
     let mut all = Vec::new(alloc);
     let mut at = 0;

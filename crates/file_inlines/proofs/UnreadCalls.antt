@@ -20,7 +20,7 @@ use Rattle.asm_lint.specs.Literals.{without_crs}
 use Rattle.source_lint.specs.CallLists.{Gives}
 use Rattle.source_lint.specs.Readings.{Finds, Reads, ReadsAt, ReadsBy, ReadsLiteral, ReadsOne}
 use Rattle.source_lint.specs.Readings.{ReadsUnless, Scope, arguments_before, index_or, name_at}
-use Rattle.source_lint.specs.Readings.{skipped, start_of}
+use Rattle.source_lint.specs.Readings.{skipped_reading, start_of}
 use Rattle.file_inlines.specs.CallInlines.{Inlines, InlinesAt, InlinesBy, InlinesLiteral}
 use Rattle.file_inlines.specs.CallInlines.{InlinesOne, InlinesUnless, has_string, is_unread}
 use Rattle.file_inlines.specs.declared.calls.CallInlining.TheVariants.{Unread}
@@ -92,7 +92,7 @@ pub unread-call : (s : Scope) (is_new mixed : Bool) (xs : List Leaf) (c : Call) 
     (fs : List Finding) → IsTrue (is_unread c.rule q) → Reads s is_new xs c q fs
     → Inlines s is_new mixed xs c (Unread q) []
 unread-call s is_new mixed xs c q fs u h =
-    unread-unless (skipped s c.rule (slice_get xs c.name)) is_new mixed s.text xs c q fs u h
+    unread-unless (skipped_reading s c.rule (slice_get xs c.name)) is_new mixed s.text xs c q fs u h
 
 -- The first of some readings is that of the first call, and the others are those of the others.
 pub gives-first : (P : Call → CallReading → List Finding → Type 0) (all rest : List Call) (c : Call)

@@ -23,7 +23,7 @@ use Rattle.source_report.specs.declared.report.CallReading.TheVariants.{Unread a
 use Rattle.asm_lint.specs.Literals.{appends_newline, without_crs}
 use Rattle.source_lint.specs.Readings.{Scope, arguments_before, captures_variables, ends_early}
 use Rattle.source_lint.specs.Readings.{index_or}
-use Rattle.source_lint.specs.Readings.{name_at, skipped}
+use Rattle.source_lint.specs.Readings.{name_at, skipped_reading}
 use Rattle.inlined_arguments.specs.Conditions.{Call as FormatCall}
 use Rattle.inlined_arguments.specs.Edits.{AreApart, Edit, edited_text}
 use Rattle.inlined_arguments.specs.Inlining.{InlinedCall, IsInlined, IsUnchanged}
@@ -167,5 +167,6 @@ InlinesUnless None is_new mixed bs xs c r es = (args : List Argument)
 
 -- This becomes of a call in a file with this scope, and it has these edits.
 abbrev pub Inlines : Scope → Bool → Bool → List Leaf → Call → CallInlining → List Edit → Type 0
-Inlines s is_new mixed xs c r es = InlinesUnless (skipped s c.rule (slice_get xs c.name)) is_new
+Inlines s is_new mixed xs c r es =
+    InlinesUnless (skipped_reading s c.rule (slice_get xs c.name)) is_new
     mixed s.text xs c r es

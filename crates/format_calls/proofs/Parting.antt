@@ -25,7 +25,7 @@ use Rattle.format_calls.specs.Rows.{Entry, rule_of}
 use Rattle.format_calls.specs.Calls.{IsCall, rule_of_leaf}
 use Rattle.format_calls.specs.Marks.{is_after, is_byte, is_mark, is_mark_of, is_ident, word}
 use Rattle.format_calls.specs.Parts.{IsPart, Window, after_next, front_of, front_of_tokens}
-use Rattle.format_calls.specs.Parts.{moved, next_window, opens_call}
+use Rattle.format_calls.specs.Parts.{moved_call, next_window, opens_call}
 use Rattle.format_calls.proofs.CallSteps.{call-within}
 
 -- A token after others, and in front of them.
@@ -65,7 +65,7 @@ rest_after-shift f xs (suc k) n h e =
 
 -- A call after other tokens, and without them.
 pub call-shift : (es : List Entry) (f xs : List Leaf) (c : Call) → IsFixed f xs → IsCall es xs c
-    → IsCall es (f ++ xs) (moved (length f) c)
+    → IsCall es (f ++ xs) (moved_call (length f) c)
 call-shift es f xs c h k =
     let n : length f + c.name + 1 ≡ length f + (c.name + 1) = omega arith in
     let m : length f + (c.name + 2) ≡ length f + c.name + 2 = omega arith in
@@ -78,7 +78,7 @@ call-shift es f xs c h k =
     }
 
 pub call-unshift : (es : List Entry) (f xs : List Leaf) (c : Call) → IsFixed f xs
-    → IsCall es (f ++ xs) (moved (length f) c) → IsCall es xs c
+    → IsCall es (f ++ xs) (moved_call (length f) c) → IsCall es xs c
 call-unshift es f xs c h k =
     let n : length f + c.name + 1 ≡ length f + (c.name + 1) = omega arith in
     let m : length f + c.name + 2 ≡ length f + (c.name + 2) = omega arith in
@@ -224,29 +224,31 @@ part-of es gap part left before fixed end = record {
     inner c h k (inl e) = subst (λ t. IsCall es t c) (ap (λ t. part ++ t) e ∙ append-nil part) k
     inner c h k (inr g) = call-less es part left c g h k
 
-    joined : (c : Call) → ◌≡◌ {A = Call} (moved (length (gap ++ part)) c)
-        (moved (length gap + length part) c)
-    joined c = ap (λ n. moved n c) (length-append gap part)
+    joined : (c : Call) → ◌≡◌ {A = Call} (moved_call (length (gap ++ part)) c)
+        (moved_call (length gap + length part) c)
+    joined c = ap (λ n. moved_call n c) (length-append gap part)
 
     outer : (c : Call) → IsCall es left c → (left ≡ []) ⊎ IsGroup part
-        → IsCall es (gap ++ (part ++ left)) (moved (length gap + length part) c)
+        → IsCall es (gap ++ (part ++ left)) (moved_call (length gap + length part) c)
     outer c k (inl e) =
         let l = call-within es left c k in
         let n = ap (λ t. length t) e in absurd (omega (arith, l, n))
     outer c k (inr g) =
-        subst (λ t. IsCall es t (moved (length gap + length part) c)) (append_assoc gap part left)
+        subst (λ t. IsCall es t (moved_call (length gap + length part) c)) (append_assoc gap part
+            left)
         (subst (λ d. IsCall es ((gap ++ part) ++ left) d) (joined c)
         (call-shift es (gap ++ part) left c (group-fixed gap part left g) k))
 
-    rest : (c : Call) → IsCall es (gap ++ (part ++ left)) (moved (length gap + length part) c)
+    rest : (c : Call) → IsCall es (gap ++ (part ++ left)) (moved_call (length gap + length part) c)
         → (left ≡ []) ⊎ IsGroup part → IsCall es left c
     rest c k (inl e) =
-        let l = call-within es (gap ++ (part ++ left)) (moved (length gap + length part) c) k in
+        let l = call-within es (gap
+            ++ (part ++ left)) (moved_call (length gap + length part) c) k in
         let n = length-append gap (part ++ left) in
         let m = length-append part left in
         let z = ap (λ t. length t) e in absurd (omega (arith, l, n, m, z))
     rest c k (inr g) = call-unshift es (gap ++ part) left c (group-fixed gap part left g)
-        (subst (λ t. IsCall es t (moved (length (gap ++ part)) c))
+        (subst (λ t. IsCall es t (moved_call (length (gap ++ part)) c))
         (sym (append_assoc gap part left))
         (subst (λ d. IsCall es (gap ++ (part ++ left)) d) (sym (joined c)) k))
 

@@ -59,14 +59,14 @@ next_window w t = record {
 }
 
 -- A call whose tokens stand n tokens further on.
-abbrev pub moved : ℕ → Call → Call
-moved n c = record { rule = c.rule; name = n + c.name; close = n + c.close }
+abbrev pub moved_call : ℕ → Call → Call
+moved_call n c = record { rule = c.rule; name = n + c.name; close = n + c.close }
 
 -- Of these tokens those of the gap are the name of no call; the calls that begin in the part are
 -- its own; and those after it are the calls of the rest.
 pub record IsPart (es : List Entry) (gap part left : List Leaf) : Type 0 where
   pub before : (c : Call) → IsCall es (gap ++ (part ++ left)) c → length gap ≤ c.name
   pub inside : (c : Call) → c.name < length part
-      → IsCall es part c ↔ IsCall es (gap ++ (part ++ left)) (moved (length gap) c)
+      → IsCall es part c ↔ IsCall es (gap ++ (part ++ left)) (moved_call (length gap) c)
   pub rest_after : (c : Call) → IsCall es left c
-      ↔ IsCall es (gap ++ (part ++ left)) (moved (length gap + length part) c)
+      ↔ IsCall es (gap ++ (part ++ left)) (moved_call (length gap + length part) c)

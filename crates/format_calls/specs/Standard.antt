@@ -6,32 +6,36 @@ use Rattle.format_calls.specs.declared.table.Rule.TheVariants.{Templates}
 use Rattle.format_calls.specs.Rows.{Entry}
 
 -- A macro with its rule.
-abbrev pub at : List ℕ → Rule → Entry
-at w r = record { name = w; rule = r }
+abbrev pub macro_entry : List ℕ → Rule → Entry
+macro_entry w r = record { name = w; rule = r }
 
 abbrev pub standard : List Entry
 standard =
-    at (codes "format") (Index 0) ∷ at (codes "format_args") (Index 0)
-    ∷ at (codes "print") (Index 0) ∷ at (codes "println") (Index 0)
-    ∷ at (codes "eprint") (Index 0) ∷ at (codes "eprintln") (Index 0)
-    ∷ at (codes "write") (Index 1) ∷ at (codes "writeln") (Index 1) ∷ at (codes "panic")
+    macro_entry (codes "format") (Index 0) ∷ macro_entry (codes "format_args") (Index 0)
+    ∷ macro_entry (codes "print") (Index 0) ∷ macro_entry (codes "println") (Index 0)
+    ∷ macro_entry (codes "eprint") (Index 0) ∷ macro_entry (codes "eprintln") (Index 0)
+    ∷ macro_entry (codes "write") (Index 1) ∷ macro_entry (codes "writeln") (Index 1)
+    ∷ macro_entry (codes "panic")
     (IndexByEdition 0)
-    ∷ at (codes "unreachable") (IndexByEdition 0) ∷ at (codes "todo") (Index 0)
-    ∷ at (codes "unimplemented") (Index 0) ∷ at (codes "assert") (IndexByEdition 1)
-    ∷ at (codes "debug_assert") (IndexByEdition 1) ∷ at (codes "assert_eq") (Index 2)
-    ∷ at (codes "assert_ne") (Index 2) ∷ at (codes "debug_assert_eq") (Index 2)
-    ∷ at (codes "debug_assert_ne") (Index 2) ∷ at (codes "assert_matches") (Index 2)
-    ∷ at (codes "debug_assert_matches") (Index 2) ∷ at (codes "asm") Templates
-    ∷ at (codes "global_asm") Templates ∷ at (codes "naked_asm") Templates ∷ []
+    ∷ macro_entry (codes "unreachable") (IndexByEdition 0) ∷ macro_entry (codes "todo") (Index 0)
+    ∷ macro_entry (codes "unimplemented") (Index 0)
+    ∷ macro_entry (codes "assert") (IndexByEdition 1)
+    ∷ macro_entry (codes "debug_assert") (IndexByEdition 1)
+    ∷ macro_entry (codes "assert_eq") (Index 2)
+    ∷ macro_entry (codes "assert_ne") (Index 2) ∷ macro_entry (codes "debug_assert_eq") (Index 2)
+    ∷ macro_entry (codes "debug_assert_ne") (Index 2)
+    ∷ macro_entry (codes "assert_matches") (Index 2)
+    ∷ macro_entry (codes "debug_assert_matches") (Index 2) ∷ macro_entry (codes "asm") Templates
+    ∷ macro_entry (codes "global_asm") Templates ∷ macro_entry (codes "naked_asm") Templates ∷ []
 
 -- Macros of the crates log, tracing, slog, anyhow and eyre.
 abbrev pub with_crate_macros : List Entry
 with_crate_macros =
-    at (codes "error") FirstLiteral ∷ at (codes "warn") FirstLiteral ∷ at
+    macro_entry (codes "error") FirstLiteral ∷ macro_entry (codes "warn") FirstLiteral ∷ macro_entry
     (codes "info") FirstLiteral
-    ∷ at (codes "debug") FirstLiteral ∷ at (codes "trace") FirstLiteral
-    ∷ at (codes "crit") FirstLiteral ∷ at (codes "log") FirstLiteral ∷ at
+    ∷ macro_entry (codes "debug") FirstLiteral ∷ macro_entry (codes "trace") FirstLiteral
+    ∷ macro_entry (codes "crit") FirstLiteral ∷ macro_entry (codes "log") FirstLiteral ∷ macro_entry
     (codes "event") FirstLiteral
-    ∷ at (codes "anyhow") (Index 0) ∷ at (codes "eyre") (Index 0)
-    ∷ at (codes "format_err") (Index 0) ∷ at (codes "bail") (Index 0)
-    ∷ at (codes "ensure") (Index 1) ∷ []
+    ∷ macro_entry (codes "anyhow") (Index 0) ∷ macro_entry (codes "eyre") (Index 0)
+    ∷ macro_entry (codes "format_err") (Index 0) ∷ macro_entry (codes "bail") (Index 0)
+    ∷ macro_entry (codes "ensure") (Index 1) ∷ []

@@ -14,7 +14,7 @@ use Rattle.call_faults.specs.Clean.{IsClean}
 use Rattle.inlined_arguments.specs.Conditions.{Call, condition}
 use Rattle.inlined_arguments.specs.Edits.{AreApart, AreAtReferences, Edit, edited_text}
 use Rattle.inlined_arguments.specs.Meaning.{meaning}
-use Rattle.inlined_arguments.specs.Values.{Slot, slot_argument, kept, slots}
+use Rattle.inlined_arguments.specs.Values.{Slot, slot_argument, kept_slots, slots}
 use Rattle.inlined_arguments.specs.Variables.{gone_from}
 use Rattle.inlined_arguments.specs.declared.call.Obstacle.{Obstacle}
 use Rattle.inlined_arguments.specs.declared.call.Obstacle.TheVariants.{Uncounted, NoVariable, Mixed}
@@ -51,7 +51,7 @@ pub record IsCleanAs {A : Type 0} (captures : Bool) (ss : List Slot) (ps : List 
 pub record MeansSame {A : Type 0} (c : Call) (ps : List (Piece A)) (literal : Text) : Type 0 where
   pub text : Text
   pub is_literal : IsLiteral c.style literal text
-  pub new : IsCleanAs c.captures_variables (slots c.arguments) ps (kept (slots c.arguments))
+  pub new : IsCleanAs c.captures_variables (slots c.arguments) ps (kept_slots (slots c.arguments))
       (text ++ newline c.appended_newline)
 
 -- A call that was inlined: the edits of its literal, the bytes of the literal with them, and the

@@ -44,8 +44,8 @@ abbrev pub slots : List Argument → List Slot
 slots args = slots_from 0 args
 
 -- The slots that stay: those of arguments that are no variables, in their order.
-abbrev pub kept : List Slot → List Slot
-kept ss = filter (λ s. is_expression s.value) ss
+abbrev pub kept_slots : List Slot → List Slot
+kept_slots ss = filter (λ s. is_expression s.value) ss
 
 -- A slot as an argument of a call.
 abbrev pub slot_argument : Slot → FormatArgument

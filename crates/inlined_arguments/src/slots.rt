@@ -3,7 +3,8 @@
 ghost use Rattle.std.specs.Prelude.{◌≡◌, IfOk, map};
 ghost use Rattle.call_faults.specs.Seen.{seen_given};
 ghost use Rattle.inlined_arguments.specs.Seen.{seen_argument, seen_slot, seen_value};
-ghost use Rattle.inlined_arguments.specs.Values.{slot_argument, is_expression, kept, slot_value};
+ghost use Rattle.inlined_arguments.specs.Values.{slot_argument, is_expression, kept_slots};
+ghost use Rattle.inlined_arguments.specs.Values.{slot_value};
 ghost use Rattle.inlined_arguments.specs.Values.{slots};
 
 use crate::call::Argument;
@@ -79,7 +80,7 @@ pub(crate) fn expression_slots<'a>(
     alloc: Global,
     slots: &[Slot<'a>],
 ) -> Result<Vec<Slot<'a>>, AllocError>
-    ensures { IfOk result (λ v. map seen_slot v.items ≡ kept (map seen_slot slots.now)) }
+    ensures { IfOk result (λ v. map seen_slot v.items ≡ kept_slots (map seen_slot slots.now)) }
 {
     let mut list = Vec::new(alloc);
     for slot in slots {

@@ -5,7 +5,7 @@ use Rattle.rustc_parse_format.specs.FaultIds.{fault_id}
 use Rattle.rustc_parse_format.specs.Faults.{Message, message}
 use Rattle.rustc_parse_format.specs.World.{Place}
 use Rattle.text_faults.specs.Spots.{Label, bytes_at, primary, secondary}
-use Rattle.text_faults.specs.Words.{quoted}
+use Rattle.text_faults.specs.Words.{quoted_name}
 use Rattle.text_faults.specs.declared.spots.Spot.TheVariants.{Literal}
 use Rattle.message_faults.specs.Messages.{MessageFault, TextFault, Specifier, Positional}
 use Rattle.message_faults.specs.Messages.{MissingParameter}
@@ -20,7 +20,7 @@ message_id (MissingParameter s w) = codes "missing-parameter"
 -- The title of a name that is that of no parameter of a trait.
 abbrev pub parameter_title : Text → Text → List ℕ
 parameter_title w t =
-    codes "there is no parameter " ++ (quoted w ++ (codes " on trait " ++ quoted t))
+    codes "there is no parameter " ++ (quoted_name w ++ (codes " on trait " ++ quoted_name t))
 
 -- The title of a fault, for a trait of this name.
 unfoldable pub title : Text → MessageFault → List ℕ

@@ -6,7 +6,7 @@ ghost use Rattle.rustc_parse_format.specs.Faults.{message};
 ghost use Rattle.rustc_parse_format.specs.SeenFaults.{seen_fault as seen_text_fault};
 ghost use Rattle.text_faults.specs.Seen.{seen_label};
 ghost use Rattle.text_faults.specs.Spots.{primary, secondary};
-ghost use Rattle.text_faults.specs.Words.{quoted};
+ghost use Rattle.text_faults.specs.Words.{quoted_name};
 ghost use Rattle.message_faults.specs.Words.{parameter_title, text_labels};
 
 use crate::faults::MessageFault;
@@ -16,7 +16,8 @@ use text_faults::{CallLabel, Spot};
 
 /// Adds a name between backquotes.
 fn put_quoted(out: &mut String, name: &str) -> Result<(), AllocError>
-    ensures { OnOk result (string_bytes out.new ≡ string_bytes out.old ++ quoted (chars name.now)) }
+    ensures { OnOk result (string_bytes out.new ≡ string_bytes out.old
+        ++ quoted_name (chars name.now)) }
 {
     out.push_str("`")?;
     out.push_str(name)?;

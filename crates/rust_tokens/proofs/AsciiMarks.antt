@@ -14,11 +14,11 @@ use Rattle.std.proofs.lemmas.List.{drop_all}
 use Rattle.std.proofs.lemmas.Option.{same_Some}
 use Rattle.std.proofs.lemmas.Str.{chars-nil, IsCharBoundary-after_ascii, IsCharBoundary-end}
 use Rattle.std.proofs.lemmas.Str.{IsCharBoundary-before_ascii}
-use Rattle.rust_tokens.specs.Texts.{IsRest, Text, or}
+use Rattle.rust_tokens.specs.Texts.{IsRest, Text, first_some}
 use Rattle.rust_tokens.specs.Runs.{rest_after, is_in_line, stops}
 use Rattle.rust_tokens.specs.Strings.{after_string, spelling}
 use Rattle.rust_tokens.specs.Comments.{CommentTail, Close, Character, Nested, after_comment}
-use Rattle.rust_tokens.specs.Comments.{spelled}
+use Rattle.rust_tokens.specs.Comments.{tail_spelling}
 use Rattle.rust_tokens.specs.RawStrings.{after_hashes, after_raw}
 use Rattle.rust_tokens.proofs.Basics.{
   and_no,
@@ -96,9 +96,9 @@ map-both true w x y z e f = e
 map-both false w x y z e f = f
 
 map-or : (w x y z : Option Text) → option_map chars w ≡ x → option_map chars y ≡ z
-    → option_map chars (or w y) ≡ or x z
-map-or None x y z e f = f ∙ ap (λ o. or o z) e
-map-or (Some r) x y z e f = ap (λ o. or o z) e
+    → option_map chars (first_some w y) ≡ first_some x z
+map-or None x y z e f = f ∙ ap (λ o. first_some o z) e
+map-or (Some r) x y z e f = ap (λ o. first_some o z) e
 
 -- A text is cut after an ASCII byte.
 cut : (s v r : List ℕ) (b : ℕ) → IsUtf8 s → b < 128 → s ≡ v ++ b ∷ r → IsRest s r
@@ -205,14 +205,14 @@ comment-chars = same-chars (after_comment 0 0) (λ t v.
     same comment (λ k. (k.0, 0)) comment-empty comment-byte comment-wide
     (λ k. comment-wide (k.0, 0)) t (0, 0) v)
 
-spelled-last : (b : CommentTail) → (v : Text) × (spelled b ≡ v ++ 47 ∷ [])
+spelled-last : (b : CommentTail) → (v : Text) × (tail_spelling b ≡ v ++ 47 ∷ [])
 spelled-last Close = (42 ∷ [], refl)
 spelled-last (Character c b) = let x = spelled-last b in (c ∷ x.0, ap (λ t. c ∷ t) x.1)
 spelled-last (Nested a b) =
     let x = spelled-last b in (
-      47 ∷ 42 ∷ (spelled a ++ x.0),
+      47 ∷ 42 ∷ (tail_spelling a ++ x.0),
       ap (λ t. 47 ∷ 42 ∷ t)
-          (ap (λ t. spelled a ++ t) x.1 ∙ sym (append_assoc (spelled a) x.0 (47 ∷ []))),
+          (ap (λ t. tail_spelling a ++ t) x.1 ∙ sym (append_assoc (tail_spelling a) x.0 (47 ∷ []))),
     )
 
 pub comment-cut : (s r : List ℕ) → IsUtf8 s → Some r ≡ after_comment 0 0 s → IsRest s r

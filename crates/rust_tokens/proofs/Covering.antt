@@ -8,7 +8,7 @@ use Rattle.rust_tokens.specs.declared.kinds.Token.{Token}
 use Rattle.rust_tokens.specs.Texts.{Text}
 use Rattle.rust_tokens.specs.Tokens.{Lexeme, ReadsTo}
 use Rattle.rust_tokens.specs.Files.{IsMarked, IsShebanged}
-use Rattle.rust_tokens.specs.Placed.{byte_length, end_of, end_of_all, placed}
+use Rattle.rust_tokens.specs.Placed.{byte_length, end_of, end_of_all, placed_tokens}
 use Rattle.rust_tokens.specs.Covers.{Covers}
 use Rattle.rust_tokens.proofs.Files.{Lexed}
 use Rattle.rust_tokens.proofs.NotEmpty.{body-bytes}
@@ -35,7 +35,7 @@ shebanged-some t u xs (inl f) = subst (λ ys. AllSome ys) (sym f.1) (omega arith
 shebanged-some t u xs (inr f) = subst (λ ys. AllSome ys) (sym f.0) tt
 
 placed-covers : (at end : ℕ) (xs : List Lexeme) → AllSome xs → end_of_all at xs ≡ end
-    → Covers at (placed at xs) end
+    → Covers at (placed_tokens at xs) end
 placed-covers at end [] f e = e
 placed-covers at end (x ∷ xs) f e =
     (refl, omega (arith, f.0), omega arith, placed-covers (end_of at x) end xs f.1 e)

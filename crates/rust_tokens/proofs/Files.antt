@@ -18,7 +18,8 @@ use Rattle.rust_tokens.specs.Tokens.{Lexeme, Begins, ReadsTo}
 use Rattle.rust_tokens.specs.Files.{is_gap, is_bracket, OpensAttribute, mark, shebang}
 use Rattle.rust_tokens.specs.Files.{IsMarked, IsShebanged}
 use Rattle.rust_tokens.specs.First.{Body, first_of}
-use Rattle.rust_tokens.specs.Placed.{byte_length, end_of, end_of_all, token_at, placed, between}
+use Rattle.rust_tokens.specs.Placed.{byte_length, end_of, end_of_all, token_at, placed_tokens}
+use Rattle.rust_tokens.specs.Placed.{token_between}
 use Rattle.rust_tokens.proofs.Basics.{no_pass, front, front-rest_after, all-front, stops-rest_after}
 use Rattle.rust_tokens.proofs.Basics.{strip-reads}
 use Rattle.rust_tokens.proofs.Classes.{start_at}
@@ -29,7 +30,7 @@ use Rattle.rust_tokens.proofs.Suffixes.{begins-once, begins-first}
 -- The tokens that were found of a file, up to the bytes that are left.
 abbrev pub Lexed : List ℕ → List Token → List ℕ → Type 0
 Lexed whole found rest = (ms ss xs : List Lexeme) × (t u : Text) × IsMarked (chars whole) ms t
-    × IsShebanged t ss u × ReadsTo u xs (chars rest) × (found ≡ placed 0 (ms ++ (ss ++ xs)))
+    × IsShebanged t ss u × ReadsTo u xs (chars rest) × (found ≡ placed_tokens 0 (ms ++ (ss ++ xs)))
     × (end_of_all 0 (ms ++ (ss ++ xs)) + length rest ≡ length whole)
 
 -- One token more.
@@ -55,8 +56,8 @@ lexed-more whole rest more found x token l b n t =
       l.5,
       l.6,
       reads-more l.4 l.2 (chars rest) x (chars more) l.7 b,
-      ap (λ r. r ++ token ∷ []) l.8 ∙ (ap (λ r. placed 0 all ++ r ∷ []) (t at l.9)
-          ∙ (sym (placed-more 0 all x) ∙ ap (λ r. placed 0 r) (sym same))),
+      ap (λ r. r ++ token ∷ []) l.8 ∙ (ap (λ r. placed_tokens 0 all ++ r ∷ []) (t at l.9)
+          ∙ (sym (placed-more 0 all x) ∙ ap (λ r. placed_tokens 0 r) (sym same))),
       omega (arith, e, n, w),
     )
 
@@ -66,7 +67,7 @@ append_none [] = refl
 append_none (x ∷ xs) = ap (λ r. x ∷ r) (append_none xs)
 
 placed-append : (at : ℕ) (xs ys : List Lexeme)
-    → placed at (xs ++ ys) ≡ placed at xs ++ placed (end_of_all at xs) ys
+    → placed_tokens at (xs ++ ys) ≡ placed_tokens at xs ++ placed_tokens (end_of_all at xs) ys
 placed-append at [] ys = refl
 placed-append at (x ∷ xs) ys = ap (λ r. token_at at x ∷ r) (placed-append (end_of at x) xs ys)
 
@@ -77,14 +78,15 @@ end-append at (x ∷ xs) ys = end-append (end_of at x) xs ys
 
 pub lexed-start : (whole unmarked rest : List ℕ) (found : List Token) (ms ss : List Lexeme)
     → IsMarked (chars whole) ms (chars unmarked)
-    → placed 0 ms ≡ between ByteOrderMark 0 (length whole - length unmarked)
+    → placed_tokens 0 ms ≡ token_between ByteOrderMark 0 (length whole - length unmarked)
     → end_of_all 0 ms + length unmarked ≡ length whole
     → IsShebanged (chars unmarked) ss (chars rest)
-    → ((at : ℕ) → (placed at ss ≡ between Shebang at (at + (length unmarked - length rest)))
+    → ((at : ℕ) → (placed_tokens at ss
+    ≡ token_between Shebang at (at + (length unmarked - length rest)))
     × (end_of_all at ss + length rest ≡ at + length unmarked))
     → length rest ≤ length unmarked
-    → found ≡ ([] ++ between ByteOrderMark 0 (length whole - length unmarked))
-    ++ between Shebang (length whole - length unmarked) (length whole - length rest)
+    → found ≡ ([] ++ token_between ByteOrderMark 0 (length whole - length unmarked))
+    ++ token_between Shebang (length whole - length unmarked) (length whole - length rest)
     → Lexed whole found rest
 lexed-start whole unmarked rest found ms ss m p e s q l f =
     let at : ℕ = end_of_all 0 ms in
@@ -103,16 +105,16 @@ lexed-start whole unmarked rest found ms ss m p e s q l f =
       m,
       s,
       refl,
-      f ∙ (ap (λ r. between ByteOrderMark 0 (length whole - length unmarked) ++ r)
-          (rw (start, end) refl) ∙ (ap (λ r. r ++ between Shebang at (at +
+      f ∙ (ap (λ r. token_between ByteOrderMark 0 (length whole - length unmarked) ++ r)
+          (rw (start, end) refl) ∙ (ap (λ r. r ++ token_between Shebang at (at +
           (length unmarked - length rest))) (sym p)
-          ∙ (ap (λ r. placed 0 ms ++ r) (sym y.0)
-          ∙ sym (placed-append 0 ms (ss ++ []) ∙ ap (λ r. placed 0 ms ++ placed at r)
+          ∙ (ap (λ r. placed_tokens 0 ms ++ r) (sym y.0)
+          ∙ sym (placed-append 0 ms (ss ++ []) ∙ ap (λ r. placed_tokens 0 ms ++ placed_tokens at r)
           (append_none ss))))),
       omega (arith, e, n, z),
     )
 
-between-some : (k : Kind) (a b : ℕ) → a < b → between k a b ≡ record {
+between-some : (k : Kind) (a b : ℕ) → a < b → token_between k a b ≡ record {
   kind = k;
   span = record { start = a; end = b };
   suffix_start = b;
@@ -120,14 +122,14 @@ between-some : (k : Kind) (a b : ℕ) → a < b → between k a b ≡ record {
 } ∷ []
 between-some k a b h = cond-true (nat_lt a b) _ _ (search (arith, h))
 
-between-none : (k : Kind) (a b : ℕ) → b ≡ a → between k a b ≡ []
+between-none : (k : Kind) (a b : ℕ) → b ≡ a → token_between k a b ≡ []
 between-none k a b h = cond-false (nat_lt a b) _ _ (search (arith, h))
 
 -- A rest that follows the mark, with the token of the mark.
 pub marked : (whole rest : List ℕ) → IsUtf8 whole → IsUtf8 rest
     → Some (chars rest) ≡ strip 0xFEFF (chars whole)
     → (xs : List Lexeme) × IsMarked (chars whole) xs (chars rest)
-    × (placed 0 xs ≡ between ByteOrderMark 0 (length whole - length rest))
+    × (placed_tokens 0 xs ≡ token_between ByteOrderMark 0 (length whole - length rest))
     × (end_of_all 0 xs + length rest ≡ length whole)
 marked whole rest u v h =
     let j : chars whole ≡ 0xFEFF ∷ chars rest = strip-reads 0xFEFF (chars whole) (chars rest)
@@ -136,7 +138,7 @@ marked whole rest u v h =
     let d : length whole - length rest ≡ 3 = omega (arith, n) in (
       mark ∷ [],
       inl (refl, j),
-      sym (ap (λ b. between ByteOrderMark 0 b) d),
+      sym (ap (λ b. token_between ByteOrderMark 0 b) d),
       omega (arith, n),
     )
 
@@ -150,13 +152,13 @@ no-strip d (c ∷ t) h = by_test (c == d) h
 
 pub unmarked : (whole : List ℕ) → None ≡ strip 0xFEFF (chars whole)
     → (xs : List Lexeme) × IsMarked (chars whole) xs (chars whole)
-    × (placed 0 xs ≡ between ByteOrderMark 0 (length whole - length whole))
+    × (placed_tokens 0 xs ≡ token_between ByteOrderMark 0 (length whole - length whole))
     × (end_of_all 0 xs + length whole ≡ length whole)
 unmarked whole h =
     let d : length whole - length whole ≡ 0 = omega arith in (
       [],
       inr (refl, refl, no_pass _ (no-strip 0xFEFF (chars whole) h)),
-      sym (ap (λ b. between ByteOrderMark 0 b) d),
+      sym (ap (λ b. token_between ByteOrderMark 0 b) d),
       omega arith,
     )
 
@@ -244,7 +246,8 @@ pub shebanged : (whole hash line rest : List ℕ) → IsUtf8 whole → IsUtf8 re
     → Some (chars hash) ≡ strip 35 (chars whole) → Some (chars line) ≡ strip 33 (chars hash)
     → chars rest ≡ rest_after is_in_line (chars line) → (OpensAttribute (chars line) → ⊥)
     → (xs : List Lexeme) × IsShebanged (chars whole) xs (chars rest)
-    × ((at : ℕ) → (placed at xs ≡ between Shebang at (at + (length whole - length rest)))
+    × ((at : ℕ) → (placed_tokens at xs
+    ≡ token_between Shebang at (at + (length whole - length rest)))
     × (end_of_all at xs + length rest ≡ at + length whole))
 shebanged whole hash line rest u v h g b n =
     let f : Text = front is_in_line (chars line) in
@@ -291,7 +294,8 @@ shebang-within whole hash line rest u v h g b =
 
 unshebanged : (whole : List ℕ) → ((u : Text) → chars whole ≡ codes "#!" ++ u → OpensAttribute u)
     → (xs : List Lexeme) × IsShebanged (chars whole) xs (chars whole)
-    × ((at : ℕ) → (placed at xs ≡ between Shebang at (at + (length whole - length whole)))
+    × ((at : ℕ) → (placed_tokens at xs
+    ≡ token_between Shebang at (at + (length whole - length whole)))
     × (end_of_all at xs + length whole ≡ at + length whole))
 unshebanged whole f = (
   [],
@@ -301,7 +305,8 @@ unshebanged whole f = (
 
 pub no-hash : (whole : List ℕ) → None ≡ strip 35 (chars whole)
     → (xs : List Lexeme) × IsShebanged (chars whole) xs (chars whole)
-    × ((at : ℕ) → (placed at xs ≡ between Shebang at (at + (length whole - length whole)))
+    × ((at : ℕ) → (placed_tokens at xs
+    ≡ token_between Shebang at (at + (length whole - length whole)))
     × (end_of_all at xs + length whole ≡ at + length whole))
 no-hash whole h =
     unshebanged whole (λ u j. absurd (none-some _ (h ∙ ap (λ t. strip 35 t) j)))
@@ -309,7 +314,8 @@ no-hash whole h =
 pub no-bang : (whole hash : List ℕ) → Some (chars hash) ≡ strip 35 (chars whole)
     → None ≡ strip 33 (chars hash)
     → (xs : List Lexeme) × IsShebanged (chars whole) xs (chars whole)
-    × ((at : ℕ) → (placed at xs ≡ between Shebang at (at + (length whole - length whole)))
+    × ((at : ℕ) → (placed_tokens at xs
+    ≡ token_between Shebang at (at + (length whole - length whole)))
     × (end_of_all at xs + length whole ≡ at + length whole))
 no-bang whole hash h g =
     unshebanged whole (λ u j. absurd (none-some _ (g ∙ ap (λ t. strip 33 t)
@@ -318,7 +324,8 @@ no-bang whole hash h g =
 pub attribute : (whole hash line : List ℕ) → Some (chars hash) ≡ strip 35 (chars whole)
     → Some (chars line) ≡ strip 33 (chars hash) → OpensAttribute (chars line)
     → (xs : List Lexeme) × IsShebanged (chars whole) xs (chars whole)
-    × ((at : ℕ) → (placed at xs ≡ between Shebang at (at + (length whole - length whole)))
+    × ((at : ℕ) → (placed_tokens at xs
+    ≡ token_between Shebang at (at + (length whole - length whole)))
     × (end_of_all at xs + length whole ≡ at + length whole))
 attribute whole hash line h g a =
     unshebanged whole (λ u j. subst (λ t. OpensAttribute t)

@@ -5,7 +5,7 @@ use Rattle.std.proofs.Common.{length-append, arith}
 use Rattle.std.specs.Prelude.{◌==◌, codes, flat_map, replicate, option_map}
 use Rattle.std.specs.List.{list_all}
 use Rattle.std.proofs.lemmas.Bool.{eqb-true, false≢true, and_parts, cond_both}
-use Rattle.rust_tokens.specs.Texts.{Text, strip, or}
+use Rattle.rust_tokens.specs.Texts.{Text, strip, first_some}
 use Rattle.rust_tokens.specs.Runs.{rest_after, count, is_id_start, is_id_continue, is_hash}
 use Rattle.rust_tokens.specs.Strings.{spelling, after_string}
 use Rattle.rust_tokens.specs.RawStrings.{after_raw}
@@ -18,7 +18,7 @@ use Rattle.rust_tokens.specs.declared.kinds.Kind.TheVariants.{RawByteStr}
 use Rattle.rust_tokens.specs.declared.kinds.Kind.TheVariants.{RawCStr, Byte}
 use Rattle.rust_tokens.specs.declared.openings.Opening.{Opening}
 use Rattle.rust_tokens.specs.declared.openings.Opening.TheVariants.{Quote, Raw, ByteQuote, RawWord}
-use Rattle.rust_tokens.specs.First.{closed, closed_or, by_opening}
+use Rattle.rust_tokens.specs.First.{closed_body, closed_or, by_opening}
 use Rattle.rust_tokens.proofs.Basics.{strip-reads}
 use Rattle.rust_tokens.proofs.CharEnds.{char-reads}
 use Rattle.rust_tokens.proofs.Classes.{goes_on-quote, goes_on-hash, goes_on-tick}
@@ -38,7 +38,7 @@ rest-short a b c e =
     omega (arith, n)
 
 pub closed-short : (k : Kind) (o : Option Text) (s : Text)
-    → ((m : Text) → o ≡ Some m → length m ≤ length s) → length (closed k o).2 ≤ length s
+    → ((m : Text) → o ≡ Some m → length m ≤ length s) → length (closed_body k o).2 ≤ length s
 closed-short k None s f = omega arith
 closed-short k (Some m) s f = f m refl
 
@@ -78,7 +78,7 @@ quote-inside p k t = (
       rest-short t (flat_map spelling y.0 ++ codes "\"") m y.2),
 )
 
-raw-short : (k : Kind) (n : ℕ) (u : Text) → length (closed k (after_raw n u)).2 ≤ length u
+raw-short : (k : Kind) (n : ℕ) (u : Text) → length (closed_body k (after_raw n u)).2 ≤ length u
 raw-short k n u = closed-short k (after_raw n u) u (λ m h.
     let y = raw-reads n u m h in
     rest-short u (y.0 ++ 34 ∷ replicate n 35) m
@@ -160,11 +160,11 @@ c-inside (c ∷ t) =
     (λ y. at (raw_opening RawCStr t) (codes "c") t c 114 y (raw-inside (codes "cr") RawCStr t))
     (λ n. tt))
 
-r-inside : (t : Text) → Inside (114 ∷ t) (or (raw_opening RawStr t) (word_opening t))
+r-inside : (t : Text) → Inside (114 ∷ t) (first_some (raw_opening RawStr t) (word_opening t))
 r-inside t = by_raw (raw_opening RawStr t) (raw-inside (codes "r") RawStr t)
   where
     by_raw : (o : Option (Opening × Text)) → Inside (114 ∷ t) o
-        → Inside (114 ∷ t) (or o (word_opening t))
+        → Inside (114 ∷ t) (first_some o (word_opening t))
     by_raw None f = word-inside t
     by_raw (Some x) f = f
 
@@ -177,9 +177,9 @@ inside (c ∷ t) =
     (λ y. at (byte_opening t) [] t c 98 y (byte-inside t))
     (λ n. cond_both (c == 99) (c_opening t) _ (λ o. Inside (c ∷ t) o)
     (λ y. at (c_opening t) [] t c 99 y (c-inside t))
-    (λ n. cond_both (c == 114) (or (raw_opening RawStr t) (word_opening t)) None
+    (λ n. cond_both (c == 114) (first_some (raw_opening RawStr t) (word_opening t)) None
     (λ o. Inside (c ∷ t) o)
-    (λ y. at (or (raw_opening RawStr t) (word_opening t)) [] t c 114 y (r-inside t))
+    (λ y. at (first_some (raw_opening RawStr t) (word_opening t)) [] t c 114 y (r-inside t))
     (λ n. tt))))
 
 -- A token that begins with a word goes on after it.

@@ -8,7 +8,7 @@ use Rattle.rust_tokens.specs.declared.kinds.Kind.TheVariants.{Str, ByteStr, CStr
 use Rattle.rust_tokens.specs.declared.kinds.Kind.TheVariants.{RawByteStr, RawCStr}
 use Rattle.rust_tokens.specs.declared.openings.Opening.{Opening}
 use Rattle.rust_tokens.specs.declared.openings.Opening.TheVariants.{Quote, Raw, ByteQuote, RawWord}
-use Rattle.rust_tokens.specs.Texts.{Text, strip, or}
+use Rattle.rust_tokens.specs.Texts.{Text, strip, first_some}
 use Rattle.rust_tokens.specs.Runs.{rest_after, count, is_hash, is_id_start}
 
 -- The letters of a literal and its quote: `"`, `b"`, `c"`, `b'`.
@@ -59,4 +59,4 @@ first_opening [] = None
 first_opening (c ∷ t) = if c == code "\"" then Some (Quote Str, t) else
     (if c == code "b" then byte_opening t else
     (if c == code "c" then c_opening t else
-    (if c == code "r" then or (raw_opening RawStr t) (word_opening t) else None)))
+    (if c == code "r" then first_some (raw_opening RawStr t) (word_opening t) else None)))

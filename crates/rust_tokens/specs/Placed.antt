@@ -25,9 +25,9 @@ token_at at x = record {
 }
 
 -- The tokens one after the other, of which the first begins at this offset.
-abbrev pub placed : ℕ → List Lexeme → List Token
-placed at [] = []
-placed at (x ∷ xs) = token_at at x ∷ placed (end_of at x) xs
+abbrev pub placed_tokens : ℕ → List Lexeme → List Token
+placed_tokens at [] = []
+placed_tokens at (x ∷ xs) = token_at at x ∷ placed_tokens (end_of at x) xs
 
 -- The end of the last of these tokens.
 abbrev pub end_of_all : ℕ → List Lexeme → ℕ
@@ -35,8 +35,8 @@ end_of_all at [] = at
 end_of_all at (x ∷ xs) = end_of_all (end_of at x) xs
 
 -- One token of this kind between two offsets, or none if they are the same.
-abbrev pub between : Kind → ℕ → ℕ → List Token
-between k a b = if nat_lt a b then record {
+abbrev pub token_between : Kind → ℕ → ℕ → List Token
+token_between k a b = if nat_lt a b then record {
   kind = k;
   span = record { start = a; end = b };
   suffix_start = b;

@@ -1,7 +1,7 @@
 //! A token without its suffix, and the rest after it.
 
 ghost use Rattle.std.specs.Prelude.{◌≡◌, chars, false, true};
-ghost use Rattle.rust_tokens.specs.Seen.{seen};
+ghost use Rattle.rust_tokens.specs.Seen.{seen_body};
 
 use crate::kinds::Kind;
 
@@ -18,7 +18,7 @@ pub struct Body<'a> {
 
 /// Returns the token of this kind after which `rest` is left.
 pub fn ended_token(kind: Kind, rest: &str) -> Body<'_>
-    ensures { seen result ≡ (kind, true, chars rest.now) }
+    ensures { seen_body result ≡ (kind, true, chars rest.now) }
 {
     Body {
         kind,
@@ -29,7 +29,7 @@ pub fn ended_token(kind: Kind, rest: &str) -> Body<'_>
 
 /// Returns the token of this kind without its end after which `rest` is left.
 pub fn unended_token(kind: Kind, rest: &str) -> Body<'_>
-    ensures { seen result ≡ (kind, false, chars rest.now) }
+    ensures { seen_body result ≡ (kind, false, chars rest.now) }
 {
     Body {
         kind,

@@ -3,9 +3,9 @@
 ghost use Rattle.std.specs.Prelude.{◌≡◌, ◌<◌, ◌&&◌, ℕ, IfSome, Some, chars, false, length};
 ghost use Rattle.std.specs.Prelude.{option_map, slice_index, true};
 ghost use Rattle.rust_tokens.specs.Bytes.{begins_word};
-ghost use Rattle.rust_tokens.specs.First.{after_suffix, closed, first_of};
+ghost use Rattle.rust_tokens.specs.First.{after_suffix, closed_body, first_of};
 ghost use Rattle.rust_tokens.specs.First.{first_plain, first_quoted, first_slashed, by_opening};
-ghost use Rattle.rust_tokens.specs.Seen.{seen};
+ghost use Rattle.rust_tokens.specs.Seen.{seen_body};
 ghost use Rattle.rust_tokens.specs.Texts.{Text};
 ghost use Rattle.rust_tokens.specs.Tokens.{is_literal};
 
@@ -22,7 +22,7 @@ use crate::texts::{
 
 /// Returns the token with this end, or the one that is not ended, which takes all.
 fn closed_token<'a>(kind: Kind, end: Option<&'a str>) -> Body<'a>
-    ensures { seen result ≡ closed kind (option_map (λ r. chars r.now) end.entry) }
+    ensures { seen_body result ≡ closed_body kind (option_map (λ r. chars r.now) end.entry) }
 {
     match end {
         Some(rest) => ended_token(kind, rest),
@@ -32,7 +32,7 @@ fn closed_token<'a>(kind: Kind, end: Option<&'a str>) -> Body<'a>
 
 /// Returns the token that begins with a `/` before the text.
 fn first_slashed(text: &str) -> Body<'_>
-    ensures { seen result ≡ first_slashed (chars text.now) }
+    ensures { seen_body result ≡ first_slashed (chars text.now) }
 {
     let Some((c, rest)) = split_first(text) else {
         return ended_token(Kind::Punct, text);
@@ -49,7 +49,7 @@ fn first_slashed(text: &str) -> Body<'_>
 
 /// Returns the token that begins with an apostrophe before the text.
 fn first_quoted(text: &str) -> Body<'_>
-    ensures { seen result ≡ first_quoted (chars text.now) }
+    ensures { seen_body result ≡ first_quoted (chars text.now) }
 {
     if let Some(rest) = after_char(text) {
         return ended_token(Kind::Char, rest);
@@ -65,7 +65,7 @@ fn first_quoted(text: &str) -> Body<'_>
 
 /// Returns the token that begins with `c` before the text and has no opening.
 fn first_plain(c: char, text: &str) -> Body<'_>
-    ensures { seen result ≡ first_plain c (chars text.now) }
+    ensures { seen_body result ≡ first_plain c (chars text.now) }
 {
     if is_id_start(c) {
         let rest = after_run(text, Class::Continue);
@@ -90,7 +90,8 @@ fn first_plain(c: char, text: &str) -> Body<'_>
 
 /// Returns the token that goes on with the text after this opening.
 fn opened_token(opening: Opening, text: &str) -> Body<'_>
-    ensures { (c : ℕ) (t : Text) → seen result ≡ by_opening c t (Some (opening, chars text.now)) }
+    ensures { (c : ℕ) (t : Text) → seen_body result
+        ≡ by_opening c t (Some (opening, chars text.now)) }
 {
     match opening {
         Opening::Quote(kind) => closed_token(kind, after_string(text)),
@@ -110,7 +111,7 @@ fn opened_token(opening: Opening, text: &str) -> Body<'_>
 
 /// Returns the first token of a text, without its suffix, or `None` if the text is empty.
 pub fn first_body(text: &str) -> Option<Body<'_>>
-    ensures { option_map (λ b. seen b) result ≡ first_of (chars text.now) }
+    ensures { option_map (λ b. seen_body b) result ≡ first_of (chars text.now) }
 {
     let Some((c, rest)) = split_first(text) else {
         return None;

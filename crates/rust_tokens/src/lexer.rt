@@ -6,7 +6,8 @@ ghost use Rattle.std.specs.List.{list_all};
 ghost use Rattle.rust_tokens.specs.Covers.{Covers};
 ghost use Rattle.rust_tokens.specs.Files.{IsMarked, IsShebanged, OpensAttribute, ReadsFile, is_gap};
 ghost use Rattle.rust_tokens.specs.Files.{is_head};
-ghost use Rattle.rust_tokens.specs.Placed.{between, byte_length, end_of_all, placed, token_at};
+ghost use Rattle.rust_tokens.specs.Placed.{token_between, byte_length, end_of_all, placed_tokens};
+ghost use Rattle.rust_tokens.specs.Placed.{token_at};
 ghost use Rattle.rust_tokens.specs.Texts.{Text};
 ghost use Rattle.rust_tokens.specs.Tokens.{Begins, Lexeme, Reads};
 ghost use Rattle.rust_tokens.specs.declared.kinds.Kind.TheVariants.{ByteOrderMark, Shebang};
@@ -136,7 +137,7 @@ fn opens_attribute(text: &str) -> bool
 fn after_mark(text: &str) -> &str
     ensures within { length result.now ≤ length text.now }
     ensures marked { (xs : List Lexeme) × IsMarked (chars text.now) xs (chars result.now)
-        × (placed 0 xs ≡ between ByteOrderMark 0 (length text.now - length result.now))
+        × (placed_tokens 0 xs ≡ token_between ByteOrderMark 0 (length text.now - length result.now))
         × (end_of_all 0 xs + length result.now ≡ length text.now) }
 {
     match strip(text, '\u{feff}') {
@@ -149,8 +150,8 @@ fn after_mark(text: &str) -> &str
 fn after_shebang(text: &str) -> &str
     ensures within { length result.now ≤ length text.now }
     ensures shebanged { (xs : List Lexeme) × IsShebanged (chars text.now) xs (chars result.now)
-        × ((at : ℕ) → (placed at xs
-        ≡ between Shebang at (at + (length text.now - length result.now)))
+        × ((at : ℕ) → (placed_tokens at xs
+        ≡ token_between Shebang at (at + (length text.now - length result.now)))
         × (end_of_all at xs + length result.now ≡ at + length text.now)) }
 {
     let Some(after_hash) = strip(text, '#') else {
@@ -183,7 +184,8 @@ fn add_unless_empty(
     start: usize,
     end: usize,
 ) -> Result<(), AllocError>
-    ensures { IfOk result (λ _. tokens.new.items ≡ tokens.old.items ++ between kind start end) }
+    ensures { IfOk result (λ _. tokens.new.items ≡ tokens.old.items
+        ++ token_between kind start end) }
 {
     if start < end {
         tokens.push(Token {
@@ -199,7 +201,7 @@ fn add_unless_empty(
 /// Returns the tokens of a file. Returns `Err` if an allocation fails.
 pub fn tokens(alloc: Global, text: &str) -> Result<Vec<Token>, AllocError>
     ensures reads { IfOk result (λ v. (xs : List Lexeme) × ReadsFile (chars text.now) xs
-        × (v.items ≡ placed 0 xs)) }
+        × (v.items ≡ placed_tokens 0 xs)) }
     ensures covers { IfOk result (λ v. Covers 0 v.items (length text.now)) }
 {
     let unmarked_text = after_mark(text);

@@ -5,7 +5,7 @@ ghost use Rattle.rust_tokens.specs.First.{after_fraction, exponent_or, first_dec
 ghost use Rattle.rust_tokens.specs.First.{first_number, first_zero, fraction_or};
 ghost use Rattle.rust_tokens.specs.Numbers.{after_digits, after_exponent, after_point};
 ghost use Rattle.rust_tokens.specs.Numbers.{after_sign};
-ghost use Rattle.rust_tokens.specs.Seen.{seen};
+ghost use Rattle.rust_tokens.specs.Seen.{seen_body};
 
 use crate::bodies::{Body, ended_token};
 use crate::kinds::Kind;
@@ -62,7 +62,7 @@ fn after_point(text: &str) -> Option<&str>
 /// Returns a float with an exponent after which `exponent` is left, or else a number of this kind
 /// after which `rest` is left.
 fn exponent_or<'a>(kind: Kind, rest: &'a str, exponent: Option<&'a str>) -> Body<'a>
-    ensures { seen result ≡ exponent_or kind (chars rest.now)
+    ensures { seen_body result ≡ exponent_or kind (chars rest.now)
         (option_map (λ r. chars r.now) exponent.entry) }
 {
     match exponent {
@@ -73,7 +73,7 @@ fn exponent_or<'a>(kind: Kind, rest: &'a str, exponent: Option<&'a str>) -> Body
 
 /// Returns a number, from after its point on.
 fn after_fraction(text: &str) -> Body<'_>
-    ensures { seen result ≡ after_fraction (chars text.now) }
+    ensures { seen_body result ≡ after_fraction (chars text.now) }
 {
     if begins(text, Class::Digit) {
         let rest = after_run(text, Class::DigitPart);
@@ -84,7 +84,7 @@ fn after_fraction(text: &str) -> Body<'_>
 
 /// Returns a decimal number, from after its first digit on.
 fn first_decimal(text: &str) -> Body<'_>
-    ensures { seen result ≡ first_decimal (chars text.now) }
+    ensures { seen_body result ≡ first_decimal (chars text.now) }
 {
     let rest = after_run(text, Class::DigitPart);
     match after_point(rest) {
@@ -95,7 +95,7 @@ fn first_decimal(text: &str) -> Body<'_>
 
 /// Returns a number that begins with `0`, from after that on.
 fn first_zero(text: &str) -> Body<'_>
-    ensures { seen result ≡ first_zero (chars text.now) }
+    ensures { seen_body result ≡ first_zero (chars text.now) }
 {
     let Some((c, rest)) = split_first(text) else {
         return first_decimal(text);
@@ -119,7 +119,7 @@ fn first_zero(text: &str) -> Body<'_>
 
 /// Returns the number that begins with the digit `c` before the text.
 pub fn first_number(c: char, text: &str) -> Body<'_>
-    ensures { seen result ≡ first_number c (chars text.now) }
+    ensures { seen_body result ≡ first_number c (chars text.now) }
 {
     if c == '0' {
         first_zero(text)

@@ -23,7 +23,7 @@ use Rattle.format_calls.specs.Marks.{is_word, word}
 use Rattle.call_forms.specs.Paths.{is_foreign}
 use Rattle.source_lint.specs.CallLists.{Gives}
 use Rattle.source_lint.specs.Readings.{Reads, ReadsUnless, Scope, is_log, name_of_leaf}
-use Rattle.source_lint.specs.Readings.{offset_of_leaf, skipped, skipped_if}
+use Rattle.source_lint.specs.Readings.{offset_of_leaf, skipped_reading, skipped_if}
 use Rattle.source_lint.specs.Files.{AreLeaves}
 use Rattle.source_lint.specs.Reports.{ReadsCalls}
 use Rattle.source_lint.proofs.Reporting.{same-leaves}
@@ -110,7 +110,8 @@ defines-all start u found w m h l =
     let t = h [] l in (t.0, t.1, λ n. sym (t.2 n ∙ or-none (has found n)))
 
 pub skipped-same : (s t : Scope) (r : Rule) (o : Option Leaf) → s.text ≡ t.text
-    → ((n : List ℕ) → has s.defined n ≡ has t.defined n) → skipped s r o ≡ skipped t r o
+    → ((n : List ℕ) → has s.defined n ≡ has t.defined n) → skipped_reading s r o
+    ≡ skipped_reading t r o
 skipped-same s t r o w e =
     ap (λ b. skipped_if b (is_log r (name_of_leaf o) && is_foreign s.text (offset_of_leaf o)))
     (e (name_of_leaf o))

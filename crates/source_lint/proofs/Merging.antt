@@ -9,7 +9,7 @@ use Rattle.std.proofs.lemmas.List.Elements.{Contains-append_right}
 use Rattle.rust_trees.specs.Forests.{IsPair}
 use Rattle.rust_trees.specs.Leaves.{Leaf}
 use Rattle.format_calls.specs.Calls.{IsCall, Rises}
-use Rattle.format_calls.specs.Parts.{IsPart, moved}
+use Rattle.format_calls.specs.Parts.{IsPart, moved_call}
 use Rattle.format_calls.specs.Rows.{Entry}
 use Rattle.format_calls.specs.declared.listing.Call.{Call}
 use Rattle.format_calls.proofs.CallSteps.{call-within}
@@ -19,12 +19,13 @@ use Rattle.call_forms.proofs.Embedding.{Embeds, embeds}
 
 -- Calls in order stay so further on, and after others.
 rises-moved : (g from to : ℕ) (cs : List Call) → Rises from cs to
-    → Rises (g + from) (map (moved g) cs) (g + to)
+    → Rises (g + from) (map (moved_call g) cs) (g + to)
 rises-moved g from to [] r = omega (arith, r)
 rises-moved g from to (c ∷ cs) r =
     let n : g + (c.name + 1) ≡ g + c.name + 1 = omega arith in (
       omega (arith, r.0),
-      subst (λ v. Rises v (map (moved g) cs) (g + to)) n (rises-moved g (c.name + 1) to cs r.1),
+      subst (λ v. Rises v (map (moved_call g) cs) (g + to)) n (rises-moved g (c.name + 1) to cs
+          r.1),
     )
 
 rises-from : (less from to : ℕ) (cs : List Call) → less ≤ from → Rises from cs to
@@ -42,7 +43,7 @@ abbrev back : ℕ → Call → Call
 back n c = record { rule = c.rule; name = c.name - n; close = c.close - n }
 
 moved-back : (n : ℕ) (c : Call) → n ≤ c.name → n ≤ c.close
-    → ◌≡◌ {A = Call} (moved n (back n c)) c
+    → ◌≡◌ {A = Call} (moved_call n (back n c)) c
 moved-back n c h k =
     let a : n + (c.name - n) ≡ c.name = omega (arith, h) in
     let b : n + (c.close - n) ≡ c.close = omega (arith, k) in
@@ -55,16 +56,16 @@ closes-later es xs c k = let e = k.is_pair.ends in omega (arith, e)
 -- A call of a part, or of what is left after it, is one of all.
 is-one : (es : List Entry) (gap part left : List Leaf) (cs ds : List Call) (c : Call)
     → IsPart es gap part left → AreCalls es part cs → AreCalls es left ds
-    → Contains (map (moved (length gap)) cs) c
-    ⊎ Contains (map (moved (length gap + length part)) ds) c
+    → Contains (map (moved_call (length gap)) cs) c
+    ⊎ Contains (map (moved_call (length gap + length part)) ds) c
     → IsCall es (gap ++ (part ++ left)) c
 is-one es gap part left cs ds c p a b (inl h) =
-    let f = in-mapped (moved (length gap)) cs c h in
+    let f = in-mapped (moved_call (length gap)) cs c h in
     let k = (a.each f.from).0 f.is_in in
     subst (λ d. IsCall es (gap ++ (part ++ left)) d) f.is_it
     ((p.inside f.from (call-within es part f.from k)).0 k)
 is-one es gap part left cs ds c p a b (inr h) =
-    let f = in-mapped (moved (length gap + length part)) ds c h in
+    let f = in-mapped (moved_call (length gap + length part)) ds c h in
     subst (λ d. IsCall es (gap ++ (part ++ left)) d) f.is_it
     ((p.rest_after f.from).0 ((b.each f.from).0 f.is_in))
 
@@ -72,14 +73,15 @@ is-one es gap part left cs ds c p a b (inr h) =
 is-there : (es : List Entry) (gap part left : List Leaf) (cs ds : List Call) (c : Call)
     → IsPart es gap part left → AreCalls es part cs → AreCalls es left ds
     → IsCall es (gap ++ (part ++ left)) c
-    → Contains (map (moved (length gap)) cs ++ map (moved (length gap + length part)) ds) c
+    → Contains (map (moved_call (length gap)) cs
+    ++ map (moved_call (length gap + length part)) ds) c
 is-there es gap part left cs ds c p a b k = by_place (cases_lt c.name (length gap + length part))
   where
     first : List Call
-    first = map (moved (length gap)) cs
+    first = map (moved_call (length gap)) cs
 
     second : List Call
-    second = map (moved (length gap + length part)) ds
+    second = map (moved_call (length gap + length part)) ds
 
     by_place : (c.name < length gap + length part) ⊎ (length gap + length part ≤ c.name)
         → Contains (first ++ second) c
@@ -87,26 +89,27 @@ is-there es gap part left cs ds c p a b k = by_place (cases_lt c.name (length ga
         let g = p.before c k in
         let z = closes-later es (gap ++ (part ++ left)) c k in
         let d = back (length gap) c in
-        let e : moved (length gap) d ≡ c =
+        let e : moved_call (length gap) d ≡ c =
         moved-back (length gap) c g (omega (arith, g, z)) in
         let m = (p.inside d (omega (arith, g, l))).1
         (subst (λ v. IsCall es (gap ++ (part ++ left)) v) (sym e) k) in
         Contains-append_left first second c
-        (subst (λ v. Contains first v) e (mapped-in (moved (length gap)) cs d ((a.each d).1 m)))
+        (subst (λ v. Contains first v) e
+            (mapped-in (moved_call (length gap)) cs d ((a.each d).1 m)))
     by_place (inr l) =
         let z = closes-later es (gap ++ (part ++ left)) c k in
         let d = back (length gap + length part) c in
-        let e : moved (length gap + length part) d ≡ c =
+        let e : moved_call (length gap + length part) d ≡ c =
         moved-back (length gap + length part) c l (omega (arith, l, z)) in
         let m = (p.rest_after d).1 (subst (λ v. IsCall es (gap ++ (part ++ left)) v) (sym e) k) in
         Contains-append_right first second c (subst (λ v. Contains second v) e
-        (mapped-in (moved (length gap + length part)) ds d ((b.each d).1 m)))
+        (mapped-in (moved_call (length gap + length part)) ds d ((b.each d).1 m)))
 
 -- The calls of a part and those of what is left after it.
 calls-join : (es : List Entry) (gap part left : List Leaf) (cs ds : List Call)
     → IsPart es gap part left → AreCalls es part cs → AreCalls es left ds
     → AreCalls es (gap ++ (part ++ left))
-    (map (moved (length gap)) cs ++ map (moved (length gap + length part)) ds)
+    (map (moved_call (length gap)) cs ++ map (moved_call (length gap + length part)) ds)
 calls-join es gap part left cs ds p a b =
     let k = length-append gap (part ++ left) in
     let l = length-append part left in
@@ -123,9 +126,9 @@ calls-join es gap part left cs ds p a b =
       in_order = rises-from 0 (length gap + 0) (length (gap ++ (part ++ left))) _ (omega arith)
           (rises-join (length gap + 0) (length gap + length part + 0)
           (length (gap ++ (part ++ left))) _ _
-          (subst (λ v. Rises (length gap + 0) (map (moved (length gap)) cs) v) mid first)
+          (subst (λ v. Rises (length gap + 0) (map (moved_call (length gap)) cs) v) mid first)
           (subst (λ v. Rises (length gap + length part + 0)
-          (map (moved (length gap + length part)) ds) v) end second));
+          (map (moved_call (length gap + length part)) ds) v) end second));
     }
 
 -- The tokens that are left after a part stand after the gap and the part.
@@ -140,13 +143,13 @@ left-embeds gap part left =
 -- P holds of a call among other tokens too.
 pub record Moves {R F : Type 0} (P : List Leaf → Call → R → List F → Type 0) : Type 0 where
   pub moves : (xs ys : List Leaf) (g : ℕ) (c : Call) (r : R) (fs : List F) → Embeds xs ys g
-      → IsPair xs (c.name + 2) c.close → P xs c r fs → P ys (moved g c) r fs
+      → IsPair xs (c.name + 2) c.close → P xs c r fs → P ys (moved_call g c) r fs
 
 -- The calls give the same among other tokens.
 gives-moved : {R F : Type 0} (P : List Leaf → Call → R → List F → Type 0) (es : List Entry)
     (xs ys : List Leaf) (g : ℕ) (cs : List Call) (rs : List R) (fs : List F) → Moves P
     → Embeds xs ys g → ((c : Call) → Contains cs c → IsCall es xs c) → Gives (P xs) cs rs fs
-    → Gives (P ys) (map (moved g) cs) rs fs
+    → Gives (P ys) (map (moved_call g) cs) rs fs
 gives-moved P es xs ys g [] rs fs m e k h = h
 gives-moved P es xs ys g (c ∷ cs) rs fs m e k h = (
   h.0,
@@ -211,7 +214,8 @@ merged P es xs (p ∷ ps) rs fs m h =
     h.5 m (left-embeds gap p left) (λ c k. (b.are_calls.each c).0 k) b.gives in
     let all : OfCalls P es (gap ++ (p ++ left)) (h.2 ++ h.3) (h.4 ++ h.5) =
     record {
-      calls = map (moved (length gap)) a.calls ++ map (moved (length gap + length p)) b.calls;
+      calls = map (moved_call (length gap)) a.calls
+          ++ map (moved_call (length gap + length p)) b.calls;
       are_calls = calls-join es gap p left a.calls b.calls h.7 a.are_calls b.are_calls;
       gives = gives-join (P (gap ++ (p ++ left))) _ _ h.2 h.3 h.4 h.5 first second;
     } in

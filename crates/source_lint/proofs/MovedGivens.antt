@@ -8,7 +8,7 @@ use Rattle.std.proofs.lemmas.List.{drop-map}
 use Rattle.rust_trees.specs.Leaves.{Leaf}
 use Rattle.format_calls.specs.declared.split.Argument.{Argument}
 use Rattle.asm_lint.specs.Names.{name_of}
-use Rattle.source_lint.specs.Givens.{given, variable, variable_of}
+use Rattle.source_lint.specs.Givens.{given_argument, variable, variable_of}
 use Rattle.source_lint.specs.Readings.{arguments_before}
 use Rattle.call_forms.proofs.Embedding.{Embeds}
 use Rattle.call_forms.proofs.MovedArguments.{LiesIn, less-same, shifted}
@@ -28,7 +28,7 @@ variable-same xs ys g from to a e h l =
     then option_and_then variable (slice_get xs a.start) else None) (size-same g a.start a.end))
 
 given-same : (xs ys : List Leaf) (g from to : ℕ) (a : Argument) → Embeds xs ys g → to < length xs
-    → LiesIn from to a → given ys (shifted g a) ≡ given xs a
+    → LiesIn from to a → given_argument ys (shifted g a) ≡ given_argument xs a
 given-same xs ys g from to a e h l =
     ap (λ n. record { name = n; variable = variable_of ys (shifted g a) })
     (name-same xs ys g from to a e h l)
@@ -37,11 +37,12 @@ given-same xs ys g from to a e h l =
 
 givens-same : (xs ys : List Leaf) (g from to : ℕ) (bs : List Argument) → Embeds xs ys g
     → to < length xs → AllByRecursion (λ a. LiesIn from to a) bs
-    → map (given ys) (map (shifted g) bs) ≡ map (given xs) bs
+    → map (given_argument ys) (map (shifted g) bs) ≡ map (given_argument xs) bs
 givens-same xs ys g from to [] e h l = refl
 givens-same xs ys g from to (a ∷ bs) e h l =
-    ap (λ v. v ∷ map (given ys) (map (shifted g) bs)) (given-same xs ys g from to a e h l.0)
-    ∙ ap (λ v. given xs a ∷ v) (givens-same xs ys g from to bs e h l.1)
+    ap (λ v. v ∷ map (given_argument ys) (map (shifted g) bs)) (given-same xs ys g from to a e h
+        l.0)
+    ∙ ap (λ v. given_argument xs a ∷ v) (givens-same xs ys g from to bs e h l.1)
 
 pub lies-drop : (from to n : ℕ) (bs : List Argument) → AllByRecursion (λ a. LiesIn from to a) bs
     → AllByRecursion (λ a. LiesIn from to a) (drop n bs)
@@ -51,10 +52,10 @@ lies-drop from to (suc n) (a ∷ bs) l = lies-drop from to n bs l.1
 
 pub others-same : (xs ys : List Leaf) (g from to end n : ℕ) (bs : List Argument) → Embeds xs ys g
     → to < length xs → AllByRecursion (λ a. LiesIn from to a) bs
-    → map (given ys) (arguments_before (g + end) (drop n (map (shifted g) bs)))
-    ≡ map (given xs) (arguments_before end (drop n bs))
+    → map (given_argument ys) (arguments_before (g + end) (drop n (map (shifted g) bs)))
+    ≡ map (given_argument xs) (arguments_before end (drop n bs))
 others-same xs ys g from to end n bs e h l =
-    ap (λ v. map (given ys) (arguments_before (g + end) v)) (drop-map (shifted g) n bs)
-    ∙ (ap (map (given ys)) (before-at g end (drop n bs))
+    ap (λ v. map (given_argument ys) (arguments_before (g + end) v)) (drop-map (shifted g) n bs)
+    ∙ (ap (map (given_argument ys)) (before-at g end (drop n bs))
     ∙ givens-same xs ys g from to (arguments_before end (drop n bs)) e h
     (before-lie from to end (drop n bs) (lies-drop from to n bs l)))

@@ -9,7 +9,7 @@ use Rattle.rust_trees.specs.Forests.{IsPair}
 use Rattle.rust_trees.proofs.Growing.{pair-within}
 use Rattle.format_calls.specs.Arguments.{AreArguments, tokens_of}
 use Rattle.format_calls.specs.Counted.{AreUpTo}
-use Rattle.format_calls.specs.Parts.{moved}
+use Rattle.format_calls.specs.Parts.{moved_call}
 use Rattle.format_calls.specs.Strings.{format_string}
 use Rattle.format_calls.specs.declared.listing.Call.{Call}
 use Rattle.format_calls.specs.declared.split.Argument.{Argument}
@@ -20,14 +20,14 @@ use Rattle.source_report.specs.declared.report.CallReading.{CallReading}
 use Rattle.source_report.specs.declared.report.Finding.{Finding}
 use Rattle.asm_lint.specs.Literals.{appends_newline}
 use Rattle.source_lint.specs.FormWords.{TellsForms}
-use Rattle.call_forms.specs.Expressions.{joined}
+use Rattle.call_forms.specs.Expressions.{joined_operand}
 use Rattle.call_forms.specs.Forms.{form_here}
 use Rattle.source_lint.specs.Readings.{Reads, ReadsAt, ReadsBy, ReadsOne, ReadsUnless}
 use Rattle.source_lint.specs.Readings.{captures_variables}
 use Rattle.source_lint.specs.Readings.{ends_early}
 use Rattle.source_lint.specs.Readings.{has_expressions, index_if, index_or, is_empty}
 use Rattle.source_lint.specs.Readings.{lack_expression, name_at}
-use Rattle.source_lint.specs.Readings.{Scope, name_of_leaf, skipped}
+use Rattle.source_lint.specs.Readings.{Scope, name_of_leaf, skipped_reading}
 use Rattle.source_lint.proofs.Calling.{reads-by}
 use Rattle.call_forms.proofs.Embedding.{Embeds}
 use Rattle.source_lint.proofs.Merging.{Moves}
@@ -46,7 +46,7 @@ name-same xs ys g i e h = ap (λ o. name_of_leaf o) (e.same i h)
 at-same : (is_new : Bool) (xs ys : List Leaf) (g : ℕ) (c : Call) (bs : List Argument) (n : ℕ)
     (r : CallReading) (fs : List Finding) → Embeds xs ys g → IsPair xs (c.name + 2) c.close
     → AreArguments xs (c.name + 3) bs c.close → ReadsAt is_new xs c bs n r fs
-    → ReadsAt is_new ys (moved g c) (map (shifted g) bs) n r fs
+    → ReadsAt is_new ys (moved_call g c) (map (shifted g) bs) n r fs
 at-same is_new xs ys g c bs n r fs e p k h =
     let w = (pair-within xs (c.name + 2) c.close p).1 in
     let q = p.ends in
@@ -79,7 +79,7 @@ one-same : (rule : Rule) (is_new : Bool) (xs ys : List Leaf) (g : ℕ) (c : Call
     (bs : List Argument) (n : ℕ) (r : CallReading) (fs : List Finding) → Embeds xs ys g
     → IsPair xs (c.name + 2) c.close → AreArguments xs (c.name + 3) bs c.close
     → ReadsOne rule is_new xs c bs n r fs
-    → ReadsOne rule is_new ys (moved g c) (map (shifted g) bs) n r fs
+    → ReadsOne rule is_new ys (moved_call g c) (map (shifted g) bs) n r fs
 one-same (Index m) is_new xs ys g c bs n r fs e p k h = at-same is_new xs ys g c bs n r fs e p k h
 one-same (IndexByEdition m) is_new xs ys g c bs n r fs e p k h =
     at-same is_new xs ys g c bs n r fs e p k h
@@ -91,7 +91,7 @@ by-same : (is_new : Bool) (xs ys : List Leaf) (g : ℕ) (c : Call) (bs : List Ar
     (o : Result ℕ CallReading) (r : CallReading) (fs : List Finding) → Embeds xs ys g
     → IsPair xs (c.name + 2) c.close → AreArguments xs (c.name + 3) bs c.close
     → ReadsBy is_new xs c bs o r fs
-    → ReadsBy is_new ys (moved g c) (map (shifted g) bs) o r fs
+    → ReadsBy is_new ys (moved_call g c) (map (shifted g) bs) o r fs
 by-same is_new xs ys g c bs (Ok n) r fs e p k h =
     one-same c.rule is_new xs ys g c bs n r fs e p k h
 by-same is_new xs ys g c bs (Err q) r fs e p k h =
@@ -119,19 +119,19 @@ pub index-same : (xs ys : List Leaf) (g from to : ℕ) (r : Rule) (bs : List Arg
     → index_or is_new ys r (map (shifted g) bs) ≡ index_or is_new xs r bs
 index-same xs ys g from to r bs is_new e w l =
     ap (λ b. index_if (b || lack_expression r (map (tokens_of ys) (map (shifted g) bs)))
-    (has_expressions r && list_any (λ p. is_some (joined p))
+    (has_expressions r && list_any (λ p. is_some (joined_operand p))
     (map (tokens_of ys) (map (shifted g) bs)))
     (format_string ys r (map (shifted g) bs) is_new)) (empty-same g bs)
     ∙ (ap (λ ps. index_if (list_any is_empty bs || lack_expression r ps)
-    (has_expressions r && list_any (λ p. is_some (joined p)) ps)
+    (has_expressions r && list_any (λ p. is_some (joined_operand p)) ps)
     (format_string ys r (map (shifted g) bs) is_new)) (parts-same xs ys g from to bs e w l)
     ∙ ap (λ o. index_if (list_any is_empty bs || lack_expression r (map (tokens_of xs) bs))
-    (has_expressions r && list_any (λ p. is_some (joined p)) (map (tokens_of xs) bs)) o)
+    (has_expressions r && list_any (λ p. is_some (joined_operand p)) (map (tokens_of xs) bs)) o)
     (string-same xs ys g from to r bs is_new e w l))
 
 unless-same : (o : Option CallReading) (is_new : Bool) (xs ys : List Leaf) (g : ℕ) (c : Call)
     (r : CallReading) (fs : List Finding) → Embeds xs ys g → IsPair xs (c.name + 2) c.close
-    → ReadsUnless o is_new xs c r fs → ReadsUnless o is_new ys (moved g c) r fs
+    → ReadsUnless o is_new xs c r fs → ReadsUnless o is_new ys (moved_call g c) r fs
 unless-same (Some q) is_new xs ys g c r fs e p h = h
 unless-same None is_new xs ys g c r fs e p h =
     let w = (pair-within xs (c.name + 2) c.close p).1 in
@@ -139,7 +139,7 @@ unless-same None is_new xs ys g c r fs e p h =
       map (shifted g) h.0,
       subst (λ v. AreArguments ys v (map (shifted g) h.0) (g + c.close)) n
           (arguments-at xs ys g (c.name + 2) c.close (c.name + 3) h.0 e p (omega arith) h.1),
-      subst (λ v. ReadsBy is_new ys (moved g c) (map (shifted g) h.0) v r fs)
+      subst (λ v. ReadsBy is_new ys (moved_call g c) (map (shifted g) h.0) v r fs)
           (sym (index-same xs ys g (c.name + 3) c.close c.rule h.0 is_new e w
           (arguments-lie xs (c.name + 3) c.close h.0 h.1)))
           (by-same is_new xs ys g c h.0 (index_or is_new xs c.rule h.0) r fs e p h.1 h.2),
@@ -148,13 +148,13 @@ unless-same None is_new xs ys g c r fs e p h =
 -- The same is read, and the same is found.
 reads-same : (s : Scope) (is_new : Bool) (xs ys : List Leaf) (g : ℕ) (c : Call)
     (r : CallReading) (fs : List Finding) → Embeds xs ys g → IsPair xs (c.name + 2) c.close
-    → Reads s is_new xs c r fs → Reads s is_new ys (moved g c) r fs
+    → Reads s is_new xs c r fs → Reads s is_new ys (moved_call g c) r fs
 reads-same s is_new xs ys g c r fs e p h =
     let w = (pair-within xs (c.name + 2) c.close p).1 in
     let q = p.ends in
-    subst (λ o. ReadsUnless (skipped s c.rule o) is_new ys (moved g c) r fs)
+    subst (λ o. ReadsUnless (skipped_reading s c.rule o) is_new ys (moved_call g c) r fs)
     (sym (e.same c.name (omega (arith, w, q))))
-    (unless-same (skipped s c.rule (slice_get xs c.name)) is_new xs ys g c r fs e p h)
+    (unless-same (skipped_reading s c.rule (slice_get xs c.name)) is_new xs ys g c r fs e p h)
 
 pub reads-move : (s : Scope) (is_new : Bool) → Moves (Reads s is_new)
 reads-move s is_new = record {

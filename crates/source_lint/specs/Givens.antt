@@ -32,5 +32,5 @@ variable_of xs a = if not a.is_named && (nat_lt a.start a.end && (a.end - a.star
     then option_and_then variable (slice_get xs a.start) else None
 
 -- An argument, as placeholders refer to it.
-abbrev pub given : List Leaf → Argument → FormatArgument
-given xs a = record { name = name_of xs a; variable = variable_of xs a }
+abbrev pub given_argument : List Leaf → Argument → FormatArgument
+given_argument xs a = record { name = name_of xs a; variable = variable_of xs a }

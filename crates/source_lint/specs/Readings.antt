@@ -40,9 +40,9 @@ use Rattle.asm_lint.specs.Assembly.{ReadsTemplates}
 use Rattle.source_lint.specs.Findings.{AreFindings}
 use Rattle.asm_lint.specs.Assembly.{reading_of}
 use Rattle.source_lint.specs.FormWords.{TellsForms}
-use Rattle.call_forms.specs.Expressions.{has_variable, joined}
+use Rattle.call_forms.specs.Expressions.{has_variable, joined_operand}
 use Rattle.call_forms.specs.Forms.{form_here}
-use Rattle.source_lint.specs.Givens.{given}
+use Rattle.source_lint.specs.Givens.{given_argument}
 use Rattle.asm_lint.specs.Literals.{appends_newline, without_crs}
 use Rattle.source_lint.specs.Macros.{names_in}
 use Rattle.call_forms.specs.Operators.{lacks_operand}
@@ -134,7 +134,7 @@ pub record ReadsAt (is_new : Bool) (xs : List Leaf) (c : Call) (args : List Argu
   pub reads : ReadsLiteral (without_crs (chars literal.text)) (appends_newline (name_at xs c.name))
       (captures_variables is_new c.rule (name_at xs c.name))
       (not (list_any (is_uncounted xs) trees))
-      (map (given xs) (arguments_before end (drop (n + 1) args))) r fs
+      (map (given_argument xs) (arguments_before end (drop (n + 1) args))) r fs
 
 -- The same where the argument n is the format string by this rule, or where it is the first
 -- template.
@@ -193,7 +193,7 @@ has_expressions Templates = false
 abbrev pub index_or : Bool → List Leaf → Rule → List Argument → Result ℕ CallReading
 index_or is_new xs r args = index_if
     (list_any is_empty args || lack_expression r (map (tokens_of xs) args))
-    (has_expressions r && list_any (λ p. is_some (joined p)) (map (tokens_of xs) args))
+    (has_expressions r && list_any (λ p. is_some (joined_operand p)) (map (tokens_of xs) args))
     (format_string xs r args is_new)
 
 -- The parts of a file that say which macro a name is: its text, in bytes, and the names of the
@@ -226,8 +226,8 @@ skipped_if false false = None
 -- The reading of a call with this rule and this name, if its macro is another one than that of the
 -- table: the file defines one of this name, or the name is one of log, tracing or slog, with a path
 -- of another crate in front of it.
-abbrev pub skipped : Scope → Rule → Option Leaf → Option CallReading
-skipped s r o = skipped_if (list_any (bytes_eq (name_of_leaf o)) s.defined)
+abbrev pub skipped_reading : Scope → Rule → Option Leaf → Option CallReading
+skipped_reading s r o = skipped_if (list_any (bytes_eq (name_of_leaf o)) s.defined)
     (is_log r (name_of_leaf o) && is_foreign s.text (offset_of_leaf o))
 
 -- The same, unless this is the reading, since the macro is another one.
@@ -242,4 +242,4 @@ ReadsUnless None is_new xs c r fs = (args : List Argument)
 -- 2021 on or not.
 abbrev pub Reads : Scope → Bool → List Leaf → Call → CallReading → List Finding → Type 0
 Reads s is_new xs c r fs =
-    ReadsUnless (skipped s c.rule (slice_get xs c.name)) is_new xs c r fs
+    ReadsUnless (skipped_reading s c.rule (slice_get xs c.name)) is_new xs c r fs

@@ -4,7 +4,7 @@ ghost use Rattle.std.specs.Prelude.{◌≡◌, IfOk, map, option_map};
 ghost use Rattle.placeholder_check.specs.Seen.{text};
 ghost use Rattle.rust_trees.specs.Leaves.{leaf};
 ghost use Rattle.call_faults.specs.Seen.{seen_given};
-ghost use Rattle.source_lint.specs.Givens.{given, is_keyword, variable, variable_of};
+ghost use Rattle.source_lint.specs.Givens.{given_argument, is_keyword, variable, variable_of};
 ghost use Rattle.asm_lint.specs.Names.{name_of};
 ghost use Rattle.asm_lint.specs.Names.{without_raw};
 
@@ -60,7 +60,7 @@ fn variable_of<'a>(tokens: &[Token<'a>], argument: &Argument) -> Option<&'a str>
 
 /// Returns an argument as placeholders refer to it.
 fn format_argument<'a>(tokens: &[Token<'a>], argument: &Argument) -> FormatArgument<'a>
-    ensures { seen_given result ≡ given (map leaf tokens.now) argument.now }
+    ensures { seen_given result ≡ given_argument (map leaf tokens.now) argument.now }
 {
     FormatArgument {
         name: name_of(tokens, argument),
@@ -75,7 +75,7 @@ pub fn givens<'a>(
     arguments: &[Argument],
 ) -> Result<Vec<FormatArgument<'a>>, AllocError>
     ensures { IfOk result (λ v. map seen_given v.items
-        ≡ map (given (map leaf tokens.now)) arguments.now) }
+        ≡ map (given_argument (map leaf tokens.now)) arguments.now) }
 {
     let mut list = Vec::new(alloc);
     for argument in arguments {

@@ -5,7 +5,8 @@ ghost use Rattle.std.specs.List.{list_any};
 ghost use Rattle.std.specs.Str.{bytes_eq};
 ghost use Rattle.source_lint.specs.Macros.{begins_definition, definition, is_macro_rules};
 ghost use Rattle.source_lint.specs.Macros.{macro_names, names_in};
-ghost use Rattle.source_lint.specs.Readings.{is_log, name_at, offset_of_leaf, scope, skipped};
+ghost use Rattle.source_lint.specs.Readings.{is_log, name_at, offset_of_leaf, scope};
+ghost use Rattle.source_lint.specs.Readings.{skipped_reading};
 ghost use Rattle.source_lint.specs.Files.{AreLeaves};
 ghost use Rattle.rust_trees.specs.Leaves.{Leaf, leaf};
 
@@ -124,7 +125,7 @@ fn is_log(rule: Rule, name: &[u8]) -> bool
 /// Returns the reading of a call whose macro is another one than that of the table, or `None` if it
 /// is that one, as far as the file shows.
 pub fn other_macro<'a>(file: File<'_, 'a>, tokens: &[Token<'a>], call: &Call) -> Option<CallReading>
-    ensures { result ≡ skipped (scope file.entry) call.now.rule
+    ensures { result ≡ skipped_reading (scope file.entry) call.now.rule
         (slice_get (map leaf tokens.now) call.now.name) }
 {
     let name = name_at(tokens, call.name);

@@ -12,7 +12,7 @@ ghost use Rattle.format_calls.specs.declared.split.Argument.{Argument as Argumen
 ghost use Rattle.call_faults.specs.Seen.{seen_given, start};
 ghost use Rattle.source_lint.specs.Findings.{AreFindings};
 ghost use Rattle.asm_lint.specs.Spans.{HasSpans};
-ghost use Rattle.source_lint.specs.Givens.{given};
+ghost use Rattle.source_lint.specs.Givens.{given_argument};
 ghost use Rattle.asm_lint.specs.Literals.{appends_newline, without_crs};
 ghost use Rattle.source_lint.specs.Readings.{Reads, ReadsAt, ReadsLiteral, ReadsOne, call_of};
 ghost use Rattle.call_forms.specs.Operators.{lacks_operand};
@@ -43,7 +43,7 @@ fn counted_givens<'a>(
     is_counted: bool,
 ) -> Result<Vec<FormatArgument<'a>>, AllocError>
     ensures { IfOk result (λ v. map seen_given v.items
-        ≡ counted_givens is_counted (map (given (map leaf tokens.now)) arguments.now)) }
+        ≡ counted_givens is_counted (map (given_argument (map leaf tokens.now)) arguments.now)) }
 {
     if !is_counted {
         return Ok(Vec::new(alloc));
@@ -88,7 +88,8 @@ fn read_string(
         × (findings.new.items ≡ findings.old.items ++ xs)
         × ReadsLiteral (without_crs (chars site.entry.literal.text.now)) appended_newline
         captures_variables
-        is_counted (map (given (map leaf site.entry.tokens.now)) site.entry.arguments.now) r xs) }
+        is_counted (map (given_argument (map leaf site.entry.tokens.now)) site.entry.arguments.now)
+            r xs) }
     ensures spans { OnOk result (All (HasSpans site.entry.text.now) findings.old.items
         → All (HasSpans site.entry.text.now) findings.new.items) }
 {
@@ -180,7 +181,7 @@ fn read_with(
         × ReadsLiteral (without_crs (chars literal.entry.text.now))
         (appends_newline (name_at part.now call.now.name))
         (captures_variables file.entry.is_from_2021 call.now.rule (name_at part.now call.now.name))
-        is_counted (map (given part.now) arguments.now) r xs) }
+        is_counted (map (given_argument part.now) arguments.now) r xs) }
     ensures spans { OnOk result (All (HasSpans file.entry.text.now) findings.old.items
         → All (HasSpans file.entry.text.now) findings.new.items) }
 {

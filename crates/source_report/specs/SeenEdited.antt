@@ -2,7 +2,7 @@
 use Rattle.std.specs.Prelude.{◌++◌, ℕ, List, map}
 use Rattle.fault_fixes.specs.Edits.{Edit, edited_bytes}
 use Rattle.source_report.specs.declared.report.Finding.{Finding}
-use Rattle.source_report.specs.Suggestions.{LabelSuggestion, all_edits, mended}
+use Rattle.source_report.specs.Suggestions.{LabelSuggestion, all_edits, mended_faults}
 use Rattle.source_report.specs.declared.edited.EditedText.{EditedText}
 use Rattle.source_report.specs.declared.suggestions.LabelSuggestion.{LabelSuggestion as Declared}
 
@@ -16,8 +16,8 @@ with_edits x es = x.bytes.items ++ edited_bytes x.end es x.rest.now
 
 -- The text with the edits of those of these faults that are mended.
 abbrev pub with_faults : EditedText → List Finding → List ℕ
-with_faults x fs = with_edits x (all_edits (mended x.end fs))
+with_faults x fs = with_edits x (all_edits (mended_faults x.end fs))
 
 -- The ids of the faults that are mended, with those of these.
 abbrev pub with_ids : EditedText → List Finding → List (List ℕ)
-with_ids x fs = map (λ w. w.now) x.ids.items ++ map (λ f. f.id.now) (mended x.end fs)
+with_ids x fs = map (λ w. w.now) x.ids.items ++ map (λ f. f.id.now) (mended_faults x.end fs)

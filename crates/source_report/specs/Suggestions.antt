@@ -83,10 +83,10 @@ is_mended at x = not (is_empty (edits_of x)) && are_after at (edits_of x)
 
 -- Of these faults, one after the other, those that are mended: each whose edits do not start before
 -- the end of the last edit of those before it.
-abbrev pub mended : ℕ → List Finding → List Finding
-mended at [] = []
-mended at (x ∷ xs) = if is_mended at x then x ∷ mended (end_after at (edits_of x)) xs
-    else mended at xs
+abbrev pub mended_faults : ℕ → List Finding → List Finding
+mended_faults at [] = []
+mended_faults at (x ∷ xs) = if is_mended at x then x ∷ mended_faults (end_after at (edits_of x)) xs
+    else mended_faults at xs
 
 -- The edits of these faults.
 abbrev pub all_edits : List Finding → List Edit

@@ -3,7 +3,7 @@
 ghost use Rattle.std.specs.Prelude.{◌≡◌, ◌++◌, ◌∷◌, IfOk, List, OnOk, drop, map, take};
 ghost use Rattle.fault_fixes.specs.Edits.{Edit as EditValue, edited_bytes};
 ghost use Rattle.fault_fixes.specs.SeenEdits.{seen_edit};
-ghost use Rattle.source_report.specs.Suggestions.{all_edits, end_after, mended};
+ghost use Rattle.source_report.specs.Suggestions.{all_edits, end_after, mended_faults};
 ghost use Rattle.source_report.specs.SeenEdited.{with_edits, with_faults, with_ids};
 ghost use Rattle.source_report.specs.declared.report.Finding.{Finding as FindingValue};
 
@@ -102,9 +102,9 @@ pub fn mend_each<'t>(
     findings: &[Finding],
 ) -> Result<EditedText<'t>, AllocError>
     ensures text { IfOk result (λ x. x.bytes.items
-        ≡ edited_bytes 0 (all_edits (mended 0 findings.now)) text.now) }
+        ≡ edited_bytes 0 (all_edits (mended_faults 0 findings.now)) text.now) }
     ensures ids { IfOk result (λ x. map (λ w. w.now) x.ids.items
-        ≡ map (λ f. f.id.now) (mended 0 findings.now)) }
+        ≡ map (λ f. f.id.now) (mended_faults 0 findings.now)) }
 {
     let mut edited_text = EditedText {
         bytes: Vec::new(alloc),

@@ -19,7 +19,7 @@ use Rattle.rustc_parse_format.proofs.Walking.FaultlessStates.{no_errors-after_al
 use Rattle.rustc_parse_format.proofs.Walking.Progress.{call-lt}
 use Rattle.rustc_parse_format.proofs.Walking.StateWalks.{calls-none, calls-some}
 use Rattle.rustc_parse_format.proofs.Walking.Walks.{Faultless}
-use Rattle.text_faults.specs.Texts.{first_faults, or_else, shown, shown_of, text_fault}
+use Rattle.text_faults.specs.Texts.{first_faults, or_else, shown_fault, shown_of, text_fault}
 
 -- one fault more of a call
 shown-last : {A : Type 0} (f : Fault A) (fs : List (Fault A)) (g : Fault A)
@@ -28,19 +28,19 @@ shown-last f [] g = refl
 shown-last f (h ∷ fs) g = shown-last (cond (is_front h) h f) fs g
 
 pub shown-kept : {A : Type 0} (fs : List (Fault A)) (g : Fault A) (o : Option (Fault A)) → o
-    ≡ shown fs
-    → is_some o ≡ true → is_front g ≡ false → o ≡ shown (fs ++ g ∷ [])
+    ≡ shown_fault fs
+    → is_some o ≡ true → is_front g ≡ false → o ≡ shown_fault (fs ++ g ∷ [])
 shown-kept [] g o h s e = let n : is_some o ≡ false = ap is_some h in absurd cc
 shown-kept (f ∷ fs) g o h s e = h ∙ sym (ap Some (shown-last f fs g ∙ rw e refl))
 
 pub shown-first : {A : Type 0} (fs : List (Fault A)) (g : Fault A) (o : Option (Fault A)) → o
-    ≡ shown fs
-    → is_some o ≡ false → Some g ≡ shown (fs ++ g ∷ [])
+    ≡ shown_fault fs
+    → is_some o ≡ false → Some g ≡ shown_fault (fs ++ g ∷ [])
 shown-first [] g o h s = refl
 shown-first (f ∷ fs) g o h s = let n : is_some o ≡ true = ap is_some h in absurd cc
 
 pub shown-front : {A : Type 0} (fs : List (Fault A)) (g : Fault A) → is_front g ≡ true
-    → Some g ≡ shown (fs ++ g ∷ [])
+    → Some g ≡ shown_fault (fs ++ g ∷ [])
 shown-front [] g e = refl
 shown-front (f ∷ fs) g e = sym (ap Some (shown-last f fs g ∙ rw e refl))
 
@@ -145,7 +145,7 @@ first-no : (ks : List Call) → Faultless ks → first_faults ks ≡ []
 first-no [] f = refl
 first-no (k ∷ ks) f = rw f.0 (first-no ks f.1)
 
-none-shown : {A : Type 0} (fs : List (Fault A)) → shown fs ≡ None → fs ≡ []
+none-shown : {A : Type 0} (fs : List (Fault A)) → shown_fault fs ≡ None → fs ≡ []
 none-shown [] e = refl
 none-shown (f ∷ fs) e = absurd (cc e)
 
@@ -160,7 +160,7 @@ no-fault s e f = no_errors-after_all s (calls s) e
     (none-shown (faults_in s.world (first_faults (calls s))) f)))
 
 pub fault-none : (s : State) → (after_all s (calls s)).errors ≡ [] → text_fault s ≡ None
-fault-none s e = ap (λ (fs : List (Fault Span)). shown (faults_in s.world fs))
+fault-none s e = ap (λ (fs : List (Fault Span)). shown_fault (faults_in s.world fs))
     (first-no (calls s) (after_all-no_errors s (calls s) e).1)
 
 -- whether it is read is whether it has no error

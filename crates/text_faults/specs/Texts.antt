@@ -23,10 +23,10 @@ shown_of f [] = f
 shown_of f (g ∷ gs) = shown_of (if is_front g then g else f) gs
 
 -- The fault that is shown of these of a call, if there are any.
-abbrev pub shown : {A : Type 0} → List (Fault A) → Option (Fault A)
-shown [] = None
-shown (f ∷ fs) = Some (shown_of f fs)
+abbrev pub shown_fault : {A : Type 0} → List (Fault A) → Option (Fault A)
+shown_fault [] = None
+shown_fault (f ∷ fs) = Some (shown_of f fs)
 
 -- The fault that is shown of all calls from this state on.
 abbrev pub text_fault : State → Option (Fault Place)
-text_fault s = shown (faults_in s.world (first_faults (calls s)))
+text_fault s = shown_fault (faults_in s.world (first_faults (calls s)))

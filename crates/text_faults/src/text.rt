@@ -5,7 +5,7 @@ ghost use Rattle.rustc_parse_format.specs.Faults.{Fault as FaultValue};
 ghost use Rattle.rustc_parse_format.specs.SeenFaults.{seen_fault};
 ghost use Rattle.rustc_parse_format.specs.State.{calls};
 ghost use Rattle.rustc_parse_format.specs.World.{Place, faults_in};
-ghost use Rattle.text_faults.specs.Texts.{first_faults, shown as fault_shown, text_fault};
+ghost use Rattle.text_faults.specs.Texts.{first_faults, shown_fault as fault_shown, text_fault};
 
 use rustc_parse_format::{Argument, Fault, Parser};
 use std::alloc::{AllocError, Global};

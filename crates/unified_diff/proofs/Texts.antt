@@ -8,7 +8,7 @@ use Rattle.std.proofs.lemmas.List.Folds.{concat-append}
 use Rattle.std.proofs.Common.{arith, get_or}
 use Rattle.std.proofs.lemmas.List.{drop_more, get_or_default, take_more}
 use Rattle.std.specs.List.{concat}
-use Rattle.unified_diff.specs.Rows.{in_new, in_old, joined, new_text, old_text}
+use Rattle.unified_diff.specs.Rows.{in_new, in_old, joined_text, new_text, old_text}
 use Rattle.unified_diff.specs.declared.rows.Row.{Row}
 use Rattle.unified_diff.specs.declared.rows.Side.{Side}
 use Rattle.unified_diff.specs.declared.rows.Side.TheVariants.{Both, Old, New}
@@ -55,25 +55,27 @@ unfolding new_text
 new_text-more rs r = new_text-append rs (r ∷ [])
     ∙ ap (λ t. new_text rs ++ t) (append-nil (in_new r.side r.line.now))
 
-joined-append : (ls ms : List (Bor (List ℕ))) → joined (ls ++ ms) ≡ joined ls ++ joined ms
+joined-append : (ls ms : List (Bor (List ℕ))) → joined_text (ls ++ ms) ≡ joined_text ls
+    ++ joined_text ms
 joined-append ls ms = ap concat (map-append (λ l. l.now) ls ms)
     ∙ concat-append (map (λ l. l.now) ls) (map (λ l. l.now) ms)
 
-pub joined-split : (n : ℕ) (ls : List (Bor (List ℕ))) → joined (take n ls) ++ joined (drop n ls)
-    ≡ joined ls
+pub joined-split : (n : ℕ) (ls : List (Bor (List ℕ))) → joined_text (take n ls)
+    ++ joined_text (drop n ls)
+    ≡ joined_text ls
 joined-split n ls = sym (joined-append (take n ls) (drop n ls))
-    ∙ ap (λ xs. joined xs) (take-append-drop n ls)
+    ∙ ap (λ xs. joined_text xs) (take-append-drop n ls)
 
 pub joined-more : (n : ℕ) (ls : List (Bor (List ℕ))) (l : Bor (List ℕ)) → 0 < n
     → n - 1 < length ls → l ≡ get_or ls (n - 1) l
-    → joined (take n ls) ≡ joined (take (n - 1) ls) ++ l.now
+    → joined_text (take n ls) ≡ joined_text (take (n - 1) ls) ++ l.now
 joined-more n ls l some within e =
     let more : n ≡ n - 1 + 1 = omega arith in
-    ap (λ k. joined (take k ls)) more
-    ∙ ap (λ xs. joined xs) (take_more ls (n - 1) l within
+    ap (λ k. joined_text (take k ls)) more
+    ∙ ap (λ xs. joined_text xs) (take_more ls (n - 1) l within
     ∙ ap (λ x. take (n - 1) ls ++ (x ∷ [])) (sym e))
     ∙ joined-append (take (n - 1) ls) (l ∷ [])
-    ∙ ap (λ t. joined (take (n - 1) ls) ++ t) (append-nil l.now)
+    ∙ ap (λ t. joined_text (take (n - 1) ls) ++ t) (append-nil l.now)
 
 pub the_line : (ls : List (Bor (List ℕ))) (n : ℕ) (l m : Bor (List ℕ)) → n < length ls
     → l ≡ get_or ls n l → m ≡ get_or ls n m → l ≡ m
@@ -88,11 +90,11 @@ pub ruleset line_texts = (in_old-append, in_new-append)
 pub ruleset split_texts = (joined-split, old_text-none, new_text-none)
 
 pub joined-last : (ls : List (Bor (List ℕ))) (n : ℕ) (d : Bor (List ℕ)) → n < length ls
-    → joined (drop (length ls - (n + 1)) ls)
-    ≡ (get_or ls (length ls - 1 - n) d).now ++ joined (drop (length ls - n) ls)
+    → joined_text (drop (length ls - (n + 1)) ls)
+    ≡ (get_or ls (length ls - 1 - n) d).now ++ joined_text (drop (length ls - n) ls)
 joined-last ls n d small =
     let at : length ls - (n + 1) ≡ length ls - 1 - n = omega arith in
     let next : length ls - 1 - n + 1 ≡ length ls - n = omega arith in
-    ap (λ i. joined (drop i ls)) at ∙ ap (λ xs. joined xs)
+    ap (λ i. joined_text (drop i ls)) at ∙ ap (λ xs. joined_text xs)
     (drop_more ls (length ls - 1 - n) d (omega arith))
-    ∙ ap (λ i. (get_or ls (length ls - 1 - n) d).now ++ joined (drop i ls)) next
+    ∙ ap (λ i. (get_or ls (length ls - 1 - n) d).now ++ joined_text (drop i ls)) next

@@ -8,8 +8,8 @@ use Rattle.unified_diff.specs.declared.rows.Side.{Side}
 use Rattle.unified_diff.specs.declared.rows.Side.TheVariants.{Both, Old, New}
 
 -- The text that lines make, one after the other.
-abbrev pub joined : List (Bor (List ℕ)) → List ℕ
-joined ls = concat (map (λ l. l.now) ls)
+abbrev pub joined_text : List (Bor (List ℕ)) → List ℕ
+joined_text ls = concat (map (λ l. l.now) ls)
 
 -- Two texts have a line each with these numbers, which are from 1, and the lines are the same.
 pub record IsCommon (old new : List (Bor (List ℕ))) (p : Pair) : Type 0 where

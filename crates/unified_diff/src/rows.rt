@@ -3,7 +3,8 @@
 ghost use Rattle.std.specs.Prelude.{◌≡◌, ◌≤◌, ◌<◌, ◌-◌, ◌++◌, IfOk, IfSome, IsTrue, OnOk, drop};
 ghost use Rattle.std.specs.Prelude.{take};
 ghost use Rattle.std.specs.Prelude.{length};
-ghost use Rattle.unified_diff.specs.Rows.{IsCommon, in_new, in_old, joined, new_text, old_text};
+ghost use Rattle.unified_diff.specs.Rows.{IsCommon, in_new, in_old, joined_text, new_text};
+ghost use Rattle.unified_diff.specs.Rows.{old_text};
 
 use std::alloc::{AllocError, Global};
 
@@ -33,7 +34,7 @@ pub struct Row<'a> {
 /// Returns the lines of a text, each with its LF; the last one may have none. Returns `Err` if an
 /// allocation fails.
 fn lines_of<'a>(alloc: Global, text: &'a str) -> Result<Vec<&'a str>, AllocError>
-    ensures { IfOk result (λ v. joined v.items ≡ text.now) }
+    ensures { IfOk result (λ v. joined_text v.items ≡ text.now) }
 {
     let mut lines = Vec::new(alloc);
     for line in text.split_inclusive('\n') {
@@ -46,8 +47,8 @@ fn lines_of<'a>(alloc: Global, text: &'a str) -> Result<Vec<&'a str>, AllocError
 fn common_end(old: &[&str], new: &[&str]) -> usize
     ensures old { result ≤ length old.now }
     ensures new { result ≤ length new.now }
-    ensures same { joined (drop (length old.now - result) old.now)
-        ≡ joined (drop (length new.now - result) new.now) }
+    ensures same { joined_text (drop (length old.now - result) old.now)
+        ≡ joined_text (drop (length new.now - result) new.now) }
 {
     let mut count = 0;
     while count < old.len() && count < new.len() {
@@ -116,9 +117,9 @@ fn push_line<'a>(rows: &mut Vec<Row<'a>>, side: Side, line: &'a str) -> Result<(
 #[tactic(auto, using(crate::proofs::Texts::line_texts))]
 fn push_lines<'a>(rows: &mut Vec<Row<'a>>, side: Side, lines: &[&'a str]) -> Result<(), AllocError>
     ensures old { OnOk result (old_text rows.new.items
-        ≡ old_text rows.old.items ++ in_old side (joined lines.now)) }
+        ≡ old_text rows.old.items ++ in_old side (joined_text lines.now)) }
     ensures new { OnOk result (new_text rows.new.items
-        ≡ new_text rows.old.items ++ in_new side (joined lines.now)) }
+        ≡ new_text rows.old.items ++ in_new side (joined_text lines.now)) }
 {
     for line in lines {
         push_line(rows, side, *line)?;
@@ -151,9 +152,9 @@ fn push_pair<'a>(
 ) -> Result<(), AllocError>
     requires { IsCommon old.now new.now pair }
     ensures old { OnOk result (old_text rows.new.items
-        ≡ old_text rows.old.items ++ joined (take pair.old old.now)) }
+        ≡ old_text rows.old.items ++ joined_text (take pair.old old.now)) }
     ensures new { OnOk result (new_text rows.new.items
-        ≡ new_text rows.old.items ++ joined (take pair.new new.now)) }
+        ≡ new_text rows.old.items ++ joined_text (take pair.new new.now)) }
 {
     push_lines(rows, Side::Old, front(old, pair.old - 1))?;
     push_lines(rows, Side::New, front(new, pair.new - 1))?;
@@ -172,9 +173,9 @@ fn push_middle<'a>(
     new: &[&'a str],
 ) -> Result<(), AllocError>
     ensures old { OnOk result (old_text rows.new.items
-        ≡ old_text rows.old.items ++ joined old.now) }
+        ≡ old_text rows.old.items ++ joined_text old.now) }
     ensures new { OnOk result (new_text rows.new.items
-        ≡ new_text rows.old.items ++ joined new.now) }
+        ≡ new_text rows.old.items ++ joined_text new.now) }
 {
     let mut old_lines = old;
     let mut new_lines = new;

@@ -6,7 +6,7 @@ use Rattle.rustc_parse_format.specs.Seen.{seen_piece}
 use Rattle.call_faults.specs.Arguments.{kept_after, list_faults}
 use Rattle.call_faults.specs.Calls.{is_last}
 use Rattle.call_faults.specs.CallFaults.{CallFault}
-use Rattle.call_faults.specs.Comparison.{compared}
+use Rattle.call_faults.specs.Comparison.{comparison_faults}
 use Rattle.call_faults.specs.Lookups.{lookups_from}
 use Rattle.call_faults.specs.Seen.{Holds, seen_fault, seen_given, seen_lookup, start}
 use Rattle.text_faults.specs.Texts.{text_fault}
@@ -35,5 +35,7 @@ returns-clause-faults c = λ e.
     (e ∙ c.if-not-is_read.false) goes_on
     (c.in_ok-compare.ensures ks holds below
     ∙ ap (λ (xs : List CallFault). xs
-    ++ compared c.args.string.captures_variables ks (map seen_lookup c.deref-2.result.now)) outcome
-    ∙ ap (λ ls. list_faults [] 0 gs ++ compared c.args.string.captures_variables ks ls) looked)
+    ++ comparison_faults c.args.string.captures_variables ks (map seen_lookup c.deref-2.result.now))
+    outcome
+    ∙ ap (λ ls. list_faults [] 0 gs
+    ++ comparison_faults c.args.string.captures_variables ks ls) looked)

@@ -1,7 +1,8 @@
 use Rattle.std.proofs.Common.{◌≡◌, ◌++◌, ◌∙◌, [], ap, length, map, rules, sym}
 use Rattle.std.specs.List.{filter_map}
 use Rattle.std.proofs.lemmas.List.{append-nil, length-map, map-append}
-use Rattle.call_faults.specs.Comparison.{beyond, is_settled, lookup_faults, missing, names, unused}
+use Rattle.call_faults.specs.Comparison.{invalid_reference, is_settled, lookup_faults}
+use Rattle.call_faults.specs.Comparison.{invalid_references, names, unused_arguments}
 use Rattle.call_faults.specs.Seen.{seen_fault, seen_entry, seen_lookup}
 use Rattle.call_faults.proofs.Comparing.{compared-parts, holds-knows, joined, left-is}
 use Rattle.call_faults.proofs.comparison.compare.Goals as goal
@@ -10,11 +11,13 @@ pub returns-then-not-is_settled : goal.returns-then-not-is_settled
 returns-then-not-is_settled c = λ ks h a.
     let ls = map seen_lookup c.args.lookups.now in
     let count : c.len.result ≡ length c.args.arguments.now.list.items = search rules in
-    let left : map seen_entry c.in_ok-rest.rest.items ≡ unused ks ls = c.in_ok-rest.ensures
+    let left : map seen_entry c.in_ok-rest.rest.items ≡ unused_arguments ks ls =
+        c.in_ok-rest.ensures
     ∙ (rw (c.deref-2.ensures.value, c.deref.ensures.value, h.list)
     (left-is c.in_ok-marks.marks.items ks ls (c.in_ok-marks.ensures ks h a))) in
-    let lacked : c.in_ok-references.references.items ≡ missing ks ls = c.in_ok-references.ensures
-    ∙ ap (λ n. filter_map (beyond n) ls)
+    let lacked : c.in_ok-references.references.items ≡ invalid_references ks ls =
+        c.in_ok-references.ensures
+    ∙ ap (λ n. filter_map (invalid_reference n) ls)
     (count ∙ sym (length-map c.args.arguments.now.list.items seen_entry) ∙ ap length h.list) in
     let found : map seen_fault c.look_up.new.faults.items
     ≡ lookup_faults c.args.captures_variables (names ks) ls = rw c.new-list.ensures.items
@@ -36,11 +39,13 @@ pub returns : goal.returns
 returns c = λ ks h a.
     let ls = map seen_lookup c.args.lookups.now in
     let count : c.len.result ≡ length c.args.arguments.now.list.items = search rules in
-    let left : map seen_entry c.in_ok-rest.rest.items ≡ unused ks ls = c.in_ok-rest.ensures
+    let left : map seen_entry c.in_ok-rest.rest.items ≡ unused_arguments ks ls =
+        c.in_ok-rest.ensures
     ∙ (rw (c.deref-2.ensures.value, c.deref.ensures.value, h.list)
     (left-is c.in_ok-marks.marks.items ks ls (c.in_ok-marks.ensures ks h a))) in
-    let lacked : c.in_ok-references.references.items ≡ missing ks ls = c.in_ok-references.ensures
-    ∙ ap (λ n. filter_map (beyond n) ls)
+    let lacked : c.in_ok-references.references.items ≡ invalid_references ks ls =
+        c.in_ok-references.ensures
+    ∙ ap (λ n. filter_map (invalid_reference n) ls)
     (count ∙ sym (length-map c.args.arguments.now.list.items seen_entry) ∙ ap length h.list) in
     let found : map seen_fault c.look_up.new.faults.items
     ≡ lookup_faults c.args.captures_variables (names ks) ls = rw c.new-list.ensures.items

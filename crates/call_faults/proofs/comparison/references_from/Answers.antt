@@ -1,5 +1,5 @@
 use Rattle.std.proofs.Common.{sym, ◌∙◌}
-use Rattle.call_faults.specs.Comparison.{beyond}
+use Rattle.call_faults.specs.Comparison.{invalid_reference}
 use Rattle.call_faults.specs.Seen.{seen_lookup}
 use Rattle.text_faults.proofs.Collecting.{gathered}
 use Rattle.std.proofs.lemmas.List.{append-nil}
@@ -7,7 +7,7 @@ use Rattle.call_faults.proofs.comparison.references_from.Goals.{in-Some+in_ok-pu
 use Rattle.call_faults.proofs.comparison.references_from.Goals as goal
 
 pub loop-lookup-preserved : goal.loop-lookup-preserved
-loop-lookup-preserved c = gathered seen_lookup (beyond c.args.count) c.args.lookups.now
+loop-lookup-preserved c = gathered seen_lookup (invalid_reference c.args.count) c.args.lookups.now
     c.loop-lookup.lookup-index _ c.loop-lookup.references.items
     c.match-reference_beyond.references.items
     c.reference_beyond.result c.loop-lookup-test.true c.loop-lookup.invariant

@@ -1,7 +1,7 @@
 use Rattle.std.proofs.Common.{◌∙◌, ◌+◌, ap, map, refl, subst, sym}
 use Rattle.std.specs.Prelude.{slice_get}
 use Rattle.inlined_arguments.specs.Seen.{seen_edit}
-use Rattle.source_lint.specs.Readings.{scope, skipped}
+use Rattle.source_lint.specs.Readings.{scope, skipped_reading}
 use Rattle.source_lint.proofs.Calling.{arguments-here}
 use Rattle.file_inlines.specs.CallInlines.{Inlines, InlinesUnless}
 use Rattle.file_inlines.specs.declared.calls.CallInlining.TheVariants.{Unread}
@@ -27,7 +27,7 @@ returns-in-Some c =
     c.args.part.now c.args.call.now c.unchanged_call-in-Some.result.inlining
     (map seen_edit c.unchanged_call-in-Some.result.edits.items))
     (sym c.in-Some.is ∙ (c.other_macro.ensures
-    ∙ ap (λ v. skipped (scope c.args.file) c.args.call.now.rule
+    ∙ ap (λ v. skipped_reading (scope c.args.file) c.args.call.now.rule
     (slice_get v c.args.call.now.name)) c.tokens.ensures)) (
       c.unchanged_call-in-Some.ensures.reason,
       ap (map seen_edit) c.unchanged_call-in-Some.ensures.none,
@@ -50,7 +50,7 @@ returns-in-Ok c =
     inlines-here c.args.file.is_from_2021 c.args.allows_mixed c.args.file.text.now _
     c.args.part.now c.args.call.now c.as_slice-list.result.now _ _ _
     (sym c.in_default.is ∙ (c.other_macro.ensures
-    ∙ ap (λ v. skipped (scope c.args.file) c.args.call.now.rule
+    ∙ ap (λ v. skipped_reading (scope c.args.file) c.args.call.now.rule
     (slice_get v c.args.call.now.name)) c.tokens.ensures))
     (arguments-here c.args.part.now c.args.call.now c.in-Some-2.arguments.items
     c.as_slice-list.result.now a.0 c.as_slice-list.ensures.value c.requires.pair a.1 a.2)
@@ -62,7 +62,7 @@ returns c =
     inlines-here c.args.file.is_from_2021 c.args.allows_mixed c.args.file.text.now _
     c.args.part.now c.args.call.now c.as_slice-list.result.now _ _ _
     (sym c.in_default.is ∙ (c.other_macro.ensures
-    ∙ ap (λ v. skipped (scope c.args.file) c.args.call.now.rule
+    ∙ ap (λ v. skipped_reading (scope c.args.file) c.args.call.now.rule
     (slice_get v c.args.call.now.name)) c.tokens.ensures))
     (arguments-here c.args.part.now c.args.call.now c.in-Some-2.arguments.items
     c.as_slice-list.result.now a.0 c.as_slice-list.ensures.value c.requires.pair a.1 a.2)

@@ -1,6 +1,6 @@
 use Rattle.std.proofs.Common.{◌≡◌, ◌∙◌, ◌+◌, ap, arith, drop, map, refl, sym}
 use Rattle.rust_trees.specs.Leaves.{leaf}
-use Rattle.source_lint.specs.Givens.{given}
+use Rattle.source_lint.specs.Givens.{given_argument}
 use Rattle.source_lint.specs.Readings.{arguments_before}
 use Rattle.source_lint.proofs.Calling.{after-one, reads-by, string-there}
 use Rattle.call_forms.proofs.MovedArguments.{LiesIn, arguments-lie}
@@ -46,7 +46,7 @@ returns-then-extent-call-clause-read c =
         end = c.extent_of-extent.result.end;
         are_up_to = rw c.ends_early.ensures at t.1;
         reads = reads-by _ _ _ _ _ _ _ _ _ _ _ refl refl t.2
-            (ap (map (given xs)) (after-one args c.args.index ∙ (sym all
+            (ap (map (given_argument xs)) (after-one args c.args.index ∙ (sym all
             ∙ ap (λ v. arguments_before v (drop n args)) (sym c.if-extent-call.true)))) r.2;
       },
     )
@@ -69,7 +69,7 @@ returns-clause-read c =
         end = c.extent_of-extent.result.end;
         are_up_to = rw c.ends_early.ensures at t.1;
         reads = reads-by _ _ _ _ _ _ _ _ _ _ _ refl refl t.2
-            (ap (map (given xs)) (c.deref.ensures.value ∙ (c.in_ok-kept_arguments.ensures
+            (ap (map (given_argument xs)) (c.deref.ensures.value ∙ (c.in_ok-kept_arguments.ensures
             ∙ ap (arguments_before c.extent_of-extent.result.end)
             (after-one args c.args.index)))) r.2;
       },

@@ -4,7 +4,7 @@ use Rattle.std.proofs.lemmas.List.{append-nil}
 use Rattle.format_calls.specs.Arguments.{tokens_of}
 use Rattle.source_lint.specs.FormWords.{TellsForms}
 use Rattle.call_forms.specs.Forms.{form_here}
-use Rattle.source_lint.specs.Readings.{ReadsUnless, scope, skipped}
+use Rattle.source_lint.specs.Readings.{ReadsUnless, scope, skipped_reading}
 use Rattle.source_lint.proofs.Calling.{arguments-here, reads-here}
 use Rattle.source_lint.proofs.readings.read_call.Goals as goal
 
@@ -15,7 +15,7 @@ returns-in-Some-clause-read c = (
   subst (λ o. ReadsUnless o c.args.file.is_from_2021 c.args.part.now c.args.call.now
       c.in-Some.reading [])
       (sym c.in-Some.is ∙ (c.other_macro.ensures
-      ∙ ap (λ v. skipped (scope c.args.file) c.args.call.now.rule
+      ∙ ap (λ v. skipped_reading (scope c.args.file) c.args.call.now.rule
       (slice_get v c.args.call.now.name)) c.tokens-tokens.ensures))
       (refl, refl),
 )
@@ -41,7 +41,7 @@ returns-in-Ok-clause-read c =
       reads-here c.args.file.is_from_2021 _ c.args.part.now c.args.call.now
           c.as_slice-list.result.now _ _ r.0
           (sym c.in_default.is ∙ (c.other_macro.ensures
-          ∙ ap (λ v. skipped (scope c.args.file) c.args.call.now.rule
+          ∙ ap (λ v. skipped_reading (scope c.args.file) c.args.call.now.rule
           (slice_get v c.args.call.now.name)) c.tokens-tokens.ensures))
           (arguments-here c.args.part.now c.args.call.now c.in-Some-2.arguments.items
           c.as_slice-list.result.now a.0 c.as_slice-list.ensures.value c.requires a.1 a.2)
@@ -62,7 +62,7 @@ returns-clause-read c =
       t.1,
       reads-here is_new _ xs call args _ _ t.0
           (sym c.in_default.is ∙ (c.other_macro.ensures
-          ∙ ap (λ v. skipped (scope c.args.file) c.args.call.now.rule
+          ∙ ap (λ v. skipped_reading (scope c.args.file) c.args.call.now.rule
           (slice_get v c.args.call.now.name)) c.tokens-tokens.ensures))
           (arguments-here xs call c.in-Some-2.arguments.items args a.0 c.as_slice-list.ensures.value
           c.requires a.1 a.2)

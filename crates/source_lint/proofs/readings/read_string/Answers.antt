@@ -4,7 +4,7 @@ use Rattle.rust_trees.specs.Leaves.{leaf}
 use Rattle.call_faults.specs.Arguments.{FormatArgument}
 use Rattle.call_faults.specs.Seen.{seen_given}
 use Rattle.source_lint.specs.Findings.{AreFindings}
-use Rattle.source_lint.specs.Givens.{given}
+use Rattle.source_lint.specs.Givens.{given_argument}
 use Rattle.asm_lint.specs.Literals.{without_crs}
 use Rattle.source_lint.specs.Readings.{call_of, counted_givens, start_of}
 use Rattle.source_lint.proofs.CheckedCalls.{start-same}
@@ -31,7 +31,7 @@ returns-clause-read c =
     (ap chars c.as_str-text.ensures.value ∙ r.text)
     (ap chars c.as_str-snippet.ensures.value ∙ r.snippet) in
     let given : map seen_given c.as_slice-list.result.now ≡ counted_givens c.args.is_counted
-    (map (given (map leaf c.args.site.tokens.now)) c.args.site.arguments.now) =
+    (map (given_argument (map leaf c.args.site.tokens.now)) c.args.site.arguments.now) =
     ap (map seen_given) c.as_slice-list.ensures.value ∙ c.in_ok-arguments.ensures in (
       t.0,
       t.1,

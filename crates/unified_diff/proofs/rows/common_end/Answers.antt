@@ -2,7 +2,7 @@ use denote.Ref.{Bor}
 use Rattle.std.proofs.Common.{◌≡◌, ◌++◌, ◌-◌, ◌∙◌, List, [], ℕ, ap, arith, get_or, length, rules}
 use Rattle.std.proofs.Common.{drop, sym}
 use Rattle.std.proofs.lemmas.Slice.Eq.{bytes_eq-Decides}
-use Rattle.unified_diff.specs.Rows.{joined}
+use Rattle.unified_diff.specs.Rows.{joined_text}
 use Rattle.unified_diff.proofs.Texts.{joined-last}
 use Rattle.unified_diff.proofs.rows.common_end.Goals as goal
 
@@ -22,7 +22,7 @@ loop-count-preserved c =
       old = omega arith;
       new = omega arith;
       same = joined-last olds n none (omega arith)
-          ∙ ap (λ t. t ++ joined (drop (length olds - n) olds)) same
+          ∙ ap (λ t. t ++ joined_text (drop (length olds - n) olds)) same
           ∙ ap (λ t. (get_or news (length news - 1 - n) none).now ++ t) it.invariant.same
           ∙ sym (joined-last news n none (omega arith));
     }

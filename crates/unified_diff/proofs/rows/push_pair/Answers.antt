@@ -1,6 +1,6 @@
 use Rattle.std.proofs.Common.{◌≡◌, ◌-◌, ◌∙◌, ap, get_or, rules, take}
 use Rattle.std.proofs.lemmas.List.{append-nil, append_assoc}
-use Rattle.unified_diff.specs.Rows.{joined, new_text, old_text}
+use Rattle.unified_diff.specs.Rows.{joined_text, new_text, old_text}
 use Rattle.unified_diff.proofs.Texts.{joined-more, the_line}
 use Rattle.unified_diff.proofs.rows.push_pair.Goals as goal
 
@@ -17,7 +17,7 @@ returns-in_ok-push_line-clause-old c =
       c.in_ok-push_lines.ensures.old,
       c.front.ensures,
       append-nil,
-    ) (append_assoc (old_text c.args.rows.now.items) (joined (take (n - 1) c.args.old.now))
+    ) (append_assoc (old_text c.args.rows.now.items) (joined_text (take (n - 1) c.args.old.now))
     c.in-Some.line.now.now)
 
 pub returns-in_ok-push_line-clause-new : goal.returns-in_ok-push_line-clause-new
@@ -35,4 +35,4 @@ returns-in_ok-push_line-clause-new c =
       append-nil,
       text,
     ) (append_assoc (new_text c.args.rows.now.items)
-    (joined (take (c.args.pair.new - 1) c.args.new.now)) it.other.now)
+    (joined_text (take (c.args.pair.new - 1) c.args.new.now)) it.other.now)
