@@ -235,4 +235,4 @@ of-far count (Refer r (ByName w) ∷ ls) e = of-far count ls e
 of-far count (Refer r (ByIndex n) ∷ ls) e =
     let both = or_parts (nat_le count n) (list_any (by_use (is_far count)) ls) e in
     option-none (nat_le count n) _ (filter_map (invalid_reference count) ls) both.0
-        (of-far count ls both.1)
+    (of-far count ls both.1)

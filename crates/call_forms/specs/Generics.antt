@@ -58,7 +58,7 @@ place_after p x = if is_text x (codes "trait") then place_at_end else
     (if is_opening (side x) then with_delimiters p (p.open_delimiters + 1) else
     (if closes (side x) then
     (if p.open_delimiters == 0 then place_at_end else with_delimiters p (p.open_delimiters - 1))
-        else
+    else
     (if p.open_delimiters == 0 then plain_after p x else with_delimiters p p.open_delimiters)))
 
 -- The name of the parameter that a token is, if it is one.

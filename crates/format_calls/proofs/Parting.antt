@@ -235,7 +235,7 @@ part-of es gap part left before fixed end = record {
         let n = ap (λ t. length t) e in absurd (omega (arith, l, n))
     outer c k (inr g) =
         subst (λ t. IsCall es t (moved_call (length gap + length part) c)) (append_assoc gap part
-            left)
+        left)
         (subst (λ d. IsCall es ((gap ++ part) ++ left) d) (joined c)
         (call-shift es (gap ++ part) left c (group-fixed gap part left g) k))
 
@@ -243,7 +243,7 @@ part-of es gap part left before fixed end = record {
         → (left ≡ []) ⊎ IsGroup part → IsCall es left c
     rest c k (inl e) =
         let l = call-within es (gap
-            ++ (part ++ left)) (moved_call (length gap + length part) c) k in
+        ++ (part ++ left)) (moved_call (length gap + length part) c) k in
         let n = length-append gap (part ++ left) in
         let m = length-append part left in
         let z = ap (λ t. length t) e in absurd (omega (arith, l, n, m, z))

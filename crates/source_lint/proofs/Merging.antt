@@ -95,7 +95,7 @@ is-there es gap part left cs ds c p a b k = by_place (cases_lt c.name (length ga
         (subst (λ v. IsCall es (gap ++ (part ++ left)) v) (sym e) k) in
         Contains-append_left first second c
         (subst (λ v. Contains first v) e
-            (mapped-in (moved_call (length gap)) cs d ((a.each d).1 m)))
+        (mapped-in (moved_call (length gap)) cs d ((a.each d).1 m)))
     by_place (inr l) =
         let z = closes-later es (gap ++ (part ++ left)) c k in
         let d = back (length gap + length part) c in

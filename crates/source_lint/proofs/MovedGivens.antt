@@ -41,7 +41,7 @@ givens-same : (xs ys : List Leaf) (g from to : ℕ) (bs : List Argument) → Emb
 givens-same xs ys g from to [] e h l = refl
 givens-same xs ys g from to (a ∷ bs) e h l =
     ap (λ v. v ∷ map (given_argument ys) (map (shifted g) bs)) (given-same xs ys g from to a e h
-        l.0)
+    l.0)
     ∙ ap (λ v. given_argument xs a ∷ v) (givens-same xs ys g from to bs e h l.1)
 
 pub lies-drop : (from to n : ℕ) (bs : List Argument) → AllByRecursion (λ a. LiesIn from to a) bs

@@ -89,7 +89,7 @@ fn read_string(
         × ReadsLiteral (without_crs (chars site.entry.literal.text.now)) appended_newline
         captures_variables
         is_counted (map (given_argument (map leaf site.entry.tokens.now)) site.entry.arguments.now)
-            r xs) }
+        r xs) }
     ensures spans { OnOk result (All (HasSpans site.entry.text.now) findings.old.items
         → All (HasSpans site.entry.text.now) findings.new.items) }
 {

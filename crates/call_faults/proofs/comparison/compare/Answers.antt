@@ -12,11 +12,11 @@ returns-then-not-is_settled c = λ ks h a.
     let ls = map seen_lookup c.args.lookups.now in
     let count : c.len.result ≡ length c.args.arguments.now.list.items = search rules in
     let left : map seen_entry c.in_ok-rest.rest.items ≡ unused_arguments ks ls =
-        c.in_ok-rest.ensures
+    c.in_ok-rest.ensures
     ∙ (rw (c.deref-2.ensures.value, c.deref.ensures.value, h.list)
     (left-is c.in_ok-marks.marks.items ks ls (c.in_ok-marks.ensures ks h a))) in
     let lacked : c.in_ok-references.references.items ≡ invalid_references ks ls =
-        c.in_ok-references.ensures
+    c.in_ok-references.ensures
     ∙ ap (λ n. filter_map (invalid_reference n) ls)
     (count ∙ sym (length-map c.args.arguments.now.list.items seen_entry) ∙ ap length h.list) in
     let found : map seen_fault c.look_up.new.faults.items
@@ -40,11 +40,11 @@ returns c = λ ks h a.
     let ls = map seen_lookup c.args.lookups.now in
     let count : c.len.result ≡ length c.args.arguments.now.list.items = search rules in
     let left : map seen_entry c.in_ok-rest.rest.items ≡ unused_arguments ks ls =
-        c.in_ok-rest.ensures
+    c.in_ok-rest.ensures
     ∙ (rw (c.deref-2.ensures.value, c.deref.ensures.value, h.list)
     (left-is c.in_ok-marks.marks.items ks ls (c.in_ok-marks.ensures ks h a))) in
     let lacked : c.in_ok-references.references.items ≡ invalid_references ks ls =
-        c.in_ok-references.ensures
+    c.in_ok-references.ensures
     ∙ ap (λ n. filter_map (invalid_reference n) ls)
     (count ∙ sym (length-map c.args.arguments.now.list.items seen_entry) ∙ ap length h.list) in
     let found : map seen_fault c.look_up.new.faults.items

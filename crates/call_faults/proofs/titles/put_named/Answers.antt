@@ -5,4 +5,4 @@ use Rattle.call_faults.proofs.titles.put_named.Goals as goal
 pub returns : goal.returns
 returns c = rw (c.in_ok-put_quoted.ensures, c.in_ok-push_str.ensures.bytes)
     (append_assoc (string_bytes c.args.out.now) c.args.text.now
-        (quoted_name (chars c.args.name.now)))
+    (quoted_name (chars c.args.name.now)))

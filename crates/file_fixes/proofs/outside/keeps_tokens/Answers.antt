@@ -18,7 +18,7 @@ returns c =
     ∙ (ap (walk (from_start (old_parts 0 es))) (c.as_slice-2.ensures.value ∙ xs.2)
     ∙ walk-old es xs.0 c.requires))) in
     let new : c.as_slice-6.result.now
-        ≡ untouched_tokens (new_ranges 0 0 es) (placed_tokens 0 ys.0) =
+    ≡ untouched_tokens (new_ranges 0 0 es) (placed_tokens 0 ys.0) =
     c.as_slice-6.ensures.value ∙ (c.in_ok-new_others.ensures
     ∙ (ap (λ ps. walk (from_start ps) c.as_slice-4.result.now)
     (c.as_slice-3.ensures.value ∙ c.in_ok-new_parts.ensures)
