@@ -3,12 +3,12 @@
 //!
 //! A row is a line with tabs between its columns: a name, the mode (`format`, `asm`, `diagnostic`
 //! or `diagnostic-named`), the style (`-`, or the number of `#`), whether a newline was appended
-//! (`0` or `1`), the snippet (`-`, or `=` and the snippet), the input, and the result. A backslash
+//! (`0` or `1`), the snippet (`-`, or `=` and the snippet), the input, and the outcome. A backslash
 //! is before `n`, `t` and `r` for LF, HT and CR, before itself, and before `x` and the two digits
 //! of a byte. A line that begins with `#` is no row.
 //!
-//! The result is a listing of all that a walk over the input gives, or the calls of a script, each
-//! with its own result (`script`).
+//! The outcome is a listing of all that a walk over the input gives, or the calls of a script, each
+//! with its own outcome (`script`).
 #![tactic(auto)]
 
 mod column;
@@ -129,7 +129,7 @@ fn start<'a>(
     Ok(Some(parser))
 }
 
-/// The result of `read_all` for a row, or None if the style is too large for it.
+/// The outcome of `read_all` for a row, or None if the style is too large for it.
 fn read<'a>(alloc: Global, row: &'a Row<'_>) -> Result<Option<Reading<'a>>, AllocError> {
     let (input, style) = (row.input.as_str(), row.style);
     if input.len() > 10_000 || style.unwrap_or(0) > usize::MAX - 2 - input.len() {
@@ -202,14 +202,14 @@ fn differs(
     rt: &HostRuntime,
     row: &Row<'_>,
     way: &str,
-    result: &str,
+    outcome: &str,
     expected: &str,
 ) -> Result<bool, Fail> {
-    if result == expected {
+    if outcome == expected {
         return Ok(false);
     }
     let name = row.name;
-    println!(rt; "{name} by {way}: wanted\n{expected}and found\n{result}")?;
+    println!(rt; "{name} by {way}: wanted\n{expected}and found\n{outcome}")?;
     Ok(true)
 }
 
@@ -217,16 +217,16 @@ fn differs(
 fn row_differs(rt: &HostRuntime, row: &Row<'_>) -> Result<bool, Fail> {
     let (alloc, expected) = (rt.alloc(), row.expected.as_str());
     if !expected.starts_with("source ") {
-        let result = script::follow(alloc, row)?;
-        return differs(rt, row, "its script", result.as_str(), expected);
+        let outcome = script::follow(alloc, row)?;
+        return differs(rt, row, "its script", outcome.as_str(), expected);
     }
-    let result = by_literal(alloc, row)?;
+    let outcome = by_literal(alloc, row)?;
     let source = expected.split_inclusive('\n').next().unwrap_or("");
-    let by_literal = differs(rt, row, "is_source_literal", result.as_str(), source)?;
-    let result = by_next(alloc, row)?;
-    let by_next = differs(rt, row, "next", result.as_str(), expected)?;
-    let result = by_read_all(alloc, row)?;
-    let by_read_all = differs(rt, row, "read_all", result.as_str(), expected)?;
+    let by_literal = differs(rt, row, "is_source_literal", outcome.as_str(), source)?;
+    let outcome = by_next(alloc, row)?;
+    let by_next = differs(rt, row, "next", outcome.as_str(), expected)?;
+    let outcome = by_read_all(alloc, row)?;
+    let by_read_all = differs(rt, row, "read_all", outcome.as_str(), expected)?;
     Ok(by_literal || by_next || by_read_all)
 }
 

@@ -270,9 +270,9 @@ fn put_result(
 }
 
 /// Adds a call with its result.
-fn put_call(out: &mut String, call: &str, result: &str) -> Result<(), AllocError> {
+fn put_call(out: &mut String, call: &str, outcome: &str) -> Result<(), AllocError> {
     out.push_str(call)?;
-    for (at, line) in result.lines().enumerate() {
+    for (at, line) in outcome.lines().enumerate() {
         out.push_str(if at == 0 { " " } else { "\n  " })?;
         out.push_str(line)?;
     }
