@@ -34,7 +34,7 @@ returns c =
     c.in-Some.literal.style found.arguments.now c.args.is_counted _ _ _ _
     (map seen_argument c.as_slice-list.result.now)
     (ap chars c.as_str-text.ensures.value ∙ r.text) snippet
-    c.appends_newline-appended_newline.ensures c.captures_variables-2.ensures
+    c.appends_newline-appended_newline.ensures c.captures_variables.ensures
     (ap (map seen_argument) c.as_slice-list.ensures.value ∙ c.in_ok-arguments.ensures)
     c.is_format_alone.ensures c.has_const_form.ensures in
     inr (
