@@ -16,7 +16,7 @@ use rust_trees::{Balance, Source, Token, Tokens, is_opening};
 use std::alloc::{AllocError, Global};
 
 /// Returns whether three tokens are a word of a table, `!` and an opening delimiter.
-fn opens_call(rows: &[Row<'_>], name: &Token<'_>, mark: &Token<'_>, opening: &Token<'_>) -> bool
+pub fn opens_call(rows: &[Row<'_>], name: &Token<'_>, mark: &Token<'_>, opening: &Token<'_>) -> bool
     ensures { result ≡ opens_call (map entry rows.now) (leaf name.now) (leaf mark.now)
         (leaf opening.now) }
 {

@@ -7,7 +7,7 @@ ghost use Rattle.rust_tokens.specs.Tokens.{Lexeme};
 ghost use Rattle.rust_trees.specs.Leaves.{AreLeft, Leaf, is_leaf, leaf, leaves, side};
 
 use crate::sides::{Side, side_of};
-use rust_tokens::{Kind, skip_head, split_first_token};
+use rust_tokens::{Kind, begins_with_word, skip_head, split_first_token};
 use std::alloc::{AllocError, Global};
 use std::marker::Model;
 
@@ -125,6 +125,24 @@ impl<'a> Tokens<'a> {
         };
         self.rest = rest;
         Some(token)
+    }
+
+    /// Returns the rest of the file.
+    pub fn rest(&self) -> &'a str {
+        self.rest
+    }
+
+    /// Passes a front of the rest that ends where a word begins. Returns whether the rest begins
+    /// so.
+    pub fn skip(&mut self, front: &str) -> bool {
+        let Some(rest) = self.rest.strip_prefix(front) else {
+            return false;
+        };
+        if !begins_with_word(rest) {
+            return false;
+        }
+        self.rest = rest;
+        true
     }
 
     /// Returns the next token without reading it, or `None` if none is left.

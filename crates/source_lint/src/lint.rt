@@ -90,7 +90,11 @@ fn read_file(
 
 /// Adds the findings in the texts of the attributes of a file. Returns `Err` if an allocation
 /// fails.
-fn put_attributes(alloc: Global, findings: &mut Vec<Finding>, text: &str) -> Result<(), AllocError>
+pub fn put_attributes(
+    alloc: Global,
+    findings: &mut Vec<Finding>,
+    text: &str,
+) -> Result<(), AllocError>
     ensures read { OnOk result ((ls : List Leaf) → AreLeaves text.now ls → (xs : List FindingValue)
         × (findings.new.items ≡ findings.old.items ++ xs) × ReadsAttributes text.now ls xs) }
     ensures spans { OnOk result (All (HasSpans text.now) findings.old.items

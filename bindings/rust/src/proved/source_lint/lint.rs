@@ -60,7 +60,7 @@ fn read_file(
 
 /// Adds the findings in the texts of the attributes of a file.
 #[inline]
-fn put_attributes(findings: &mut Vec<Finding>, text: &str) -> Result<(), AllocError> {
+pub fn put_attributes(findings: &mut Vec<Finding>, text: &str) -> Result<(), AllocError> {
     if !text.contains("on_unimplemented") {
         return Ok(());
     }
