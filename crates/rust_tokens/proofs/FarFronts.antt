@@ -1,8 +1,8 @@
 -- A token keeps its reading where what follows it stays the same up to a barrier, or to the first
 -- character of a word right after it.
-use Rattle.std.proofs.Common.{◌≡◌, ℕ, Bool, true, false, not, ◌&&◌, ◌++◌, [], ◌∷◌}
+use Rattle.std.proofs.Common.{◌≡◌, ℕ, Bool, true, false, not, ◌&&◌, ◌||◌, ◌++◌, [], ◌∷◌}
 use Rattle.std.proofs.Common.{◌⊎◌, inl, inr, Some, None, refl, ap, sym, ◌∙◌, append_assoc}
-use Rattle.std.proofs.Common.{subst}
+use Rattle.std.proofs.Common.{arith, subst}
 use Rattle.std.specs.Prelude.{◌==◌, IsTrue, if◌then◌else◌}
 use Rattle.std.specs.List.{list_all}
 use Rattle.std.proofs.lemmas.Bool.{false≢true, and_parts}
@@ -31,10 +31,10 @@ use Rattle.rust_tokens.specs.Numbers.{IsScientific}
 use Rattle.rust_tokens.specs.Openings.{IsOpening}
 use Rattle.rust_tokens.specs.Tokens.{IsSuffix, Stands, is_literal}
 use Rattle.rust_tokens.specs.Fronts.{is_inner}
-use Rattle.rust_tokens.proofs.Basics.{not_false}
-use Rattle.rust_tokens.proofs.Classes.{apart, starts-go_on}
-use Rattle.rust_tokens.proofs.Fronts.{AreInner, exponent-inner, one-inner, opening-inner, r-inner}
-use Rattle.rust_tokens.proofs.Fronts.{words-inner}
+use Rattle.rust_tokens.proofs.Basics.{and_no, no_pass, not_false, not_not}
+use Rattle.rust_tokens.proofs.Classes.{apart, no_space, start_at, starts-go_on, starts-slash}
+use Rattle.rust_tokens.proofs.InnerTexts.{AreInner, exponent-inner, one-inner, opening-inner, r-inner}
+use Rattle.rust_tokens.proofs.InnerTexts.{words-inner}
 
 abbrev tail : Text → Text
 tail [] = []
@@ -269,51 +269,63 @@ no-word s c t h e x =
     subst (λ v. IsTrue (stops is_id_continue (v ++ c ∷ t))) e x in
     false≢true (sym (not_false (is_id_continue c) y) ∙ starts-go_on c h)
 
-near-line : (k : Kind) (b s : Text) (c : ℕ) (t u : Text) → IsLine k b (s ++ c ∷ t)
-    → IsLine k b (s ++ c ∷ u)
-near-line k b s c t u x = (x.0, x.1, x.2, x.3, far-stops is_in_line s c t u x.4)
+-- No line comment and no white space stands right before a word.
+no-line : (k : Kind) (b s : Text) (c : ℕ) (t : Text) → is_id_start c ≡ true → s ≡ []
+    → IsLine k b (s ++ c ∷ t) → ⊥
+no-line k b s c t h e x =
+    let y : IsTrue (stops is_in_line (c ∷ t)) =
+    subst (λ v. IsTrue (stops is_in_line (v ++ c ∷ t))) e x.4 in
+    false≢true (sym (apart is_id_start c 10 (start_at 10 (omega arith)) h) ∙ not_not (c == 10) y)
+
+no-mark : (q : Bool) (s : Text) (c : ℕ) (t : Text) → is_id_start c ≡ true → s ≡ []
+    → IsTrue (not (q && first_passes is_star_or_slash (s ++ c ∷ t)))
+no-mark q s c t h e =
+    let star : (c == 42) ≡ false = apart is_id_start c 42 (start_at 42 (omega arith)) h in
+    let slash : (c == 47) ≡ false = apart is_id_start c 47 starts-slash h in
+    let none : first_passes is_star_or_slash (s ++ c ∷ t) ≡ false =
+    ap (λ v. first_passes is_star_or_slash (v ++ c ∷ t)) e
+    ∙ (ap (λ b. b || (c == 47)) star ∙ slash) in
+    no_pass _ (and_no q _ none)
+
+no-space : (s : Text) (c : ℕ) (t : Text) → is_id_start c ≡ true → s ≡ []
+    → IsTrue (stops is_space (s ++ c ∷ t))
+no-space s c t h e =
+    subst (λ v. IsTrue (stops is_space (v ++ c ∷ t))) (sym e) (no_pass _ (no_space c h))
 
 -- A token that has its end, where a word follows right after it.
-pub near : (k : Kind) (b s : Text) (c : ℕ) (t u : Text) → is_id_start c ≡ true
-    → IsSuffix (is_literal k && true) s (c ∷ t) → Stands k true b (s ++ c ∷ t)
-    → Stands k true b (s ++ c ∷ u)
-near Whitespace b s c t u h f x = (x.0, x.1, far-stops is_space s c t u x.2)
-near LineComment b s c t u h f x = (x.0, near-line LineComment b s c t u x.1)
-near OuterLineDoc b s c t u h f x = (x.0, near-line OuterLineDoc b s c t u x.1)
-near InnerLineDoc b s c t u h f x = (x.0, near-line InnerLineDoc b s c t u x.1)
-near BlockComment b s c t u h f x = x
-near OuterBlockDoc b s c t u h f x = x
-near InnerBlockDoc b s c t u h f x = x
-near Ident b s c t u h f x = absurd (no-word s c t h f x.2)
-near RawIdent b s c t u h f x = absurd (no-word s c t h f x.4)
-near Lifetime b s c t u h f x = absurd (no-word s c t h f x.4)
-near RawLifetime b s c t u h f x = absurd (no-word s c t h f x.4)
-near BinaryInt b s c t u h f x = absurd (no-suffix s c t h f)
-near OctalInt b s c t u h f x = absurd (no-suffix s c t h f)
-near DecimalInt b s c t u h f x = absurd (no-suffix s c t h f)
-near HexadecimalInt b s c t u h f x = absurd (no-suffix s c t h f)
-near Float b s c t u h f x = absurd (no-suffix s c t h f)
-near Char b s c t u h f x = absurd (no-suffix s c t h f)
-near Byte b s c t u h f x = absurd (no-suffix s c t h f)
-near Str b s c t u h f x = absurd (no-suffix s c t h f)
-near ByteStr b s c t u h f x = absurd (no-suffix s c t h f)
-near CStr b s c t u h f x = absurd (no-suffix s c t h f)
-near RawStr b s c t u h f x = absurd (no-suffix s c t h f)
-near RawByteStr b s c t u h f x = absurd (no-suffix s c t h f)
-near RawCStr b s c t u h f x = absurd (no-suffix s c t h f)
-near Punct b s c t u h f x = (
-  x.0,
-  x.1,
-  x.2,
-  x.3,
-  ap (λ q. not (x.1 == 47 && q)) (far-first is_star_or_slash s c u t) ∙ x.4,
-)
-near Unknown b s c t u h f x = x
-near Shebang b s c t u h f x = absurd x
-near ByteOrderMark b s c t u h f x = absurd x
+pub near : (k : Kind) (b s : Text) (c d : ℕ) (t u : Text) → is_id_start c ≡ true
+    → is_id_start d ≡ true → IsSuffix (is_literal k && true) s (c ∷ t)
+    → Stands k true b (s ++ c ∷ t) → Stands k true b (s ++ d ∷ u)
+near Whitespace b s c d t u h g f x = (x.0, x.1, no-space s d u g f)
+near LineComment b s c d t u h g f x = absurd (no-line LineComment b s c t h f x.1)
+near OuterLineDoc b s c d t u h g f x = absurd (no-line OuterLineDoc b s c t h f x.1)
+near InnerLineDoc b s c d t u h g f x = absurd (no-line InnerLineDoc b s c t h f x.1)
+near BlockComment b s c d t u h g f x = x
+near OuterBlockDoc b s c d t u h g f x = x
+near InnerBlockDoc b s c d t u h g f x = x
+near Ident b s c d t u h g f x = absurd (no-word s c t h f x.2)
+near RawIdent b s c d t u h g f x = absurd (no-word s c t h f x.4)
+near Lifetime b s c d t u h g f x = absurd (no-word s c t h f x.4)
+near RawLifetime b s c d t u h g f x = absurd (no-word s c t h f x.4)
+near BinaryInt b s c d t u h g f x = absurd (no-suffix s c t h f)
+near OctalInt b s c d t u h g f x = absurd (no-suffix s c t h f)
+near DecimalInt b s c d t u h g f x = absurd (no-suffix s c t h f)
+near HexadecimalInt b s c d t u h g f x = absurd (no-suffix s c t h f)
+near Float b s c d t u h g f x = absurd (no-suffix s c t h f)
+near Char b s c d t u h g f x = absurd (no-suffix s c t h f)
+near Byte b s c d t u h g f x = absurd (no-suffix s c t h f)
+near Str b s c d t u h g f x = absurd (no-suffix s c t h f)
+near ByteStr b s c d t u h g f x = absurd (no-suffix s c t h f)
+near CStr b s c d t u h g f x = absurd (no-suffix s c t h f)
+near RawStr b s c d t u h g f x = absurd (no-suffix s c t h f)
+near RawByteStr b s c d t u h g f x = absurd (no-suffix s c t h f)
+near RawCStr b s c d t u h g f x = absurd (no-suffix s c t h f)
+near Punct b s c d t u h g f x = (x.0, x.1, x.2, x.3, no-mark (x.1 == 47) s d u g f)
+near Unknown b s c d t u h g f x = x
+near Shebang b s c d t u h g f x = absurd x
+near ByteOrderMark b s c d t u h g f x = absurd x
 
-pub near-suffix : (q : Bool) (s : Text) (c : ℕ) (t u : Text) → IsSuffix q s (c ∷ t)
-    → IsSuffix q s (c ∷ u)
-near-suffix false s c t u x = x
-near-suffix true s c t u (inl x) = inl x
-near-suffix true s c t u (inr x) = inr x
+pub near-suffix : (q : Bool) (s : Text) (c d : ℕ) (t u : Text) → is_id_start c ≡ true
+    → IsSuffix q s (c ∷ t) → IsSuffix q s (d ∷ u)
+near-suffix false s c d t u h x = x
+near-suffix true s c d t u h x = absurd (no-suffix s c t h x)

@@ -8,7 +8,7 @@ use Rattle.std.proofs.lemmas.List.{append_cancel_right}
 use Rattle.rust_tokens.specs.Texts.{Text}
 use Rattle.rust_tokens.specs.Runs.{is_id_start}
 use Rattle.rust_tokens.specs.Tokens.{Begins, IsSuffix, Lexeme, ReadsTo, Stands, is_literal}
-use Rattle.rust_tokens.specs.Fronts.{is_barrier, is_inner}
+use Rattle.rust_tokens.specs.Fronts.{EndsWithBarrier, ReadsBeforeWords, is_barrier, is_inner}
 use Rattle.rust_tokens.proofs.Basics.{not_false}
 use Rattle.rust_tokens.proofs.FarFronts.{far, far-suffix, near, near-suffix}
 
@@ -31,7 +31,7 @@ tail (c ∷ t) = t
 
 -- The text is empty, or its last character is a barrier.
 abbrev Barred : Text → Type 0
-Barred v = (v ≡ []) ⊎ ((u : Text) × (d : ℕ) × IsTrue (is_barrier d) × (v ≡ u ++ d ∷ []))
+Barred v = (v ≡ []) ⊎ EndsWithBarrier v
 
 empty-rest : (p v : Text) → p ++ v ≡ [] → v ≡ []
 empty-rest [] v e = e
@@ -49,75 +49,72 @@ barred-rest : (p v w : Text) → w ≡ p ++ v → Barred w → Barred v
 barred-rest p v w e (inl f) = inl (empty-rest p v (sym e ∙ f))
 barred-rest p v w e (inr y) = last-rest p v y.0 y.1 y.2 (sym e ∙ y.3)
 
-stands-on : (x : Lexeme) (v : Text) (c : ℕ) (t u : Text) → is_id_start c ≡ true → Barred v
-    → Stands x.kind true x.body (x.suffix ++ (v ++ c ∷ t))
+stands-on : (x : Lexeme) (v : Text) (c e : ℕ) (t u : Text) → is_id_start c ≡ true
+    → is_id_start e ≡ true → Barred v → Stands x.kind true x.body (x.suffix ++ (v ++ c ∷ t))
     → IsSuffix (is_literal x.kind && true) x.suffix (v ++ c ∷ t)
-    → Stands x.kind true x.body (x.suffix ++ (v ++ c ∷ u))
-    × IsSuffix (is_literal x.kind && true) x.suffix (v ++ c ∷ u)
-stands-on x v c t u h (inl e) s f =
-    subst (λ w. Stands x.kind true x.body (x.suffix ++ (w ++ c ∷ u))
-    × IsSuffix (is_literal x.kind && true) x.suffix (w ++ c ∷ u)) (sym e) (
-      near x.kind x.body x.suffix c t u h
-          (subst (λ w. IsSuffix (is_literal x.kind && true) x.suffix (w ++ c ∷ t)) e f)
-          (subst (λ w. Stands x.kind true x.body (x.suffix ++ (w ++ c ∷ t))) e s),
-      near-suffix (is_literal x.kind && true) x.suffix c t u
-          (subst (λ w. IsSuffix (is_literal x.kind && true) x.suffix (w ++ c ∷ t)) e f),
+    → Stands x.kind true x.body (x.suffix ++ (v ++ e ∷ u))
+    × IsSuffix (is_literal x.kind && true) x.suffix (v ++ e ∷ u)
+stands-on x v c e t u h g (inl n) s f =
+    let k : IsSuffix (is_literal x.kind && true) x.suffix (c ∷ t) =
+    subst (λ w. IsSuffix (is_literal x.kind && true) x.suffix (w ++ c ∷ t)) n f in
+    subst (λ w. Stands x.kind true x.body (x.suffix ++ (w ++ e ∷ u))
+    × IsSuffix (is_literal x.kind && true) x.suffix (w ++ e ∷ u)) (sym n) (
+      near x.kind x.body x.suffix c e t u h g k
+          (subst (λ w. Stands x.kind true x.body (x.suffix ++ (w ++ c ∷ t))) n s),
+      near-suffix (is_literal x.kind && true) x.suffix c e t u h k,
     )
-stands-on x v c t u h (inr (w, d, b, e)) s f =
+stands-on x v c e t u h g (inr (w, d, b, i)) s f =
     let n : is_inner d ≡ false = not_false (is_inner d) b in
-    let to : (r : Text) → v ++ c ∷ r ≡ w ++ d ∷ c ∷ r =
-    λ r. ap (λ y. y ++ c ∷ r) e ∙ append_assoc w (d ∷ []) (c ∷ r) in
-    let all : (r : Text) → x.suffix ++ (v ++ c ∷ r) ≡ (x.suffix ++ w) ++ d ∷ c ∷ r =
-    λ r. ap (λ y. x.suffix ++ y) (to r) ∙ sym (append_assoc x.suffix w (d ∷ c ∷ r)) in (
-      subst (λ y. Stands x.kind true x.body y) (sym (all u))
-          (far x.kind x.body (x.suffix ++ w) d (c ∷ t) (c ∷ u) n
-          (subst (λ y. Stands x.kind true x.body y) (all t) s)),
-      subst (λ y. IsSuffix (is_literal x.kind && true) x.suffix y) (sym (to u))
-          (far-suffix (is_literal x.kind && true) x.suffix w d (c ∷ t) (c ∷ u)
-          (subst (λ y. IsSuffix (is_literal x.kind && true) x.suffix y) (to t) f)),
+    let to : (r : Text) → v ++ r ≡ w ++ d ∷ r =
+    λ r. ap (λ y. y ++ r) i ∙ append_assoc w (d ∷ []) r in
+    let all : (r : Text) → x.suffix ++ (v ++ r) ≡ (x.suffix ++ w) ++ d ∷ r =
+    λ r. ap (λ y. x.suffix ++ y) (to r) ∙ sym (append_assoc x.suffix w (d ∷ r)) in (
+      subst (λ y. Stands x.kind true x.body y) (sym (all (e ∷ u)))
+          (far x.kind x.body (x.suffix ++ w) d (c ∷ t) (e ∷ u) n
+          (subst (λ y. Stands x.kind true x.body y) (all (c ∷ t)) s)),
+      subst (λ y. IsSuffix (is_literal x.kind && true) x.suffix y) (sym (to (e ∷ u)))
+          (far-suffix (is_literal x.kind && true) x.suffix w d (c ∷ t) (e ∷ u)
+          (subst (λ y. IsSuffix (is_literal x.kind && true) x.suffix y) (to (c ∷ t)) f)),
     )
 
-begins-on : (x : Lexeme) (v : Text) (c : ℕ) (t u whole : Text) → is_id_start c ≡ true → Barred v
-    → x.is_ended ≡ true → Begins x whole (v ++ c ∷ t)
-    → Begins x (x.body ++ (x.suffix ++ (v ++ c ∷ u))) (v ++ c ∷ u)
-begins-on x v c t u whole h b e f =
-    let y = stands-on x v c t u h b
-    (subst (λ q. Stands x.kind q x.body (x.suffix ++ (v ++ c ∷ t))) e f.stands)
-    (subst (λ q. IsSuffix (is_literal x.kind && q) x.suffix (v ++ c ∷ t)) e f.suffixed) in
+begins-on : (x : Lexeme) (v : Text) (c e : ℕ) (t u whole : Text) → is_id_start c ≡ true
+    → is_id_start e ≡ true → Barred v → x.is_ended ≡ true → Begins x whole (v ++ c ∷ t)
+    → Begins x (x.body ++ (x.suffix ++ (v ++ e ∷ u))) (v ++ e ∷ u)
+begins-on x v c e t u whole h g b n f =
+    let y = stands-on x v c e t u h g b
+    (subst (λ q. Stands x.kind q x.body (x.suffix ++ (v ++ c ∷ t))) n f.stands)
+    (subst (λ q. IsSuffix (is_literal x.kind && q) x.suffix (v ++ c ∷ t)) n f.suffixed) in
     record {
       joins = refl;
-      stands = subst (λ q. Stands x.kind q x.body (x.suffix ++ (v ++ c ∷ u))) (sym e) y.0;
-      suffixed = subst (λ q. IsSuffix (is_literal x.kind && q) x.suffix (v ++ c ∷ u)) (sym e) y.1;
+      stands = subst (λ q. Stands x.kind q x.body (x.suffix ++ (v ++ e ∷ u))) (sym n) y.0;
+      suffixed = subst (λ q. IsSuffix (is_literal x.kind && q) x.suffix (v ++ e ∷ u)) (sym n) y.1;
     }
 
--- The front of these tokens before another text that begins with the same character.
-reads-on : (xs : List Lexeme) (whole : Text) (c : ℕ) (t u : Text) → is_id_start c ≡ true
-    → Barred (joined xs) → IsTrue (list_all (λ x. x.is_ended) xs) → ReadsTo whole xs (c ∷ t)
-    → ReadsTo (joined xs ++ c ∷ u) xs (c ∷ u)
-reads-on [] whole c t u h b e r = refl
-reads-on (x ∷ xs) whole c t u h b e r =
-    let n = and_parts x.is_ended (list_all (λ x. x.is_ended) xs) e in
+-- The front of these tokens before another word.
+reads-on : (xs : List Lexeme) (whole : Text) (c e : ℕ) (t u : Text) → is_id_start c ≡ true
+    → is_id_start e ≡ true → Barred (joined xs) → IsTrue (list_all (λ x. x.is_ended) xs)
+    → ReadsTo whole xs (c ∷ t) → ReadsTo (joined xs ++ e ∷ u) xs (e ∷ u)
+reads-on [] whole c e t u h g b n r = refl
+reads-on (x ∷ xs) whole c e t u h g b n r =
+    let l = and_parts x.is_ended (list_all (λ x. x.is_ended) xs) n in
     let v : Text = joined xs in
     let j = reads-join r.0 xs (c ∷ t) r.2 in
     let i : Barred v = barred-rest (x.body ++ x.suffix) v (x.body ++ (x.suffix ++ v))
     (sym (append_assoc x.body x.suffix v)) b in
-    let a : (x.body ++ (x.suffix ++ v)) ++ c ∷ u ≡ x.body ++ (x.suffix ++ (v ++ c ∷ u)) =
-    append_assoc x.body (x.suffix ++ v) (c ∷ u)
-    ∙ ap (λ y. x.body ++ y) (append_assoc x.suffix v (c ∷ u)) in (
-      v ++ c ∷ u,
-      subst (λ y. Begins x y (v ++ c ∷ u)) (sym a)
-          (begins-on x v c t u whole h i n.0 (subst (λ y. Begins x whole y) j r.1)),
-      reads-on xs r.0 c t u h i n.1 r.2,
+    let a : (x.body ++ (x.suffix ++ v)) ++ e ∷ u ≡ x.body ++ (x.suffix ++ (v ++ e ∷ u)) =
+    append_assoc x.body (x.suffix ++ v) (e ∷ u)
+    ∙ ap (λ y. x.body ++ y) (append_assoc x.suffix v (e ∷ u)) in (
+      v ++ e ∷ u,
+      subst (λ y. Begins x y (v ++ e ∷ u)) (sym a)
+          (begins-on x v c e t u whole h g i l.0 (subst (λ y. Begins x whole y) j r.1)),
+      reads-on xs r.0 c e t u h g i l.1 r.2,
     )
 
-pub front-alone : (w t : Text) (c d : ℕ) (xs : List Lexeme) → IsTrue (is_id_start c)
-    → IsTrue (is_barrier d) → IsTrue (list_all (λ x. x.is_ended) xs)
-    → ReadsTo (w ++ d ∷ c ∷ t) xs (c ∷ t) → (u : Text) → ReadsTo (w ++ d ∷ c ∷ u) xs (c ∷ u)
-front-alone w t c d xs h b e r u =
-    let j = reads-join (w ++ d ∷ c ∷ t) xs (c ∷ t) r in
-    let a : (y : Text) → (w ++ d ∷ []) ++ c ∷ y ≡ w ++ d ∷ c ∷ y =
-    λ y. append_assoc w (d ∷ []) (c ∷ y) in
-    let f : w ++ d ∷ [] ≡ joined xs =
-    append_cancel_right (w ++ d ∷ []) (joined xs) (c ∷ t) (a t ∙ j) in
-    subst (λ y. ReadsTo y xs (c ∷ u)) (ap (λ y. y ++ c ∷ u) (sym f) ∙ a u)
-    (reads-on xs (w ++ d ∷ c ∷ t) c t u h (inr (w, d, b, sym f)) e r)
+pub before-words : (u t : Text) (c : ℕ) (xs : List Lexeme) → EndsWithBarrier u
+    → IsTrue (is_id_start c) → IsTrue (list_all (λ x. x.is_ended) xs)
+    → ReadsTo (u ++ c ∷ t) xs (c ∷ t) → ReadsBeforeWords u xs
+before-words u t c xs b h n r = λ e v g.
+    let f : u ≡ joined xs =
+    append_cancel_right u (joined xs) (c ∷ t) (reads-join (u ++ c ∷ t) xs (c ∷ t) r) in
+    subst (λ y. ReadsTo (y ++ e ∷ v) xs (e ∷ v)) (sym f)
+    (reads-on xs (u ++ c ∷ t) c e t v h g (inr (subst (λ y. EndsWithBarrier y) f b)) n r)

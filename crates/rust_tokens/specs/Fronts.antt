@@ -1,6 +1,6 @@
 -- Fronts of texts that read as the same tokens whatever follows.
 use Prim.Native.Char.{code}
-use Rattle.std.specs.Prelude.{ℕ, Bool, not, ◌||◌, ◌==◌, ◌++◌, IsTrue, List, ◌∷◌}
+use Rattle.std.specs.Prelude.{◌≡◌, ℕ, Bool, not, ◌||◌, ◌==◌, ◌++◌, IsTrue, List, [], ◌∷◌}
 use Rattle.rust_tokens.specs.Texts.{Text}
 use Rattle.rust_tokens.specs.Runs.{is_id_start, is_id_continue}
 use Rattle.rust_tokens.specs.Numbers.{is_sign}
@@ -14,6 +14,10 @@ is_inner c = c == code "#" || (c == code "\"" || (c == code "'" || (c == code ".
 -- The character may end a front: no token before it depends on what follows it.
 abbrev pub is_barrier : ℕ → Bool
 is_barrier c = not (is_inner c)
+
+-- The last character of the text is a barrier.
+abbrev pub EndsWithBarrier : Text → Type 0
+EndsWithBarrier t = (u : Text) × (d : ℕ) × IsTrue (is_barrier d) × (t ≡ u ++ d ∷ [])
 
 -- The text reads as these tokens wherever a word follows, whatever that word is and comes after it.
 abbrev pub ReadsBeforeWords : Text → List Lexeme → Type 0

@@ -3,7 +3,7 @@
 ghost use Rattle.std.specs.Prelude.{◌≡◌, ◌≤◌, ◌++◌, ◌∷◌, ℕ, Bool, IsTrue, List, length};
 ghost use Rattle.std.specs.List.{list_all};
 ghost use Rattle.rust_tokens.specs.Files.{ReadsFile};
-ghost use Rattle.rust_tokens.specs.Fronts.{is_barrier};
+ghost use Rattle.rust_tokens.specs.Fronts.{EndsWithBarrier, ReadsBeforeWords};
 ghost use Rattle.rust_tokens.specs.Runs.{is_id_start};
 ghost use Rattle.rust_tokens.specs.Texts.{Text};
 ghost use Rattle.rust_tokens.specs.Tokens.{Begins, Lexeme, Reads, ReadsTo, Stands, is_allowed};
@@ -31,10 +31,10 @@ pub fn longest_token()
         → length b ≤ length x.body }
 {}
 
-/// A front of a text that ends with a barrier and reads as tokens that have their ends, up to a
-/// word, reads as the same tokens whatever comes after the first character of that word.
-pub fn front_before_word()
-    ensures { (w t u : Text) (c d : ℕ) (xs : List Lexeme) → IsTrue (is_barrier d)
-        → IsTrue (is_id_start c) → IsTrue (list_all (λ x. x.is_ended) xs)
-        → ReadsTo (w ++ d ∷ c ∷ t) xs (c ∷ t) → ReadsTo (w ++ d ∷ c ∷ u) xs (c ∷ u) }
+/// A front of a text that ends with a barrier, and reads as tokens that have their ends, up to a
+/// word, reads as these tokens before each word.
+pub fn front_before_words()
+    ensures { (u t : Text) (c : ℕ) (xs : List Lexeme) → EndsWithBarrier u → IsTrue (is_id_start c)
+        → IsTrue (list_all (λ x. x.is_ended) xs) → ReadsTo (u ++ c ∷ t) xs (c ∷ t)
+        → ReadsBeforeWords u xs }
 {}
