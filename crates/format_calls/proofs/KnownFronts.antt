@@ -25,7 +25,10 @@ use Rattle.rust_trees.specs.Balances.{AreEnded}
 use Rattle.rust_trees.specs.Leaves.{AreLeft, Leaf, is_leaf, leaf_at, leaves}
 use Rattle.rust_trees.proofs.Lists.{no-cons, same-first, same-rest}
 use Rattle.rust_trees.proofs.PassedFronts.{end-joined}
+use Rattle.format_calls.specs.Gaps.{IsClear, IsGapText}
 use Rattle.format_calls.specs.Marks.{is_ident}
+use Rattle.format_calls.specs.Rows.{Entry}
+use Rattle.format_calls.proofs.ClearGaps.{clear-elsewhere}
 
 -- Readings that are cut.
 pub reads-split : (whole : Text) (xs ys : List Lexeme) (e : Text) → ReadsTo whole (xs ++ ys) e
@@ -200,3 +203,22 @@ known-front whole rest g after gap n more u j l s w b k =
         → ReadsBeforeWords (chars g) xs
     by_word xs [] h e y = absurd (false≢true h)
     by_word xs (c ∷ t) h e y = before-words (chars g) t c xs b h e y
+
+-- The text of such a front, whose tokens begin no call.
+pub known-text : (es : List Entry) (whole rest g after : List ℕ) (gap : List Leaf) (n : Leaf)
+    (more : List Leaf) (at : ℕ) → at ≡ length whole - length rest → IsUtf8 g → rest ≡ g ++ after
+    → AreLeft (record { whole = whole; rest = rest }) (gap ++ n ∷ more)
+    → length g ≡ n.start - at → is_ident n.kind ≡ true → EndsWithBarrier (chars g)
+    → AreEnded gap → IsClear es gap
+    → (xs : List Lexeme) × IsGapText es g xs × (leaves at xs ≡ gap)
+known-text es whole rest g after gap n more at o u j l s w b k c =
+    let f = known-front whole rest g after gap n more u j l (s ∙ ap (λ i. n.start - i) o) w b k in
+    let e : leaves at f.0 ≡ gap = ap (λ i. leaves i f.0) o ∙ f.3 in (
+      f.0,
+      record {
+        reads = f.1;
+        are_ended = f.2;
+        is_clear = clear-elsewhere es at 0 f.0 (subst (λ v. IsClear es v) (sym e) c);
+      },
+      e,
+    )

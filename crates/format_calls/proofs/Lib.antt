@@ -1,6 +1,7 @@
 pub mod CallSteps
 pub mod ClearGaps
 pub mod Counting
+pub mod GapForests
 pub mod KnownFronts
 pub mod Parting
 pub mod Places

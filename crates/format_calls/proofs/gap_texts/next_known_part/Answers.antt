@@ -5,7 +5,7 @@ use Rattle.format_calls.specs.Parts.{opens_call}
 use Rattle.format_calls.specs.Rows.{entry}
 use Rattle.format_calls.proofs.ClearGaps.{clear-elsewhere, clear-part}
 use Rattle.format_calls.proofs.Parting.{end-of}
-use Rattle.format_calls.proofs.gaps.next_known_part.Goals as goal
+use Rattle.format_calls.proofs.gap_texts.next_known_part.Goals as goal
 
 pub returns-then-are_ended-clause-part : goal.returns-then-are_ended-clause-part
 returns-then-are_ended-clause-part c xs k left l =

@@ -4,13 +4,12 @@ use Rattle.std.specs.Prelude.{slice_get}
 use Rattle.std.proofs.lemmas.Bool.{and_parts}
 use Rattle.std.proofs.lemmas.List.{take-append-drop}
 use Rattle.std.proofs.lemmas.Option.{same_Some}
-use Rattle.rust_trees.specs.Leaves.{AreLeft, Leaf, leaf, leaves}
+use Rattle.rust_trees.specs.Leaves.{AreLeft, Leaf, leaf}
 use Rattle.rust_trees.specs.declared.leaves.Token.{Token}
 use Rattle.rust_trees.proofs.Lists.{no-cons, same-first}
-use Rattle.format_calls.specs.Gaps.{IsClear}
-use Rattle.format_calls.proofs.ClearGaps.{clear-elsewhere, listed-word}
-use Rattle.format_calls.proofs.KnownFronts.{known-front}
-use Rattle.format_calls.proofs.gaps.gap_before.Goals as goal
+use Rattle.format_calls.proofs.ClearGaps.{listed-word}
+use Rattle.format_calls.proofs.KnownFronts.{known-text}
+use Rattle.format_calls.proofs.gap_texts.gap_before.Goals as goal
 
 first-leaf : (ts : List Token) (t : Token) (n : Leaf) (xs : List Leaf)
     → ◌≡◌ (Some t) (slice_get ts 0) → map leaf ts ≡ n ∷ xs → ◌≡◌ {A = Leaf} (leaf t) n
@@ -34,18 +33,9 @@ returns-then-ends_with_barrier-clause-gap c es whole gap left o l k b e =
     let size = c.in-Some-get.ensures.cases.1 in
     let start = ap (λ x. x.start) name in
     let sub = c.saturating_sub.ensures in
-    let bytes : length g ≡ b.name.start - (length whole - length rest) =
-    omega (arith, size, start, sub, o) in
+    let bytes : length g ≡ b.name.start - c.args.offset = omega (arith, size, start, sub) in
     let p = and_parts _ _ b.opens in
     let q = and_parts _ _ p.1 in
-    let f = known-front whole rest g (drop n rest) gap b.name _ u whole-is
+    known-text es whole rest g (drop n rest) gap b.name _ c.args.offset o u whole-is
     (subst (λ t. AreLeft (record { whole = whole; rest = rest }) (gap ++ (t ++ left))) b.joins l)
-    bytes (listed-word es b.name q.1) (c.ends_with_barrier.ensures c.if-ends_with_barrier.true) e in (
-      f.0,
-      record {
-        reads = f.1;
-        are_ended = f.2;
-        is_clear = clear-elsewhere es (length whole - length rest) 0 f.0 (subst (λ v. IsClear es v) (sym f.3) k);
-      },
-      ap (λ i. leaves i f.0) o ∙ f.3,
-    )
+    bytes (listed-word es b.name q.1) (c.ends_with_barrier.ensures c.if-ends_with_barrier.true) e k

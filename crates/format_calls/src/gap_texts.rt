@@ -1,12 +1,13 @@
 //! The texts between the parts of a file that have calls, which read as the same tokens in another
 //! file.
 
-ghost use Rattle.std.specs.Prelude.{◌≡◌, ◌-◌, ◌++◌, ℕ, IfOk, IfSome, List, length, map};
+ghost use Rattle.std.specs.Prelude.{◌≡◌, ◌-◌, ◌++◌, ℕ, [], IfOk, IfSome, List, OnOk, length, map};
 ghost use Rattle.std.specs.List.{list_all};
 ghost use Rattle.rust_tokens.specs.Tokens.{Lexeme};
 ghost use Rattle.rust_trees.specs.Balances.{AreEnded};
 ghost use Rattle.rust_trees.specs.Forests.{IsForest};
 ghost use Rattle.rust_trees.specs.Leaves.{AreLeft, Leaf, leaf, leaves};
+ghost use Rattle.format_calls.specs.GapTexts.{AreKnown};
 ghost use Rattle.format_calls.specs.Gaps.{BeginsCall, IsClear, IsGapText};
 ghost use Rattle.format_calls.specs.Parts.{IsPart};
 ghost use Rattle.format_calls.specs.Rows.{Entry, entry};
@@ -20,7 +21,7 @@ use std::alloc::{AllocError, Global};
 /// Returns the text before a part that begins in the rest of a file, which starts at this offset.
 /// Returns `None` if the text may read as other tokens before another part, or if the part is no
 /// forest.
-pub fn gap_before<'a>(rest: &'a str, offset: usize, part: &Source<'a>) -> Option<&'a str>
+fn gap_before<'a>(rest: &'a str, offset: usize, part: &Source<'a>) -> Option<&'a str>
     ensures forest { IfSome result (λ _. IsForest part.now) }
     ensures gap { IfSome result (λ g. (es : List Entry) (whole : List ℕ) (gap left : List Leaf)
         → offset ≡ length whole - length rest.now
@@ -38,6 +39,49 @@ pub fn gap_before<'a>(rest: &'a str, offset: usize, part: &Source<'a>) -> Option
         Some(gap)
     } else {
         None
+    }
+}
+
+/// The texts between the parts of a file that have calls.
+#[derive(Drop)]
+pub struct Gaps<'a> {
+    /// The text before each part.
+    pub before: Vec<&'a str>,
+    /// The text after the last one.
+    pub last: &'a str,
+    /// Whether all these texts are known to read as the same tokens wherever they stand.
+    pub are_known: bool,
+}
+
+impl<'a> Gaps<'a> {
+    /// Returns no texts, with this one after them. Does not allocate.
+    pub fn new(alloc: Global, last: &'a str) -> Self
+        ensures { (es : List Entry) → AreKnown es result [] }
+    {
+        Gaps {
+            before: Vec::new(alloc),
+            last,
+            are_known: true,
+        }
+    }
+
+    /// Adds the text before a part that begins in the rest of a file, which starts at this offset.
+    /// Returns `Err` if an allocation fails.
+    pub fn add(&mut self, rest: &'a str, offset: usize, part: &Source<'a>) -> Result<(), AllocError>
+        ensures { OnOk result ((es : List Entry) (whole : List ℕ) (front gap left : List Leaf)
+            → offset ≡ length whole - length rest.now
+            → AreLeft (record { whole = whole; rest = rest.now }) (gap ++ (part.now ++ left))
+            → IsClear es gap → BeginsCall es part.now → AreKnown es self.old front
+            → AreKnown es self.new (front ++ (gap ++ part.now))) }
+    {
+        if !self.are_known {
+            return Ok(());
+        }
+        match gap_before(rest, offset, part) {
+            Some(gap) => self.before.push(gap)?,
+            None => self.are_known = false,
+        }
+        Ok(())
     }
 }
 

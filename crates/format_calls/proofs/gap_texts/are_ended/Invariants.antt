@@ -1,7 +1,7 @@
 use Rattle.std.proofs.Common.{◌≡◌, drop, map}
 use Rattle.std.specs.List.{list_all}
 use Rattle.rust_trees.specs.Leaves.{leaf}
-use Rattle.format_calls.proofs.gaps.are_ended.Given as goal
+use Rattle.format_calls.proofs.gap_texts.are_ended.Given as goal
 
 -- The answer for what is left is the answer for all.
 abbrev pub invariant-loop-token : goal.invariant-loop-token
