@@ -1,7 +1,7 @@
 -- A part after tokens that begin no call, wherever these stand.
 use Prim.Native.Char.{code}
-use Rattle.std.proofs.Common.{◌≡◌, ◌++◌, ◌⊎◌, ℕ, Bool, true, false, List, [], ◌∷◌, Option, Some, None}
-use Rattle.std.proofs.Common.{refl, ap, sym, ◌∙◌, subst, map}
+use Rattle.std.proofs.Common.{◌≡◌, ◌++◌, ◌⊎◌, ℕ, Bool, true, false, List, [], ◌∷◌, Option, Some}
+use Rattle.std.proofs.Common.{None, refl, ap, sym, ◌∙◌, subst, map}
 use Rattle.std.specs.Prelude.{◌&&◌, if◌then◌else◌, is_some, option_map, slice_index}
 use Rattle.std.proofs.lemmas.Bool.{and_parts, false≢true}
 use Rattle.std.proofs.lemmas.List.{append_cancel_right, append-nil}
@@ -77,7 +77,8 @@ walk es (t ∷ ts) g w v k e =
     by_test true q more f = absurd (none-some v f)
     by_test false q more f =
         let n = no-front (front_of es w t) (sym (same-front es w t) ∙ q) in
-        let z = more n (ap (λ u. window_after es u (map unplaced ts)) (sym (same-moved w t)) ∙ f) in (
+        let e = ap (λ u. window_after es u (map unplaced ts)) (sym (same-moved w t)) ∙ f in
+        let z = more n e in (
           z.0,
           z.1,
           z.2,

@@ -1,10 +1,11 @@
 -- The tokens between the parts of a file, and the forests in which they stand.
-use Rattle.std.proofs.Common.{◌≡◌, ◌++◌, ◌-◌, ℕ, Bool, true, false, List, [], ◌∷◌, Option, Some, None}
+use Rattle.std.proofs.Common.{◌≡◌, ◌++◌, ◌+◌, ◌-◌, ◌<◌, ◌≤◌, ℕ, Bool, true, false, List, [], ◌∷◌}
+use Rattle.std.proofs.Common.{Bor, Option, Some, None, drop, get_or, map}
 use Rattle.std.proofs.Common.{refl, ap, sym, ◌∙◌, subst, length, chars}
 use Rattle.std.specs.Prelude.{IsTrue, if◌then◌else◌}
 use Rattle.std.specs.List.{list_all}
 use Rattle.std.proofs.lemmas.Bool.{and_from, and_parts}
-use Rattle.std.proofs.lemmas.List.{append_assoc, append-nil}
+use Rattle.std.proofs.lemmas.List.{append_assoc, append-nil, drop-map, drop_all, drop_more}
 use Rattle.rust_tokens.specs.Tokens.{Lexeme, Reads}
 use Rattle.rust_tokens.specs.Placed.{end_of}
 use Rattle.rust_trees.specs.Balances.{AreEnded}
@@ -12,7 +13,8 @@ use Rattle.rust_trees.specs.Forests.{IsForest}
 use Rattle.rust_trees.specs.Leaves.{AreLeft, Leaf, Unread, is_leaf, leaf_at, leaves, side}
 use Rattle.rust_trees.specs.Scans.{open_after, scan}
 use Rattle.rust_trees.specs.declared.sides.Delimiter.{Delimiter}
-use Rattle.rust_trees.proofs.Scanning.{forest-scan, over-forest, scan-append, scan-forest, scan-none}
+use Rattle.rust_trees.proofs.Scanning.{forest-scan, over-forest, scan-append, scan-forest}
+use Rattle.rust_trees.proofs.Scanning.{scan-none}
 use Rattle.format_calls.specs.Calls.{IsCall}
 use Rattle.format_calls.specs.Gaps.{IsGapText, LacksFronts}
 use Rattle.format_calls.specs.Parts.{Window}
@@ -233,3 +235,20 @@ last-gap es hs last front u e f l =
             (ended-elsewhere 0 at xs l.is_last.are_ended),
       ),
     )
+
+-- The texts from one on, and after the last one.
+pub text-at : (xs ys : List (Bor (List ℕ))) (i : ℕ) (d : Bor (List ℕ)) → ys ≡ xs → i < length ys
+    → drop i (map (λ t. t.now) xs)
+    ≡ (get_or ys i d).now ∷ drop (i + 1) (map (λ t. t.now) xs)
+text-at xs ys i d e l =
+    drop-map (λ t. t.now) i xs
+    ∙ (ap (λ v. map (λ t. t.now) (drop i v)) (sym e)
+    ∙ (ap (λ v. map (λ t. t.now) v) (drop_more ys i d l)
+    ∙ ap (λ v. (get_or ys i d).now ∷ v) (ap (λ v. map (λ t. t.now) (drop (i + 1) v)) e
+    ∙ sym (drop-map (λ t. t.now) (i + 1) xs))))
+
+pub text-end : (xs ys : List (Bor (List ℕ))) (i : ℕ) → ys ≡ xs → length ys ≤ i
+    → drop i (map (λ t. t.now) xs) ≡ []
+text-end xs ys i e l =
+    drop-map (λ t. t.now) i xs
+    ∙ ap (λ v. map (λ t. t.now) v) (ap (λ v. drop i v) (sym e) ∙ drop_all i ys l)

@@ -33,7 +33,8 @@ use Rattle.rust_tokens.specs.Tokens.{IsSuffix, Stands, is_literal}
 use Rattle.rust_tokens.specs.Fronts.{is_inner}
 use Rattle.rust_tokens.proofs.Basics.{and_no, no_pass, not_false, not_not}
 use Rattle.rust_tokens.proofs.Classes.{apart, no_space, start_at, starts-go_on, starts-slash}
-use Rattle.rust_tokens.proofs.InnerTexts.{AreInner, exponent-inner, one-inner, opening-inner, r-inner}
+use Rattle.rust_tokens.proofs.InnerTexts.{AreInner, exponent-inner, one-inner, opening-inner}
+use Rattle.rust_tokens.proofs.InnerTexts.{r-inner}
 use Rattle.rust_tokens.proofs.InnerTexts.{words-inner}
 
 abbrev tail : Text → Text

@@ -9,6 +9,7 @@ use Rattle.format_calls.specs.Calls.{IsCall, Rises}
 use Rattle.format_calls.specs.Parts.{IsPart}
 use Rattle.format_calls.specs.Rows.{Entry}
 use Rattle.format_calls.specs.declared.listing.Call.{Call}
+use Rattle.format_calls.proofs.GapForests.{NoPart}
 use Rattle.source_lint.specs.CallLists.{Gives, OfCalls}
 use Rattle.source_lint.proofs.Merging.{Moves, OfParts, merged}
 
@@ -141,10 +142,6 @@ file-more P es start u next part rs ss fs gs K L w p k r = record {
         → (w.front ++ (p.0 ++ part)) ++ left ≡ w.front ++ (p.0 ++ (part ++ left))
     joined left = append_assoc w.front (p.0 ++ part) left
         ∙ ap (λ v. w.front ++ v) (append_assoc p.0 part left)
-
--- The end of a file, where no call is left.
-abbrev pub NoPart : List Entry → Unread → Type 0
-NoPart es u = (left : List Leaf) × AreLeft u left × ((c : Call) → IsCall es left c → ⊥)
 
 pub file-all : {R F : Type 0} (P : List Leaf → Call → R → List F → Type 0) (es : List Entry)
     (start u : Unread) (rs : List R) (fs : List F) (K L : List Leaf → Type 0) → Moves P

@@ -90,11 +90,7 @@ fn read_file(
 
 /// Adds the findings in the texts of the attributes of a file. Returns `Err` if an allocation
 /// fails.
-fn put_attributes(
-    alloc: Global,
-    findings: &mut Vec<Finding>,
-    text: &str,
-) -> Result<(), AllocError>
+fn put_attributes(alloc: Global, findings: &mut Vec<Finding>, text: &str) -> Result<(), AllocError>
     ensures read { OnOk result ((ls : List Leaf) → AreLeaves text.now ls → (xs : List FindingValue)
         × (findings.new.items ≡ findings.old.items ++ xs) × ReadsAttributes text.now ls xs) }
     ensures spans { OnOk result (All (HasSpans text.now) findings.old.items
@@ -108,8 +104,8 @@ fn put_attributes(
     Ok(())
 }
 
-/// Returns the report on a file whose calls have these readings, and that breaks there: the findings
-/// in its attributes follow those in its calls. Returns `Err` if an allocation fails.
+/// Returns the report on a file whose calls have these readings, and that breaks there or not: the
+/// findings in its attributes follow those in its calls. Returns `Err` if an allocation fails.
 pub(crate) fn report_with(
     alloc: Global,
     text: &str,

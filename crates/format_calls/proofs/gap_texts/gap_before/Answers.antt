@@ -1,4 +1,5 @@
-use Rattle.std.proofs.Common.{◌≡◌, ◌++◌, ◌-◌, ◌∙◌, ◌∷◌, [], IsUtf8, List, Some, ap, arith, drop, length}
+use Rattle.std.proofs.Common.{◌≡◌, ◌++◌, ◌-◌, ◌∙◌, ◌∷◌, [], IsUtf8, List, Some, ap, arith, drop}
+use Rattle.std.proofs.Common.{length}
 use Rattle.std.proofs.Common.{map, rules, subst, sym, take}
 use Rattle.std.specs.Prelude.{slice_get}
 use Rattle.std.proofs.lemmas.Bool.{and_parts}
