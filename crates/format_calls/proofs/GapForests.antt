@@ -8,6 +8,7 @@ use Rattle.std.proofs.lemmas.Bool.{and_from, and_parts}
 use Rattle.std.proofs.lemmas.List.{append_assoc, append-nil, drop-map, drop_all, drop_more}
 use Rattle.rust_tokens.specs.Tokens.{Lexeme, Reads}
 use Rattle.rust_tokens.specs.Placed.{end_of}
+use Rattle.rust_tokens.proofs.Readings.{reads-some}
 use Rattle.rust_trees.specs.Balances.{AreEnded}
 use Rattle.rust_trees.specs.Forests.{IsForest}
 use Rattle.rust_trees.specs.Leaves.{AreLeft, Leaf, Unread, is_leaf, leaf_at, leaves, side}
@@ -252,3 +253,9 @@ pub text-end : (xs ys : List (Bor (List ℕ))) (i : ℕ) → ys ≡ xs → lengt
 text-end xs ys i e l =
     drop-map (λ t. t.now) i xs
     ∙ ap (λ v. map (λ t. t.now) v) (ap (λ v. drop i v) (sym e) ∙ drop_all i ys l)
+
+-- Some tokens are left.
+pub some-left : (u : Unread) → (left : List Leaf) × AreLeft u left
+some-left u =
+    let x = reads-some (chars u.rest) in
+    (leaves (length u.whole - length u.rest) x.0, (x.0, x.1, refl))

@@ -1,4 +1,4 @@
-//! Fronts of texts that read as the same tokens whatever follows.
+//! Fronts of texts that read as the same tokens before each word.
 
 // Extracted from crates/rust_tokens/src/fronts.rt by tools/extract: not to be edited.
 // That source has the contracts, and is proved. That this text means the same is only tested.

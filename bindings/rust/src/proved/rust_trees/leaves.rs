@@ -100,8 +100,8 @@ impl<'a> Tokens<'a> {
         self.rest
     }
 
-    /// Passes a front of the rest that ends where a word begins. Returns whether the rest begins
-    /// so.
+    /// Passes a front of the rest, if it begins with that and goes on with a word, and returns
+    /// whether it does. The front is passed as the tokens that it reads as before each word.
     #[inline]
     pub fn skip(&mut self, front: &str) -> bool {
         let Some(rest) = self.rest.strip_prefix(front) else {

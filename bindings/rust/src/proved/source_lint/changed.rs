@@ -1,27 +1,18 @@
-//! The faults of a file of which another one is known but for its calls.
+//! The faults of a file that is another one with changes in its calls alone.
 
 // Extracted from crates/source_lint/src/changed.rt by tools/extract: not to be edited.
 // That source has the contracts, and is proved. That this text means the same is only tested.
 
-use crate::proved::format_calls::{calls, next_known_part, Part, Table};
+use crate::proved::format_calls::{calls, next_known_part, Gaps, Part, Table};
 use crate::proved::rust_trees::Tokens;
-use crate::proved::source_lint::lint::{put_attributes, read_calls, Readings};
+use crate::proved::source_lint::lint::{read_calls, report_with, Readings};
 use crate::proved::source_lint::macros::{macro_names, File};
 use crate::proved::source_report::{Options, Report};
 use crate::shim::alloc::AllocError;
 use crate::shim::prelude::*;
 
-/// The texts between the parts of a file that have calls.
-pub struct Gaps<'a> {
-    /// The text before each part.
-    pub before: Vec<&'a str>,
-    /// The text after the last one.
-    pub last: &'a str,
-    pub are_known: bool,
-}
-
 /// Reads the calls of a file, part by part, where these texts stand between the parts. Returns
-/// `None` if they do not.
+/// `None` if others do, and `Err` if an allocation fails.
 #[inline]
 fn read_parts(
     file: File<'_, '_>,
@@ -49,7 +40,7 @@ fn read_parts(
 }
 
 /// Reads a source file as [`file_faults`] does, where these texts stand between its parts. Returns
-/// `None` if they do not.
+/// `None` if others do, and `Err` if an allocation fails.
 #[inline]
 pub fn changed_file_faults(
     text: &str,
@@ -65,11 +56,6 @@ pub fn changed_file_faults(
     let Some(readings) = read_parts(file, &options.table, gaps)? else {
         return Ok(None);
     };
-    let mut all_readings = readings;
-    put_attributes(&mut all_readings.findings, text)?;
-    Ok(Some(Report {
-        calls: all_readings.calls,
-        findings: all_readings.findings,
-        first_break: None,
-    }))
+    let report = report_with(text, readings, None)?;
+    Ok(Some(report))
 }
