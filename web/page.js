@@ -11,7 +11,7 @@ const NO_LITERAL = 'This is no string literal: it needs its quotes, as in "hi {n
 const REPORT = ['missing argument', 'missing name', 'unused argument', 'unused name'];
 /** The kind of token in which a part without a range of its own is found. */
 const TOKEN_OF = {
-  alignment: 'Align', sign: 'Sign', 'alternate form': 'NumberSign', 'zero padding': 'Zero',
+  alignment: 'Alignment', sign: 'Sign', 'alternate form': 'NumberSign', 'zero padding': 'Zero',
   'hex digits': 'Type', type: 'Type',
 };
 

@@ -20,12 +20,12 @@ mod short_rows;
 fn check(mode: ParseMode, width: usize, colours: bool, row: &row::Row) {
     let snippet = Some(row.literal.to_string());
     let errors = errors_of(row.text, row.style, snippet, row.appended_newline, mode);
-    let source = [row.before, row.literal, row.after].concat();
+    let source = [row.text_before, row.literal, row.text_after].concat();
     let picture = Picture {
         path: "a.rs",
         source: &source,
         line_start: row.line,
-        literal_start: row.before.len(),
+        literal_start: row.text_before.len(),
         width,
         colours,
     };

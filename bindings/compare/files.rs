@@ -87,8 +87,8 @@ macro_rules! seen_by {
             /// The parts of a fault besides its title.
             fn detail(fault: &CallFault<'_>) -> String {
                 match fault {
-                    CallFault::PositionalAfterNamed { index, named } => format!("{index} {named:?}"),
-                    CallFault::RepeatedName { index, first } => format!("{index} {first}"),
+                    CallFault::PositionalAfterNamed { index, named_arguments } => format!("{index} {named_arguments:?}"),
+                    CallFault::RepeatedName { index, first_index } => format!("{index} {first_index}"),
                     CallFault::MissingName { reference, .. } => format!("{reference:?}"),
                     CallFault::UnknownTrait { piece, ty } => format!("{piece} {ty}"),
                     CallFault::MissingArguments(missing) => format!("{missing:?}"),
@@ -113,7 +113,7 @@ macro_rules! seen_by {
                     style,
                     snippet: call.literal(),
                     appended_newline: false,
-                    captures: !text.contains("{x}"),
+                    captures_variables: !text.contains("{x}"),
                 };
                 let checked = call_faults(string, &given);
                 let mut lines = Vec::new();
@@ -143,7 +143,7 @@ macro_rules! seen_by {
                     lines.push(format!("{} {} {token:?}", place.line, place.column));
                 }
                 lines.push(format!("{:?}", first_break(file)));
-                let mut table = Table::with_crates();
+                let mut table = Table::with_crate_macros();
                 Table::standard().rows().iter().for_each(|row| table.add(*row));
                 table.add(Row { name: "say", rule: Rule::Index(1) });
                 lines.extend(calls(file, &table, is_from_2021).iter().flat_map(call));

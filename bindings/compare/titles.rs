@@ -60,7 +60,7 @@ fn titles(file: &str, text: &str) -> String {
             style: None,
             snippet: call.literal(),
             appended_newline: false,
-            captures: true,
+            captures_variables: true,
         },
         &given,
     );
@@ -73,7 +73,7 @@ fn titles(file: &str, text: &str) -> String {
 
 /// What is shown under the title of a finding, as a row has it. Ranges count from the end of what is
 /// in front, and that of the whole call is `call`.
-fn shown(front: &str, finding: &Finding) -> String {
+fn labels_of(front: &str, finding: &Finding) -> String {
     let at = |it: &Range<usize>| match it.start.checked_sub(front.len()) {
         Some(start) => format!("{start}..{}", it.end - front.len()),
         None => "call".to_string(),
@@ -95,9 +95,9 @@ fn shown(front: &str, finding: &Finding) -> String {
 }
 
 /// The findings of a file, each with its title, as a row of crates/tests_asm has them.
-fn said(front: &str, file: &str) -> Vec<String> {
+fn answers(front: &str, file: &str) -> Vec<String> {
     let findings = file_faults(file, &Table::standard(), true).findings;
-    findings.iter().map(|it| format!("{}\n{}", it.title, shown(front, it))).collect()
+    findings.iter().map(|it| format!("{}\n{}", it.title, labels_of(front, it))).collect()
 }
 
 /// What a row says without the range that a help shows, which a finding does not have.
@@ -121,22 +121,22 @@ fn main() {
     for row in &all_shown {
         let file = file_of(row.text, row.arguments);
         let findings = file_faults(&file, &Table::standard(), true).findings;
-        let lines: String = findings.iter().map(|it| shown(FRONT, it)).collect();
-        assert_eq!(lines, row.shown, "{file}");
+        let lines: String = findings.iter().map(|it| labels_of(FRONT, it)).collect();
+        assert_eq!(lines, row.output, "{file}");
     }
     let asm_calls = [
         operand_rows::OPERANDS, reference_rows::REFERENCES, template_rows::TEMPLATES,
     ].concat();
     for row in &asm_calls {
         let file = format!("{ASM_FRONT}{}); }}", row.call);
-        assert_eq!(said(ASM_FRONT, &file).concat(), without_range_of_help(row.said), "{file}");
+        assert_eq!(answers(ASM_FRONT, &file).concat(), without_range_of_help(row.output), "{file}");
     }
     for row in &text_rows::TEXT_ROWS {
         let item = "pub trait T<A, B: Copy, const N: usize> {}";
         let file = format!("{TEXT_FRONT}{})]\n{item}\n", row.literal);
-        let mut said = said(TEXT_FRONT, &file);
-        said.sort();
-        assert_eq!(said.concat(), row.said, "{file}");
+        let mut outputs = answers(TEXT_FRONT, &file);
+        outputs.sort();
+        assert_eq!(outputs.concat(), row.output, "{file}");
     }
     let (titles, shown) = (title_rows::ROWS.len(), all_shown.len());
     println!("{titles} calls with their titles, {shown} with what is under them: all as of rustc");

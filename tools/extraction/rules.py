@@ -73,7 +73,7 @@ SHOWN = ("Debug", "Eq", "PartialEq")
 ADDED = {("placeholder_check", "Report"): ("Clone", *SHOWN),
          **{("rustc_parse_format", name): ("Clone", *SHOWN)
             for name in ("ContentCharacter", "Fault")},
-         ("fault_fixes", "Fixed"): ("Clone",),
+         ("fault_fixes", "FixedLiteral"): ("Clone",),
          ("format_literal", "Literal"): ("Clone", *SHOWN),
          ("call_faults", "FormatArgument"): SHOWN, ("source_report", "CallReading"): SHOWN,
          **{("source_report", name): ("Clone", *SHOWN)

@@ -8,7 +8,7 @@ use dephungo::ParseMode;
 fn colour(kind: Kind) -> u8 {
     match kind {
         Kind::Quote | Kind::Text => 32,
-        Kind::Open | Kind::Close => 35,
+        Kind::OpenBrace | Kind::CloseBrace => 35,
         Kind::Identifier => 36,
         Kind::EscapeSequence => 34,
         Kind::Unexpected => 31,

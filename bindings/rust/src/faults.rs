@@ -13,7 +13,7 @@ use alloc::vec::Vec;
 use core::fmt::{self, Display, Formatter};
 
 pub use crate::proved::drawn_lines::{Picture, WIDTH};
-pub use crate::proved::fault_fixes::{Edit, Fixed};
+pub use crate::proved::fault_fixes::{Edit, FixedLiteral};
 pub use crate::proved::rustc_parse_format::Fault;
 
 /// Returns the text that shows an error of a literal of this mode under its source, as rustc 1.95
@@ -187,7 +187,7 @@ pub fn fix(
     snippet: &str,
     appended_newline: bool,
     mode: ParseMode,
-) -> Option<Fixed> {
+) -> Option<FixedLiteral> {
     answer(fix_in(input, style, snippet, appended_newline, mode))
 }
 

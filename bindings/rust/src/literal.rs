@@ -1,7 +1,7 @@
 //! String literals as they are written in a program: read as format strings ([`Literal`]), the
 //! characters that they stand for, with byte ranges, and whether a snippet is the source literal of
 //! an input.
-use crate::faults::{errors_of, faults_of, fix, Fault, Fixed};
+use crate::faults::{errors_of, faults_of, fix, Fault, FixedLiteral};
 use crate::proved::rustc_parse_format::literal::read_content as read_content_in;
 use crate::report::{check, Report};
 use crate::shim::alloc::answer;
@@ -117,7 +117,7 @@ impl<'a> Literal<'a> {
     /// Returns the literal with the edits that its faults suggest, as [`fix`] does. Returns `None`
     /// if there is no such literal.
     #[must_use]
-    pub fn fix(&self) -> Option<Fixed> {
+    pub fn fix(&self) -> Option<FixedLiteral> {
         fix(
             &self.text,
             self.style,

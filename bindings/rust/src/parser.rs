@@ -3,7 +3,7 @@
 use crate::proved::rustc_parse_format::cursor::Cursor;
 use crate::proved::rustc_parse_format::error_list::empty_error;
 use crate::proved::rustc_parse_format::messages::set_error;
-use crate::proved::rustc_parse_format::parser::ahead::Ahead;
+use crate::proved::rustc_parse_format::parser::lookahead::Lookahead;
 use crate::proved::rustc_parse_format::reader::Reader;
 use crate::proved::rustc_parse_format::source::{quote_offset, source_of};
 use crate::shim::alloc::answer;
@@ -73,7 +73,7 @@ impl<'input> Parser<'input> {
     ) -> Self {
         let source = source_of(input, style, snippet, appended_newline);
         let is_source_literal = source.is_literal;
-        let cursor = Cursor::new(source, Ahead::new(input));
+        let cursor = Cursor::new(source, Lookahead::new(input));
         Parser {
             mode,
             reader: Reader::new(cursor, quote_offset(style)),

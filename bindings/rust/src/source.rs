@@ -127,16 +127,16 @@ impl<'a> Table<'a> {
     /// use dephungo::source::Table;
     ///
     /// let mut table = Table::standard();
-    /// for row in Table::with_crates().rows() {
+    /// for row in Table::with_crate_macros().rows() {
     ///     table.add(*row);
     /// }
     /// assert!(table.rows().iter().any(|row| row.name == "println"));
     /// assert!(table.rows().iter().any(|row| row.name == "info"));
     /// ```
     #[must_use]
-    pub fn with_crates() -> Table<'a> {
+    pub fn with_crate_macros() -> Table<'a> {
         Table {
-            table: answer(TableIn::with_crates()),
+            table: answer(TableIn::with_crate_macros()),
         }
     }
 
@@ -385,7 +385,7 @@ pub struct CheckedCall<'a> {
 ///     style: None,
 ///     snippet: None,
 ///     appended_newline: false,
-///     captures: true,
+///     captures_variables: true,
 /// };
 /// let arguments = [FormatArgument { name: None, variable: Some("x") }];
 /// let checked = call_faults(string, &arguments);

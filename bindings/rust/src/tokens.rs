@@ -26,10 +26,10 @@ pub use crate::proved::format_tokens::{Kind, Token};
 /// let wanted = [
 ///     (Kind::Quote, 0),
 ///     (Kind::EscapeSequence, 1),
-///     (Kind::Open, 5),
+///     (Kind::OpenBrace, 5),
 ///     (Kind::Colon, 6),
 ///     (Kind::Type, 7),
-///     (Kind::Close, 8),
+///     (Kind::CloseBrace, 8),
 ///     (Kind::Quote, 9),
 /// ];
 /// assert_eq!(starts, wanted);

@@ -118,7 +118,7 @@ const NUMBERED: [(&str, &str, &str, bool); 2] = [
 /// The macros of the standard library, and those of log, tracing, slog, anyhow and eyre.
 fn table() -> Table<'static> {
     let mut table = Table::standard();
-    for row in Table::with_crates().rows() {
+    for row in Table::with_crate_macros().rows() {
         table.add(*row);
     }
     table

@@ -65,10 +65,10 @@ fn parameters_after_delimiters() {
 fn strings_before_a_semicolon() {
     let text = "fn f() { log::info!(\"{}\"; \"a\" => 1); }";
     assert_eq!(
-        found(text, &Table::with_crates()),
+        found(text, &Table::with_crate_macros()),
         [("missing-argument", &text[text.find("{}").unwrap()..])]
     );
-    assert_eq!(found(":info!(\"{\");", &Table::with_crates()).len(), 1);
+    assert_eq!(found(":info!(\"{\");", &Table::with_crate_macros()).len(), 1);
 }
 
 /// No keyword of an edition is a variable.
@@ -119,6 +119,6 @@ fn a_window_of_two_lines() {
 #[test]
 fn arguments_after_a_semicolon() {
     let text = "fn f(x: u8) { log::info!(\"{}\"; x, y); }";
-    let made = file_inlines(text, &Table::with_crates(), true, true);
+    let made = file_inlines(text, &Table::with_crate_macros(), true, true);
     assert!(made.text.is_none());
 }

@@ -218,7 +218,7 @@ fn arguments_after_keywords() {
 
 #[test]
 fn tables() {
-    let mut table = Table::with_crates();
+    let mut table = Table::with_crate_macros();
     assert!(table.rows().iter().any(|row| row.name == "bail"));
     table.add(Row {
         name: "bail",
@@ -233,7 +233,7 @@ fn tables() {
 #[test]
 fn paths_of_macros() {
     let text = "kv_log_macro::info!(\"{\"); log::info!(\"\"); crate::warn!(\"\"); a::bail!(\"\");";
-    let report = file_faults(text, &Table::with_crates(), true);
+    let report = file_faults(text, &Table::with_crate_macros(), true);
     assert!(report.findings.is_empty());
     assert!(matches!(
         report.calls[..],
@@ -374,9 +374,9 @@ fn breaks() {
         let report = file_faults(&format!("{front}{end}"), &Table::standard(), true);
         let first_break = report.first_break.unwrap();
         let kind = match first_break.kind {
-            BreakKind::Unclosed => "unclosed",
-            BreakKind::Unexpected => "unexpected",
-            BreakKind::Unended => "unended",
+            BreakKind::UnclosedDelimiter => "unclosed",
+            BreakKind::UnexpectedDelimiter => "unexpected",
+            BreakKind::UnterminatedToken => "unended",
         };
         assert_eq!((first_break.start, kind), (front.len() + at, wanted));
         assert_eq!(report.findings.len(), 1);

@@ -28,13 +28,13 @@ fn each_kind() {
     let wanted = [
         (Quote, "\""),
         (Text, "hi "),
-        (Open, "{"),
+        (OpenBrace, "{"),
         (RawPrefix, "r#"),
         (Identifier, "a"),
         (Whitespace, " "),
         (Colon, ":"),
         (Fill, "*"),
-        (Align, ">"),
+        (Alignment, ">"),
         (Sign, "+"),
         (NumberSign, "#"),
         (Zero, "0"),
@@ -44,8 +44,8 @@ fn each_kind() {
         (Asterisk, "*"),
         (Type, "x?"),
         (Whitespace, " "),
-        (Close, "}"),
-        (Escape, "{{"),
+        (CloseBrace, "}"),
+        (EscapedBrace, "{{"),
         (Text, "b"),
         (Unexpected, "}"),
         (Quote, "\""),
@@ -53,7 +53,7 @@ fn each_kind() {
     check(Format, "hi {r#a :*>+#01$.*x? }{{b}", None, &wanted);
     let wanted = [
         (Quote, "r\""),
-        (Open, "{"),
+        (OpenBrace, "{"),
         (Integer, "1"),
         (Colon, ":"),
         (Identifier, "w"),
@@ -61,27 +61,27 @@ fn each_kind() {
         (Dot, "."),
         (Integer, "2"),
         (Type, "e"),
-        (Close, "}"),
+        (CloseBrace, "}"),
         (Quote, "\""),
     ];
     check(Format, "{1:w$.2e}", Some(0), &wanted);
     let wanted = [
         (Quote, "\""),
-        (Open, "{"),
+        (OpenBrace, "{"),
         (Integer, "0"),
         (Colon, ":"),
         (Modifier, "e"),
-        (Close, "}"),
+        (CloseBrace, "}"),
         (Quote, "\""),
     ];
     check(InlineAsm, "{0:e}", None, &wanted);
     let wanted = [
         (Quote, "\""),
-        (Open, "{"),
+        (OpenBrace, "{"),
         (Identifier, "T"),
         (Colon, ":"),
         (DiagnosticText, "a "),
-        (Close, "}"),
+        (CloseBrace, "}"),
         (Quote, "\""),
     ];
     check(Diagnostic, "{T:a }", None, &wanted);
@@ -91,19 +91,19 @@ fn each_kind() {
 fn what_recovery_takes() {
     let wanted = [
         (Quote, "\""),
-        (Open, "{"),
+        (OpenBrace, "{"),
         (Identifier, "a"),
         (Unexpected, "?"),
-        (Close, "}"),
+        (CloseBrace, "}"),
         (Quote, "\""),
     ];
     check(Format, "{a?}", None, &wanted);
     let wanted = [
         (Quote, "r#\""),
-        (Open, "{"),
+        (OpenBrace, "{"),
         (Identifier, "a"),
         (Unexpected, ".b"),
-        (Close, "}"),
+        (CloseBrace, "}"),
         (Quote, "\"#"),
     ];
     check(Format, "{a.b}", Some(1), &wanted);
@@ -114,10 +114,10 @@ fn escapes_and_continued_lines() {
     let wanted = [
         (Quote, "\""),
         (EscapeSequence, "\\\n"),
-        (Open, "\\x7b"),
+        (OpenBrace, "\\x7b"),
         (Identifier, "a"),
         (EscapeSequence, "\\\n "),
-        (Close, "}"),
+        (CloseBrace, "}"),
         (Quote, "\""),
     ];
     check(Format, "{a}", None, &wanted);
@@ -128,9 +128,9 @@ fn escapes_and_continued_lines() {
         (EscapeSequence, "\\u{e9}"),
         (EscapeSequence, "\\\n "),
         (EscapeSequence, "\\\n"),
-        (Open, "\\x7b"),
-        (Close, "}"),
-        (Escape, "}\\x7d"),
+        (OpenBrace, "\\x7b"),
+        (CloseBrace, "}"),
+        (EscapedBrace, "}\\x7d"),
         (Text, "b"),
         (Quote, "\""),
     ];
@@ -149,33 +149,33 @@ fn culprits() {
         assert_eq!(found, wanted);
     };
     let inside = [
-        (Open, "{"),
+        (OpenBrace, "{"),
         (Identifier, "a"),
         (Whitespace, " "),
         (Unexpected, "b"),
         (Unexpected, "{{"),
         (Unexpected, "c"),
-        (Close, "}"),
+        (CloseBrace, "}"),
     ];
     check(Format, &inside);
     let alone = [
         (Unexpected, "{"),
         (Identifier, "a"),
         (Whitespace, " "),
-        (Open, "{"),
-        (Close, "}"),
+        (OpenBrace, "{"),
+        (CloseBrace, "}"),
     ];
     check(Format, &alone);
-    check(Format, &[(Open, "{"), (Unexpected, "_"), (Close, "}")]);
-    check(Format, &[(Open, "{"), (Integer, "65535"), (Close, "}")]);
-    check(Format, &[(Open, "{"), (Unexpected, "65536"), (Close, "}")]);
+    check(Format, &[(OpenBrace, "{"), (Unexpected, "_"), (CloseBrace, "}")]);
+    check(Format, &[(OpenBrace, "{"), (Integer, "65535"), (CloseBrace, "}")]);
+    check(Format, &[(OpenBrace, "{"), (Unexpected, "65536"), (CloseBrace, "}")]);
     check(DiagnosticNamed, &[(Unexpected, "{"), (Unexpected, "}")]);
 }
 
 /// Without a source literal the ranges are those of the input, and an appended newline has none.
 #[test]
 fn without_a_source_literal() {
-    let wanted = [(Text, 0..2), (Open, 2..3), (Close, 3..4)];
+    let wanted = [(Text, 0..2), (OpenBrace, 2..3), (CloseBrace, 3..4)];
     for (style, snippet) in [(None, None), (Some(2), None), (Some(2), Some("foreign!!"))] {
         let found = tokens("é{}\n", style, snippet.map(String::from), true, Format);
         let found: Vec<_> = found.into_iter().map(|it| (it.kind, it.span)).collect();

@@ -59,16 +59,16 @@ fn is_settled(marks: &[bool], index: usize, slot: &Operand<'_>) -> bool
 /// Adds the index of an operand, unless it is marked or has a register of its own. Returns `Err` if
 /// an allocation fails.
 fn push_unmarked(
-    unused: &mut Vec<usize>,
+    unused_indices: &mut Vec<usize>,
     marks: &[bool],
     index: usize,
     slot: &Operand<'_>,
 ) -> Result<(), AllocError>
-    ensures { OnOk result (unused.new.items ≡ unused.old.items
+    ensures { OnOk result (unused_indices.new.items ≡ unused_indices.old.items
         ++ unused_one (λ i. get_or marks.now i false) index (seen_operand slot.now)) }
 {
     if !is_settled(marks, index, slot) {
-        unused.push(index)?;
+        unused_indices.push(index)?;
     }
     Ok(())
 }
@@ -139,12 +139,12 @@ pub(crate) fn look_up<'a>(
 }
 
 /// Adds the fault of unused operands, if there are any. Returns `Err` if an allocation fails.
-fn push_unused(faults: &mut Vec<AsmFault<'_>>, unused: Vec<usize>) -> Result<(), AllocError>
+fn push_unused(faults: &mut Vec<AsmFault<'_>>, unused_indices: Vec<usize>) -> Result<(), AllocError>
     ensures { OnOk result (map seen_fault faults.new.items ≡ map seen_fault faults.old.items
-        ++ unused_faults unused.items) }
+        ++ unused_faults unused_indices.items) }
 {
-    if !unused.is_empty() {
-        faults.push(AsmFault::UnusedOperands(unused))?;
+    if !unused_indices.is_empty() {
+        faults.push(AsmFault::UnusedOperands(unused_indices))?;
     }
     Ok(())
 }
@@ -162,7 +162,7 @@ pub(crate) fn check_unused<'a>(
         ++ unused_faults (unused ss (map seen_lookup lookups.now))) }
 {
     let marks = marks(alloc, operands, lookups)?;
-    let unused = unmarked_operands(alloc, &operands.slots, &marks)?;
-    push_unused(faults, unused)?;
+    let unused_indices = unmarked_operands(alloc, &operands.slots, &marks)?;
+    push_unused(faults, unused_indices)?;
     Ok(())
 }

@@ -2,7 +2,7 @@
 
 ghost use Rattle.std.specs.Prelude.{◌≡◌, ◌≤◌, ◌∷◌, ◌++◌, [], OnOk, Some, chars, drop, length, map};
 ghost use Rattle.std.specs.Prelude.{option_map};
-ghost use Rattle.rustc_parse_format.specs.Seen.{pair, seen, seen_argument, seen_position};
+ghost use Rattle.rustc_parse_format.specs.Seen.{pair, seen_piece, seen_argument, seen_position};
 ghost use Rattle.asm_faults.specs.Lookups.{argument_lookups, first_spot, is_long, is_next};
 ghost use Rattle.asm_faults.specs.Lookups.{modifier_lookups, next_after};
 ghost use Rattle.asm_faults.specs.Lookups.{next_after_pieces, next_of};
@@ -169,8 +169,8 @@ fn push_piece<'a>(
     requires { walk.old.next ≤ length walk.old.lookups.items }
     ensures lookups { OnOk result (map seen_lookup walk.new.lookups.items
         ≡ map seen_lookup walk.old.lookups.items
-        ++ one_lookups template walk.old.next (map pair places.now) (seen piece.now)) }
-    ensures next { OnOk result (walk.new.next ≡ next_of walk.old.next (seen piece.now)) }
+        ++ one_lookups template walk.old.next (map pair places.now) (seen_piece piece.now)) }
+    ensures next { OnOk result (walk.new.next ≡ next_of walk.old.next (seen_piece piece.now)) }
     ensures few { OnOk result (walk.new.next ≤ length walk.new.lookups.items) }
 {
     match piece {
@@ -183,7 +183,7 @@ fn push_piece<'a>(
 
 /// Returns the places after that of a piece, if it is a placeholder.
 fn places_after<'p>(places: &'p [Range<usize>], piece: &Piece<'_>) -> &'p [Range<usize>]
-    ensures { map pair result.now ≡ places_after (map pair places.now) (seen piece.now) }
+    ensures { map pair result.now ≡ places_after (map pair places.now) (seen_piece piece.now) }
 {
     match piece {
         Piece::Lit(_) => places,
@@ -202,16 +202,16 @@ pub(crate) fn push_pieces<'a>(
     requires { walk.old.next ≤ length walk.old.lookups.items }
     ensures lookups { OnOk result (map seen_lookup walk.new.lookups.items
         ≡ map seen_lookup walk.old.lookups.items
-        ++ piece_lookups template walk.old.next (map pair places.now) (map seen pieces.now)) }
+        ++ piece_lookups template walk.old.next (map pair places.now) (map seen_piece pieces.now)) }
     ensures next { OnOk result (walk.new.next
-        ≡ next_after_pieces walk.old.next (map seen pieces.now)) }
+        ≡ next_after_pieces walk.old.next (map seen_piece pieces.now)) }
     ensures few { OnOk result (walk.new.next ≤ length walk.new.lookups.items) }
 {
     let mut places = places;
     for piece in pieces {
-        let after = places_after(places, piece);
+        let rest_places = places_after(places, piece);
         push_piece(walk, template, places, piece)?;
-        places = after;
+        places = rest_places;
     }
     Ok(())
 }

@@ -138,8 +138,8 @@ fn wrong_help(
 {
     match operands.get(index) {
         Some(Operand::Register { .. }) => {
-            let says = "use the register name directly in the assembly code";
-            let text = String::from_str(alloc, says)?;
+            let message = "use the register name directly in the assembly code";
+            let text = String::from_str(alloc, message)?;
             let spot = Some(AsmSpot::Operand(index));
             Ok(Some(AsmNote { text, spot }))
         }
@@ -214,13 +214,13 @@ fn unused_start(count: usize) -> &'static str
 fn unused_help(
     alloc: Global,
     operands: &[Operand<'_>],
-    unused: &[usize],
+    unused_indices: &[usize],
 ) -> Result<AsmNote, AllocError>
     ensures { IfOk result (λ n. seen_note n
-        ≡ unused_help (map seen_operand operands.now) unused.now) }
+        ≡ unused_help (map seen_operand operands.now) unused_indices.now) }
 {
-    let mut text = String::from_str(alloc, unused_start(unused.len()))?;
-    put_placeholders(&mut text, operands, unused)?;
+    let mut text = String::from_str(alloc, unused_start(unused_indices.len()))?;
+    put_placeholders(&mut text, operands, unused_indices)?;
     text.push_str(" */\"`")?;
     Ok(AsmNote { text, spot: None })
 }
@@ -266,8 +266,8 @@ impl<'a> AsmCall<'a> {
     {
         match fault {
             AsmFault::WrongIndex { index, .. } => wrong_help(alloc, &self.operands, *index),
-            AsmFault::UnusedOperands(unused) => {
-                let help = unused_help(alloc, &self.operands, unused)?;
+            AsmFault::UnusedOperands(unused_indices) => {
+                let help = unused_help(alloc, &self.operands, unused_indices)?;
                 Ok(Some(help))
             }
             AsmFault::PositionalAfter { .. }

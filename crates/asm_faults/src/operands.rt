@@ -90,10 +90,10 @@ fn others_of(alloc: Global, operands: &Operands<'_>) -> Result<Vec<usize>, Alloc
     ensures { IfOk result (λ v. (ss : List OperandValue) → Holds ss operands.now
         → v.items ≡ others_of ss) }
 {
-    let mut others = Vec::new(alloc);
-    others.extend_from_slice(first_of(&operands.named_operands))?;
-    others.extend_from_slice(first_of(&operands.registers))?;
-    Ok(others)
+    let mut earlier_operands = Vec::new(alloc);
+    earlier_operands.extend_from_slice(first_of(&operands.named_operands))?;
+    earlier_operands.extend_from_slice(first_of(&operands.registers))?;
+    Ok(earlier_operands)
 }
 
 /// Adds the fault of an operand without a name and without a register of its own, if these others
@@ -101,13 +101,16 @@ fn others_of(alloc: Global, operands: &Operands<'_>) -> Result<Vec<usize>, Alloc
 fn push_late(
     faults: &mut Vec<AsmFault<'_>>,
     operand: usize,
-    others: Vec<usize>,
+    earlier_operands: Vec<usize>,
 ) -> Result<(), AllocError>
     ensures { OnOk result (map seen_fault faults.new.items ≡ map seen_fault faults.old.items
-        ++ late_faults operand others.items) }
+        ++ late_faults operand earlier_operands.items) }
 {
-    if !others.is_empty() {
-        faults.push(AsmFault::PositionalAfter { operand, others })?;
+    if !earlier_operands.is_empty() {
+        faults.push(AsmFault::PositionalAfter {
+            operand,
+            earlier_operands,
+        })?;
     }
     Ok(())
 }
@@ -125,8 +128,8 @@ fn add_unnamed<'a>(
         → map seen_fault faults.new.items ≡ map seen_fault faults.old.items
         ++ faults_of ss index Unnamed) }
 {
-    let others = others_of(*faults.allocator(), operands)?;
-    push_late(faults, index, others)?;
+    let earlier_operands = others_of(*faults.allocator(), operands)?;
+    push_late(faults, index, earlier_operands)?;
     operands.slots.push(Operand::Unnamed)?;
     Ok(())
 }
@@ -147,10 +150,10 @@ fn add_named<'a>(
         ++ faults_of ss index (Named (chars name.now))) }
 {
     match index_of(&operands.names, name) {
-        Some(first) => {
+        Some(first_operand) => {
             faults.push(AsmFault::RepeatedName {
                 operand: index,
-                first,
+                first_operand,
             })?;
             operands.slots.push(Operand::Unnamed)?;
         }

@@ -96,10 +96,10 @@ pub(crate) fn never_used(operands: &[Operand<'_>], index: usize) -> &'static str
 }
 
 /// Returns the title of operands that are not used.
-fn unused_title(operands: &[Operand<'_>], unused: &[usize]) -> &'static str
-    ensures { result.now ≡ unused_title (map seen_operand operands.now) unused.now }
+fn unused_title(operands: &[Operand<'_>], unused_indices: &[usize]) -> &'static str
+    ensures { result.now ≡ unused_title (map seen_operand operands.now) unused_indices.now }
 {
-    match unused {
+    match unused_indices {
         [index] => never_used(operands, *index),
         _ => "multiple unused asm arguments",
     }
@@ -147,11 +147,11 @@ impl<'a> AsmCall<'a> {
                 )?;
                 Ok(())
             }
-            AsmFault::RepeatedName { first, .. } => {
+            AsmFault::RepeatedName { first_operand, .. } => {
                 put_named(
                     out,
                     "duplicate argument named ",
-                    name_of(&self.operands, *first),
+                    name_of(&self.operands, *first_operand),
                 )
             }
             AsmFault::RegisterName { .. } => {
@@ -168,8 +168,8 @@ impl<'a> AsmCall<'a> {
                 Ok(())
             }
             AsmFault::Text { fault, .. } => { put_text_title(*self.faults.allocator(), out, fault) }
-            AsmFault::UnusedOperands(unused) => {
-                out.push_str(unused_title(&self.operands, unused))?;
+            AsmFault::UnusedOperands(unused_indices) => {
+                out.push_str(unused_title(&self.operands, unused_indices))?;
                 Ok(())
             }
         }

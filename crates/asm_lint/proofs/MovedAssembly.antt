@@ -27,7 +27,7 @@ use Rattle.asm_faults.specs.Templates.{Template}
 use Rattle.asm_lint.specs.Assembly.{AreTemplates, HaveNoText}
 use Rattle.asm_lint.specs.Assembly.{ReadsLiterals, ReadsTemplates, are_operands, are_raw}
 use Rattle.asm_lint.specs.Assembly.{is_raw_part, is_unknown, is_unknown_part, operand_of}
-use Rattle.asm_lint.specs.Assembly.{named, operands}
+use Rattle.asm_lint.specs.Assembly.{named_operand, operands}
 use Rattle.source_report.specs.declared.report.CallReading.{CallReading}
 use Rattle.source_report.specs.declared.report.Finding.{Finding}
 use Rattle.call_forms.proofs.Embedding.{Embeds}
@@ -87,7 +87,7 @@ operand-same xs ys g from to a e h l =
     ∙ by_part (asm_part xs a)
   where
     by_part : (p : AsmPart) → operand_of ys (shifted g a) p ≡ operand_of xs a p
-    by_part OperandPart = ap (λ n. Some (named n)) (name-same xs ys g from to a e h l)
+    by_part OperandPart = ap (λ n. Some (named_operand n)) (name-same xs ys g from to a e h l)
     by_part RegisterPart = refl
     by_part Raw = refl
     by_part Setting = refl

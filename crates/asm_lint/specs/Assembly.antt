@@ -16,7 +16,7 @@ use Rattle.format_calls.specs.declared.split.Argument.{Argument}
 use Rattle.asm_faults.specs.Calls.{asm_faults}
 use Rattle.asm_faults.specs.Operands.{Operand, Named, Register, Unnamed, slots_after}
 use Rattle.asm_faults.specs.Templates.{Template}
-use Rattle.asm_lint.specs.declared.asm_findings.Read.{Read}
+use Rattle.asm_lint.specs.declared.asm_findings.ReadTemplate.{ReadTemplate}
 use Rattle.source_report.specs.declared.report.CallReading.{CallReading}
 use Rattle.source_report.specs.declared.report.CallReading.TheVariants.{Malformed, StringAlone}
 use Rattle.source_report.specs.declared.report.CallReading.TheVariants.{Whole}
@@ -31,13 +31,13 @@ reading_of true = Whole
 reading_of false = StringAlone
 
 -- An operand without a register of its own, with this name or none.
-abbrev pub named : Option Text → Operand
-named None = Unnamed
-named (Some w) = Named w
+abbrev pub named_operand : Option Text → Operand
+named_operand None = Unnamed
+named_operand (Some w) = Named w
 
 -- The operand that an argument is, if it is one.
 abbrev pub operand_of : List Leaf → Argument → AsmPart → Option Operand
-operand_of xs a OperandPart = Some (named (name_of xs a))
+operand_of xs a OperandPart = Some (named_operand (name_of xs a))
 operand_of xs a RegisterPart = Some (Register a.is_named)
 operand_of xs a Raw = None
 operand_of xs a Setting = None
@@ -94,7 +94,7 @@ AreTemplates xs (a ∷ bs) [] = ⊥
 AreTemplates xs (a ∷ bs) (t ∷ ts) = IsTemplate xs a t × AreTemplates xs bs ts
 
 -- A template that was read, as a contract sees it.
-abbrev pub seen_read : Read → Template
+abbrev pub seen_read : ReadTemplate → Template
 seen_read t = record {
   text = chars (string_bytes t.literal.text);
   style = t.literal.style;

@@ -23,15 +23,15 @@ use Rattle.call_forms.specs.Generics.{parameters}
 use Rattle.asm_lint.specs.Literals.{without_crs}
 
 -- The token i is this word.
-abbrev pub is_word_there : List Leaf → ℕ → List ℕ → Bool
-is_word_there xs i w = is_word_at w (slice_get xs i)
+abbrev pub has_word_at : List Leaf → ℕ → List ℕ → Bool
+has_word_at xs i w = is_word_at w (slice_get xs i)
 
 -- `#[diagnostic::on_unimplemented(` stands from the token i on.
 abbrev pub begins_attribute : List Leaf → ℕ → Bool
 begins_attribute xs i = is_mark (code "#") xs i && (is_mark (code "[") xs (i + 1)
-    && (is_word_there xs (i + 2) (codes "diagnostic") && (is_mark (code ":") xs (i + 3)
+    && (has_word_at xs (i + 2) (codes "diagnostic") && (is_mark (code ":") xs (i + 3)
     && (is_mark (code ":") xs (i + 4)
-    && (is_word_there xs (i + 5) (codes "on_unimplemented") && is_mark (code "(") xs (i + 6))))))
+    && (has_word_at xs (i + 5) (codes "on_unimplemented") && is_mark (code "(") xs (i + 6))))))
 
 -- Such an attribute stands there, whose list ends with the token c.
 pub record IsAttribute (xs : List Leaf) (i c : ℕ) : Type 0 where
@@ -42,12 +42,12 @@ pub record IsAttribute (xs : List Leaf) (i c : ℕ) : Type 0 where
 -- front of an item: an attribute, or a visibility with a path.
 abbrev pub opens_front : List Leaf → ℕ → Bool
 opens_front xs i = (is_mark (code "#") xs i && is_mark (code "[") xs (i + 1))
-    || (is_word_there xs i (codes "pub") && is_mark (code "(") xs (i + 1))
+    || (has_word_at xs i (codes "pub") && is_mark (code "(") xs (i + 1))
 
 -- The token i is a word of the front of an item.
 abbrev pub is_modifier : List Leaf → ℕ → Bool
-is_modifier xs i = is_word_there xs i (codes "pub") || (is_word_there xs i (codes "unsafe")
-    || (is_word_there xs i (codes "auto") || is_word_there xs i (codes "const")))
+is_modifier xs i = has_word_at xs i (codes "pub") || (has_word_at xs i (codes "unsafe")
+    || (has_word_at xs i (codes "auto") || has_word_at xs i (codes "const")))
 
 -- A part of the front of an item stands from the token i to the one before j.
 abbrev pub IsFront : List Leaf → ℕ → ℕ → Type 0
@@ -97,8 +97,8 @@ ReadsText name ps literal fs =
     × TellMessages name (message_faults (Some ps) (message_start literal t)) fs)
 
 -- The option sets this word.
-abbrev pub sets : List Leaf → Argument → List ℕ → Bool
-sets xs a w = a.is_named && is_word_there xs a.start w
+abbrev pub sets_word : List Leaf → Argument → List ℕ → Bool
+sets_word xs a w = a.is_named && has_word_at xs a.start w
 
 -- The literal that an option sets, if it is one.
 abbrev pub literal_if : Bool → Option Leaf → Option Leaf
@@ -110,9 +110,10 @@ literal_of xs a = literal_if (a.end == a.start + 3) (slice_get xs (a.start + 2))
 
 -- An option counts, where a message and a label have been there or not: of several of these only
 -- the first counts.
-abbrev pub counts : List Leaf → Bool → Bool → Argument → Bool
-counts xs m l a = (sets xs a (codes "message") && not m) || ((sets xs a (codes "label") && not l)
-    || sets xs a (codes "note"))
+abbrev pub is_effective : List Leaf → Bool → Bool → Argument → Bool
+is_effective xs m l a = (sets_word xs a (codes "message") && not m)
+    || ((sets_word xs a (codes "label") && not l)
+    || sets_word xs a (codes "note"))
 
 -- The literals that options set, one after the other.
 abbrev pub literal_list : Bool → Option Leaf → List Leaf
@@ -121,8 +122,9 @@ literal_list b (Some x) = if b then x ∷ [] else []
 
 abbrev pub texts_from : List Leaf → Bool → Bool → List Argument → List Leaf
 texts_from xs m l [] = []
-texts_from xs m l (a ∷ bs) = literal_list (counts xs m l a) (literal_of xs a)
-    ++ texts_from xs (m || sets xs a (codes "message")) (l || sets xs a (codes "label")) bs
+texts_from xs m l (a ∷ bs) = literal_list (is_effective xs m l a) (literal_of xs a)
+    ++ texts_from xs (m || sets_word xs a (codes "message")) (l
+    || sets_word xs a (codes "label")) bs
 
 -- These are the findings in these literals, one after the other.
 abbrev pub ReadsTexts : Text → List (List ℕ) → List Leaf → List Finding → Type 0
@@ -152,8 +154,8 @@ name_text (Some x) = chars x.text
 -- These are the findings of the attributes of the item at the token k. The parts of its front start
 -- at the tokens js. Only the attributes of a trait count.
 abbrev pub ReadsItem : List Leaf → List ℕ → ℕ → List Finding → Type 0
-ReadsItem xs js k fs = ((is_word_there xs k (codes "trait") ≡ false) × (fs ≡ []))
-    ⊎ (IsTrue (is_word_there xs k (codes "trait"))
+ReadsItem xs js k fs = ((has_word_at xs k (codes "trait") ≡ false) × (fs ≡ []))
+    ⊎ (IsTrue (has_word_at xs k (codes "trait"))
     × ReadsFronts (name_text (slice_get xs (k + 1))) (parameters xs (k + 2)) xs js fs)
 
 -- These are the findings of the attributes from the token i on, where the fronts of items end

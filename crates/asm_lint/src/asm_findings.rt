@@ -22,7 +22,7 @@ use text_faults::Spot;
 
 /// A template of a call.
 #[derive(Drop)]
-pub struct Read<'a> {
+pub struct ReadTemplate<'a> {
     /// Its literal.
     pub token: Token<'a>,
     /// The CRs of the literal that stand before LF, as `dropped_crs` returns them.
@@ -39,7 +39,7 @@ pub struct AsmSite<'s, 'a> {
     /// The tokens of the part of the file that has the call.
     pub tokens: &'s [Token<'a>],
     /// Its templates.
-    pub templates: &'s [Read<'a>],
+    pub templates: &'s [ReadTemplate<'a>],
     /// The arguments that are its operands.
     pub operands: &'s [Argument],
 }

@@ -21,7 +21,7 @@ ghost use Rattle.asm_lint.specs.Assembly.{operands, read_templates, reading_of, 
 ghost use Rattle.asm_lint.specs.Spans.{HasSpans};
 ghost use Rattle.source_report.specs.declared.report.Finding.{Finding as FindingValue};
 
-use crate::asm_findings::{AsmSite, Read, put_findings};
+use crate::asm_findings::{AsmSite, ReadTemplate, put_findings};
 use crate::literals::{dropped_crs, read_literal};
 use crate::names::name_of;
 use asm_faults::{Operand, Template, asm_faults};
@@ -135,7 +135,7 @@ fn read_template<'a>(
     alloc: Global,
     tokens: &[Token<'a>],
     argument: &Argument,
-) -> Result<Option<Read<'a>>, AllocError>
+) -> Result<Option<ReadTemplate<'a>>, AllocError>
     requires { argument.now.start < length tokens.now }
     ensures read { IfOk result (λ o. MatchOption o
         (HasNoText (map leaf tokens.now) argument.now)
@@ -148,7 +148,7 @@ fn read_template<'a>(
         return Ok(None);
     };
     let crs = dropped_crs(alloc, token.text)?;
-    Ok(Some(Read {
+    Ok(Some(ReadTemplate {
         token,
         crs,
         literal,
@@ -161,7 +161,7 @@ fn read_templates<'a>(
     alloc: Global,
     tokens: &[Token<'a>],
     arguments: &[Argument],
-) -> Result<Option<Vec<Read<'a>>>, AllocError>
+) -> Result<Option<Vec<ReadTemplate<'a>>>, AllocError>
     requires { AllByRecursion (λ a. a.start < length tokens.now) arguments.now }
     ensures read { IfOk result (λ o. MatchOption o
         (HaveNoText (map leaf tokens.now) arguments.now)
@@ -180,15 +180,19 @@ fn read_templates<'a>(
 }
 
 /// Returns templates as placeholders are read in them. Returns `Err` if an allocation fails.
-fn templates_of<'c>(alloc: Global, read: &'c [Read<'_>]) -> Result<Vec<Template<'c>>, AllocError>
+fn templates_of<'c>(
+    alloc: Global,
+    template_list: &'c [ReadTemplate<'_>],
+) -> Result<Vec<Template<'c>>, AllocError>
     requires { AllByRecursion (λ t.
-        hashes t.literal.style + length (string_bytes t.literal.text) + 2 < 2 ^ 64) read.now }
-    ensures seen { IfOk result (λ v. map seen_template v.items ≡ map seen_read read.now) }
+        hashes t.literal.style + length (string_bytes t.literal.text) + 2 < 2 ^ 64)
+        template_list.now }
+    ensures seen { IfOk result (λ v. map seen_template v.items ≡ map seen_read template_list.now) }
     ensures short { IfOk result (λ v. AllByRecursion (λ t.
         hashes t.style + length t.text.now + 2 < 2 ^ 64) v.items) }
 {
     let mut templates = Vec::new(alloc);
-    for template in read {
+    for template in template_list {
         templates.push(Template {
             text: template.literal.text.as_str(),
             style: template.literal.style,
@@ -226,20 +230,21 @@ fn check_call<'c>(
 /// allocation fails.
 fn read_unless<'c>(
     alloc: Global,
-    read: &'c [Read<'_>],
+    template_list: &'c [ReadTemplate<'_>],
     are_raw: bool,
 ) -> Result<Vec<Template<'c>>, AllocError>
     requires { AllByRecursion (λ t.
-        hashes t.literal.style + length (string_bytes t.literal.text) + 2 < 2 ^ 64) read.now }
+        hashes t.literal.style + length (string_bytes t.literal.text) + 2 < 2 ^ 64)
+        template_list.now }
     ensures seen { IfOk result (λ v. map seen_template v.items
-        ≡ read_templates are_raw (map seen_read read.now)) }
+        ≡ read_templates are_raw (map seen_read template_list.now)) }
     ensures short { IfOk result (λ v. AllByRecursion (λ t.
         hashes t.style + length t.text.now + 2 < 2 ^ 64) v.items) }
 {
     if are_raw {
         return Ok(Vec::new(alloc));
     }
-    templates_of(alloc, read)
+    templates_of(alloc, template_list)
 }
 
 /// Reads a call whose templates are arguments, with the other arguments after them, and adds its
@@ -261,16 +266,16 @@ fn read_literals<'s, 'a>(
     ensures spans { OnOk result (All (HasSpans text.now) findings.old.items
         → All (HasSpans text.now) findings.new.items) }
 {
-    let Some(read) = read_templates(alloc, tokens, templates)? else {
+    let Some(template_list) = read_templates(alloc, tokens, templates)? else {
         return Ok(CallReading::Malformed);
     };
     let site = AsmSite {
         text,
         tokens,
-        templates: &read,
+        templates: &template_list,
         operands: &operands.arguments,
     };
-    let list = read_unless(alloc, &read, operands.are_raw)?;
+    let list = read_unless(alloc, &template_list, operands.are_raw)?;
     check_call(alloc, findings, site, &list, &operands.list, is_whole)?;
     Ok(reading_of(is_whole))
 }

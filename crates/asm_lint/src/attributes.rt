@@ -9,9 +9,9 @@ ghost use Rattle.rust_trees.specs.Forests.{IsPair};
 ghost use Rattle.rust_trees.specs.Leaves.{leaf};
 ghost use Rattle.asm_lint.specs.Attributes.{IsAttribute, IsFront, IsItem, ReadsAt, ReadsFronts};
 ghost use Rattle.asm_lint.specs.Attributes.{ReadsItem, ReadsItems, ReadsTexts};
-ghost use Rattle.asm_lint.specs.Attributes.{begins_attribute, counts, is_modifier};
-ghost use Rattle.asm_lint.specs.Attributes.{is_word_there, literal_list, literal_of, name_text};
-ghost use Rattle.asm_lint.specs.Attributes.{opens_front, sets, texts_from};
+ghost use Rattle.asm_lint.specs.Attributes.{begins_attribute, is_effective, is_modifier};
+ghost use Rattle.asm_lint.specs.Attributes.{has_word_at, literal_list, literal_of, name_text};
+ghost use Rattle.asm_lint.specs.Attributes.{opens_front, sets_word, texts_from};
 ghost use Rattle.asm_lint.specs.Spans.{HasSpans};
 ghost use Rattle.source_report.specs.declared.report.Finding.{Finding as FindingValue};
 
@@ -24,8 +24,8 @@ use source_report::Finding;
 use std::alloc::{AllocError, Global};
 
 /// Returns whether the token of an index is this word.
-fn is_word_there(tokens: &[Token<'_>], index: usize, word: &str) -> bool
-    ensures value { result ≡ is_word_there (map leaf tokens.now) index word.now }
+fn has_word_at(tokens: &[Token<'_>], index: usize, word: &str) -> bool
+    ensures value { result ≡ has_word_at (map leaf tokens.now) index word.now }
     ensures within { IsTrue result → index < length tokens.now }
 {
     match token_at(tokens, index) {
@@ -41,10 +41,10 @@ fn begins_attribute(tokens: &[Token<'_>], index: usize) -> bool
 {
     is_mark(tokens, index, b'#')
         && is_mark(tokens, index + 1, b'[')
-        && is_word_there(tokens, index + 2, "diagnostic")
+        && has_word_at(tokens, index + 2, "diagnostic")
         && is_mark(tokens, index + 3, b':')
         && is_mark(tokens, index + 4, b':')
-        && is_word_there(tokens, index + 5, "on_unimplemented")
+        && has_word_at(tokens, index + 5, "on_unimplemented")
         && is_mark(tokens, index + 6, b'(')
 }
 
@@ -67,7 +67,7 @@ fn opens_front(tokens: &[Token<'_>], index: usize) -> bool
     ensures within { IsTrue result → index + 1 < length tokens.now }
 {
     is_mark(tokens, index, b'#') && is_mark(tokens, index + 1, b'[')
-        || is_word_there(tokens, index, "pub") && is_mark(tokens, index + 1, b'(')
+        || has_word_at(tokens, index, "pub") && is_mark(tokens, index + 1, b'(')
 }
 
 /// Returns whether a token is a word of the front of an item.
@@ -75,10 +75,10 @@ fn is_modifier(tokens: &[Token<'_>], index: usize) -> bool
     ensures value { result ≡ is_modifier (map leaf tokens.now) index }
     ensures within { IsTrue result → index < length tokens.now }
 {
-    is_word_there(tokens, index, "pub")
-        || is_word_there(tokens, index, "unsafe")
-        || is_word_there(tokens, index, "auto")
-        || is_word_there(tokens, index, "const")
+    has_word_at(tokens, index, "pub")
+        || has_word_at(tokens, index, "unsafe")
+        || has_word_at(tokens, index, "auto")
+        || has_word_at(tokens, index, "const")
 }
 
 /// Returns the token after the part of the front of an item that stands at a token, or `None` if no
@@ -118,18 +118,18 @@ fn front_at(alloc: Global, source: &Source<'_>, start: usize) -> Result<Front, A
 {
     let mut starts = Vec::new(alloc);
     let mut end = start;
-    while let Some(after) = after_front(source, end) {
+    while let Some(next_end) = after_front(source, end) {
         starts.push(end)?;
-        end = after;
+        end = next_end;
     }
     Ok(Front { starts, end })
 }
 
 /// Returns whether an option sets this word.
-fn sets(tokens: &[Token<'_>], option: &Argument, word: &str) -> bool
-    ensures { result ≡ sets (map leaf tokens.now) option.now word.now }
+fn sets_word(tokens: &[Token<'_>], option: &Argument, word: &str) -> bool
+    ensures { result ≡ sets_word (map leaf tokens.now) option.now word.now }
 {
-    option.is_named && is_word_there(tokens, option.start, word)
+    option.is_named && has_word_at(tokens, option.start, word)
 }
 
 /// Returns the literal that an option sets, or `None` if it sets none.
@@ -144,12 +144,12 @@ fn literal_of<'a>(tokens: &[Token<'a>], option: &Argument) -> Option<Token<'a>>
 }
 
 /// Returns whether an option counts, where a message and a label have been there or not.
-fn counts(tokens: &[Token<'_>], has_message: bool, has_label: bool, option: &Argument) -> bool
-    ensures { result ≡ counts (map leaf tokens.now) has_message has_label option.now }
+fn is_effective(tokens: &[Token<'_>], has_message: bool, has_label: bool, option: &Argument) -> bool
+    ensures { result ≡ is_effective (map leaf tokens.now) has_message has_label option.now }
 {
-    sets(tokens, option, "message") && !has_message
-        || sets(tokens, option, "label") && !has_label
-        || sets(tokens, option, "note")
+    sets_word(tokens, option, "message") && !has_message
+        || sets_word(tokens, option, "label") && !has_label
+        || sets_word(tokens, option, "note")
 }
 
 /// Adds the literal that an option sets, if it counts. Returns `Err` if an allocation fails.
@@ -162,11 +162,11 @@ fn put_literal<'a>(
 ) -> Result<(), AllocError>
     requires { option.now.start < length tokens.now }
     ensures { OnOk result (map leaf literals.new.items ≡ map leaf literals.old.items
-        ++ literal_list (counts (map leaf tokens.now) has_message has_label option.now)
+        ++ literal_list (is_effective (map leaf tokens.now) has_message has_label option.now)
         (literal_of (map leaf tokens.now) option.now)) }
 {
     if let Some(literal) = literal_of(tokens, option) {
-        if counts(tokens, has_message, has_label, option) {
+        if is_effective(tokens, has_message, has_label, option) {
             literals.push(literal)?;
         }
     }
@@ -211,8 +211,8 @@ fn literals<'a>(
     let mut has_label = false;
     for option in options {
         put_literal(&mut literals, tokens, has_message, has_label, option)?;
-        has_message = has_message || sets(tokens, option, "message");
-        has_label = has_label || sets(tokens, option, "label");
+        has_message = has_message || sets_word(tokens, option, "message");
+        has_label = has_label || sets_word(tokens, option, "label");
     }
     Ok(literals)
 }
@@ -294,7 +294,7 @@ fn read_item<'a>(
         → All (HasSpans text.now) findings.new.items) }
 {
     let tokens = source.tokens();
-    if !is_word_there(tokens, front.end, "trait") {
+    if !has_word_at(tokens, front.end, "trait") {
         return Ok(());
     }
     let parameters = parameters(alloc, tokens, front.end + 2)?;

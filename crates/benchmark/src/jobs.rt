@@ -7,7 +7,7 @@ use flat_reading::read::read;
 use flat_reading::records::{Answer, CountRecord, Extent, Fault, MaybeExtent, Spec, Step};
 use flat_reading::task::Task as FlatTask;
 use format_lint::run::run;
-use format_lint::task::{Show, Task};
+use format_lint::task::{OutputKind, Task};
 use piece_listing::literal::{LiteralText, literal_text};
 use placeholder_check::{Report, read_and_check};
 use rustc_parse_format::{
@@ -155,16 +155,16 @@ pub fn lint_each(
 ) -> Result<(), AllocError> {
     for number in 0..count {
         let literal = literal(alloc, random, number, 3)?;
-        let show = match number % 4 {
-            0 | 1 => Show::Tokens,
-            2 => Show::Fix,
-            _ => Show::Fault,
+        let output_kind = match number % 4 {
+            0 | 1 => OutputKind::Tokens,
+            2 => OutputKind::Fix,
+            _ => OutputKind::Fault,
         };
         let task = Task {
             mode: ParseMode::Format,
             is_literal: true,
             path: "src/main.rs",
-            show,
+            output_kind,
             width: 140,
             colours: number % 4 == 1,
         };
@@ -330,7 +330,7 @@ fn record(
         style,
         snippet: Some(literal),
         appended_newline: false,
-        peeks: false,
+        wants_peeks: false,
     };
     let mut answer = NO_ANSWER;
     read(

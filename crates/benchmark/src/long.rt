@@ -4,7 +4,7 @@ use crate::digest::Digest;
 use crate::inputs::{hard, kinds, lines};
 use crate::random::Random;
 use format_lint::run::run as lint;
-use format_lint::task::{Show, Task};
+use format_lint::task::{OutputKind, Task};
 use piece_listing::run::run as list;
 use rustc_parse_format::ParseMode;
 use std::alloc::{AllocError, Global};
@@ -61,7 +61,7 @@ pub fn list_each(
 fn lint_one(
     alloc: Global,
     input: &str,
-    show: Show,
+    output_kind: OutputKind,
     colours: bool,
     digest: &mut Digest,
 ) -> Result<(), AllocError> {
@@ -69,7 +69,7 @@ fn lint_one(
         mode: ParseMode::Format,
         is_literal: true,
         path: "src/main.rs",
-        show,
+        output_kind,
         width: 140,
         colours,
     };
@@ -99,10 +99,10 @@ pub fn awkward(
                 let input = input.as_str();
                 match way {
                     0 => list_one(alloc, input, words.as_slice(), digest)?,
-                    1 => lint_one(alloc, input, Show::Fault, false, digest)?,
-                    2 => lint_one(alloc, input, Show::Tokens, false, digest)?,
-                    3 => lint_one(alloc, input, Show::Tokens, true, digest)?,
-                    _ => lint_one(alloc, input, Show::Fix, false, digest)?,
+                    1 => lint_one(alloc, input, OutputKind::Fault, false, digest)?,
+                    2 => lint_one(alloc, input, OutputKind::Tokens, false, digest)?,
+                    3 => lint_one(alloc, input, OutputKind::Tokens, true, digest)?,
+                    _ => lint_one(alloc, input, OutputKind::Fix, false, digest)?,
                 }
             }
         }

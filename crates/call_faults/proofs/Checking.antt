@@ -9,7 +9,7 @@ use Rattle.rustc_parse_format.specs.Characters.{Text}
 use Rattle.rustc_parse_format.specs.Faults.{Fault}
 use Rattle.rustc_parse_format.specs.Grammar.{IsInGrammar, Reads}
 use Rattle.rustc_parse_format.specs.State.{State, after_all, calls}
-use Rattle.rustc_parse_format.specs.Types.{Format, Mode, Piece, bare}
+use Rattle.rustc_parse_format.specs.Types.{Format, Mode, Piece, bare_piece}
 use Rattle.rustc_parse_format.specs.World.{Place}
 use Rattle.call_faults.specs.Arguments.{FormatArgument, kept_after, list_faults}
 use Rattle.call_faults.specs.CallFaults.{CallFault, is_warning}
@@ -44,7 +44,7 @@ pub clean-is : (captures : Bool) (gs : List FormatArgument) (t : Text) (s : Stat
     (Piece Place))
     (fs : List CallFault) (new : State) → s.errors ≡ [] → new ≡ after_all s (calls s)
     → ((new.errors ≡ []) ↔ IsInGrammar Format t)
-    → (new.errors ≡ [] → Reads Format 0 t (map bare ps))
+    → (new.errors ≡ [] → Reads Format 0 t (map bare_piece ps))
     → ((m : Mode) (c : ℕ) (t : Text) (ps qs : List (Piece (Unit {0}))) → Reads m c t ps
     → Reads m c t qs → ps ≡ qs) → fs ≡ call_faults captures gs (text_fault s) ps
     → All (λ f. IsTrue (is_warning f)) fs ↔ IsClean captures gs t
@@ -59,5 +59,5 @@ clean-is captures gs t s ps fs new none n grammar reading one e =
           rw e (All-from_recursion (λ f. IsTrue (is_warning f))
           (call_faults captures gs (text_fault s) ps)
           (warnings-clean captures gs (text_fault s) ps t c (fault-none s (sym errors ∙ clean))
-          (one Format 0 t c.pieces (map bare ps) c.are_read (reading clean)))),
+          (one Format 0 t c.pieces (map bare_piece ps) c.are_read (reading clean)))),
     )

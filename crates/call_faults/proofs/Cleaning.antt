@@ -9,7 +9,7 @@ use Rattle.std.proofs.lemmas.List.Elements.{All-from_recursion, recursion_from_A
 use Rattle.rustc_parse_format.specs.Characters.{Text}
 use Rattle.rustc_parse_format.specs.Faults.{Fault}
 use Rattle.rustc_parse_format.specs.Grammar.{Reads}
-use Rattle.rustc_parse_format.specs.Types.{Format, Piece, bare}
+use Rattle.rustc_parse_format.specs.Types.{Format, Piece, bare_piece}
 use Rattle.rustc_parse_format.specs.World.{Place}
 use Rattle.placeholder_check.specs.Uses.{Use, ByIndex, ByName, uses}
 use Rattle.call_faults.specs.declared.faults.InvalidReference.{InvalidReference}
@@ -144,7 +144,7 @@ quiet-compared captures ks ls q = rw (q.looked, q.lacked, q.left) refl
 
 -- the parts of a clean call
 clean-compared : (captures : Bool) (gs : List FormatArgument) (ps : List (Piece Place)) (t : Text)
-    → InOrder gs → Reads Format 0 t (map bare ps)
+    → InOrder gs → Reads Format 0 t (map bare_piece ps)
     → Quiet captures (numbered 0 gs) (lookups_from 0 ps) → IsClean captures gs t
 clean-compared captures gs ps t o r q =
     let ls = lookups_from 0 ps in
@@ -154,9 +154,9 @@ clean-compared captures gs ps t o r q =
     = far-of (length (numbered 0 gs)) ls q.lacked in
     record {
       in_order = order-pairs gs o;
-      pieces = map bare ps;
+      pieces = map bare_piece ps;
       are_read = r;
-      have_traits = All-from_recursion HasTrait (map bare ps) (traits-of 0 ps fine.traits);
+      have_traits = All-from_recursion HasTrait (map bare_piece ps) (traits-of 0 ps fine.traits);
       are_met = rw (uses-bare ps) (All-from_recursion (IsMet captures gs) us (met-of captures gs us
           (sym (any-uses (is_far (length gs)) 0 ps) ∙ (rw (numbered-length 0 gs) at far))
           (sym (any-uses (is_unknown captures (names (numbered 0 gs))) 0 ps) ∙ fine.names)));
@@ -164,7 +164,7 @@ clean-compared captures gs ps t o r q =
     }
 
 compared-clean : (captures : Bool) (gs : List FormatArgument) (ps : List (Piece Place)) (t : Text)
-    (c : IsClean captures gs t) → c.pieces ≡ map bare ps
+    (c : IsClean captures gs t) → c.pieces ≡ map bare_piece ps
     → Quiet captures (numbered 0 gs) (lookups_from 0 ps)
 compared-clean captures gs ps t c e =
     let ls = lookups_from 0 ps in
@@ -175,7 +175,7 @@ compared-clean captures gs ps t c e =
     = recursion_from_All (IsMet captures gs) us (rw same at c.are_met) in
     record {
       looked = of-fine captures (names (numbered 0 gs)) ls
-          (of-traits 0 ps (recursion_from_All HasTrait (map bare ps) (rw e at c.have_traits)))
+          (of-traits 0 ps (recursion_from_All HasTrait (map bare_piece ps) (rw e at c.have_traits)))
           (any-uses (is_unknown captures (names (numbered 0 gs))) 0 ps
           ∙ of-met-known captures gs us met);
       lacked = of-far (length (numbered 0 gs)) ls (rw (numbered-length 0 gs)
@@ -185,7 +185,7 @@ compared-clean captures gs ps t c e =
 
 -- a call with nothing but warnings
 pub clean-of : (captures : Bool) (gs : List FormatArgument) (fault : Option (Fault Place))
-    (ps : List (Piece Place)) (t : Text) → (fault ≡ None → Reads Format 0 t (map bare ps))
+    (ps : List (Piece Place)) (t : Text) → (fault ≡ None → Reads Format 0 t (map bare_piece ps))
     → Warnings (call_faults captures gs fault ps) → IsClean captures gs t
 clean-of captures gs fault ps t r w =
     let found = list_faults [] 0 gs in
@@ -193,7 +193,7 @@ clean-of captures gs fault ps t r w =
     let whole = none-order [] 0 gs none in
     text fault r (rw none at (all-right _ found _ w)) whole.in_order whole.kept
   where
-    text : (fault : Option (Fault Place)) → (fault ≡ None → Reads Format 0 t (map bare ps))
+    text : (fault : Option (Fault Place)) → (fault ≡ None → Reads Format 0 t (map bare_piece ps))
         → Warnings (string_faults captures gs fault ps) → InOrder gs
         → kept_after [] 0 gs ≡ numbered 0 gs → IsClean captures gs t
     text (Some f) r w o k = let e = w.0 in absurd cc
@@ -207,7 +207,7 @@ nothing-rest_after (g ∷ gs) = (tt, nothing-rest_after gs)
 -- what is found in a clean call
 pub found-clean : (captures : Bool) (gs : List FormatArgument) (fault : Option (Fault Place))
     (ps : List (Piece Place)) (t : Text) (c : IsClean captures gs t) → fault ≡ None
-    → c.pieces ≡ map bare ps → call_faults captures gs fault ps
+    → c.pieces ≡ map bare_piece ps → call_faults captures gs fault ps
     ≡ filter_map (by_index (numbered 0 gs)) (lookups_from 0 ps)
 found-clean captures gs fault ps t c e f =
     let o = pairs-order gs c.in_order in
@@ -218,6 +218,6 @@ found-clean captures gs fault ps t c e f =
 
 pub warnings-clean : (captures : Bool) (gs : List FormatArgument) (fault : Option (Fault Place))
     (ps : List (Piece Place)) (t : Text) (c : IsClean captures gs t) → fault ≡ None
-    → c.pieces ≡ map bare ps → Warnings (call_faults captures gs fault ps)
+    → c.pieces ≡ map bare_piece ps → Warnings (call_faults captures gs fault ps)
 warnings-clean captures gs fault ps t c e f = rw (found-clean captures gs fault ps t c e f)
     (by-index-warns (numbered 0 gs) (lookups_from 0 ps))

@@ -9,7 +9,7 @@ use Rattle.std.proofs.lemmas.Bool.{or_from, or_parts, cond_both}
 use Rattle.std.proofs.lemmas.List.Folds.{list_any-append}
 use Rattle.rustc_parse_format.specs.Characters.{Text}
 use Rattle.rustc_parse_format.specs.Types.{Argument, Count, Implied, Is, Lit, Name, NextArgument}
-use Rattle.rustc_parse_format.specs.Types.{Param, Piece, Star, bare, bare_count}
+use Rattle.rustc_parse_format.specs.Types.{Param, Piece, Star, bare_piece, bare_count}
 use Rattle.placeholder_check.specs.Uses.{Use, ByIndex, ByName, argument_uses, count_uses}
 use Rattle.placeholder_check.specs.Uses.{position_use, uses}
 use Rattle.call_faults.specs.declared.faults.Part.{Part}
@@ -30,7 +30,7 @@ count-bare (Param n) = refl
 count-bare (Star n) = refl
 count-bare Implied = refl
 
-pub uses-bare : {A : Type 0} (ps : List (Piece A)) → uses (map bare ps) ≡ uses ps
+pub uses-bare : {A : Type 0} (ps : List (Piece A)) → uses (map bare_piece ps) ≡ uses ps
 uses-bare [] = refl
 uses-bare (Lit t ∷ ps) = uses-bare ps
 uses-bare (NextArgument a ∷ ps) =
@@ -134,7 +134,7 @@ known-not false e = absurd cc
 
 -- traits that exist
 pub traits-of : {A : Type 0} (k : ℕ) (ps : List (Piece A))
-    → list_any is_no_trait (lookups_from k ps) ≡ false → AllByRecursion HasTrait (map bare ps)
+    → list_any is_no_trait (lookups_from k ps) ≡ false → AllByRecursion HasTrait (map bare_piece ps)
 traits-of k [] e = tt
 traits-of k (Lit t ∷ ps) e = (tt, traits-of (suc k) ps e)
 traits-of k (NextArgument a ∷ ps) e =
@@ -146,7 +146,8 @@ traits-of k (NextArgument a ∷ ps) e =
       traits-of (suc k) ps both.1,
     )
 
-pub of-traits : {A : Type 0} (k : ℕ) (ps : List (Piece A)) → AllByRecursion HasTrait (map bare ps)
+pub of-traits : {A : Type 0} (k : ℕ) (ps : List (Piece A))
+    → AllByRecursion HasTrait (map bare_piece ps)
     → list_any is_no_trait (lookups_from k ps) ≡ false
 of-traits k [] h = refl
 of-traits k (Lit t ∷ ps) h = of-traits (suc k) ps h.1

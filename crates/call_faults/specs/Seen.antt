@@ -9,7 +9,7 @@ use Rattle.std.specs.Str.{bytes_eq, encode_utf8_all}
 use denote.Ref.{Bor}
 use Rattle.rustc_parse_format.specs.Characters.{Text}
 use Rattle.rustc_parse_format.specs.SeenFaults.{seen_fault as seen_text_fault}
-use Rattle.rustc_parse_format.specs.Seen.{seen}
+use Rattle.rustc_parse_format.specs.Seen.{seen_piece}
 use Rattle.rustc_parse_format.specs.State.{State, first_state}
 use Rattle.rustc_parse_format.specs.World.{Place}
 use Rattle.rustc_parse_format.specs.Types.{Format}
@@ -37,8 +37,8 @@ use Rattle.call_faults.specs.declared.spots.CallNote.{CallNote}
 use Rattle.call_faults.specs.declared.lookups.Lookup.{Lookup as DeclaredLookup}
 use Rattle.call_faults.specs.declared.lookups.Lookup.TheVariants.{Refer as ReferIn}
 use Rattle.call_faults.specs.declared.lookups.Lookup.TheVariants.{NoTrait as NoTraitIn}
-use Rattle.call_faults.specs.declared.lookups.Wanted.{Wanted}
-use Rattle.call_faults.specs.declared.lookups.Wanted.TheVariants.{Index, Name}
+use Rattle.call_faults.specs.declared.lookups.ArgRef.{ArgRef}
+use Rattle.call_faults.specs.declared.lookups.ArgRef.TheVariants.{Index, Name}
 use Rattle.call_faults.specs.Arguments.{FormatArgument, Entry, index_of}
 use Rattle.call_faults.specs.CallFaults.{CallFault, PositionalAfterNamed, RepeatedName, TextFault}
 use Rattle.call_faults.specs.CallFaults.{MissingName, UnknownTrait, MissingArguments}
@@ -74,7 +74,7 @@ abbrev pub start : FormatString → State
 start s = first_state Format (text s.text) s.style (option_map text s.snippet) s.appended_newline
 
 -- The argument that a reference wants, as a contract sees it.
-abbrev pub seen_use : Wanted → Use
+abbrev pub seen_use : ArgRef → Use
 seen_use (Index n) = ByIndex n
 seen_use (Name w) = ByName (text w)
 
@@ -102,7 +102,7 @@ abbrev pub title_parts : CallReport → List ℕ → TitleParts Place
 title_parts c numbers = record {
   arguments = map seen_given c.arguments.now;
   count = length c.indices.items;
-  pieces = map seen c.pieces.items;
+  pieces = map seen_piece c.pieces.items;
   total = c.parser.next;
   numbers = numbers;
 }
@@ -129,7 +129,7 @@ abbrev pub seen_call : CallReport → Call
 seen_call c = record {
   arguments = map seen_given c.arguments.now;
   kept = c.indices.items;
-  pieces = map seen c.pieces.items;
+  pieces = map seen_piece c.pieces.items;
   counts = c.counts.items;
   places = c.parser.arg_places;
   total = c.parser.next;

@@ -119,7 +119,7 @@ fn add<'a>(
         ++ repeated index (first_of ks (seen_given argument.entry))) }
 {
     match first_of(arguments, &argument) {
-        Some(first) => faults.push(CallFault::RepeatedName { index, first })?,
+        Some(first_index) => faults.push(CallFault::RepeatedName { index, first_index })?,
         None => keep(arguments, index, argument)?,
     }
     Ok(())
@@ -138,13 +138,13 @@ fn is_late<'a>(arguments: &Arguments<'a>, argument: &FormatArgument<'a>) -> bool
 fn named_of(alloc: Global, list: &[Entry<'_>]) -> Result<Vec<usize>, AllocError>
     ensures { IfOk result (λ v. v.items ≡ named_of (map seen_entry list.now)) }
 {
-    let mut named = Vec::new(alloc);
+    let mut named_arguments = Vec::new(alloc);
     for entry in list {
         if entry.argument.name.is_some() {
-            named.push(entry.index)?;
+            named_arguments.push(entry.index)?;
         }
     }
-    Ok(named)
+    Ok(named_arguments)
 }
 
 /// Returns the arguments that count, or `None` if the first one without a name after one with a
@@ -164,8 +164,11 @@ pub(crate) fn arguments_of<'a>(
     let mut arguments = no_arguments(alloc);
     for (index, argument) in call_arguments.iter().enumerate() {
         if is_late(&arguments, argument) {
-            let named = named_of(alloc, &arguments.list)?;
-            faults.push(CallFault::PositionalAfterNamed { index, named })?;
+            let named_arguments = named_of(alloc, &arguments.list)?;
+            faults.push(CallFault::PositionalAfterNamed {
+                index,
+                named_arguments,
+            })?;
             return Ok(None);
         }
         add(&mut arguments, faults, index, *argument)?;

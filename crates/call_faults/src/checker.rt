@@ -4,7 +4,7 @@ ghost use Rattle.std.specs.Prelude.{◌≡◌, ◌+◌, ◌<◌, ◌^◌, ◌↔
 ghost use Rattle.std.specs.Prelude.{is_none, length, map, option_map};
 ghost use Rattle.std.specs.List.{All};
 ghost use Rattle.rustc_parse_format.specs.Call.{pieces_of};
-ghost use Rattle.rustc_parse_format.specs.Seen.{seen, seen_snippet};
+ghost use Rattle.rustc_parse_format.specs.Seen.{seen_piece, seen_snippet};
 ghost use Rattle.rustc_parse_format.specs.State.{after_all, calls};
 ghost use Rattle.rustc_parse_format.specs.World.{hashes, pieces_in};
 ghost use Rattle.call_faults.specs.CallFaults.{is_warning};
@@ -38,7 +38,7 @@ pub struct FormatString<'a> {
     pub appended_newline: bool,
     /// Whether a name that no argument has is a variable, as it is where the literal stands in the
     /// call itself.
-    pub captures: bool,
+    pub captures_variables: bool,
 }
 
 /// A call that was checked.
@@ -103,9 +103,9 @@ fn faults_of<'a>(
     ensures kept { OnOk result (indices.old.items ≡ []
         → indices.new.items ≡ kept_indices (map seen_given call_arguments.now)) }
     ensures faults { IfOk result (λ v. is_none (text_fault (start string.entry)) ≡ is_read
-        → map seen_fault v.items ≡ call_faults string.entry.captures
+        → map seen_fault v.items ≡ call_faults string.entry.captures_variables
         (map seen_given call_arguments.now) (text_fault (start string.entry))
-        (map seen pieces.now)) }
+        (map seen_piece pieces.now)) }
 {
     let mut faults = Vec::new(alloc);
     let Some(mut arguments) = arguments_of(alloc, &mut faults, call_arguments)? else {
@@ -122,7 +122,7 @@ fn faults_of<'a>(
     compare(
         alloc,
         &mut faults,
-        string.captures,
+        string.captures_variables,
         &mut arguments,
         call_arguments.len(),
         &lookups,
@@ -145,20 +145,21 @@ pub fn call_faults<'a>(
     // The pieces and the parser are those of the calls of a parser at the start of the string, and
     // the faults are those that the definition names, in its order.
     ensures walk { IfOk result (λ x. let s = start string.entry in
-        (map seen x.pieces.items ≡ pieces_in s.world (pieces_of (calls s)))
+        (map seen_piece x.pieces.items ≡ pieces_in s.world (pieces_of (calls s)))
         × (x.parser ≡ after_all s (calls s))) }
     ensures arguments { IfOk result (λ x. x.arguments ≡ arguments.entry) }
     ensures kept { IfOk result (λ x. x.indices.items
         ≡ kept_indices (map seen_given arguments.now)) }
-    ensures counts { IfOk result (λ x. x.counts.items ≡ counts_before 0 (map seen x.pieces.items)) }
+    ensures counts { IfOk result (λ x. x.counts.items
+        ≡ counts_before 0 (map seen_piece x.pieces.items)) }
     ensures faults { IfOk result (λ x. map seen_fault x.faults.items
-        ≡ call_faults string.entry.captures (map seen_given arguments.now)
-        (text_fault (start string.entry)) (map seen x.pieces.items)) }
+        ≡ call_faults string.entry.captures_variables (map seen_given arguments.now)
+        (text_fault (start string.entry)) (map seen_piece x.pieces.items)) }
 
     // Nothing but warnings is found exactly if the call is clean.
     ensures clean { IfOk result (λ x. All (λ f. IsTrue (is_warning f)) (map seen_fault
         x.faults.items)
-        ↔ IsClean string.entry.captures (map seen_given arguments.now)
+        ↔ IsClean string.entry.captures_variables (map seen_given arguments.now)
         (chars string.entry.text.now)) }
 {
     let snippet = owned_string(alloc, string.snippet)?;

@@ -21,7 +21,7 @@ ghost use Rattle.call_faults.specs.Seen.{seen_use};
 
 use crate::arguments::{Arguments, Entry, index_of, insert};
 use crate::faults::{CallFault, InvalidReference, Part};
-use crate::lookups::{Lookup, Wanted};
+use crate::lookups::{ArgRef, Lookup};
 use std::alloc::{AllocError, Global};
 use std::collections::BTreeMap;
 
@@ -31,8 +31,8 @@ fn meant<'a>(arguments: &Arguments<'a>, lookup: &Lookup<'a>) -> Option<usize>
         → option_map_or (λ j. i == j) result false ≡ means ks i (seen_lookup lookup.now) }
 {
     match *lookup {
-        Lookup::Refer(_, Wanted::Index(n)) => arguments.list.get(n).map(|entry| entry.index),
-        Lookup::Refer(_, Wanted::Name(name)) => index_of(&arguments.indices, name),
+        Lookup::Refer(_, ArgRef::Index(n)) => arguments.list.get(n).map(|entry| entry.index),
+        Lookup::Refer(_, ArgRef::Name(name)) => index_of(&arguments.indices, name),
         Lookup::NoTrait(..) => None,
     }
 }
@@ -65,7 +65,7 @@ fn reference_beyond(count: usize, lookup: &Lookup<'_>) -> Option<InvalidReferenc
     ensures { result ≡ beyond count (seen_lookup lookup.now) }
 {
     match *lookup {
-        Lookup::Refer(reference, Wanted::Index(index)) if index >= count => {
+        Lookup::Refer(reference, ArgRef::Index(index)) if index >= count => {
             Some(InvalidReference { reference, index })
         }
         _ => None,
@@ -82,13 +82,13 @@ fn references_from(
     ensures { IfOk result (λ v. v.items
         ≡ filter_map (beyond count) (map seen_lookup lookups.now)) }
 {
-    let mut missing = Vec::new(alloc);
+    let mut references = Vec::new(alloc);
     for lookup in lookups {
         if let Some(reference) = reference_beyond(count, lookup) {
-            missing.push(reference)?;
+            references.push(reference)?;
         }
     }
-    Ok(missing)
+    Ok(references)
 }
 
 /// Returns the arguments that are not marked. Returns `Err` if an allocation fails.
@@ -115,24 +115,24 @@ fn unmarked_arguments<'a>(
 fn look_up_one<'a>(
     faults: &mut Vec<CallFault<'a>>,
     indices: &mut BTreeMap<&'a str, usize>,
-    captures: bool,
+    captures_variables: bool,
     lookup: &Lookup<'a>,
 ) -> Result<(), AllocError>
-    ensures { OnOk result ((known : List Text) → KnowsNames known indices.old
-        → (now : List Text) × KnowsNames now indices.new × ((ls : List LookupValue)
-        → map seen_fault faults.new.items ++ lookup_faults captures now ls
+    ensures { OnOk result ((old_names : List Text) → KnowsNames old_names indices.old
+        → (new_names : List Text) × KnowsNames new_names indices.new × ((ls : List LookupValue)
+        → map seen_fault faults.new.items ++ lookup_faults captures_variables new_names ls
         ≡ map seen_fault faults.old.items
-        ++ lookup_faults captures known (seen_lookup lookup.now ∷ ls))) }
+        ++ lookup_faults captures_variables old_names (seen_lookup lookup.now ∷ ls))) }
 {
     match *lookup {
         Lookup::NoTrait(piece, ty) => faults.push(CallFault::UnknownTrait { piece, ty })?,
-        Lookup::Refer(reference, Wanted::Name(name)) => {
-            if !captures && index_of(indices, name).is_none() {
+        Lookup::Refer(reference, ArgRef::Name(name)) => {
+            if !captures_variables && index_of(indices, name).is_none() {
                 insert(indices, name, 0)?;
                 faults.push(CallFault::MissingName { reference, name })?;
             }
         }
-        Lookup::Refer(_, Wanted::Index(_)) => {}
+        Lookup::Refer(_, ArgRef::Index(_)) => {}
     }
     Ok(())
 }
@@ -141,15 +141,15 @@ fn look_up_one<'a>(
 fn look_up<'a>(
     faults: &mut Vec<CallFault<'a>>,
     indices: &mut BTreeMap<&'a str, usize>,
-    captures: bool,
+    captures_variables: bool,
     lookups: &[Lookup<'a>],
 ) -> Result<(), AllocError>
     ensures { OnOk result ((known : List Text) → KnowsNames known indices.old
         → map seen_fault faults.new.items ≡ map seen_fault faults.old.items
-        ++ lookup_faults captures known (map seen_lookup lookups.now)) }
+        ++ lookup_faults captures_variables known (map seen_lookup lookups.now)) }
 {
     for lookup in lookups {
-        look_up_one(faults, indices, captures, lookup)?;
+        look_up_one(faults, indices, captures_variables, lookup)?;
     }
     Ok(())
 }
@@ -177,7 +177,7 @@ fn positions_of<'a>(
 {
     let mut names = BTreeMap::new(alloc);
     for lookup in lookups {
-        if let Lookup::Refer(reference, Wanted::Name(name)) = lookup {
+        if let Lookup::Refer(reference, ArgRef::Name(name)) = lookup {
             if matches!(reference.part, Part::Position) {
                 insert(&mut names, name, 0)?;
             }
@@ -201,23 +201,23 @@ fn is_redundant<'a>(positions: &BTreeMap<&'a str, usize>, entry: &Entry<'a>) -> 
 /// allocation fails.
 fn redundant_of<'a>(
     alloc: Global,
-    unused: &[Entry<'a>],
+    unused_entries: &[Entry<'a>],
     lookups: &[Lookup<'a>],
 ) -> Result<Vec<usize>, AllocError>
     ensures { IfOk result (λ v. v.items ≡ indices
-        (filter (is_redundant (map seen_lookup lookups.now)) (map seen_entry unused.now))) }
+        (filter (is_redundant (map seen_lookup lookups.now)) (map seen_entry unused_entries.now))) }
 {
-    let mut redundant = Vec::new(alloc);
-    if unused.is_empty() {
-        return Ok(redundant);
+    let mut redundant_indices = Vec::new(alloc);
+    if unused_entries.is_empty() {
+        return Ok(redundant_indices);
     }
     let positions = positions_of(alloc, lookups)?;
-    for entry in unused {
+    for entry in unused_entries {
         if is_redundant(&positions, entry) {
-            redundant.push(entry.index)?;
+            redundant_indices.push(entry.index)?;
         }
     }
-    Ok(redundant)
+    Ok(redundant_indices)
 }
 
 /// Returns the indices of arguments. Returns `Err` if an allocation fails.
@@ -233,24 +233,24 @@ pub(crate) fn indices_of(alloc: Global, arguments: &[Entry<'_>]) -> Result<Vec<u
 
 /// Adds the fault of arguments that no lookup means: of the redundant ones, or else of all. Returns
 /// `Err` if an allocation fails.
-fn tell_unused<'a>(
+fn push_unused_faults<'a>(
     alloc: Global,
     faults: &mut Vec<CallFault<'a>>,
-    unused: &[Entry<'a>],
+    unused_entries: &[Entry<'a>],
     lookups: &[Lookup<'a>],
 ) -> Result<(), AllocError>
     ensures { OnOk result (map seen_fault faults.new.items ≡ map seen_fault faults.old.items
         ++ left_faults (indices (filter (is_redundant (map seen_lookup lookups.now))
-        (map seen_entry unused.now))) (indices (map seen_entry unused.now))) }
+        (map seen_entry unused_entries.now))) (indices (map seen_entry unused_entries.now))) }
 {
-    let redundant = redundant_of(alloc, unused, lookups)?;
-    if !redundant.is_empty() {
-        faults.push(CallFault::RedundantArguments(redundant))?;
+    let redundant_indices = redundant_of(alloc, unused_entries, lookups)?;
+    if !redundant_indices.is_empty() {
+        faults.push(CallFault::RedundantArguments(redundant_indices))?;
         return Ok(());
     }
-    let unused = indices_of(alloc, unused)?;
-    if !unused.is_empty() {
-        faults.push(CallFault::UnusedArguments(unused))?;
+    let unused_indices = indices_of(alloc, unused_entries)?;
+    if !unused_indices.is_empty() {
+        faults.push(CallFault::UnusedArguments(unused_indices))?;
     }
     Ok(())
 }
@@ -261,7 +261,7 @@ fn by_index<'a>(arguments: &[Entry<'a>], lookup: &Lookup<'a>) -> Option<CallFaul
         ≡ by_index (map seen_entry arguments.now) (seen_lookup lookup.now) }
 {
     match *lookup {
-        Lookup::Refer(reference, Wanted::Index(n)) => match arguments.get(n) {
+        Lookup::Refer(reference, ArgRef::Index(n)) => match arguments.get(n) {
             Some(entry) if entry.argument.name.is_some() => Some(CallFault::NameUsedByIndex {
                 reference,
                 index: entry.index,
@@ -274,7 +274,7 @@ fn by_index<'a>(arguments: &[Entry<'a>], lookup: &Lookup<'a>) -> Option<CallFaul
 
 /// Adds the faults of lookups that mean an argument with a name by its index. Returns `Err` if an
 /// allocation fails.
-fn tell_by_index<'a>(
+fn push_index_faults<'a>(
     faults: &mut Vec<CallFault<'a>>,
     arguments: &[Entry<'a>],
     lookups: &[Lookup<'a>],
@@ -292,25 +292,29 @@ fn tell_by_index<'a>(
 
 /// Adds the fault of references by an index that is too large, if there are any. Returns `Err` if
 /// an allocation fails.
-fn tell_missing(
+fn push_missing_fault(
     faults: &mut Vec<CallFault<'_>>,
-    missing: Vec<InvalidReference>,
+    references: Vec<InvalidReference>,
 ) -> Result<(), AllocError>
     ensures { OnOk result (map seen_fault faults.new.items ≡ map seen_fault faults.old.items
-        ++ missing_faults missing.items) }
+        ++ missing_faults references.items) }
 {
-    if !missing.is_empty() {
-        faults.push(CallFault::MissingArguments(missing))?;
+    if !references.is_empty() {
+        faults.push(CallFault::MissingArguments(references))?;
     }
     Ok(())
 }
 
 /// Returns whether neither a name is missing, nor an argument, nor is one unused.
-fn is_settled(faults: &[CallFault<'_>], missing: &[InvalidReference], unused: &[Entry<'_>]) -> bool
+fn is_settled(
+    faults: &[CallFault<'_>],
+    references: &[InvalidReference],
+    entries: &[Entry<'_>],
+) -> bool
     ensures { result
-        ≡ is_settled (map seen_fault faults.now) missing.now (map seen_entry unused.now) }
+        ≡ is_settled (map seen_fault faults.now) references.now (map seen_entry entries.now) }
 {
-    !misses_name(faults) && missing.is_empty() && unused.is_empty()
+    !misses_name(faults) && references.is_empty() && entries.is_empty()
 }
 
 /// Adds what is wrong between the arguments that count, whose indices are below `count`, and
@@ -318,7 +322,7 @@ fn is_settled(faults: &[CallFault<'_>], missing: &[InvalidReference], unused: &[
 pub(crate) fn compare<'a>(
     alloc: Global,
     faults: &mut Vec<CallFault<'a>>,
-    captures: bool,
+    captures_variables: bool,
     arguments: &mut Arguments<'a>,
     count: usize,
     lookups: &[Lookup<'a>],
@@ -326,20 +330,25 @@ pub(crate) fn compare<'a>(
     ensures { OnOk result ((ks : List EntryValue) → Holds ks arguments.old
         → AllByRecursion (λ k. k.index < count) ks
         → map seen_fault faults.new.items ≡ map seen_fault faults.old.items
-        ++ compared captures ks (map seen_lookup lookups.now)) }
+        ++ compared captures_variables ks (map seen_lookup lookups.now)) }
 {
     let marks = marks(alloc, arguments, count, lookups)?;
     let rest = unmarked_arguments(alloc, &arguments.list, &marks)?;
-    let missing = references_from(alloc, arguments.list.len(), lookups)?;
+    let references = references_from(alloc, arguments.list.len(), lookups)?;
     let mut list = Vec::new(alloc);
-    look_up(&mut list, &mut arguments.indices, captures, lookups)?;
-    let is_settled = is_settled(&list, &missing, &rest);
+    look_up(
+        &mut list,
+        &mut arguments.indices,
+        captures_variables,
+        lookups,
+    )?;
+    let is_settled = is_settled(&list, &references, &rest);
     faults.append(&mut list)?;
-    tell_missing(faults, missing)?;
-    tell_unused(alloc, faults, &rest, lookups)?;
+    push_missing_fault(faults, references)?;
+    push_unused_faults(alloc, faults, &rest, lookups)?;
     if !is_settled {
         return Ok(());
     }
-    tell_by_index(faults, &arguments.list, lookups)?;
+    push_index_faults(faults, &arguments.list, lookups)?;
     Ok(())
 }

@@ -39,14 +39,14 @@ pub enum CallFault<'a> {
         /// The first such argument.
         index: usize,
         /// The arguments in front of it that have a name, each the first with its name.
-        named: Vec<usize>,
+        named_arguments: Vec<usize>,
     },
     /// An argument has the name of an earlier one. It counts no more: indices pass over it.
     RepeatedName {
         /// The argument.
         index: usize,
         /// The first argument with the name.
-        first: usize,
+        first_index: usize,
     },
     /// The format string is not in the grammar. No other fault follows.
     Text(Fault<'a>),

@@ -74,8 +74,8 @@ fn unused_help(
     if are_missing(&call.faults) || count != call.indices.len() {
         return Ok(None);
     }
-    let says = "format specifiers use curly braces, consider adding ";
-    let mut text = String::from_str(alloc, says)?;
+    let message = "format specifiers use curly braces, consider adding ";
+    let mut text = String::from_str(alloc, message)?;
     put_specifiers(&mut text, count)?;
     let mut new = String::new(alloc);
     put_placeholders(&mut new, count)?;
@@ -119,16 +119,16 @@ fn push_removals(
 fn redundant_help(
     alloc: Global,
     arguments: &[FormatArgument<'_>],
-    redundant: &[usize],
+    redundant_indices: &[usize],
 ) -> Result<Option<CallHelp>, AllocError>
     ensures { IfOk result (λ o. option_map seen_help o
-        ≡ redundant_help (map seen_given arguments.now) redundant.now) }
+        ≡ redundant_help (map seen_given arguments.now) redundant_indices.now) }
 {
-    if redundant.len() <= 1 || have_names(arguments) {
+    if redundant_indices.len() <= 1 || have_names(arguments) {
         return Ok(None);
     }
     let mut edits = Vec::new(alloc);
-    push_removals(&mut edits, arguments, redundant)?;
+    push_removals(&mut edits, arguments, redundant_indices)?;
     let text = String::from_str(alloc, "this can be removed")?;
     Ok(Some(CallHelp { text, edits }))
 }
@@ -164,8 +164,8 @@ fn by_index_help(
     ensures { IfOk result (λ h. seen_help h
         ≡ by_index_help (seen_call call.now) reference index) }
 {
-    let says = "use the named argument by name to avoid ambiguity";
-    let text = String::from_str(alloc, says)?;
+    let message = "use the named argument by name to avoid ambiguity";
+    let text = String::from_str(alloc, message)?;
     let new = name_in(alloc, reference.part, name_of(call.arguments, index))?;
     let spot = index_spot(&call.pieces, reference);
     single(alloc, text, spot, new)
@@ -228,8 +228,8 @@ fn positional_help(
         copied_spot: Some(spot),
         rest: "",
     })?;
-    let says = "consider using a positional formatting argument instead";
-    let text = String::from_str(alloc, says)?;
+    let message = "consider using a positional formatting argument instead";
+    let text = String::from_str(alloc, message)?;
     Ok(CallHelp { text, edits })
 }
 
@@ -300,9 +300,13 @@ impl<'a> CallReport<'a> {
             | CallFault::UnknownTrait { .. }
             | CallFault::MissingArguments(_) => Ok(None),
             CallFault::Text(fault) => text_help(alloc, self, fault),
-            CallFault::UnusedArguments(unused) => unused_help(alloc, self, unused.len()),
-            CallFault::RedundantArguments(redundant) => {
-                redundant_help(alloc, self.arguments, redundant)
+            CallFault::UnusedArguments(unused_indices) => unused_help(
+                alloc,
+                self,
+                unused_indices.len(),
+            ),
+            CallFault::RedundantArguments(redundant_indices) => {
+                redundant_help(alloc, self.arguments, redundant_indices)
             }
             CallFault::NameUsedByIndex { reference, index } => {
                 let help = by_index_help(alloc, self, *reference, *index)?;

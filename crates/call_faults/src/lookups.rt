@@ -2,7 +2,8 @@
 
 ghost use Rattle.std.specs.Prelude.{◌≡◌, ◌∷◌, ◌++◌, ◌==◌, [], IfOk, OnOk, chars, codes, map};
 ghost use Rattle.std.specs.List.{list_any};
-ghost use Rattle.rustc_parse_format.specs.Seen.{seen, seen_argument, seen_count, seen_position};
+ghost use Rattle.rustc_parse_format.specs.Seen.{seen_piece, seen_argument, seen_count};
+ghost use Rattle.rustc_parse_format.specs.Seen.{seen_position};
 ghost use Rattle.placeholder_check.specs.Uses.{count_uses, position_use};
 ghost use Rattle.call_faults.specs.Lookups.{argument_lookups, is_known, lookups_from};
 ghost use Rattle.call_faults.specs.Lookups.{piece_lookups, refer};
@@ -14,7 +15,7 @@ use std::alloc::{AllocError, Global};
 
 /// The argument that a reference wants.
 #[derive(Clone, Copy)]
-pub(crate) enum Wanted<'a> {
+pub(crate) enum ArgRef<'a> {
     /// The one of this index.
     Index(usize),
     /// The one with this name.
@@ -25,18 +26,18 @@ pub(crate) enum Wanted<'a> {
 #[derive(Clone, Copy)]
 pub(crate) enum Lookup<'a> {
     /// An argument.
-    Refer(Reference, Wanted<'a>),
+    Refer(Reference, ArgRef<'a>),
     /// A trait that does not exist, for the placeholder of this index with this type.
     NoTrait(usize, &'a str),
 }
 
 /// Returns the argument that a position wants.
-fn wanted_by<'a>(position: &Position<'a>) -> Wanted<'a>
+fn arg_ref_of<'a>(position: &Position<'a>) -> ArgRef<'a>
     ensures { seen_use result ≡ position_use (seen_position position.now) }
 {
     match position {
-        Position::ArgumentImplicitlyIs(n) | Position::ArgumentIs(n) => Wanted::Index(*n),
-        Position::ArgumentNamed(name) => Wanted::Name(name),
+        Position::ArgumentImplicitlyIs(n) | Position::ArgumentIs(n) => ArgRef::Index(*n),
+        Position::ArgumentNamed(name) => ArgRef::Name(name),
     }
 }
 
@@ -52,10 +53,10 @@ fn push_count<'a>(
 {
     match count {
         Count::CountIsParam(n) | Count::CountIsStar(n) => {
-            list.push(Lookup::Refer(reference, Wanted::Index(*n)))?;
+            list.push(Lookup::Refer(reference, ArgRef::Index(*n)))?;
         }
         Count::CountIsName(name, _) => {
-            list.push(Lookup::Refer(reference, Wanted::Name(name)))?;
+            list.push(Lookup::Refer(reference, ArgRef::Name(name)))?;
         }
         Count::CountIs(_) | Count::CountImplied => {}
     }
@@ -90,7 +91,7 @@ fn push_argument<'a>(
         ++ argument_lookups piece (seen_argument argument.now)) }
 {
     let part = Part::Position;
-    list.push(Lookup::Refer(Reference { piece, part }, wanted_by(&argument.position)))?;
+    list.push(Lookup::Refer(Reference { piece, part }, arg_ref_of(&argument.position)))?;
     let ty = argument.format.ty;
     if !is_known(ty) {
         list.push(Lookup::NoTrait(piece, ty))?;
@@ -109,7 +110,7 @@ fn push_piece<'a>(
     piece: &Piece<'a>,
 ) -> Result<(), AllocError>
     ensures { OnOk result (map seen_lookup list.new.items ≡ map seen_lookup list.old.items
-        ++ piece_lookups index (seen piece.now)) }
+        ++ piece_lookups index (seen_piece piece.now)) }
 {
     match piece {
         Piece::Lit(_) => Ok(()),
@@ -122,7 +123,8 @@ pub(crate) fn lookups_of<'a>(
     alloc: Global,
     pieces: &[Piece<'a>],
 ) -> Result<Vec<Lookup<'a>>, AllocError>
-    ensures { IfOk result (λ v. map seen_lookup v.items ≡ lookups_from 0 (map seen pieces.now)) }
+    ensures { IfOk result (λ v. map seen_lookup v.items
+        ≡ lookups_from 0 (map seen_piece pieces.now)) }
 {
     let mut list = Vec::new(alloc);
     for (index, piece) in pieces.iter().enumerate() {

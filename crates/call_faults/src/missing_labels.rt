@@ -2,7 +2,7 @@
 //! `labels`, and returns `Err` if an allocation fails.
 
 ghost use Rattle.std.specs.Prelude.{◌≡◌, ◌++◌, [], IfOk, OnOk, map, string_bytes};
-ghost use Rattle.rustc_parse_format.specs.Seen.{pair, seen, seen_count, seen_position};
+ghost use Rattle.rustc_parse_format.specs.Seen.{pair, seen_piece, seen_count, seen_position};
 ghost use Rattle.call_faults.specs.Labels.{expected_count, few_labels, is_next, next_label};
 ghost use Rattle.call_faults.specs.Labels.{next_labels, star_label, star_labels, star_of};
 ghost use Rattle.call_faults.specs.Labels.{star_text};
@@ -25,12 +25,13 @@ use text_faults::{CallLabel, Spot};
 pub(crate) fn push_missing(
     labels: &mut Vec<CallLabel>,
     pieces: &[Piece<'_>],
-    missing: &[InvalidReference],
+    references: &[InvalidReference],
 ) -> Result<(), AllocError>
     ensures { OnOk result (map seen_label labels.new.items ≡ map seen_label labels.old.items
-        ++ map (λ m. primary (reference_spot (map seen pieces.now) m.reference) []) missing.now) }
+        ++ map (λ m. primary (reference_spot (map seen_piece pieces.now) m.reference) [])
+        references.now) }
 {
-    let mut rest = missing;
+    let mut rest = references;
     while let Some((first, others)) = rest.split_first() {
         push_plain(labels, reference_spot(pieces, first.reference))?;
         rest = others;
@@ -63,7 +64,7 @@ fn push_next(
     places: &[Range<usize>],
 ) -> Result<(), AllocError>
     ensures { OnOk result (map seen_label labels.new.items ≡ map seen_label labels.old.items
-        ++ next_label (seen piece.now) (map pair places.now)) }
+        ++ next_label (seen_piece piece.now) (map pair places.now)) }
 {
     let Piece::NextArgument(argument) = piece else {
         return Ok(());
@@ -81,7 +82,7 @@ fn push_nexts(
     places: &[Range<usize>],
 ) -> Result<(), AllocError>
     ensures { OnOk result (map seen_label labels.new.items ≡ map seen_label labels.old.items
-        ++ next_labels (map seen pieces.now) (map pair places.now)) }
+        ++ next_labels (map seen_piece pieces.now) (map pair places.now)) }
 {
     let mut rest = places;
     for piece in pieces {
@@ -134,7 +135,7 @@ fn put_star(out: &mut String, index: usize, total: usize) -> Result<(), AllocErr
 /// Adds the label of a precision that takes an argument by `*`, if the piece has one.
 fn push_star(labels: &mut Vec<CallLabel>, total: usize, piece: &Piece<'_>) -> Result<(), AllocError>
     ensures { OnOk result (map seen_label labels.new.items ≡ map seen_label labels.old.items
-        ++ star_label total (seen piece.now)) }
+        ++ star_label total (seen_piece piece.now)) }
 {
     let Piece::NextArgument(argument) = piece else {
         return Ok(());
@@ -159,7 +160,7 @@ fn push_stars(
     pieces: &[Piece<'_>],
 ) -> Result<(), AllocError>
     ensures { OnOk result (map seen_label labels.new.items ≡ map seen_label labels.old.items
-        ++ star_labels total (map seen pieces.now)) }
+        ++ star_labels total (map seen_piece pieces.now)) }
 {
     for piece in pieces {
         push_star(labels, total, piece)?;

@@ -6,7 +6,8 @@ ghost use Rattle.std.specs.Prelude.{option_map, string_bytes};
 ghost use Rattle.std.specs.List.{list_any};
 ghost use Rattle.rustc_parse_format.specs.Characters.{Text};
 ghost use Rattle.rustc_parse_format.specs.Faults.{message};
-ghost use Rattle.rustc_parse_format.specs.Seen.{seen, seen_alignment, seen_count, seen_position};
+ghost use Rattle.rustc_parse_format.specs.Seen.{seen_piece, seen_alignment, seen_count};
+ghost use Rattle.rustc_parse_format.specs.Seen.{seen_position};
 ghost use Rattle.rustc_parse_format.specs.Seen.{seen_spec};
 ghost use Rattle.rustc_parse_format.specs.SeenFaults.{seen_fault as seen_text_fault};
 ghost use Rattle.call_faults.specs.Notes.{ambiguity_text, are_missing, capture_text, count_note};
@@ -44,11 +45,11 @@ fn push_plain(notes: &mut Vec<CallNote>, text: &str) -> Result<(), AllocError>
 }
 
 /// Adds a note that shows no place, if a test holds.
-fn push_if(notes: &mut Vec<CallNote>, holds: bool, text: &str) -> Result<(), AllocError>
+fn push_if(notes: &mut Vec<CallNote>, has_note: bool, text: &str) -> Result<(), AllocError>
     ensures { OnOk result (map seen_note notes.new.items
-        ≡ map seen_note notes.old.items ++ note_if holds text.now) }
+        ≡ map seen_note notes.old.items ++ note_if has_note text.now) }
 {
-    if holds {
+    if has_note {
         push_plain(notes, text)?;
     }
     Ok(())
@@ -72,8 +73,8 @@ fn capture_text(alloc: Global, name: &str) -> Result<String, AllocError>
     ensures { IfOk result (λ s. string_bytes s ≡ capture_text (chars name.now)) }
 {
     let mut text = String::new(alloc);
-    let before = "did you intend to capture a variable ";
-    put_name_between(&mut text, before, name, " from the surrounding scope?")?;
+    let front = "did you intend to capture a variable ";
+    put_name_between(&mut text, front, name, " from the surrounding scope?")?;
     Ok(text)
 }
 
@@ -140,7 +141,7 @@ fn has_flags(format: &FormatSpec<'_>) -> bool
 
 /// Returns whether a piece has more than a trait.
 fn is_flagged(piece: &Piece<'_>) -> bool
-    ensures { result ≡ is_flagged (seen piece.now) }
+    ensures { result ≡ is_flagged (seen_piece piece.now) }
 {
     match piece {
         Piece::Lit(_) => false,
@@ -150,7 +151,7 @@ fn is_flagged(piece: &Piece<'_>) -> bool
 
 /// Returns whether one of these pieces has more than a trait.
 fn are_flagged(pieces: &[Piece<'_>]) -> bool
-    ensures { result ≡ list_any is_flagged (map seen pieces.now) }
+    ensures { result ≡ list_any is_flagged (map seen_piece pieces.now) }
 {
     for piece in pieces {
         if is_flagged(piece) {
@@ -162,7 +163,7 @@ fn are_flagged(pieces: &[Piece<'_>]) -> bool
 
 /// Returns whether a piece takes an argument by `*`.
 fn has_star(piece: &Piece<'_>) -> bool
-    ensures { result ≡ has_star (seen piece.now) }
+    ensures { result ≡ has_star (seen_piece piece.now) }
 {
     match piece {
         Piece::Lit(_) => false,
@@ -172,7 +173,7 @@ fn has_star(piece: &Piece<'_>) -> bool
 
 /// Returns whether one of these pieces takes an argument by `*`.
 fn have_stars(pieces: &[Piece<'_>]) -> bool
-    ensures { result ≡ list_any has_star (map seen pieces.now) }
+    ensures { result ≡ list_any has_star (map seen_piece pieces.now) }
 {
     for piece in pieces {
         if has_star(piece) {
@@ -202,7 +203,7 @@ fn flags_note() -> &'static str
 #[tactic(auto, using(std::proofs::Common::append_assoc))]
 fn push_missing(notes: &mut Vec<CallNote>, pieces: &[Piece<'_>]) -> Result<(), AllocError>
     ensures { OnOk result (map seen_note notes.new.items
-        ≡ map seen_note notes.old.items ++ missing_notes (map seen pieces.now)) }
+        ≡ map seen_note notes.old.items ++ missing_notes (map seen_piece pieces.now)) }
 {
     let is_counted = have_numbers(pieces) || have_stars(pieces);
     push_if(notes, is_counted, count_note())?;
@@ -300,7 +301,7 @@ fn push_position<'a>(
     piece: &Piece<'a>,
 ) -> Result<(), AllocError>
     ensures { OnOk result (spots.new.items ≡ spots.old.items
-        ++ named_position (λ w. is_some (found_in names.now w)) (seen piece.now)) }
+        ++ named_position (λ w. is_some (found_in names.now w)) (seen_piece piece.now)) }
 {
     if let Piece::NextArgument(argument) = piece {
         if is_name(names, &argument.position) {
@@ -318,7 +319,7 @@ fn named_positions<'a>(
     pieces: &[Piece<'a>],
 ) -> Result<Vec<Spot>, AllocError>
     ensures { IfOk result (λ v. v.items
-        ≡ named_positions (λ w. is_some (found_in names.now w)) (map seen pieces.now)) }
+        ≡ named_positions (λ w. is_some (found_in names.now w)) (map seen_piece pieces.now)) }
 {
     let mut spots = Vec::new(alloc);
     for piece in pieces {
@@ -343,14 +344,14 @@ fn push_redundant<'a>(
     alloc: Global,
     notes: &mut Vec<CallNote>,
     call: &CallReport<'a>,
-    redundant: &[usize],
+    redundant_indices: &[usize],
 ) -> Result<(), AllocError>
     ensures { OnOk result (map seen_note notes.new.items ≡ map seen_note notes.old.items
-        ++ redundant_note (seen_call call.now) redundant.now ∷ []) }
+        ++ redundant_note (seen_call call.now) redundant_indices.now ∷ []) }
 {
-    let names = variables_of(alloc, call.arguments, redundant)?;
+    let names = variables_of(alloc, call.arguments, redundant_indices)?;
     let spots = named_positions(alloc, &names, &call.pieces)?;
-    let text = String::from_str(alloc, redundant_text(redundant.len()))?;
+    let text = String::from_str(alloc, redundant_text(redundant_indices.len()))?;
     notes.push(CallNote { text, spots })?;
     Ok(())
 }
@@ -377,9 +378,13 @@ impl<'a> CallReport<'a> {
             CallFault::MissingName { name, .. } => push_name(&mut notes, name)?,
             CallFault::UnknownTrait { .. } => push_plain(&mut notes, traits_text())?,
             CallFault::MissingArguments(_) => push_missing(&mut notes, &self.pieces)?,
-            CallFault::UnusedArguments(unused) => push_unused(&mut notes, self, unused.len())?,
-            CallFault::RedundantArguments(redundant) => {
-                push_redundant(alloc, &mut notes, self, redundant)?;
+            CallFault::UnusedArguments(unused_indices) => push_unused(
+                &mut notes,
+                self,
+                unused_indices.len(),
+            )?,
+            CallFault::RedundantArguments(redundant_indices) => {
+                push_redundant(alloc, &mut notes, self, redundant_indices)?;
             }
         }
         Ok(notes)

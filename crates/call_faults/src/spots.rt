@@ -2,7 +2,7 @@
 
 ghost use Rattle.std.specs.Prelude.{◌≡◌, ◌+◌, ◌<◌, ◌^◌, ◌++◌, ◌∷◌, [], IfOk, OnOk, map, option_map};
 ghost use Rattle.std.specs.List.{slice_get};
-ghost use Rattle.rustc_parse_format.specs.Seen.{pair, seen, seen_argument, seen_count};
+ghost use Rattle.rustc_parse_format.specs.Seen.{pair, seen_piece, seen_argument, seen_count};
 ghost use Rattle.call_faults.specs.Spots.{rest_after, after_dot, count_spot, count_with};
 ghost use Rattle.text_faults.specs.Spots.{bytes_at};
 ghost use Rattle.call_faults.specs.Spots.{counts_before, index_spot};
@@ -119,7 +119,7 @@ pub(crate) fn spot_of(span: &Option<Range<usize>>) -> Spot
 /// Returns the placeholder with an index among pieces, or `None` if that is text or after the end.
 fn placeholder_at<'p, 'a>(pieces: &'p [Piece<'a>], index: usize) -> Option<&'p Argument<'a>>
     ensures { option_map (λ a. seen_argument a.now) result
-        ≡ placeholder_at (map seen pieces.now) index }
+        ≡ placeholder_at (map seen_piece pieces.now) index }
 {
     match pieces.get(index) {
         Some(Piece::NextArgument(argument)) => Some(argument),
@@ -140,7 +140,7 @@ fn part_spot(argument: &Argument<'_>, part: Part) -> Spot
 
 /// Returns where a reference is.
 pub(crate) fn reference_spot(pieces: &[Piece<'_>], reference: Reference) -> Spot
-    ensures { result ≡ reference_spot (map seen pieces.now) reference }
+    ensures { result ≡ reference_spot (map seen_piece pieces.now) reference }
 {
     match placeholder_at(pieces, reference.piece) {
         None => Spot::Literal,
@@ -172,7 +172,7 @@ fn name_spot(argument: &Argument<'_>, part: Part) -> Spot
 
 /// Returns where the name of a reference is.
 pub(crate) fn named_spot(pieces: &[Piece<'_>], reference: Reference) -> Spot
-    ensures { result ≡ named_spot (map seen pieces.now) reference }
+    ensures { result ≡ named_spot (map seen_piece pieces.now) reference }
 {
     match placeholder_at(pieces, reference.piece) {
         None => Spot::Literal,
@@ -182,7 +182,7 @@ pub(crate) fn named_spot(pieces: &[Piece<'_>], reference: Reference) -> Spot
 
 /// Returns where the type of the placeholder with an index is.
 pub(crate) fn type_spot(pieces: &[Piece<'_>], index: usize) -> Spot
-    ensures { result ≡ type_spot (map seen pieces.now) index }
+    ensures { result ≡ type_spot (map seen_piece pieces.now) index }
 {
     match placeholder_at(pieces, index) {
         None => Spot::Literal,
@@ -192,7 +192,7 @@ pub(crate) fn type_spot(pieces: &[Piece<'_>], index: usize) -> Spot
 
 /// Returns the places of the placeholders after a piece, from those from that piece on.
 pub(crate) fn rest_after<'p>(piece: &Piece<'_>, places: &'p [Range<usize>]) -> &'p [Range<usize>]
-    ensures { map pair result.now ≡ rest_after (seen piece.now) (map pair places.now) }
+    ensures { map pair result.now ≡ rest_after (seen_piece piece.now) (map pair places.now) }
 {
     match piece {
         Piece::Lit(_) => places,
@@ -206,7 +206,7 @@ pub(crate) fn rest_after<'p>(piece: &Piece<'_>, places: &'p [Range<usize>]) -> &
 /// Returns the number of placeholders up to a piece, where so many stand before it.
 fn count_with(count: usize, piece: &Piece<'_>) -> usize
     requires { count + 1 < 2 ^ 64 }
-    ensures { result ≡ count_with count (seen piece.now) }
+    ensures { result ≡ count_with count (seen_piece piece.now) }
 {
     match piece {
         Piece::Lit(_) => count,
@@ -217,7 +217,7 @@ fn count_with(count: usize, piece: &Piece<'_>) -> usize
 /// Returns of each of these pieces how many placeholders stand before it. Returns `Err` if an
 /// allocation fails.
 pub(crate) fn counts_before(alloc: Global, pieces: &[Piece<'_>]) -> Result<Vec<usize>, AllocError>
-    ensures { IfOk result (λ v. v.items ≡ counts_before 0 (map seen pieces.now)) }
+    ensures { IfOk result (λ v. v.items ≡ counts_before 0 (map seen_piece pieces.now)) }
 {
     let mut counts = Vec::with_capacity(alloc, pieces.len())?;
     let mut count = 0;
@@ -274,7 +274,8 @@ pub(crate) fn use_spot(
     places: &[Range<usize>],
     reference: Reference,
 ) -> Spot
-    ensures { result ≡ use_spot (map seen pieces.now) counts.now (map pair places.now) reference }
+    ensures { result ≡ use_spot (map seen_piece pieces.now) counts.now
+        (map pair places.now) reference }
 {
     match placeholder_at(pieces, reference.piece) {
         None => Spot::Literal,
@@ -289,7 +290,7 @@ pub(crate) fn use_spot(
 /// Returns where a reference has the index of its argument: its position, or its width or its
 /// precision without its dot.
 pub(crate) fn index_spot(pieces: &[Piece<'_>], reference: Reference) -> Spot
-    ensures { result ≡ index_spot (map seen pieces.now) reference }
+    ensures { result ≡ index_spot (map seen_piece pieces.now) reference }
 {
     match placeholder_at(pieces, reference.piece) {
         None => Spot::Literal,

@@ -5,7 +5,7 @@ ghost use Rattle.std.specs.Prelude.{◌≡◌, ◌++◌, ◌∷◌, [], OnOk, ch
 ghost use Rattle.std.specs.Prelude.{if◌then◌else◌, string_bytes};
 ghost use Rattle.std.specs.List.{list_any, slice_get};
 ghost use Rattle.rustc_parse_format.specs.Faults.{message};
-ghost use Rattle.rustc_parse_format.specs.Seen.{seen, seen_count, seen_position};
+ghost use Rattle.rustc_parse_format.specs.Seen.{seen_piece, seen_count, seen_position};
 ghost use Rattle.rustc_parse_format.specs.SeenFaults.{seen_fault as seen_text_fault};
 ghost use Rattle.placeholder_check.specs.Report.{IsReport, Report};
 ghost use Rattle.placeholder_check.specs.Uses.{uses};
@@ -163,7 +163,7 @@ fn is_number(position: &Position<'_>) -> bool
 
 /// Returns whether a piece refers to an argument by a number that is written.
 fn has_number(piece: &Piece<'_>) -> bool
-    ensures { result ≡ has_number (seen piece.now) }
+    ensures { result ≡ has_number (seen_piece piece.now) }
 {
     match piece {
         Piece::Lit(_) => false,
@@ -177,7 +177,7 @@ fn has_number(piece: &Piece<'_>) -> bool
 
 /// Returns whether pieces refer to an argument by a number that is written.
 pub(crate) fn have_numbers(pieces: &[Piece<'_>]) -> bool
-    ensures { result ≡ list_any has_number (map seen pieces.now) }
+    ensures { result ≡ list_any has_number (map seen_piece pieces.now) }
 {
     for piece in pieces {
         if has_number(piece) {
@@ -248,10 +248,10 @@ pub(crate) fn never_used(arguments: &[FormatArgument<'_>], index: usize) -> &'st
 }
 
 /// Returns the title of arguments that are not used.
-fn unused_title(arguments: &[FormatArgument<'_>], unused: &[usize]) -> &'static str
-    ensures { result.now ≡ unused_title (map seen_given arguments.now) unused.now }
+fn unused_title(arguments: &[FormatArgument<'_>], unused_indices: &[usize]) -> &'static str
+    ensures { result.now ≡ unused_title (map seen_given arguments.now) unused_indices.now }
 {
-    match unused {
+    match unused_indices {
         [index] => never_used(arguments, *index),
         _ => "multiple unused formatting arguments",
     }
@@ -270,9 +270,9 @@ fn put_text_title(alloc: Global, out: &mut String, fault: &Fault<'_>) -> Result<
 
 /// Adds the title of missing arguments.
 fn put_missing(out: &mut String, call: &CallReport<'_>) -> Result<(), AllocError>
-    ensures { OnOk result ((r : Report) → IsReport (uses (map seen call.now.pieces.items))
+    ensures { OnOk result ((r : Report) → IsReport (uses (map seen_piece call.now.pieces.items))
         (length call.now.indices.items) [] r → string_bytes out.new ≡ string_bytes out.old
-        ++ (if list_any has_number (map seen call.now.pieces.items)
+        ++ (if list_any has_number (map seen_piece call.now.pieces.items)
         then numbers_title r.missing_index (length call.now.indices.items)
         else few_title call.now.parser.next (length call.now.indices.items))) }
 {
@@ -289,7 +289,7 @@ fn put_missing(out: &mut String, call: &CallReport<'_>) -> Result<(), AllocError
 
 impl<'a> CallReport<'a> {
     ghost use Rattle.std.specs.Prelude.{◌≡◌, ◌++◌, [], OnOk, length, map, string_bytes};
-    ghost use Rattle.rustc_parse_format.specs.Seen.{seen};
+    ghost use Rattle.rustc_parse_format.specs.Seen.{seen_piece};
     ghost use Rattle.placeholder_check.specs.Report.{IsReport, Report};
     ghost use Rattle.placeholder_check.specs.Uses.{uses};
     ghost use Rattle.call_faults.specs.Seen.{seen_fault, title_parts};
@@ -299,7 +299,7 @@ impl<'a> CallReport<'a> {
     /// an allocation fails; a part may then be at the end of `out`.
     #[tactic(auto, unfolding(crate::specs::Words::title))]
     pub fn put_title(&self, out: &mut String, fault: &CallFault<'a>) -> Result<(), AllocError>
-        ensures { OnOk result ((r : Report) → IsReport (uses (map seen self.now.pieces.items))
+        ensures { OnOk result ((r : Report) → IsReport (uses (map seen_piece self.now.pieces.items))
             (length self.now.indices.items) [] r → string_bytes out.new ≡ string_bytes out.old
             ++ title (title_parts self.now r.missing_index) (seen_fault fault.now)) }
     {
@@ -326,12 +326,12 @@ impl<'a> CallReport<'a> {
                 put_missing(out, self)?;
                 Ok(())
             }
-            CallFault::UnusedArguments(unused) => {
-                out.push_str(unused_title(self.arguments, unused))?;
+            CallFault::UnusedArguments(unused_indices) => {
+                out.push_str(unused_title(self.arguments, unused_indices))?;
                 Ok(())
             }
-            CallFault::RedundantArguments(redundant) => {
-                put_noun(out, "redundant argument", redundant.len())
+            CallFault::RedundantArguments(redundant_indices) => {
+                put_noun(out, "redundant argument", redundant_indices.len())
             }
             CallFault::NameUsedByIndex { index, .. } => {
                 put_name_between(

@@ -13,7 +13,7 @@ use Rattle.format_calls.specs.Modes.{is_text}
 use Rattle.call_forms.specs.declared.generics.Place.{Place}
 use Rattle.call_forms.specs.Generics.{angles_after, closes, ended, is_char, parameter, parameters}
 use Rattle.call_forms.specs.Generics.{parameters_from, place_after, plain_after, start}
-use Rattle.call_forms.specs.Generics.{with_opens}
+use Rattle.call_forms.specs.Generics.{with_delimiters}
 
 angles-few : (p : Place) (x : Leaf) → angles_after p x ≤ p.angles + 1
 angles-few p x = by_mark (is_char (code "<") x) (is_char (code ">") x && not p.is_arrow)
@@ -26,17 +26,19 @@ angles-few p x = by_mark (is_char (code "<") x) (is_char (code ">") x && not p.i
 
 -- A token opens one at most.
 pub place-few : (p : Place) (x : Leaf)
-    → (place_after p x).angles + (place_after p x).opens ≤ p.angles + p.opens + 1
+    → (place_after p x).angles + (place_after p x).open_delimiters
+    ≤ p.angles + p.open_delimiters + 1
 place-few p x = by_kind (is_text x (codes "trait")) (is_opening (side x)) (closes (side x))
-    (p.opens == 0)
+    (p.open_delimiters == 0)
   where
     by_kind : (t o c z : Bool)
-        → (if t then ended else (if o then with_opens p (p.opens + 1) else
-        (if c then (if z then ended else with_opens p (p.opens - 1)) else
-        (if z then plain_after p x else with_opens p p.opens)))).angles
-        + (if t then ended else (if o then with_opens p (p.opens + 1) else
-        (if c then (if z then ended else with_opens p (p.opens - 1)) else
-        (if z then plain_after p x else with_opens p p.opens)))).opens ≤ p.angles + p.opens + 1
+        → (if t then ended else (if o then with_delimiters p (p.open_delimiters + 1) else
+        (if c then (if z then ended else with_delimiters p (p.open_delimiters - 1)) else
+        (if z then plain_after p x else with_delimiters p p.open_delimiters)))).angles
+        + (if t then ended else (if o then with_delimiters p (p.open_delimiters + 1) else
+        (if c then (if z then ended else with_delimiters p (p.open_delimiters - 1)) else
+        (if z then plain_after p x else with_delimiters p p.open_delimiters)))).open_delimiters
+        ≤ p.angles + p.open_delimiters + 1
     by_kind true o c z = omega arith
     by_kind false true c z = omega arith
     by_kind false false true true = omega arith
@@ -45,11 +47,11 @@ place-few p x = by_kind (is_text x (codes "trait")) (is_opening (side x)) (close
     by_kind false false false false = omega arith
 
 pub few-step : {A : Type 0} (f : A → Leaf) (ts : List A) (i : ℕ) (d : A) (p q : Place) (n : ℕ)
-    → i < length ts → q ≡ place_after p (f (get_or ts i d)) → p.angles + p.opens ≤ n
-    → q.angles + q.opens ≤ n + 1
+    → i < length ts → q ≡ place_after p (f (get_or ts i d)) → p.angles + p.open_delimiters ≤ n
+    → q.angles + q.open_delimiters ≤ n + 1
 few-step f ts i d p q n l e h =
     let k = place-few p (f (get_or ts i d)) in
-    subst (λ (v : Place). v.angles + v.opens ≤ n + 1) (sym e) (omega (arith, k, h))
+    subst (λ (v : Place). v.angles + v.open_delimiters ≤ n + 1) (sym e) (omega (arith, k, h))
 
 from-open : (p : Place) (x : Leaf) (xs : List Leaf) → (p.angles == 0) ≡ false
     → parameters_from p (x ∷ xs) ≡ parameter p x ++ parameters_from (place_after p x) xs

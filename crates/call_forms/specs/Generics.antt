@@ -23,7 +23,7 @@ is_char m x = is_mark_of m (Some x)
 
 -- The token is the name of a parameter, where one may stand: a word, but not `const`.
 abbrev pub names : Place → Leaf → Bool
-names p x = p.opens == 0 && (p.is_first && (is_word x && not (is_text x (codes "const"))))
+names p x = p.open_delimiters == 0 && (p.is_first && (is_word x && not (is_text x (codes "const"))))
 
 -- The angles that are open after a token outside of delimiters. The `>` of `->` closes none.
 abbrev pub angles_after : Place → Leaf → ℕ
@@ -38,25 +38,27 @@ first_after p x = (p.angles == 1 && is_char (code ",") x) || (p.is_first && not 
 abbrev pub plain_after : Place → Leaf → Place
 plain_after p x = record {
   angles = angles_after p x;
-  opens = 0;
+  open_delimiters = 0;
   is_first = first_after p x;
   is_arrow = is_char (code "-") x;
 }
 
 -- The place with this many open delimiters.
-abbrev pub with_opens : Place → ℕ → Place
-with_opens p n = record { angles = p.angles; opens = n; is_first = p.is_first; is_arrow = false }
+abbrev pub with_delimiters : Place → ℕ → Place
+with_delimiters p n = record
+    { angles = p.angles; open_delimiters = n; is_first = p.is_first; is_arrow = false }
 
 -- The list has ended.
 abbrev pub ended : Place
-ended = record { angles = 0; opens = 0; is_first = false; is_arrow = false }
+ended = record { angles = 0; open_delimiters = 0; is_first = false; is_arrow = false }
 
 -- The place after a token of the list, which ends at the latest before another trait.
 abbrev pub place_after : Place → Leaf → Place
 place_after p x = if is_text x (codes "trait") then ended else
-    (if is_opening (side x) then with_opens p (p.opens + 1) else
-    (if closes (side x) then (if p.opens == 0 then ended else with_opens p (p.opens - 1)) else
-    (if p.opens == 0 then plain_after p x else with_opens p p.opens)))
+    (if is_opening (side x) then with_delimiters p (p.open_delimiters + 1) else
+    (if closes (side x) then
+    (if p.open_delimiters == 0 then ended else with_delimiters p (p.open_delimiters - 1)) else
+    (if p.open_delimiters == 0 then plain_after p x else with_delimiters p p.open_delimiters)))
 
 -- The name of the parameter that a token is, if it is one.
 abbrev pub parameter : Place → Leaf → List (List ℕ)
@@ -70,7 +72,7 @@ parameters_from p (x ∷ xs) = if p.angles == 0 then []
 
 -- The place after the `<` of a list.
 abbrev pub start : Place
-start = record { angles = 1; opens = 0; is_first = true; is_arrow = false }
+start = record { angles = 1; open_delimiters = 0; is_first = true; is_arrow = false }
 
 -- The names of the parameters whose list opens with the token i, if it is `<`.
 abbrev pub parameters : List Leaf → ℕ → List (List ℕ)

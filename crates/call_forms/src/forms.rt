@@ -26,7 +26,7 @@ pub enum Form<'a> {
     /// The format string is no string literal.
     NoLiteral {
         /// How many arguments stand after it.
-        others: usize,
+        other_count: usize,
         /// Whether it is a byte string literal.
         is_bytes: bool,
     },
@@ -60,15 +60,15 @@ fn is_bytes(tokens: &[Token<'_>]) -> bool
 
 /// Returns what is wrong with an argument that should be the format string, where so many others
 /// stand after it, or `None` if nothing is known to be.
-fn literal_form<'a>(tokens: &[Token<'a>], others: usize) -> Option<Form<'a>>
-    ensures { option_map seen_form result ≡ literal_form others (map leaf tokens.now) }
+fn literal_form<'a>(tokens: &[Token<'a>], other_count: usize) -> Option<Form<'a>>
+    ensures { option_map seen_form result ≡ literal_form other_count (map leaf tokens.now) }
 {
     let Some(first) = tokens.first() else {
         return None;
     };
     if !matches!(first.kind, Kind::Str | Kind::RawStr) && is_operand(first) && are_path(tokens) {
         return Some(Form::NoLiteral {
-            others,
+            other_count,
             is_bytes: is_bytes(tokens),
         });
     }
@@ -190,33 +190,41 @@ fn is_last(arguments: &[Argument], index: usize, close: usize) -> bool
     }
 }
 
-/// Returns what is wrong with arguments of which the one with the index `bad` is no expression, and
-/// the one with the index `string` should be the format string. `is_last` is whether the end of the
-/// call follows the one that is no expression.
+/// Returns what is wrong with arguments of which the one with the index `bad_index` is no
+/// expression, and the one with the index `string_index` should be the format string. `is_last` is
+/// whether the end of the call follows the one that is no expression.
 #[tactic(auto, using(crate::proofs::Texts::at_index))]
 fn form_at<'a>(
     part: &Part<'a>,
     arguments: &[Argument],
-    string: usize,
-    bad: usize,
+    string_index: usize,
+    bad_index: usize,
     is_last: bool,
 ) -> Option<Form<'a>>
-    ensures { option_map seen_form result ≡ form_at is_last string bad
-        (slice_get (map (tokens_of part.now) arguments.now) bad) }
+    ensures { option_map seen_form result ≡ form_at is_last string_index bad_index
+        (slice_get (map (tokens_of part.now) arguments.now) bad_index) }
 {
-    match arguments.get(bad) {
-        Some(argument) if bad >= string => { bad_form(part, argument, bad, bad == string, is_last) }
+    match arguments.get(bad_index) {
+        Some(argument) if bad_index >= string_index => {
+            bad_form(
+                part,
+                argument,
+                bad_index,
+                bad_index == string_index,
+                is_last,
+            )
+        }
         _ => None,
     }
 }
 
 /// Returns whether all arguments before the one with an index are expressions, where the one with
-/// the index `bad`, if any, is the first that is none.
-fn starts_well(bad: Option<usize>, index: usize) -> bool
-    ensures { result ≡ starts_well index bad }
+/// the index `bad_index`, if any, is the first that is none.
+fn starts_well(bad_index: Option<usize>, index: usize) -> bool
+    ensures { result ≡ starts_well index bad_index }
 {
-    match bad {
-        Some(bad) => bad >= index,
+    match bad_index {
+        Some(bad_index) => bad_index >= index,
         None => true,
     }
 }
@@ -255,14 +263,20 @@ fn form_of<'a>(
     if have_variables(part, arguments) {
         return None;
     }
-    let bad = first_bad(part, arguments);
+    let bad_index = first_bad(part, arguments);
     if let Some(string) = part_at(part.tokens(), arguments, index) {
-        if starts_well(bad, index) && has_more(string) {
+        if starts_well(bad_index, index) && has_more(string) {
             return comma_form(string);
         }
     }
-    match bad {
-        Some(bad) => form_at(part, arguments, index, bad, is_last(arguments, bad, close)),
+    match bad_index {
+        Some(bad_index) => form_at(
+            part,
+            arguments,
+            index,
+            bad_index,
+            is_last(arguments, bad_index, close),
+        ),
         None => match part_at(part.tokens(), arguments, index) {
             Some(string) => literal_form(string, others_after(arguments, index)),
             None => {

@@ -4,7 +4,7 @@ ghost use Rattle.std.specs.Prelude.{◌≡◌, ◌+◌, ◌<◌, ◌^◌, ◌++�
 ghost use Rattle.rust_trees.specs.Leaves.{leaf};
 ghost use Rattle.call_forms.specs.Generics.{angles_after, ended, first_after, names, parameter};
 ghost use Rattle.call_forms.specs.Generics.{parameters, place_after, plain_after, start};
-ghost use Rattle.call_forms.specs.Generics.{parameters_from, with_opens};
+ghost use Rattle.call_forms.specs.Generics.{parameters_from, with_delimiters};
 
 use format_calls::{is_mark, is_mark_of, is_text, is_word};
 use rust_trees::{Side, Token, is_opening};
@@ -16,7 +16,7 @@ pub struct Place {
     /// How many angles are open.
     pub angles: usize,
     /// How many delimiters are open.
-    pub opens: usize,
+    pub open_delimiters: usize,
     /// Whether a parameter may begin.
     pub is_first: bool,
     /// Whether `-` stands before it.
@@ -27,7 +27,7 @@ pub struct Place {
 fn names(place: Place, token: &Token<'_>) -> bool
     ensures { result ≡ names place (leaf token.now) }
 {
-    place.opens == 0 && place.is_first && is_word(token) && !is_text(token, "const")
+    place.open_delimiters == 0 && place.is_first && is_word(token) && !is_text(token, "const")
 }
 
 /// Returns how many angles are open after a token outside of delimiters.
@@ -58,19 +58,19 @@ fn plain_after(place: Place, token: &Token<'_>) -> Place
 {
     Place {
         angles: angles_after(place, token),
-        opens: 0,
+        open_delimiters: 0,
         is_first: first_after(place, token),
         is_arrow: is_mark_of(token, b'-'),
     }
 }
 
 /// Returns a place with this many open delimiters.
-fn with_opens(place: Place, opens: usize) -> Place
-    ensures { result ≡ with_opens place opens }
+fn with_delimiters(place: Place, open_delimiters: usize) -> Place
+    ensures { result ≡ with_delimiters place open_delimiters }
 {
     Place {
         angles: place.angles,
-        opens,
+        open_delimiters,
         is_first: place.is_first,
         is_arrow: false,
     }
@@ -82,7 +82,7 @@ fn end_place() -> Place
 {
     Place {
         angles: 0,
-        opens: 0,
+        open_delimiters: 0,
         is_first: false,
         is_arrow: false,
     }
@@ -91,25 +91,25 @@ fn end_place() -> Place
 /// Returns the place after a token of a list, which ends at the latest before another trait.
 fn place_after(place: Place, token: &Token<'_>) -> Place
     requires angles { place.angles + 1 < 2 ^ 64 }
-    requires opens { place.opens + 1 < 2 ^ 64 }
+    requires open_delimiters { place.open_delimiters + 1 < 2 ^ 64 }
     ensures { result ≡ place_after place (leaf token.now) }
 {
     if is_text(token, "trait") {
         return end_place();
     }
     if is_opening(token.side()) {
-        return with_opens(place, place.opens + 1);
+        return with_delimiters(place, place.open_delimiters + 1);
     }
     if matches!(token.side(), Side::Closes(_)) {
-        if place.opens == 0 {
+        if place.open_delimiters == 0 {
             return end_place();
         }
-        return with_opens(place, place.opens - 1);
+        return with_delimiters(place, place.open_delimiters - 1);
     }
-    if place.opens == 0 {
+    if place.open_delimiters == 0 {
         plain_after(place, token)
     } else {
-        with_opens(place, place.opens)
+        with_delimiters(place, place.open_delimiters)
     }
 }
 
@@ -145,7 +145,7 @@ pub fn parameters<'a>(
     }
     let mut place = Place {
         angles: 1,
-        opens: 0,
+        open_delimiters: 0,
         is_first: true,
         is_arrow: false,
     };

@@ -311,8 +311,8 @@ fn lacks_after(tokens: &[Token<'_>], last: &Token<'_>) -> bool
         return is_prefix(last);
     }
     let second = token_at(tokens, count.saturating_sub(2));
-    let before = token_at(tokens, count.saturating_sub(3));
-    ends_by(tokens, operator_len(before, second, last))
+    let previous = token_at(tokens, count.saturating_sub(3));
+    ends_by(tokens, operator_len(previous, second, last))
 }
 
 /// Returns whether tokens end with an operator that needs an operand after it.

@@ -5,7 +5,8 @@
 ghost use Rattle.std.specs.Prelude.{◌≡◌, ◌<◌, IfNone, IfSome, Some};
 ghost use Rattle.rustc_parse_format.specs.Types.{Mode};
 ghost use Rattle.flat_reading.specs.Meant.{is_set};
-ghost use Rattle.flat_reading.specs.Asked.{Fits, IsCounted, IsKept, IsDescribed, begun, buffers};
+ghost use Rattle.flat_reading.specs.Asked.{Fits, IsCounted, IsKept, IsDescribed, first_state_of};
+ghost use Rattle.flat_reading.specs.Asked.{buffers};
 ghost use Rattle.flat_reading.specs.Asked.{mode_meant, refusal};
 
 use flat_reading::read::read;
@@ -51,10 +52,10 @@ pub extern "C" fn dephungo_read(
     // says; the records past these lengths in a buffer are unchanged.
     ensures counted { result < 2 → (m : Mode) → mode_meant options.now.mode ≡ Some m
         → IsCounted (is_set options.now.wants_peeks)
-        (begun m options.now input.now snippet.now) answer.new }
+        (first_state_of m options.now input.now snippet.now) answer.new }
     ensures described { result ≡ DONE → (m : Mode) → mode_meant options.now.mode ≡ Some m
         → IsDescribed (is_set options.now.wants_peeks)
-        (begun m options.now input.now snippet.now) input.now
+        (first_state_of m options.now input.now snippet.now) input.now
         (buffers steps.new specs.new faults.new texts.new lines.new) answer.new }
     ensures done { result ≡ DONE
         → Fits (buffers steps.old specs.old faults.old texts.old lines.old) answer.new }
@@ -65,11 +66,11 @@ pub extern "C" fn dephungo_read(
         (buffers steps.new specs.new faults.new texts.new lines.new) }
     ensures refused_memory { result ≡ NO_MEMORY → answer.new ≡ answer.old }
 {
-    let asked = match task_of(input, snippet, options) {
-        Ok(asked) => asked,
+    let request = match task_of(input, snippet, options) {
+        Ok(request) => request,
         Err(code) => return code,
     };
-    let Ok(()) = read(alloc, asked, steps, specs, faults, texts, lines, answer) else {
+    let Ok(()) = read(alloc, request, steps, specs, faults, texts, lines, answer) else {
         return NO_MEMORY;
     };
     let fits = answer.steps <= steps.len()

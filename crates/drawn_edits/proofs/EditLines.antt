@@ -12,14 +12,14 @@ use Rattle.std.proofs.lemmas.List.Sums.{fails_before_first}
 use Rattle.std.proofs.lemmas.Str.{IsCharBoundary-at_seam, encodes-append, encodes-chars}
 use Rattle.rustc_parse_format.specs.Characters.{Text}
 use Rattle.drawn_edits.specs.Edited.{Page, with_line, with_texts}
-use Rattle.drawn_lines.specs.Places.{is_line_feed, within}
+use Rattle.drawn_lines.specs.Places.{is_line_feed, front_within}
 use Rattle.drawn_lines.specs.declared.paint.Style.{Style}
 
 -- The part of a text that is passed, and the rest of it and of the bytes.
 pub record IsPassed (text rest : List ℕ) (width left : ℕ) : Type 0 where
   pub passed : Text
   pub whole : text ≡ encode_utf8_all passed ++ rest
-  pub same : within width (chars text) ≡ passed ++ within left (chars rest)
+  pub same : front_within width (chars text) ≡ passed ++ front_within left (chars rest)
 
 -- A character more is passed.
 pub pass-one : (text rest tail : List ℕ) (width left c : ℕ) → IsUtf8 rest → IsUtf8 tail
@@ -37,9 +37,9 @@ pass-one text rest tail width left c u v e h p =
       passed = p.passed ++ c ∷ [];
       whole = p.whole ∙ ap (λ t. xs ++ t) whole ∙ sym (append_assoc xs (encode_utf8 c) tail)
           ∙ ap (λ t. t ++ tail) (sym added);
-      same = p.same ∙ ap (λ t. p.passed ++ within left t) e
-          ∙ ap (λ b. p.passed ++ cond b [] (c ∷ within (left - len_utf8 c) (chars tail))) test
-          ∙ sym (append_assoc p.passed (c ∷ []) (within (left - len_utf8 c) (chars tail)));
+      same = p.same ∙ ap (λ t. p.passed ++ front_within left t) e
+          ∙ ap (λ b. p.passed ++ cond b [] (c ∷ front_within (left - len_utf8 c) (chars tail))) test
+          ∙ sym (append_assoc p.passed (c ∷ []) (front_within (left - len_utf8 c) (chars tail)));
     }
 
 -- How much is passed.

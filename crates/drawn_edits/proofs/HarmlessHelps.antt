@@ -9,13 +9,14 @@ use Rattle.rustc_parse_format.specs.Characters.{Text}
 use Rattle.drawn_edits.specs.Edited.{are_blank, do_remove, is_added, is_same_end, new_lines}
 use Rattle.drawn_edits.specs.Edited.{old_lines, Edit}
 use Rattle.drawn_lines.specs.Glyphs.{IsHarmless, run}
-use Rattle.drawn_edits.specs.Helps.{after_pluses, changed_row, changed_rows, columns_of, drawn}
+use Rattle.drawn_edits.specs.Helps.{after_pluses, changed_row, changed_rows, columns_of}
+use Rattle.drawn_edits.specs.Helps.{drawn_pieces}
 use Rattle.drawn_edits.specs.Helps.{edited_parts, edits_rows, have_bytes, cells_of, help_word}
 use Rattle.drawn_edits.specs.Helps.{inserted_rows, is_whole, kept_lines, kept_row, kept_rows}
 use Rattle.drawn_edits.specs.Helps.{lone_addition, lone_sign, new_row, new_rows, plus_signs, pluses}
 use Rattle.drawn_edits.specs.Helps.{replaced_rows, rows_from, sign_row, sign_rows}
 use Rattle.drawn_lines.specs.Frames.{Frame}
-use Rattle.drawn_lines.specs.Painting.{IsColourOf, Piece, painted, piece, plain_text}
+use Rattle.drawn_lines.specs.Painting.{IsColourOf, Piece, painted_text, piece, plain_text}
 use Rattle.drawn_lines.specs.declared.paint.Palette.{Palette}
 use Rattle.drawn_lines.specs.declared.paint.Palette.TheVariants.{Colourless}
 use Rattle.drawn_lines.specs.declared.paint.Style.{Style}
@@ -33,7 +34,7 @@ of_help_word p =
     join (of_painted p Help (harmless_text (codes "help") refl)) (text (codes ": ") refl)
 
 -- rows of lines
-quiet-drawn : (xs : List Piece) → AreQuiet (drawn xs)
+quiet-drawn : (xs : List Piece) → AreQuiet (drawn_pieces xs)
 quiet-drawn [] = tt
 quiet-drawn (x ∷ xs) = (glyphs-harmless (chars x.text), quiet-drawn xs)
 
@@ -41,7 +42,7 @@ of_sign_row : (f : Frame) (s : Style) {sign : List ℕ} (n : ℕ) (xs : List Pie
     → IsColourOf (sign_row f s sign n xs) (sign_row (plain_frame f) s sign n xs)
 unfolding sign_row
 of_sign_row f s {sign = sign} n xs h =
-    let ys : List Piece = piece s sign ∷ drawn xs in
+    let ys : List Piece = piece s sign ∷ drawn_pieces xs in
     let q : AreQuiet ys = (h, quiet-drawn xs) in
     join (of_numbered f n) (join (text (codes " ") refl)
     (join (of_pieces f.gutter.palette ys q) (text (codes "\n") refl)))
@@ -57,8 +58,8 @@ of_kept_row : (f : Frame) (n : ℕ) (xs : List Piece)
 unfolding kept_row
 of_kept_row f n xs =
     join (of_number_bar f n)
-    (join (either (length (plain_text (drawn xs)) == 0) nothing
-    (join (text (codes " ") refl) (plain (quiet-plain (drawn xs) (quiet-drawn xs)))))
+    (join (either (length (plain_text (drawn_pieces xs)) == 0) nothing
+    (join (text (codes " ") refl) (plain (quiet-plain (drawn_pieces xs) (quiet-drawn xs)))))
     (text (codes "\n") refl))
 
 of_kept_rows : (f : Frame) (n : ℕ) (ls : List (List Piece))
@@ -121,8 +122,8 @@ of_replaced f n old new =
     (of_sign_rows f Removal n (take (length old - 1) old) minus)
     (join (of_sign_rows f Removal n old minus) (of_new_row f n new))
 
-of_signs : (p : Palette) (n m : ℕ) → IsColourOf (run n 32 ++ painted p Addition (run m 43))
-    (run n 32 ++ painted Colourless Addition (run m 43))
+of_signs : (p : Palette) (n m : ℕ) → IsColourOf (run n 32 ++ painted_text p Addition (run m 43))
+    (run n 32 ++ painted_text Colourless Addition (run m 43))
 of_signs p n m =
     join (spaces n) (of_painted p Addition (run-harmless m 43 (written-harmless 43 refl)))
 

@@ -14,12 +14,12 @@ use Rattle.std.proofs.lemmas.List.Sums.{sum_by-append, sum_by-cons}
 use Rattle.std.proofs.lemmas.Str.{encode_ascii}
 use Rattle.rustc_parse_format.specs.Characters.{Text}
 use Rattle.drawn_lines.specs.Glyphs.{run, width}
-use Rattle.drawn_lines.specs.Painting.{has_colours, painted}
+use Rattle.drawn_lines.specs.Painting.{has_colours, painted_text}
 use Rattle.drawn_lines.specs.declared.paint.Palette.{Palette}
 use Rattle.drawn_lines.specs.declared.paint.Style.TheVariants.{Addition}
 use Rattle.drawn_lines.proofs.Joining.{painted-plain}
 use Rattle.drawn_edits.specs.Helps.{after_pluses, columns_of, pluses}
-use Rattle.drawn_edits.specs.PlusSigns.{columns, signed}
+use Rattle.drawn_edits.specs.PlusSigns.{columns, signed_text}
 use Rattle.drawn_edits.proofs.WhiteSpace.{Blank, Found, drop-first, end, skip-front, start}
 
 -- the columns of a text, with those before it
@@ -31,12 +31,12 @@ columns-of n (c ∷ t) = omega (arith, columns-of (n + width c) t, sum_by-cons w
 pub record Spread (t : Text) : Type 0 where
   pub front : Text
   pub back : Text
-  pub whole : t ≡ front ++ (signed t ++ back)
+  pub whole : t ≡ front ++ (signed_text t ++ back)
   pub is_white : list_all is_whitespace front ≡ true
   pub drawn : (p : Palette) (n : ℕ) → has_colours p ≡ false
-      → pluses p n t ≡ run (n + columns front) 32 ++ run (columns (signed t)) 43
-  pub after : columns front + columns (signed t) + after_pluses t ≡ columns t
-  pub only : (f b : Text) → t ≡ f ++ (signed t ++ b) → list_all is_whitespace f ≡ true
+      → pluses p n t ≡ run (n + columns front) 32 ++ run (columns (signed_text t)) 43
+  pub after : columns front + columns (signed_text t) + after_pluses t ≡ columns t
+  pub only : (f b : Text) → t ≡ f ++ (signed_text t ++ b) → list_all is_whitespace f ≡ true
       → columns f ≡ columns front
 
 -- the columns after these signs, by the text without the white space at its start
@@ -48,51 +48,51 @@ after-by back =
 -- the signs of a text, as `put_pluses` adds them
 pub pluses-blank : (p : Palette) (n : ℕ) (t : Text)
     → (length (skip_leading_whitespace t) == 0) ≡ true
-    → pluses p n t ≡ run n 32 ++ painted p Addition (run (columns_of 0 t) 43)
+    → pluses p n t ≡ run n 32 ++ painted_text p Addition (run (columns_of 0 t) 43)
 pluses-blank p n t e = rw e refl
 
 pub pluses-some : (p : Palette) (n : ℕ) (t : Text)
     → (length (skip_leading_whitespace t) == 0) ≡ false
     → pluses p n t ≡ run (n + (columns_of 0 t - columns_of 0 (skip_leading_whitespace t))) 32
-    ++ painted p Addition
+    ++ painted_text p Addition
     (run (columns_of 0 (drop_trailing_whitespace (skip_leading_whitespace t))) 43)
 pluses-some p n t e = rw e refl
 
 same-signs : (p : Palette) (i j m n : ℕ) → has_colours p ≡ false → i ≡ m → j ≡ n
-    → run i 32 ++ painted p Addition (run j 43) ≡ run m 32 ++ run n 43
+    → run i 32 ++ painted_text p Addition (run j 43) ≡ run m 32 ++ run n 43
 same-signs p i j m n h e g =
-    ap (λ k. run k 32 ++ painted p Addition (run j 43)) e
-    ∙ ap (λ k. run m 32 ++ painted p Addition (run k 43)) g
+    ap (λ k. run k 32 ++ painted_text p Addition (run j 43)) e
+    ∙ ap (λ k. run m 32 ++ painted_text p Addition (run k 43)) g
     ∙ ap (λ u. run m 32 ++ u) (painted-plain p Addition (run n 43) h)
 
 -- nothing but white space
 spread-blank : (t : Text) → list_all is_whitespace t ≡ true → skip_leading_whitespace t ≡ []
     → Spread t
 spread-blank t all none =
-    let same : signed t ≡ t = cond-true (list_all is_whitespace t) _ _ all in
-    let long : columns (signed t) ≡ columns t = ap columns same in
+    let same : signed_text t ≡ t = cond-true (list_all is_whitespace t) _ _ all in
+    let long : columns (signed_text t) ≡ columns t = ap columns same in
     let nil : columns [] ≡ 0 = refl in
     let zero_after : after_pluses t ≡ 0 = ap after-by none in
     record {
       front = [];
       back = [];
-      whole = sym (append-nil (signed t) ∙ same);
+      whole = sym (append-nil (signed_text t) ∙ same);
       is_white = refl;
       drawn = λ p n h. signs p n ∙ same-signs p n (columns_of 0 t) (n + columns [])
-          (columns (signed t)) h (omega (arith, nil)) (omega (arith, columns-of 0 t, long));
+          (columns (signed_text t)) h (omega (arith, nil)) (omega (arith, columns-of 0 t, long));
       after = omega (arith, nil, long, zero_after);
       only = λ f b e white. omega (
         arith,
         nil,
         long,
         ap columns e,
-        sum_by-append width f (signed t ++ b),
-        sum_by-append width (signed t) b,
+        sum_by-append width f (signed_text t ++ b),
+        sum_by-append width (signed_text t) b,
       );
     }
   where
     signs : (p : Palette) (n : ℕ)
-        → pluses p n t ≡ run n 32 ++ painted p Addition (run (columns_of 0 t) 43)
+        → pluses p n t ≡ run n 32 ++ painted_text p Addition (run (columns_of 0 t) 43)
     signs p n = pluses-blank p n t (ap (λ u. length u == 0) none)
 
 -- something else
@@ -101,10 +101,10 @@ spread-found : (t front : Text) (c : ℕ) (rest : Text) → list_all is_whitespa
     → list_all is_whitespace front ≡ true → t ≡ front ++ c ∷ rest → Spread t
 spread-found t front c rest all some other white whole =
     let tail = drop_trailing_whitespace (c ∷ rest) in
-    let same : signed t ≡ tail = cond-false (list_all is_whitespace t) _ _ all
+    let same : signed_text t ≡ tail = cond-false (list_all is_whitespace t) _ _ all
     ∙ ap drop_trailing_whitespace some in
     let ends = end (c ∷ rest) in
-    let long : columns (signed t) ≡ columns tail = ap columns same in
+    let long : columns (signed_text t) ≡ columns tail = ap columns same in
     let split : columns (c ∷ rest) ≡ columns tail + columns ends.0 =
     ap columns ends.1 ∙ sum_by-append width tail ends.0 in
     let all_of : columns t ≡ columns front + columns (c ∷ rest) =
@@ -120,17 +120,17 @@ spread-found t front c rest all some other white whole =
       is_white = white;
       drawn = λ p n h. signs p n ∙ same-signs p
           (n + (columns_of 0 t - columns_of 0 (c ∷ rest))) (columns_of 0 tail)
-          (n + columns front) (columns (signed t)) h (omega (arith, text, back, all_of))
+          (n + columns front) (columns (signed_text t)) h (omega (arith, text, back, all_of))
           (omega (arith, core, long));
       after = omega (arith, ends_after, long, split, all_of, back, core);
       only = λ f b e w.
-          let starts : c ∷ rest ≡ signed t ++ b = sym some ∙ ap skip_leading_whitespace e
-          ∙ skip-front f (signed t ++ b) w ∙ skip-signed b in
+          let starts : c ∷ rest ≡ signed_text t ++ b = sym some ∙ ap skip_leading_whitespace e
+          ∙ skip-front f (signed_text t ++ b) w ∙ skip-signed b in
           omega (
             arith,
             all_of,
             ap columns e,
-            sum_by-append width f (signed t ++ b),
+            sum_by-append width f (signed_text t ++ b),
             ap columns starts,
           );
     }
@@ -140,21 +140,21 @@ spread-found t front c rest all some other white whole =
 
     signs : (p : Palette) (n : ℕ) → pluses p n t
         ≡ run (n + (columns_of 0 t - columns_of 0 (c ∷ rest))) 32
-        ++ painted p Addition (run (columns_of 0 (drop_trailing_whitespace (c ∷ rest))) 43)
+        ++ painted_text p Addition (run (columns_of 0 (drop_trailing_whitespace (c ∷ rest))) 43)
     signs p n =
         pluses-some p n t (ap (λ u. length u == 0) some ∙ filled)
         ∙ ap (λ u. run (n + (columns_of 0 t - columns_of 0 u)) 32
-        ++ painted p Addition (run (columns_of 0 (drop_trailing_whitespace u)) 43)) some
+        ++ painted_text p Addition (run (columns_of 0 (drop_trailing_whitespace u)) 43)) some
 
     ends_after : after_pluses t
         ≡ columns_of 0 (c ∷ rest) - columns_of 0 (drop_trailing_whitespace (c ∷ rest))
     ends_after = ap after-by some ∙ rw filled refl
 
-    begins : signed t ≡ c ∷ drop_trailing_whitespace rest
+    begins : signed_text t ≡ c ∷ drop_trailing_whitespace rest
     begins = cond-false (list_all is_whitespace t) _ _ all ∙ ap drop_trailing_whitespace some
         ∙ drop-first c rest other
 
-    skip-signed : (b : Text) → skip_leading_whitespace (signed t ++ b) ≡ signed t ++ b
+    skip-signed : (b : Text) → skip_leading_whitespace (signed_text t ++ b) ≡ signed_text t ++ b
     skip-signed b =
         ap (λ u. skip_leading_whitespace (u ++ b)) begins ∙ cond-false (is_whitespace c) _ _ other
         ∙ ap (λ u. u ++ b) (sym begins)

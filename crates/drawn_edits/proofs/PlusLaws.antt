@@ -7,7 +7,7 @@ use Rattle.std.proofs.lemmas.Bool.{false≢true}
 use Rattle.std.proofs.lemmas.List.Sums.{sum_by-cons}
 use Rattle.drawn_lines.specs.Frames.{Frame}
 use Rattle.drawn_lines.specs.Glyphs.{run}
-use Rattle.drawn_lines.specs.Lines.{numbered, parting, under}
+use Rattle.drawn_lines.specs.Lines.{numbered_gutter, parting, row_under}
 use Rattle.drawn_lines.specs.Painting.{Piece, has_colours, piece, plain_text, rank}
 use Rattle.drawn_lines.specs.declared.paint.Gutter.{Gutter}
 use Rattle.drawn_lines.specs.declared.paint.Palette.{Palette}
@@ -16,10 +16,11 @@ use Rattle.drawn_lines.specs.declared.paint.Style.TheVariants.{Addition, Plain, 
 use Rattle.drawn_lines.specs.declared.paint.Style.TheVariants.{PrimaryText, Secondary}
 use Rattle.drawn_lines.specs.declared.paint.Style.TheVariants.{SecondaryText, Bold, Help, Removal}
 use Rattle.drawn_edits.specs.Edited.{Edit, do_remove, is_added, new_lines}
-use Rattle.drawn_edits.specs.Helps.{after_pluses, columns_of, drawn, edited_parts, edits_rows}
+use Rattle.drawn_edits.specs.Helps.{after_pluses, columns_of, drawn_pieces, edited_parts}
+use Rattle.drawn_edits.specs.Helps.{edits_rows}
 use Rattle.drawn_edits.specs.Helps.{is_whole, new_rows, plus_signs, pluses, sign_row}
 use Rattle.drawn_edits.specs.PlusSigns.{AddsEdits, AddsSigns, AreSigns, IsAdded, IsSigned, columns}
-use Rattle.drawn_edits.specs.PlusSigns.{columns_before, signed}
+use Rattle.drawn_edits.specs.PlusSigns.{columns_before, signed_text}
 use Rattle.drawn_edits.proofs.PlusColumns.{Column, Here, Left, Right, Spread, column, columns-of}
 use Rattle.drawn_edits.proofs.PlusColumns.{spread}
 
@@ -116,7 +117,7 @@ at-kept x xs gap wide n c other w (Free none s) =
 
 at-added : (x : Piece) (xs : List Piece) (gap n : ℕ) (rest : List ℕ) (c : ℕ)
     (s : Spread (chars x.text)) → is_added x ≡ true
-    → Column (gap + columns s.front) (columns (signed (chars x.text))) n rest c
+    → Column (gap + columns s.front) (columns (signed_text (chars x.text))) n rest c
     → ((k : ℕ) → At xs (after_pluses (chars x.text)) k (get_or rest k 32))
     → At (x ∷ xs) gap n c
 at-added x xs gap n rest c s added (Left l e) on =
@@ -164,10 +165,11 @@ at-added x xs gap n rest c s added (Right m at e) on = by_rest (on m)
 -- The signs of an addition, and those of the other parts.
 row-added : (p : Palette) (x : Piece) (gap : ℕ) (rest : List ℕ) (s : Spread (chars x.text))
     → has_colours p ≡ false → pluses p gap (chars x.text) ++ rest
-    ≡ run (gap + columns s.front) 32 ++ (run (columns (signed (chars x.text))) 43 ++ rest)
+    ≡ run (gap + columns s.front) 32 ++ (run (columns (signed_text (chars x.text))) 43 ++ rest)
 row-added p x gap rest s h =
     ap (λ u. u ++ rest) (s.drawn p gap h)
-    ∙ append_assoc (run (gap + columns s.front) 32) (run (columns (signed (chars x.text))) 43) rest
+    ∙ append_assoc (run (gap + columns s.front) 32)
+    (run (columns (signed_text (chars x.text))) 43) rest
 
 at-column : (p : Palette) (xs : List Piece) (gap n : ℕ) → has_colours p ≡ false
     → At xs gap n (get_or (plus_signs p gap xs) n 32)
@@ -187,7 +189,7 @@ at-column p (x ∷ xs) gap n h = by_test (is_added x) refl (λ g k. at-column p 
         let s = spread (chars x.text) in
         let rest = plus_signs p (after_pluses (chars x.text)) xs in
         let a = gap + columns s.front in
-        let b = columns (signed (chars x.text)) in
+        let b = columns (signed_text (chars x.text)) in
         subst (At (x ∷ xs) gap n) (sym (ap (λ u. get_or u n 32) (row-added p x gap rest s h)))
         (at-added x xs gap n rest (get_or (run a 32 ++ (run b 43 ++ rest)) n 32) s e
         (column a b n rest) (on (after_pluses (chars x.text))))
@@ -203,7 +205,7 @@ signs-stand p l h n = by_column (at-column p l 0 n h)
     by_column (Free none s) = inr (none n (omega arith), s)
 
 pub signs-add : (g : Gutter) (l : List Piece) (old new : List ℕ)
-    → new ≡ old ++ under g (plus_signs g.palette 0 l) → has_colours g.palette ≡ false
+    → new ≡ old ++ row_under g (plus_signs g.palette 0 l) → has_colours g.palette ≡ false
     → AddsSigns g l old new
 signs-add g l old new e h =
     record { row = plus_signs g.palette 0 l; whole = e; are_signs = signs-stand g.palette l h }
@@ -211,13 +213,13 @@ signs-add g l old new e h =
 -- The rows of edits that only insert something into one line.
 line-row : (f : Frame) (n : ℕ) (l : List Piece) → has_colours f.gutter.palette ≡ false
     → sign_row f Secondary (codes "| ") n l
-    ≡ numbered f n ++ (codes " | " ++ (plain_text (drawn l) ++ codes "\n"))
+    ≡ numbered_gutter f n ++ (codes " | " ++ (plain_text (drawn_pieces l) ++ codes "\n"))
 unfolding sign_row
 line-row f n l h = rw h refl
 
 inserted : (f : Frame) (n : ℕ) (xs l : List Piece) (new : List (List Piece))
     → do_remove xs ≡ false → new ≡ l ∷ [] → is_whole l ≡ false → new_rows f n xs new
-    ≡ sign_row f Secondary (codes "| ") n l ++ under f.gutter (plus_signs f.gutter.palette 0 l)
+    ≡ sign_row f Secondary (codes "| ") n l ++ row_under f.gutter (plus_signs f.gutter.palette 0 l)
 inserted f n xs l new none one part = ap (new_rows f n xs) one ∙ rw (none, part) refl
 
 pub edits-add : (f : Frame) (es : List Edit) (old new : List ℕ) → new ≡ old ++ edits_rows f es
@@ -227,7 +229,7 @@ edits-add f (x ∷ es) old new e h = λ none l one part.
     let n = x.extent.start.line in
     let xs = edited_parts f n (x ∷ es) in
     let line = sign_row f Secondary (codes "| ") n l in
-    let signs = under f.gutter (plus_signs f.gutter.palette 0 l) in
+    let signs = row_under f.gutter (plus_signs f.gutter.palette 0 l) in
     let mid = old ++ (parting f ++ line) in
     let whole : new ≡ mid ++ signs =
     e ∙ ap (λ t. old ++ (parting f ++ t)) (inserted f n xs l (new_lines xs) none one part)

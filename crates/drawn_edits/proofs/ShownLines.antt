@@ -13,12 +13,12 @@ use Rattle.std.proofs.lemmas.List.{take-append-le}
 use Rattle.std.proofs.lemmas.Str.{IsUtf8-past_char, encodes-append, encodes-chars}
 use Rattle.rustc_parse_format.specs.Characters.{Text}
 use Rattle.drawn_lines.specs.Painting.{Piece, piece, plain_text}
-use Rattle.drawn_lines.specs.Places.{first_line, within}
+use Rattle.drawn_lines.specs.Places.{first_line, front_within}
 use Rattle.drawn_lines.specs.declared.paint.Style.TheVariants.{Addition, Plain, Removal}
 use Rattle.drawn_edits.specs.Edited.{Edit, Page, all_lines, count_to_text, front, have_no_text}
 use Rattle.drawn_edits.specs.Edited.{is_ended, new_lines, no_page, old_lines, parts}
 use Rattle.drawn_edits.specs.Edited.{rest_after, with_parts}
-use Rattle.drawn_edits.specs.ShownLines.{AreLines, after_edits, edited, lines_of}
+use Rattle.drawn_edits.specs.ShownLines.{AreLines, after_edits, edited_source, lines_of}
 use Rattle.drawn_edits.proofs.PageLines.{Line, all-texts, glue, glue-last, kept, kept-last}
 use Rattle.drawn_edits.proofs.PageLines.{kept-one, line-in, lines-after, lines-append}
 use Rattle.drawn_edits.proofs.PageLines.{page-texts, texts, texts-parts}
@@ -28,12 +28,12 @@ record AreSplit (n : ℕ) (bs : List ℕ) : Type 0 where
   whole : bs ≡ front n bs ++ rest_after n bs
   is_text : IsUtf8 (rest_after n bs)
 
-within-front : (n : ℕ) (t : Text) → (z : Text) × (t ≡ within n t ++ z)
+within-front : (n : ℕ) (t : Text) → (z : Text) × (t ≡ front_within n t ++ z)
 within-front n [] = ([], refl)
 within-front n (c ∷ t) = by_room (nat_lt n (len_utf8 c)) (within-front (n - len_utf8 c) t)
   where
-    by_room : (v : Bool) → (z : Text) × (t ≡ within (n - len_utf8 c) t ++ z)
-        → (z : Text) × (c ∷ t ≡ cond v [] (c ∷ within (n - len_utf8 c) t) ++ z)
+    by_room : (v : Bool) → (z : Text) × (t ≡ front_within (n - len_utf8 c) t ++ z)
+        → (z : Text) × (c ∷ t ≡ cond v [] (c ∷ front_within (n - len_utf8 c) t) ++ z)
     by_room true h = (c ∷ t, refl)
     by_room false (z, e) = (z, ap (λ u. c ∷ u) e)
 
@@ -47,13 +47,13 @@ split-at : (n : ℕ) (bs : List ℕ) → IsUtf8 bs → AreSplit n bs
 split-at n bs h =
     let (z, e) = within-front n (chars bs) in
     let both : bs ≡ front n bs ++ encode_utf8_all z = sym (encodes-chars bs h)
-    ∙ (ap encode_utf8_all e ∙ encodes-append (within n (chars bs)) z) in
+    ∙ (ap encode_utf8_all e ∙ encodes-append (front_within n (chars bs)) z) in
     let rest : rest_after n bs ≡ encode_utf8_all z =
     ap (drop (length (front n bs))) both ∙ drop-append_seam (front n bs) (encode_utf8_all z) in
     record {
       whole = both ∙ ap (λ u. front n bs ++ u) (sym rest);
       is_text = subst IsUtf8 (sym rest)
-          (utf8-after (within n (chars bs)) (encode_utf8_all z) (subst IsUtf8 both h));
+          (utf8-after (front_within n (chars bs)) (encode_utf8_all z) (subst IsUtf8 both h));
     }
 
 -- The parts of a text: what is left after the last edit ends them.
@@ -61,7 +61,7 @@ record Ends (at : ℕ) (es : List Edit) (bs : List ℕ) : Type 0 where
   before : List Piece
   are_parts : parts at es bs ≡ before ++ piece Plain (first_line (after_edits at es bs)) ∷ []
   is_old : bs ≡ kept Addition before ++ after_edits at es bs
-  is_new : edited at es bs ≡ kept Removal before ++ after_edits at es bs
+  is_new : edited_source at es bs ≡ kept Removal before ++ after_edits at es bs
 
 ends : (at : ℕ) (es : List Edit) (bs : List ℕ) → IsUtf8 bs → Ends at es bs
 unfolding kept
@@ -274,7 +274,7 @@ shown-lines at es bs h =
     let z = after_edits at es bs in
     let l = line-in z in
     let xs = parts at es bs in
-    let new = new-shown xs (edited at es bs) z k.before l k.are_parts k.is_new in
+    let new = new-shown xs (edited_source at es bs) z k.before l k.are_parts k.is_new in
     record {
       end = first_line z;
       others = l.others;

@@ -4,7 +4,8 @@ use Rattle.std.specs.Prelude.{[], ◌∷◌, chars, drop, false, flat_map, lengt
 use Rattle.std.specs.List.{list_all, list_any, slice_split}
 use Rattle.std.specs.Str.{bytes_eq, encode_utf8_all, trim}
 use Rattle.drawn_lines.specs.Painting.{Piece, piece, plain_text, rank}
-use Rattle.drawn_lines.specs.Places.{first_line, is_line_feed, within, Extent, Picture, seen_extent}
+use Rattle.drawn_lines.specs.Places.{first_line, is_line_feed, front_within, Extent, Picture}
+use Rattle.drawn_lines.specs.Places.{seen_extent}
 use Rattle.drawn_lines.specs.Places.{extent, offset}
 use Rattle.drawn_edits.specs.declared.edited.Part.{Part as DeclaredPart}
 use Rattle.drawn_edits.specs.declared.edited.Line.{Line as DeclaredLine}
@@ -31,8 +32,8 @@ seen_edit e = record {
 }
 
 -- An edit of a range of the literal.
-abbrev pub placed : Picture → List ℕ → Place → Edit
-placed p t s = record {
+abbrev pub edit_in_literal : Picture → List ℕ → Place → Edit
+edit_in_literal p t s = record {
   text = t;
   extent = extent p s;
   start = offset p s.0;
@@ -49,7 +50,7 @@ seen_line l = map seen_part l.parts.items
 
 -- The first characters of a text, as many as end within n bytes.
 abbrev pub front : ℕ → List ℕ → List ℕ
-front n bs = encode_utf8_all (within n (chars bs))
+front n bs = encode_utf8_all (front_within n (chars bs))
 
 -- The rest of a text after these.
 abbrev pub rest_after : ℕ → List ℕ → List ℕ

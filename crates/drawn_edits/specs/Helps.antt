@@ -10,8 +10,8 @@ use Rattle.drawn_edits.specs.Edited.{are_blank, do_remove, is_added, is_same_end
 use Rattle.drawn_edits.specs.Edited.{old_lines, parts, Edit}
 use Rattle.drawn_lines.specs.Glyphs.{glyph_bytes, run, width}
 use Rattle.drawn_lines.specs.Frames.{Frame}
-use Rattle.drawn_lines.specs.Lines.{number_bar, numbered, parting, under}
-use Rattle.drawn_lines.specs.Painting.{Piece, painted, piece, pieces, plain_text}
+use Rattle.drawn_lines.specs.Lines.{number_bar, numbered_gutter, parting, row_under}
+use Rattle.drawn_lines.specs.Painting.{Piece, painted_text, piece, pieces, plain_text}
 use Rattle.drawn_lines.specs.Places.{after_lines}
 use Rattle.drawn_lines.specs.declared.paint.Palette.{Palette}
 use Rattle.drawn_lines.specs.declared.paint.Style.{Style}
@@ -19,16 +19,17 @@ use Rattle.drawn_lines.specs.declared.paint.Style.TheVariants.{Addition, Help, R
 
 -- The word that a help begins with.
 unfoldable pub help_word : Palette → List ℕ
-help_word p = painted p Help (codes "help") ++ codes ": "
+help_word p = painted_text p Help (codes "help") ++ codes ": "
 
 -- Parts as they are drawn.
-abbrev pub drawn : List Piece → List Piece
-drawn xs = map (λ x. piece x.style (glyph_bytes x.text)) xs
+abbrev pub drawn_pieces : List Piece → List Piece
+drawn_pieces xs = map (λ x. piece x.style (glyph_bytes x.text)) xs
 
 -- The row of a line with this number, after a sign of this style.
 unfoldable pub sign_row : Frame → Style → List ℕ → ℕ → List Piece → List ℕ
 sign_row f style sign n xs =
-    numbered f n ++ (codes " " ++ (pieces f.gutter.palette (piece style sign ∷ drawn xs)
+    numbered_gutter f n ++ (codes " " ++ (pieces f.gutter.palette
+    (piece style sign ∷ drawn_pieces xs)
     ++ codes "\n"))
 
 -- The rows of lines after such a sign, from the number n on.
@@ -38,12 +39,12 @@ sign_rows f style sign n (l ∷ ls) =
     sign_row f style sign n l ++ sign_rows f style sign (n + 1) ls
 
 -- The text after a bar: a text with a space in front of it, unless it is empty.
-abbrev pub spaced : List ℕ → List ℕ
-spaced bs = if length bs == 0 then [] else codes " " ++ bs
+abbrev pub spaced_text : List ℕ → List ℕ
+spaced_text bs = if length bs == 0 then [] else codes " " ++ bs
 
 -- The row of a line with this number that no edit changes.
 unfoldable pub kept_row : Frame → ℕ → List Piece → List ℕ
-kept_row f n xs = number_bar f n ++ (spaced (plain_text (drawn xs)) ++ codes "\n")
+kept_row f n xs = number_bar f n ++ (spaced_text (plain_text (drawn_pieces xs)) ++ codes "\n")
 
 -- The rows of such lines, from the number n on.
 abbrev pub kept_rows : Frame → ℕ → List (List Piece) → List ℕ
@@ -54,7 +55,7 @@ kept_rows f n (l ∷ ls) = kept_row f n l ++ kept_rows f (n + 1) ls
 abbrev pub kept_ends : Frame → ℕ → ℕ → List (List Piece) → List (List Piece) → List ℕ
 kept_ends f n m first last =
     kept_rows f n first
-    ++ (painted f.gutter.palette Secondary (codes "...") ++ (codes "\n" ++ kept_rows f m last))
+    ++ (painted_text f.gutter.palette Secondary (codes "...") ++ (codes "\n" ++ kept_rows f m last))
 
 -- The rows of such lines in front of a changed one: of more than three the first and the last one.
 unfoldable pub kept_lines : Frame → ℕ → List (List Piece) → List ℕ
@@ -124,9 +125,9 @@ columns_of n (c ∷ t) = columns_of (n + width c) t
 abbrev pub pluses : Palette → ℕ → Text → List ℕ
 pluses p n t =
     let back = skip_leading_whitespace t in
-    if length back == 0 then run n 32 ++ painted p Addition (run (columns_of 0 t) 43)
+    if length back == 0 then run n 32 ++ painted_text p Addition (run (columns_of 0 t) 43)
     else run (n + (columns_of 0 t - columns_of 0 back)) 32
-    ++ painted p Addition (run (columns_of 0 (drop_trailing_whitespace back)) 43)
+    ++ painted_text p Addition (run (columns_of 0 (drop_trailing_whitespace back)) 43)
 
 -- How many columns after these signs the addition ends.
 abbrev pub after_pluses : Text → ℕ
@@ -155,7 +156,7 @@ inserted_rows f n [] = []
 inserted_rows f n (l ∷ ls) =
     if is_whole l then sign_row f Addition (codes "+ ") n l ++ parting f
     else sign_row f Secondary (codes "| ") n l
-    ++ under f.gutter (plus_signs f.gutter.palette 0 l)
+    ++ row_under f.gutter (plus_signs f.gutter.palette 0 l)
 
 -- The rows of parts in one new line.
 abbrev pub line_rows : Frame → ℕ → List Piece → List (List Piece) → List ℕ

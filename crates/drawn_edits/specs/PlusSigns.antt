@@ -9,12 +9,12 @@ use Rattle.std.specs.Str.{drop_trailing_whitespace, skip_leading_whitespace}
 use Rattle.rustc_parse_format.specs.Characters.{Text}
 use Rattle.drawn_lines.specs.Frames.{Frame}
 use Rattle.drawn_lines.specs.Glyphs.{width}
-use Rattle.drawn_lines.specs.Lines.{numbered, parting, under}
+use Rattle.drawn_lines.specs.Lines.{numbered_gutter, parting, row_under}
 use Rattle.drawn_lines.specs.Painting.{Piece, piece, plain_text}
 use Rattle.drawn_lines.specs.declared.paint.Gutter.{Gutter}
 use Rattle.drawn_lines.specs.declared.paint.Style.TheVariants.{Addition}
 use Rattle.drawn_edits.specs.Edited.{Edit, do_remove, new_lines}
-use Rattle.drawn_edits.specs.Helps.{drawn, edited_parts, is_whole}
+use Rattle.drawn_edits.specs.Helps.{drawn_pieces, edited_parts, is_whole}
 
 -- How many columns a text takes.
 abbrev pub columns : Text → ℕ
@@ -26,18 +26,18 @@ columns_before xs = sum_by (λ x. columns (chars x.text)) xs
 
 -- The part of a text that has signs: the text without the white space around it, or all of it if it
 -- is nothing but white space.
-abbrev pub signed : Text → Text
-signed t =
+abbrev pub signed_text : Text → Text
+signed_text t =
     if list_all is_whitespace t then t else drop_trailing_whitespace (skip_leading_whitespace t)
 
 -- The column of a text is one of this part, right of the white space in front of it.
 pub record IsSigned (t : Text) (n : ℕ) : Type 0 where
   pub front : Text
   pub back : Text
-  pub whole : t ≡ front ++ (signed t ++ back)
+  pub whole : t ≡ front ++ (signed_text t ++ back)
   pub is_white : list_all is_whitespace front ≡ true
   pub from : columns front ≤ n
-  pub to : n < columns front + columns (signed t)
+  pub to : n < columns front + columns (signed_text t)
 
 -- The column of a line is such a column of one of its additions.
 pub record IsAdded (l : List Piece) (n : ℕ) : Type 0 where
@@ -58,14 +58,14 @@ AreSigns l row = (n : ℕ)
 -- The row of signs under a line is added to a text.
 pub record AddsSigns (g : Gutter) (l : List Piece) (old new : List ℕ) : Type 0 where
   pub row : List ℕ
-  pub whole : new ≡ old ++ under g row
+  pub whole : new ≡ old ++ row_under g row
   pub are_signs : AreSigns l row
 
 -- A line in which something is added, and the row of its signs, are added to a text.
 pub record AddsInsertion (f : Frame) (n : ℕ) (l : List Piece) (old new : List ℕ) : Type 0 where
   pub mid : List ℕ
-  pub line : mid ≡ old ++ (parting f ++ (numbered f n ++ (codes " | "
-      ++ (plain_text (drawn l) ++ codes "\n"))))
+  pub line : mid ≡ old ++ (parting f ++ (numbered_gutter f n ++ (codes " | "
+      ++ (plain_text (drawn_pieces l) ++ codes "\n"))))
   pub signs : AddsSigns f.gutter l mid new
 
 -- The rows of edits that only insert something into one line are added to a text.

@@ -12,13 +12,13 @@ lines_of bs = slice_split is_line_feed bs
 
 -- A text at the byte offset `at` of the source, with the edits applied: in place of what each
 -- replaces is its text.
-abbrev pub edited : ℕ → List Edit → List ℕ → List ℕ
-edited at [] bs = bs
-edited at (e ∷ es) bs =
+abbrev pub edited_source : ℕ → List Edit → List ℕ → List ℕ
+edited_source at [] bs = bs
+edited_source at (e ∷ es) bs =
     let from = max e.start at in
     let to = max e.end from in
     let rest = rest_after (from - at) bs in
-    front (from - at) bs ++ (e.text ++ edited to es (rest_after (to - from) rest))
+    front (from - at) bs ++ (e.text ++ edited_source to es (rest_after (to - from) rest))
 
 -- What is left of such a text after the last edit.
 abbrev pub after_edits : ℕ → List Edit → List ℕ → List ℕ
@@ -40,5 +40,5 @@ pub record AreLines (at : ℕ) (es : List Edit) (text : List ℕ) (old new : Lis
   pub old_lines : lines_of text ≡ map plain_text old ++ others
   pub empty : List (List ℕ)
   pub are_empty : AllByRecursion (λ (l : List ℕ). l ≡ []) empty
-  pub new_lines : (lines_of (edited at es text) ≡ map plain_text new ++ (empty ++ others))
-      ⊎ (lines_of (edited at es text) ≡ map plain_text new ++ (empty ++ end ∷ others))
+  pub new_lines : (lines_of (edited_source at es text) ≡ map plain_text new ++ (empty ++ others))
+      ⊎ (lines_of (edited_source at es text) ≡ map plain_text new ++ (empty ++ end ∷ others))

@@ -11,7 +11,7 @@ ghost use Rattle.drawn_edits.specs.Helps.{lone_sign, new_row, new_rows, plus_sig
 ghost use Rattle.drawn_edits.specs.Helps.{replaced_rows, rows_from};
 ghost use Rattle.drawn_edits.specs.PlusSigns.{AddsSigns};
 ghost use Rattle.drawn_lines.specs.Frames.{seen_frame};
-ghost use Rattle.drawn_lines.specs.Lines.{under};
+ghost use Rattle.drawn_lines.specs.Lines.{row_under};
 ghost use Rattle.drawn_lines.specs.Painting.{has_colours};
 
 use crate::edit_rows::{put_kept_lines, put_kept_row, put_sign_row, put_sign_rows};
@@ -123,12 +123,12 @@ fn put_changed_rows(
     ensures { OnOk result (string_bytes out.new ≡ string_bytes out.old
         ++ changed_rows (seen_frame frame.now) number [] (map seen_line lines.now)) }
 {
-    let mut from = 0;
+    let mut first_index = 0;
     for (index, line) in lines.iter().enumerate() {
         if have_addition(&line.parts) {
-            put_kept_lines(out, frame, number + from, &lines[from..index])?;
+            put_kept_lines(out, frame, number + first_index, &lines[first_index..index])?;
             put_changed_row(out, frame, number + index, &line.parts)?;
-            from = index + 1;
+            first_index = index + 1;
         }
     }
     Ok(())
@@ -155,7 +155,7 @@ fn put_new_row(
 
 /// Adds the rows of old lines and of a new one.
 #[tactic(auto, unfolding(crate::specs::Helps::replaced_rows))]
-fn put_replaced(
+fn put_replaced_rows(
     out: &mut String,
     frame: &Frame<'_>,
     number: usize,
@@ -205,21 +205,21 @@ fn put_pluses(
         ≡ string_bytes out.old ++ pluses palette gap (chars text.now)) }
     ensures value { IfOk result (λ n. n ≡ after_pluses (chars text.now)) }
 {
-    let back = text.trim_start();
+    let trimmed_text = text.trim_start();
     let columns = columns_of(text)?;
-    let from_text = columns_of(back)?;
-    if back.is_empty() {
+    let trimmed_columns = columns_of(trimmed_text)?;
+    if trimmed_text.is_empty() {
         put_run(out, ' ', gap)?;
         put_painted_run(out, palette, Style::Addition, '+', columns)?;
         return Ok(0);
     }
-    let Some(before) = gap.checked_add(columns.saturating_sub(from_text)) else {
+    let Some(space_count) = gap.checked_add(columns.saturating_sub(trimmed_columns)) else {
         return Err(AllocError);
     };
-    let signs = columns_of(back.trim_end())?;
-    put_run(out, ' ', before)?;
+    let signs = columns_of(trimmed_text.trim_end())?;
+    put_run(out, ' ', space_count)?;
     put_painted_run(out, palette, Style::Addition, '+', signs)?;
-    Ok(from_text.saturating_sub(signs))
+    Ok(trimmed_columns.saturating_sub(signs))
 }
 
 /// Adds the signs under the additions of a line.
@@ -245,7 +245,7 @@ fn put_plus_signs(out: &mut String, palette: Palette, parts: &[Part<'_>]) -> Res
 /// Adds the row of these signs.
 fn put_plus_row(out: &mut String, gutter: Gutter, parts: &[Part<'_>]) -> Result<(), AllocError>
     ensures row { OnOk result (string_bytes out.new ≡ string_bytes out.old
-        ++ under gutter (plus_signs gutter.palette 0 (map seen_part parts.now))) }
+        ++ row_under gutter (plus_signs gutter.palette 0 (map seen_part parts.now))) }
     ensures signs { OnOk result (has_colours gutter.palette ≡ false
         → AddsSigns gutter (map seen_part parts.now) (string_bytes out.old)
         (string_bytes out.new)) }
@@ -267,7 +267,7 @@ fn is_whole(parts: &[Part<'_>]) -> bool
 }
 
 /// Adds the rows of a line in which something is added.
-fn put_inserted(
+fn put_inserted_rows(
     out: &mut String,
     frame: &Frame<'_>,
     number: usize,
@@ -304,13 +304,13 @@ fn put_line_rows(
         (map seen_line new.now)) }
 {
     if !do_remove(parts) {
-        return Ok(put_inserted(out, frame, number, new)?);
+        return Ok(put_inserted_rows(out, frame, number, new)?);
     }
     let old = old_lines(*out.allocator(), parts)?;
     if old.len() >= 1 << 59 {
         return Err(AllocError);
     }
-    put_replaced(out, frame, number, &old, new)?;
+    put_replaced_rows(out, frame, number, &old, new)?;
     put_parting(out, frame)?;
     Ok(())
 }
@@ -356,7 +356,7 @@ fn edited_parts<'a>(
 }
 
 /// Adds the rows of edits from a line on.
-fn put_from(
+fn put_rows_from(
     out: &mut String,
     frame: &Frame<'_>,
     number: usize,
@@ -381,7 +381,7 @@ pub fn put_rows(out: &mut String, frame: &Frame<'_>, edits: &[Edit<'_>]) -> Resu
 {
     match edits {
         [] => {}
-        [first, ..] => put_from(out, frame, first.extent.start.line, edits)?,
+        [first, ..] => put_rows_from(out, frame, first.extent.start.line, edits)?,
     }
     Ok(())
 }

@@ -4,8 +4,8 @@
 ghost use Rattle.std.specs.Prelude.{◌≡◌, ◌+◌, ◌++◌, ◌∷◌, ◌<◌, ◌^◌, ◌==◌, OnOk, false, length, map};
 ghost use Rattle.std.specs.Prelude.{string_bytes};
 ghost use Rattle.drawn_edits.specs.Edited.{seen_line, seen_part};
-ghost use Rattle.drawn_edits.specs.Helps.{drawn, kept_ends, kept_lines, kept_row, kept_rows};
-ghost use Rattle.drawn_edits.specs.Helps.{sign_row, sign_rows, spaced};
+ghost use Rattle.drawn_edits.specs.Helps.{drawn_pieces, kept_ends, kept_lines, kept_row, kept_rows};
+ghost use Rattle.drawn_edits.specs.Helps.{sign_row, sign_rows, spaced_text};
 ghost use Rattle.drawn_lines.specs.Frames.{seen_frame};
 ghost use Rattle.drawn_lines.specs.Painting.{piece, pieces, pieces_after, plain_text};
 ghost use Rattle.drawn_lines.specs.declared.paint.Style.TheVariants.{Plain};
@@ -13,14 +13,14 @@ ghost use Rattle.drawn_lines.specs.declared.paint.Style.TheVariants.{Plain};
 use crate::edited::{Line, Part};
 use drawn_lines::{
     Frame, Palette, Style, draws_nothing, has_colours, put_glyphs, put_glyphs_after,
-    put_line_number, put_number_bar, put_painted, put_reset, put_sign,
+    put_line_number, put_number_bar, put_painted_text, put_reset, put_sign,
 };
 use std::alloc::AllocError;
 
 /// Adds parts of a line without their colours.
-fn put_plain(out: &mut String, parts: &[Part<'_>]) -> Result<(), AllocError>
+fn put_plain_parts(out: &mut String, parts: &[Part<'_>]) -> Result<(), AllocError>
     ensures { OnOk result (string_bytes out.new ≡ string_bytes out.old
-        ++ plain_text (drawn (map seen_part parts.now))) }
+        ++ plain_text (drawn_pieces (map seen_part parts.now))) }
 {
     for part in parts {
         put_glyphs(out, part.text, 0)?;
@@ -29,7 +29,7 @@ fn put_plain(out: &mut String, parts: &[Part<'_>]) -> Result<(), AllocError>
 }
 
 /// Adds parts of a line in colours, after a sign of this style.
-fn put_coloured(
+fn put_coloured_parts(
     out: &mut String,
     palette: Palette,
     style: Style,
@@ -38,7 +38,8 @@ fn put_coloured(
 ) -> Result<(), AllocError>
     requires { (length sign.now == 0) ≡ false }
     ensures { OnOk result (string_bytes out.new ≡ string_bytes out.old
-        ++ pieces_after palette Plain (piece style sign.now ∷ drawn (map seen_part parts.now))) }
+        ++ pieces_after palette Plain (piece style sign.now
+        ∷ drawn_pieces (map seen_part parts.now))) }
 {
     put_sign(out, palette, style, sign)?;
     let mut last = style;
@@ -59,13 +60,13 @@ fn put_parts(
 ) -> Result<(), AllocError>
     requires { (length sign.now == 0) ≡ false }
     ensures { OnOk result (string_bytes out.new ≡ string_bytes out.old
-        ++ pieces palette (piece style sign.now ∷ drawn (map seen_part parts.now))) }
+        ++ pieces palette (piece style sign.now ∷ drawn_pieces (map seen_part parts.now))) }
 {
     if has_colours(palette) {
-        return Ok(put_coloured(out, palette, style, sign, parts)?);
+        return Ok(put_coloured_parts(out, palette, style, sign, parts)?);
     }
     out.push_str(sign)?;
-    put_plain(out, parts)?;
+    put_plain_parts(out, parts)?;
     Ok(())
 }
 
@@ -113,7 +114,7 @@ pub fn put_sign_rows(
 
 /// Returns whether nothing is drawn of parts of a line.
 fn draw_nothing(parts: &[Part<'_>]) -> bool
-    ensures { result ≡ (length (plain_text (drawn (map seen_part parts.now))) == 0) }
+    ensures { result ≡ (length (plain_text (drawn_pieces (map seen_part parts.now))) == 0) }
 {
     for part in parts {
         if !draws_nothing(part.text) {
@@ -124,13 +125,13 @@ fn draw_nothing(parts: &[Part<'_>]) -> bool
 }
 
 /// Adds the text after the bar of a line.
-fn put_spaced(out: &mut String, parts: &[Part<'_>]) -> Result<(), AllocError>
+fn put_spaced_text(out: &mut String, parts: &[Part<'_>]) -> Result<(), AllocError>
     ensures { OnOk result (string_bytes out.new ≡ string_bytes out.old
-        ++ spaced (plain_text (drawn (map seen_part parts.now)))) }
+        ++ spaced_text (plain_text (drawn_pieces (map seen_part parts.now)))) }
 {
     if !draw_nothing(parts) {
         out.push_str(" ")?;
-        put_plain(out, parts)?;
+        put_plain_parts(out, parts)?;
     }
     Ok(())
 }
@@ -148,7 +149,7 @@ pub fn put_kept_row(
         ++ kept_row (seen_frame frame.now) number (map seen_part parts.now)) }
 {
     put_number_bar(out, frame, number)?;
-    put_spaced(out, parts)?;
+    put_spaced_text(out, parts)?;
     out.push_str("\n")?;
     Ok(())
 }
@@ -186,7 +187,7 @@ fn put_kept_ends(
         (map seen_line last.now)) }
 {
     put_kept_rows(out, frame, n, first)?;
-    put_painted(out, frame.gutter.palette, Style::Secondary, "...")?;
+    put_painted_text(out, frame.gutter.palette, Style::Secondary, "...")?;
     out.push_str("\n")?;
     put_kept_rows(out, frame, m, last)?;
     Ok(())

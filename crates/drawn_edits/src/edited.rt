@@ -8,7 +8,7 @@ ghost use Rattle.drawn_edits.specs.Edited.{are_blank, rest_after, count_to_text,
 ghost use Rattle.drawn_edits.specs.Edited.{have_no_text, is_added, new_lines, new_page, old_lines};
 ghost use Rattle.drawn_edits.specs.Edited.{parts, seen_line, seen_page, seen_part, is_same_end};
 ghost use Rattle.drawn_edits.specs.Edited.{text_of, with_line, with_parts, with_texts, seen_edit};
-ghost use Rattle.drawn_edits.specs.Edited.{placed};
+ghost use Rattle.drawn_edits.specs.Edited.{edit_in_literal};
 ghost use Rattle.drawn_lines.specs.Painting.{plain_text};
 ghost use Rattle.drawn_lines.specs.Places.{is_line_feed, seen_picture};
 ghost use Rattle.rustc_parse_format.specs.Seen.{pair};
@@ -34,7 +34,8 @@ pub struct Edit<'a> {
 /// Returns an edit with its place in the source.
 pub fn placed_edit<'a>(picture: &Picture<'_>, text: &'a str, range: &Range<usize>) -> Edit<'a>
     requires { length picture.now.source.now < 2 ^ 59 }
-    ensures value { seen_edit result ≡ placed (seen_picture picture.now) text.now (pair range.now) }
+    ensures value { seen_edit result ≡ edit_in_literal (seen_picture picture.now) text.now
+        (pair range.now) }
     ensures small { result.extent.end.line < 2 ^ 59 }
     ensures small_start { result.extent.start.line < 2 ^ 59 }
 {
@@ -98,15 +99,15 @@ pub fn parts_of<'a>(
     for edit in edits {
         let from = edit.start.max(at);
         let to = edit.end.max(from);
-        let (before, rest_after) = split_within(rest, from - at);
-        let (removed, rest_after) = split_within(rest_after, to - from);
+        let (front_text, rest_after) = split_within(rest, from - at);
+        let (removed_text, rest_after) = split_within(rest_after, to - from);
         list.push(Part {
             style: Style::Plain,
-            text: before,
+            text: front_text,
         })?;
         list.push(Part {
             style: Style::Removal,
-            text: removed,
+            text: removed_text,
         })?;
         list.push(Part {
             style: Style::Addition,
@@ -217,7 +218,7 @@ fn count_to_text(lines: &[Line<'_>]) -> usize
 
 /// Adds the lines of parts without what they remove. Leaves out what is after the last edit if the
 /// text of that edit ends a line.
-fn push_new<'a>(
+fn push_new_part<'a>(
     lines: &mut Vec<Line<'a>>,
     row: &mut Vec<Part<'a>>,
     parts: &[Part<'a>],
@@ -243,7 +244,7 @@ pub fn new_lines<'a>(alloc: Global, parts: &[Part<'a>]) -> Result<Vec<Line<'a>>,
 {
     let mut lines = Vec::new(alloc);
     let mut row = Vec::new(alloc);
-    push_new(&mut lines, &mut row, parts)?;
+    push_new_part(&mut lines, &mut row, parts)?;
     lines.push(Line { parts: row })?;
     let count = count_to_text(&lines);
     lines.truncate(count);
@@ -336,8 +337,8 @@ pub fn is_same_end(alloc: Global, old: &[Line<'_>], new: &[Line<'_>]) -> Result<
         return Ok(false);
     };
     let (_, last) = old.split_at(old.len().saturating_sub(1));
-    let before = text_of(alloc, last)?;
-    let mut after = String::new(alloc);
-    put_text(&mut after, &line.parts)?;
-    Ok(before.as_str() == after.as_str())
+    let old_text = text_of(alloc, last)?;
+    let mut new_text = String::new(alloc);
+    put_text(&mut new_text, &line.parts)?;
+    Ok(old_text.as_str() == new_text.as_str())
 }

@@ -11,7 +11,7 @@ ghost use Rattle.drawn_edits.specs.Suggestions.{edit_rows, help_title};
 
 use crate::changes::put_rows;
 use crate::edited::Edit;
-use drawn_lines::{Frame, Palette, Style, put_glyphs, put_painted};
+use drawn_lines::{Frame, Palette, Style, put_glyphs, put_painted_text};
 use std::alloc::AllocError;
 
 /// Adds the word that a help begins with.
@@ -19,7 +19,7 @@ use std::alloc::AllocError;
 pub fn put_help_word(out: &mut String, palette: Palette) -> Result<(), AllocError>
     ensures { OnOk result (string_bytes out.new ≡ string_bytes out.old ++ help_word palette) }
 {
-    put_painted(out, palette, Style::Help, "help")?;
+    put_painted_text(out, palette, Style::Help, "help")?;
     out.push_str(": ")?;
     Ok(())
 }

@@ -10,20 +10,21 @@ use Rattle.rustc_parse_format.specs.World.{Place}
 use Rattle.drawn_faults.specs.Diagnostics.{Diagnostic, Help, Note, SourceLabel, diagnostic_text}
 use Rattle.drawn_faults.specs.Diagnostics.{drawn_in, each_in_line, first_spot, frame_of, gap_after}
 use Rattle.drawn_faults.specs.Diagnostics.{SourceEdit, gutter_of, help_by, help_row_word}
-use Rattle.drawn_faults.specs.Diagnostics.{helps_rows, in_line, indented, label_of}
+use Rattle.drawn_faults.specs.Diagnostics.{helps_rows, in_line, indented_text, label_of}
 use Rattle.drawn_faults.specs.Diagnostics.{labels_rows, last_edit_line, last_help_line}
 use Rattle.drawn_faults.specs.Diagnostics.{last_label_line, last_line_of, last_note_line}
-use Rattle.drawn_faults.specs.Diagnostics.{level_word, lower, lowest, marked_lines, next_line}
+use Rattle.drawn_faults.specs.Diagnostics.{level_word, lower_indent, lowest_of_labels, marked_lines}
+use Rattle.drawn_faults.specs.Diagnostics.{next_line}
 use Rattle.drawn_faults.specs.Diagnostics.{note_gutter, notes_rows, parting_above, placed_edit}
-use Rattle.drawn_faults.specs.Diagnostics.{plain_note, shown_label, shown_note, titled}
+use Rattle.drawn_faults.specs.Diagnostics.{plain_note, shown_label, shown_note, titled_labels}
 use Rattle.drawn_lines.specs.Glyphs.{IsHarmless, glyph, glyph_count, is_obeyed}
 use Rattle.drawn_lines.specs.Frames.{Frame, line_indent}
 use Rattle.drawn_lines.specs.Windows.{shift}
 use Rattle.drawn_labels.specs.Labels.{Label, mark, mark_in}
 use Rattle.drawn_labels.specs.Margins.{window_of}
-use Rattle.drawn_labels.specs.Marks.{is_right_of, sorted}
+use Rattle.drawn_labels.specs.Marks.{is_right_of, sorted_marks}
 use Rattle.drawn_lines.specs.Painting.{IsColourOf, IsHarmlessWith}
-use Rattle.drawn_lines.specs.Places.{Picture, extent, uncoloured}
+use Rattle.drawn_lines.specs.Places.{Picture, extent, without_colours}
 use Rattle.drawn_labels.specs.Rows.{Mark}
 use Rattle.drawn_lines.specs.declared.paint.Gutter.{Gutter}
 use Rattle.drawn_lines.specs.declared.paint.Palette.{Palette}
@@ -81,7 +82,7 @@ of_each : (f : Frame) (ls : List Label) → HaveSigns ls
     → IsColourOf (each_in_line f ls) (each_in_line (plain_frame f) ls)
 unfolding shift
 of_each f ls p =
-    of_marked_lines f None (sorted is_right_of [] (map (mark_in f) ls))
+    of_marked_lines f None (sorted_marks is_right_of [] (map (mark_in f) ls))
     (sorted-signed is_right_of [] (map (mark_in f) ls) tt (marks-signed f ls p))
 
 of_labels : (f : Frame) (ls : List Label) → HaveSigns ls
@@ -93,8 +94,9 @@ of_labels f (l ∷ k ∷ ls) p = of_each f (l ∷ k ∷ ls) p
 
 of_titled : (f : Frame) (p : Palette) (word title : List ℕ) (ls : List Label) → IsHarmless word
     → HaveSigns ls
-    → IsColourOf (titled f p word title ls) (titled (plain_frame f) Colourless word title ls)
-unfolding titled
+    → IsColourOf (titled_labels f p word title ls)
+    (titled_labels (plain_frame f) Colourless word title ls)
+unfolding titled_labels
 of_titled f p word title ls w q =
     join (of_painted f.gutter.palette Primary w)
     (join (of_painted p Bold
@@ -103,7 +105,7 @@ of_titled f p word title ls w q =
     (join (of_arrow f (first_spot ls)) (join (of_parting f) (of_labels f ls q)))))
 
 -- notes
-of_indented : (g : Gutter) (t : Text) → IsColourOf (indented g t) (indented (off g) t)
+of_indented : (g : Gutter) (t : Text) → IsColourOf (indented_text g t) (indented_text (off g) t)
 of_indented g [] = nothing
 of_indented g (c ∷ t) =
     join (plain (run-harmless (glyph_count c) (glyph c) (glyph-harmless c)))
@@ -120,33 +122,34 @@ shown-signs p (s ∷ ss) = (written-harmless 94 refl, shown-signs p ss)
 
 -- Lines have the same indent in the picture without colours.
 lowest-same : (p : Picture) (o : Option ℕ) (ls : List Label)
-    → lowest (uncoloured p) o ls ≡ lowest p o ls
+    → lowest_of_labels (without_colours p) o ls ≡ lowest_of_labels p o ls
 lowest-same p o [] = refl
 lowest-same p o (l ∷ ls) =
-    lowest-same p (lower (lower o (line_indent p l.extent.start.line))
+    lowest-same p (lower_indent (lower_indent o (line_indent p l.extent.start.line))
     (line_indent p l.extent.end.line)) ls
 
 frame-same : (p : Picture) (g : Gutter) (ls : List Label)
-    → plain_frame (frame_of p g ls) ≡ frame_of (uncoloured p) (off g) ls
+    → plain_frame (frame_of p g ls) ≡ frame_of (without_colours p) (off g) ls
 unfolding frame_of
 frame-same p g ls =
     ap (λ (n : Option ℕ). record {
-      picture = uncoloured p;
+      picture = without_colours p;
       gutter = off g;
       window = window_of p g (unwrap_or n 0) ls;
     }) (sym (lowest-same p None ls))
 
 of_shown_note : (p : Picture) (g : Gutter) (t : List ℕ) (ls : List Label) → HaveSigns ls
-    → IsColourOf (shown_note p g t ls) (shown_note (uncoloured p) (off g) t ls)
+    → IsColourOf (shown_note p g t ls) (shown_note (without_colours p) (off g) t ls)
 of_shown_note p g t [] q = of_plain_note g t
 of_shown_note p g t (l ∷ ls) q =
     let f = frame_of p (note_gutter p g) (l ∷ ls) in
-    subst (λ e. IsColourOf (titled f Colourless (codes "note") t (l ∷ ls))
-    (titled e Colourless (codes "note") t (l ∷ ls))) (frame-same p (note_gutter p g) (l ∷ ls))
+    subst (λ e. IsColourOf (titled_labels f Colourless (codes "note") t (l ∷ ls))
+    (titled_labels e Colourless (codes "note") t (l ∷ ls)))
+    (frame-same p (note_gutter p g) (l ∷ ls))
     (of_titled f Colourless (codes "note") t (l ∷ ls) (harmless_text (codes "note") refl) q)
 
 of_notes : (p : Picture) (g : Gutter) (ns : List Note)
-    → IsColourOf (notes_rows p g ns) (notes_rows (uncoloured p) (off g) ns)
+    → IsColourOf (notes_rows p g ns) (notes_rows (without_colours p) (off g) ns)
 unfolding extent
 of_notes p g [] = nothing
 of_notes p g (n ∷ ns) =
@@ -206,23 +209,23 @@ of_drawn_in f d ls q =
 
 -- The picture without colours has the same lines.
 note-same : (p : Picture) (n : ℕ) (ns : List Note)
-    → last_note_line (uncoloured p) n ns ≡ last_note_line p n ns
+    → last_note_line (without_colours p) n ns ≡ last_note_line p n ns
 unfolding extent
 note-same p n [] = refl
 note-same p n (t ∷ ts) = note-same p (last_label_line n (map (shown_label p) t.spans)) ts
 
 help-same : (p : Picture) (n : ℕ) (hs : List Help)
-    → last_help_line (uncoloured p) n hs ≡ last_help_line p n hs
+    → last_help_line (without_colours p) n hs ≡ last_help_line p n hs
 unfolding extent
 help-same p n [] = refl
 help-same p n (h ∷ hs) = help-same p (last_edit_line n (map (placed_edit p) h.edits)) hs
 
-gutter-same : (p : Picture) (d : Diagnostic) → off (gutter_of p d) ≡ gutter_of (uncoloured p) d
+gutter-same : (p : Picture) (d : Diagnostic) → off (gutter_of p d) ≡ gutter_of (without_colours p) d
 unfolding extent
 gutter-same p d =
     let n = last_label_line 0 (map (label_of p) d.labels) in
-    let same : last_line_of (uncoloured p) d ≡ last_line_of p d =
-    help-same p (last_note_line (uncoloured p) n d.notes) d.helps
+    let same : last_line_of (without_colours p) d ≡ last_line_of p d =
+    help-same p (last_note_line (without_colours p) n d.notes) d.helps
     ∙ ap (λ k. last_help_line p k d.helps) (note-same p n d.notes) in
     ap (λ (k : ℕ). record {
       columns = length (decimal (p.line_start + k));
@@ -231,12 +234,12 @@ gutter-same p d =
 
 -- The drawing without its colours is the one without colours.
 pub diagnostic-coloured : (p : Picture) (d : Diagnostic)
-    → IsColourOf (diagnostic_text p d) (diagnostic_text (uncoloured p) d)
+    → IsColourOf (diagnostic_text p d) (diagnostic_text (without_colours p) d)
 unfolding diagnostic_text extent
 diagnostic-coloured p d =
     let ls = map (label_of p) d.labels in
     let f = frame_of p (gutter_of p d) ls in
-    subst (λ g. IsColourOf (drawn_in f d ls) (drawn_in (frame_of (uncoloured p) g ls) d ls))
+    subst (λ g. IsColourOf (drawn_in f d ls) (drawn_in (frame_of (without_colours p) g ls) d ls))
     (gutter-same p d)
     (subst (λ e. IsColourOf (drawn_in f d ls) (drawn_in e d ls)) (frame-same p (gutter_of p d) ls)
     (of_drawn_in f d ls (labels-signs p d.labels)))

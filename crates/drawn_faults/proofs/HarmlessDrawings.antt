@@ -8,18 +8,20 @@ use Rattle.rustc_parse_format.specs.Faults.{RemoveRawIdent, ReorderFormatParamet
 use Rattle.rustc_parse_format.specs.Faults.{UseRustDebugPrintingMacro}
 use Rattle.rustc_parse_format.specs.Types.{Mode, Format, InlineAsm, Diagnostic, DiagnosticNamed}
 use Rattle.rustc_parse_format.specs.World.{Place}
-use Rattle.drawn_faults.specs.Drawing.{arrow, below, drawing, head, labelled_rows, laid_out}
+use Rattle.drawn_faults.specs.Drawing.{arrow, rows_below_labels, drawing, head, labelled_rows}
+use Rattle.drawn_faults.specs.Drawing.{laid_out_error}
 use Rattle.drawn_faults.specs.Drawing.{note_row, note_word, parting_before}
-use Rattle.fault_fixes.specs.Edits.{offered}
+use Rattle.fault_fixes.specs.Edits.{offered_suggestion}
 use Rattle.drawn_lines.specs.Glyphs.{IsHarmless, is_obeyed}
 use Rattle.drawn_edits.specs.Edited.{Edit}
 use Rattle.drawn_lines.specs.Frames.{Frame}
 use Rattle.drawn_labels.specs.Labels.{Label, mark, mark_in}
 use Rattle.drawn_lines.specs.Windows.{shift}
-use Rattle.drawn_faults.specs.Labels.{edit_of, frame, is_same, primary, second, second_text}
+use Rattle.drawn_faults.specs.Labels.{edit_of, frame, is_same, primary_label, second_label}
+use Rattle.drawn_faults.specs.Labels.{second_text}
 use Rattle.drawn_faults.specs.Labels.{text_name}
 use Rattle.drawn_lines.specs.Painting.{IsColourOf, IsHarmlessWith}
-use Rattle.drawn_lines.specs.Places.{Picture, extent, uncoloured}
+use Rattle.drawn_lines.specs.Places.{Picture, extent, without_colours}
 use Rattle.drawn_edits.specs.Suggestions.{edit_rows, help_rows, help_title}
 use Rattle.drawn_lines.specs.declared.extent.Spot.{Spot}
 use Rattle.drawn_lines.specs.declared.paint.Gutter.{Gutter}
@@ -116,22 +118,22 @@ of_parting_before f (Some t) e = of_parting f
 of_parting_before f None (Some e) = of_parting f
 
 of_below : (f : Frame) (t : Option (List ℕ)) (e : Option Edit)
-    → IsColourOf (below f t e) (below (plain_frame f) t e)
-unfolding below
+    → IsColourOf (rows_below_labels f t e) (rows_below_labels (plain_frame f) t e)
+unfolding rows_below_labels
 of_below f t e =
     join (of_parting_before f t e) (join (of_note f.gutter t) (of_help f e))
 
 of_laid_out : (mode : Mode) (p : Picture) (m : Message Place) (f : Frame) (l : Label)
     (o : Option (List ℕ × Place)) (e : Option Edit) → is_obeyed l.sign ≡ false
-    → IsColourOf (laid_out mode f m l (option_map (label p m) o) e)
-    (laid_out mode (plain_frame f) m l (option_map (label p m) o) e)
-unfolding laid_out
+    → IsColourOf (laid_out_error mode f m l (option_map (label p m) o) e)
+    (laid_out_error mode (plain_frame f) m l (option_map (label p m) o) e)
+unfolding laid_out_error
 of_laid_out mode p m f l o e h =
     join (of_head mode f m.description l.extent.start)
     (join (of_rows p m f l o h) (join (of_below f m.note e) (text (codes "\n") refl)))
 
 -- An edit is at the same place in the picture without colours.
-edit-same : (p : Picture) (g : Suggestion Place) → edit_of (uncoloured p) g ≡ edit_of p g
+edit-same : (p : Picture) (g : Suggestion Place) → edit_of (without_colours p) g ≡ edit_of p g
 unfolding extent
 edit-same p Nothing = refl
 edit-same p UsePositional = refl
@@ -142,18 +144,19 @@ edit-same p UseRustDebugPrintingMacro = refl
 
 -- A drawing without its colours is the one without colours.
 pub drawing-coloured : (mode : Mode) (p : Picture) (m : Message Place)
-    → IsColourOf (drawing mode p m) (drawing mode (uncoloured p) m)
-unfolding drawing second frame extent
+    → IsColourOf (drawing mode p m) (drawing mode (without_colours p) m)
+unfolding drawing second_label frame extent
 drawing-coloured mode p m =
-    let l = primary mode p m in
-    let s = second mode p m in
-    let e = edit_of p (offered mode m.suggestion) in
-    rw (edit-same p (offered mode m.suggestion))
-    (of_laid_out mode p m (frame p l s e) l (second_text m.second (offered mode m.suggestion)) e
+    let l = primary_label mode p m in
+    let s = second_label mode p m in
+    let e = edit_of p (offered_suggestion mode m.suggestion) in
+    rw (edit-same p (offered_suggestion mode m.suggestion))
+    (of_laid_out mode p m (frame p l s e) l
+    (second_text m.second (offered_suggestion mode m.suggestion)) e
     (written-harmless 94 refl))
 
 -- Without colours the picture is the same.
-pub picture-same : (p : Picture) → p.colours ≡ false → p ≡ uncoloured p
+pub picture-same : (p : Picture) → p.colours ≡ false → p ≡ without_colours p
 picture-same p e = ap (λ (b : Bool). record {
   path = p.path;
   source = p.source;
@@ -164,7 +167,7 @@ picture-same p e = ap (λ (b : Bool). record {
 }) e
 
 -- A terminal obeys nothing of a drawing but colours.
-pub harmless-with : {p : Picture} (f : Picture → List ℕ) → IsColourOf (f p) (f (uncoloured p))
+pub harmless-with : {p : Picture} (f : Picture → List ℕ) → IsColourOf (f p) (f (without_colours p))
     → IsHarmlessWith p.colours (f p)
 harmless-with {p = p} f h = by_test p.colours refl
   where

@@ -4,10 +4,10 @@ use Rattle.std.specs.Prelude.{codes, decimal, chars}
 use Rattle.rustc_parse_format.specs.Faults.{Message}
 use Rattle.rustc_parse_format.specs.Types.{Mode}
 use Rattle.rustc_parse_format.specs.World.{Place}
-use Rattle.fault_fixes.specs.Edits.{offered}
+use Rattle.fault_fixes.specs.Edits.{offered_suggestion}
 use Rattle.drawn_lines.specs.Frames.{Frame}
 use Rattle.drawn_lines.specs.Glyphs.{glyph_bytes, run}
-use Rattle.drawn_lines.specs.Painting.{painted, palette_of}
+use Rattle.drawn_lines.specs.Painting.{painted_text, palette_of}
 use Rattle.drawn_lines.specs.Places.{Picture, offset}
 use Rattle.drawn_lines.specs.Positions.{IsSpot}
 use Rattle.drawn_lines.specs.declared.extent.Spot.{Spot}
@@ -16,12 +16,12 @@ use Rattle.drawn_lines.specs.declared.paint.Style.TheVariants.{Secondary}
 use Rattle.drawn_labels.specs.Labels.{Label, mark_in}
 use Rattle.drawn_labels.specs.LongSigns.{AddsLong}
 use Rattle.drawn_labels.specs.Signs.{AddsLabels, AddsTwo, IsNarrow}
-use Rattle.drawn_faults.specs.Drawing.{below, head, title}
-use Rattle.drawn_faults.specs.Labels.{edit_of, primary, second}
+use Rattle.drawn_faults.specs.Drawing.{rows_below_labels, head, title}
+use Rattle.drawn_faults.specs.Labels.{edit_of, primary_label, second_label}
 
 -- A spot as an arrow names it: the path, the line, and the column, which counts characters from 1.
-abbrev pub named : Picture → Spot → List ℕ
-named p at =
+abbrev pub spot_name : Picture → Spot → List ℕ
+spot_name p at =
     glyph_bytes p.path
     ++ (codes ":" ++ (decimal (p.line_start + at.line)
     ++ (codes ":" ++ (decimal (at.chars + 1) ++ codes "\n"))))
@@ -32,10 +32,10 @@ pub record PointsAt (mode : Mode) (p : Picture) (m : Message Place) (text : List
   pub at : Spot
   pub is_spot : IsSpot (offset p m.span.0) (chars p.source) at
   pub columns : ℕ
-  pub below : List ℕ
+  pub rows_below_labels : List ℕ
   pub whole : text ≡ title (palette_of p.colours Error) mode m.description
-      ++ (run columns 32 ++ (painted (palette_of p.colours Error) Secondary (codes "--> ")
-      ++ (named p at ++ below)))
+      ++ (run columns 32 ++ (painted_text (palette_of p.colours Error) Secondary (codes "--> ")
+      ++ (spot_name p at ++ rows_below_labels)))
 
 -- The lines of one label are added to a text: its line with its signs under it, or the lines of a
 -- label that ends in a later one.
@@ -58,7 +58,8 @@ pub record ShowsLabels (mode : Mode) (p : Picture) (m : Message Place) (text : L
   pub layout : Frame
   pub is_of : layout.picture ≡ p
   pub mid : List ℕ
-  pub labels : AddsAll layout (primary mode p m) (second mode p m)
-      (head mode layout m.description (primary mode p m).extent.start) mid
+  pub labels : AddsAll layout (primary_label mode p m) (second_label mode p m)
+      (head mode layout m.description (primary_label mode p m).extent.start) mid
   pub whole : text ≡ mid
-      ++ (below layout m.note (edit_of p (offered mode m.suggestion)) ++ codes "\n")
+      ++ (rows_below_labels layout m.note (edit_of p (offered_suggestion mode m.suggestion))
+      ++ codes "\n")

@@ -9,14 +9,14 @@ use Rattle.rustc_parse_format.specs.World.{Place}
 use Rattle.drawn_faults.specs.Drawing.{arrow, note_word}
 use Rattle.drawn_lines.specs.Glyphs.{glyph, glyph_bytes, glyph_count, run}
 use Rattle.drawn_edits.specs.Helps.{edits_rows, help_word}
-use Rattle.drawn_edits.specs.Edited.{Edit, placed}
+use Rattle.drawn_edits.specs.Edited.{Edit, edit_in_literal}
 use Rattle.drawn_lines.specs.Frames.{Frame, line_indent}
 use Rattle.drawn_labels.specs.Labels.{Label, mark_in}
 use Rattle.drawn_lines.specs.Lines.{code_row, gap, parting}
 use Rattle.drawn_labels.specs.Long.{long_rows}
 use Rattle.drawn_labels.specs.Margins.{window_of}
-use Rattle.drawn_labels.specs.Marks.{is_right_of, mark_rows, sorted}
-use Rattle.drawn_lines.specs.Painting.{painted, palette_of}
+use Rattle.drawn_labels.specs.Marks.{is_right_of, mark_rows, sorted_marks}
+use Rattle.drawn_lines.specs.Painting.{painted_text, palette_of}
 use Rattle.drawn_lines.specs.Places.{Picture, extent, origin}
 use Rattle.drawn_labels.specs.Rows.{Mark}
 use Rattle.drawn_lines.specs.declared.extent.Spot.{Spot}
@@ -69,7 +69,7 @@ shown_label p s = record { sign = 94; text = []; extent = extent p s }
 
 -- An edit with its place in the source.
 abbrev pub placed_edit : Picture → SourceEdit → Edit
-placed_edit p e = placed p e.text e.span
+placed_edit p e = edit_in_literal p e.text e.span
 
 -- The last line in which one of these labels ends, or `n` if that is further down.
 abbrev pub last_label_line : ℕ → List Label → ℕ
@@ -99,16 +99,16 @@ last_line_of p d =
     (last_note_line p (last_label_line 0 (map (label_of p) d.labels)) d.notes) d.helps
 
 -- The lower of two indents, of which a blank line has none.
-abbrev pub lower : Option ℕ → Option ℕ → Option ℕ
-lower None n = n
-lower (Some m) None = Some m
-lower (Some m) (Some n) = Some (min m n)
+abbrev pub lower_indent : Option ℕ → Option ℕ → Option ℕ
+lower_indent None n = n
+lower_indent (Some m) None = Some m
+lower_indent (Some m) (Some n) = Some (min m n)
 
 -- The lowest indent of the lines in which these labels begin and end, and of `o`.
-abbrev pub lowest : Picture → Option ℕ → List Label → Option ℕ
-lowest p o [] = o
-lowest p o (l ∷ ls) =
-    lowest p (lower (lower o (line_indent p l.extent.start.line))
+abbrev pub lowest_of_labels : Picture → Option ℕ → List Label → Option ℕ
+lowest_of_labels p o [] = o
+lowest_of_labels p o (l ∷ ls) =
+    lowest_of_labels p (lower_indent (lower_indent o (line_indent p l.extent.start.line))
     (line_indent p l.extent.end.line)) ls
 
 -- The layout of labels.
@@ -116,7 +116,7 @@ unfoldable pub frame_of : Picture → Gutter → List Label → Frame
 frame_of p gutter ls = record {
   picture = p;
   gutter = gutter;
-  window = window_of p gutter (unwrap_or (lowest p None ls) 0) ls;
+  window = window_of p gutter (unwrap_or (lowest_of_labels p None ls) 0) ls;
 }
 
 -- The place s is in a line above t, or in front of it in the same line.
@@ -124,15 +124,15 @@ abbrev pub is_before : Spot → Spot → Bool
 is_before s t = nat_lt s.line t.line || ((s.line == t.line) && nat_lt s.chars t.chars)
 
 -- The place at which a label begins, if it is primary and that is in front of the one found before.
-abbrev pub earlier : Option Spot → Label → Option Spot
-earlier found l =
+abbrev pub earlier_spot : Option Spot → Label → Option Spot
+earlier_spot found l =
     if (l.sign == 94) && option_map_or (is_before l.extent.start) found true
     then Some l.extent.start else found
 
 -- The first place at which a primary one of these labels begins, or the one found before.
 abbrev pub first_of : Option Spot → List Label → Option Spot
 first_of found [] = found
-first_of found (l ∷ ls) = first_of (earlier found l) ls
+first_of found (l ∷ ls) = first_of (earlier_spot found l) ls
 
 -- The first place at which a primary one of these labels begins, or the start of the source.
 abbrev pub first_spot : List Label → Spot
@@ -165,7 +165,7 @@ marked_lines f before (m ∷ ms) =
 
 -- The lines of these labels, each in the line in which it begins.
 abbrev pub each_in_line : Frame → List Label → List ℕ
-each_in_line f ls = marked_lines f None (sorted is_right_of [] (map (mark_in f) ls))
+each_in_line f ls = marked_lines f None (sorted_marks is_right_of [] (map (mark_in f) ls))
 
 -- The lines of a label that is alone. One over several lines is drawn so.
 abbrev pub single_rows : Frame → Label → List ℕ
@@ -179,10 +179,10 @@ labels_rows f (l ∷ []) = single_rows f l
 labels_rows f (l ∷ k ∷ ls) = each_in_line f (l ∷ k ∷ ls)
 
 -- A title, in these colours, after a word, and the labels under it.
-unfoldable pub titled : Frame → Palette → List ℕ → List ℕ → List Label → List ℕ
-titled f colours word title ls =
-    painted f.gutter.palette Primary word
-    ++ (painted colours Bold (codes ": " ++ glyph_bytes title) ++ (codes "\n"
+unfoldable pub titled_labels : Frame → Palette → List ℕ → List ℕ → List Label → List ℕ
+titled_labels f colours word title ls =
+    painted_text f.gutter.palette Primary word
+    ++ (painted_text colours Bold (codes ": " ++ glyph_bytes title) ++ (codes "\n"
     ++ (arrow f (first_spot ls) ++ (parting f ++ labels_rows f ls))))
 
 -- The text after a character of a note: after a line feed the margin of the next line.
@@ -190,13 +190,13 @@ abbrev pub margin : Gutter → ℕ → List ℕ
 margin g c = if c == 10 then run g.columns 32 ++ codes "         " else []
 
 -- A text whose lines but the first one begin with a margin.
-abbrev pub indented : Gutter → Text → List ℕ
-indented g [] = []
-indented g (c ∷ t) = run (glyph_count c) (glyph c) ++ (margin g c ++ indented g t)
+abbrev pub indented_text : Gutter → Text → List ℕ
+indented_text g [] = []
+indented_text g (c ∷ t) = run (glyph_count c) (glyph c) ++ (margin g c ++ indented_text g t)
 
 -- A note that shows nothing.
 abbrev pub plain_note : Gutter → List ℕ → List ℕ
-plain_note g t = note_word g ++ (indented g (chars t) ++ codes "\n")
+plain_note g t = note_word g ++ (indented_text g (chars t) ++ codes "\n")
 
 -- The gutter of a note that shows something.
 abbrev pub note_gutter : Picture → Gutter → Gutter
@@ -206,7 +206,7 @@ note_gutter p g = record { columns = g.columns; palette = palette_of p.colours N
 abbrev pub shown_note : Picture → Gutter → List ℕ → List Label → List ℕ
 shown_note p g t [] = plain_note g t
 shown_note p g t (l ∷ ls) =
-    titled (frame_of p (note_gutter p g) (l ∷ ls)) Colourless (codes "note") t (l ∷ ls)
+    titled_labels (frame_of p (note_gutter p g) (l ∷ ls)) Colourless (codes "note") t (l ∷ ls)
 
 -- The notes.
 abbrev pub notes_rows : Picture → Gutter → List Note → List ℕ
@@ -216,11 +216,11 @@ notes_rows p g (n ∷ ns) = shown_note p g n.text (map (shown_label p) n.spans) 
 -- The start of a help without edits.
 abbrev pub help_row_word : Gutter → List ℕ
 help_row_word g =
-    run g.columns 32 ++ (codes " " ++ (painted g.palette Secondary (codes "= ")
-    ++ (painted g.palette Bold (codes "help") ++ codes ": ")))
+    run g.columns 32 ++ (codes " " ++ (painted_text g.palette Secondary (codes "= ")
+    ++ (painted_text g.palette Bold (codes "help") ++ codes ": ")))
 
 abbrev pub help_by : Frame → List ℕ → List SourceEdit → List ℕ
-help_by f t [] = help_row_word f.gutter ++ (indented f.gutter (chars t) ++ codes "\n")
+help_by f t [] = help_row_word f.gutter ++ (indented_text f.gutter (chars t) ++ codes "\n")
 help_by f t (e ∷ es) =
     help_word f.gutter.palette ++ (glyph_bytes t ++ (codes "\n"
     ++ edits_rows f (map (placed_edit f.picture) (e ∷ es))))
@@ -250,7 +250,7 @@ level_of is_warning = if is_warning then Warning else Error
 -- The drawing of a diagnostic with these labels in a layout. It ends in an empty line.
 unfoldable pub drawn_in : Frame → Diagnostic → List Label → List ℕ
 drawn_in f d ls =
-    titled f f.gutter.palette (level_word d.is_warning) d.title ls
+    titled_labels f f.gutter.palette (level_word d.is_warning) d.title ls
     ++ (parting_above f d
     ++ (notes_rows f.picture f.gutter d.notes ++ (helps_rows f d.helps ++ codes "\n")))
 

@@ -5,14 +5,14 @@ use Rattle.std.specs.Prelude.{codes, decimal}
 use Rattle.rustc_parse_format.specs.World.{Place}
 use Rattle.rustc_parse_format.specs.Faults.{Message}
 use Rattle.rustc_parse_format.specs.Types.{Mode}
-use Rattle.fault_fixes.specs.Edits.{offered}
+use Rattle.fault_fixes.specs.Edits.{offered_suggestion}
 use Rattle.drawn_lines.specs.Glyphs.{glyph_bytes, run}
-use Rattle.drawn_lines.specs.Painting.{painted}
+use Rattle.drawn_lines.specs.Painting.{painted_text}
 use Rattle.drawn_lines.specs.Places.{Picture}
-use Rattle.drawn_labels.specs.Labels.{Label, mark_in, labelled, two_labels}
+use Rattle.drawn_labels.specs.Labels.{Label, mark_in, labelled_line, two_labels}
 use Rattle.drawn_edits.specs.Edited.{Edit}
 use Rattle.drawn_lines.specs.Frames.{Frame}
-use Rattle.drawn_faults.specs.Labels.{primary, second, edit_of, frame, text_name}
+use Rattle.drawn_faults.specs.Labels.{primary_label, second_label, edit_of, frame, text_name}
 use Rattle.drawn_lines.specs.Lines.{parting}
 use Rattle.drawn_labels.specs.Long.{long_rows}
 use Rattle.drawn_edits.specs.Suggestions.{help_rows}
@@ -24,8 +24,8 @@ use Rattle.drawn_lines.specs.declared.paint.Style.TheVariants.{Bold, Primary, Se
 -- The title of the error.
 abbrev pub title : Palette → Mode → List ℕ → List ℕ
 title p mode description =
-    painted p Primary (codes "error")
-    ++ (painted p Bold (codes ": invalid " ++ (text_name mode
+    painted_text p Primary (codes "error")
+    ++ (painted_text p Bold (codes ": invalid " ++ (text_name mode
     ++ (codes ": " ++ glyph_bytes description)))
     ++ codes "\n")
 
@@ -33,7 +33,7 @@ title p mode description =
 -- characters.
 unfoldable pub arrow : Frame → Spot → List ℕ
 arrow f at =
-    run f.gutter.columns 32 ++ (painted f.gutter.palette Secondary (codes "--> ")
+    run f.gutter.columns 32 ++ (painted_text f.gutter.palette Secondary (codes "--> ")
     ++ (glyph_bytes f.picture.path ++ (codes ":"
     ++ (decimal (f.picture.line_start + at.line) ++ (codes ":" ++ (decimal (at.chars + 1)
     ++ codes "\n"))))))
@@ -46,14 +46,15 @@ head mode f description at = title f.gutter.palette mode description ++ (arrow f
 -- several lines has one sign there.
 unfoldable pub labelled_rows : Frame → Label → Option Label → List ℕ
 labelled_rows f l None =
-    if l.extent.start.line == l.extent.end.line then labelled f (mark_in f l) else long_rows f l
+    if l.extent.start.line == l.extent.end.line then labelled_line f
+    (mark_in f l) else long_rows f l
 labelled_rows f l (Some s) = two_labels f (mark_in f l) (mark_in f s)
 
 -- The start of a note.
 abbrev pub note_word : Gutter → List ℕ
 note_word g =
-    run g.columns 32 ++ (codes " " ++ (painted g.palette Secondary (codes "= ")
-    ++ (painted g.palette Bold (codes "note") ++ codes ": ")))
+    run g.columns 32 ++ (codes " " ++ (painted_text g.palette Secondary (codes "= ")
+    ++ (painted_text g.palette Bold (codes "note") ++ codes ": ")))
 
 -- The row of a note.
 abbrev pub note_row : Gutter → Option (List ℕ) → List ℕ
@@ -67,20 +68,20 @@ parting_before f (Some t) e = parting f
 parting_before f None (Some e) = parting f
 
 -- The rows below the labels.
-unfoldable pub below : Frame → Option (List ℕ) → Option Edit → List ℕ
-below f note e = parting_before f note e ++ (note_row f.gutter note ++ help_rows f e)
+unfoldable pub rows_below_labels : Frame → Option (List ℕ) → Option Edit → List ℕ
+rows_below_labels f note e = parting_before f note e ++ (note_row f.gutter note ++ help_rows f e)
 
 -- The drawing of labels, an error's other texts and an edit in a layout. It ends in an empty line.
-unfoldable pub laid_out : Mode → Frame → Message Place → Label → Option Label → Option Edit
+unfoldable pub laid_out_error : Mode → Frame → Message Place → Label → Option Label → Option Edit
     → List ℕ
-laid_out mode f m l s e =
+laid_out_error mode f m l s e =
     head mode f m.description l.extent.start
-    ++ (labelled_rows f l s ++ (below f m.note e ++ codes "\n"))
+    ++ (labelled_rows f l s ++ (rows_below_labels f m.note e ++ codes "\n"))
 
 -- The whole text.
 unfoldable pub drawing : Mode → Picture → Message Place → List ℕ
 drawing mode p m =
-    let l = primary mode p m in
-    let s = second mode p m in
-    let e = edit_of p (offered mode m.suggestion) in
-    laid_out mode (frame p l s e) m l s e
+    let l = primary_label mode p m in
+    let s = second_label mode p m in
+    let e = edit_of p (offered_suggestion mode m.suggestion) in
+    laid_out_error mode (frame p l s e) m l s e

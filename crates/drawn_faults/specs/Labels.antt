@@ -6,12 +6,12 @@ use Rattle.rustc_parse_format.specs.Types.{Mode, Format, InlineAsm, Diagnostic, 
 use Rattle.rustc_parse_format.specs.Faults.{Message, Suggestion, Nothing, UsePositional}
 use Rattle.rustc_parse_format.specs.Faults.{RemoveRawIdent, ReorderFormatParameter, AddMissingColon}
 use Rattle.rustc_parse_format.specs.Faults.{UseRustDebugPrintingMacro}
-use Rattle.fault_fixes.specs.Edits.{offered}
+use Rattle.fault_fixes.specs.Edits.{offered_suggestion}
 use Rattle.drawn_lines.specs.Painting.{palette_of}
 use Rattle.drawn_lines.specs.Places.{Picture, extent}
 use Rattle.drawn_lines.specs.declared.paint.Gutter.{Gutter}
 use Rattle.drawn_lines.specs.declared.paint.Palette.TheVariants.{Error}
-use Rattle.drawn_edits.specs.Edited.{Edit, placed}
+use Rattle.drawn_edits.specs.Edited.{Edit, edit_in_literal}
 use Rattle.drawn_labels.specs.Labels.{Label}
 use Rattle.drawn_labels.specs.Margins.{window_of}
 use Rattle.drawn_lines.specs.Frames.{Frame, line_indent}
@@ -24,8 +24,8 @@ text_name Diagnostic = codes "format string"
 text_name DiagnosticNamed = codes "format string"
 
 -- The label of the fault itself.
-abbrev pub primary : Mode → Picture → Message Place → Label
-primary mode p m = record {
+abbrev pub primary_label : Mode → Picture → Message Place → Label
+primary_label mode p m = record {
   sign = 94;
   text = m.label ++ (codes " in " ++ text_name mode);
   extent = extent p m.span;
@@ -51,19 +51,19 @@ abbrev pub is_same : Place → Place → Bool
 is_same s r = (s.0 == r.0) && (s.1 == r.1)
 
 -- The second label, if there is one. It has the sign of the first one if it has its range.
-unfoldable pub second : Mode → Picture → Message Place → Option Label
-second mode p m = option_map (λ x. record {
+unfoldable pub second_label : Mode → Picture → Message Place → Option Label
+second_label mode p m = option_map (λ x. record {
   sign = if is_same x.1 m.span then 94 else 45;
   text = x.0;
   extent = extent p x.1;
-}) (second_text m.second (offered mode m.suggestion))
+}) (second_text m.second (offered_suggestion mode m.suggestion))
 
 -- The edit that is drawn with its old and its new lines, if there is one.
 abbrev pub edit_of : Picture → Suggestion Place → Option Edit
 edit_of p Nothing = None
 edit_of p UsePositional = None
 edit_of p (RemoveRawIdent s) = None
-edit_of p (ReorderFormatParameter s t) = Some (placed p t s)
+edit_of p (ReorderFormatParameter s t) = Some (edit_in_literal p t s)
 edit_of p (AddMissingColon s) = None
 edit_of p UseRustDebugPrintingMacro = None
 
@@ -87,11 +87,11 @@ other_line l None = l.extent.end.line
 other_line l (Some s) = s.extent.start.line
 
 -- The least indent, where a blank line has none.
-abbrev pub least : Option ℕ → Option ℕ → ℕ
-least None None = 0
-least None (Some n) = n
-least (Some m) None = m
-least (Some m) (Some n) = if nat_lt n m then n else m
+abbrev pub lesser_indent : Option ℕ → Option ℕ → ℕ
+lesser_indent None None = 0
+lesser_indent None (Some n) = n
+lesser_indent (Some m) None = m
+lesser_indent (Some m) (Some n) = if nat_lt n m then n else m
 
 -- The labels.
 abbrev pub all_labels : Label → Option Label → List Label
@@ -112,6 +112,6 @@ frame p l s e = record {
   gutter = gutter_for p l s e;
   window =
       window_of p (gutter_for p l s e)
-      (least (line_indent p l.extent.start.line) (line_indent p (other_line l s)))
+      (lesser_indent (line_indent p l.extent.start.line) (line_indent p (other_line l s)))
       (all_labels l s);
 }

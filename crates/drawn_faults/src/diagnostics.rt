@@ -8,13 +8,13 @@ ghost use Rattle.drawn_faults.specs.Diagnostics.{level_of, level_word, parting_a
 ghost use Rattle.drawn_lines.specs.Frames.{seen_frame};
 ghost use Rattle.drawn_labels.specs.Labels.{seen_label};
 ghost use Rattle.drawn_lines.specs.Painting.{IsColourOf, IsHarmlessWith};
-ghost use Rattle.drawn_lines.specs.Places.{seen_picture, uncoloured};
+ghost use Rattle.drawn_lines.specs.Places.{seen_picture, without_colours};
 ghost use Rattle.drawn_faults.specs.SeenDiagnostics.{is_warning, seen_diagnostic};
 ghost use Rattle.drawn_faults.specs.SeenDiagnostics.{seen_source_label};
 
 use crate::helps::{SourceHelp, last_help_line, put_helps};
 use crate::marked::{frame_of, last_label_line};
-use crate::notes::{SourceNote, last_note_line, put_notes, put_titled};
+use crate::notes::{SourceNote, last_note_line, put_notes, put_titled_labels};
 use drawn_labels::Label;
 use drawn_lines::{Frame, Gutter, Palette, Picture, digits, extent_of, palette_of, put_parting};
 use std::alloc::{AllocError, Global};
@@ -144,7 +144,7 @@ fn level_of(level: Level) -> Palette
 
 /// Adds the drawing of a diagnostic with these labels in a layout.
 #[tactic(auto, unfolding(crate::specs::Diagnostics::drawn_in))]
-fn put_drawn(
+fn put_drawn_diagnostic(
     out: &mut String,
     frame: &Frame<'_>,
     diagnostic: &Diagnostic<'_>,
@@ -155,7 +155,7 @@ fn put_drawn(
         ++ drawn_in (seen_frame frame.now) (seen_diagnostic diagnostic.now)
         (map seen_label labels.now)) }
 {
-    put_titled(
+    put_titled_labels(
         out,
         frame,
         frame.gutter.palette,
@@ -185,7 +185,7 @@ fn put_diagnostic(
     let labels = labels_of(alloc, picture, diagnostic.labels)?;
     let gutter = gutter_of(alloc, picture, diagnostic, &labels)?;
     let frame = frame_of(picture, gutter, &labels);
-    put_drawn(out, &frame, diagnostic, &labels)?;
+    put_drawn_diagnostic(out, &frame, diagnostic, &labels)?;
     Ok(())
 }
 
@@ -217,7 +217,7 @@ pub fn draw_labels(
     // Without its colours it is the drawing without colours, and a terminal obeys nothing of it but
     // these.
     ensures coloured { IfOk result (λ s. IsColourOf (string_bytes s) (diagnostic_text
-        (uncoloured (seen_picture picture.now)) (seen_diagnostic diagnostic.now))) }
+        (without_colours (seen_picture picture.now)) (seen_diagnostic diagnostic.now))) }
     ensures harmless { IfOk result (λ s. IsHarmlessWith picture.now.colours (string_bytes s)) }
 {
     let mut out = String::new(alloc);
@@ -237,7 +237,8 @@ pub fn put_labels(
         ++ diagnostic_text (seen_picture picture.now) (seen_diagnostic diagnostic.now)) }
     ensures coloured { IsColourOf
         (diagnostic_text (seen_picture picture.now) (seen_diagnostic diagnostic.now))
-        (diagnostic_text (uncoloured (seen_picture picture.now)) (seen_diagnostic diagnostic.now)) }
+        (diagnostic_text (without_colours (seen_picture picture.now))
+        (seen_diagnostic diagnostic.now)) }
     ensures harmless { IsHarmlessWith picture.now.colours
         (diagnostic_text (seen_picture picture.now) (seen_diagnostic diagnostic.now)) }
 {

@@ -5,24 +5,25 @@ ghost use Rattle.std.specs.Prelude.{◌≡◌, ◌++◌, ◌<◌, ◌^◌, false
 ghost use Rattle.std.specs.Prelude.{OnOk, length, codes};
 ghost use Rattle.std.specs.Prelude.{option_map, string_bytes};
 ghost use Rattle.rustc_parse_format.specs.Seen.{seen_error, seen_mode};
-ghost use Rattle.drawn_lines.specs.Painting.{IsColourOf, IsHarmlessWith, opening, painted};
-ghost use Rattle.drawn_lines.specs.Places.{seen_picture, uncoloured};
+ghost use Rattle.drawn_lines.specs.Painting.{IsColourOf, IsHarmlessWith, opening, painted_text};
+ghost use Rattle.drawn_lines.specs.Places.{seen_picture, without_colours};
 ghost use Rattle.drawn_faults.specs.Arrows.{PointsAt, ShowsLabels};
-ghost use Rattle.drawn_faults.specs.Labels.{primary};
+ghost use Rattle.drawn_faults.specs.Labels.{primary_label};
 ghost use Rattle.drawn_edits.specs.Edited.{seen_edit};
 ghost use Rattle.drawn_lines.specs.Frames.{seen_frame};
 ghost use Rattle.drawn_labels.specs.Labels.{seen_label};
-ghost use Rattle.drawn_faults.specs.Drawing.{arrow, below, drawing, head, labelled_rows, note_row};
+ghost use Rattle.drawn_faults.specs.Drawing.{arrow, rows_below_labels, drawing, head};
+ghost use Rattle.drawn_faults.specs.Drawing.{labelled_rows, note_row};
 ghost use Rattle.drawn_faults.specs.Drawing.{note_word, parting_before, title};
 ghost use Rattle.drawn_edits.specs.Suggestions.{help_rows};
 ghost use Rattle.drawn_lines.specs.declared.paint.Style.TheVariants.{Bold, Primary};
 
-use crate::labels::{edit_of, frame_for, second, text_name};
+use crate::labels::{edit_of, frame_for, second_label, text_name};
 use drawn_edits::{Edit, put_edit};
-use drawn_labels::{Label, mark_in, put_labelled, put_long, put_two_labels};
+use drawn_labels::{Label, mark_in, put_labelled_line, put_long_label, put_two_labels};
 use drawn_lines::{
     Frame, Gutter, Palette, Picture, Spot, Style, extent_of, has_colours, put_closing, put_decimal,
-    put_glyphs, put_note_sign, put_opening, put_painted, put_parting, put_run,
+    put_glyphs, put_note_sign, put_opening, put_painted_text, put_parting, put_run,
 };
 use rustc_parse_format::{ParseError, ParseMode};
 use std::alloc::{AllocError, Global};
@@ -30,13 +31,13 @@ use std::alloc::{AllocError, Global};
 /// Adds the start of all titles, up to the name of the text, in which the style goes on.
 fn put_title_start(out: &mut String, palette: Palette) -> Result<(), AllocError>
     ensures { OnOk result (string_bytes out.new ≡ string_bytes out.old
-        ++ (painted palette Primary (codes "error") ++ (opening palette Bold
+        ++ (painted_text palette Primary (codes "error") ++ (opening palette Bold
         ++ codes ": invalid "))) }
 {
     if !has_colours(palette) {
         return Ok(out.push_str("error: invalid ")?);
     }
-    put_painted(out, palette, Style::Primary, "error")?;
+    put_painted_text(out, palette, Style::Primary, "error")?;
     put_opening(out, palette, Style::Bold)?;
     out.push_str(": invalid ")?;
     Ok(())
@@ -72,7 +73,7 @@ pub fn put_arrow(out: &mut String, frame: &Frame<'_>, at: Spot) -> Result<(), Al
     let line = frame.picture.line_start as usize + at.line;
     let column = at.chars + 1;
     put_run(out, ' ', frame.gutter.columns)?;
-    put_painted(out, frame.gutter.palette, Style::Secondary, "--> ")?;
+    put_painted_text(out, frame.gutter.palette, Style::Secondary, "--> ")?;
     put_glyphs(out, frame.picture.path, 0)?;
     out.push_str(":")?;
     put_decimal(out, line)?;
@@ -113,9 +114,9 @@ fn put_label(out: &mut String, frame: &Frame<'_>, label: &Label<'_>) -> Result<(
         ++ labelled_rows (seen_frame frame.now) (seen_label label.now) None) }
 {
     if label.extent.start.line == label.extent.end.line {
-        put_labelled(out, frame, &mark_in(frame, label))?;
+        put_labelled_line(out, frame, &mark_in(frame, label))?;
     } else {
-        put_long(out, frame, label)?;
+        put_long_label(out, frame, label)?;
     }
     Ok(())
 }
@@ -201,8 +202,8 @@ fn put_help(out: &mut String, frame: &Frame<'_>, edit: &Option<Edit<'_>>) -> Res
 }
 
 /// Adds the rows below the labels.
-#[tactic(auto, unfolding(crate::specs::Drawing::below))]
-fn put_below(
+#[tactic(auto, unfolding(crate::specs::Drawing::rows_below_labels))]
+fn put_rows_below_labels(
     out: &mut String,
     frame: &Frame<'_>,
     note: &Option<String>,
@@ -211,7 +212,7 @@ fn put_below(
     requires first { IfSome edit.now (λ e. e.extent.start.line < 2 ^ 59) }
     requires last { IfSome edit.now (λ e. e.extent.end.line < 2 ^ 59) }
     ensures { OnOk result (string_bytes out.new ≡ string_bytes out.old
-        ++ below (seen_frame frame.now) (option_map string_bytes note.now)
+        ++ rows_below_labels (seen_frame frame.now) (option_map string_bytes note.now)
         (option_map seen_edit edit.now)) }
 {
     put_parting_before(out, frame, note, edit)?;
@@ -221,7 +222,7 @@ fn put_below(
 }
 
 /// Adds the drawing of an error with this label. Returns `Err` if an allocation fails.
-#[tactic(auto, unfolding(crate::specs::Drawing::drawing, crate::specs::Drawing::laid_out))]
+#[tactic(auto, unfolding(crate::specs::Drawing::drawing, crate::specs::Drawing::laid_out_error))]
 fn put_with_label(
     out: &mut String,
     mode: ParseMode,
@@ -231,7 +232,7 @@ fn put_with_label(
 ) -> Result<(), AllocError>
     requires source { length picture.now.source.now < 2 ^ 59 }
     requires label { seen_label label.now
-        ≡ primary (seen_mode mode) (seen_picture picture.now) (seen_error error.now) }
+        ≡ primary_label (seen_mode mode) (seen_picture picture.now) (seen_error error.now) }
     requires number { label.now.extent.start.line < 2 ^ 59 }
     requires last { label.now.extent.end.line < 2 ^ 59 }
     requires chars { label.now.extent.start.chars < 2 ^ 59 }
@@ -239,13 +240,13 @@ fn put_with_label(
     ensures { OnOk result (string_bytes out.new ≡ string_bytes out.old
         ++ drawing (seen_mode mode) (seen_picture picture.now) (seen_error error.now)) }
 {
-    let second = second(mode, picture, error);
+    let second = second_label(mode, picture, error);
     let edit = edit_of(mode, picture, &error.suggestion);
     let frame = frame_for(picture, label, &second, &edit);
     let description = error.description.as_str();
     put_head(out, mode, &frame, description, label.extent.start)?;
     put_labels(out, &frame, label, &second)?;
-    put_below(out, &frame, &error.note, &edit)?;
+    put_rows_below_labels(out, &frame, &error.note, &edit)?;
     out.push_str("\n")?;
     Ok(())
 }
@@ -305,7 +306,8 @@ pub fn draw(
     // Without its colours it is the drawing without colours, and a terminal obeys nothing of it but
     // these.
     ensures coloured { IfOk result (λ s. IsColourOf (string_bytes s)
-        (drawing (seen_mode mode) (uncoloured (seen_picture picture.now)) (seen_error error.now))) }
+        (drawing (seen_mode mode) (without_colours (seen_picture picture.now))
+        (seen_error error.now))) }
     ensures harmless { IfOk result (λ s. IsHarmlessWith picture.now.colours (string_bytes s)) }
     // The line and the column that it names are those of the span's first character in the source.
     ensures arrow { IfOk result (λ s. PointsAt (seen_mode mode) (seen_picture picture.now)
@@ -333,7 +335,8 @@ pub fn put_drawing(
         ++ drawing (seen_mode mode) (seen_picture picture.now) (seen_error error.now)) }
     ensures coloured { IsColourOf
         (drawing (seen_mode mode) (seen_picture picture.now) (seen_error error.now))
-        (drawing (seen_mode mode) (uncoloured (seen_picture picture.now)) (seen_error error.now)) }
+        (drawing (seen_mode mode) (without_colours (seen_picture picture.now))
+        (seen_error error.now)) }
     ensures harmless { IsHarmlessWith picture.now.colours
         (drawing (seen_mode mode) (seen_picture picture.now) (seen_error error.now)) }
 {

@@ -3,7 +3,8 @@
 
 ghost use Rattle.std.specs.Prelude.{◌≡◌, ◌++◌, ◌<◌, ◌^◌, IfOk, OnOk, chars, codes, length};
 ghost use Rattle.std.specs.Prelude.{map, string_bytes};
-ghost use Rattle.drawn_faults.specs.Diagnostics.{help_row_word, help_rows, helps_rows, indented};
+ghost use Rattle.drawn_faults.specs.Diagnostics.{help_row_word, help_rows, helps_rows};
+ghost use Rattle.drawn_faults.specs.Diagnostics.{indented_text};
 ghost use Rattle.drawn_faults.specs.Diagnostics.{last_help_line, placed_edit};
 ghost use Rattle.drawn_edits.specs.Edited.{seen_edit};
 ghost use Rattle.drawn_lines.specs.Frames.{seen_frame};
@@ -11,9 +12,9 @@ ghost use Rattle.drawn_lines.specs.Places.{seen_picture};
 ghost use Rattle.drawn_faults.specs.SeenDiagnostics.{seen_help, seen_source_edit};
 
 use crate::marked::last_edit_line;
-use crate::notes::put_indented;
+use crate::notes::put_indented_text;
 use drawn_edits::{Edit, placed_edit, put_edits, put_help_word};
-use drawn_lines::{Frame, Gutter, Picture, Style, put_glyphs, put_painted, put_run};
+use drawn_lines::{Frame, Gutter, Picture, Style, put_glyphs, put_painted_text, put_run};
 use fault_fixes::Edit as SourceEdit;
 use std::alloc::{AllocError, Global};
 
@@ -72,8 +73,8 @@ fn put_help_row_word(out: &mut String, gutter: Gutter) -> Result<(), AllocError>
 {
     put_run(out, ' ', gutter.columns)?;
     out.push_str(" ")?;
-    put_painted(out, gutter.palette, Style::Secondary, "= ")?;
-    put_painted(out, gutter.palette, Style::Bold, "help")?;
+    put_painted_text(out, gutter.palette, Style::Secondary, "= ")?;
+    put_painted_text(out, gutter.palette, Style::Bold, "help")?;
     out.push_str(": ")?;
     Ok(())
 }
@@ -81,10 +82,10 @@ fn put_help_row_word(out: &mut String, gutter: Gutter) -> Result<(), AllocError>
 /// Adds a help without edits, as a row.
 fn put_help_row(out: &mut String, gutter: Gutter, text: &str) -> Result<(), AllocError>
     ensures { OnOk result (string_bytes out.new ≡ string_bytes out.old
-        ++ (help_row_word gutter ++ (indented gutter (chars text.now) ++ codes "\n"))) }
+        ++ (help_row_word gutter ++ (indented_text gutter (chars text.now) ++ codes "\n"))) }
 {
     put_help_row_word(out, gutter)?;
-    put_indented(out, gutter, text)?;
+    put_indented_text(out, gutter, text)?;
     out.push_str("\n")?;
     Ok(())
 }

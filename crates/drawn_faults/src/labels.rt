@@ -2,13 +2,13 @@
 
 ghost use Rattle.std.specs.Prelude.{◌≡◌, ◌+◌, ◌<◌, ◌^◌, IfSome, length, option_map};
 ghost use Rattle.rustc_parse_format.specs.Seen.{pair, seen_error, seen_mode, seen_suggestion};
-ghost use Rattle.fault_fixes.specs.Edits.{offered};
+ghost use Rattle.fault_fixes.specs.Edits.{offered_suggestion};
 ghost use Rattle.drawn_lines.specs.Frames.{line_indent, seen_frame};
 ghost use Rattle.drawn_lines.specs.Places.{seen_picture};
 ghost use Rattle.drawn_labels.specs.Labels.{seen_label};
 ghost use Rattle.drawn_edits.specs.Edited.{seen_edit};
-ghost use Rattle.drawn_faults.specs.Labels.{edit_line, edit_of, frame, last_line, least};
-ghost use Rattle.drawn_faults.specs.Labels.{other_line, second, second_text, text_name};
+ghost use Rattle.drawn_faults.specs.Labels.{edit_line, edit_of, frame, last_line, lesser_indent};
+ghost use Rattle.drawn_faults.specs.Labels.{other_line, second_label, second_text, text_name};
 
 use drawn_edits::{Edit, placed_edit};
 use drawn_labels::{Label, window_of};
@@ -31,7 +31,7 @@ pub fn text_name(mode: ParseMode) -> &'static str
 fn second_text(mode: ParseMode, error: &ParseError) -> Option<(&str, &Range<usize>)>
     ensures { option_map (λ x. (x.0.now, pair x.1.now)) result
         ≡ second_text (seen_error error.now).second
-        (offered (seen_mode mode) (seen_error error.now).suggestion) }
+        (offered_suggestion (seen_mode mode) (seen_error error.now).suggestion) }
 {
     if let Some((text, span)) = &error.secondary_label {
         return Some((text.as_str(), span));
@@ -49,15 +49,15 @@ fn second_text(mode: ParseMode, error: &ParseError) -> Option<(&str, &Range<usiz
 }
 
 /// Returns the second label, or `None` if there is none.
-#[tactic(auto, unfolding(crate::specs::Labels::second))]
-pub fn second<'a>(
+#[tactic(auto, unfolding(crate::specs::Labels::second_label))]
+pub fn second_label<'a>(
     mode: ParseMode,
     picture: &Picture<'_>,
     error: &'a ParseError,
 ) -> Option<Label<'a>>
     requires { length picture.now.source.now < 2 ^ 59 }
     ensures value { option_map seen_label result
-        ≡ second (seen_mode mode) (seen_picture picture.now) (seen_error error.now) }
+        ≡ second_label (seen_mode mode) (seen_picture picture.now) (seen_error error.now) }
     ensures small { IfSome result (λ l. l.extent.end.line < 2 ^ 59) }
     ensures small_start { IfSome result (λ l. l.extent.start.line < 2 ^ 59) }
     ensures small_column { IfSome result (λ l. l.extent.start.column < 2 ^ 61) }
@@ -79,7 +79,7 @@ pub fn edit_of<'a>(
 ) -> Option<Edit<'a>>
     requires { length picture.now.source.now < 2 ^ 59 }
     ensures value { option_map seen_edit result ≡ edit_of (seen_picture picture.now)
-        (offered (seen_mode mode) (seen_suggestion suggestion.now)) }
+        (offered_suggestion (seen_mode mode) (seen_suggestion suggestion.now)) }
     ensures small { IfSome result (λ e. e.extent.end.line < 2 ^ 59) }
     ensures small_start { IfSome result (λ e. e.extent.start.line < 2 ^ 59) }
 {
@@ -127,10 +127,10 @@ fn other_line(label: &Label<'_>, second: &Option<Label<'_>>) -> usize
 }
 
 /// Returns the least indent, where a blank line has none.
-fn least(m: Option<usize>, n: Option<usize>) -> usize
+fn lesser_indent(m: Option<usize>, n: Option<usize>) -> usize
     requires small_first { IfSome m (λ k. k < 2 ^ 62) }
     requires small_second { IfSome n (λ k. k < 2 ^ 62) }
-    ensures value { result ≡ least m n }
+    ensures value { result ≡ lesser_indent m n }
     ensures small { result < 2 ^ 62 }
 {
     match (m, n) {
@@ -145,15 +145,15 @@ fn least(m: Option<usize>, n: Option<usize>) -> usize
 /// are the same line, which is then looked for once.
 fn least_indent(picture: &Picture<'_>, number: usize, other: usize) -> usize
     requires { length picture.now.source.now < 2 ^ 59 }
-    ensures value { result ≡ least (line_indent (seen_picture picture.now) number)
+    ensures value { result ≡ lesser_indent (line_indent (seen_picture picture.now) number)
         (line_indent (seen_picture picture.now) other) }
     ensures small { result < 2 ^ 62 }
 {
     let indent = line_indent(picture, number);
     if other == number {
-        return least(indent, indent);
+        return lesser_indent(indent, indent);
     }
-    least(indent, line_indent(picture, other))
+    lesser_indent(indent, line_indent(picture, other))
 }
 
 /// Returns the layout for labels and an edit.

@@ -4,19 +4,23 @@
 ghost use Rattle.std.specs.Prelude.{◌≡◌, ◌++◌, ◌<◌, ◌^◌, [], IfOk, IfSome, None, OnOk, length, map};
 ghost use Rattle.std.specs.Prelude.{◌==◌, false, string_bytes, true, unwrap_or};
 ghost use Rattle.std.specs.Option.{option_map_or};
-ghost use Rattle.drawn_faults.specs.Diagnostics.{each_in_line, earlier, first_spot, frame_of};
+ghost use Rattle.drawn_faults.specs.Diagnostics.{each_in_line, earlier_spot, first_spot, frame_of};
 ghost use Rattle.drawn_faults.specs.Diagnostics.{gap_after, is_before, in_line, labels_rows};
-ghost use Rattle.drawn_faults.specs.Diagnostics.{last_edit_line, last_label_line, line_rows, lower};
-ghost use Rattle.drawn_faults.specs.Diagnostics.{lowest, marked_lines, next_line, single_rows};
+ghost use Rattle.drawn_faults.specs.Diagnostics.{last_edit_line, last_label_line, line_rows};
+ghost use Rattle.drawn_faults.specs.Diagnostics.{lower_indent};
+ghost use Rattle.drawn_faults.specs.Diagnostics.{lowest_of_labels, marked_lines, next_line};
+ghost use Rattle.drawn_faults.specs.Diagnostics.{single_rows};
 ghost use Rattle.drawn_labels.specs.Labels.{mark_in, seen_label};
 ghost use Rattle.drawn_edits.specs.Edited.{seen_edit};
 ghost use Rattle.drawn_lines.specs.Frames.{seen_frame};
-ghost use Rattle.drawn_labels.specs.Marks.{is_right_of, sorted};
+ghost use Rattle.drawn_labels.specs.Marks.{is_right_of, sorted_marks};
 ghost use Rattle.drawn_lines.specs.Places.{seen_picture};
 ghost use Rattle.drawn_labels.specs.Rows.{seen_mark};
 
 use drawn_edits::Edit;
-use drawn_labels::{Label, Mark, from_right, mark_in, put_long, put_mark_rows, window_of};
+use drawn_labels::{
+    Label, Mark, mark_in, marks_from_right, put_long_label, put_mark_rows, window_of,
+};
 use drawn_lines::{Frame, Gutter, ORIGIN, Picture, Spot, line_indent, put_code, put_gap};
 use std::alloc::{AllocError, Global};
 
@@ -47,8 +51,8 @@ pub fn last_edit_line(last: usize, edits: &[Edit<'_>]) -> usize
 }
 
 /// Returns the lower of two indents, of which a blank line has none.
-fn lower(m: Option<usize>, n: Option<usize>) -> Option<usize>
-    ensures value { result ≡ lower m n }
+fn lower_indent(m: Option<usize>, n: Option<usize>) -> Option<usize>
+    ensures value { result ≡ lower_indent m n }
     ensures small { IfSome m (λ k. k < 2 ^ 62) → IfSome n (λ k. k < 2 ^ 62)
         → IfSome result (λ k. k < 2 ^ 62) }
 {
@@ -61,16 +65,17 @@ fn lower(m: Option<usize>, n: Option<usize>) -> Option<usize>
 
 /// Returns the lowest indent of the lines in which labels begin and end, or `None` if these are
 /// blank.
-fn lowest(picture: &Picture<'_>, labels: &[Label<'_>]) -> Option<usize>
+fn lowest_of_labels(picture: &Picture<'_>, labels: &[Label<'_>]) -> Option<usize>
     requires { length picture.now.source.now < 2 ^ 59 }
-    ensures value { result ≡ lowest (seen_picture picture.now) None (map seen_label labels.now) }
+    ensures value { result ≡ lowest_of_labels (seen_picture picture.now) None
+        (map seen_label labels.now) }
     ensures small { IfSome result (λ k. k < 2 ^ 62) }
 {
     let mut least = None;
     for label in labels {
         let first = line_indent(picture, label.extent.start.line);
         let last = line_indent(picture, label.extent.end.line);
-        least = lower(lower(least, first), last);
+        least = lower_indent(lower_indent(least, first), last);
     }
     least
 }
@@ -79,10 +84,11 @@ fn lowest(picture: &Picture<'_>, labels: &[Label<'_>]) -> Option<usize>
 fn lowest_indent(picture: &Picture<'_>, labels: &[Label<'_>]) -> usize
     requires { length picture.now.source.now < 2 ^ 59 }
     ensures value { result
-        ≡ unwrap_or (lowest (seen_picture picture.now) None (map seen_label labels.now)) 0 }
+        ≡ unwrap_or (lowest_of_labels (seen_picture picture.now) None
+        (map seen_label labels.now)) 0 }
     ensures small { result < 2 ^ 62 }
 {
-    match lowest(picture, labels) {
+    match lowest_of_labels(picture, labels) {
         None => 0,
         Some(indent) => indent,
     }
@@ -122,10 +128,10 @@ fn is_first(first: Option<Spot>, start: Spot) -> bool
 
 /// Returns where a label begins, if it is primary and that is in front of `first`, and else
 /// `first`.
-fn earlier(first: Option<Spot>, label: &Label<'_>) -> Option<Spot>
+fn earlier_spot(first: Option<Spot>, label: &Label<'_>) -> Option<Spot>
     requires line { IfSome first (λ s. s.line < 2 ^ 59) }
     requires chars { IfSome first (λ s. s.chars < 2 ^ 59) }
-    ensures value { result ≡ earlier first (seen_label label.now) }
+    ensures value { result ≡ earlier_spot first (seen_label label.now) }
     ensures line { IfSome result (λ s. s.line < 2 ^ 59) }
     ensures chars { IfSome result (λ s. s.chars < 2 ^ 59) }
 {
@@ -145,7 +151,7 @@ pub fn first_spot(labels: &[Label<'_>]) -> Spot
 {
     let mut spot = None;
     for label in labels {
-        spot = earlier(spot, label);
+        spot = earlier_spot(spot, label);
     }
     spot.unwrap_or(ORIGIN)
 }
@@ -158,14 +164,14 @@ fn marks_of<'a>(
     labels: &[Label<'a>],
 ) -> Result<Vec<Mark<'a>>, AllocError>
     requires { length frame.now.picture.now.source.now < 2 ^ 59 }
-    ensures { IfOk result (λ v. map seen_mark v.items ≡ sorted is_right_of []
+    ensures { IfOk result (λ v. map seen_mark v.items ≡ sorted_marks is_right_of []
         (map (mark_in (seen_frame frame.now)) (map seen_label labels.now))) }
 {
     let mut list = Vec::new(alloc);
     for label in labels {
         list.push(mark_in(frame, label))?;
     }
-    from_right(alloc, &list)
+    marks_from_right(alloc, &list)
 }
 
 /// Returns those of labels that begin in a line. Returns `Err` if an allocation fails.
@@ -264,10 +270,10 @@ fn put_marked_lines(
     ensures { OnOk result (string_bytes out.new ≡ string_bytes out.old
         ++ marked_lines (seen_frame frame.now) None (map seen_mark marks.now)) }
 {
-    let mut before = None;
+    let mut previous_line = None;
     for (index, mark) in marks.iter().enumerate() {
-        put_next_line(out, frame, before, mark.line, &marks[index..])?;
-        before = Some(mark.line);
+        put_next_line(out, frame, previous_line, mark.line, &marks[index..])?;
+        previous_line = Some(mark.line);
     }
     Ok(())
 }
@@ -288,7 +294,11 @@ fn put_each_in_line(
 }
 
 /// Adds the lines of a label that is alone.
-fn put_single(out: &mut String, frame: &Frame<'_>, label: &Label<'_>) -> Result<(), AllocError>
+fn put_single_label(
+    out: &mut String,
+    frame: &Frame<'_>,
+    label: &Label<'_>,
+) -> Result<(), AllocError>
     requires { length frame.now.picture.now.source.now < 2 ^ 59 }
     ensures { OnOk result (string_bytes out.new ≡ string_bytes out.old
         ++ single_rows (seen_frame frame.now) (seen_label label.now)) }
@@ -296,7 +306,7 @@ fn put_single(out: &mut String, frame: &Frame<'_>, label: &Label<'_>) -> Result<
     if label.extent.start.line == label.extent.end.line {
         put_each_in_line(out, frame, &[*label])?;
     } else {
-        put_long(out, frame, label)?;
+        put_long_label(out, frame, label)?;
     }
     Ok(())
 }
@@ -312,7 +322,7 @@ pub fn put_labels_rows(
         ++ labels_rows (seen_frame frame.now) (map seen_label labels.now)) }
 {
     match labels {
-        [label] => put_single(out, frame, label)?,
+        [label] => put_single_label(out, frame, label)?,
         _ => put_each_in_line(out, frame, labels)?,
     }
     Ok(())

@@ -4,8 +4,9 @@
 ghost use Rattle.std.specs.Prelude.{◌≡◌, ◌++◌, ◌<◌, ◌^◌, IfOk, OnOk, chars, length, map};
 ghost use Rattle.std.specs.Prelude.{string_bytes};
 ghost use Rattle.rustc_parse_format.specs.Seen.{pair};
-ghost use Rattle.drawn_faults.specs.Diagnostics.{indented, last_note_line, margin, notes_rows};
-ghost use Rattle.drawn_faults.specs.Diagnostics.{plain_note, shown_label, shown_note, titled};
+ghost use Rattle.drawn_faults.specs.Diagnostics.{indented_text, last_note_line, margin, notes_rows};
+ghost use Rattle.drawn_faults.specs.Diagnostics.{plain_note, shown_label, shown_note};
+ghost use Rattle.drawn_faults.specs.Diagnostics.{titled_labels};
 ghost use Rattle.drawn_lines.specs.Frames.{seen_frame};
 ghost use Rattle.drawn_labels.specs.Labels.{seen_label};
 ghost use Rattle.drawn_lines.specs.Places.{seen_picture};
@@ -16,7 +17,7 @@ use crate::marked::{first_spot, frame_of, last_label_line, put_labels_rows};
 use drawn_labels::Label;
 use drawn_lines::{
     Frame, Gutter, Palette, Picture, Style, extent_of, glyph, glyph_count, palette_of, put_closing,
-    put_glyphs, put_opening, put_painted, put_parting, put_run, split_first,
+    put_glyphs, put_opening, put_painted_text, put_parting, put_run, split_first,
 };
 use std::alloc::{AllocError, Global};
 use std::ops::Range;
@@ -74,8 +75,8 @@ pub fn last_note_line(
 }
 
 /// Adds a title, in these colours, after a word, and labels under it.
-#[tactic(auto, unfolding(crate::specs::Diagnostics::titled))]
-pub fn put_titled(
+#[tactic(auto, unfolding(crate::specs::Diagnostics::titled_labels))]
+pub fn put_titled_labels(
     out: &mut String,
     frame: &Frame<'_>,
     palette: Palette,
@@ -85,9 +86,10 @@ pub fn put_titled(
 ) -> Result<(), AllocError>
     requires { length frame.now.picture.now.source.now < 2 ^ 59 }
     ensures { OnOk result (string_bytes out.new ≡ string_bytes out.old
-        ++ titled (seen_frame frame.now) palette word.now title.now (map seen_label labels.now)) }
+        ++ titled_labels (seen_frame frame.now) palette word.now title.now
+        (map seen_label labels.now)) }
 {
-    put_painted(out, frame.gutter.palette, Style::Primary, word)?;
+    put_painted_text(out, frame.gutter.palette, Style::Primary, word)?;
     put_opening(out, palette, Style::Bold)?;
     out.push_str(": ")?;
     put_glyphs(out, title, 0)?;
@@ -111,9 +113,9 @@ fn put_margin(out: &mut String, gutter: Gutter, c: char) -> Result<(), AllocErro
 }
 
 /// Adds a text whose lines but the first one begin with a margin.
-pub fn put_indented(out: &mut String, gutter: Gutter, text: &str) -> Result<(), AllocError>
+pub fn put_indented_text(out: &mut String, gutter: Gutter, text: &str) -> Result<(), AllocError>
     ensures { OnOk result (string_bytes out.new
-        ≡ string_bytes out.old ++ indented gutter (chars text.now)) }
+        ≡ string_bytes out.old ++ indented_text gutter (chars text.now)) }
 {
     let mut rest = text;
     while let Some((c, tail)) = split_first(rest) {
@@ -130,7 +132,7 @@ fn put_plain_note(out: &mut String, gutter: Gutter, text: &str) -> Result<(), Al
         ≡ string_bytes out.old ++ plain_note gutter text.now) }
 {
     put_note_word(out, gutter)?;
-    put_indented(out, gutter, text)?;
+    put_indented_text(out, gutter, text)?;
     out.push_str("\n")?;
     Ok(())
 }
@@ -153,7 +155,7 @@ fn put_shown_note(
             let columns = gutter.columns;
             let palette = palette_of(picture.colours, Palette::Note);
             let frame = frame_of(picture, Gutter { columns, palette }, labels);
-            put_titled(out, &frame, Palette::Colourless, "note", text, labels)?;
+            put_titled_labels(out, &frame, Palette::Colourless, "note", text, labels)?;
         }
     }
     Ok(())

@@ -11,18 +11,18 @@ use Rattle.std.specs.Prelude.{encode_utf8, flat_map}
 use Rattle.std.proofs.Math.Utf8.{encode}
 use Rattle.std.proofs.lemmas.List.{length-append}
 use Rattle.drawn_lines.specs.Glyphs.{glyph_bytes, glyphs, run}
-use Rattle.drawn_lines.specs.Lines.{under}
-use Rattle.drawn_lines.specs.Painting.{has_colours, painted}
+use Rattle.drawn_lines.specs.Lines.{row_under}
+use Rattle.drawn_lines.specs.Painting.{has_colours, painted_text}
 use Rattle.drawn_lines.specs.declared.paint.Gutter.{Gutter}
 use Rattle.drawn_lines.specs.declared.paint.Palette.{Palette}
 use Rattle.drawn_lines.specs.declared.paint.Style.{Style}
 use Rattle.drawn_lines.proofs.Joining.{painted-plain}
 use Rattle.drawn_labels.specs.Marks.{cells}
 use Rattle.drawn_labels.specs.Rows.{Mark, cell}
-use Rattle.drawn_labels.specs.Rows.{columns, hanging, has_column, label_text}
+use Rattle.drawn_labels.specs.Rows.{columns, hanging_rows, has_column, label_text}
 use Rattle.drawn_labels.specs.Rows.{sign_at, signs, space}
 use Rattle.drawn_labels.specs.Rows.{style_of}
-use Rattle.drawn_labels.specs.Rows.{text_style, written}
+use Rattle.drawn_labels.specs.Rows.{text_style, written_cells}
 use Rattle.drawn_labels.specs.Signs.{AddsRows, IsAmong, IsFree, IsInBars, IsInSigns}
 use Rattle.drawn_labels.specs.Signs.{cell_in}
 use Rattle.drawn_labels.specs.declared.cells.Cell.{Cell}
@@ -82,7 +82,7 @@ pub plain-bar : (s : Style) (cs : List Cell) → plain (cell s 124 ∷ cs) ≡ c
 plain-bar s cs = ap (λ t. t ++ plain cs) encode-bar
 
 bar_alone-plain : (p : Palette) (m : Mark) → has_colours p ≡ false
-    → run m.start 32 ++ painted p (style_of m) (codes "|") ≡ written p (bar_alone m)
+    → run m.start 32 ++ painted_text p (style_of m) (codes "|") ≡ written_cells p (bar_alone m)
 unfolding bar_alone
 bar_alone-plain p m h =
     ap (λ t. run m.start 32 ++ t) (painted-plain p (style_of m) (codes "|") h)
@@ -92,7 +92,7 @@ bar_alone-plain p m h =
     ∙ ap (λ t. run m.start 32 ++ t) (plain-bar (style_of m) []))
 
 pub text_alone-plain : (p : Palette) (m : Mark) → has_colours p ≡ false
-    → run m.start 32 ++ label_text p m ≡ written p (text_alone m)
+    → run m.start 32 ++ label_text p m ≡ written_cells p (text_alone m)
 unfolding text_alone
 text_alone-plain p m h =
     ap (λ t. run m.start 32 ++ t) (painted-plain p (text_style m) (glyph_bytes m.text) h)
@@ -159,24 +159,24 @@ in-columns ms m n t k i l =
 
 -- The rows of two labels: of l, and of r that does not begin further left.
 abbrev row_bytes : Gutter → List Cell → List ℕ
-row_bytes g row = under g (written g.palette row)
+row_bytes g row = row_under g (written_cells g.palette row)
 
 pub row-of : (g : Gutter) (t : List ℕ) (c : List Cell) (rest : List ℕ) (cs : List (List Cell))
-    → t ≡ written g.palette c → rest ≡ flat_map (row_bytes g) cs
-    → under g t ++ rest ≡ flat_map (row_bytes g) (c ∷ cs)
+    → t ≡ written_cells g.palette c → rest ≡ flat_map (row_bytes g) cs
+    → row_under g t ++ rest ≡ flat_map (row_bytes g) (c ∷ cs)
 row-of g t c rest cs e k =
-    ap (λ u. under g u ++ rest) e ∙ ap (λ u. row_bytes g c ++ u) k
+    ap (λ u. row_under g u ++ rest) e ∙ ap (λ u. row_bytes g c ++ u) k
 
-pub last-row : (g : Gutter) (t : List ℕ) (c : List Cell) → t ≡ written g.palette c
-    → under g t ≡ flat_map (row_bytes g) (c ∷ [])
-last-row g t c e = ap (under g) e ∙ sym (append-nil (row_bytes g c))
+pub last-row : (g : Gutter) (t : List ℕ) (c : List Cell) → t ≡ written_cells g.palette c
+    → row_under g t ≡ flat_map (row_bytes g) (c ∷ [])
+last-row g t c e = ap (row_under g) e ∙ sym (append-nil (row_bytes g c))
 
 -- The row of signs and the text of the label on the right.
 hanging_signs : Mark → Mark → List Cell
 hanging_signs l r = columns (sign_at l r) r.end ++ (space ∷ cells (text_style r) r.text)
 
 hanging-plain : (p : Palette) (l r : Mark) → has_colours p ≡ false
-    → signs p l r r.end ++ (codes " " ++ label_text p r) ≡ written p (hanging_signs l r)
+    → signs p l r r.end ++ (codes " " ++ label_text p r) ≡ written_cells p (hanging_signs l r)
 unfolding signs hanging_signs
 hanging-plain p l r h =
     ap (λ t. t ++ (codes " " ++ label_text p r))
@@ -204,9 +204,10 @@ hanging-along l r ms t apart long =
         (after-column r n k)
 
 pub hanging-adds : (g : Gutter) (l r : Mark) (ms : List Mark) (old new : List ℕ) → AreTwo l r ms
-    → has_colours g.palette ≡ false → l.end ≤ r.start → r.start ≤ r.end → new ≡ old ++ hanging g l r
+    → has_colours g.palette ≡ false → l.end ≤ r.start → r.start ≤ r.end
+    → new ≡ old ++ hanging_rows g l r
     → AddsRows g ms old new
-unfolding hanging
+unfolding hanging_rows
 hanging-adds g l r ms old new t h apart long e = record {
   signs = hanging_signs l r;
   others = bar_alone l ∷ text_alone l ∷ [];

@@ -7,15 +7,18 @@ use Rattle.std.specs.Prelude.{◌==◌, ◌&&◌, encode_utf8}
 use Rattle.drawn_lines.specs.Glyphs.{IsHarmless, is_obeyed}
 use Rattle.drawn_lines.specs.Frames.{Frame}
 use Rattle.drawn_lines.specs.Windows.{shift}
-use Rattle.drawn_labels.specs.Labels.{Label, apart, labelled, two_labels}
-use Rattle.drawn_labels.specs.Long.{bar_gap, bar_row, bar_rows, between, first_rows, is_bare_line}
-use Rattle.drawn_labels.specs.Long.{last_rows, lead, long_rows, signed_row, without_bare}
+use Rattle.drawn_labels.specs.Labels.{Label, lines_apart, labelled_line, two_labels}
+use Rattle.drawn_labels.specs.Long.{bar_gap, bar_row, bar_rows, rows_between, first_rows}
+use Rattle.drawn_labels.specs.Long.{is_bare_line}
+use Rattle.drawn_labels.specs.Long.{last_rows, lead_text, long_rows, signed_row, without_bare}
 use Rattle.drawn_lines.specs.Painting.{IsColourOf}
 use Rattle.drawn_lines.specs.Places.{line}
-use Rattle.drawn_labels.specs.Rows.{Mark, alone, bar_style, bars, beside, both, columns, covering}
-use Rattle.drawn_labels.specs.Rows.{hanging, has_column, is_covered, label_text, overlapping}
-use Rattle.drawn_labels.specs.Rows.{pair_rows, pointed, sign_at, signs, space, cell, style_of}
-use Rattle.drawn_labels.specs.Rows.{text_style, cell_pieces, written}
+use Rattle.drawn_labels.specs.Rows.{Mark, lone_row, bar_style, bars, rows_beside, both_rows}
+use Rattle.drawn_labels.specs.Rows.{columns, covering_row}
+use Rattle.drawn_labels.specs.Rows.{hanging_rows, has_column, is_covered, label_text}
+use Rattle.drawn_labels.specs.Rows.{overlapping_rows}
+use Rattle.drawn_labels.specs.Rows.{pair_rows, pointed_text, sign_at, signs, space, cell, style_of}
+use Rattle.drawn_labels.specs.Rows.{text_style, cell_pieces, written_cells}
 use Rattle.drawn_labels.specs.declared.cells.Cell.{Cell}
 use Rattle.drawn_lines.specs.declared.paint.Gutter.{Gutter}
 use Rattle.drawn_lines.specs.declared.paint.Palette.{Palette}
@@ -45,7 +48,7 @@ quiet-cells [] q = tt
 quiet-cells (c ∷ cs) q = (one-harmless c.character q.0, quiet-cells cs q.1)
 
 pub of_written : (p : Palette) (cs : List Cell) → Quiet cs
-    → IsColourOf (written p cs) (written Colourless cs)
+    → IsColourOf (written_cells p cs) (written_cells Colourless cs)
 of_written p cs q = of_pieces p (cell_pieces cs) (quiet-cells cs q)
 
 of_label_text : (p : Palette) (m : Mark) → IsColourOf (label_text p m) (label_text Colourless m)
@@ -79,26 +82,26 @@ of_bars p m n =
     (join (spaces m.start) (join (of_bar p (style_of m)) (spaces (n - m.start - 1)))) (spaces n)
 
 of_pointed : (p : Palette) (m : Mark) → is_obeyed m.sign ≡ false
-    → IsColourOf (pointed p m) (pointed Colourless m)
-unfolding pointed
+    → IsColourOf (pointed_text p m) (pointed_text Colourless m)
+unfolding pointed_text
 of_pointed p m h =
     join (of_painted p (style_of m) (run-harmless (m.end - m.start) m.sign h))
     (join (text (codes " ") refl) (of_label_text p m))
 
 of_alone : (p : Palette) (m : Mark) → is_obeyed m.sign ≡ false
-    → IsColourOf (alone p m) (alone Colourless m)
-unfolding alone
+    → IsColourOf (lone_row p m) (lone_row Colourless m)
+unfolding lone_row
 of_alone p m h = join (spaces m.start) (of_pointed p m h)
 
 of_covering : (p : Palette) (l r : Mark) → is_obeyed l.sign ≡ false → is_obeyed r.sign ≡ false
-    → IsColourOf (covering p l r) (covering Colourless l r)
+    → IsColourOf (covering_row p l r) (covering_row Colourless l r)
 of_covering p l r h k =
     let n = max l.end r.end in
     either (is_covered r l) (of_signs p l r h k n) (of_signs p r l k h n)
 
 of_overlapping : (g : Gutter) (l r : Mark) → is_obeyed l.sign ≡ false → is_obeyed r.sign ≡ false
-    → IsColourOf (overlapping g l r) (overlapping (off g) l r)
-unfolding overlapping
+    → IsColourOf (overlapping_rows g l r) (overlapping_rows (off g) l r)
+unfolding overlapping_rows
 of_overlapping g l r h k =
     let p = g.palette in
     join (of_under g (of_covering p l r h k))
@@ -107,8 +110,8 @@ of_overlapping g l r h k =
     (of_under g (join (spaces l.start) (of_label_text p l)))))
 
 of_hanging : (g : Gutter) (l r : Mark) → is_obeyed l.sign ≡ false → is_obeyed r.sign ≡ false
-    → IsColourOf (hanging g l r) (hanging (off g) l r)
-unfolding hanging
+    → IsColourOf (hanging_rows g l r) (hanging_rows (off g) l r)
+unfolding hanging_rows
 of_hanging g l r h k =
     let p = g.palette in
     join (of_under g (join (of_signs p l r h k r.end)
@@ -117,8 +120,8 @@ of_hanging g l r h k =
     (of_under g (join (spaces l.start) (of_label_text p l))))
 
 of_beside : (g : Gutter) (l r : Mark) → is_obeyed l.sign ≡ false → is_obeyed r.sign ≡ false
-    → IsColourOf (beside g l r) (beside (off g) l r)
-unfolding beside
+    → IsColourOf (rows_beside g l r) (rows_beside (off g) l r)
+unfolding rows_beside
 of_beside g l r h k =
     of_under g (join (of_alone g.palette l h)
     (join (spaces (r.start - (l.end + 1 + length l.text))) (of_pointed g.palette r k)))
@@ -131,18 +134,18 @@ of_pair g l r h k =
     (of_beside g l r h k))
 
 of_both : (g : Gutter) (m n : Mark) → is_obeyed m.sign ≡ false → is_obeyed n.sign ≡ false
-    → IsColourOf (both g m n) (both (off g) m n)
-unfolding both
+    → IsColourOf (both_rows g m n) (both_rows (off g) m n)
+unfolding both_rows
 of_both g m n h k = either (nat_lt m.start n.start) (of_pair g m n h k) (of_pair g n m k h)
 
 pub of_labelled : (f : Frame) (m : Mark) → is_obeyed m.sign ≡ false
-    → IsColourOf (labelled f m) (labelled (plain_frame f) m)
-unfolding labelled
+    → IsColourOf (labelled_line f m) (labelled_line (plain_frame f) m)
+unfolding labelled_line
 of_labelled f m h = join (of_code f m.line) (of_under f.gutter (of_alone f.gutter.palette m h))
 
 of_apart : (f : Frame) (m n : Mark) → is_obeyed m.sign ≡ false → is_obeyed n.sign ≡ false
-    → IsColourOf (apart f m n) (apart (plain_frame f) m n)
-unfolding apart
+    → IsColourOf (lines_apart f m n) (lines_apart (plain_frame f) m n)
+unfolding lines_apart
 of_apart f m n p q =
     join (of_labelled f m p) (join (of_gap f m.line n.line) (of_labelled f n q))
 
@@ -179,7 +182,7 @@ of_bar_gap f first last =
     (join (of_bar f.gutter.palette Primary) (text (codes "\n") refl)))) nothing)
 
 of_lead : (p : Palette) {front : List ℕ} (n : ℕ) → IsHarmless front
-    → IsColourOf (lead p front n) (lead Colourless front n)
+    → IsColourOf (lead_text p front n) (lead_text Colourless front n)
 of_lead p n h =
     of_painted p Primary (join_harmless h
     (join_harmless (run-harmless n 95 (written-harmless 95 refl)) (harmless_text (codes "^") refl)))
@@ -211,8 +214,8 @@ without-same f first (suc n) =
     ap (λ k. cond (is_bare_line f (first + suc n)) k (suc n)) (without-same f first n)
 
 of_between : (f : Frame) (first last : ℕ)
-    → IsColourOf (between f first last) (between (plain_frame f) first last)
-unfolding between
+    → IsColourOf (rows_between f first last) (rows_between (plain_frame f) first last)
+unfolding rows_between
 of_between f first last =
     let n = without_bare f first (min (last - first - 1) 3) in
     rw (without-same f first (min (last - first - 1) 3))

@@ -12,7 +12,7 @@ use Rattle.std.proofs.lemmas.List.{length-append}
 use Rattle.rustc_parse_format.specs.Characters.{Text}
 use Rattle.drawn_lines.specs.Frames.{Frame}
 use Rattle.drawn_lines.specs.Glyphs.{glyph_bytes, glyphs, run}
-use Rattle.drawn_lines.specs.Lines.{source_row, under}
+use Rattle.drawn_lines.specs.Lines.{source_row, row_under}
 use Rattle.drawn_lines.specs.Painting.{has_colours, plain_text}
 use Rattle.drawn_lines.specs.declared.paint.Gutter.{Gutter}
 use Rattle.drawn_lines.specs.declared.paint.Palette.{Palette}
@@ -20,10 +20,10 @@ use Rattle.drawn_lines.specs.declared.paint.Style.{Style}
 use Rattle.drawn_lines.proofs.Joining.{painted-plain}
 use Rattle.drawn_lines.proofs.PositionLaws.{row-adds}
 use Rattle.drawn_labels.specs.Marks.{cells, signs_of}
-use Rattle.drawn_labels.specs.Rows.{Mark, alone, cell, cell_pieces}
+use Rattle.drawn_labels.specs.Rows.{Mark, lone_row, cell, cell_pieces}
 use Rattle.drawn_labels.specs.Rows.{has_column, label_text}
-use Rattle.drawn_labels.specs.Rows.{pointed, space, style_of}
-use Rattle.drawn_labels.specs.Rows.{text_style, written}
+use Rattle.drawn_labels.specs.Rows.{pointed_text, space, style_of}
+use Rattle.drawn_labels.specs.Rows.{text_style, written_cells}
 use Rattle.drawn_labels.specs.Signs.{AddsLabels, AddsRows, IsAmong, IsFree, IsInSigns}
 use Rattle.drawn_labels.specs.Signs.{cell_in}
 use Rattle.drawn_labels.specs.declared.cells.Cell.{Cell}
@@ -34,7 +34,8 @@ use Rattle.drawn_labels.proofs.SignLaws.{run-cell, run-length}
 abbrev pub plain : List Cell → List ℕ
 plain cs = plain_text (cell_pieces cs)
 
-pub written-plain : (p : Palette) (cs : List Cell) → has_colours p ≡ false → written p cs ≡ plain cs
+pub written-plain : (p : Palette) (cs : List Cell) → has_colours p ≡ false
+    → written_cells p cs ≡ plain cs
 written-plain p cs h = rw h refl
 
 pub plain-run : (s : Style) (n c : ℕ) → plain (replicate n (cell s c)) ≡ run n c
@@ -53,8 +54,8 @@ pub plain-space : (cs : List Cell) → plain (space ∷ cs) ≡ codes " " ++ pla
 plain-space cs = ap (λ t. t ++ plain cs) encode-space
 
 pub pointed-plain : (p : Palette) (m : Mark) → has_colours p ≡ false
-    → pointed p m ≡ plain (signs_of m ++ (space ∷ cells (text_style m) m.text))
-unfolding pointed
+    → pointed_text p m ≡ plain (signs_of m ++ (space ∷ cells (text_style m) m.text))
+unfolding pointed_text
 pointed-plain p m h =
     ap (λ t. t ++ (codes " " ++ label_text p m))
     (painted-plain p (style_of m) (run (m.end - m.start) m.sign) h)
@@ -71,8 +72,8 @@ alone_cells m =
     replicate m.start space ++ (signs_of m ++ (space ∷ cells (text_style m) m.text))
 
 pub alone-plain : (p : Palette) (m : Mark) → has_colours p ≡ false
-    → alone p m ≡ plain (alone_cells m)
-unfolding alone alone_cells
+    → lone_row p m ≡ plain (alone_cells m)
+unfolding lone_row alone_cells
 alone-plain p m h =
     ap (λ t. run m.start 32 ++ t) (pointed-plain p m h)
     ∙ sym (cells-append (replicate m.start space)
@@ -214,13 +215,15 @@ one-two m = record {
 
 -- The rows of one label.
 pub alone-adds : (g : Gutter) (m : Mark) (old new : List ℕ) → has_colours g.palette ≡ false
-    → m.start ≤ m.end → new ≡ old ++ under g (alone g.palette m) → AddsRows g (m ∷ []) old new
+    → m.start ≤ m.end → new ≡ old ++ row_under g (lone_row g.palette m)
+    → AddsRows g (m ∷ []) old new
 alone-adds g m old new h long e = record {
   signs = alone_cells m;
   others = [];
-  whole = e ∙ ap (λ t. old ++ under g t) (alone-plain g.palette m h
+  whole = e ∙ ap (λ t. old ++ row_under g t) (alone-plain g.palette m h
       ∙ sym (written-plain g.palette (alone_cells m) h))
-      ∙ ap (λ t. old ++ t) (sym (append-nil (under g (written g.palette (alone_cells m)))));
+      ∙ ap (λ t. old ++ t) (sym (append-nil
+      (row_under g (written_cells g.palette (alone_cells m)))));
   are_signs = along-all (IsInSigns (m ∷ [])) (alone_cells m)
       (alone-along m (m ∷ []) (one-two m) long);
   are_bars = tt;
@@ -230,7 +233,7 @@ alone-adds g m old new h long e = record {
 pub labelled-adds : (f : Frame) (m : Mark) (old mid new : List ℕ)
     → has_colours f.gutter.palette ≡ false → m.start ≤ m.end
     → mid ≡ old ++ source_row f (codes " ") m.line
-    → new ≡ mid ++ under f.gutter (alone f.gutter.palette m)
+    → new ≡ mid ++ row_under f.gutter (lone_row f.gutter.palette m)
     → AddsLabels f m.line (m ∷ []) old new
 labelled-adds f m old mid new h long e k = record {
   mid = mid;

@@ -13,8 +13,8 @@ use Rattle.std.proofs.lemmas.Bool.{false≢true}
 use Rattle.rustc_parse_format.specs.Characters.{Text}
 use Rattle.drawn_lines.specs.Frames.{Frame}
 use Rattle.drawn_lines.specs.Glyphs.{glyph_bytes, glyphs, run}
-use Rattle.drawn_lines.specs.Lines.{number_bar, source_line, source_row, under}
-use Rattle.drawn_lines.specs.Painting.{has_colours, painted}
+use Rattle.drawn_lines.specs.Lines.{number_bar, source_line, source_row, row_under}
+use Rattle.drawn_lines.specs.Painting.{has_colours, painted_text}
 use Rattle.drawn_lines.specs.Places.{line}
 use Rattle.drawn_lines.specs.Windows.{shift}
 use Rattle.drawn_lines.specs.declared.paint.Palette.{Palette}
@@ -22,11 +22,11 @@ use Rattle.drawn_lines.specs.declared.paint.Style.TheVariants.{Primary, PrimaryT
 use Rattle.drawn_lines.proofs.Joining.{painted-plain}
 use Rattle.drawn_lines.proofs.PositionLaws.{line-is, row-adds}
 use Rattle.drawn_labels.specs.Labels.{Label}
-use Rattle.drawn_labels.specs.Long.{bar_gap, bar_row, bar_rows, between, end_text, first_rows}
+use Rattle.drawn_labels.specs.Long.{bar_gap, bar_row, bar_rows, rows_between, end_text, first_rows}
 use Rattle.drawn_labels.specs.Long.{is_bare_line}
-use Rattle.drawn_labels.specs.Long.{last_rows, lead, long_rows, signed_row, without_bare}
+use Rattle.drawn_labels.specs.Long.{last_rows, lead_text, long_rows, signed_row, without_bare}
 use Rattle.drawn_labels.specs.LongSigns.{AddsBars, AddsFirst, AddsLead, AddsLong, AddsSigned}
-use Rattle.drawn_labels.specs.LongSigns.{Between, Dots, IsInLead, Next, character_in, dots_row}
+use Rattle.drawn_labels.specs.LongSigns.{RowsBetween, Dots, IsInLead, Next, character_in, dots_row}
 
 -- The row of a line and of a sign.
 row-signed : (f : Frame) (sign : List ℕ) (n : ℕ) (old : List ℕ)
@@ -101,7 +101,7 @@ lead-length margin n rest = omega (arith, line-length n (94 ∷ rest))
 
 lead-bytes : (p : Palette) (margin : ℕ) (front : List ℕ) (n : ℕ) → has_colours p ≡ false
     → front ≡ encode_utf8 margin → codes "^" ≡ encode_utf8 94
-    → lead p front n ≡ encode_utf8_all (lead_row margin n [])
+    → lead_text p front n ≡ encode_utf8_all (lead_row margin n [])
 unfolding lead_row
 lead-bytes p margin front n h e k =
     painted-plain p Primary (front ++ (run n 95 ++ codes "^")) h
@@ -131,10 +131,10 @@ sign-bytes = refl
 -- The row under the first line,
 start-adds : (f : Frame) (to : ℕ) (old : List ℕ) → has_colours f.gutter.palette ≡ false
     → AddsLead f 32 to [] old
-    (old ++ under f.gutter (lead f.gutter.palette (codes " ") (to + 1)))
+    (old ++ row_under f.gutter (lead_text f.gutter.palette (codes " ") (to + 1)))
 start-adds f to old h = record {
   row = lead_row 32 (to + 1) [];
-  whole = ap (λ t. old ++ under f.gutter t)
+  whole = ap (λ t. old ++ row_under f.gutter t)
       (lead-bytes f.gutter.palette 32 (codes " ") (to + 1) h space-bytes sign-bytes);
   is_lead = lead-in 32 to [] [] (λ k. inl refl);
   ends = λ q. omega (arith, lead-length 32 (to + 1) []);
@@ -149,11 +149,12 @@ end-row : (f : Frame) (n to : ℕ) (text : List ℕ) (rest : Text) (old : List �
     → has_colours f.gutter.palette ≡ false → n ≡ to + 1
     → end_text f.gutter.palette text ≡ encode_utf8_all rest → Beside text rest
     → (text ≡ [] → length rest ≡ 0)
-    → AddsLead f 124 to text old (old ++ under f.gutter (lead f.gutter.palette (codes "|") n
+    → AddsLead f 124 to text old (old ++ row_under f.gutter
+    (lead_text f.gutter.palette (codes "|") n
     ++ end_text f.gutter.palette text))
 end-row f n to text rest old h e same beside none = record {
   row = lead_row 124 (to + 1) rest;
-  whole = ap (λ t. old ++ under f.gutter t)
+  whole = ap (λ t. old ++ row_under f.gutter t)
       (ap (λ t. t ++ end_text f.gutter.palette text)
       (lead-bytes f.gutter.palette 124 (codes "|") n h bar-bytes sign-bytes
       ∙ ap (λ k. encode_utf8_all (lead_row 124 k [])) e)
@@ -165,14 +166,16 @@ end-row f n to text rest old h e same beside none = record {
 
 end-adds : (f : Frame) (n to : ℕ) (text old : List ℕ) → has_colours f.gutter.palette ≡ false
     → n ≡ to + 1
-    → AddsLead f 124 to text old (old ++ under f.gutter (lead f.gutter.palette (codes "|") n
+    → AddsLead f 124 to text old (old ++ row_under f.gutter
+    (lead_text f.gutter.palette (codes "|") n
     ++ end_text f.gutter.palette text))
 end-adds f n to [] old h e =
     end-row f n to [] [] old h e refl (λ k. inl refl) (λ q. refl)
 end-adds f n to (c ∷ t) old h e =
     let some : (length (c ∷ t) == 0) ≡ false = grind (arith, nat_tests) in
     end-row f n to (c ∷ t) (32 ∷ glyphs (chars (c ∷ t))) old h e
-    (ap (λ b. cond b [] (codes " " ++ painted f.gutter.palette PrimaryText (glyph_bytes (c ∷ t))))
+    (ap (λ b. cond b [] (codes " " ++ painted_text f.gutter.palette PrimaryText
+    (glyph_bytes (c ∷ t))))
     some ∙ ap (λ u. codes " " ++ u) (painted-plain f.gutter.palette PrimaryText
     (glyph_bytes (c ∷ t)) h) ∙ ap (λ u. u ++ glyph_bytes (c ∷ t)) space-bytes)
     (text-beside (c ∷ t)) (λ q. absurd (cc q))
@@ -189,7 +192,7 @@ first-adds f l old h = record {
       rw (
         e,
         sym (append_assoc old (source_row f (codes "   ") l.extent.start.line)
-            (under f.gutter (lead f.gutter.palette (codes " ") (to + 1)))),
+            (row_under f.gutter (lead_text f.gutter.palette (codes " ") (to + 1)))),
       ) (
         mid,
         row-adds f (codes "   ") l.extent.start.line old mid refl,
@@ -198,7 +201,7 @@ first-adds f l old h = record {
 }
 
 -- Lines with a bar in front of others,
-bars-then : (f : Frame) (at n last : ℕ) (bs : List Between) (old new : List ℕ)
+bars-then : (f : Frame) (at n last : ℕ) (bs : List RowsBetween) (old new : List ℕ)
     → has_colours f.gutter.palette ≡ false → at + n < last
     → AddsBars f (at + n) last bs (old ++ bar_rows f at n) new
     → AddsBars f at last (replicate n Next ++ bs) old new
@@ -224,21 +227,22 @@ bars-then f at (suc n) last bs old new h l k =
     one-more (suc m) = ap (λ x. Next ∷ x) (one-more m)
 
 -- and what stands for lines that are left out.
-gap_bars : ℕ → ℕ → List Between
+gap_bars : ℕ → ℕ → List RowsBetween
 gap_bars at to =
     if to == at + 2 then Next ∷ [] else if nat_lt (at + 2) to then Dots (to - 1 - at) ∷ [] else []
 
 -- The claim on them, by two tests.
-abbrev GapThen : Frame → ℕ → ℕ → ℕ → List Between → List ℕ → List ℕ → Bool → Bool → Type 0
+abbrev GapThen : Frame → ℕ → ℕ → ℕ → List RowsBetween → List ℕ → List ℕ → Bool → Bool → Type 0
 GapThen f at to last bs old new a b =
     AddsBars f (to - 1) last bs (old ++ (if a then bar_row f (at + 1)
-    else if b then painted f.gutter.palette Secondary (codes "...")
-    ++ (run f.gutter.columns 32 ++ (painted f.gutter.palette Primary (codes "|") ++ codes "\n"))
+    else if b then painted_text f.gutter.palette Secondary (codes "...")
+    ++ (run f.gutter.columns 32 ++ (painted_text f.gutter.palette Primary (codes "|")
+    ++ codes "\n"))
     else [])) new
     → AddsBars f at last ((if a then Next ∷ [] else if b then Dots (to - 1 - at) ∷ [] else [])
     ++ bs) old new
 
-gap-then : (f : Frame) (at to last : ℕ) (bs : List Between) (old new : List ℕ)
+gap-then : (f : Frame) (at to last : ℕ) (bs : List RowsBetween) (old new : List ℕ)
     → has_colours f.gutter.palette ≡ false → at < to → to ≤ last
     → AddsBars f (to - 1) last bs (old ++ bar_gap f at to) new
     → AddsBars f at last (gap_bars at to ++ bs) old new
@@ -265,11 +269,11 @@ gap-then f at to last bs old new h l m k =
               (subst (λ t. AddsBars f (to - 1) last bs (old ++ t) new) dots k),
         )
       where
-        dots : painted f.gutter.palette Secondary (codes "...")
+        dots : painted_text f.gutter.palette Secondary (codes "...")
             ++ (run f.gutter.columns 32
-            ++ (painted f.gutter.palette Primary (codes "|") ++ codes "\n")) ≡ dots_row f
+            ++ (painted_text f.gutter.palette Primary (codes "|") ++ codes "\n")) ≡ dots_row f
         dots = ap (λ t. t ++ (run f.gutter.columns 32
-            ++ (painted f.gutter.palette Primary (codes "|") ++ codes "\n")))
+            ++ (painted_text f.gutter.palette Primary (codes "|") ++ codes "\n")))
             (painted-plain f.gutter.palette Secondary (codes "...") h)
             ∙ ap (λ t. codes "..." ++ (run f.gutter.columns 32 ++ (t ++ codes "\n")))
             (painted-plain f.gutter.palette Primary (codes "|") h)
@@ -290,12 +294,12 @@ few-bare f first (suc n) = by_test (is_bare_line f (first + suc n)) (few-bare f 
 
 -- The rows between the first and the last line.
 record AddsBetween (f : Frame) (first last : ℕ) (old new : List ℕ) : Type 0 where
-  bars : List Between
+  bars : List RowsBetween
   adds : AddsBars f first last bars old new
 
 between-adds : (f : Frame) (first last : ℕ) (old : List ℕ) → has_colours f.gutter.palette ≡ false
-    → first < last → AddsBetween f first last old (old ++ between f first last)
-unfolding between
+    → first < last → AddsBetween f first last old (old ++ rows_between f first last)
+unfolding rows_between
 between-adds f first last old h l =
     by_test (nat_lt (first + 5) last && not (is_bare_line f (last - 1))) refl
   where
@@ -354,19 +358,19 @@ pub long-adds : (f : Frame) (l : Label) (old new : List ℕ) → has_colours f.g
 unfolding long_rows last_rows
 long-adds f l old new h lines e =
     let mid = old ++ first_rows f l in
-    let low = mid ++ between f l.extent.start.line l.extent.end.line in
+    let low = mid ++ rows_between f l.extent.start.line l.extent.end.line in
     let end = low ++ bar_row f l.extent.end.line in
     let to = l.extent.end.column - shift f l.extent.end.line - 1 in
     let n : max (l.extent.end.column - shift f l.extent.end.line) 1 ≡ to + 1 = omega arith in
     let rows = between-adds f l.extent.start.line l.extent.end.line mid h lines in
-    let last = under f.gutter (lead f.gutter.palette (codes "|")
+    let last = row_under f.gutter (lead_text f.gutter.palette (codes "|")
     (max (l.extent.end.column - shift f l.extent.end.line) 1)
     ++ end_text f.gutter.palette l.text) in
     let whole : end ++ last ≡ new =
     append_assoc low (bar_row f l.extent.end.line) last
-    ∙ append_assoc mid (between f l.extent.start.line l.extent.end.line)
+    ∙ append_assoc mid (rows_between f l.extent.start.line l.extent.end.line)
     (bar_row f l.extent.end.line ++ last)
-    ∙ append_assoc old (first_rows f l) (between f l.extent.start.line l.extent.end.line
+    ∙ append_assoc old (first_rows f l) (rows_between f l.extent.start.line l.extent.end.line
     ++ (bar_row f l.extent.end.line ++ last)) ∙ sym e in
     record {
       mid = mid;
@@ -381,13 +385,13 @@ long-adds f l old new h lines e =
     }
 
 pub long-whole : (f : Frame) (l : Label) (old mid low new : List ℕ) → mid ≡ old ++ first_rows f l
-    → low ≡ mid ++ between f l.extent.start.line l.extent.end.line → new ≡ low ++ last_rows f l
+    → low ≡ mid ++ rows_between f l.extent.start.line l.extent.end.line → new ≡ low ++ last_rows f l
     → new ≡ old ++ long_rows f l
 unfolding long_rows
 long-whole f l old mid low new e h k =
     k ∙ ap (λ t. t ++ last_rows f l) (h
-    ∙ ap (λ t. t ++ between f l.extent.start.line l.extent.end.line) e)
-    ∙ append_assoc (old ++ first_rows f l) (between f l.extent.start.line l.extent.end.line)
+    ∙ ap (λ t. t ++ rows_between f l.extent.start.line l.extent.end.line) e)
+    ∙ append_assoc (old ++ first_rows f l) (rows_between f l.extent.start.line l.extent.end.line)
     (last_rows f l)
     ∙ append_assoc old (first_rows f l)
-    (between f l.extent.start.line l.extent.end.line ++ last_rows f l)
+    (rows_between f l.extent.start.line l.extent.end.line ++ last_rows f l)

@@ -11,16 +11,17 @@ use Rattle.std.proofs.lemmas.Bool.Decides.{nat_tests}
 use Rattle.std.proofs.lemmas.Bool.{cond_both}
 use Rattle.std.proofs.lemmas.List.{length-append, length-map}
 use Rattle.drawn_lines.specs.Glyphs.{glyph_bytes, glyphs, run}
-use Rattle.drawn_lines.specs.Painting.{has_colours, painted}
+use Rattle.drawn_lines.specs.Painting.{has_colours, painted_text}
 use Rattle.drawn_lines.specs.declared.paint.Gutter.{Gutter}
 use Rattle.drawn_lines.specs.declared.paint.Palette.{Palette}
 use Rattle.drawn_lines.proofs.Joining.{painted-plain}
 use Rattle.drawn_labels.specs.Marks.{cells, signs_of}
-use Rattle.drawn_labels.specs.Rows.{Mark, alone, bar_style, bars, beside, both, cell}
-use Rattle.drawn_labels.specs.Rows.{columns, covering, hanging, is_covered}
-use Rattle.drawn_labels.specs.Rows.{overlapping, pair_rows, pointed, sign_at, signs, space}
+use Rattle.drawn_labels.specs.Rows.{Mark, lone_row, bar_style, bars, rows_beside, both_rows, cell}
+use Rattle.drawn_labels.specs.Rows.{columns, covering_row, hanging_rows, is_covered}
+use Rattle.drawn_labels.specs.Rows.{overlapping_rows, pair_rows, pointed_text, sign_at, signs}
+use Rattle.drawn_labels.specs.Rows.{space}
 use Rattle.drawn_labels.specs.Rows.{style_of}
-use Rattle.drawn_labels.specs.Rows.{text_style, written}
+use Rattle.drawn_labels.specs.Rows.{text_style, written_cells}
 use Rattle.drawn_labels.specs.Signs.{AddsRows, IsAmong, IsFree, IsInBars, IsInSigns, IsNarrow}
 use Rattle.drawn_labels.specs.declared.cells.Cell.{Cell}
 use Rattle.drawn_labels.proofs.RowLemmas.{cells-append}
@@ -42,14 +43,14 @@ beside_cells l r =
     ++ (signs_of r ++ (space ∷ cells (text_style r) r.text))))))
 
 beside-plain : (p : Palette) (l r : Mark) → has_colours p ≡ false
-    → alone p l ++ (run (r.start - (l.end + 1 + length l.text)) 32 ++ pointed p r)
-    ≡ written p (beside_cells l r)
+    → lone_row p l ++ (run (r.start - (l.end + 1 + length l.text)) 32 ++ pointed_text p r)
+    ≡ written_cells p (beside_cells l r)
 unfolding beside_cells alone_cells
 beside-plain p l r h =
     let k = r.start - (l.end + 1 + length l.text) in
     let right = signs_of r ++ (space ∷ cells (text_style r) r.text) in
     let tail = replicate k space ++ right in
-    ap (λ t. t ++ (run k 32 ++ pointed p r)) (alone-plain p l h)
+    ap (λ t. t ++ (run k 32 ++ pointed_text p r)) (alone-plain p l h)
     ∙ ap (λ t. plain (alone_cells l) ++ (run k 32 ++ t)) (pointed-plain p r h)
     ∙ ap (λ t. plain (alone_cells l) ++ t) (sym (cells-append (replicate k space) right
     ∙ ap (λ t. t ++ plain right) (plain-run space.style k 32)))
@@ -97,8 +98,8 @@ beside-along l r ms t long wide narrow apart =
 
 beside-adds : (g : Gutter) (l r : Mark) (ms : List Mark) (old new : List ℕ) → AreTwo l r ms
     → has_colours g.palette ≡ false → l.start ≤ l.end → r.start ≤ r.end → IsNarrow l.text
-    → l.end + length l.text + 2 ≤ r.start → new ≡ old ++ beside g l r → AddsRows g ms old new
-unfolding beside
+    → l.end + length l.text + 2 ≤ r.start → new ≡ old ++ rows_beside g l r → AddsRows g ms old new
+unfolding rows_beside
 beside-adds g l r ms old new t h long wide narrow apart e = record {
   signs = beside_cells l r;
   others = [];
@@ -115,13 +116,14 @@ covering_cells l r =
     cond (is_covered r l) (columns (sign_at l r) (max l.end r.end))
     (columns (sign_at r l) (max l.end r.end))
 
-covering-plain : (p : Palette) (l r : Mark) → covering p l r ≡ written p (covering_cells l r)
+covering-plain : (p : Palette) (l r : Mark)
+    → covering_row p l r ≡ written_cells p (covering_cells l r)
 unfolding signs covering_cells
 covering-plain p l r = by_test (is_covered r l)
   where
-    by_test : (b : Bool) → cond b (written p (columns (sign_at l r) (max l.end r.end)))
-        (written p (columns (sign_at r l) (max l.end r.end)))
-        ≡ written p (cond b (columns (sign_at l r) (max l.end r.end))
+    by_test : (b : Bool) → cond b (written_cells p (columns (sign_at l r) (max l.end r.end)))
+        (written_cells p (columns (sign_at r l) (max l.end r.end)))
+        ≡ written_cells p (cond b (columns (sign_at l r) (max l.end r.end))
         (columns (sign_at r l) (max l.end r.end)))
     by_test true = refl
     by_test false = refl
@@ -190,7 +192,7 @@ unfolding bar_cells
 bars-plain p m n h = by_test (nat_lt m.start n)
   where
     by_test : (b : Bool) → cond b
-        (run m.start 32 ++ (painted p (style_of m) (codes "|") ++ run (n - m.start - 1) 32))
+        (run m.start 32 ++ (painted_text p (style_of m) (codes "|") ++ run (n - m.start - 1) 32))
         (run n 32) ≡ plain (cond b (bar_first m n) (replicate n space))
     by_test true =
         ap (λ t. run m.start 32 ++ (t ++ run (n - m.start - 1) 32))
@@ -206,7 +208,7 @@ bars-plain p m n h = by_test (nat_lt m.start n)
 
 -- Such a row and cells after it.
 bars-then : (p : Palette) (m : Mark) (n : ℕ) (t : List ℕ) (cs : List Cell)
-    → has_colours p ≡ false → t ≡ plain cs → bars p m n ++ t ≡ written p (bar_cells m n ++ cs)
+    → has_colours p ≡ false → t ≡ plain cs → bars p m n ++ t ≡ written_cells p (bar_cells m n ++ cs)
 bars-then p m n t cs h e =
     ap (λ u. u ++ t) (bars-plain p m n h) ∙ ap (λ u. plain (bar_cells m n) ++ u) e
     ∙ sym (written-plain p (bar_cells m n ++ cs) h ∙ cells-append (bar_cells m n) cs)
@@ -236,9 +238,9 @@ second-along l r ms t order =
         bar-bars ms l t.left (style_of l) refl r.start same
 
 overlapping-adds : (g : Gutter) (l r : Mark) (ms : List Mark) (old new : List ℕ) → AreTwo l r ms
-    → has_colours g.palette ≡ false → l.start ≤ r.start → new ≡ old ++ overlapping g l r
+    → has_colours g.palette ≡ false → l.start ≤ r.start → new ≡ old ++ overlapping_rows g l r
     → AddsRows g ms old new
-unfolding overlapping second_bar
+unfolding overlapping_rows second_bar
 overlapping-adds g l r ms old new t h order e =
     let p = g.palette in
     let second = bar_cells l r.start ++ second_bar l r in
@@ -273,18 +275,20 @@ pair-adds : (g : Gutter) (l r : Mark) (ms : List Mark) (old : List ℕ) → AreT
     → has_colours g.palette ≡ false → l.start ≤ r.start → l.start ≤ l.end → r.start ≤ r.end
     → IsNarrow l.text → AddsRows g ms old (old ++ pair_rows g l r)
 pair-adds g l r ms old t h order long wide narrow =
-    cond_both {A = List ℕ} (nat_lt r.start l.end) (overlapping g l r) (beside_or)
+    cond_both {A = List ℕ} (nat_lt r.start l.end) (overlapping_rows g l r) (beside_or)
     (λ u. AddsRows g ms old (old ++ u))
-    (λ yes. overlapping-adds g l r ms old (old ++ overlapping g l r) t h order refl)
-    (λ no. cond_both {A = List ℕ} (nat_lt r.start (l.end + length l.text + 2)) (hanging g l r)
-    (beside g l r) (λ u. AddsRows g ms old (old ++ u))
-    (λ near. hanging-adds g l r ms old (old ++ hanging g l r) t h (grind (arith, nat_tests)) wide
+    (λ yes. overlapping-adds g l r ms old (old ++ overlapping_rows g l r) t h order refl)
+    (λ no. cond_both {A = List ℕ} (nat_lt r.start (l.end + length l.text + 2)) (hanging_rows g l r)
+    (rows_beside g l r) (λ u. AddsRows g ms old (old ++ u))
+    (λ near. hanging-adds g l r ms old (old ++ hanging_rows g l r) t h
+    (grind (arith, nat_tests)) wide
     refl)
-    (λ far. beside-adds g l r ms old (old ++ beside g l r) t h long wide narrow
+    (λ far. beside-adds g l r ms old (old ++ rows_beside g l r) t h long wide narrow
     (grind (arith, nat_tests)) refl))
   where
     beside_or : List ℕ
-    beside_or = cond (nat_lt r.start (l.end + length l.text + 2)) (hanging g l r) (beside g l r)
+    beside_or = cond (nat_lt r.start (l.end + length l.text + 2)) (hanging_rows g l r)
+        (rows_beside g l r)
 
 two-of : (m n : Mark) → AreTwo m n (m ∷ n ∷ [])
 two-of m n = record {
@@ -298,8 +302,8 @@ two-of m n = record {
 
 pub both-adds : (g : Gutter) (m n : Mark) (old new : List ℕ) → has_colours g.palette ≡ false
     → m.start ≤ m.end → n.start ≤ n.end → IsNarrow m.text → IsNarrow n.text
-    → new ≡ old ++ both g m n → AddsRows g (m ∷ n ∷ []) old new
-unfolding both
+    → new ≡ old ++ both_rows g m n → AddsRows g (m ∷ n ∷ []) old new
+unfolding both_rows
 both-adds g m n old new h long wide narrow thin e =
     let ms = m ∷ n ∷ [] in
     subst (λ u. AddsRows g ms old u) (sym e)

@@ -8,22 +8,25 @@ use Rattle.std.specs.List.{AllByRecursion}
 use Rattle.std.proofs.lemmas.Bool.Decides.{nat_tests}
 use Rattle.std.proofs.lemmas.Bool.{cond_both}
 use Rattle.std.proofs.lemmas.Grind.{flat_map-append}
-use Rattle.drawn_lines.specs.Lines.{under}
+use Rattle.drawn_lines.specs.Lines.{row_under}
 use Rattle.drawn_lines.specs.declared.paint.Gutter.{Gutter}
-use Rattle.drawn_labels.specs.Marks.{HungLabel, bars, cells, depth, depth_after, depth_of, hang}
+use Rattle.drawn_labels.specs.Marks.{HungLabel, bars, cells, depth, depth_after, depth_of}
+use Rattle.drawn_labels.specs.Marks.{hung_labels}
 use Rattle.drawn_labels.specs.Marks.{has_text}
-use Rattle.drawn_labels.specs.Marks.{hung_row, hung_rows, hung_texts, mark_rows, put_at, put_from}
-use Rattle.drawn_labels.specs.Marks.{rows_below, rows_of, side_texts, sign_row, signs_of, sorted}
+use Rattle.drawn_labels.specs.Marks.{hung_row, hung_rows, hung_texts, mark_rows, put_cell_at}
+use Rattle.drawn_labels.specs.Marks.{put_cells_from}
+use Rattle.drawn_labels.specs.Marks.{rows_below, rows_of, side_texts, sign_row, signs_of}
+use Rattle.drawn_labels.specs.Marks.{sorted_marks}
 use Rattle.drawn_labels.specs.Marks.{with_bar, with_hung_text, with_mark, with_side_text}
 use Rattle.drawn_labels.specs.Marks.{with_signs}
 use Rattle.drawn_labels.specs.Rows.{Mark, cell, has_column, is_covered, space, style_of, text_style}
-use Rattle.drawn_labels.specs.Rows.{written}
+use Rattle.drawn_labels.specs.Rows.{written_cells}
 use Rattle.drawn_labels.specs.Signs.{AddsRows, IsAmong, IsFree, IsInBars, IsInSigns, IsSign}
-use Rattle.drawn_labels.specs.Signs.{IsText, cell_in, right_of}
+use Rattle.drawn_labels.specs.Signs.{IsText, cell_in, column_right_of}
 use Rattle.drawn_labels.specs.declared.cells.Cell.{Cell}
 
 -- A cell that is put into a row is in its column,
-put-here : (n : ℕ) (c : Cell) (row : List Cell) → cell_in n (put_at n c row) ≡ c
+put-here : (n : ℕ) (c : Cell) (row : List Cell) → cell_in n (put_cell_at n c row) ≡ c
 put-here zero c [] = refl
 put-here zero c (d ∷ row) = refl
 put-here (suc n) c [] = put-here n c []
@@ -31,7 +34,7 @@ put-here (suc n) c (d ∷ row) = put-here n c row
 
 -- and in the other columns is what was there.
 put-there : (n k : ℕ) (c : Cell) (row : List Cell) → (n < k) ⊎ (k < n)
-    → cell_in n (put_at k c row) ≡ cell_in n row
+    → cell_in n (put_cell_at k c row) ≡ cell_in n row
 put-there zero zero c row (inl l) = absurd (omega (arith, l))
 put-there zero zero c row (inr l) = absurd (omega (arith, l))
 put-there zero (suc k) c [] h = refl
@@ -63,21 +66,21 @@ data Found (n k : ℕ) (cs row : List Cell) (c : Cell) : Type 0 where
   Put : (j : ℕ) → n ≡ k + j → j < length cs → c ≡ cell_in j cs → Found n k cs row c
   Left : (n < k) ⊎ (k + length cs ≤ n) → c ≡ cell_in n row → Found n k cs row c
 
-find : (n k : ℕ) (cs row : List Cell) → Found n k cs row (cell_in n (put_from k cs row))
+find : (n k : ℕ) (cs row : List Cell) → Found n k cs row (cell_in n (put_cells_from k cs row))
 find n k [] row = by_order (order n k)
   where
     by_order : Order n k → Found n k [] row (cell_in n row)
     by_order (Below l) = Left (inl l) refl
     by_order (Same e) = Left (inr (omega (arith, e))) refl
     by_order (Above l) = Left (inr (omega (arith, l))) refl
-find n k (c ∷ cs) row = by_found (find n (suc k) cs (put_at k c row)) (order n k)
+find n k (c ∷ cs) row = by_found (find n (suc k) cs (put_cell_at k c row)) (order n k)
   where
-    by_found : {d : Cell} → Found n (suc k) cs (put_at k c row) d → Order n k
+    by_found : {d : Cell} → Found n (suc k) cs (put_cell_at k c row) d → Order n k
         → Found n k (c ∷ cs) row d
     by_found (Put j e l f) o = Put (suc j) (omega (arith, e)) (omega (arith, l)) f
     by_found (Left h f) (Below l) = Left (inl l) (f ∙ put-there n k c row (inl l))
     by_found (Left h f) (Same e) =
-        Put 0 (omega (arith, e)) (omega arith) (f ∙ ap (λ i. cell_in i (put_at k c row)) e
+        Put 0 (omega (arith, e)) (omega arith) (f ∙ ap (λ i. cell_in i (put_cell_at k c row)) e
         ∙ put-here k c row)
     by_found (Left (inl h) f) (Above l) = absurd (omega (arith, h, l))
     by_found (Left (inr h) f) (Above l) =
@@ -110,7 +113,7 @@ among-put before m x (n ∷ ms) h = by_test (before m n) h (among-put before m x
     by_test false (inr (inr k)) on = inr (on (inr k))
 
 sorted-among : (before : Mark → Mark → Bool) (done ms : List Mark) (x : Mark)
-    → IsAmong x (sorted before done ms) → IsAmong x done ⊎ IsAmong x ms
+    → IsAmong x (sorted_marks before done ms) → IsAmong x done ⊎ IsAmong x ms
 sorted-among before done [] x h = inl h
 sorted-among before done (m ∷ ms) x h =
     elim (sorted-among before (with_mark before m done) ms x h) [
@@ -119,7 +122,7 @@ sorted-among before done (m ∷ ms) x h =
     ]
 
 among-sorted : (before : Mark → Mark → Bool) (done ms : List Mark) (x : Mark)
-    → IsAmong x done ⊎ IsAmong x ms → IsAmong x (sorted before done ms)
+    → IsAmong x done ⊎ IsAmong x ms → IsAmong x (sorted_marks before done ms)
 among-sorted before done [] x (inl h) = h
 among-sorted before done [] x (inr h) = absurd h
 among-sorted before done (m ∷ ms) x (inl h) =
@@ -143,7 +146,7 @@ run-length (suc n) c = ap suc (run-length n c)
 abbrev Signed : List Mark → List Mark → List Cell → Type 0
 Signed all done row = (n : ℕ)
     → IsSign done n (cell_in n row)
-    ⊎ (IsFree done n × ((cell_in n row ≡ space) ⊎ IsText right_of all n (cell_in n row)))
+    ⊎ (IsFree done n × ((cell_in n row ≡ space) ⊎ IsText column_right_of all n (cell_in n row)))
 
 within-column : (m : Mark) (n j : ℕ) → n ≡ m.start + j → j < m.end - m.start → has_column m n ≡ true
 within-column m n j e l = grind (arith, nat_tests)
@@ -162,8 +165,8 @@ same-text start ms n c d e (inr (m, among, k, at, same)) = inr (m, among, k, at,
 -- One more label is in none of the columns that it does not have.
 sign-kept : (all done : List Mark) (m : Mark) (n : ℕ) (c d : Cell) → d ≡ c
     → has_column m n ≡ false
-    → IsSign done n c ⊎ (IsFree done n × ((c ≡ space) ⊎ IsText right_of all n c))
-    → IsSign (m ∷ done) n d ⊎ (IsFree (m ∷ done) n × ((d ≡ space) ⊎ IsText right_of all n d))
+    → IsSign done n c ⊎ (IsFree done n × ((c ≡ space) ⊎ IsText column_right_of all n c))
+    → IsSign (m ∷ done) n d ⊎ (IsFree (m ∷ done) n × ((d ≡ space) ⊎ IsText column_right_of all n d))
 sign-kept all done m n c d e off (inl (x, among, there, same)) =
     inl (x, inr among, there, e ∙ same)
 sign-kept all done m n c d e off (inr (free, what)) =
@@ -172,11 +175,11 @@ sign-kept all done m n c d e off (inr (free, what)) =
         | inl f ↦ ap (λ y. has_column y n) f ∙ off
         | inr i ↦ free x i
       ],
-      same-text right_of all n c d e what,
+      same-text column_right_of all n c d e what,
     )
 
 sign-over : (all done : List Mark) (m : Mark) (row : List Cell) → Signed all done row
-    → Signed all (m ∷ done) (put_from m.start (signs_of m) row)
+    → Signed all (m ∷ done) (put_cells_from m.start (signs_of m) row)
 sign-over all done m row h n = by_found (find n m.start (signs_of m) row)
   where
     long : length (signs_of m) ≡ m.end - m.start
@@ -184,7 +187,7 @@ sign-over all done m row h n = by_found (find n m.start (signs_of m) row)
 
     by_found : {c : Cell} → Found n m.start (signs_of m) row c
         → IsSign (m ∷ done) n c
-        ⊎ (IsFree (m ∷ done) n × ((c ≡ space) ⊎ IsText right_of all n c))
+        ⊎ (IsFree (m ∷ done) n × ((c ≡ space) ⊎ IsText column_right_of all n c))
     by_found (Put j e l f) =
         let k : j < m.end - m.start = omega (arith, l, long) in
         inl (m, inl refl, within-column m n j e k, f ∙ run-cell j (m.end - m.start) _ k)
@@ -203,7 +206,8 @@ signs-over : (all done ms : List Mark) (row : List Cell) → Signed all done row
 unfolding over
 signs-over all done [] row h = h
 signs-over all done (m ∷ ms) row h =
-    signs-over all (m ∷ done) ms (put_from m.start (signs_of m) row) (sign-over all done m row h)
+    signs-over all (m ∷ done) ms (put_cells_from m.start (signs_of m) row)
+    (sign-over all done m row h)
 
 over-among : (done ms : List Mark) (x : Mark) → IsAmong x (over done ms)
     → IsAmong x done ⊎ IsAmong x ms
@@ -232,22 +236,22 @@ abbrev Texts : (Mark → ℕ) → List Mark → List Cell → Type 0
 Texts start ms row = (n : ℕ) → (cell_in n row ≡ space) ⊎ IsText start ms n (cell_in n row)
 
 side-over : (ms : List Mark) (h : HungLabel) (row : List Cell) → IsAmong h.mark ms
-    → Texts right_of ms row → Texts right_of ms (with_side_text h row)
+    → Texts column_right_of ms row → Texts column_right_of ms (with_side_text h row)
 side-over ms h row among t = cond_both (has_text h.mark && (h.down == 0))
-    (put_from h.mark.end (space ∷ cells (text_style h.mark) h.mark.text) row) row
-    (Texts right_of ms)
+    (put_cells_from h.mark.end (space ∷ cells (text_style h.mark) h.mark.text) row) row
+    (Texts column_right_of ms)
     (λ yes n. by_found n (find n h.mark.end (space ∷ cells (text_style h.mark) h.mark.text) row))
     (λ no. t)
   where
     by_found : (n : ℕ) {c : Cell}
         → Found n h.mark.end (space ∷ cells (text_style h.mark) h.mark.text) row c
-        → (c ≡ space) ⊎ IsText right_of ms n c
+        → (c ≡ space) ⊎ IsText column_right_of ms n c
     by_found n (Put zero e l f) = inl f
     by_found n (Put (suc j) e l f) = inr (h.mark, among, j, omega (arith, e), f)
-    by_found n (Left l f) = same-text right_of ms n _ _ f (t n)
+    by_found n (Left l f) = same-text column_right_of ms n _ _ f (t n)
 
 sides-over : (ms : List Mark) (hs : List HungLabel) (row : List Cell) → AreHung ms hs
-    → Texts right_of ms row → Texts right_of ms (side_texts hs row)
+    → Texts column_right_of ms row → Texts column_right_of ms (side_texts hs row)
 unfolding AreHung
 sides-over ms [] row a t = t
 sides-over ms (h ∷ hs) row a t =
@@ -257,22 +261,22 @@ sides-over ms (h ∷ hs) row a t =
 signs-in : (ms : List Mark) (hs : List HungLabel) → AreHung ms hs
     → (n : ℕ) → IsInSigns ms n (cell_in n (sign_row ms hs))
 unfolding sign_row
-signs-in ms hs a n = by_kind (signs-over ms [] (sorted is_covered [] ms) (side_texts hs [])
+signs-in ms hs a n = by_kind (signs-over ms [] (sorted_marks is_covered [] ms) (side_texts hs [])
     (λ k. inr (λ m none. absurd none, sides-over ms hs [] a (λ i. inl refl) k)) n)
   where
-    same : (x : Mark) → IsAmong x (over [] (sorted is_covered [] ms)) → IsAmong x ms
-    same x h = elim (over-among [] (sorted is_covered [] ms) x h) [
+    same : (x : Mark) → IsAmong x (over [] (sorted_marks is_covered [] ms)) → IsAmong x ms
+    same x h = elim (over-among [] (sorted_marks is_covered [] ms) x h) [
       | inl k ↦ absurd k
       | inr k ↦ elim (sorted-among is_covered [] ms x k) [ inl i ↦ absurd i | inr i ↦ i ]
     ]
 
-    by_kind : {c : Cell} → IsSign (over [] (sorted is_covered [] ms)) n c
-        ⊎ (IsFree (over [] (sorted is_covered [] ms)) n
-        × ((c ≡ space) ⊎ IsText right_of ms n c)) → IsInSigns ms n c
+    by_kind : {c : Cell} → IsSign (over [] (sorted_marks is_covered [] ms)) n c
+        ⊎ (IsFree (over [] (sorted_marks is_covered [] ms)) n
+        × ((c ≡ space) ⊎ IsText column_right_of ms n c)) → IsInSigns ms n c
     by_kind (inl (m, among, there, e)) = inl (m, same m among, there, e)
     by_kind (inr (free, what)) =
         inr (
-          λ x among. free x (among-over [] (sorted is_covered [] ms) x
+          λ x among. free x (among-over [] (sorted_marks is_covered [] ms) x
               (inr (among-sorted is_covered [] ms x (inr among)))),
           what,
         )
@@ -289,27 +293,27 @@ same-bar ms n c d e (inr (inr (m, among, k, at, same))) = inr (inr (m, among, k,
 bar-over : (ms : List Mark) (k : ℕ) (h : HungLabel) (row : List Cell) → IsAmong h.mark ms
     → Barred ms row → Barred ms (with_bar k h row)
 bar-over ms k h row among t = cond_both (has_text h.mark && nat_lt k h.down)
-    (put_at h.mark.start bar row) row (Barred ms)
+    (put_cell_at h.mark.start bar row) row (Barred ms)
     (λ yes n. by_order n (order n h.mark.start)) (λ no. t)
   where
     bar : Cell
     bar = cell (style_of h.mark) 124
 
     by_order : (n : ℕ) → Order n h.mark.start
-        → IsInBars ms n (cell_in n (put_at h.mark.start bar row))
+        → IsInBars ms n (cell_in n (put_cell_at h.mark.start bar row))
     by_order n (Below l) =
-        same-bar ms n (cell_in n row) (cell_in n (put_at h.mark.start bar row))
+        same-bar ms n (cell_in n row) (cell_in n (put_cell_at h.mark.start bar row))
         (put-there n h.mark.start bar row (inl l)) (t n)
     by_order n (Same e) =
         inr (inl (
           h.mark,
           among,
           e,
-          ap (λ i. cell_in i (put_at h.mark.start bar row)) e
+          ap (λ i. cell_in i (put_cell_at h.mark.start bar row)) e
               ∙ put-here h.mark.start bar row,
         ))
     by_order n (Above l) =
-        same-bar ms n (cell_in n row) (cell_in n (put_at h.mark.start bar row))
+        same-bar ms n (cell_in n row) (cell_in n (put_cell_at h.mark.start bar row))
         (put-there n h.mark.start bar row (inr l)) (t n)
 
 bars-over : (ms : List Mark) (k : ℕ) (hs : List HungLabel) (row : List Cell) → AreHung ms hs
@@ -323,7 +327,7 @@ hung-over : (ms : List Mark) (k : ℕ) (h : HungLabel) (row : List Cell) → IsA
     → Barred ms row → Barred ms (with_hung_text k h row)
 hung-over ms k h row among t =
     cond_both (has_text h.mark && (nat_lt 0 h.down && (k == h.down)))
-    (put_from h.mark.start (cells (text_style h.mark) h.mark.text) row) row (Barred ms)
+    (put_cells_from h.mark.start (cells (text_style h.mark) h.mark.text) row) row (Barred ms)
     (λ yes n. by_found n (find n h.mark.start (cells (text_style h.mark) h.mark.text) row))
     (λ no. t)
   where
@@ -344,7 +348,7 @@ hung-in ms k hs a = hungs-over ms k hs (bars k hs []) a (bars-over ms k hs [] a 
 
 -- The labels that are hung are those of the line.
 hang-among : (all ms : List Mark) (down : ℕ) → ((x : Mark) → IsAmong x ms → IsAmong x all)
-    → AreHung all (hang down ms)
+    → AreHung all (hung_labels down ms)
 unfolding AreHung
 hang-among all [] down h = tt
 hang-among all (m ∷ ms) down h = (
@@ -354,7 +358,7 @@ hang-among all (m ∷ ms) down h = (
 
 -- The rows as bytes.
 abbrev row_bytes : Gutter → List Cell → List ℕ
-row_bytes g row = under g (written g.palette row)
+row_bytes g row = row_under g (written_cells g.palette row)
 
 first_rows : ℕ → List HungLabel → List (List Cell)
 first_rows zero hs = []
@@ -408,7 +412,7 @@ pub rows-stand : (g : Gutter) (ms : List Mark) (old new : List ℕ) → new ≡ 
     → AddsRows g ms old new
 unfolding mark_rows rows_of
 rows-stand g ms old new e =
-    let hs = hang 0 ms in
+    let hs = hung_labels 0 ms in
     let most = depth 0 hs in
     let a = hang-among ms ms 0 (λ x h. h) in
     record {

@@ -6,9 +6,9 @@ use Rattle.std.specs.List.{list_all}
 use Rattle.std.specs.Char.{is_whitespace}
 use Rattle.rustc_parse_format.specs.Characters.{Text}
 use Rattle.drawn_lines.specs.Glyphs.{glyph_bytes, run}
-use Rattle.drawn_lines.specs.Painting.{painted}
+use Rattle.drawn_lines.specs.Painting.{painted_text}
 use Rattle.drawn_lines.specs.Places.{line}
-use Rattle.drawn_lines.specs.Lines.{under, number_bar, source_line, source_row}
+use Rattle.drawn_lines.specs.Lines.{row_under, number_bar, source_line, source_row}
 use Rattle.drawn_lines.specs.Frames.{Frame}
 use Rattle.drawn_lines.specs.Windows.{shift}
 use Rattle.drawn_labels.specs.Labels.{Label}
@@ -56,7 +56,7 @@ without_bare f first (suc n) =
 abbrev pub signed_row : Frame → List ℕ → ℕ → List ℕ
 signed_row f sign n =
     number_bar f n
-    ++ (codes " " ++ (painted f.gutter.palette Primary sign ++ source_line f (codes " ") n))
+    ++ (codes " " ++ (painted_text f.gutter.palette Primary sign ++ source_line f (codes " ") n))
 
 -- A line between the first and the last one.
 abbrev pub bar_row : Frame → ℕ → List ℕ
@@ -73,13 +73,14 @@ unfoldable pub bar_gap : Frame → ℕ → ℕ → List ℕ
 bar_gap f first last =
     if last == first + 2 then bar_row f (first + 1)
     else if nat_lt (first + 2) last then
-    painted f.gutter.palette Secondary (codes "...")
-    ++ (run f.gutter.columns 32 ++ (painted f.gutter.palette Primary (codes "|") ++ codes "\n"))
+    painted_text f.gutter.palette Secondary (codes "...")
+    ++ (run f.gutter.columns 32 ++ (painted_text f.gutter.palette Primary (codes "|")
+    ++ codes "\n"))
     else []
 
 -- A text, a line to a column after it, and the sign at its end.
-abbrev pub lead : Palette → List ℕ → ℕ → List ℕ
-lead p front n = painted p Primary (front ++ (run n 95 ++ codes "^"))
+abbrev pub lead_text : Palette → List ℕ → ℕ → List ℕ
+lead_text p front n = painted_text p Primary (front ++ (run n 95 ++ codes "^"))
 
 -- The first line: with a slash in front of it where the label begins with the text of the line, or
 -- else with a row under it that leads to where the label begins.
@@ -87,27 +88,28 @@ unfoldable pub first_rows : Frame → Label → List ℕ
 first_rows f l =
     if l.extent.start.is_indent then signed_row f (codes "/") l.extent.start.line
     else source_row f (codes "   ") l.extent.start.line
-    ++ under f.gutter
-    (lead f.gutter.palette (codes " ") (l.extent.start.column - shift f l.extent.start.line + 1))
+    ++ row_under f.gutter
+    (lead_text f.gutter.palette (codes " ")
+    (l.extent.start.column - shift f l.extent.start.line + 1))
 
 -- The text of a label right of its sign. Without a text there is no space.
 abbrev pub end_text : Palette → List ℕ → List ℕ
 end_text p text =
-    if length text == 0 then [] else codes " " ++ painted p PrimaryText (glyph_bytes text)
+    if length text == 0 then [] else codes " " ++ painted_text p PrimaryText (glyph_bytes text)
 
 -- The last line, and the row under it that leads to where the label ends, with its text.
 unfoldable pub last_rows : Frame → Label → List ℕ
 last_rows f l =
     bar_row f l.extent.end.line
-    ++ under f.gutter
-    (lead f.gutter.palette (codes "|")
+    ++ row_under f.gutter
+    (lead_text f.gutter.palette (codes "|")
     (max (l.extent.end.column - shift f l.extent.end.line) 1)
     ++ end_text f.gutter.palette l.text)
 
 -- The rows between the first and the last line: at most three lines after the first one, without
 -- bare ones at their end, and the line before the last one if it is far from these and not bare.
-unfoldable pub between : Frame → ℕ → ℕ → List ℕ
-between f first last =
+unfoldable pub rows_between : Frame → ℕ → ℕ → List ℕ
+rows_between f first last =
     let n = without_bare f first (min (last - first - 1) 3) in
     bar_rows f first n
     ++ (if nat_lt (first + 5) last && not (is_bare_line f (last - 1))
@@ -118,4 +120,4 @@ between f first last =
 unfoldable pub long_rows : Frame → Label → List ℕ
 long_rows f l =
     first_rows f l
-    ++ (between f l.extent.start.line l.extent.end.line ++ last_rows f l)
+    ++ (rows_between f l.extent.start.line l.extent.end.line ++ last_rows f l)

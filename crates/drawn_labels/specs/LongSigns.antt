@@ -7,7 +7,7 @@ use Rattle.std.specs.Prelude.{[], ◌∷◌, chars, codes, encode_utf8_all, leng
 use Rattle.rustc_parse_format.specs.Characters.{Text}
 use Rattle.drawn_lines.specs.Frames.{Frame}
 use Rattle.drawn_lines.specs.Glyphs.{glyphs, run}
-use Rattle.drawn_lines.specs.Lines.{AddsLine, after_bar, number_bar, under}
+use Rattle.drawn_lines.specs.Lines.{AddsLine, after_bar, number_bar, row_under}
 use Rattle.drawn_lines.specs.Positions.{IsLine, line_feeds}
 use Rattle.drawn_lines.specs.Windows.{shift}
 use Rattle.drawn_labels.specs.Labels.{Label}
@@ -30,7 +30,7 @@ pub record IsInLead (margin to : ℕ) (text : List ℕ) (n c : ℕ) : Type 0 whe
 -- Such a row is added to a text. Without a text it ends with its sign.
 pub record AddsLead (f : Frame) (margin to : ℕ) (text old new : List ℕ) : Type 0 where
   pub row : Text
-  pub whole : new ≡ old ++ under f.gutter (encode_utf8_all row)
+  pub whole : new ≡ old ++ row_under f.gutter (encode_utf8_all row)
   pub is_lead : (n : ℕ) → IsInLead margin to text n (character_in n row)
   pub ends : text ≡ [] → length row ≡ to + 3
 
@@ -53,9 +53,9 @@ pub record AddsFirst (f : Frame) (l : Label) (old new : List ℕ) : Type 0 where
       × AddsLead f (code " ") (l.extent.start.column - shift f l.extent.start.line) [] mid new
 
 -- What is drawn of lines between two others: the next one, or dots for as many.
-pub data Between : Type 0 where
-  Next : Between
-  Dots : ℕ → Between
+pub data RowsBetween : Type 0 where
+  Next : RowsBetween
+  Dots : ℕ → RowsBetween
 
 -- The row of dots, with the bar in its margin.
 abbrev pub dots_row : Frame → List ℕ
@@ -63,7 +63,7 @@ dots_row f = codes "..." ++ (run f.gutter.columns 32 ++ codes "|\n")
 
 -- The lines after `at` and in front of `last` are added to a text, from top to bottom, with a bar
 -- in the margin of each row.
-abbrev pub AddsBars : Frame → ℕ → ℕ → List Between → List ℕ → List ℕ → Type 0
+abbrev pub AddsBars : Frame → ℕ → ℕ → List RowsBetween → List ℕ → List ℕ → Type 0
 AddsBars f at last [] old new = (last ≤ at + 1) × (new ≡ old)
 AddsBars f at last (Next ∷ bs) old new = (at + 1 < last) × (mid : List ℕ)
     × AddsSigned f (codes "|") (at + 1) old mid × AddsBars f (at + 1) last bs mid new
@@ -76,7 +76,7 @@ pub record AddsLong (f : Frame) (l : Label) (old new : List ℕ) : Type 0 where
   pub mid : List ℕ
   pub low : List ℕ
   pub end : List ℕ
-  pub bars : List Between
+  pub bars : List RowsBetween
   pub first : AddsFirst f l old mid
   pub between : AddsBars f l.extent.start.line l.extent.end.line bars mid low
   pub last : AddsSigned f (codes "|") l.extent.end.line low end

@@ -30,8 +30,8 @@ mark_reach source m = record {
 }
 
 -- Two reaches as one.
-unfoldable pub joined : Reach → Reach → Reach
-joined r s = record {
+unfoldable pub joined_reach : Reach → Reach → Reach
+joined_reach r s = record {
   start = min r.start s.start;
   end = max r.end s.end;
   text_end = max r.text_end s.text_end;
@@ -58,15 +58,15 @@ long_reach source l = record {
 -- The reach of these labels, each in the line in which it begins, and of the reach r.
 abbrev pub reach_on : List ℕ → Reach → List Label → Reach
 reach_on source r [] = r
-reach_on source r (l ∷ ls) = reach_on source (joined r (mark_reach source (mark 0 l))) ls
+reach_on source r (l ∷ ls) = reach_on source (joined_reach r (mark_reach source (mark 0 l))) ls
 
 -- The reach of no label.
-abbrev pub nowhere : Reach
-nowhere = record { start = 0; end = 0; text_end = 0; longest = 0 }
+abbrev pub no_reach : Reach
+no_reach = record { start = 0; end = 0; text_end = 0; longest = 0 }
 
 -- The reach of these labels.
 abbrev pub reach_of : List ℕ → List Label → Reach
-reach_of source [] = nowhere
+reach_of source [] = no_reach
 reach_of source (l ∷ []) =
     if is_long l then long_reach source l else mark_reach source (mark 0 l)
 reach_of source (l ∷ k ∷ ls) = reach_on source (mark_reach source (mark 0 l)) (k ∷ ls)
@@ -89,8 +89,8 @@ cut_of n = if nat_lt 26 n then n - 22 else 0
 -- The window around labels, of lines that do not fit into n columns: at the indent if the texts
 -- end in the window then, or else around labels and their texts, or around labels, or of as many
 -- columns as the labels need. Six columns at each side are for dots.
-unfoldable pub around : ℕ → ℕ → Reach → Window
-around n indent r =
+unfoldable pub window_around : ℕ → ℕ → Reach → Window
+window_around n indent r =
     let from = r.start - 6 in
     let texts = r.text_end + 6 - from in
     let labels = r.end + 6 - from in
@@ -102,7 +102,7 @@ around n indent r =
 -- The window of n columns for lines with labels of this reach and this indent.
 unfoldable pub window : ℕ → ℕ → Reach → Window
 window n indent r =
-    if nat_lt n (r.longest - cut_of indent) then around n indent r
+    if nat_lt n (r.longest - cut_of indent) then window_around n indent r
     else record { start = cut_of indent; room = n; limit = r.longest - cut_of indent }
 
 -- The window for these labels, of lines with this indent.

@@ -5,10 +5,11 @@ use Rattle.std.specs.Prelude.{◌∷◌, chars, codes, flat_map, length}
 use Rattle.std.specs.List.{AllByRecursion}
 use Rattle.drawn_lines.specs.Frames.{Frame}
 use Rattle.drawn_lines.specs.Glyphs.{glyphs}
-use Rattle.drawn_lines.specs.Lines.{AddsLine, gap, under}
+use Rattle.drawn_lines.specs.Lines.{AddsLine, gap, row_under}
 use Rattle.drawn_lines.specs.declared.paint.Gutter.{Gutter}
 use Rattle.drawn_labels.specs.Marks.{cells}
-use Rattle.drawn_labels.specs.Rows.{Mark, cell, has_column, space, style_of, text_style, written}
+use Rattle.drawn_labels.specs.Rows.{Mark, cell, has_column, space, style_of, text_style}
+use Rattle.drawn_labels.specs.Rows.{written_cells}
 use Rattle.drawn_labels.specs.declared.cells.Cell.{Cell}
 
 -- The cell in a column of a row. Right of its end are spaces.
@@ -38,17 +39,17 @@ IsText start ms n c =
     × (c ≡ cell_in k (cells (text_style m) m.text))
 
 -- The column in which the text of a label begins right of its signs.
-abbrev pub right_of : Mark → ℕ
-right_of m = m.end + 1
+abbrev pub column_right_of : Mark → ℕ
+column_right_of m = m.end + 1
 
 -- The column in which it begins below them.
-abbrev pub below : Mark → ℕ
-below m = m.start
+abbrev pub column_below : Mark → ℕ
+column_below m = m.start
 
 -- The cell may stand in this column of the row of signs: it is the sign of a label there, or no
 -- label is there, and it is a space or in the text of a label.
 abbrev pub IsInSigns : List Mark → ℕ → Cell → Type 0
-IsInSigns ms n c = IsSign ms n c ⊎ (IsFree ms n × ((c ≡ space) ⊎ IsText right_of ms n c))
+IsInSigns ms n c = IsSign ms n c ⊎ (IsFree ms n × ((c ≡ space) ⊎ IsText column_right_of ms n c))
 
 -- The cell is the bar of a label that begins in this column.
 abbrev pub IsBar : List Mark → ℕ → Cell → Type 0
@@ -57,14 +58,15 @@ IsBar ms n c = (m : Mark) × IsAmong m ms × (n ≡ m.start) × (c ≡ cell (sty
 -- The cell may stand in this column of a row below the signs: it is a space, a bar, or in the text
 -- of a label.
 abbrev pub IsInBars : List Mark → ℕ → Cell → Type 0
-IsInBars ms n c = (c ≡ space) ⊎ (IsBar ms n c ⊎ IsText below ms n c)
+IsInBars ms n c = (c ≡ space) ⊎ (IsBar ms n c ⊎ IsText column_below ms n c)
 
 -- The rows under a line with these labels are added to a text: one row of signs, and then rows of
 -- bars and texts.
 pub record AddsRows (g : Gutter) (ms : List Mark) (old new : List ℕ) : Type 0 where
   pub signs : List Cell
   pub others : List (List Cell)
-  pub whole : new ≡ old ++ flat_map (λ row. under g (written g.palette row)) (signs ∷ others)
+  pub whole : new ≡ old ++ flat_map (λ row. row_under g (written_cells g.palette row))
+      (signs ∷ others)
   pub are_signs : (n : ℕ) → IsInSigns ms n (cell_in n signs)
   pub are_bars : AllByRecursion (λ row. (n : ℕ) → IsInBars ms n (cell_in n row)) others
 

@@ -3,10 +3,10 @@
 
 ghost use Rattle.std.specs.Prelude.{◌≡◌, ◌++◌, ◌∷◌, ◌<◌, IfOk, List, OnOk, length, replicate};
 ghost use Rattle.std.specs.Prelude.{string_bytes};
-ghost use Rattle.drawn_labels.specs.Marks.{cells, put_at, put_from};
+ghost use Rattle.drawn_labels.specs.Marks.{cells, put_cell_at, put_cells_from};
 ghost use Rattle.drawn_lines.specs.Painting.{pieces_after};
 ghost use Rattle.drawn_labels.specs.Rows.{cell_pieces, seen_mark, space, style_of, text_style};
-ghost use Rattle.drawn_labels.specs.Rows.{written};
+ghost use Rattle.drawn_labels.specs.Rows.{written_cells};
 ghost use Rattle.drawn_labels.specs.declared.cells.Cell.{Cell as CellValue};
 ghost use Rattle.drawn_lines.specs.declared.paint.Style.TheVariants.{Plain};
 
@@ -57,8 +57,8 @@ pub fn space() -> Cell
 
 /// Puts a cell into a column of a row.
 #[tactic(auto, using(crate::proofs::MarkLemmas::cells_put))]
-pub fn put_at(row: &mut Vec<Cell>, column: usize, cell: Cell) -> Result<(), AllocError>
-    ensures value { OnOk result (row.new.items ≡ put_at column cell row.old.items) }
+pub fn put_cell_at(row: &mut Vec<Cell>, column: usize, cell: Cell) -> Result<(), AllocError>
+    ensures value { OnOk result (row.new.items ≡ put_cell_at column cell row.old.items) }
     ensures inside { OnOk result (column < length row.new.items) }
 {
     while row.len() < column {
@@ -79,13 +79,13 @@ pub fn put_run_at(
     count: usize,
     cell: Cell,
 ) -> Result<usize, AllocError>
-    ensures { IfOk result (λ n. (cs : List CellValue) → put_from n cs row.new.items
-        ≡ put_from start (replicate count cell ++ cs) row.old.items) }
+    ensures { IfOk result (λ n. (cs : List CellValue) → put_cells_from n cs row.new.items
+        ≡ put_cells_from start (replicate count cell ++ cs) row.old.items) }
 {
     let mut column = start;
     let mut countdown = count;
     while countdown > 0 {
-        put_at(row, column, cell)?;
+        put_cell_at(row, column, cell)?;
         column += 1;
         countdown -= 1;
     }
@@ -93,28 +93,29 @@ pub fn put_run_at(
 }
 
 /// Puts a space and then a text, as it is drawn, into a row from a column on.
-pub fn put_after(
+pub fn put_spaced_text(
     row: &mut Vec<Cell>,
     start: usize,
     style: Style,
     text: &str,
 ) -> Result<(), AllocError>
     ensures { OnOk result (row.new.items
-        ≡ put_from start (space ∷ cells style text.now) row.old.items) }
+        ≡ put_cells_from start (space ∷ cells style text.now) row.old.items) }
 {
     let column = put_run_at(row, start, 1, space())?;
-    put_from(row, column, style, text)?;
+    put_text_from(row, column, style, text)?;
     Ok(())
 }
 
 /// Puts a text, as it is drawn, into a row from a column on.
-pub fn put_from(
+pub fn put_text_from(
     row: &mut Vec<Cell>,
     start: usize,
     style: Style,
     text: &str,
 ) -> Result<(), AllocError>
-    ensures { OnOk result (row.new.items ≡ put_from start (cells style text.now) row.old.items) }
+    ensures { OnOk result (row.new.items ≡ put_cells_from start
+        (cells style text.now) row.old.items) }
 {
     let mut column = start;
     let mut rest = text;
@@ -127,7 +128,7 @@ pub fn put_from(
 }
 
 /// Adds the characters of cells in their styles.
-fn put_in_styles(out: &mut String, palette: Palette, cells: &[Cell]) -> Result<(), AllocError>
+fn put_styled_cells(out: &mut String, palette: Palette, cells: &[Cell]) -> Result<(), AllocError>
     ensures { OnOk result (string_bytes out.new ≡ string_bytes out.old
         ++ pieces_after palette Plain (cell_pieces cells.now)) }
 {
@@ -142,12 +143,16 @@ fn put_in_styles(out: &mut String, palette: Palette, cells: &[Cell]) -> Result<(
 }
 
 /// Adds the characters of cells, in their styles if there are colours.
-pub fn put_written(out: &mut String, palette: Palette, cells: &[Cell]) -> Result<(), AllocError>
+pub fn put_written_cells(
+    out: &mut String,
+    palette: Palette,
+    cells: &[Cell],
+) -> Result<(), AllocError>
     ensures { OnOk result (string_bytes out.new
-        ≡ string_bytes out.old ++ written palette cells.now) }
+        ≡ string_bytes out.old ++ written_cells palette cells.now) }
 {
     if has_colours(palette) {
-        return Ok(put_in_styles(out, palette, cells)?);
+        return Ok(put_styled_cells(out, palette, cells)?);
     }
     for cell in cells {
         out.push(cell.character)?;

@@ -1,7 +1,7 @@
 //! How far below the signs of a line the texts of labels hang.
 
 ghost use Rattle.std.specs.Prelude.{◌≡◌, ◌+◌, ◌<◌, ◌≤◌, ◌^◌, IfOk, map};
-ghost use Rattle.drawn_labels.specs.Marks.{depth, depth_after, depth_of, hang, has_text};
+ghost use Rattle.drawn_labels.specs.Marks.{depth, depth_after, depth_of, hung_labels, has_text};
 ghost use Rattle.drawn_labels.specs.Marks.{is_crossed, is_lowering, is_meeting, is_reaching};
 ghost use Rattle.drawn_labels.specs.Marks.{is_shadow, seen_hung, text_depth};
 ghost use Rattle.drawn_labels.specs.Rows.{seen_mark};
@@ -14,7 +14,7 @@ use std::alloc::{AllocError, Global};
 #[derive(Clone, Copy)]
 pub struct HungLabel<'a> {
     pub mark: Mark<'a>,
-    pub down: usize,
+    pub depth: usize,
 }
 
 /// Returns whether a label has a text.
@@ -66,79 +66,84 @@ fn is_reaching(n: &Mark<'_>, m: &Mark<'_>) -> bool
 }
 
 /// Returns whether the texts of labels hang a row below that of a label right of them, which hangs
-/// `down` rows below the signs.
-fn is_lowering(down: usize, mark: &Mark<'_>, others: &[Mark<'_>]) -> bool
-    ensures { result ≡ is_lowering down (seen_mark mark.now) (map seen_mark others.now) }
+/// `least_depth` rows below the signs.
+fn is_lowering(least_depth: usize, mark: &Mark<'_>, others: &[Mark<'_>]) -> bool
+    ensures { result ≡ is_lowering least_depth (seen_mark mark.now) (map seen_mark others.now) }
 {
     for other in others {
-        if is_reaching(other, mark) && (has_text(mark) || (other.end <= mark.end && down == 0)) {
+        if is_reaching(other, mark)
+            && (has_text(mark) || (other.end <= mark.end && least_depth == 0))
+        {
             return true;
         }
     }
     false
 }
 
-/// Returns how far down the text of a label hangs, where those right of it hang `down` rows down.
-fn depth_of(down: usize, mark: &Mark<'_>, others: &[Mark<'_>]) -> usize
-    ensures value { result ≡ depth_of down (seen_mark mark.now) (map seen_mark others.now) }
-    ensures near { result ≤ down + 1 }
+/// Returns how far down the text of a label hangs, where those right of it hang `least_depth` rows
+/// down.
+fn depth_of(least_depth: usize, mark: &Mark<'_>, others: &[Mark<'_>]) -> usize
+    ensures value { result ≡ depth_of least_depth (seen_mark mark.now) (map seen_mark others.now) }
+    ensures near { result ≤ least_depth + 1 }
 {
-    if down == 0 && is_crossed(mark, others) {
+    if least_depth == 0 && is_crossed(mark, others) {
         1
     } else {
-        down
+        least_depth
     }
 }
 
 /// Returns how far down the texts of labels left of a label hang at least.
-fn depth_after(down: usize, mark: &Mark<'_>, others: &[Mark<'_>]) -> usize
-    requires { down < 2 ^ 63 }
-    ensures value { result ≡ depth_after down (seen_mark mark.now) (map seen_mark others.now) }
-    ensures near { result ≤ down + 1 }
+fn depth_after(least_depth: usize, mark: &Mark<'_>, others: &[Mark<'_>]) -> usize
+    requires { least_depth < 2 ^ 63 }
+    ensures value { result ≡ depth_after least_depth (seen_mark mark.now)
+        (map seen_mark others.now) }
+    ensures near { result ≤ least_depth + 1 }
 {
-    if is_lowering(down, mark, others) {
-        down + 1
+    if is_lowering(least_depth, mark, others) {
+        least_depth + 1
     } else {
-        down
+        least_depth
     }
 }
 
 /// Returns the labels of a line, from right to left, with how far down they hang. Returns `Err` if
 /// an allocation fails.
-pub fn hang<'a>(alloc: Global, marks: &[Mark<'a>]) -> Result<Vec<HungLabel<'a>>, AllocError>
-    ensures { IfOk result (λ v. map seen_hung v.items ≡ hang 0 (map seen_mark marks.now)) }
+pub fn hung_labels<'a>(alloc: Global, marks: &[Mark<'a>]) -> Result<Vec<HungLabel<'a>>, AllocError>
+    ensures { IfOk result (λ v. map seen_hung v.items ≡ hung_labels 0 (map seen_mark marks.now)) }
 {
     if marks.len() >= 1 << 59 {
         return Err(AllocError);
     }
     let mut list = Vec::new(alloc);
-    let mut down = 0;
+    let mut least_depth = 0;
     for mark in marks {
         let others = &marks[list.len() + 1..];
-        let depth = depth_of(down, mark, others);
-        down = depth_after(depth, mark, others);
-        list.push(HungLabel {
-            mark: *mark,
-            down: depth,
-        })?;
+        let depth = depth_of(least_depth, mark, others);
+        least_depth = depth_after(depth, mark, others);
+        list.push(HungLabel { mark: *mark, depth })?;
     }
     Ok(list)
 }
 
 /// Returns how far down the text of a label hangs.
-fn text_depth(hung: &HungLabel<'_>) -> usize
-    ensures { result ≡ text_depth (seen_hung hung.now) }
+fn text_depth(label: &HungLabel<'_>) -> usize
+    ensures { result ≡ text_depth (seen_hung label.now) }
 {
-    if has_text(&hung.mark) { hung.down } else { 0 }
+    if has_text(&label.mark) {
+        label.depth
+    } else {
+        0
+    }
 }
 
 /// Returns how far down the texts of labels hang at most.
-pub fn depth(hung: &[HungLabel<'_>]) -> usize
-    ensures { result ≡ depth 0 (map seen_hung hung.now) }
+pub fn depth(labels: &[HungLabel<'_>]) -> usize
+    ensures { result ≡ depth 0 (map seen_hung labels.now) }
 {
-    let mut most = 0;
-    for first in hung {
-        most = text_depth(first).max(most);
+    let mut max_depth = 0;
+    for first in labels {
+        max_depth = text_depth(first).max(max_depth);
     }
-    most
+    max_depth
 }

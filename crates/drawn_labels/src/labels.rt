@@ -5,13 +5,13 @@ ghost use Rattle.std.specs.Prelude.{◌≡◌, ◌++◌, ◌<◌, ◌≤◌, ◌
 ghost use Rattle.std.specs.Prelude.{string_bytes};
 ghost use Rattle.drawn_lines.specs.Frames.{seen_frame};
 ghost use Rattle.drawn_lines.specs.Painting.{has_colours};
-ghost use Rattle.drawn_labels.specs.Labels.{apart, labelled, mark, mark_in, seen_label};
+ghost use Rattle.drawn_labels.specs.Labels.{lines_apart, labelled_line, mark, mark_in, seen_label};
 ghost use Rattle.drawn_labels.specs.Labels.{two_labels};
 ghost use Rattle.drawn_labels.specs.Rows.{seen_mark};
 ghost use Rattle.drawn_labels.specs.Signs.{AddsLabels, AddsTwo, IsNarrow};
 
 use crate::mark::Mark;
-use crate::rows::{put_both, put_one};
+use crate::rows::{put_both_rows, put_lone_row};
 use drawn_lines::{Extent, Frame, put_code, put_gap, shift};
 use std::alloc::AllocError;
 
@@ -62,11 +62,15 @@ pub fn mark_in<'a>(frame: &Frame<'_>, label: &Label<'a>) -> Mark<'a>
 }
 
 /// Adds a line of the source with a label.
-#[tactic(auto, unfolding(crate::specs::Labels::labelled))]
-pub fn put_labelled(out: &mut String, frame: &Frame<'_>, mark: &Mark<'_>) -> Result<(), AllocError>
+#[tactic(auto, unfolding(crate::specs::Labels::labelled_line))]
+pub fn put_labelled_line(
+    out: &mut String,
+    frame: &Frame<'_>,
+    mark: &Mark<'_>,
+) -> Result<(), AllocError>
     requires { mark.now.line < 2 ^ 61 }
     ensures rows { OnOk result (string_bytes out.new ≡ string_bytes out.old
-        ++ labelled (seen_frame frame.now) (seen_mark mark.now)) }
+        ++ labelled_line (seen_frame frame.now) (seen_mark mark.now)) }
     // Without colours they are the line of the label, and under it the label's signs in its
     // columns, and no sign elsewhere.
     ensures signs { OnOk result (has_colours frame.now.gutter.palette ≡ false
@@ -75,13 +79,13 @@ pub fn put_labelled(out: &mut String, frame: &Frame<'_>, mark: &Mark<'_>) -> Res
         (string_bytes out.old) (string_bytes out.new)) }
 {
     put_code(out, frame, mark.line)?;
-    put_one(out, frame.gutter, mark)?;
+    put_lone_row(out, frame.gutter, mark)?;
     Ok(())
 }
 
 /// Adds two lines with labels, of which `m` is the first one.
-#[tactic(auto, unfolding(crate::specs::Labels::apart))]
-fn put_apart(
+#[tactic(auto, unfolding(crate::specs::Labels::lines_apart))]
+fn put_lines_apart(
     out: &mut String,
     frame: &Frame<'_>,
     m: &Mark<'_>,
@@ -90,11 +94,11 @@ fn put_apart(
     requires number { m.now.line < 2 ^ 60 }
     requires second_number { n.now.line < 2 ^ 60 }
     ensures { OnOk result (string_bytes out.new ≡ string_bytes out.old
-        ++ apart (seen_frame frame.now) (seen_mark m.now) (seen_mark n.now)) }
+        ++ lines_apart (seen_frame frame.now) (seen_mark m.now) (seen_mark n.now)) }
 {
-    put_labelled(out, frame, m)?;
+    put_labelled_line(out, frame, m)?;
     put_gap(out, frame, m.line, n.line)?;
-    put_labelled(out, frame, n)?;
+    put_labelled_line(out, frame, n)?;
     Ok(())
 }
 
@@ -120,11 +124,11 @@ pub fn put_two_labels(
 {
     if m.line == n.line {
         put_code(out, frame, m.line)?;
-        put_both(out, frame.gutter, m, n)?;
+        put_both_rows(out, frame.gutter, m, n)?;
     } else if m.line < n.line {
-        put_apart(out, frame, m, n)?;
+        put_lines_apart(out, frame, m, n)?;
     } else {
-        put_apart(out, frame, n, m)?;
+        put_lines_apart(out, frame, n, m)?;
     }
     Ok(())
 }

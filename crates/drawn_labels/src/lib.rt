@@ -12,9 +12,9 @@ mod marks;
 mod order;
 mod rows;
 
-pub use labels::{Label, mark_in, put_labelled, put_two_labels};
-pub use long::put_long;
+pub use labels::{Label, mark_in, put_labelled_line, put_two_labels};
+pub use long::put_long_label;
 pub use margin::{Reach, window_of};
 pub use mark::Mark;
 pub use marks::put_mark_rows;
-pub use order::from_right;
+pub use order::marks_from_right;

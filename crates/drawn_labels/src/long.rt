@@ -6,21 +6,22 @@ ghost use Rattle.std.specs.Prelude.{length, max, string_bytes};
 ghost use Rattle.std.specs.Char.{is_whitespace};
 ghost use Rattle.std.specs.List.{list_all};
 ghost use Rattle.drawn_lines.specs.Glyphs.{glyph_bytes};
-ghost use Rattle.drawn_lines.specs.Lines.{under};
+ghost use Rattle.drawn_lines.specs.Lines.{row_under};
 ghost use Rattle.drawn_lines.specs.Frames.{seen_frame};
 ghost use Rattle.drawn_labels.specs.Labels.{seen_label};
-ghost use Rattle.drawn_labels.specs.Long.{bar_gap, bar_row, bar_rows, between, end_text};
+ghost use Rattle.drawn_labels.specs.Long.{bar_gap, bar_row, bar_rows, rows_between, end_text};
 ghost use Rattle.drawn_labels.specs.Long.{first_rows, is_bare};
 ghost use Rattle.drawn_labels.specs.Long.{is_bare_line, is_bracket, is_comment, is_plain_comment};
-ghost use Rattle.drawn_labels.specs.Long.{last_rows, lead, long_rows, signed_row, without_bare};
+ghost use Rattle.drawn_labels.specs.Long.{last_rows, lead_text, long_rows, signed_row};
+ghost use Rattle.drawn_labels.specs.Long.{without_bare};
 ghost use Rattle.drawn_labels.specs.LongSigns.{AddsLong};
-ghost use Rattle.drawn_lines.specs.Painting.{has_colours, painted};
+ghost use Rattle.drawn_lines.specs.Painting.{has_colours, painted_text};
 ghost use Rattle.drawn_lines.specs.declared.paint.Style.TheVariants.{PrimaryText};
 
 use crate::labels::Label;
 use drawn_lines::{
     Frame, Gutter, Palette, Style, line, put_closing, put_gutter, put_number_bar, put_opening,
-    put_painted, put_painted_glyphs, put_run, put_source, put_source_line, shift, split_first,
+    put_painted_glyphs, put_painted_text, put_run, put_source, put_source_line, shift, split_first,
 };
 use std::alloc::AllocError;
 
@@ -115,7 +116,7 @@ fn put_signed_row(
 {
     put_number_bar(out, frame, number)?;
     out.push_str(" ")?;
-    put_painted(out, frame.gutter.palette, Style::Primary, sign)?;
+    put_painted_text(out, frame.gutter.palette, Style::Primary, sign)?;
     put_source_line(out, frame, " ", number)?;
     Ok(())
 }
@@ -162,9 +163,9 @@ fn put_bar_gap(
     if last == first + 2 {
         put_bar_row(out, frame, first + 1)?;
     } else if last > first + 2 {
-        put_painted(out, frame.gutter.palette, Style::Secondary, "...")?;
+        put_painted_text(out, frame.gutter.palette, Style::Secondary, "...")?;
         put_run(out, ' ', frame.gutter.columns)?;
-        put_painted(out, frame.gutter.palette, Style::Primary, "|")?;
+        put_painted_text(out, frame.gutter.palette, Style::Primary, "|")?;
         out.push_str("\n")?;
     }
     Ok(())
@@ -179,7 +180,7 @@ fn put_lead(
 ) -> Result<(), AllocError>
     requires { length front.now ≡ 1 }
     ensures { OnOk result (string_bytes out.new
-        ≡ string_bytes out.old ++ lead palette front.now columns) }
+        ≡ string_bytes out.old ++ lead_text palette front.now columns) }
 {
     put_opening(out, palette, Style::Primary)?;
     out.push_str(front)?;
@@ -192,7 +193,7 @@ fn put_lead(
 /// Adds the row under the first line of a label.
 fn put_start(out: &mut String, gutter: Gutter, columns: usize) -> Result<(), AllocError>
     ensures { OnOk result (string_bytes out.new ≡ string_bytes out.old
-        ++ under gutter (lead gutter.palette (codes " ") columns)) }
+        ++ row_under gutter (lead_text gutter.palette (codes " ") columns)) }
 {
     put_gutter(out, gutter)?;
     put_lead(out, gutter.palette, " ", columns)?;
@@ -236,7 +237,7 @@ fn put_end_text(out: &mut String, palette: Palette, text: &str) -> Result<(), Al
 /// Adds the row under the last line of a label.
 fn put_end(out: &mut String, gutter: Gutter, columns: usize, text: &str) -> Result<(), AllocError>
     ensures { OnOk result (string_bytes out.new ≡ string_bytes out.old
-        ++ under gutter (lead gutter.palette (codes "|") columns
+        ++ row_under gutter (lead_text gutter.palette (codes "|") columns
         ++ end_text gutter.palette text.now)) }
 {
     put_gutter(out, gutter)?;
@@ -262,8 +263,8 @@ fn put_last_rows(out: &mut String, frame: &Frame<'_>, label: &Label<'_>) -> Resu
 }
 
 /// Adds the rows between the first and the last line of a label.
-#[tactic(auto, unfolding(crate::specs::Long::between))]
-fn put_between(
+#[tactic(auto, unfolding(crate::specs::Long::rows_between))]
+fn put_rows_between(
     out: &mut String,
     frame: &Frame<'_>,
     first: usize,
@@ -272,7 +273,7 @@ fn put_between(
     requires first { first < 2 ^ 59 }
     requires last { last < 2 ^ 60 }
     ensures { OnOk result (string_bytes out.new ≡ string_bytes out.old
-        ++ between (seen_frame frame.now) first last) }
+        ++ rows_between (seen_frame frame.now) first last) }
 {
     let rest_after = last.saturating_sub(first).saturating_sub(1);
     let count = without_bare(frame, first, rest_after.min(3));
@@ -288,7 +289,11 @@ fn put_between(
 
 /// Adds the lines of a label over several lines.
 #[tactic(auto, unfolding(crate::specs::Long::long_rows))]
-pub fn put_long(out: &mut String, frame: &Frame<'_>, label: &Label<'_>) -> Result<(), AllocError>
+pub fn put_long_label(
+    out: &mut String,
+    frame: &Frame<'_>,
+    label: &Label<'_>,
+) -> Result<(), AllocError>
     requires source { length frame.now.picture.now.source.now < 2 ^ 59 }
     requires number { label.now.extent.start.line < 2 ^ 59 }
     requires last { label.now.extent.end.line < 2 ^ 59 }
@@ -303,7 +308,7 @@ pub fn put_long(out: &mut String, frame: &Frame<'_>, label: &Label<'_>) -> Resul
         (string_bytes out.old) (string_bytes out.new)) }
 {
     put_first_rows(out, frame, label)?;
-    put_between(out, frame, label.extent.start.line, label.extent.end.line)?;
+    put_rows_between(out, frame, label.extent.start.line, label.extent.end.line)?;
     put_last_rows(out, frame, label)?;
     Ok(())
 }

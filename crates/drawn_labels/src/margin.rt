@@ -3,7 +3,8 @@
 ghost use Rattle.std.specs.Prelude.{◌≡◌, ◌+◌, ◌-◌, ◌<◌, ◌≤◌, ◌^◌, length, map};
 ghost use Rattle.drawn_lines.specs.Places.{seen_picture};
 ghost use Rattle.drawn_labels.specs.Labels.{mark, seen_label};
-ghost use Rattle.drawn_labels.specs.Margins.{around, cut_of, is_long, joined, line_columns};
+ghost use Rattle.drawn_labels.specs.Margins.{window_around, cut_of, is_long, joined_reach};
+ghost use Rattle.drawn_labels.specs.Margins.{line_columns};
 ghost use Rattle.drawn_labels.specs.Margins.{long_reach, mark_reach, reach_of, reach_on, room};
 ghost use Rattle.drawn_labels.specs.Margins.{text_columns, window, window_at, window_of};
 ghost use Rattle.drawn_labels.specs.Rows.{seen_mark};
@@ -26,7 +27,7 @@ pub struct Reach {
 }
 
 /// The most columns that the text of a label is counted for.
-const MOST: usize = 1 << 60;
+const MAX_TEXT_LEN: usize = 1 << 60;
 
 /// Returns how many columns the text of a label is counted for, with the space in front of it.
 fn text_columns(text: &str) -> usize
@@ -36,7 +37,7 @@ fn text_columns(text: &str) -> usize
     if text.is_empty() {
         0
     } else {
-        1 + text.len().min(MOST)
+        1 + text.len().min(MAX_TEXT_LEN)
     }
 }
 
@@ -50,31 +51,31 @@ fn line_columns(source: &str, number: usize) -> usize
 
 /// A line of the source, and how many columns it has.
 #[derive(Clone, Copy)]
-struct Measured {
+struct MeasuredLine {
     line: usize,
     columns: usize,
 }
 
 /// Returns the line in which a label begins, and its columns.
-fn start_line(source: &str, label: &Label<'_>) -> Measured
+fn start_line(source: &str, label: &Label<'_>) -> MeasuredLine
     requires { length source.now < 2 ^ 59 }
     ensures { result.columns ≡ line_columns source.now result.line }
 {
     let line = label.extent.start.line;
-    Measured {
+    MeasuredLine {
         line,
         columns: line_columns(source, line),
     }
 }
 
-/// Returns how many columns a line of the source has. Most often it is the line `known`.
-fn columns_of(source: &str, number: usize, known: Measured) -> usize
+/// Returns how many columns a line of the source has. Most often it is the line `known_line`.
+fn columns_of(source: &str, number: usize, known_line: MeasuredLine) -> usize
     requires small { length source.now < 2 ^ 59 }
-    requires known { known.columns ≡ line_columns source.now known.line }
+    requires known { known_line.columns ≡ line_columns source.now known_line.line }
     ensures { result ≡ line_columns source.now number }
 {
-    if number == known.line {
-        known.columns
+    if number == known_line.line {
+        known_line.columns
     } else {
         line_columns(source, number)
     }
@@ -82,9 +83,9 @@ fn columns_of(source: &str, number: usize, known: Measured) -> usize
 
 /// Returns the reach of a label in one line.
 #[tactic(auto, unfolding(crate::specs::Margins::mark_reach))]
-fn mark_reach(source: &str, known: Measured, mark: &Mark<'_>) -> Reach
+fn mark_reach(source: &str, known_line: MeasuredLine, mark: &Mark<'_>) -> Reach
     requires small { length source.now < 2 ^ 59 }
-    requires known { known.columns ≡ line_columns source.now known.line }
+    requires known { known_line.columns ≡ line_columns source.now known_line.line }
     requires column { mark.now.end < 2 ^ 62 }
     ensures value { result ≡ mark_reach source.now (seen_mark mark.now) }
     ensures to { result.end < 2 ^ 62 }
@@ -94,18 +95,18 @@ fn mark_reach(source: &str, known: Measured, mark: &Mark<'_>) -> Reach
         start: mark.start,
         end: mark.end,
         text_end: mark.end + text_columns(mark.text),
-        longest: columns_of(source, mark.line, known),
+        longest: columns_of(source, mark.line, known_line),
     }
 }
 
 /// Returns two reaches as one.
-#[tactic(auto, unfolding(crate::specs::Margins::joined))]
+#[tactic(auto, unfolding(crate::specs::Margins::joined_reach))]
 fn join_reaches(r: Reach, s: Reach) -> Reach
     requires first { r.end < 2 ^ 62 }
     requires first_end { r.text_end < 2 ^ 63 }
     requires second { s.end < 2 ^ 62 }
     requires second_end { s.text_end < 2 ^ 63 }
-    ensures value { result ≡ joined r s }
+    ensures value { result ≡ joined_reach r s }
     ensures to { result.end < 2 ^ 62 }
     ensures end { result.text_end < 2 ^ 63 }
 {
@@ -152,20 +153,20 @@ fn long_reach(source: &str, label: &Label<'_>) -> Reach
 }
 
 /// Returns the reach of a label in the line in which it begins.
-fn short_reach(source: &str, known: Measured, label: &Label<'_>) -> Reach
+fn short_reach(source: &str, known_line: MeasuredLine, label: &Label<'_>) -> Reach
     requires small { length source.now < 2 ^ 59 }
-    requires known { known.columns ≡ line_columns source.now known.line }
+    requires known { known_line.columns ≡ line_columns source.now known_line.line }
     ensures value { result ≡ mark_reach source.now (mark 0 (seen_label label.now)) }
     ensures to { result.end < 2 ^ 62 }
     ensures end { result.text_end < 2 ^ 63 }
 {
-    mark_reach(source, known, &mark_of(label, 0))
+    mark_reach(source, known_line, &mark_of(label, 0))
 }
 
 /// Returns the reach of labels, each in the line in which it begins, and of `first`.
-fn reach_on(source: &str, known: Measured, first: Reach, labels: &[Label<'_>]) -> Reach
+fn reach_on(source: &str, known_line: MeasuredLine, first: Reach, labels: &[Label<'_>]) -> Reach
     requires small { length source.now < 2 ^ 59 }
-    requires known { known.columns ≡ line_columns source.now known.line }
+    requires known { known_line.columns ≡ line_columns source.now known_line.line }
     requires to { first.end < 2 ^ 62 }
     requires end { first.text_end < 2 ^ 63 }
     ensures value { result ≡ reach_on source.now first (map seen_label labels.now) }
@@ -174,7 +175,7 @@ fn reach_on(source: &str, known: Measured, first: Reach, labels: &[Label<'_>]) -
 {
     let mut reach = first;
     for label in labels {
-        reach = join_reaches(reach, short_reach(source, known, label));
+        reach = join_reaches(reach, short_reach(source, known_line, label));
     }
     reach
 }
@@ -201,8 +202,13 @@ fn reach_of(source: &str, labels: &[Label<'_>]) -> Reach
             }
         }
         [label, rest @ ..] => {
-            let known = start_line(source, label);
-            reach_on(source, known, short_reach(source, known, label), rest)
+            let known_line = start_line(source, label);
+            reach_on(
+                source,
+                known_line,
+                short_reach(source, known_line, label),
+                rest,
+            )
         }
     }
 }
@@ -236,11 +242,11 @@ fn window_at(start: usize, columns: usize) -> Window
 }
 
 /// Returns the window around labels, of lines that do not fit into `room` columns.
-#[tactic(auto, unfolding(crate::specs::Margins::around))]
+#[tactic(auto, unfolding(crate::specs::Margins::window_around))]
 fn window_around(room: usize, indent: usize, reach: Reach) -> Window
     requires to { reach.end < 2 ^ 62 }
     requires texts { reach.text_end < 2 ^ 63 }
-    ensures value { result ≡ around room indent reach }
+    ensures value { result ≡ window_around room indent reach }
     // The labels are in the window, with room for dots at its start and at its end.
     ensures start { indent ≤ reach.start → result.start ≤ reach.start - 6 }
     ensures end { reach.end ≤ reach.text_end → reach.end + 6 ≤ result.start + result.limit }
@@ -248,9 +254,9 @@ fn window_around(room: usize, indent: usize, reach: Reach) -> Window
     let start = reach.start.saturating_sub(6);
     let texts = (reach.text_end + 6).saturating_sub(start);
     let labels = (reach.end + 6).saturating_sub(start);
-    let lead = indent.saturating_sub(6);
-    if (reach.text_end + 6).saturating_sub(lead) <= room {
-        window_at(lead, room)
+    let indent_start = indent.saturating_sub(6);
+    if (reach.text_end + 6).saturating_sub(indent_start) <= room {
+        window_at(indent_start, room)
     } else if texts <= room {
         window_at(start.saturating_sub((room - texts) / 2), room)
     } else if labels <= room {

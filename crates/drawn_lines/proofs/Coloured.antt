@@ -9,7 +9,8 @@ use Rattle.std.specs.List.{list_all}
 use Rattle.drawn_lines.specs.Glyphs.{IsHarmless}
 use Rattle.drawn_lines.specs.Painting.{AreSafe, IsColourOf, IsColoured, IsHarmlessWith, Part, Piece}
 use Rattle.drawn_lines.specs.Painting.{Sgr, Text, change, closing, escape, level_escape, opening}
-use Rattle.drawn_lines.specs.Painting.{painted, part_bytes, pieces, pieces_after, plain_text, rank}
+use Rattle.drawn_lines.specs.Painting.{painted_text, part_bytes, pieces, pieces_after, plain_text}
+use Rattle.drawn_lines.specs.Painting.{rank}
 use Rattle.drawn_lines.specs.Painting.{reset_of, text_bytes}
 use Rattle.drawn_lines.specs.declared.paint.Palette.{Palette}
 use Rattle.drawn_lines.specs.declared.paint.Palette.TheVariants.{Colourless, Error, Warning, Note}
@@ -159,7 +160,7 @@ of_change p s t = one_of (rank s == rank t) nothing (join (of_reset s) (of_escap
 
 -- a text in a style
 pub of_painted : (p : Palette) (s : Style) {bs : List ℕ} → IsHarmless bs
-    → IsColourOf (painted p s bs) (painted Colourless s bs)
+    → IsColourOf (painted_text p s bs) (painted_text Colourless s bs)
 of_painted p s {bs = bs} h =
     either (length bs == 0) nothing (join (of_opening p s) (join (plain h) (of_closing p)))
 

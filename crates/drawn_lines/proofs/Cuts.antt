@@ -7,7 +7,8 @@ use Rattle.std.proofs.lemmas.Bool.Decides.{nat_tests}
 use Rattle.rustc_parse_format.specs.Characters.{Text}
 use Rattle.drawn_lines.specs.Glyphs.{glyphs, width}
 use Rattle.drawn_lines.specs.Windows.{IsPartOf, after_dots, between_dots, columns, cut_columns}
-use Rattle.drawn_lines.specs.Windows.{in_window, is_wide, left_out, past_columns, within_columns}
+use Rattle.drawn_lines.specs.Windows.{in_window, is_wide, left_out_columns, past_columns}
+use Rattle.drawn_lines.specs.Windows.{within_columns}
 use Rattle.drawn_lines.specs.declared.window.Window.{Window}
 
 -- parts of texts
@@ -78,25 +79,25 @@ within-few n (c ∷ t) = by_test (nat_lt n (width c)) refl (within-few (n - widt
         let m : width c ≤ n = grind (arith, nat_tests) in
         omega (arith, l, m)
 
-past-all : (n : ℕ) (t : Text) → left_out n t + columns (past_columns n t) ≡ columns t
+past-all : (n : ℕ) (t : Text) → left_out_columns n t + columns (past_columns n t) ≡ columns t
 past-all n [] = refl
 past-all n (c ∷ t) = by_test (n == 0) (past-all (n - width c) t)
   where
     by_test : (b : Bool)
-        → left_out (n - width c) t + columns (past_columns (n - width c) t) ≡ columns t
-        → cond b 0 (width c + left_out (n - width c) t)
+        → left_out_columns (n - width c) t + columns (past_columns (n - width c) t) ≡ columns t
+        → cond b 0 (width c + left_out_columns (n - width c) t)
         + columns (cond b (c ∷ t) (past_columns (n - width c) t)) ≡ width c + columns t
     by_test true e = omega arith
     by_test false e = omega (arith, e)
 
-past-enough : (n : ℕ) (t : Text) → (n ≤ left_out n t) ⊎ (columns (past_columns n t) ≡ 0)
+past-enough : (n : ℕ) (t : Text) → (n ≤ left_out_columns n t) ⊎ (columns (past_columns n t) ≡ 0)
 past-enough n [] = inr refl
 past-enough n (c ∷ t) = by_test (n == 0) refl (past-enough (n - width c) t)
   where
     by_test : (b : Bool) → (n == 0) ≡ b
-        → ((n - width c) ≤ left_out (n - width c) t)
+        → ((n - width c) ≤ left_out_columns (n - width c) t)
         ⊎ (columns (past_columns (n - width c) t) ≡ 0)
-        → (n ≤ cond b 0 (width c + left_out (n - width c) t))
+        → (n ≤ cond b 0 (width c + left_out_columns (n - width c) t))
         ⊎ (columns (cond b (c ∷ t) (past_columns (n - width c) t)) ≡ 0)
     by_test true e x = inl (let m : n ≡ 0 = grind (arith, nat_tests) in omega (arith, m))
     by_test false e (inl l) = inl (omega (arith, l))
@@ -112,8 +113,8 @@ cut-narrow w t = by_test (w.start == 0) (past-enough 3 s)
     few : columns s ≤ w.limit
     few = within-few w.limit (past_columns w.start (glyphs t))
 
-    by_test : (b : Bool) → (3 ≤ left_out 3 s) ⊎ (columns (past_columns 3 s) ≡ 0)
-        → cond b 0 (3 + (left_out 3 s - 3))
+    by_test : (b : Bool) → (3 ≤ left_out_columns 3 s) ⊎ (columns (past_columns 3 s) ≡ 0)
+        → cond b 0 (3 + (left_out_columns 3 s - 3))
         + (columns (within_columns (columns (cond b s (past_columns 3 s)) - 3)
         (cond b s (past_columns 3 s))) + 3) ≤ max w.limit 3 + 3
     by_test true x =

@@ -6,13 +6,15 @@ use Rattle.std.specs.Prelude.{◌==◌, ◌&&◌, decimal, encode_utf8_all}
 use Rattle.rustc_parse_format.specs.Characters.{Text}
 use Rattle.drawn_lines.specs.Glyphs.{IsHarmless, glyph_bytes, glyphs, is_obeyed, run}
 use Rattle.drawn_lines.specs.Frames.{Frame}
-use Rattle.drawn_lines.specs.Lines.{code_row, gap, number_bar, numbered, after_bar}
-use Rattle.drawn_lines.specs.Lines.{source_line, source_row, blank, under, parting}
-use Rattle.drawn_lines.specs.Painting.{IsColourOf, painted}
-use Rattle.drawn_lines.specs.Windows.{after_dots, columns, dots_before, dotted, in_window, is_wide}
-use Rattle.drawn_lines.specs.Windows.{left_out, past_columns, shown, up_to_dots, within_columns}
+use Rattle.drawn_lines.specs.Lines.{code_row, gap, number_bar, numbered_gutter, after_bar}
+use Rattle.drawn_lines.specs.Lines.{source_line, source_row, blank_gutter, row_under, parting}
+use Rattle.drawn_lines.specs.Painting.{IsColourOf, painted_text}
+use Rattle.drawn_lines.specs.Windows.{after_dots, columns, dots_before, dotted_part, in_window}
+use Rattle.drawn_lines.specs.Windows.{is_wide}
+use Rattle.drawn_lines.specs.Windows.{left_out_columns, past_columns, shown_line, up_to_dots}
+use Rattle.drawn_lines.specs.Windows.{within_columns}
 use Rattle.drawn_lines.specs.declared.window.Window.{Window}
-use Rattle.drawn_lines.specs.Places.{line, uncoloured}
+use Rattle.drawn_lines.specs.Places.{line, without_colours}
 use Rattle.drawn_lines.specs.declared.paint.Gutter.{Gutter}
 use Rattle.drawn_lines.specs.declared.paint.Palette.{Palette}
 use Rattle.drawn_lines.specs.declared.paint.Palette.TheVariants.{Colourless}
@@ -32,7 +34,12 @@ abbrev pub off : Gutter → Gutter
 off g = record { columns = g.columns; palette = Colourless }
 
 abbrev pub plain_frame : Frame → Frame
-plain_frame f = record { picture = uncoloured f.picture; gutter = off f.gutter; window = f.window }
+plain_frame f = record {
+  picture = without_colours f.picture;
+  gutter = off f.gutter;
+  window =
+      f.window;
+}
 
 -- a text of printable characters
 pub text : (bs : List ℕ) → list_all is_written bs ≡ true → IsColourOf bs bs
@@ -46,20 +53,21 @@ spaces n = plain (run-harmless n 32 (written-harmless 32 refl))
 
 -- rows under a line
 pub of_bar : (p : Palette) (s : Style)
-    → IsColourOf (painted p s (codes "|")) (painted Colourless s (codes "|"))
+    → IsColourOf (painted_text p s (codes "|")) (painted_text Colourless s (codes "|"))
 of_bar p s = of_painted p s (harmless_text (codes "|") refl)
 
-pub of_blank : (g : Gutter) → IsColourOf (blank g) (blank (off g))
+pub of_blank : (g : Gutter) → IsColourOf (blank_gutter g) (blank_gutter (off g))
 of_blank g = join (spaces g.columns) (join (text (codes " ") refl) (of_bar g.palette Secondary))
 
 pub of_under : (g : Gutter) {row other : List ℕ} → IsColourOf row other
-    → IsColourOf (under g row) (under (off g) other)
+    → IsColourOf (row_under g row) (row_under (off g) other)
 of_under g h =
     join (of_blank g) (join (text (codes " ") refl) (join h (text (codes "\n") refl)))
 
 -- lines of the source
-pub of_numbered : (f : Frame) (n : ℕ) → IsColourOf (numbered f n) (numbered (plain_frame f) n)
-unfolding numbered
+pub of_numbered : (f : Frame) (n : ℕ) → IsColourOf (numbered_gutter f n)
+    (numbered_gutter (plain_frame f) n)
+unfolding numbered_gutter
 of_numbered f n =
     join (of_opening f.gutter.palette Secondary)
     (join (spaces (f.gutter.columns - length (decimal (f.picture.line_start + n))))
@@ -70,13 +78,14 @@ of_number_bar f n =
     join (of_numbered f n) (join (text (codes " ") refl) (of_bar f.gutter.palette Secondary))
 
 pub of_dots : (p : Palette)
-    → IsColourOf (painted p Secondary (codes "...")) (painted Colourless Secondary (codes "..."))
+    → IsColourOf (painted_text p Secondary (codes "..."))
+    (painted_text Colourless Secondary (codes "..."))
 of_dots p = of_painted p Secondary (harmless_text (codes "...") refl)
 
 of_before : (p : Palette) (w : Window) (t : Text)
     → IsColourOf (dots_before p w t) (dots_before Colourless w t)
 of_before p w t =
-    either (w.start == 0) nothing (join (of_dots p) (spaces (left_out 3 t - 3)))
+    either (w.start == 0) nothing (join (of_dots p) (spaces (left_out_columns 3 t - 3)))
 
 of_up_to : (p : Palette) (wide : Bool) (t : Text) → NonePass is_obeyed t
     → IsColourOf (up_to_dots p wide t) (up_to_dots Colourless wide t)
@@ -86,13 +95,14 @@ of_up_to p wide t h =
     (plain (t, refl, h))
 
 of_dotted : (p : Palette) (w : Window) (wide : Bool) (t : Text) → NonePass is_obeyed t
-    → IsColourOf (dotted p w wide t) (dotted Colourless w wide t)
+    → IsColourOf (dotted_part p w wide t) (dotted_part Colourless w wide t)
 of_dotted p w wide t h =
     join (of_before p w t)
     (of_up_to p wide (after_dots w t) (none-cond (w.start == 0) _ _ h (none-past 3 t h)))
 
-of_shown : (p : Palette) (w : Window) (t : Text) → IsColourOf (shown p w t) (shown Colourless w t)
-unfolding shown
+of_shown : (p : Palette) (w : Window) (t : Text)
+    → IsColourOf (shown_line p w t) (shown_line Colourless w t)
+unfolding shown_line
 of_shown p w t =
     let past = none-past w.start (glyphs t) (none-glyphs t) in
     of_dotted p w (is_wide w t) (in_window w (is_wide w t) (glyphs t))

@@ -2,7 +2,7 @@
 use Rattle.std.proofs.Common.{◌≡◌, ◌==◌, ℕ, List, ◌∷◌, ◌++◌, ◌∙◌, append_assoc, arith, false, []}
 use Rattle.std.proofs.Common.{append-nil, length, refl}
 use Rattle.std.proofs.lemmas.Bool.Decides.{nat_tests}
-use Rattle.drawn_lines.specs.Painting.{closing, has_colours, opening, painted}
+use Rattle.drawn_lines.specs.Painting.{closing, has_colours, opening, painted_text}
 use Rattle.drawn_lines.specs.declared.paint.Palette.{Palette}
 use Rattle.drawn_lines.specs.declared.paint.Style.{Style}
 
@@ -11,12 +11,12 @@ some-length : (c : ℕ) (cs : List ℕ) → (length (c ∷ cs) == 0) ≡ false
 some-length c cs = grind (arith, nat_tests)
 
 pub some-painted : (p : Palette) (s : Style) (c : ℕ) (cs : List ℕ)
-    → opening p s ++ ((c ∷ cs) ++ closing p) ≡ painted p s (c ∷ cs)
+    → opening p s ++ ((c ∷ cs) ++ closing p) ≡ painted_text p s (c ∷ cs)
 some-painted p s c cs = rw (some-length c cs) refl
 
 -- a text without colours
 pub painted-plain : (p : Palette) (s : Style) (bs : List ℕ) → has_colours p ≡ false
-    → painted p s bs ≡ bs
+    → painted_text p s bs ≡ bs
 painted-plain p s [] h = refl
 painted-plain p s (c ∷ cs) h = rw (some-length c cs, h) (append-nil (c ∷ cs))
 

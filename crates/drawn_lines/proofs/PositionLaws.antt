@@ -13,8 +13,8 @@ use Rattle.std.proofs.lemmas.Grind.{flat_map-append}
 use Rattle.std.proofs.lemmas.List.Sums.{sum_by-cons}
 use Rattle.rustc_parse_format.specs.Characters.{Text, byte_length}
 use Rattle.drawn_lines.specs.Glyphs.{width}
-use Rattle.drawn_lines.specs.Places.{first_line, is_line_feed, line, past, spot}
-use Rattle.drawn_lines.specs.Places.{within}
+use Rattle.drawn_lines.specs.Places.{first_line, is_line_feed, line, spot_past, spot}
+use Rattle.drawn_lines.specs.Places.{front_within}
 use Rattle.drawn_lines.specs.Frames.{Frame}
 use Rattle.drawn_lines.specs.Lines.{AddsLine, source_line, source_row}
 use Rattle.drawn_lines.specs.Positions.{AreLines, EndsLine, IsLine, IsOneLine, IsSpot, line_feeds}
@@ -149,13 +149,13 @@ and-true true = refl
 and-true false = refl
 
 past-feed : (ls : List Text) (f : Text) (c : ℕ) → (c == 10) ≡ true
-    → past (after ls f) c ≡ after (ls ++ f ∷ []) []
-unfolding past
+    → spot_past (after ls f) c ≡ after (ls ++ f ∷ []) []
+unfolding spot_past
 past-feed ls f c e = rw (e, length-append ls (f ∷ [])) refl
 
 past-other : (ls : List Text) (f : Text) (c : ℕ) → (c == 10) ≡ false
-    → past (after ls f) c ≡ after ls (f ++ c ∷ [])
-unfolding past
+    → spot_past (after ls f) c ≡ after ls (f ++ c ∷ [])
+unfolding spot_past
 past-other ls f c e =
     rw (
       e,
@@ -179,7 +179,7 @@ other-moves : (ls : List Text) (f w t : Text) (c : ℕ) → t ≡ with_feeds ls 
 other-moves ls f w t c h = h ∙ ap (λ u. with_feeds ls ++ u) (sym (append_assoc f (c ∷ []) w))
 
 walk : (ls : List Text) (f w t : Text) → AreLines ls → IsOneLine f → t ≡ with_feeds ls ++ (f ++ w)
-    → IsAfter t (fold past (after ls f) w)
+    → IsAfter t (fold spot_past (after ls f) w)
 walk ls f [] t h k e = record {
   before = ls;
   front = f;
@@ -192,8 +192,8 @@ walk ls f (c ∷ w) t h k e = by_test (c == 10) refl (λ ms g. walk ms g w t)
   where
     by_test : (b : Bool) → (c == 10) ≡ b
         → ((ms : List Text) (g : Text) → AreLines ms → IsOneLine g → t ≡ with_feeds ms ++ (g ++ w)
-        → IsAfter t (fold past (after ms g) w))
-        → IsAfter t (fold past (past (after ls f) c) w)
+        → IsAfter t (fold spot_past (after ms g) w))
+        → IsAfter t (fold spot_past (spot_past (after ls f) c) w)
     by_test true q on =
         let n : c ≡ 10 = grind (arith, nat_tests) in
         rw (past-feed ls f c q) (on (ls ++ f ∷ []) [] (lines-append ls f h k) refl
@@ -209,7 +209,7 @@ record IsCut (n : ℕ) (t w : Text) : Type 0 where
   starts : byte_length w ≤ n
   ends : (c : ℕ) (u : Text) → rest ≡ c ∷ u → n < byte_length w + len_utf8 c
 
-cut : (n : ℕ) (t : Text) → IsCut n t (within n t)
+cut : (n : ℕ) (t : Text) → IsCut n t (front_within n t)
 cut n [] = record {
   rest = [];
   whole = refl;
@@ -219,8 +219,8 @@ cut n [] = record {
 cut n (c ∷ t) = by_test (nat_lt n (len_utf8 c)) refl (cut (n - len_utf8 c) t)
   where
     by_test : (b : Bool) → nat_lt n (len_utf8 c) ≡ b
-        → IsCut (n - len_utf8 c) t (within (n - len_utf8 c) t)
-        → IsCut n (c ∷ t) (within n (c ∷ t))
+        → IsCut (n - len_utf8 c) t (front_within (n - len_utf8 c) t)
+        → IsCut n (c ∷ t) (front_within n (c ∷ t))
     by_test true e k = rw e (record {
       rest = c ∷ t;
       whole = refl;
@@ -232,7 +232,7 @@ cut n (c ∷ t) = by_test (nat_lt n (len_utf8 c)) refl (cut (n - len_utf8 c) t)
           omega (arith, short, long);
     })
     by_test false e k =
-        let all = sum_by-cons len_utf8 c (within (n - len_utf8 c) t) in
+        let all = sum_by-cons len_utf8 c (front_within (n - len_utf8 c) t) in
         let long : len_utf8 c ≤ n = grind (arith, nat_tests) in
         rw e (record {
           rest = k.rest;
@@ -244,7 +244,7 @@ cut n (c ∷ t) = by_test (nat_lt n (len_utf8 c)) refl (cut (n - len_utf8 c) t)
 pub spot-is : (n : ℕ) (t : Text) → IsSpot n t (spot n t)
 spot-is n t =
     let k = cut n t in
-    let a = walk [] [] (within n t) (within n t) tt refl refl in
+    let a = walk [] [] (front_within n t) (front_within n t) tt refl refl in
     record {
       before = a.before;
       front = a.front;

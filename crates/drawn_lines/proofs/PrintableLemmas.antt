@@ -23,7 +23,7 @@ use Rattle.unicode_width.specs.Width.{char_width}
 use Rattle.rustc_parse_format.specs.Characters.{Text}
 use Rattle.drawn_lines.specs.Glyphs.{glyph, glyph_count, glyphs, is_drawn_as_is, is_printable}
 use Rattle.drawn_lines.specs.Glyphs.{is_bidi_control, width}
-use Rattle.drawn_lines.specs.Places.{past, within}
+use Rattle.drawn_lines.specs.Places.{spot_past, front_within}
 use Rattle.drawn_lines.specs.declared.extent.Spot.{Spot}
 use Rattle.drawn_lines.specs.declared.printable.TheConstants.{AS_IS, PRINTABLE}
 
@@ -121,9 +121,9 @@ width-printable c e = grind (arith, nat_tests)
 
 -- and each takes one column
 past-printable : (p : Spot) (c : ℕ) → is_printable c ≡ true → p.is_indent ≡ false
-    → past p c
+    → spot_past p c
     ≡ record { line = p.line; chars = p.chars + 1; column = p.column + 1; is_indent = false }
-unfolding past
+unfolding spot_past
 past-printable p c e i = rw (i, width-printable c e) (grind (arith, nat_tests))
 
 -- the place with these parts
@@ -131,7 +131,7 @@ abbrev spot_of : ℕ → ℕ → ℕ → Bool → Spot
 spot_of l m k b = record { line = l; chars = m; column = k; is_indent = b }
 
 fold-from : (f : List ℕ) (l m k : ℕ) → list_all is_printable f ≡ true
-    → fold past (spot_of l m k false) f ≡ spot_of l (m + length f) (k + length f) false
+    → fold spot_past (spot_of l m k false) f ≡ spot_of l (m + length f) (k + length f) false
 fold-from [] l m k e =
     let a : m + 0 ≡ m = omega arith in
     let b : k + 0 ≡ k = omega arith in
@@ -144,7 +144,7 @@ fold-from (c ∷ f) l m k e =
     (fold-from f l (m + 1) (k + 1) parts.1)
 
 pub fold-printable : (f : List ℕ) (p : Spot) → list_all is_printable f ≡ true → p.is_indent ≡ false
-    → fold past p f
+    → fold spot_past p f
     ≡ record {
       line = p.line;
       chars = p.chars + length f;
@@ -154,11 +154,11 @@ pub fold-printable : (f : List ℕ) (p : Spot) → list_all is_printable f ≡ t
 fold-printable f p e i =
     let s : p ≡ spot_of p.line p.chars p.column false =
     ap (spot_of p.line p.chars p.column) i in
-    ap (λ q. fold past q f) s ∙ fold-from f p.line p.chars p.column e
+    ap (λ q. fold spot_past q f) s ∙ fold-from f p.line p.chars p.column e
 
 -- so many bytes of a text that begins with printable characters
 pub within-printable : (f : List ℕ) (n : ℕ) (t : Text) → list_all is_printable f ≡ true
-    → length f ≤ n → within n (f ++ t) ≡ f ++ within (n - length f) t
+    → length f ≤ n → front_within n (f ++ t) ≡ f ++ front_within (n - length f) t
 within-printable [] n t e l = let a : n - 0 ≡ n = omega arith in rw a refl
 within-printable (c ∷ f) n t e l =
     let parts = and_parts (is_printable c) (list_all is_printable f) e in
@@ -170,10 +170,11 @@ within-printable (c ∷ f) n t e l =
 -- from after printable characters the bytes that are left lead to the same place
 pub pass-printable : (f : List ℕ) (n : ℕ) (t : Text) (p : Spot)
     → list_all is_printable f ≡ true → length f ≤ n
-    → fold past p (within n (f ++ t)) ≡ fold past (fold past p f) (within (n - length f) t)
+    → fold spot_past p (front_within n (f ++ t))
+    ≡ fold spot_past (fold spot_past p f) (front_within (n - length f) t)
 pass-printable f n t p e l =
-    ap (fold past p) (within-printable f n t e l)
-    ∙ fold-append past p f (within (n - length f) t)
+    ap (fold spot_past p) (within-printable f n t e l)
+    ∙ fold-append spot_past p f (front_within (n - length f) t)
 
 ascii-as-is : (c : ℕ) → c < 128 → list_all is_drawn_as_is (encode c) ≡ true
     → is_drawn_as_is c ≡ true

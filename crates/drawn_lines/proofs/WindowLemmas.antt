@@ -14,8 +14,8 @@ use lib.Utf8.{low_scalar, scalar, scalars}
 use Rattle.rustc_parse_format.specs.Characters.{Text}
 use Rattle.drawn_lines.specs.Glyphs.{glyph, glyph_count, glyphs, is_bidi_control, is_printable}
 use Rattle.drawn_lines.specs.Glyphs.{width}
-use Rattle.drawn_lines.specs.Windows.{columns, dotted, in_window, is_wide, left_out}
-use Rattle.drawn_lines.specs.Windows.{past_columns, shown, within_columns}
+use Rattle.drawn_lines.specs.Windows.{columns, dotted_part, in_window, is_wide, left_out_columns}
+use Rattle.drawn_lines.specs.Windows.{past_columns, shown_line, within_columns}
 use Rattle.drawn_lines.specs.declared.paint.Palette.{Palette}
 use Rattle.drawn_lines.specs.declared.window.Window.{Window}
 use Rattle.drawn_lines.proofs.PrintableLemmas.{whole-printable, width-printable}
@@ -31,7 +31,7 @@ columns-printable (c ∷ f) t e =
     omega (arith, one, more)
 
 -- nothing is left out
-pub left_out-none : (n : ℕ) (t : Text) → n ≡ 0 → left_out n t ≡ 0
+pub left_out-none : (n : ℕ) (t : Text) → n ≡ 0 → left_out_columns n t ≡ 0
 left_out-none n [] e = refl
 left_out-none n (c ∷ t) e = rw e refl
 
@@ -44,14 +44,14 @@ past-nil n t e = rw e refl
 
 -- a line that is not cut
 pub shown-whole : (p : Palette) (w : Window) (t : Text) → w.start ≡ 0 → is_wide w t ≡ false
-    → shown p w t ≡ encode_utf8_all (glyphs t)
-unfolding shown
+    → shown_line p w t ≡ encode_utf8_all (glyphs t)
+unfolding shown_line
 shown-whole p w t z n = rw (n, past-none w.start (glyphs t) z, z) refl
 
 -- and one of printable characters, for which there is room
 pub shown-printable : (p : Palette) (w : Window) (s front back : List ℕ)
     → chars s ≡ front ++ chars back → length back ≡ 0 → list_all is_printable front ≡ true
-    → w.start ≡ 0 → length front ≤ w.room → shown p w (chars s) ≡ front
+    → w.start ≡ 0 → length front ≤ w.room → shown_line p w (chars s) ≡ front
 shown-printable p w s front back parts none e z l =
     let nil : chars back ≡ [] = ap chars (nil_from_length back none) ∙ chars-nil in
     let count : columns (chars s) ≡ length front + 0 =
@@ -61,8 +61,8 @@ shown-printable p w s front back parts none e z l =
 
 -- and one that may be
 pub shown-cut : (p : Palette) (w : Window) (t s : Text) (wide : Bool) → s ≡ glyphs t
-    → is_wide w t ≡ wide → dotted p w wide (in_window w wide s) ≡ shown p w t
-unfolding shown
+    → is_wide w t ≡ wide → dotted_part p w wide (in_window w wide s) ≡ shown_line p w t
+unfolding shown_line
 shown-cut p w t s wide e f = rw (e, f) refl
 
 -- characters of UTF-8

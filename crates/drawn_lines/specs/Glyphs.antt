@@ -71,8 +71,8 @@ abbrev pub is_drawn_as_is : ℕ → Bool
 is_drawn_as_is b = nat_lt 31 b && not ((b == 127 || b == 0xC2) || (b == 0xD8 || b == 0xE2))
 
 -- The byte is one of ASCII, or of a character that is drawn as it is.
-abbrev pub is_drawn_as_it_is : ℕ → Bool
-is_drawn_as_it_is b = nat_lt b 128 || is_drawn_as_is b
+abbrev pub is_non_ascii_drawn_as_is : ℕ → Bool
+is_non_ascii_drawn_as_is b = nat_lt b 128 || is_drawn_as_is b
 
 -- The character is a printable one of ASCII.
 abbrev pub is_printable : ℕ → Bool

@@ -72,8 +72,8 @@ abbrev pub closing : Palette → List ℕ
 closing p = if has_colours p then codes "\u{1b}[0m" else []
 
 -- A text in a style. No text has no style.
-abbrev pub painted : Palette → Style → List ℕ → List ℕ
-painted p s bs = if length bs == 0 then [] else opening p s ++ (bs ++ closing p)
+abbrev pub painted_text : Palette → Style → List ℕ → List ℕ
+painted_text p s bs = if length bs == 0 then [] else opening p s ++ (bs ++ closing p)
 
 -- A text of one style.
 pub record Piece : Type 0 where

@@ -33,8 +33,8 @@ seen_picture p = record {
 }
 
 -- The picture without colours.
-abbrev pub uncoloured : Picture → Picture
-uncoloured p = record {
+abbrev pub without_colours : Picture → Picture
+without_colours p = record {
   path = p.path;
   source = p.source;
   line_start = p.line_start;
@@ -61,9 +61,9 @@ unfoldable pub line : ℕ → List ℕ → List ℕ
 line n bs = first_line (after_lines n bs)
 
 -- The first characters of a text, as many as end within n bytes.
-abbrev pub within : ℕ → Text → Text
-within n [] = []
-within n (c ∷ t) = if nat_lt n (len_utf8 c) then [] else c ∷ within (n - len_utf8 c) t
+abbrev pub front_within : ℕ → Text → Text
+front_within n [] = []
+front_within n (c ∷ t) = if nat_lt n (len_utf8 c) then [] else c ∷ front_within (n - len_utf8 c) t
 
 -- The place at the start of a text: its line, counted from 0, how many characters and columns of
 -- that line are before it, and whether these are all white space.
@@ -71,8 +71,8 @@ abbrev pub origin : Spot
 origin = record { line = 0; chars = 0; column = 0; is_indent = true }
 
 -- The place after a character.
-unfoldable pub past : Spot → ℕ → Spot
-past p c =
+unfoldable pub spot_past : Spot → ℕ → Spot
+spot_past p c =
     if c == 10 then record { line = p.line + 1; chars = 0; column = 0; is_indent = true }
     else record {
       line = p.line;
@@ -83,7 +83,7 @@ past p c =
 
 -- The place at a byte offset, or at the start of the character that has this byte.
 abbrev pub spot : ℕ → Text → Spot
-spot n t = fold past origin (within n t)
+spot n t = fold spot_past origin (front_within n t)
 
 -- The byte offset in the source of an offset in the literal, or the end of the source.
 abbrev pub offset : Picture → ℕ → ℕ

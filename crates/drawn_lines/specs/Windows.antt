@@ -7,7 +7,7 @@ use Rattle.std.specs.Str.{encode_utf8_all}
 use Rattle.rustc_parse_format.specs.Characters.{Text}
 use Rattle.drawn_lines.specs.Frames.{Frame}
 use Rattle.drawn_lines.specs.Glyphs.{glyphs, run, width}
-use Rattle.drawn_lines.specs.Painting.{painted}
+use Rattle.drawn_lines.specs.Painting.{painted_text}
 use Rattle.drawn_lines.specs.Places.{line}
 use Rattle.drawn_lines.specs.declared.paint.Palette.{Palette}
 use Rattle.drawn_lines.specs.declared.paint.Style.TheVariants.{Secondary}
@@ -24,9 +24,9 @@ past_columns n [] = []
 past_columns n (c ∷ t) = if n == 0 then c ∷ t else past_columns (n - width c) t
 
 -- How many columns are left out then.
-abbrev pub left_out : ℕ → Text → ℕ
-left_out n [] = 0
-left_out n (c ∷ t) = if n == 0 then 0 else width c + left_out (n - width c) t
+abbrev pub left_out_columns : ℕ → Text → ℕ
+left_out_columns n [] = 0
+left_out_columns n (c ∷ t) = if n == 0 then 0 else width c + left_out_columns (n - width c) t
 
 -- The first characters of a text, as many as end within n columns.
 abbrev pub within_columns : ℕ → Text → Text
@@ -45,11 +45,11 @@ in_window w wide t =
 
 -- The dots where a line is cut.
 abbrev pub dots : Palette → List ℕ
-dots p = painted p Secondary (codes "...")
+dots p = painted_text p Secondary (codes "...")
 
 -- The dots over the first characters of a part of a line, if the line is cut in front of it.
 abbrev pub dots_before : Palette → Window → Text → List ℕ
-dots_before p w t = if w.start == 0 then [] else dots p ++ run (left_out 3 t - 3) 32
+dots_before p w t = if w.start == 0 then [] else dots p ++ run (left_out_columns 3 t - 3) 32
 
 -- The rest of the part.
 abbrev pub after_dots : Window → Text → Text
@@ -62,8 +62,8 @@ up_to_dots p wide t =
     else encode_utf8_all t
 
 -- A part of a line as it is drawn.
-abbrev pub dotted : Palette → Window → Bool → Text → List ℕ
-dotted p w wide t = dots_before p w t ++ up_to_dots p wide (after_dots w t)
+abbrev pub dotted_part : Palette → Window → Bool → Text → List ℕ
+dotted_part p w wide t = dots_before p w t ++ up_to_dots p wide (after_dots w t)
 
 -- What is drawn of a line between the dots.
 abbrev pub between_dots : Window → Text → Text
@@ -76,7 +76,7 @@ abbrev pub cut_columns : Window → Text → ℕ
 cut_columns w t =
     let s = in_window w true (glyphs t) in
     let rest = after_dots w s in
-    (if w.start == 0 then 0 else 3 + (left_out 3 s - 3))
+    (if w.start == 0 then 0 else 3 + (left_out_columns 3 s - 3))
     + (columns (within_columns (columns rest - 3) rest) + 3)
 
 -- The text s is a part of t.
@@ -84,9 +84,9 @@ abbrev pub IsPartOf : Text → Text → Type 0
 IsPartOf s t = (before : Text) × (after : Text) × (t ≡ before ++ (s ++ after))
 
 -- A line as it is drawn.
-unfoldable pub shown : Palette → Window → Text → List ℕ
-shown p w t = dotted p w (is_wide w t) (in_window w (is_wide w t) (glyphs t))
+unfoldable pub shown_line : Palette → Window → Text → List ℕ
+shown_line p w t = dotted_part p w (is_wide w t) (in_window w (is_wide w t) (glyphs t))
 
 -- How many columns at the start of a line of the source are cut.
 unfoldable pub shift : Frame → ℕ → ℕ
-shift f n = left_out f.window.start (glyphs (chars (line n f.picture.source)))
+shift f n = left_out_columns f.window.start (glyphs (chars (line n f.picture.source)))

@@ -6,7 +6,7 @@ ghost use Rattle.std.specs.Prelude.{List, length, take, IfOk, IfSome, MatchOptio
 ghost use Rattle.std.specs.Prelude.{encode_utf8_all, string_bytes};
 ghost use Rattle.drawn_lines.specs.Glyphs.{IsHarmless, glyph, glyph_bytes, glyph_count, glyphs};
 ghost use Rattle.drawn_lines.specs.Glyphs.{indent, is_bidi_control, run, width};
-ghost use Rattle.drawn_lines.specs.Painting.{Piece, painted, piece, pieces_after};
+ghost use Rattle.drawn_lines.specs.Painting.{Piece, painted_text, piece, pieces_after};
 ghost use Rattle.drawn_lines.specs.Places.{first_line};
 
 use crate::paint::{Palette, Style, has_colours, put_change, put_closing, put_opening};
@@ -230,7 +230,7 @@ pub fn put_painted_glyphs(
     text: &str,
 ) -> Result<(), AllocError>
     ensures { OnOk result (string_bytes out.new
-        ≡ string_bytes out.old ++ painted palette style (glyph_bytes text.now)) }
+        ≡ string_bytes out.old ++ painted_text palette style (glyph_bytes text.now)) }
 {
     if !has_colours(palette) {
         return Ok(put_glyphs(out, text, 0)?);
@@ -252,7 +252,7 @@ pub fn put_painted_run(
     count: usize,
 ) -> Result<(), AllocError>
     ensures { OnOk result (string_bytes out.new
-        ≡ string_bytes out.old ++ painted palette style (run count c)) }
+        ≡ string_bytes out.old ++ painted_text palette style (run count c)) }
 {
     if count > 0 {
         put_opening(out, palette, style)?;

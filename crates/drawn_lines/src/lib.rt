@@ -24,8 +24,8 @@ pub use lines::{
 };
 pub use paint::{
     Gutter, Palette, Style, has_colours, palette_of, put_change, put_closing, put_note_sign,
-    put_opening, put_painted, put_reset, put_sign, rank,
+    put_opening, put_painted_text, put_reset, put_sign, rank,
 };
 pub use places::{ORIGIN, Picture, WIDTH, after_lines, extent_of, line, offsets, split_line};
-pub use printable::{is_drawn_as_is, is_drawn_as_it_is};
-pub use window::{Window, columns, put_shown, shift};
+pub use printable::{is_drawn_as_is, is_non_ascii_drawn_as_is};
+pub use window::{Window, columns, put_shown_line, shift};

@@ -3,15 +3,18 @@
 
 ghost use Rattle.std.specs.Prelude.{◌≡◌, ◌++◌, ◌<◌, ◌^◌, OnOk, chars, codes, decimal, string_bytes};
 ghost use Rattle.drawn_lines.specs.Frames.{seen_frame};
-ghost use Rattle.drawn_lines.specs.Lines.{AddsLine, after_bar, blank, code_row, gap, number_bar};
-ghost use Rattle.drawn_lines.specs.Lines.{numbered};
+ghost use Rattle.drawn_lines.specs.Lines.{AddsLine, after_bar, blank_gutter, code_row, gap};
+ghost use Rattle.drawn_lines.specs.Lines.{number_bar};
+ghost use Rattle.drawn_lines.specs.Lines.{numbered_gutter};
 ghost use Rattle.drawn_lines.specs.Lines.{parting, source_line, source_row};
 
 use crate::frame::{Frame, digits};
 use crate::glyphs::{draws_nothing, put_run};
-use crate::paint::{Gutter, Palette, Style, put_closing, put_gutter_bar, put_opening, put_painted};
+use crate::paint::{
+    Gutter, Palette, Style, put_closing, put_gutter_bar, put_opening, put_painted_text,
+};
 use crate::places::line;
-use crate::window::{Window, put_shown};
+use crate::window::{Window, put_shown_line};
 use itoa::Buffer;
 use std::alloc::AllocError;
 
@@ -26,7 +29,7 @@ pub fn put_decimal(out: &mut String, number: usize) -> Result<(), AllocError>
 
 /// Adds the gutter of a row that has no number.
 pub fn put_blank(out: &mut String, gutter: Gutter) -> Result<(), AllocError>
-    ensures { OnOk result (string_bytes out.new ≡ string_bytes out.old ++ blank gutter) }
+    ensures { OnOk result (string_bytes out.new ≡ string_bytes out.old ++ blank_gutter gutter) }
 {
     put_run(out, ' ', gutter.columns)?;
     put_gutter_bar(out, gutter.palette)?;
@@ -36,7 +39,7 @@ pub fn put_blank(out: &mut String, gutter: Gutter) -> Result<(), AllocError>
 /// Adds the gutter of a row under a line, and the space after it.
 pub fn put_gutter(out: &mut String, gutter: Gutter) -> Result<(), AllocError>
     ensures { OnOk result (string_bytes out.new
-        ≡ string_bytes out.old ++ (blank gutter ++ codes " ")) }
+        ≡ string_bytes out.old ++ (blank_gutter gutter ++ codes " ")) }
 {
     put_blank(out, gutter)?;
     out.push_str(" ")?;
@@ -55,11 +58,11 @@ pub fn put_parting(out: &mut String, frame: &Frame<'_>) -> Result<(), AllocError
 }
 
 /// Adds the number of a line of the source, at the right of its gutter.
-#[tactic(auto, unfolding(crate::specs::Lines::numbered))]
+#[tactic(auto, unfolding(crate::specs::Lines::numbered_gutter))]
 pub fn put_line_number(out: &mut String, frame: &Frame<'_>, line: usize) -> Result<(), AllocError>
     requires { line < 2 ^ 61 }
     ensures { OnOk result (string_bytes out.new ≡ string_bytes out.old
-        ++ numbered (seen_frame frame.now) line) }
+        ++ numbered_gutter (seen_frame frame.now) line) }
 {
     let number = frame.picture.line_start as usize + line;
     put_opening(out, frame.gutter.palette, Style::Secondary)?;
@@ -97,7 +100,7 @@ fn put_after_bar(
 {
     if window.start > 0 || !draws_nothing(text) {
         out.push_str(front)?;
-        put_shown(out, palette, window, text)?;
+        put_shown_line(out, palette, window, text)?;
     }
     Ok(())
 }
@@ -164,7 +167,7 @@ pub fn put_gap(
     if last == first + 2 {
         put_code(out, frame, first + 1)?;
     } else if last > first + 2 {
-        put_painted(out, frame.gutter.palette, Style::Secondary, "...")?;
+        put_painted_text(out, frame.gutter.palette, Style::Secondary, "...")?;
         out.push_str("\n")?;
     }
     Ok(())

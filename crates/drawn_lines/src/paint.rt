@@ -4,7 +4,8 @@
 ghost use Rattle.std.specs.Prelude.{◌≡◌, ◌++◌, ◌∷◌, ◌==◌, List, OnOk, codes, false, length};
 ghost use Rattle.std.specs.Prelude.{string_bytes};
 ghost use Rattle.drawn_lines.specs.Painting.{Piece, change, closing, escape, has_colours};
-ghost use Rattle.drawn_lines.specs.Painting.{level_escape, opening, painted, palette_of, piece};
+ghost use Rattle.drawn_lines.specs.Painting.{level_escape, opening, painted_text, palette_of};
+ghost use Rattle.drawn_lines.specs.Painting.{piece};
 ghost use Rattle.drawn_lines.specs.Painting.{pieces_after, rank, reset_of};
 ghost use Rattle.drawn_lines.specs.declared.paint.Style.TheVariants.{Bold, Plain, Secondary};
 
@@ -182,14 +183,14 @@ pub fn put_closing(out: &mut String, palette: Palette) -> Result<(), AllocError>
 
 /// Adds a text in a style.
 #[inline]
-pub fn put_painted(
+pub fn put_painted_text(
     out: &mut String,
     palette: Palette,
     style: Style,
     text: &str,
 ) -> Result<(), AllocError>
     ensures { OnOk result (string_bytes out.new
-        ≡ string_bytes out.old ++ painted palette style text.now) }
+        ≡ string_bytes out.old ++ painted_text palette style text.now) }
 {
     if !text.is_empty() {
         put_opening(out, palette, style)?;
@@ -204,7 +205,7 @@ pub fn put_painted(
 #[tactic(auto, unfolding(crate::specs::Painting::escape))]
 pub fn put_gutter_bar(out: &mut String, palette: Palette) -> Result<(), AllocError>
     ensures { OnOk result (string_bytes out.new
-        ≡ string_bytes out.old ++ (codes " " ++ painted palette Secondary (codes "|"))) }
+        ≡ string_bytes out.old ++ (codes " " ++ painted_text palette Secondary (codes "|"))) }
 {
     match palette {
         Palette::Colourless => out.push_str(" |")?,
@@ -219,8 +220,8 @@ pub fn put_gutter_bar(out: &mut String, palette: Palette) -> Result<(), AllocErr
 #[tactic(auto, unfolding(crate::specs::Painting::escape))]
 pub fn put_note_sign(out: &mut String, palette: Palette) -> Result<(), AllocError>
     ensures { OnOk result (string_bytes out.new ≡ string_bytes out.old
-        ++ (codes " " ++ (painted palette Secondary (codes "= ")
-        ++ (painted palette Bold (codes "note") ++ codes ": ")))) }
+        ++ (codes " " ++ (painted_text palette Secondary (codes "= ")
+        ++ (painted_text palette Bold (codes "note") ++ codes ": ")))) }
 {
     match palette {
         Palette::Colourless => out.push_str(" = note: ")?,

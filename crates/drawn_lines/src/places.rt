@@ -5,8 +5,9 @@ ghost use Rattle.std.specs.Prelude.{true, max};
 ghost use Rattle.std.specs.List.{fold, list_all};
 ghost use Rattle.rustc_parse_format.specs.Seen.{pair};
 ghost use Rattle.drawn_lines.specs.Glyphs.{is_printable};
-ghost use Rattle.drawn_lines.specs.Places.{offset, after_lines, extent, first_line, line, past};
-ghost use Rattle.drawn_lines.specs.Places.{seen_extent, seen_picture, within};
+ghost use Rattle.drawn_lines.specs.Places.{offset, after_lines, extent, first_line, line};
+ghost use Rattle.drawn_lines.specs.Places.{spot_past};
+ghost use Rattle.drawn_lines.specs.Places.{seen_extent, seen_picture, front_within};
 
 use crate::extent::{Extent, Spot};
 use crate::glyphs::{split_first, width};
@@ -43,12 +44,12 @@ pub const ORIGIN: Spot = Spot {
 };
 
 /// Returns the place after a character.
-#[tactic(auto, unfolding(crate::specs::Places::past))]
-fn past(spot: Spot, c: char) -> Spot
+#[tactic(auto, unfolding(crate::specs::Places::spot_past))]
+fn spot_past(spot: Spot, c: char) -> Spot
     requires small_line { spot.line < 2 ^ 62 }
     requires small_chars { spot.chars < 2 ^ 62 }
     requires small_column { spot.column < 2 ^ 61 }
-    ensures value { result ≡ past spot c }
+    ensures value { result ≡ spot_past spot c }
     ensures lines { result.line ≤ spot.line + 1 }
     ensures chars { result.chars ≤ spot.chars + 1 }
     ensures columns { result.column ≤ spot.column + 4 }
@@ -75,7 +76,7 @@ fn past_printable(spot: Spot, front: &str) -> Spot
     requires after_indent { spot.is_indent ≡ false }
     requires small_chars { spot.chars + length front.now < 2 ^ 62 }
     requires small_column { spot.column + length front.now < 2 ^ 62 }
-    ensures value { result ≡ fold past spot front.now }
+    ensures value { result ≡ fold spot_past spot front.now }
     ensures line { result.line ≡ spot.line }
     ensures chars { result.chars ≡ spot.chars + length front.now }
     ensures column { result.column ≡ spot.column + length front.now }
@@ -100,44 +101,44 @@ struct Rest<'a> {
 }
 
 /// Passes the printable characters at the start of a text that end within `width` bytes.
-fn pass_printable(from: Spot, text: &str, width: usize) -> Rest<'_>
-    requires after_indent { from.is_indent ≡ false }
-    requires small_chars { from.chars + length text.now < 2 ^ 60 }
-    requires small_column { from.column + 4 * length text.now < 2 ^ 61 }
-    ensures value { fold past result.spot (within result.width (chars result.text.now))
-        ≡ fold past from (within width (chars text.now)) }
-    ensures on { (more : ℕ) → fold past from (within (width + more) (chars text.now))
-        ≡ fold past result.spot (within (result.width + more) (chars result.text.now)) }
+fn pass_printable(start: Spot, text: &str, width: usize) -> Rest<'_>
+    requires after_indent { start.is_indent ≡ false }
+    requires small_chars { start.chars + length text.now < 2 ^ 60 }
+    requires small_column { start.column + 4 * length text.now < 2 ^ 61 }
+    ensures value { fold spot_past result.spot (front_within result.width (chars result.text.now))
+        ≡ fold spot_past start (front_within width (chars text.now)) }
+    ensures on { (more : ℕ) → fold spot_past start (front_within (width + more) (chars text.now))
+        ≡ fold spot_past result.spot (front_within (result.width + more) (chars result.text.now)) }
     ensures fewer { result.width ≤ width }
     ensures shorter { length result.text.now ≤ length text.now }
-    ensures lines { result.spot.line + length result.text.now ≤ from.line + length text.now }
-    ensures chars { result.spot.chars + length result.text.now ≤ from.chars + length text.now }
+    ensures lines { result.spot.line + length result.text.now ≤ start.line + length text.now }
+    ensures chars { result.spot.chars + length result.text.now ≤ start.chars + length text.now }
     ensures columns { result.spot.column + 4 * length result.text.now
-        ≤ from.column + 4 * length text.now }
+        ≤ start.column + 4 * length text.now }
 {
     let (front, rest) = split_printable(text, width);
     Rest {
-        spot: past_printable(from, front),
+        spot: past_printable(start, front),
         text: rest,
         width: width - front.len(),
     }
 }
 
 /// Passes the characters of a text that end within `width` bytes.
-fn pass(from: Spot, text: &str, width: usize) -> Rest<'_>
-    requires small_line { from.line + length text.now < 2 ^ 60 }
-    requires small_chars { from.chars + length text.now < 2 ^ 60 }
-    requires small_column { from.column + 4 * length text.now < 2 ^ 61 }
-    ensures value { result.spot ≡ fold past from (within width (chars text.now)) }
-    ensures on { (more : ℕ) → fold past from (within (width + more) (chars text.now))
-        ≡ fold past result.spot (within (result.width + more) (chars result.text.now)) }
+fn pass(start: Spot, text: &str, width: usize) -> Rest<'_>
+    requires small_line { start.line + length text.now < 2 ^ 60 }
+    requires small_chars { start.chars + length text.now < 2 ^ 60 }
+    requires small_column { start.column + 4 * length text.now < 2 ^ 61 }
+    ensures value { result.spot ≡ fold spot_past start (front_within width (chars text.now)) }
+    ensures on { (more : ℕ) → fold spot_past start (front_within (width + more) (chars text.now))
+        ≡ fold spot_past result.spot (front_within (result.width + more) (chars result.text.now)) }
     ensures fewer { result.width ≤ width }
-    ensures lines { result.spot.line + length result.text.now ≤ from.line + length text.now }
-    ensures chars { result.spot.chars + length result.text.now ≤ from.chars + length text.now }
+    ensures lines { result.spot.line + length result.text.now ≤ start.line + length text.now }
+    ensures chars { result.spot.chars + length result.text.now ≤ start.chars + length text.now }
     ensures columns { result.spot.column + 4 * length result.text.now
-        ≤ from.column + 4 * length text.now }
+        ≤ start.column + 4 * length text.now }
 {
-    let mut at = from;
+    let mut at = start;
     let mut rest = text;
     let mut countdown = width;
     while let Some((c, tail)) = split_first(rest) {
@@ -145,7 +146,7 @@ fn pass(from: Spot, text: &str, width: usize) -> Rest<'_>
             break;
         }
         countdown -= c.len_utf8();
-        at = past(at, c);
+        at = spot_past(at, c);
         rest = tail;
         if !at.is_indent {
             let next = pass_printable(at, rest, countdown);
@@ -226,10 +227,14 @@ pub fn extent_of(picture: &Picture<'_>, range: &Range<usize>) -> Extent
     ensures small_end_column { result.end.column < 2 ^ 61 }
 {
     let (from, to) = offsets(picture, range);
-    let before = pass(ORIGIN, picture.source, from);
-    let after = pass(before.spot, before.text, before.width + (to - from));
+    let start_rest = pass(ORIGIN, picture.source, from);
+    let end_rest = pass(
+        start_rest.spot,
+        start_rest.text,
+        start_rest.width + (to - from),
+    );
     Extent {
-        start: before.spot,
-        end: after.spot,
+        start: start_rest.spot,
+        end: end_rest.spot,
     }
 }

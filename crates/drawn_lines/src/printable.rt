@@ -4,7 +4,8 @@
 ghost use Rattle.std.specs.List.{list_all};
 ghost use Rattle.std.specs.Prelude.{◌≡◌, ◌+◌, ◌++◌, ◌≤◌, IsTrue, chars, encode_utf8_all, length};
 ghost use Rattle.std.specs.Prelude.{true};
-ghost use Rattle.drawn_lines.specs.Glyphs.{glyphs, is_drawn_as_it_is, is_drawn_as_is, is_printable};
+ghost use Rattle.drawn_lines.specs.Glyphs.{glyphs, is_non_ascii_drawn_as_is, is_drawn_as_is};
+ghost use Rattle.drawn_lines.specs.Glyphs.{is_printable};
 
 use rustc_parse_format::{Stops, front_width};
 
@@ -48,16 +49,16 @@ const PRINTABLE: Stops = Stops {
     fourth: 127,
 };
 
-/// Returns the longest prefix of at most `most` characters that are printable, and what is after
+/// Returns the longest prefix of at most `limit` characters that are printable, and what is after
 /// it.
-pub fn split_printable(text: &str, most: usize) -> (&str, &str)
+pub fn split_printable(text: &str, limit: usize) -> (&str, &str)
     ensures pass { list_all is_printable result.0.now ≡ true }
     ensures parts { chars text.now ≡ result.0.now ++ chars result.1.now }
-    ensures within { length result.0.now ≤ most }
+    ensures within { length result.0.now ≤ limit }
     ensures lengths { length result.0.now + length result.1.now ≡ length text.now }
 {
     let bytes = text.as_bytes();
-    let width = front_width(&bytes[..bytes.len().min(most)], PRINTABLE);
+    let width = front_width(&bytes[..bytes.len().min(limit)], PRINTABLE);
     text.split_at(width)
 }
 
@@ -83,8 +84,8 @@ pub fn is_drawn_as_is(text: &str) -> bool
 
 /// Returns `true` only if each part of a text without ASCII is drawn as it is. For some texts of
 /// which that holds it returns `false`.
-pub fn is_drawn_as_it_is(text: &str) -> bool
-    ensures { IsTrue result → list_all is_drawn_as_it_is text.now ≡ true }
+pub fn is_non_ascii_drawn_as_is(text: &str) -> bool
+    ensures { IsTrue result → list_all is_non_ascii_drawn_as_is text.now ≡ true }
 {
     front_width(text.as_bytes(), BEYOND_ASCII) == text.len()
 }

@@ -8,13 +8,14 @@ ghost use Rattle.drawn_lines.specs.Frames.{seen_frame};
 ghost use Rattle.drawn_lines.specs.Glyphs.{glyphs};
 ghost use Rattle.drawn_lines.specs.Windows.{IsPartOf, after_dots, between_dots, columns};
 ghost use Rattle.drawn_lines.specs.Windows.{cut_columns};
-ghost use Rattle.drawn_lines.specs.Windows.{dots_before, dotted, in_window, left_out, past_columns};
-ghost use Rattle.drawn_lines.specs.Windows.{shift, shown, up_to_dots, within_columns};
+ghost use Rattle.drawn_lines.specs.Windows.{dots_before, dotted_part, in_window, left_out_columns};
+ghost use Rattle.drawn_lines.specs.Windows.{past_columns};
+ghost use Rattle.drawn_lines.specs.Windows.{shift, shown_line, up_to_dots, within_columns};
 ghost use Rattle.drawn_lines.specs.declared.window.Window.{Window as WindowValue};
 
 use crate::frame::Frame;
 use crate::glyphs::{glyph, glyph_count, put_glyphs, put_run, split_first, width};
-use crate::paint::{Palette, Style, put_painted};
+use crate::paint::{Palette, Style, put_painted_text};
 use crate::places::line;
 use crate::printable::split_printable;
 use std::alloc::AllocError;
@@ -60,7 +61,7 @@ fn past_columns(text: &str, count: usize) -> Cut<'_>
     requires { length text.now < 2 ^ 60 }
     ensures rest { chars result.rest.now ≡ past_columns count (chars text.now) }
     ensures bytes { result.rest.now ≡ encode_utf8_all (past_columns count (chars text.now)) }
-    ensures columns { result.columns ≡ left_out count (chars text.now) }
+    ensures columns { result.columns ≡ left_out_columns count (chars text.now) }
     ensures short { length result.rest.now ≤ length text.now }
 {
     let mut rest = text;
@@ -90,8 +91,8 @@ struct Countdown {
 /// text.
 fn left_out_of_run(count: usize, times: usize, character: char) -> Countdown
     requires { times ≤ 4 }
-    ensures value { (t : Text) → left_out count (replicate times character ++ t)
-        ≡ result.columns + left_out result.rest t }
+    ensures value { (t : Text) → left_out_columns count (replicate times character ++ t)
+        ≡ result.columns + left_out_columns result.rest t }
     ensures few { result.columns ≤ 16 }
 {
     let mut countdown = count;
@@ -110,9 +111,9 @@ fn left_out_of_run(count: usize, times: usize, character: char) -> Countdown
 
 /// Returns how many columns are left out if the first `count` columns of a text, as it is drawn,
 /// are.
-fn left_out(text: &str, count: usize) -> usize
+fn left_out_columns(text: &str, count: usize) -> usize
     requires { length text.now < 2 ^ 59 }
-    ensures { result ≡ left_out count (glyphs (chars text.now)) }
+    ensures { result ≡ left_out_columns count (glyphs (chars text.now)) }
 {
     let mut rest = text;
     let mut countdown = count;
@@ -138,11 +139,11 @@ pub fn shift(frame: &Frame<'_>, number: usize) -> usize
     if frame.window.start == 0 {
         return 0;
     }
-    left_out(line(frame.picture.source, number), frame.window.start)
+    left_out_columns(line(frame.picture.source, number), frame.window.start)
 }
 
 /// Adds the first characters of a text, as many as end within `count` columns.
-fn put_within(out: &mut String, text: &str, count: usize) -> Result<(), AllocError>
+fn put_front_columns(out: &mut String, text: &str, count: usize) -> Result<(), AllocError>
     ensures { OnOk result (string_bytes out.new
         ≡ string_bytes out.old ++ encode_utf8_all (within_columns count (chars text.now))) }
 {
@@ -172,7 +173,7 @@ fn put_in_window(
 {
     let Cut { rest, .. } = past_columns(row, window.start);
     if is_wide {
-        put_within(out, rest, window.limit)?;
+        put_front_columns(out, rest, window.limit)?;
     } else {
         out.push_str(rest)?;
     }
@@ -197,7 +198,7 @@ fn put_dots_before<'a>(
         return Ok(part);
     }
     let Cut { rest, columns } = past_columns(part, 3);
-    put_painted(out, palette, Style::Secondary, "...")?;
+    put_painted_text(out, palette, Style::Secondary, "...")?;
     put_run(out, ' ', columns.saturating_sub(3))?;
     Ok(rest)
 }
@@ -216,13 +217,13 @@ fn put_up_to_dots(
     if !is_wide {
         return Ok(out.push_str(rest)?);
     }
-    put_within(out, rest, columns(rest).saturating_sub(3))?;
-    put_painted(out, palette, Style::Secondary, "...")?;
+    put_front_columns(out, rest, columns(rest).saturating_sub(3))?;
+    put_painted_text(out, palette, Style::Secondary, "...")?;
     Ok(())
 }
 
 /// Adds a part of a line.
-fn put_dotted(
+fn put_dotted_part(
     out: &mut String,
     palette: Palette,
     window: Window,
@@ -231,7 +232,7 @@ fn put_dotted(
 ) -> Result<(), AllocError>
     requires { length part.now < 2 ^ 60 }
     ensures { OnOk result (string_bytes out.new
-        ≡ string_bytes out.old ++ dotted palette window is_wide (chars part.now)) }
+        ≡ string_bytes out.old ++ dotted_part palette window is_wide (chars part.now)) }
 {
     let rest = put_dots_before(out, palette, window, part)?;
     put_up_to_dots(out, palette, is_wide, rest)?;
@@ -247,7 +248,7 @@ fn put_cut(
     row: &str,
 ) -> Result<(), AllocError>
     ensures { OnOk result (string_bytes out.new ≡ string_bytes out.old
-        ++ dotted palette window is_wide (in_window window is_wide (chars row.now))) }
+        ++ dotted_part palette window is_wide (in_window window is_wide (chars row.now))) }
 {
     if row.len() >= 1 << 59 {
         return Err(AllocError);
@@ -257,20 +258,20 @@ fn put_cut(
     if part.len() >= 1 << 59 {
         return Err(AllocError);
     }
-    put_dotted(out, palette, window, is_wide, part.as_str())?;
+    put_dotted_part(out, palette, window, is_wide, part.as_str())?;
     Ok(())
 }
 
 /// Adds a line as it is drawn.
-#[tactic(auto, using(crate::proofs::Cuts::theorems), unfolding(crate::specs::Windows::shown),)]
-pub fn put_shown(
+#[tactic(auto, using(crate::proofs::Cuts::theorems), unfolding(crate::specs::Windows::shown_line),)]
+pub fn put_shown_line(
     out: &mut String,
     palette: Palette,
     window: Window,
     text: &str,
 ) -> Result<(), AllocError>
     ensures drawn { OnOk result (string_bytes out.new
-        ≡ string_bytes out.old ++ shown palette window (chars text.now)) }
+        ≡ string_bytes out.old ++ shown_line palette window (chars text.now)) }
     // Between dots a part of the line is drawn. A line that is cut at its end takes with its dots
     // no more columns than it may, or a few if these are not enough for dots.
     ensures part { IsPartOf (between_dots window (chars text.now)) (glyphs (chars text.now)) }

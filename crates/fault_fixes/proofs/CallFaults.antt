@@ -3,7 +3,7 @@ use Rattle.std.proofs.Common.{◌≡◌, true, false, ℕ, suc, zero, ◌≤◌,
 use Rattle.std.proofs.Common.{refl, sym, ◌∙◌, ap, arith}
 use Rattle.std.proofs.lemmas.List.{map-append}
 use Rattle.rustc_parse_format.specs.Characters.{Text, is_nil}
-use Rattle.rustc_parse_format.specs.State.{State, after, next_call}
+use Rattle.rustc_parse_format.specs.State.{State, state_after, next_call}
 use Rattle.rustc_parse_format.specs.Types.{Mode}
 use Rattle.rustc_parse_format.specs.Faults.{Message, add_errors, map_fault}
 use Rattle.rustc_parse_format.specs.Call.{Call, call}
@@ -38,7 +38,7 @@ all_faults-step mode c b t =
     (call-shorter mode c b t) (omega arith))
 
 -- After a call before the end, the errors of all calls are the same.
-pub all_errors-step : (s new : State) → new ≡ after s (next_call s) → is_nil s.rest ≡ false
+pub all_errors-step : (s new : State) → new ≡ state_after s (next_call s) → is_nil s.rest ≡ false
     → all_errors new ≡ all_errors s
 all_errors-step s new e h = ap all_errors e ∙ step s.world s.mode s.next s.rest s.errors h
   where

@@ -3,7 +3,7 @@ use Rattle.std.proofs.Common.{◌≡◌, ℕ, ◌++◌, false, List, [], ◌∷�
 use Rattle.std.proofs.Common.{◌∙◌, sym, arith, Some, append-nil}
 use Rattle.rustc_parse_format.specs.Characters.{Text, begins_with}
 use Rattle.rustc_parse_format.specs.Types.{Mode, Format, Diagnostic}
-use Rattle.rustc_parse_format.specs.Marks.{Mark, Start, End, through, up_to, over_first}
+use Rattle.rustc_parse_format.specs.Marks.{Mark, Start, End, span_through, up_to, over_first}
 use Rattle.rustc_parse_format.specs.Faults.{MissingBrace, MissingColon, UnmatchedBrace}
 use Rattle.rustc_parse_format.specs.Placeholder.{cut, position}
 use Rattle.rustc_parse_format.specs.Syntax.{PositionText}
@@ -43,8 +43,8 @@ up_to-moves : (v w r : Text) → up_to (v ++ coloned r) (w ++ coloned r)
 up_to-moves v w r =
     both (ap Start (sym (count-moves v r))) (ap Start (sym (count-moves w r)))
 
-through-moves : (v w r : Text) → through (v ++ coloned r) (w ++ coloned r)
-    ≡ colon_moves r (through (v ++ asked r) (w ++ asked r))
+through-moves : (v w r : Text) → span_through (v ++ coloned r) (w ++ coloned r)
+    ≡ colon_moves r (span_through (v ++ asked r) (w ++ asked r))
 through-moves v w r =
     both (ap Start (sym (count-moves v r))) (ap End (sym (count-moves w r)))
 

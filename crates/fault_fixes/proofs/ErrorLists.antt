@@ -6,7 +6,7 @@ use Rattle.std.proofs.lemmas.List.{map-append, nil_from_length, reverse-append}
 use Rattle.std.proofs.lemmas.Str.{chars-nil}
 use Rattle.rustc_parse_format.specs.Faults.{Message, add_errors}
 use Rattle.rustc_parse_format.specs.Characters.{Text, is_nil}
-use Rattle.rustc_parse_format.specs.State.{State, after, first_state, next_call}
+use Rattle.rustc_parse_format.specs.State.{State, state_after, first_state, next_call}
 use Rattle.rustc_parse_format.specs.Types.{Mode}
 use Rattle.rustc_parse_format.specs.World.{Place, faults_in}
 use Rattle.fault_fixes.specs.Fixing.{all_errors}
@@ -22,10 +22,10 @@ map-reverse f (x ∷ xs) =
 
 -- A parser with errors that are kept apart goes on as one that has them.
 pub apart-step : (s new : State) (old es : List (Message Place))
-    → new ≡ record (after s (next_call s)) { errors = [] }
+    → new ≡ record (state_after s (next_call s)) { errors = [] }
     → es ≡ add_errors old (faults_in s.world (next_call s).faults)
     → record new { errors = es }
-    ≡ after (record s { errors = old }) (next_call (record s { errors = old }))
+    ≡ state_after (record s { errors = old }) (next_call (record s { errors = old }))
 apart-step s new old es e f = rw (e, f) refl
 
 -- An empty input has no errors.

@@ -16,10 +16,11 @@ use Rattle.rustc_parse_format.specs.Faults.{Nothing, TupleIndex}
 use Rattle.rustc_parse_format.specs.Call.{call}
 use Rattle.rustc_parse_format.specs.Types.{Mode, Format, InlineAsm, Diagnostic, DiagnosticNamed}
 use Rattle.rustc_parse_format.specs.World.{Place, World, faults_in, place_of}
-use Rattle.rustc_parse_format.specs.State.{State, after, first_state, next_call}
+use Rattle.rustc_parse_format.specs.State.{State, state_after, first_state, next_call}
 use Rattle.rustc_parse_format.proofs.Walking.Progress.{call-lt}
-use Rattle.fault_fixes.specs.Edits.{Edit, applied, edit_of, edits, is_empty, joined, made, offered}
-use Rattle.fault_fixes.specs.Edits.{suggested}
+use Rattle.fault_fixes.specs.Edits.{Edit, edited_bytes, edit_of, edits, is_empty, joined_edits}
+use Rattle.fault_fixes.specs.Edits.{made_edits, offered_suggestion}
+use Rattle.fault_fixes.specs.Edits.{suggested_edit}
 use Rattle.fault_fixes.specs.Fixing.{all_errors, all_faults, fault_edits, literal_edits}
 use Rattle.fault_fixes.proofs.CallFaults.{all_faults-step}
 
@@ -29,7 +30,7 @@ pub cons_option-more : {A : Type 0} (o : Option A) (xs ys : List A)
 cons_option-more None xs ys = refl
 cons_option-more (Some x) xs ys = refl
 
-nothing-offered : (mode : Mode) → suggested (offered mode Nothing) ≡ None
+nothing-offered : (mode : Mode) → suggested_edit (offered_suggestion mode Nothing) ≡ None
 nothing-offered Format = refl
 nothing-offered InlineAsm = refl
 nothing-offered Diagnostic = refl
@@ -84,14 +85,14 @@ left_edits mode s = fault_edits mode (faults_in s.world (all_faults s.mode s.nex
 
 -- Without errors before, they are those of which some are made.
 pub left_edits-are : (mode : Mode) (s : State) → s.errors ≡ []
-    → edits mode (all_errors s) ≡ made 0 (left_edits mode s)
+    → edits mode (all_errors s) ≡ made_edits 0 (left_edits mode s)
 left_edits-are mode s none =
     let fs = faults_in s.world (all_faults s.mode s.next s.rest) in
-    ap (λ es. edits mode (add_errors es fs)) none ∙ ap (made 0) (found-edits mode [] fs)
+    ap (λ es. edits mode (add_errors es fs)) none ∙ ap (made_edits 0) (found-edits mode [] fs)
 
 -- They are those of the first call, and then those of the calls after it.
 pub left_edits-step : (mode : Mode) (s new : State)
-    → new ≡ record (after s (next_call s)) { errors = [] } → is_nil s.rest ≡ false
+    → new ≡ record (state_after s (next_call s)) { errors = [] } → is_nil s.rest ≡ false
     → fault_edits mode (faults_in s.world (next_call s).faults) ++ left_edits mode new
     ≡ left_edits mode s
 left_edits-step mode s new e h =
@@ -129,16 +130,17 @@ false-or false = refl
 -- Once all calls are made, the text has the edits of all errors.
 pub edited-end : (mode : Mode) (s new : State) (out : List ℕ) (start end : ℕ) (rest : List ℕ)
     (at : ℕ) (t : List ℕ) → s.errors ≡ [] → is_nil new.rest ≡ true
-    → joined out start end rest (left_edits mode new) ≡ joined [] at 0 t (left_edits mode s)
-    → (out ++ rest ≡ applied at (edits mode (all_errors s)) t)
+    → joined_edits out start end rest (left_edits mode new)
+    ≡ joined_edits [] at 0 t (left_edits mode s)
+    → (out ++ rest ≡ edited_bytes at (edits mode (all_errors s)) t)
     × (nat_lt 0 end ≡ not (is_empty (edits mode (all_errors s))))
 edited-end mode s new out start end rest at t none h e =
-    let done = ap (joined out start end rest) (sym (left_edits-end mode new h)) ∙ e
-    ∙ ap (λ es. (applied at es t, not (is_empty es))) (sym (left_edits-are mode s none)) in
+    let done = ap (joined_edits out start end rest) (sym (left_edits-end mode new h)) ∙ e
+    ∙ ap (λ es. (edited_bytes at es t, not (is_empty es))) (sym (left_edits-are mode s none)) in
     (ap (λ x. x.0) done, sym (false-or (nat_lt 0 end)) ∙ ap (λ x. x.1) done)
 
 -- A call before the end reads on.
-pub left-shorter : (s new : State) → new ≡ record (after s (next_call s)) { errors = [] }
+pub left-shorter : (s new : State) → new ≡ record (state_after s (next_call s)) { errors = [] }
     → is_nil s.rest ≡ false → length new.rest < length s.rest
 left-shorter s new e some =
     rw e (call-lt s.mode s.next s.rest (λ n. false≢true (sym some ∙ ap is_nil n)))

@@ -7,7 +7,7 @@ use Rattle.std.proofs.lemmas.Bool.{cond-true, false≢true, false_from_ne_true, 
 use Rattle.rustc_parse_format.specs.Characters.{Text, begins_with, rest_after, after_white, front}
 use Rattle.rustc_parse_format.specs.Characters.{is_brace, is_no_brace}
 use Rattle.rustc_parse_format.specs.Types.{Format, DebugHex, Lower, Upper}
-use Rattle.rustc_parse_format.specs.Marks.{Mark, Start, End, Span, through, over_first}
+use Rattle.rustc_parse_format.specs.Marks.{Mark, Start, End, Span, span_through, over_first}
 use Rattle.rustc_parse_format.specs.Faults.{Fault, map_fault, UnmatchedBrace, MissingBrace}
 use Rattle.rustc_parse_format.specs.Faults.{FillBrace, Underscore, TooLarge, Unnamed}
 use Rattle.rustc_parse_format.specs.Faults.{TextAfterColon, RawIdentifier, LateFlag, MissingColon}
@@ -223,7 +223,7 @@ reorders-at f k c u s d z r b a own e h w n =
     calls Format next f (d ∷ z) (text_call next [] (f ∷ d ∷ z)) [] next (125 ∷ r)
     (k.text next (d ∷ z)) refl refl (k.run (d ∷ z) ∙ run-ends (d ∷ z) r w) in
     let late : Fault Span = LateFlag f (over_first (f ∷ d ∷ z))
-    (through (63 ∷ f ∷ d ∷ z) (f ∷ d ∷ z)) in
+    (span_through (63 ∷ f ∷ d ∷ z) (f ∷ d ∷ z)) in
     let brace : Fault Span = unclosed_fault (123 ∷ old) (argument c before).format (f ∷ d ∷ z) in
     let alone : Fault Span = UnmatchedBrace (over_first (125 ∷ r)) in
     let first : List (Fault Span) = position_faults old p ++ own in

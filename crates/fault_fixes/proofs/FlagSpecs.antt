@@ -2,7 +2,7 @@
 use Rattle.std.proofs.Common.{◌≡◌, ℕ, ◌++◌, false, List, [], ◌∷◌, refl, ap, ◌∙◌, sym, append-nil}
 use Rattle.rustc_parse_format.specs.Characters.{Text, is_align}
 use Rattle.rustc_parse_format.specs.Types.{DebugHex, Lower, Upper}
-use Rattle.rustc_parse_format.specs.Marks.{Span, through, over_first}
+use Rattle.rustc_parse_format.specs.Marks.{Span, span_through, over_first}
 use Rattle.rustc_parse_format.specs.Faults.{Fault, LateFlag}
 use Rattle.rustc_parse_format.specs.Specification.{fill, align, sign, align_at, sign_at}
 use Rattle.rustc_parse_format.specs.Specification.{alternate_at, width_at, precision_at, type_at}
@@ -23,7 +23,7 @@ pub record Reorders (f : ℕ) (s : Text) (d : ℕ) (z : Text) (b a : FormatText)
   pub was : format_text (s ++ 63 ∷ f ∷ d ∷ z) ≡ (b, f ∷ d ∷ z)
   pub is : format_text (s ++ f ∷ 63 ∷ d ∷ z) ≡ (a, d ∷ z)
   pub was_faults : format_faults b (f ∷ d ∷ z) ≡ own ++ LateFlag f (over_first (f ∷ d ∷ z))
-      (through (63 ∷ f ∷ d ∷ z) (f ∷ d ∷ z)) ∷ []
+      (span_through (63 ∷ f ∷ d ∷ z) (f ∷ d ∷ z)) ∷ []
   pub is_faults : format_faults a (d ∷ z) ≡ own
   pub precision : a.precision ≡ b.precision
 
@@ -82,7 +82,7 @@ pub record ReadsHex (f : ℕ) (h : DebugHex) : Type 0 where
   is : (s z : Text) → format_with s (f ∷ 63 ∷ z) ≡ (typed s (DebugHexType h), z)
   was_faults : (s z : Text) → format_faults (typed s (CharacterType 63)) (f ∷ z)
       ≡ counted_faults (width (width_at s)).0 (precision (precision_at s)).0 (63 ∷ f ∷ z)
-      ++ LateFlag f (over_first (f ∷ z)) (through (63 ∷ f ∷ z) (f ∷ z)) ∷ []
+      ++ LateFlag f (over_first (f ∷ z)) (span_through (63 ∷ f ∷ z) (f ∷ z)) ∷ []
   is_faults : (s z : Text) → format_faults (typed s (DebugHexType h)) z
       ≡ counted_faults (width (width_at s)).0 (precision (precision_at s)).0 (f ∷ 63 ∷ z) ++ []
 

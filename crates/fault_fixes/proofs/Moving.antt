@@ -16,7 +16,7 @@ use Rattle.rustc_parse_format.proofs.Spans.Forward.{AreFaultsForward, all-append
 use Rattle.rustc_parse_format.proofs.Spans.Calls.{call-forward}
 use Rattle.rustc_parse_format.proofs.Walking.Progress.{call-lt}
 use Rattle.fault_fixes.specs.Fixing.{faults_within, all_faults}
-use Rattle.fault_fixes.specs.Losing.{moved_count, moved_mark, moved}
+use Rattle.fault_fixes.specs.Losing.{moved_count, moved_mark, moved_span}
 
 -- A count of characters that are left after the edit, or before it.
 pub moved_count-rest_after : (n r a k : ℕ) → k ≤ n → moved_count n r a k ≡ k
@@ -34,7 +34,7 @@ abbrev pub span_of : Mark → Mark → Span
 span_of x y = record { from = x; to = y }
 
 -- A span after the edit stays.
-pub moved-rest_after : (n r a : ℕ) (s : Span) → IsForward n s → moved n r a s ≡ s
+pub moved-rest_after : (n r a : ℕ) (s : Span) → IsForward n s → moved_span n r a s ≡ s
 moved-rest_after n r a s h =
     let w = h.within in
     let o = h.in_order in

@@ -10,7 +10,7 @@ use Rattle.rustc_parse_format.specs.Characters.{Text, begins_raw, begins_with, a
 use Rattle.rustc_parse_format.specs.Characters.{after_white, after_word, digits, is_id_start}
 use Rattle.rustc_parse_format.specs.Characters.{is_over, word}
 use Rattle.rustc_parse_format.specs.Types.{Mode}
-use Rattle.rustc_parse_format.specs.Marks.{Span, through, up_to}
+use Rattle.rustc_parse_format.specs.Marks.{Span, span_through, up_to}
 use Rattle.rustc_parse_format.specs.Faults.{Fault, map_fault, TooLarge, Underscore, RawIdentifier}
 use Rattle.rustc_parse_format.specs.Placeholder.{Cut, cut, position}
 use Rattle.rustc_parse_format.specs.Specification.{specification}
@@ -39,11 +39,13 @@ word_faults-at u x r h =
 
 pub number_faults-at : (u : Text) (x : ℕ) (r : Text) → is_ascii_digit x ≡ false →
     number_faults (u ++ x ∷ r) ≡ cond (is_over (digits u))
-    (TooLarge (digits u) (through (u ++ x ∷ r) (after_digits u ++ x ∷ r)) ∷ []) []
+    (TooLarge (digits u) (span_through (u ++ x ∷ r) (after_digits u ++ x ∷ r)) ∷ []) []
 number_faults-at u x r h =
     ap (λ w. cond (is_over w)
-    (TooLarge w (through (u ++ x ∷ r) (after_digits (u ++ x ∷ r))) ∷ []) []) (digits-stop u x r h)
-    ∙ ap (λ s. cond (is_over (digits u)) (TooLarge (digits u) (through (u ++ x ∷ r) s) ∷ []) [])
+    (TooLarge w (span_through (u ++ x ∷ r) (after_digits (u ++ x ∷ r))) ∷ []) [])
+    (digits-stop u x r h)
+    ∙ ap (λ s. cond (is_over (digits u)) (TooLarge (digits u) (span_through (u ++ x ∷ r) s)
+    ∷ []) [])
     (after_digits-stop u x r h)
 
 -- A text x, with the rest r, becomes y with q, and what is before moves.
@@ -52,8 +54,8 @@ pub record Replaces (move : Span → Span) (x : ℕ) (r : Text) (y : ℕ) (q : T
   pub new_stops : Stops y
   pub up_to : (v w : Text) → up_to (v ++ y ∷ q) (w ++ y ∷ q)
       ≡ move (up_to (v ++ x ∷ r) (w ++ x ∷ r))
-  pub through : (v w : Text) → through (v ++ y ∷ q) (w ++ y ∷ q)
-      ≡ move (through (v ++ x ∷ r) (w ++ x ∷ r))
+  pub through : (v w : Text) → span_through (v ++ y ∷ q) (w ++ y ∷ q)
+      ≡ move (span_through (v ++ x ∷ r) (w ++ x ∷ r))
 
 word_faults-moves : (move : Span → Span) (x : ℕ) (r : Text) (y : ℕ) (q u : Text)
     → Replaces move x r y q → word_faults (u ++ y ∷ q)
@@ -77,9 +79,9 @@ number_faults-moves move x r y q u h =
     (either (is_over (digits u)))
   where
     either : (b : Bool) → cond b
-        (TooLarge (digits u) (through (u ++ y ∷ q) (after_digits u ++ y ∷ q)) ∷ []) []
+        (TooLarge (digits u) (span_through (u ++ y ∷ q) (after_digits u ++ y ∷ q)) ∷ []) []
         ≡ map (map_fault move) (cond b
-        (TooLarge (digits u) (through (u ++ x ∷ r) (after_digits u ++ x ∷ r)) ∷ []) [])
+        (TooLarge (digits u) (span_through (u ++ x ∷ r) (after_digits u ++ x ∷ r)) ∷ []) [])
     either true = ap (λ s. TooLarge (digits u) s ∷ []) (h.through u (after_digits u))
     either false = refl
 

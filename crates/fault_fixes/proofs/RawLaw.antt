@@ -8,7 +8,7 @@ use Rattle.rustc_parse_format.specs.Characters.{Text, begins_raw, begins_with, a
 use Rattle.rustc_parse_format.specs.Characters.{after_white, first_passes, is_id_start}
 use Rattle.rustc_parse_format.specs.Types.{Mode, Format, InlineAsm, Diagnostic, DiagnosticNamed}
 use Rattle.rustc_parse_format.specs.Types.{Named, NextArgument}
-use Rattle.rustc_parse_format.specs.Marks.{Mark, Start, End, Span, through, up_to}
+use Rattle.rustc_parse_format.specs.Marks.{Mark, Start, End, Span, span_through, up_to}
 use Rattle.rustc_parse_format.specs.Faults.{Fault, RawIdentifier, map_fault}
 use Rattle.rustc_parse_format.specs.Placeholder.{Cut, cut, position}
 use Rattle.rustc_parse_format.specs.Syntax.{RawWord, Word}
@@ -25,7 +25,7 @@ use Rattle.rustc_parse_format.proofs.Spans.Forward.{cut_faults-forward, argument
 use Rattle.rustc_parse_format.proofs.Spans.Forward.{AreForward, AreFaultsForward}
 use Rattle.rustc_parse_format.proofs.Walking.Progress.{call-lt}
 use Rattle.fault_fixes.specs.Fixing.{all_faults}
-use Rattle.fault_fixes.specs.Losing.{IsMerged, LosesOnly, moved, moved_count}
+use Rattle.fault_fixes.specs.Losing.{IsMerged, LosesOnly, moved_span, moved_count}
 use Rattle.fault_fixes.proofs.Merging.{merged-append, merged-first, merged-second}
 use Rattle.fault_fixes.proofs.Moving.{faults-fixed, moved-rest_after, moved_count-before}
 use Rattle.fault_fixes.proofs.Moving.{moved_mark-rest_after, span_of}
@@ -36,10 +36,11 @@ use Rattle.fault_fixes.proofs.RecoveryMoves.{unclosed_fault-moved}
 
 -- The removal of the two characters before t, and the fault that goes.
 abbrev removes : Text → Span → Span
-removes t = moved (length t) 2 0
+removes t = moved_span (length t) 2 0
 
 abbrev raw_fault : Text → Fault Span
-raw_fault t = RawIdentifier (up_to (114 ∷ 35 ∷ t) (after_word t)) (through (114 ∷ 35 ∷ t) (35 ∷ t))
+raw_fault t = RawIdentifier (up_to (114 ∷ 35 ∷ t) (after_word t))
+    (span_through (114 ∷ 35 ∷ t) (35 ∷ t))
 
 -- The cuts before and after it.
 abbrev raw_cut : Mode → Text → Cut

@@ -16,7 +16,7 @@ use Rattle.rustc_parse_format.specs.Identifiers.{is_identifier}
 use Rattle.rustc_parse_format.specs.Recovery.{Recovery, recovery, field, field_fault, late_debug}
 use Rattle.rustc_parse_format.specs.Recovery.{sign, sign_fault}
 use Rattle.rustc_parse_format.specs.Call.{unclosed_fault}
-use Rattle.rustc_parse_format.specs.ReadBack.{IsForward, left_at, optional, spans_of_spec}
+use Rattle.rustc_parse_format.specs.ReadBack.{IsForward, left_at, optional_list, spans_of_spec}
 use Rattle.rustc_parse_format.proofs.Grammar.Rests.{IsRest-le, after_first_rest}
 use Rattle.rustc_parse_format.proofs.Spans.Forward.{AreForward, cut_faults-forward, cut-spec_at}
 use Rattle.rustc_parse_format.proofs.Spans.Forward.{word_faults-forward, up_to-forward}
@@ -140,16 +140,17 @@ recovery-alike n c mode move o p a b (x ∷ y ∷ t) h l e =
 
 -- The fault of the missing brace.
 no_brace-moved : (n : ℕ) (move : Span → Span) (o p : Span) (f : Option Span) (c : Option ℕ)
-    (s : Span) → ((s : Span) → IsForward n s → move s ≡ s) → move o ≡ p → AreForward n (optional f)
+    (s : Span) → ((s : Span) → IsForward n s → move s ≡ s) → move o ≡ p
+    → AreForward n (optional_list f)
     → IsForward n s → no_brace f c s p ≡ map_fault move (no_brace f c s o)
 no_brace-moved n move o p None c s h e k l = let d = h s l in cc
 no_brace-moved n move o p (Some f) c s h e k l = let d = h s l in let b = h f k.0 in cc
 
-brace-forward : (n : ℕ) (fill : Option ℕ) (s : Option Span) → AreForward n (optional s)
-    → AreForward n (optional (brace_fill fill s))
+brace-forward : (n : ℕ) (fill : Option ℕ) (s : Option Span) → AreForward n (optional_list s)
+    → AreForward n (optional_list (brace_fill fill s))
 brace-forward n None s h = tt
 brace-forward n (Some c) s h = cond_both {A = Option Span} (c == code "}") s None
-    (λ o. AreForward n (optional o)) (λ yes. h) (λ no. tt)
+    (λ o. AreForward n (optional_list o)) (λ yes. h) (λ no. tt)
 
 first-part : (n : ℕ) (a b c d e f : List Span) → AreForward n (a ++ b ++ c ++ d ++ e ++ f)
     → AreForward n a
@@ -162,5 +163,5 @@ pub unclosed_fault-moved : (n : ℕ) (move : Span → Span) (o p : Text) (m q : 
 unclosed_fault-moved n move o p m q f r h k l =
     no_brace-moved n move (over_first o) (over_first p) (brace_fill f.fill f.fill_span) (first r)
     (up_to r r) h.stays h.opens
-    (brace-forward n f.fill f.fill_span (first-part n (optional f.fill_span) _ _ _ _ _ k))
+    (brace-forward n f.fill f.fill_span (first-part n (optional_list f.fill_span) _ _ _ _ _ k))
     (up_to-forward n r r (omega arith) l)

@@ -17,17 +17,17 @@ use Rattle.rustc_parse_format.specs.Faults.{LateDebug, LateAlign, Grouping, Debu
 use Rattle.rustc_parse_format.specs.Faults.{FieldAccess, TupleIndex}
 use Rattle.rustc_parse_format.specs.Literal.{IsSource, raw_closing, raw_frame, raw_opening}
 use Rattle.rustc_parse_format.specs.Marks.{Span}
-use Rattle.rustc_parse_format.specs.State.{State, after, next_call}
+use Rattle.rustc_parse_format.specs.State.{State, state_after, next_call}
 use Rattle.rustc_parse_format.specs.Types.{Mode}
 use Rattle.rustc_parse_format.specs.World.{Place, World, faults_in, hashes, place_of}
 use Rattle.rustc_parse_format.proofs.Literals.Widths.{width-append, width-chars, width-cons}
 use Rattle.rustc_parse_format.proofs.Walking.Progress.{call-lt}
-use Rattle.fault_fixes.specs.Fixing.{Fixed, IsRound, all_faults}
+use Rattle.fault_fixes.specs.Fixing.{FixedLiteral, IsRound, all_faults}
 use Rattle.fault_fixes.specs.SeenEdits.{seen_fixed}
-use Rattle.fault_fixes.specs.declared.fixes.Fixed.{Fixed as DeclaredFixed}
+use Rattle.fault_fixes.specs.declared.fixes.FixedLiteral.{FixedLiteral as DeclaredFixed}
 use Rattle.fault_fixes.specs.Rounds.{AreRounds, Best, IsBetter, IsFixed, count_left, ids, is_part}
-use Rattle.fault_fixes.specs.Rounds.{faulty, faulty_calls, faulty_within, finds, most_rounds}
-use Rattle.fault_fixes.specs.Rounds.{offered}
+use Rattle.fault_fixes.specs.Rounds.{faulty_count, faulty_calls, faulty_within, finds, most_rounds}
+use Rattle.fault_fixes.specs.Rounds.{best_with}
 use Rattle.fault_fixes.proofs.CallFaults.{all_faults-step}
 
 -- The id of a fault does not depend on its spans.
@@ -62,14 +62,14 @@ abbrev pub left_ids : State → List (List ℕ)
 left_ids s = map fault_id (all_faults s.mode s.next s.rest)
 
 -- Each call reads a character.
-pub ids-shorter : (s new : State) → new ≡ record (after s (next_call s)) { errors = s.errors }
+pub ids-shorter : (s new : State) → new ≡ record (state_after s (next_call s)) { errors = s.errors }
     → is_nil s.rest ≡ false → length new.rest < length s.rest
 ids-shorter s new e some =
     rw e (call-lt s.mode s.next s.rest (λ n. false≢true (sym some ∙ ap is_nil n)))
 
 -- With a call, its faults are found and no longer left.
 pub ids-step : (s new : State) (old found : List (Fault Place)) (all : List (List ℕ))
-    → new ≡ record (after s (next_call s)) { errors = s.errors } → is_nil s.rest ≡ false
+    → new ≡ record (state_after s (next_call s)) { errors = s.errors } → is_nil s.rest ≡ false
     → found ≡ old ++ faults_in s.world (next_call s).faults
     → map fault_id old ++ left_ids s ≡ all → map fault_id found ++ left_ids new ≡ all
 ids-step s new old found all e h g before =
@@ -138,7 +138,7 @@ faulty-end s h = at_end s.mode s.next s.rest h
 
 -- With a call that finds faults there is one more, and one less is left.
 pub faulty-step : (s new : State) (old found : List (Fault Place)) (count all : ℕ)
-    → new ≡ record (after s (next_call s)) { errors = s.errors } → is_nil s.rest ≡ false
+    → new ≡ record (state_after s (next_call s)) { errors = s.errors } → is_nil s.rest ≡ false
     → found ≡ old ++ faults_in s.world (next_call s).faults → count + left_faulty s ≡ all
     → (if nat_lt (length old) (length found) then count + 1 else count) + left_faulty new ≡ all
 faulty-step s new old found count all e h g before =
@@ -168,7 +168,7 @@ faulty-step s new old found count all e h g before =
 
 -- The same where it finds some, and where it finds none.
 pub faulty-more : (s new : State) (old found : List (Fault Place)) (count all : ℕ)
-    → new ≡ record (after s (next_call s)) { errors = s.errors } → is_nil s.rest ≡ false
+    → new ≡ record (state_after s (next_call s)) { errors = s.errors } → is_nil s.rest ≡ false
     → found ≡ old ++ faults_in s.world (next_call s).faults → count + left_faulty s ≡ all
     → length old < length found → count + 1 + left_faulty new ≡ all
 faulty-more s new old found count all e h g before lt =
@@ -176,7 +176,7 @@ faulty-more s new old found count all e h g before lt =
     let more = faulty-step s new old found count all e h g before in rw yes at more
 
 pub faulty-same : (s new : State) (old found : List (Fault Place)) (count all : ℕ)
-    → new ≡ record (after s (next_call s)) { errors = s.errors } → is_nil s.rest ≡ false
+    → new ≡ record (state_after s (next_call s)) { errors = s.errors } → is_nil s.rest ≡ false
     → found ≡ old ++ faults_in s.world (next_call s).faults → count + left_faulty s ≡ all
     → length found ≤ length old → count + left_faulty new ≡ all
 faulty-same s new old found count all e h g before le =
@@ -199,30 +199,30 @@ part-end xs ys n i h k = elim (cases_lt n (length xs)) [
 ]
 
 -- A round has one result.
-pub round-one : (mode : Mode) (style : Option ℕ) (appended : Bool) (f g h : Fixed)
+pub round-one : (mode : Mode) (style : Option ℕ) (appended : Bool) (f g h : FixedLiteral)
     → IsRound mode f.text style f.snippet appended g
     → IsRound mode f.text style f.snippet appended h → g ≡ h
 round-one mode style appended f g h a b =
     same g h (a.edited.snippet ∙ sym b.edited.snippet) (a.edited.text ∙ sym b.edited.text)
   where
-    same : (f g : Fixed) → f.snippet ≡ g.snippet → f.text ≡ g.text → f ≡ g
+    same : (f g : FixedLiteral) → f.snippet ≡ g.snippet → f.text ≡ g.text → f ≡ g
     same f g d e =
         ap (λ (l : List ℕ). record f { snippet = l }) d
         ∙ ap (λ (t : List ℕ). record g { text = t }) e
 
 -- So have n rounds.
-pub rounds-one : (mode : Mode) (style : Option ℕ) (appended : Bool) (n : ℕ) (f g h : Fixed)
+pub rounds-one : (mode : Mode) (style : Option ℕ) (appended : Bool) (n : ℕ) (f g h : FixedLiteral)
     → AreRounds mode style appended n f g → AreRounds mode style appended n f h → g ≡ h
 rounds-one mode style appended zero f g h a b = sym a ∙ b
 rounds-one mode style appended (suc n) f g h (x, a, p) (y, b, q) =
     let e = rounds-one mode style appended n f x y a b in
     round-one mode style appended x g h p
-    (subst (λ (z : Fixed). IsRound mode z.text style z.snippet appended h) (sym e) q)
+    (subst (λ (z : FixedLiteral). IsRound mode z.text style z.snippet appended h) (sym e) q)
 
 -- Before n rounds there were fewer.
-pub rounds-front : (mode : Mode) (style : Option ℕ) (appended : Bool) (k n : ℕ) (f g : Fixed)
+pub rounds-front : (mode : Mode) (style : Option ℕ) (appended : Bool) (k n : ℕ) (f g : FixedLiteral)
     → k ≤ n → AreRounds mode style appended n f g
-    → (h : Fixed) × AreRounds mode style appended k f h
+    → (h : FixedLiteral) × AreRounds mode style appended k f h
 rounds-front mode style appended zero n f g le a = (f, refl)
 rounds-front mode style appended (suc k) zero f g le a = absurd (omega arith)
 rounds-front mode style appended (suc k) (suc n) f g le a = elim (cases_order (suc k) (suc n)) [
@@ -233,13 +233,14 @@ rounds-front mode style appended (suc k) (suc n) f g le a = elim (cases_order (s
 
 -- The literal is better after some round, this number is that of its calls that find a fault, and
 -- no earlier round leaves as few.
-pub record IsFirst (mode : Mode) (style : Option ℕ) (appended : Bool) (f g : Fixed) (fewest : ℕ) :
+pub record IsFirst (mode : Mode) (style : Option ℕ) (appended : Bool) (f g : FixedLiteral)
+    (fewest : ℕ) :
     Type 0 where
-  pub count : fewest ≡ faulty mode g.text
+  pub count : fewest ≡ faulty_count mode g.text
   pub round : ℕ
   pub better : IsBetter mode style appended f round g
-  pub early : (m : ℕ) (h : Fixed) → IsBetter mode style appended f m h → m < round
-      → fewest < faulty mode h.text
+  pub early : (m : ℕ) (h : FixedLiteral) → IsBetter mode style appended f m h → m < round
+      → fewest < faulty_count mode h.text
 
 hash-width : (n : ℕ) → byte_length (replicate n 35) ≡ n
 hash-width zero = refl
@@ -271,50 +272,50 @@ hashes-within (Some n) text snippet appended u (t, e, f) =
     let same : byte_length (chars snippet) ≡ byte_length (raw_frame n t) = ap byte_length e in
     omega (arith, raw, same, width-chars snippet u)
 
-pub rounds-hashes : (mode : Mode) (style : Option ℕ) (appended : Bool) (n : ℕ) (f g : Fixed)
+pub rounds-hashes : (mode : Mode) (style : Option ℕ) (appended : Bool) (n : ℕ) (f g : FixedLiteral)
     → AreRounds mode style appended (suc n) f g → hashes style ≤ length g.snippet
 rounds-hashes mode style appended n f g (h, a, r) =
     hashes-within style g.text g.snippet appended r.edited.snippet_utf8 r.edited.is_source
 
 -- Before anything is fixed there is a round.
 pub first-round : (mode : Mode) (input : List ℕ) (style : Option ℕ) (literal : List ℕ)
-    (appended : Bool) (f : Fixed) → IsFixed mode input style literal appended f
-    → (g : Fixed) × IsRound mode input style literal appended g
+    (appended : Bool) (f : FixedLiteral) → IsFixed mode input style literal appended f
+    → (g : FixedLiteral) × IsRound mode input style literal appended g
 first-round mode input style literal appended f x =
     let front = rounds-front mode style appended 1 x.round _ f x.better.some x.better.rounds in
     go front.0 front.1
   where
-    go : (g : Fixed)
+    go : (g : FixedLiteral)
         → AreRounds mode style appended 1 (record { snippet = literal; text = input }) g
-        → (g : Fixed) × IsRound mode input style literal appended g
+        → (g : FixedLiteral) × IsRound mode input style literal appended g
     go g (h, e, r) = (
       g,
-      subst (λ (z : Fixed). IsRound mode z.text style z.snippet appended g) (sym e) r,
+      subst (λ (z : FixedLiteral). IsRound mode z.text style z.snippet appended g) (sym e) r,
     )
 
 -- The best of the first k rounds, and how many of its calls find a fault. Without a better one it
 -- is none, and the number is that at the start.
-pub record IsBest (mode : Mode) (style : Option ℕ) (appended : Bool) (f : Fixed) (k : ℕ)
-    (best : Option Fixed) (fewest : ℕ) : Type 0 where
-  pub most : fewest ≤ faulty mode f.text
-  pub least : (n : ℕ) (h : Fixed) → n ≤ k → IsBetter mode style appended f n h
-      → fewest ≤ faulty mode h.text
+pub record IsBest (mode : Mode) (style : Option ℕ) (appended : Bool) (f : FixedLiteral) (k : ℕ)
+    (best : Option FixedLiteral) (fewest : ℕ) : Type 0 where
+  pub most : fewest ≤ faulty_count mode f.text
+  pub least : (n : ℕ) (h : FixedLiteral) → n ≤ k → IsBetter mode style appended f n h
+      → fewest ≤ faulty_count mode h.text
   pub some : IfSome best (λ g. IsFirst mode style appended f g fewest)
-  pub none : IfNone best (fewest ≡ faulty mode f.text)
+  pub none : IfNone best (fewest ≡ faulty_count mode f.text)
 
 -- A round that is no better than the best one.
-pub best-stays : (mode : Mode) (style : Option ℕ) (appended : Bool) (f g : Fixed) (k : ℕ)
-    (best : Option Fixed) (fewest : ℕ) → IsBest mode style appended f k best fewest
+pub best-stays : (mode : Mode) (style : Option ℕ) (appended : Bool) (f g : FixedLiteral) (k : ℕ)
+    (best : Option FixedLiteral) (fewest : ℕ) → IsBest mode style appended f k best fewest
     → AreRounds mode style appended (suc k) f g
-    → (IsTrue (is_part (ids mode g.text) (ids mode f.text)) → fewest ≤ faulty mode g.text)
+    → (IsTrue (is_part (ids mode g.text) (ids mode f.text)) → fewest ≤ faulty_count mode g.text)
     → IsBest mode style appended f (suc k) best fewest
 best-stays mode style appended f g k best fewest b a c = record {
   most = b.most;
   least = λ n h le x. elim (cases_order n (suc k)) [
     | inl e ↦ (let same = rounds-one mode style appended (suc k) f g h a
         (subst (λ m. AreRounds mode style appended m f h) e x.rounds) in
-        subst (λ (z : Fixed). fewest ≤ faulty mode z.text) same
-        (c (subst (λ (z : Fixed). IsTrue (is_part (ids mode z.text) (ids mode f.text)))
+        subst (λ (z : FixedLiteral). fewest ≤ faulty_count mode z.text) same
+        (c (subst (λ (z : FixedLiteral). IsTrue (is_part (ids mode z.text) (ids mode f.text)))
         (sym same) x.old)))
     | inr (inl lt) ↦ b.least n h (omega (arith, lt)) x
     | inr (inr gt) ↦ absurd (omega (arith, gt, le))
@@ -324,18 +325,18 @@ best-stays mode style appended f g k best fewest b a c = record {
 }
 
 -- A round that is better.
-pub best-next : (mode : Mode) (style : Option ℕ) (appended : Bool) (f g : Fixed) (k : ℕ)
-    (best : Option Fixed) (fewest : ℕ) → IsBest mode style appended f k best fewest
+pub best-next : (mode : Mode) (style : Option ℕ) (appended : Bool) (f g : FixedLiteral) (k : ℕ)
+    (best : Option FixedLiteral) (fewest : ℕ) → IsBest mode style appended f k best fewest
     → AreRounds mode style appended (suc k) f g → suc k ≤ most_rounds
     → IsTrue (is_part (ids mode g.text) (ids mode f.text))
-    → faulty mode g.text < fewest
-    → IsBest mode style appended f (suc k) (Some g) (faulty mode g.text)
+    → faulty_count mode g.text < fewest
+    → IsBest mode style appended f (suc k) (Some g) (faulty_count mode g.text)
 best-next mode style appended f g k best fewest b a le part less = record {
   most = omega (arith, less, b.most);
   least = λ n h le x. elim (cases_order n (suc k)) [
     | inl e ↦ (let same = rounds-one mode style appended (suc k) f g h a
         (subst (λ m. AreRounds mode style appended m f h) e x.rounds) in
-        subst (λ (z : Fixed). faulty mode g.text ≤ faulty mode z.text) same
+        subst (λ (z : FixedLiteral). faulty_count mode g.text ≤ faulty_count mode z.text) same
         (omega arith))
     | inr (inl lt) ↦ omega (arith, less, b.least n h (omega (arith, lt)) x)
     | inr (inr gt) ↦ absurd (omega (arith, gt, le))
@@ -358,8 +359,8 @@ best-next mode style appended f g k best fewest b a le part less = record {
 -- The count says whether all faults are old ones.
 counted : (old : List (List ℕ)) (mode : Mode) (text : List ℕ) (n : ℕ)
     → Some n ≡ count_left old mode text
-    → IsTrue (is_part (ids mode text) old) × (n ≡ faulty mode text)
-counted old mode text n e = go (is_part (ids mode text) old) (faulty mode text) e
+    → IsTrue (is_part (ids mode text) old) × (n ≡ faulty_count mode text)
+counted old mode text n e = go (is_part (ids mode text) old) (faulty_count mode text) e
   where
     go : (b : Bool) (m : ℕ) → Some n ≡ (if b then Some m else None) → IsTrue b × (n ≡ m)
     go true m e = (refl, cc)
@@ -367,7 +368,7 @@ counted old mode text n e = go (is_part (ids mode text) old) (faulty mode text) 
 
 uncounted : (old : List (List ℕ)) (mode : Mode) (text : List ℕ) → None ≡ count_left old mode text
     → IsTrue (is_part (ids mode text) old) → ⊥
-uncounted old mode text e = go (is_part (ids mode text) old) (faulty mode text) e
+uncounted old mode text e = go (is_part (ids mode text) old) (faulty_count mode text) e
   where
     go : (b : Bool) (m : ℕ) → None ≡ (if b then Some m else None) → IsTrue b → ⊥
     go true m e h = absurd (cc)
@@ -377,11 +378,11 @@ next-is : (k : ℕ) → suc k ≡ k + 1
 next-is k = omega arith
 
 -- Once a round is seen, the best one is known of those up to it.
-pub best-offered : (mode : Mode) (style : Option ℕ) (appended : Bool) (f g : Fixed) (k : ℕ)
+pub best-offered : (mode : Mode) (style : Option ℕ) (appended : Bool) (f g : FixedLiteral) (k : ℕ)
     (b : Best) (o : Option ℕ) → IsBest mode style appended f k b.literal b.calls
     → AreRounds mode style appended (suc k) f g → k + 1 ≤ most_rounds
     → o ≡ count_left (ids mode f.text) mode g.text
-    → IsBest mode style appended f (k + 1) (offered b g o).literal (offered b g o).calls
+    → IsBest mode style appended f (k + 1) (best_with b g o).literal (best_with b g o).calls
 best-offered mode style appended f g k b None best a le e =
     subst (λ n. IsBest mode style appended f n b.literal b.calls) (next-is k)
     (best-stays mode style appended f g k b.literal b.calls best a
@@ -393,7 +394,8 @@ best-offered mode style appended f g k b (Some n) best a le e =
     elim (cases_lt n b.calls) [
       | inl lt ↦
           let yes : nat_lt n b.calls ≡ true = search (arith, lt) in
-          rw (yes, calls) (subst (λ m. IsBest mode style appended f m (Some g) (faulty mode g.text))
+          rw (yes, calls) (subst (λ m. IsBest mode style appended f m (Some g)
+          (faulty_count mode g.text))
           (next-is k) (best-next mode style appended f g k b.literal b.calls best a
           (omega (arith, le)) part
           (omega (arith, lt, calls))))
@@ -405,7 +407,7 @@ best-offered mode style appended f g k b (Some n) best a le e =
     ]
 
 -- A round after these.
-pub round-some : (mode : Mode) (style : Option ℕ) (appended : Bool) (f g : Fixed) (k : ℕ)
+pub round-some : (mode : Mode) (style : Option ℕ) (appended : Bool) (f g : FixedLiteral) (k : ℕ)
     (o : Option DeclaredFixed) → AreRounds mode style appended (suc k) f g
     → IfSome o (λ h. IsRound mode g.text style g.snippet appended (seen_fixed h))
     → IfSome o (λ h. AreRounds mode style appended (suc (k + 1)) f (seen_fixed h))
@@ -413,18 +415,18 @@ round-some mode style appended f g k None a h = tt
 round-some mode style appended f g k (Some x) a h =
     (g, subst (λ n. AreRounds mode style appended n f g) (next-is k) a, h)
 
-pub round-none : (mode : Mode) (style : Option ℕ) (appended : Bool) (f g : Fixed) (k : ℕ)
+pub round-none : (mode : Mode) (style : Option ℕ) (appended : Bool) (f g : FixedLiteral) (k : ℕ)
     (o : Option DeclaredFixed) → AreRounds mode style appended (suc k) f g
-    → IfNone o ((h : Fixed) → IsRound mode g.text style g.snippet appended h → ⊥)
-    → IfNone o ((h : Fixed) → AreRounds mode style appended (suc (k + 1)) f h → ⊥)
+    → IfNone o ((h : FixedLiteral) → IsRound mode g.text style g.snippet appended h → ⊥)
+    → IfNone o ((h : FixedLiteral) → AreRounds mode style appended (suc (k + 1)) f h → ⊥)
 round-none mode style appended f g k (Some x) a h = tt
 round-none mode style appended f g k None a none = λ h (x, b, r).
     let e = rounds-one mode style appended (k + 1) f x g b
     (subst (λ n. AreRounds mode style appended n f g) (next-is k) a) in
-    none h (subst (λ (z : Fixed). IsRound mode z.text style z.snippet appended h) e r)
+    none h (subst (λ (z : FixedLiteral). IsRound mode z.text style z.snippet appended h) e r)
 
 -- A property of a literal, of which a contract sees this.
-pub some-seen : (o : Option DeclaredFixed) (P : Fixed → Type 0)
+pub some-seen : (o : Option DeclaredFixed) (P : FixedLiteral → Type 0)
     → IfSome (option_map seen_fixed o) P → IfSome o (λ f. P (seen_fixed f))
 some-seen None P h = tt
 some-seen (Some f) P h = h
@@ -436,36 +438,38 @@ none-seen (Some f) P h = tt
 
 -- If no round leaves fewer, the best one is the result.
 pub best-is : (mode : Mode) (input : List ℕ) (style : Option ℕ) (literal : List ℕ)
-    (appended : Bool) (k : ℕ) (best : Option Fixed) (fewest : ℕ)
+    (appended : Bool) (k : ℕ) (best : Option FixedLiteral) (fewest : ℕ)
     → IsBest mode style appended (record { snippet = literal; text = input }) k best fewest
-    → ((n : ℕ) (h : Fixed)
+    → ((n : ℕ) (h : FixedLiteral)
     → IsBetter mode style appended (record { snippet = literal; text = input }) n h
-    → fewest ≤ faulty mode h.text)
+    → fewest ≤ faulty_count mode h.text)
     → IfSome best (λ g. IsFixed mode input style literal appended g)
 best-is mode input style literal appended k None fewest b least = tt
 best-is mode input style literal appended k (Some g) fewest b least = record {
   round = b.some.round;
   better = b.some.better;
-  fewest = λ m h y. subst (λ c. c ≤ faulty mode h.text) b.some.count (least m h y);
-  first = λ m h y lt. subst (λ c. c < faulty mode h.text) b.some.count (b.some.early m h y lt);
+  fewest = λ m h y. subst (λ c. c ≤ faulty_count mode h.text) b.some.count (least m h y);
+  first = λ m h y lt. subst (λ c. c < faulty_count mode h.text) b.some.count
+      (b.some.early m h y lt);
 }
 
 pub best-none : (mode : Mode) (input : List ℕ) (style : Option ℕ) (literal : List ℕ)
-    (appended : Bool) (k : ℕ) (best : Option Fixed) (fewest : ℕ)
+    (appended : Bool) (k : ℕ) (best : Option FixedLiteral) (fewest : ℕ)
     → IsBest mode style appended (record { snippet = literal; text = input }) k best fewest
-    → ((n : ℕ) (h : Fixed)
+    → ((n : ℕ) (h : FixedLiteral)
     → IsBetter mode style appended (record { snippet = literal; text = input }) n h
-    → fewest ≤ faulty mode h.text)
-    → IfNone best ((g : Fixed) → IsFixed mode input style literal appended g → ⊥)
+    → fewest ≤ faulty_count mode h.text)
+    → IfNone best ((g : FixedLiteral) → IsFixed mode input style literal appended g → ⊥)
 best-none mode input style literal appended k None fewest b least =
     λ g x. absurd (omega (arith, b.none, x.better.fewer, least x.round g x.better))
 best-none mode input style literal appended k (Some h) fewest b least = tt
 
 -- Where a round makes nothing, no more rounds are there,
-pub rounds-end : (mode : Mode) (style : Option ℕ) (appended : Bool) (f : Fixed) (k : ℕ)
-    (best : Option Fixed) (fewest : ℕ) → IsBest mode style appended f k best fewest
-    → ((g : Fixed) → AreRounds mode style appended (suc k) f g → ⊥)
-    → (n : ℕ) (h : Fixed) → IsBetter mode style appended f n h → fewest ≤ faulty mode h.text
+pub rounds-end : (mode : Mode) (style : Option ℕ) (appended : Bool) (f : FixedLiteral) (k : ℕ)
+    (best : Option FixedLiteral) (fewest : ℕ) → IsBest mode style appended f k best fewest
+    → ((g : FixedLiteral) → AreRounds mode style appended (suc k) f g → ⊥)
+    → (n : ℕ) (h : FixedLiteral) → IsBetter mode style appended f n h
+    → fewest ≤ faulty_count mode h.text
 rounds-end mode style appended f k best fewest b none n h x = elim (cases_order n (suc k)) [
   | inl e ↦ absurd (none h (subst (λ m. AreRounds mode style appended m f h) e x.rounds))
   | inr (inl lt) ↦ b.least n h (omega (arith, lt)) x
@@ -474,7 +478,8 @@ rounds-end mode style appended f k best fewest b none n h x = elim (cases_order 
 ]
 
 -- and none leaves fewer than none.
-pub none-left : (b : Best) (f : Fixed) (o : Option ℕ) → o ≡ Some 0 → (offered b f o).calls ≡ 0
+pub none-left : (b : Best) (f : FixedLiteral) (o : Option ℕ) → o ≡ Some 0
+    → (best_with b f o).calls ≡ 0
 none-left b f None e = absurd (cc)
 none-left b f (Some n) e =
     let none : n ≡ 0 = cc in
@@ -486,7 +491,7 @@ none-left b f (Some n) e =
 
 -- A literal is fixed to one result.
 pub fixed-one : (mode : Mode) (input : List ℕ) (style : Option ℕ) (literal : List ℕ)
-    (appended : Bool) (g h : Fixed) → IsFixed mode input style literal appended g
+    (appended : Bool) (g h : FixedLiteral) → IsFixed mode input style literal appended g
     → IsFixed mode input style literal appended h → g ≡ h
 fixed-one mode input style literal appended g h a b = elim (cases_order a.round b.round) [
   | inl e ↦ rounds-one mode style appended b.round (record { snippet = literal; text = input }) g h

@@ -6,7 +6,7 @@ use Rattle.std.specs.Char.{is_ascii_digit}
 use Rattle.std.proofs.lemmas.Bool.{cond_both, cond-false, cond-true, false≢true, false_from_ne_true}
 use Rattle.rustc_parse_format.specs.Characters.{Text, is_id_start, is_over, word, after_word}
 use Rattle.rustc_parse_format.specs.Characters.{digits, after_digits, front}
-use Rattle.rustc_parse_format.specs.Marks.{Mark, Start, End, Span, through, up_to}
+use Rattle.rustc_parse_format.specs.Marks.{Mark, Start, End, Span, span_through, up_to}
 use Rattle.rustc_parse_format.specs.Faults.{Fault, TooLarge, Underscore}
 use Rattle.rustc_parse_format.specs.PartFaults.{argument_faults, number_faults, word_faults}
 use Rattle.rustc_parse_format.specs.PartFaults.{width_faults, precision_faults}
@@ -132,8 +132,8 @@ numbers-alike : (u : Text) (x : ℕ) (p : Text) (y : ℕ) (q : Text) → is_asci
     → is_ascii_digit y ≡ false → length p ≡ length q
     → number_faults (u ++ x ∷ p) ≡ number_faults (u ++ y ∷ q)
 numbers-alike u x p y q h k e =
-    let same : through (u ++ x ∷ p) (after_digits u ++ x ∷ p)
-    ≡ through (u ++ y ∷ q) (after_digits u ++ y ∷ q) =
+    let same : span_through (u ++ x ∷ p) (after_digits u ++ x ∷ p)
+    ≡ span_through (u ++ y ∷ q) (after_digits u ++ y ∷ q) =
     both (ap Start (length-alike u x p y q e))
     (ap End (length-alike (after_digits u) x p y q e)) in
     number_faults-at u x p h

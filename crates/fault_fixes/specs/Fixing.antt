@@ -10,7 +10,7 @@ use Rattle.rustc_parse_format.specs.Call.{call}
 use Rattle.rustc_parse_format.specs.World.{Place, faults_in}
 use Rattle.rustc_parse_format.specs.State.{State, first_state}
 use Rattle.rustc_parse_format.specs.Literal.{IsSource}
-use Rattle.fault_fixes.specs.Edits.{Edit, edits, edit_of, applied}
+use Rattle.fault_fixes.specs.Edits.{Edit, edits, edit_of, edited_bytes}
 
 -- The faults of the calls from t on, with at most n calls. A call that returns no piece before the
 -- end, as at a lone closing brace, is followed by others.
@@ -42,17 +42,17 @@ abbrev pub text_edits : Mode → Text → List Edit
 text_edits mode input = edits mode (all_errors (first_state mode input None None false))
 
 -- A literal and the text that it stands for, as bytes. With an appended newline the text has it.
-pub record Fixed : Type 0 where
+pub record FixedLiteral : Type 0 where
   pub snippet : List ℕ
   pub text : List ℕ
 
 -- There are edits, and the literal with these and its text with the others are a source literal of
 -- the same style and its text.
 pub record IsEdited (input : List ℕ) (style : Option ℕ) (literal : List ℕ) (appended : Bool)
-    (in_literal in_text : List Edit) (f : Fixed) : Type 0 where
+    (in_literal in_text : List Edit) (f : FixedLiteral) : Type 0 where
   pub has_edits : in_literal ≢ []
-  pub snippet : f.snippet ≡ applied 0 in_literal literal
-  pub text : f.text ≡ applied 1 in_text input
+  pub snippet : f.snippet ≡ edited_bytes 0 in_literal literal
+  pub text : f.text ≡ edited_bytes 1 in_text input
   pub snippet_utf8 : IsUtf8 f.snippet
   pub text_utf8 : IsUtf8 f.text
   pub is_source : IsSource (chars f.text) style (chars f.snippet) appended
@@ -60,7 +60,7 @@ pub record IsEdited (input : List ℕ) (style : Option ℕ) (literal : List ℕ)
 -- One round of edits: the literal is the source literal of the input, and the result is what it is
 -- with the edits of all errors.
 pub record IsRound (mode : Mode) (input : List ℕ) (style : Option ℕ) (literal : List ℕ)
-    (appended : Bool) (f : Fixed) : Type 0 where
+    (appended : Bool) (f : FixedLiteral) : Type 0 where
   pub was_source : IsSource (chars input) style (chars literal) appended
   pub edited : IsEdited input style literal appended
       (literal_edits mode (chars input) style (chars literal) appended)

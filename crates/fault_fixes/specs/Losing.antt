@@ -7,7 +7,7 @@ use Rattle.rustc_parse_format.specs.Placeholder.{cut}
 use Rattle.rustc_parse_format.specs.Meaning.{argument}
 use Rattle.rustc_parse_format.specs.Call.{unclosed_fault}
 use Rattle.fault_fixes.specs.Fixing.{all_faults}
-use Rattle.rustc_parse_format.specs.Marks.{Mark, Start, End, Span, up_to, over_first, through}
+use Rattle.rustc_parse_format.specs.Marks.{Mark, Start, End, Span, up_to, over_first, span_through}
 use Rattle.rustc_parse_format.specs.Faults.{Fault, map_fault, MissingBrace, MissingColon, LateFlag}
 use Rattle.rustc_parse_format.specs.Faults.{UnmatchedBrace}
 use Prim.Native.Char.{code}
@@ -23,8 +23,8 @@ moved_mark n removed added (Start k) = Start (moved_count n removed added k)
 moved_mark n removed added (End k) = End (moved_count n removed added k)
 
 -- A span in the edited text.
-abbrev pub moved : ℕ → ℕ → ℕ → Span → Span
-moved n removed added s = record {
+abbrev pub moved_span : ℕ → ℕ → ℕ → Span → Span
+moved_span n removed added s = record {
   from = moved_mark n removed added s.from;
   to = moved_mark n removed added s.to;
 }
@@ -46,7 +46,7 @@ pub record LosesOnly (own : List (Fault Span)) (move : Span → Span)
 -- Where u is between an opening brace and a `?`, and the closing brace after the `?` is followed by
 -- r: the `?` becomes `:?`.
 abbrev pub colon_moves : Text → Span → Span
-colon_moves r = moved (length (codes "}" ++ r)) 1 2
+colon_moves r = moved_span (length (codes "}" ++ r)) 1 2
 
 -- The faults of the missing colon: the missing brace, the `?` in its place, and then the brace that
 -- closes nothing.
@@ -62,7 +62,7 @@ colon_faults u r =
 abbrev pub late_flag_faults : ℕ → Text → Text → ℕ → Text → Text → List (Fault Span)
 late_flag_faults c u s f z r =
     let inside = u ++ (codes ":" ++ (s ++ (codes "?" ++ f ∷ z))) in
-    LateFlag f (over_first (f ∷ z)) (through (codes "?" ++ f ∷ z) (f ∷ z))
+    LateFlag f (over_first (f ∷ z)) (span_through (codes "?" ++ f ∷ z) (f ∷ z))
     ∷ unclosed_fault (codes "{" ++ inside) (argument c (cut Format inside)).format (f ∷ z)
     ∷ UnmatchedBrace (over_first (codes "}" ++ r)) ∷ []
 

@@ -8,7 +8,7 @@ use Rattle.rustc_parse_format.specs.FaultIds.{fault_id}
 use Rattle.rustc_parse_format.specs.Faults.{Fault}
 use Rattle.rustc_parse_format.specs.Marks.{Span}
 use Rattle.rustc_parse_format.specs.Types.{Mode}
-use Rattle.fault_fixes.specs.Fixing.{Fixed, IsRound, all_faults}
+use Rattle.fault_fixes.specs.Fixing.{FixedLiteral, IsRound, all_faults}
 
 -- The ids of the faults of a text, in the order in which they are found.
 abbrev pub ids : Mode → List ℕ → List (List ℕ)
@@ -32,8 +32,8 @@ unfoldable pub faulty_calls : Mode → ℕ → Text → ℕ
 faulty_calls mode c t = faulty_within (length t) mode c t
 
 -- How many of the calls of a parser over a text find a fault.
-abbrev pub faulty : Mode → List ℕ → ℕ
-faulty mode text = faulty_calls mode 0 (chars text)
+abbrev pub faulty_count : Mode → List ℕ → ℕ
+faulty_count mode text = faulty_calls mode 0 (chars text)
 
 -- The first list is the second one without some of its elements.
 abbrev pub is_part : List (List ℕ) → List (List ℕ) → Bool
@@ -43,13 +43,14 @@ is_part (x ∷ xs) (y ∷ ys) = if bytes_eq x y then is_part xs ys else is_part 
 
 -- How many calls over a text find a fault, if all of these faults are old ones, in their order.
 abbrev pub count_left : List (List ℕ) → Mode → List ℕ → Option ℕ
-count_left old mode text = if is_part (ids mode text) old then Some (faulty mode text) else None
+count_left old mode text = if is_part (ids mode text) old then Some
+    (faulty_count mode text) else None
 
 -- The literal that n rounds of edits lead to. The edits of a round may make others possible.
-abbrev pub AreRounds : Mode → Option ℕ → Bool → ℕ → Fixed → Fixed → Type 0
+abbrev pub AreRounds : Mode → Option ℕ → Bool → ℕ → FixedLiteral → FixedLiteral → Type 0
 AreRounds mode style appended zero f g = f ≡ g
 AreRounds mode style appended (suc n) f g =
-    (h : Fixed) × AreRounds mode style appended n f h
+    (h : FixedLiteral) × AreRounds mode style appended n f h
     × IsRound mode h.text style h.snippet appended g
 
 -- The most rounds that are made.
@@ -58,34 +59,34 @@ most_rounds = 8
 
 -- In n rounds a literal becomes one of whose calls fewer find a fault, and all of these faults it
 -- had before.
-pub record IsBetter (mode : Mode) (style : Option ℕ) (appended : Bool) (f : Fixed) (n : ℕ)
-    (g : Fixed) : Type 0 where
+pub record IsBetter (mode : Mode) (style : Option ℕ) (appended : Bool) (f : FixedLiteral) (n : ℕ)
+    (g : FixedLiteral) : Type 0 where
   pub some : 0 < n
   pub few : n ≤ most_rounds
   pub rounds : AreRounds mode style appended n f g
   pub old : IsTrue (is_part (ids mode g.text) (ids mode f.text))
-  pub fewer : faulty mode g.text < faulty mode f.text
+  pub fewer : faulty_count mode g.text < faulty_count mode f.text
 
 -- Of all that a literal becomes so, the result is the one of whose calls the fewest find a fault,
 -- and of two with as few the earlier one.
 pub record IsFixed (mode : Mode) (input : List ℕ) (style : Option ℕ) (literal : List ℕ)
-    (appended : Bool) (g : Fixed) : Type 0 where
+    (appended : Bool) (g : FixedLiteral) : Type 0 where
   pub round : ℕ
   pub better : IsBetter mode style appended (record { snippet = literal; text = input }) round g
-  pub fewest : (n : ℕ) (h : Fixed)
+  pub fewest : (n : ℕ) (h : FixedLiteral)
       → IsBetter mode style appended (record { snippet = literal; text = input }) n h
-      → faulty mode g.text ≤ faulty mode h.text
-  pub first : (n : ℕ) (h : Fixed)
+      → faulty_count mode g.text ≤ faulty_count mode h.text
+  pub first : (n : ℕ) (h : FixedLiteral)
       → IsBetter mode style appended (record { snippet = literal; text = input }) n h
-      → n < round → faulty mode g.text < faulty mode h.text
+      → n < round → faulty_count mode g.text < faulty_count mode h.text
 
 -- The best literal so far, if there is one, and how many of its calls find a fault, or else of
 -- those at the start.
 pub record Best : Type 0 where
-  pub literal : Option Fixed
+  pub literal : Option FixedLiteral
   pub calls : ℕ
 
 -- The best one, once a literal is seen of whose calls so many find a fault, if it has no new ones.
-abbrev pub offered : Best → Fixed → Option ℕ → Best
-offered b f None = b
-offered b f (Some n) = if nat_lt n b.calls then record { literal = Some f; calls = n } else b
+abbrev pub best_with : Best → FixedLiteral → Option ℕ → Best
+best_with b f None = b
+best_with b f (Some n) = if nat_lt n b.calls then record { literal = Some f; calls = n } else b

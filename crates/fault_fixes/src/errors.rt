@@ -4,7 +4,7 @@ ghost use Rattle.std.specs.Prelude.{◌≡◌, ◌+◌, ◌<◌, ◌^◌, [], If
 ghost use Rattle.rustc_parse_format.specs.Faults.{add_errors};
 ghost use Rattle.rustc_parse_format.specs.Seen.{seen_error, seen_mode, seen_snippet};
 ghost use Rattle.rustc_parse_format.specs.SeenFaults.{seen_fault};
-ghost use Rattle.rustc_parse_format.specs.State.{after, first_state, next_call};
+ghost use Rattle.rustc_parse_format.specs.State.{state_after, first_state, next_call};
 ghost use Rattle.rustc_parse_format.specs.World.{faults_in, hashes};
 ghost use Rattle.fault_fixes.specs.Fixing.{all_errors};
 ghost use Rattle.fault_fixes.specs.SeenEdits.{seen_errors};
@@ -16,9 +16,9 @@ use std::alloc::{AllocError, Global};
 #[derive(Drop)]
 struct Errors {
     /// The errors that were put before all others: the last one is the first of all.
-    fronts: Vec<ParseError>,
+    front_errors: Vec<ParseError>,
     /// The errors after these.
-    backs: Vec<ParseError>,
+    back_errors: Vec<ParseError>,
 }
 
 /// Adds the errors of faults. Returns `Err` if an allocation fails.
@@ -29,9 +29,9 @@ fn add_each(alloc: Global, errors: &mut Errors, faults: &[Fault<'_>]) -> Result<
     for fault in faults {
         let error = fault.error(alloc)?;
         if fault.is_front() {
-            errors.fronts.push(error)?;
+            errors.front_errors.push(error)?;
         } else {
-            errors.backs.push(error)?;
+            errors.back_errors.push(error)?;
         }
     }
     Ok(())
@@ -49,7 +49,7 @@ fn add_next<'a>(
     requires none { parser.old.errors ≡ [] }
     requires empty { faults.old.items ≡ [] }
     ensures state { OnOk result (parser.new
-        ≡ record (after parser.old (next_call parser.old)) { errors = [] }) }
+        ≡ record (state_after parser.old (next_call parser.old)) { errors = [] }) }
     ensures errors { OnOk result (seen_errors errors.new ≡ add_errors (seen_errors errors.old)
         (faults_in parser.old.world (next_call parser.old).faults)) }
     ensures added { OnOk result (faults.new.items ≡ []) }
@@ -64,10 +64,10 @@ fn add_next<'a>(
 fn into_list(errors: Errors) -> Result<Vec<ParseError>, AllocError>
     ensures { IfOk result (λ v. map seen_error v.items ≡ seen_errors errors) }
 {
-    let mut list = errors.fronts;
-    let mut backs = errors.backs;
+    let mut list = errors.front_errors;
+    let mut back_errors = errors.back_errors;
     list.reverse();
-    list.append(&mut backs)?;
+    list.append(&mut back_errors)?;
     Ok(list)
 }
 
@@ -95,8 +95,8 @@ pub fn errors_of(
     let mut argument = Argument::default();
     let mut faults = Vec::new(alloc);
     let mut errors = Errors {
-        fronts: Vec::new(alloc),
-        backs: Vec::new(alloc),
+        front_errors: Vec::new(alloc),
+        back_errors: Vec::new(alloc),
     };
     while !parser.is_at_end() {
         add_next(alloc, &mut errors, &mut parser, &mut argument, &mut faults)?;

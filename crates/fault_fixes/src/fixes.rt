@@ -10,12 +10,14 @@ ghost use Rattle.rustc_parse_format.specs.Faults.{Nothing, message};
 ghost use Rattle.rustc_parse_format.specs.Seen.{seen_error, seen_mode, seen_snippet};
 ghost use Rattle.rustc_parse_format.specs.Seen.{seen_suggestion};
 ghost use Rattle.rustc_parse_format.specs.SeenFaults.{seen_fault};
-ghost use Rattle.rustc_parse_format.specs.State.{after, first_state, next_call};
+ghost use Rattle.rustc_parse_format.specs.State.{state_after, first_state, next_call};
 ghost use Rattle.rustc_parse_format.specs.World.{faults_in, hashes};
 ghost use Rattle.rustc_parse_format.specs.Literal.{IsSource};
-ghost use Rattle.fault_fixes.specs.Edits.{AreInOrder, Edit as EditValue, applied, edit_of, edits};
-ghost use Rattle.fault_fixes.specs.Edits.{is_empty, offered, suggested};
-ghost use Rattle.fault_fixes.specs.Fixing.{Fixed as FixedLiteral, IsRound, all_errors, fault_edits};
+ghost use Rattle.fault_fixes.specs.Edits.{AreInOrder, Edit as EditValue, edited_bytes, edit_of};
+ghost use Rattle.fault_fixes.specs.Edits.{edits};
+ghost use Rattle.fault_fixes.specs.Edits.{is_empty, offered_suggestion, suggested_edit};
+ghost use Rattle.fault_fixes.specs.Fixing.{FixedLiteral as FixedValue, IsRound, all_errors};
+ghost use Rattle.fault_fixes.specs.Fixing.{fault_edits};
 ghost use Rattle.fault_fixes.specs.Fixing.{literal_edits, text_edits};
 ghost use Rattle.fault_fixes.specs.SeenEdits.{seen_edit, seen_fixed, with_edits};
 
@@ -35,7 +37,7 @@ pub struct Edit<'e> {
 
 /// A literal with edits applied.
 #[derive(Debug, Eq, PartialEq, Drop)]
-pub struct Fixed {
+pub struct FixedLiteral {
     /// The literal, as it is to be in the source.
     pub snippet: String,
     /// The text that it stands for, with the newline that was appended to the input, if one was.
@@ -46,7 +48,7 @@ pub struct Fixed {
 /// assembly, and where no placeholder may have a specification, none leads to one.
 pub fn is_offered(mode: ParseMode, suggestion: &Suggestion) -> bool
     ensures { (if result then seen_suggestion suggestion.now else Nothing)
-        ≡ offered (seen_mode mode) (seen_suggestion suggestion.now) }
+        ≡ offered_suggestion (seen_mode mode) (seen_suggestion suggestion.now) }
 {
     match mode {
         ParseMode::Format | ParseMode::Diagnostic => true,
@@ -57,7 +59,7 @@ pub fn is_offered(mode: ParseMode, suggestion: &Suggestion) -> bool
 
 /// Returns the edit of a suggestion, or `None` if it has none or needs the arguments of the call.
 fn edit_of(suggestion: &Suggestion) -> Option<Edit<'_>>
-    ensures { option_map seen_edit result ≡ suggested (seen_suggestion suggestion.now) }
+    ensures { option_map seen_edit result ≡ suggested_edit (seen_suggestion suggestion.now) }
 {
     match suggestion {
         Suggestion::RemoveRawIdent(span) => Some(Edit {
@@ -81,7 +83,7 @@ fn edit_of(suggestion: &Suggestion) -> Option<Edit<'_>>
 /// the arguments of the call.
 fn offered_edit(mode: ParseMode, suggestion: &Suggestion) -> Option<Edit<'_>>
     ensures { option_map seen_edit result
-        ≡ suggested (offered (seen_mode mode) (seen_suggestion suggestion.now)) }
+        ≡ suggested_edit (offered_suggestion (seen_mode mode) (seen_suggestion suggestion.now)) }
 {
     if !is_offered(mode, suggestion) {
         return None;
@@ -137,7 +139,7 @@ fn rest_after(bytes: &[u8], n: usize) -> &[u8]
 
 /// A text in the middle of its edits.
 #[derive(Drop)]
-struct Edited<'t> {
+struct EditProgress<'t> {
     /// The part of the text with its edits that is written.
     bytes: Vec<u8>,
     /// The rest of the text.
@@ -150,36 +152,46 @@ struct Edited<'t> {
 
 /// Makes the edit of a suggestion in a mode, if it has one that starts after the end of the last
 /// one. Returns `Err` if an allocation fails.
-fn make(edited: &mut Edited<'_>, mode: ParseMode, suggestion: &Suggestion) -> Result<(), AllocError>
-    ensures { OnOk result ((es : List EditValue) → with_edits edited.new es ≡ with_edits edited.old
-        (cons_option (suggested (offered (seen_mode mode) (seen_suggestion suggestion.now))) es)) }
+fn make(
+    progress: &mut EditProgress<'_>,
+    mode: ParseMode,
+    suggestion: &Suggestion,
+) -> Result<(), AllocError>
+    ensures { OnOk result ((es : List EditValue)
+        → with_edits progress.new es ≡ with_edits progress.old
+        (cons_option (suggested_edit (offered_suggestion (seen_mode mode)
+        (seen_suggestion suggestion.now))) es)) }
 {
     let Some(edit) = offered_edit(mode, suggestion) else {
         return Ok(());
     };
-    if edited.end < edit.span.start && edit.span.start <= edit.span.end {
-        let source = front(edited.rest, edit.span.start.saturating_sub(edited.start));
-        edited.bytes.extend_from_slice(source)?;
-        edited.bytes.extend_from_slice(edit.text.as_bytes())?;
-        edited.rest = rest_after(edited.rest, edit.span.end.saturating_sub(edited.start));
-        edited.start = edit.span.end;
-        edited.end = edit.span.end;
+    if progress.end < edit.span.start && edit.span.start <= edit.span.end {
+        let source = front(
+            progress.rest,
+            edit.span.start.saturating_sub(progress.start),
+        );
+        progress.bytes.extend_from_slice(source)?;
+        progress.bytes.extend_from_slice(edit.text.as_bytes())?;
+        progress.rest = rest_after(progress.rest, edit.span.end.saturating_sub(progress.start));
+        progress.start = edit.span.end;
+        progress.end = edit.span.end;
     }
     Ok(())
 }
 
 /// Makes the edits of faults in a mode, the first one first. Returns `Err` if an allocation fails.
 fn make_each(
-    edited: &mut Edited<'_>,
+    progress: &mut EditProgress<'_>,
     mode: ParseMode,
     faults: &[Fault<'_>],
 ) -> Result<(), AllocError>
-    ensures { OnOk result ((es : List EditValue) → with_edits edited.new es ≡ with_edits edited.old
+    ensures { OnOk result ((es : List EditValue)
+        → with_edits progress.new es ≡ with_edits progress.old
         (fault_edits (seen_mode mode) (map seen_fault faults.now) ++ es)) }
 {
     for fault in faults {
-        let suggestion = fault.suggestion(*edited.bytes.allocator())?;
-        make(edited, mode, &suggestion)?;
+        let suggestion = fault.suggestion(*progress.bytes.allocator())?;
+        make(progress, mode, &suggestion)?;
     }
     Ok(())
 }
@@ -187,7 +199,7 @@ fn make_each(
 /// Makes a call of a parser, and the edits of its faults in a mode. `faults` is empty before and
 /// after the call. Returns `Err` if an allocation fails.
 fn make_next<'a>(
-    edited: &mut Edited<'_>,
+    progress: &mut EditProgress<'_>,
     mode: ParseMode,
     parser: &mut Parser<'a>,
     argument: &mut Argument<'a>,
@@ -196,14 +208,14 @@ fn make_next<'a>(
     requires none { parser.old.errors ≡ [] }
     requires empty { faults.old.items ≡ [] }
     ensures state { OnOk result (parser.new
-        ≡ record (after parser.old (next_call parser.old)) { errors = [] }) }
-    ensures edits { OnOk result ((es : List EditValue) → with_edits edited.new es ≡ with_edits
-        edited.old (fault_edits (seen_mode mode)
+        ≡ record (state_after parser.old (next_call parser.old)) { errors = [] }) }
+    ensures edits { OnOk result ((es : List EditValue) → with_edits progress.new es ≡ with_edits
+        progress.old (fault_edits (seen_mode mode)
         (faults_in parser.old.world (next_call parser.old).faults) ++ es)) }
     ensures made { OnOk result (faults.new.items ≡ []) }
 {
     parser.next_with_faults(argument, faults)?;
-    make_each(edited, mode, faults.as_slice())?;
+    make_each(progress, mode, faults.as_slice())?;
     faults.clear();
     Ok(())
 }
@@ -228,26 +240,26 @@ fn edit_all(
 ) -> Result<AllEdits, AllocError>
     requires { parser.old.errors ≡ [] }
     ensures bytes { IfOk result (λ x. x.bytes.items
-        ≡ applied at (edits (seen_mode mode) (all_errors parser.old)) text.now) }
+        ≡ edited_bytes at (edits (seen_mode mode) (all_errors parser.old)) text.now) }
     ensures some { IfOk result (λ x. x.has_edits
         ≡ not (is_empty (edits (seen_mode mode) (all_errors parser.old)))) }
 {
     let mut argument = Argument::default();
     let mut faults = Vec::new(alloc);
-    let mut edited = Edited {
+    let mut progress = EditProgress {
         bytes: Vec::new(alloc),
         rest: text.as_bytes(),
         start: at,
         end: 0,
     };
     while !parser.is_at_end() {
-        make_next(&mut edited, mode, parser, &mut argument, &mut faults)?;
+        make_next(&mut progress, mode, parser, &mut argument, &mut faults)?;
     }
-    let rest = edited.rest;
-    edited.bytes.extend_from_slice(rest)?;
+    let rest = progress.rest;
+    progress.bytes.extend_from_slice(rest)?;
     Ok(AllEdits {
-        bytes: edited.bytes,
-        has_edits: edited.end > 0,
+        bytes: progress.bytes,
+        has_edits: progress.end > 0,
     })
 }
 
@@ -272,16 +284,23 @@ fn edited_literal(
     requires { hashes style + length input.now + 2 < 2 ^ 64 }
     ensures edits { IfOk result (λ o. IfSome o (λ s. literal_edits (seen_mode mode)
         (chars input.now) style (chars snippet.now) appended_newline ≢ [])) }
-    ensures some { IfOk result (λ o. IfSome o (λ s. string_bytes s ≡ applied 0 (literal_edits
+    ensures some { IfOk result (λ o. IfSome o (λ s. string_bytes s ≡ edited_bytes 0 (literal_edits
         (seen_mode mode) (chars input.now) style (chars snippet.now) appended_newline)
         snippet.now)) }
     ensures none { IfOk result (λ o. IfNone o (literal_edits (seen_mode mode) (chars input.now)
-        style (chars snippet.now) appended_newline ≢ [] → IsUtf8 (applied 0 (literal_edits
+        style (chars snippet.now) appended_newline ≢ [] → IsUtf8 (edited_bytes 0 (literal_edits
         (seen_mode mode) (chars input.now) style (chars snippet.now) appended_newline)
         snippet.now) → ⊥)) }
 {
-    let owned = String::from_str(alloc, snippet)?;
-    let mut parser = Parser::new(alloc, input, style, Some(owned), appended_newline, mode)?;
+    let snippet_copy = String::from_str(alloc, snippet)?;
+    let mut parser = Parser::new(
+        alloc,
+        input,
+        style,
+        Some(snippet_copy),
+        appended_newline,
+        mode,
+    )?;
     let AllEdits { bytes, has_edits } = edit_all(alloc, mode, &mut parser, snippet, 0)?;
     if !has_edits {
         return Ok(None);
@@ -294,9 +313,9 @@ fn edited_literal(
 fn edited_text(alloc: Global, input: &str, mode: ParseMode) -> Result<Option<String>, AllocError>
     requires { length input.now + 2 < 2 ^ 64 }
     ensures some { IfOk result (λ o. IfSome o (λ s. string_bytes s
-        ≡ applied 1 (text_edits (seen_mode mode) (chars input.now)) input.now)) }
+        ≡ edited_bytes 1 (text_edits (seen_mode mode) (chars input.now)) input.now)) }
     ensures none { IfOk result (λ o. IfNone o
-        (IsUtf8 (applied 1 (text_edits (seen_mode mode) (chars input.now)) input.now) → ⊥)) }
+        (IsUtf8 (edited_bytes 1 (text_edits (seen_mode mode) (chars input.now)) input.now) → ⊥)) }
 {
     let mut parser = Parser::new(alloc, input, None, None, false, mode)?;
     let AllEdits { bytes, .. } = edit_all(alloc, mode, &mut parser, input, 1)?;
@@ -316,11 +335,11 @@ pub fn round(
     snippet: &str,
     appended_newline: bool,
     mode: ParseMode,
-) -> Result<Option<Fixed>, AllocError>
+) -> Result<Option<FixedLiteral>, AllocError>
     requires { hashes style + length input.now + 2 < 2 ^ 64 }
     ensures some { IfOk result (λ o. IfSome o (λ f. IsRound (seen_mode mode) input.now style
         snippet.now appended_newline (seen_fixed f))) }
-    ensures none { IfOk result (λ o. IfNone o ((f : FixedLiteral)
+    ensures none { IfOk result (λ o. IfNone o ((f : FixedValue)
         → IsRound (seen_mode mode) input.now style snippet.now appended_newline f → ⊥)) }
     ensures foreign { (IsSource (chars input.now) style (chars snippet.now) appended_newline → ⊥)
         → IsOk result }
@@ -335,7 +354,7 @@ pub fn round(
         return Ok(None);
     };
     if is_source_literal(&text, style, &snippet, appended_newline) {
-        Ok(Some(Fixed { snippet, text }))
+        Ok(Some(FixedLiteral { snippet, text }))
     } else {
         Ok(None)
     }

@@ -8,12 +8,13 @@ ghost use Rattle.std.specs.Prelude.{◌≡◌, ◌++◌, ℕ, IsTrue, IsFalse, [
 ghost use Rattle.rustc_parse_format.specs.Characters.{Text, begins_raw, after_word, first_passes};
 ghost use Rattle.rustc_parse_format.specs.Characters.{begins_with, is_id_start};
 ghost use Rattle.rustc_parse_format.specs.Faults.{RawIdentifier};
-ghost use Rattle.rustc_parse_format.specs.Marks.{through, up_to};
+ghost use Rattle.rustc_parse_format.specs.Marks.{span_through, up_to};
 ghost use Rattle.rustc_parse_format.specs.Types.{Diagnostic, Format, Mode};
 ghost use Rattle.rustc_parse_format.specs.Placeholder.{cut};
 ghost use Rattle.rustc_parse_format.specs.Specification.{alternate_at, type_at};
 ghost use Rattle.fault_fixes.specs.Fixing.{all_faults};
-ghost use Rattle.fault_fixes.specs.Losing.{LosesOnly, MovesFlag, colon_faults, colon_moves, moved};
+ghost use Rattle.fault_fixes.specs.Losing.{LosesOnly, MovesFlag, colon_faults, colon_moves};
+ghost use Rattle.fault_fixes.specs.Losing.{moved_span};
 
 /// States what the removal of an `r#` does, in each mode: only the fault of the raw identifier
 /// goes. The text that follows the `r#` begins with a word that is no raw identifier. Does nothing.
@@ -21,7 +22,7 @@ pub fn remove_raw_ident()
     ensures { (mode : Mode) (c : ℕ) (t : Text) → IsTrue (first_passes is_id_start t)
         → IsFalse (begins_raw t)
         → LosesOnly (RawIdentifier (up_to (codes "r#" ++ t) (after_word t))
-        (through (codes "r#" ++ t) (codes "#" ++ t)) ∷ []) (moved (length t) 2 0)
+        (span_through (codes "r#" ++ t) (codes "#" ++ t)) ∷ []) (moved_span (length t) 2 0)
         (all_faults mode c (codes "{r#" ++ t)) (all_faults mode c (codes "{" ++ t)) }
 {}
 

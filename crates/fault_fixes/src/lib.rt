@@ -8,5 +8,5 @@ pub mod laws;
 mod rounds;
 
 pub use errors::errors_of;
-pub use fixes::{Edit, Fixed, edits, is_offered};
+pub use fixes::{Edit, FixedLiteral, edits, is_offered};
 pub use rounds::fix;

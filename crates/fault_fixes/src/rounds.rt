@@ -7,11 +7,12 @@ ghost use Rattle.rustc_parse_format.specs.Literal.{IsSource};
 ghost use Rattle.rustc_parse_format.specs.Seen.{seen_mode};
 ghost use Rattle.rustc_parse_format.specs.SeenFaults.{seen_fault};
 ghost use Rattle.rustc_parse_format.specs.World.{hashes};
-ghost use Rattle.fault_fixes.specs.Fixing.{Fixed as FixedLiteral, IsRound};
-ghost use Rattle.fault_fixes.specs.Rounds.{IsFixed, count_left, faulty, ids, is_part, offered};
+ghost use Rattle.fault_fixes.specs.Fixing.{FixedLiteral as FixedValue, IsRound};
+ghost use Rattle.fault_fixes.specs.Rounds.{IsFixed, count_left, faulty_count, ids, is_part};
+ghost use Rattle.fault_fixes.specs.Rounds.{best_with};
 ghost use Rattle.fault_fixes.specs.SeenEdits.{seen_best, seen_fixed};
 
-use crate::fixes::{Fixed, round};
+use crate::fixes::{FixedLiteral, round};
 use rustc_parse_format::{Argument, Fault, ParseMode, Parser};
 use std::alloc::{AllocError, Global};
 
@@ -32,7 +33,7 @@ struct Faults<'a> {
 fn faults_of(alloc: Global, text: &str, mode: ParseMode) -> Result<Faults<'_>, AllocError>
     ensures ids { IfOk result (λ f. map fault_id (map seen_fault f.list.items)
         ≡ ids (seen_mode mode) text.now) }
-    ensures calls { IfOk result (λ f. f.calls ≡ faulty (seen_mode mode) text.now) }
+    ensures calls { IfOk result (λ f. f.calls ≡ faulty_count (seen_mode mode) text.now) }
 {
     if text.len() >= 1 << 59 {
         return Err(AllocError);
@@ -52,12 +53,12 @@ fn faults_of(alloc: Global, text: &str, mode: ParseMode) -> Result<Faults<'_>, A
 }
 
 /// Returns whether faults are some of others, in their order, by their kinds alone.
-fn is_part(part: &[Fault<'_>], whole: &[Fault<'_>]) -> bool
+fn is_part(part: &[Fault<'_>], all_faults: &[Fault<'_>]) -> bool
     ensures { result ≡ is_part (map fault_id (map seen_fault part.now))
-        (map fault_id (map seen_fault whole.now)) }
+        (map fault_id (map seen_fault all_faults.now)) }
 {
     let mut count = 0;
-    for fault in whole {
+    for fault in all_faults {
         if count == part.len() {
             return true;
         }
@@ -91,15 +92,15 @@ fn count_left(
 #[derive(Drop)]
 struct Best {
     /// The literal, or `None` if none is better than that of the start.
-    literal: Option<Fixed>,
+    literal: Option<FixedLiteral>,
     /// How many of its calls find a fault, or of those at the start.
     calls: usize,
 }
 
 /// Keeps a literal if it is better. `calls` is how many of its calls find a fault, or `None` if
 /// there is a new one.
-fn offer(best: &mut Best, literal: Fixed, calls: Option<usize>)
-    ensures { seen_best best.new ≡ offered (seen_best best.old) (seen_fixed literal) calls }
+fn offer(best: &mut Best, literal: FixedLiteral, calls: Option<usize>)
+    ensures { seen_best best.new ≡ best_with (seen_best best.old) (seen_fixed literal) calls }
 {
     if let Some(calls) = calls {
         if calls < best.calls {
@@ -113,21 +114,21 @@ fn offer(best: &mut Best, literal: Fixed, calls: Option<usize>)
 /// `Err` if an allocation fails, or if the literal or its text has 2^59 bytes or more.
 fn next_round(
     alloc: Global,
-    reached: &Fixed,
+    literal: &FixedLiteral,
     style: Option<usize>,
     appended_newline: bool,
     mode: ParseMode,
-) -> Result<Option<Fixed>, AllocError>
-    requires { hashes style ≤ length (seen_fixed reached.now).snippet }
+) -> Result<Option<FixedLiteral>, AllocError>
+    requires { hashes style ≤ length (seen_fixed literal.now).snippet }
     ensures some { IfOk result (λ o. IfSome o (λ f. IsRound (seen_mode mode)
-        (seen_fixed reached.now).text style (seen_fixed reached.now).snippet appended_newline
+        (seen_fixed literal.now).text style (seen_fixed literal.now).snippet appended_newline
         (seen_fixed f))) }
-    ensures none { IfOk result (λ o. IfNone o ((f : FixedLiteral) → IsRound (seen_mode mode)
-        (seen_fixed reached.now).text style (seen_fixed reached.now).snippet appended_newline f
+    ensures none { IfOk result (λ o. IfNone o ((f : FixedValue) → IsRound (seen_mode mode)
+        (seen_fixed literal.now).text style (seen_fixed literal.now).snippet appended_newline f
         → ⊥)) }
 {
-    let text = reached.text.as_str();
-    let snippet = reached.snippet.as_str();
+    let text = literal.text.as_str();
+    let snippet = literal.snippet.as_str();
     if text.len() >= 1 << 59 {
         return Err(AllocError);
     }
@@ -158,16 +159,16 @@ pub fn fix(
     snippet: &str,
     appended_newline: bool,
     mode: ParseMode,
-) -> Result<Option<Fixed>, AllocError>
+) -> Result<Option<FixedLiteral>, AllocError>
     requires { hashes style + length input.now + 2 < 2 ^ 64 }
     ensures some { IfOk result (λ o. IfSome o (λ f. IsFixed (seen_mode mode) input.now style
         snippet.now appended_newline (seen_fixed f))) }
-    ensures none { IfOk result (λ o. IfNone o ((f : FixedLiteral)
+    ensures none { IfOk result (λ o. IfNone o ((f : FixedValue)
         → IsFixed (seen_mode mode) input.now style snippet.now appended_newline f → ⊥)) }
     ensures foreign { (IsSource (chars input.now) style (chars snippet.now) appended_newline → ⊥)
         → IsOk result }
 {
-    let Some(first) = round(alloc, input, style, snippet, appended_newline, mode)? else {
+    let Some(first_literal) = round(alloc, input, style, snippet, appended_newline, mode)? else {
         return Ok(None);
     };
     let old = faults_of(alloc, input, mode)?;
@@ -175,19 +176,19 @@ pub fn fix(
         literal: None,
         calls: old.calls,
     };
-    let mut reached = Some(first);
+    let mut next_literal = Some(first_literal);
     let mut rounds = 0;
     while rounds < MOST_ROUNDS {
-        let Some(fixed) = reached else {
+        let Some(literal) = next_literal else {
             return Ok(best.literal);
         };
-        let calls = count_left(alloc, old.list.as_slice(), fixed.text.as_str(), mode)?;
+        let calls = count_left(alloc, old.list.as_slice(), literal.text.as_str(), mode)?;
         if let Some(0) = calls {
-            offer(&mut best, fixed, calls);
+            offer(&mut best, literal, calls);
             return Ok(best.literal);
         }
-        reached = next_round(alloc, &fixed, style, appended_newline, mode)?;
-        offer(&mut best, fixed, calls);
+        next_literal = next_round(alloc, &literal, style, appended_newline, mode)?;
+        offer(&mut best, literal, calls);
         rounds += 1;
     }
     Ok(best.literal)

@@ -7,12 +7,12 @@ use crate::rules::Rule;
 use std::alloc::AllocError;
 
 /// Appends a line that says which example follows, and the example.
-fn put_example(out: &mut String, says: &str, example: &str) -> Result<(), AllocError>
+fn put_example(out: &mut String, heading: &str, example: &str) -> Result<(), AllocError>
     ensures { OnOk result (string_bytes out.new
-        ≡ string_bytes out.old ++ example_text says.now example.now) }
+        ≡ string_bytes out.old ++ example_text heading.now example.now) }
 {
     out.push_str("\n")?;
-    out.push_str(says)?;
+    out.push_str(heading)?;
     out.push_str(":\n\n    ")?;
     out.push_str(example)?;
     out.push_str("\n")?;

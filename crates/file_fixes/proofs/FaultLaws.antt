@@ -12,7 +12,8 @@ use Rattle.source_report.specs.declared.report.Finding.{Finding}
 use Rattle.source_report.specs.declared.report.Report.{Report}
 use Rattle.source_report.specs.Suggestions.{edits_of, end_after, is_mended, mended}
 use Rattle.file_fixes.specs.FaultSearch.{are_found, is_alike}
-use Rattle.file_fixes.specs.FileFixes.{FaultName, FaultsStay, IsNoWorse, fault_name, unmended}
+use Rattle.file_fixes.specs.FileFixes.{FaultName, FaultsStay, IsNoWorse, fault_name}
+use Rattle.file_fixes.specs.FileFixes.{unmended_findings}
 
 -- Two faults have the same name exactly if the test finds it.
 alike-Decides : (x y : Finding) → Decides (is_alike x y) (fault_name x ≡ fault_name y)
@@ -97,30 +98,32 @@ merged-length xs ys (z ∷ zs) h = elim h [
 
 -- Each fault is mended or not.
 either-way : (at : ℕ) (xs : List Finding)
-    → length (mended at xs) + length (unmended at xs) ≡ length xs
+    → length (mended at xs) + length (unmended_findings at xs) ≡ length xs
 either-way at [] = refl
 either-way at (x ∷ xs) = one (is_mended at x) (either-way (end_after at (edits_of x)) xs)
     (either-way at xs)
   where
     one : (b : Bool)
         → length (mended (end_after at (edits_of x)) xs)
-        + length (unmended (end_after at (edits_of x)) xs) ≡ length xs
-        → length (mended at xs) + length (unmended at xs) ≡ length xs
+        + length (unmended_findings (end_after at (edits_of x)) xs) ≡ length xs
+        → length (mended at xs) + length (unmended_findings at xs) ≡ length xs
         → length (if b then x ∷ mended (end_after at (edits_of x)) xs else mended at xs)
-        + length (if b then unmended (end_after at (edits_of x)) xs else x ∷ unmended at xs)
+        + length (if b then unmended_findings (end_after at (edits_of x)) xs else x
+        ∷ unmended_findings at xs)
         ≡ length (x ∷ xs)
     one true h k = omega (arith, h)
     one false h k = omega (arith, k)
 
 -- So where there are no more faults than before, the search decides whether the faults stay.
 stay-found : (xs ys : List Finding) → length ys ≤ length xs
-    → are_found (unmended 0 xs) ys ≡ true → FaultsStay xs ys
+    → are_found (unmended_findings 0 xs) ys ≡ true → FaultsStay xs ys
 stay-found xs ys few h =
-    let found = others-of (unmended 0 xs) ys h in
+    let found = others-of (unmended_findings 0 xs) ys h in
     let whole = either-way 0 xs in
-    let parts = merged-length (map fault_name (unmended 0 xs)) found.0 (map fault_name ys) found.1
+    let parts = merged-length (map fault_name (unmended_findings 0 xs)) found.0 (map fault_name ys)
+    found.1
     in
-    let olds = length-map (unmended 0 xs) fault_name in
+    let olds = length-map (unmended_findings 0 xs) fault_name in
     let news = length-map ys fault_name in
     record {
       others = found.0;
@@ -129,20 +132,21 @@ stay-found xs ys few h =
     }
 
 found-stay : (xs ys : List Finding) → FaultsStay xs ys
-    → (length ys ≤ length xs) × (are_found (unmended 0 xs) ys ≡ true)
+    → (length ys ≤ length xs) × (are_found (unmended_findings 0 xs) ys ≡ true)
 found-stay xs ys s =
     let whole = either-way 0 xs in
     let parts =
-    merged-length (map fault_name (unmended 0 xs)) s.others (map fault_name ys) s.are_all in
-    let olds = length-map (unmended 0 xs) fault_name in
+    merged-length (map fault_name (unmended_findings 0 xs)) s.others (map fault_name ys) s.are_all
+    in
+    let olds = length-map (unmended_findings 0 xs) fault_name in
     let news = length-map ys fault_name in
     let few = s.few in (
       omega (arith, few, whole, parts, olds, news),
-      found-among (unmended 0 xs) ys s.others s.are_all,
+      found-among (unmended_findings 0 xs) ys s.others s.are_all,
     )
 
 pub decides : (r q : Report) (b : Bool) → IsNoWorse r q
-    → b ≡ are_found (unmended 0 r.findings.items) q.findings.items
+    → b ≡ are_found (unmended_findings 0 r.findings.items) q.findings.items
     → IsTrue b ↔ IsNoWorse r q × FaultsStay r.findings.items q.findings.items
 decides r q b w e = (
   λ h. (w, stay-found r.findings.items q.findings.items w.findings (sym e ∙ h)),

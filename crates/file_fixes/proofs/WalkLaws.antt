@@ -11,9 +11,9 @@ use Rattle.rust_tokens.specs.Tokens.{Lexeme}
 use Rattle.rust_tokens.specs.declared.kinds.Token.{Token}
 use Rattle.source_report.specs.Suggestions.{are_after}
 use Rattle.file_fixes.specs.declared.outside.EditedPart.{EditedPart}
-use Rattle.file_fixes.specs.Outside.{is_apart, moved_up, new_ranges, old_ranges}
-use Rattle.file_fixes.specs.Outside.{outside, width_before}
-use Rattle.file_fixes.specs.Walk.{Ahead, ahead_of, from_start, is_before, new_parts, old_parts}
+use Rattle.file_fixes.specs.Outside.{is_apart, moved_token, new_ranges, old_ranges}
+use Rattle.file_fixes.specs.Outside.{untouched_tokens, width_before}
+use Rattle.file_fixes.specs.Walk.{Ahead, place_after, from_start, is_before, new_parts, old_parts}
 use Rattle.file_fixes.specs.Walk.{walk}
 
 -- The ranges of parts, where the last part before them ends at `end`.
@@ -72,7 +72,7 @@ passed at end width p ps rs e h =
 -- and after all that do.
 further : (at end width : ℕ) (ps : List EditedPart) (rs : List (Range ℕ))
     → SaysAll at (record { end = end; width = width; parts = ps }) rs
-    → SaysAll at (ahead_of at end width ps) rs
+    → SaysAll at (place_after at end width ps) rs
 further at end width [] rs h = h
 further at end width (p ∷ ps) rs h =
     cond_both {A = Ahead} (nat_le (end + p.gap + p.width) at) _ _ (λ a. SaysAll at a rs)
@@ -82,7 +82,7 @@ further at end width (p ∷ ps) rs h =
 -- The first part that is ahead at the start of a token decides whether the token is apart from all
 -- that are ahead, and none of these ends by there.
 first-decides : (t : Token) (end width : ℕ) (ps : List EditedPart)
-    → let b = ahead_of t.span.start end width ps in
+    → let b = place_after t.span.start end width ps in
     is_before t.span.end b.end b.parts ≡ list_all (is_apart t) (ranges_of b.end b.parts)
 first-decides t end width [] = refl
 first-decides t end width (p ∷ ps) =
@@ -97,7 +97,7 @@ first-decides t end width (p ∷ ps) =
     first false c d e h = rw e refl
 
 no-width : (at end width : ℕ) (ps : List EditedPart)
-    → let b = ahead_of at end width ps in width_before at (ranges_of b.end b.parts) ≡ 0
+    → let b = place_after at end width ps in width_before at (ranges_of b.end b.parts) ≡ 0
 no-width at end width [] = refl
 no-width at end width (p ∷ ps) =
     cond_both {A = Ahead} (nat_le (end + p.gap + p.width) at) _ _
@@ -118,7 +118,7 @@ one-more f p x xs y ys false e g h = rw (sym e, h) refl
 
 -- The walk finds the tokens that are apart from each range,
 walk-finds : (at : ℕ) (a : Ahead) (rs : List (Range ℕ)) (ts : List Token) → StartFrom at ts
-    → SaysAll at a rs → walk a ts ≡ outside rs ts
+    → SaysAll at a rs → walk a ts ≡ untouched_tokens rs ts
 walk-finds at a rs [] s h = refl
 walk-finds at a rs (t ∷ ts) s h =
     let later : SaysAll t.span.start a rs = record {
@@ -126,14 +126,15 @@ walk-finds at a rs (t ∷ ts) s h =
       width = λ n k. h.width n (omega (arith, s.0, k));
     } in
     let k = further t.span.start a.end a.width a.parts rs later in
-    let b = ahead_of t.span.start a.end a.width a.parts in
+    let b = place_after t.span.start a.end a.width a.parts in
     let width : b.width ≡ width_before t.span.start rs =
     let none = no-width t.span.start a.end a.width a.parts in
     let all = k.width t.span.start (omega arith) in omega (arith, none, all) in
-    one-more (λ u. moved_up (width_before u.span.start rs) u) (λ u. list_all (is_apart u) rs) t ts
-    (moved_up b.width t) (walk b ts) _
+    one-more (λ u. moved_token (width_before u.span.start rs) u) (λ u. list_all (is_apart u) rs) t
+    ts
+    (moved_token b.width t) (walk b ts) _
     (first-decides t a.end a.width a.parts ∙ sym (k.apart t (omega arith)))
-    (ap (λ n. moved_up n t) width) (walk-finds t.span.start b rs ts s.1 k)
+    (ap (λ n. moved_token n t) width) (walk-finds t.span.start b rs ts s.1 k)
 
 -- of all tokens of a text.
 start-placed : (at : ℕ) (xs : List Lexeme) → StartFrom at (placed at xs)
@@ -182,16 +183,18 @@ ranges-new at to (e ∷ es) = ap (λ rs. record {
 
 -- So the walk decides whether the tokens stay that no edit touches.
 pub walk-outside : (ps : List EditedPart) (xs : List Lexeme)
-    → walk (from_start ps) (placed 0 xs) ≡ outside (ranges_of 0 ps) (placed 0 xs)
+    → walk (from_start ps) (placed 0 xs) ≡ untouched_tokens (ranges_of 0 ps) (placed 0 xs)
 walk-outside ps xs = walk-finds 0 (from_start ps) (ranges_of 0 ps) (placed 0 xs)
     (start-placed 0 xs) (record { apart = λ t k. refl; width = λ n k. omega arith })
 
 pub walk-old : (es : List Edit) (xs : List Lexeme) → are_after 0 es ≡ true
-    → walk (from_start (old_parts 0 es)) (placed 0 xs) ≡ outside (old_ranges es) (placed 0 xs)
+    → walk (from_start (old_parts 0 es)) (placed 0 xs)
+    ≡ untouched_tokens (old_ranges es) (placed 0 xs)
 walk-old es xs h = walk-outside (old_parts 0 es) xs
-    ∙ ap (λ rs. outside rs (placed 0 xs)) (ranges-old 0 es h)
+    ∙ ap (λ rs. untouched_tokens rs (placed 0 xs)) (ranges-old 0 es h)
 
 pub walk-new : (es : List Edit) (xs : List Lexeme)
-    → walk (from_start (new_parts 0 es)) (placed 0 xs) ≡ outside (new_ranges 0 0 es) (placed 0 xs)
+    → walk (from_start (new_parts 0 es)) (placed 0 xs)
+    ≡ untouched_tokens (new_ranges 0 0 es) (placed 0 xs)
 walk-new es xs = walk-outside (new_parts 0 es) xs
-    ∙ ap (λ rs. outside rs (placed 0 xs)) (ranges-new 0 0 es)
+    ∙ ap (λ rs. untouched_tokens rs (placed 0 xs)) (ranges-new 0 0 es)

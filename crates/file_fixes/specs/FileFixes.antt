@@ -3,7 +3,7 @@ use Rattle.std.specs.Prelude.{◌≡◌, ◌⊎◌, ◌++◌, ◌∷◌, ◌≤�
 use Rattle.std.specs.Prelude.{None, IsUtf8, chars, if◌then◌else◌, length, map, string_bytes}
 use Rattle.std.specs.declared.alloc.Global.{Global}
 use Rattle.std.specs.declared.string.String.{String}
-use Rattle.fault_fixes.specs.Edits.{Edit, applied}
+use Rattle.fault_fixes.specs.Edits.{Edit, edited_bytes}
 use Rattle.fault_fixes.specs.Losing.{IsMerged}
 use Rattle.rust_tokens.specs.Files.{ReadsFile}
 use Rattle.rust_tokens.specs.Placed.{placed}
@@ -37,17 +37,18 @@ fault_name x = record { id = x.id.now; title = string_bytes x.title }
 
 -- Of these faults, one after the other, those that are not mended in a round, where the last edit
 -- before them ends at the byte offset `at`: all but those of `mended`.
-abbrev pub unmended : ℕ → List Finding → List Finding
-unmended at [] = []
-unmended at (x ∷ xs) = if is_mended at x then unmended (end_after at (edits_of x)) xs
-    else x ∷ unmended at xs
+abbrev pub unmended_findings : ℕ → List Finding → List Finding
+unmended_findings at [] = []
+unmended_findings at (x
+    ∷ xs) = if is_mended at x then unmended_findings (end_after at (edits_of x)) xs
+    else x ∷ unmended_findings at xs
 
 -- The faults xs become the faults ys in a round: those that are not mended stay, in their order,
 -- and at most as many others come as are mended. The compiler shows only the first fault of a
 -- format string, so mending it can uncover another.
 pub record FaultsStay (xs ys : List Finding) : Type 0 where
   pub others : List FaultName
-  pub are_all : IsMerged (map fault_name (unmended 0 xs)) others (map fault_name ys)
+  pub are_all : IsMerged (map fault_name (unmended_findings 0 xs)) others (map fault_name ys)
   pub few : length others ≤ length (mended 0 xs)
 
 -- The edits of the faults of the report r that are mended in one round.
@@ -56,7 +57,7 @@ round_edits r = all_edits (mended 0 r.findings.items)
 
 -- The bytes bs with these edits.
 abbrev pub mended_bytes : List ℕ → Report → List ℕ
-mended_bytes bs r = applied 0 (round_edits r) bs
+mended_bytes bs r = edited_bytes 0 (round_edits r) bs
 
 -- The file with the bytes bs reads as the tokens xs, and the one with the bytes cs as ys.
 abbrev pub AreTokens : List ℕ → List ℕ → List Lexeme → List Lexeme → Type 0

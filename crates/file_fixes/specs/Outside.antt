@@ -29,8 +29,8 @@ width_before at (r ∷ rs) = if nat_le r.end at then (r.end - r.start) + width_b
     else width_before at rs
 
 -- A token, moved n bytes towards the start of the text.
-abbrev pub moved_up : ℕ → Token → Token
-moved_up n t = record {
+abbrev pub moved_token : ℕ → Token → Token
+moved_token n t = record {
   kind = t.kind;
   span = record { start = t.span.start - n; end = t.span.end - n };
   suffix_start = t.suffix_start - n;
@@ -39,11 +39,11 @@ moved_up n t = record {
 
 -- Those of the tokens of a text that are apart from each of these ranges, at the places that they
 -- have in the text without the ranges.
-abbrev pub outside : List (Range ℕ) → List Token → List Token
-outside rs ts = map (λ t. moved_up (width_before t.span.start rs) t)
+abbrev pub untouched_tokens : List (Range ℕ) → List Token → List Token
+untouched_tokens rs ts = map (λ t. moved_token (width_before t.span.start rs) t)
     (filter (λ t. list_all (is_apart t) rs) ts)
 
 -- The tokens that no edit touches are the same in a text and in the text with the edits, at the
 -- same places but for what the edits remove and add. White space and comments are tokens too.
 abbrev pub KeepsTokens : List Edit → List Token → List Token → Type 0
-KeepsTokens es ts us = outside (old_ranges es) ts ≡ outside (new_ranges 0 0 es) us
+KeepsTokens es ts us = untouched_tokens (old_ranges es) ts ≡ untouched_tokens (new_ranges 0 0 es) us

@@ -6,7 +6,7 @@ use Rattle.fault_fixes.specs.Edits.{Edit}
 use Rattle.rust_tokens.specs.declared.kinds.Token.{Token}
 use Rattle.file_fixes.specs.declared.outside.EditedPart.{EditedPart}
 use Rattle.file_fixes.specs.declared.outside.PartsAhead.{PartsAhead}
-use Rattle.file_fixes.specs.Outside.{moved_up}
+use Rattle.file_fixes.specs.Outside.{moved_token}
 
 -- The parts of a text that edits remove from it. A part has a gap before it, the bytes from the end
 -- of the part before it on, or from the offset `at` on, and a width.
@@ -37,10 +37,10 @@ abbrev pub seen_ahead : List EditedPart → PartsAhead → Ahead
 seen_ahead ps a = record { end = a.end; width = a.width; parts = drop a.index ps }
 
 -- These parts from the first one on that ends after the offset `at`.
-abbrev pub ahead_of : ℕ → ℕ → ℕ → List EditedPart → Ahead
-ahead_of at end width [] = record { end = end; width = width; parts = [] }
-ahead_of at end width (p ∷ ps) = if nat_le (end + p.gap + p.width) at
-    then ahead_of at (end + p.gap + p.width) (width + p.width) ps
+abbrev pub place_after : ℕ → ℕ → ℕ → List EditedPart → Ahead
+place_after at end width [] = record { end = end; width = width; parts = [] }
+place_after at end width (p ∷ ps) = if nat_le (end + p.gap + p.width) at
+    then place_after at (end + p.gap + p.width) (width + p.width) ps
     else record { end = end; width = width; parts = p ∷ ps }
 
 -- No part starts before the offset `at`.
@@ -52,5 +52,5 @@ is_before at end (p ∷ ps) = nat_le at (end + p.gap)
 -- without the parts.
 abbrev pub walk : Ahead → List Token → List Token
 walk a [] = []
-walk a (t ∷ ts) = let b = ahead_of t.span.start a.end a.width a.parts in
-    (if is_before t.span.end b.end b.parts then moved_up b.width t ∷ [] else []) ++ walk b ts
+walk a (t ∷ ts) = let b = place_after t.span.start a.end a.width a.parts in
+    (if is_before t.span.end b.end b.parts then moved_token b.width t ∷ [] else []) ++ walk b ts

@@ -3,7 +3,7 @@
 ghost use Rattle.std.specs.Prelude.{◌≡◌, ◌∷◌, IfOk, IfSome, IsNone, List, drop, false};
 ghost use Rattle.source_report.specs.declared.report.Finding.{Finding as FindingValue};
 ghost use Rattle.file_fixes.specs.FaultSearch.{are_found, is_alike};
-ghost use Rattle.file_fixes.specs.FileFixes.{unmended};
+ghost use Rattle.file_fixes.specs.FileFixes.{unmended_findings};
 
 use crate::round_edits::end_after;
 use source_report::{Finding, are_after, edits_of};
@@ -38,9 +38,9 @@ fn index_after(finding: &Finding, faults: &[Finding], from: usize) -> Option<usi
 /// before these ends at `at`. Returns `Err` if an allocation fails.
 fn mended_end(alloc: Global, at: usize, finding: &Finding) -> Result<Option<usize>, AllocError>
     ensures some { IfOk result (λ o. IfSome o (λ n. (xs : List FindingValue)
-        → unmended at (finding.now ∷ xs) ≡ unmended n xs)) }
+        → unmended_findings at (finding.now ∷ xs) ≡ unmended_findings n xs)) }
     ensures none { IfOk result (λ o. IsNone o → (xs : List FindingValue)
-        → unmended at (finding.now ∷ xs) ≡ finding.now ∷ unmended at xs) }
+        → unmended_findings at (finding.now ∷ xs) ≡ finding.now ∷ unmended_findings at xs) }
 {
     let edits = edits_of(alloc, finding)?;
     if edits.is_empty() || !are_after(at, edits.as_slice()) {
@@ -56,7 +56,7 @@ pub(crate) fn keeps_unmended(
     old: &[Finding],
     new: &[Finding],
 ) -> Result<bool, AllocError>
-    ensures { IfOk result (λ b. b ≡ are_found (unmended 0 old.now) new.now) }
+    ensures { IfOk result (λ b. b ≡ are_found (unmended_findings 0 old.now) new.now) }
 {
     let mut at = 0;
     let mut index = 0;

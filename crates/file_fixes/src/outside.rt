@@ -7,8 +7,8 @@ ghost use Rattle.rust_tokens.specs.Files.{ReadsFile};
 ghost use Rattle.rust_tokens.specs.Placed.{placed};
 ghost use Rattle.rust_tokens.specs.Tokens.{Lexeme};
 ghost use Rattle.source_report.specs.Suggestions.{are_after};
-ghost use Rattle.file_fixes.specs.Outside.{KeepsTokens, moved_up};
-ghost use Rattle.file_fixes.specs.Walk.{ahead_of, from_start, is_before, new_parts, old_parts};
+ghost use Rattle.file_fixes.specs.Outside.{KeepsTokens, moved_token};
+ghost use Rattle.file_fixes.specs.Walk.{place_after, from_start, is_before, new_parts, old_parts};
 ghost use Rattle.file_fixes.specs.Walk.{seen_ahead, walk};
 
 use fault_fixes::Edit;
@@ -76,37 +76,37 @@ fn ends_by(at: usize, end: usize, part: EditedPart) -> bool
 }
 
 /// Returns the place after the place `from` and after all parts that end by the offset `at`.
-fn ahead_of(at: usize, from: PartsAhead, parts: &[EditedPart]) -> PartsAhead
+fn place_after(at: usize, from: PartsAhead, parts: &[EditedPart]) -> PartsAhead
     requires { from.width ≤ from.end }
-    ensures ahead { seen_ahead parts.now result
-        ≡ ahead_of at from.end from.width (drop from.index parts.now) }
+    ensures place { seen_ahead parts.now result
+        ≡ place_after at from.end from.width (drop from.index parts.now) }
     ensures bounded { result.width ≤ result.end }
 {
-    let mut ahead = from;
-    while let Some(part) = parts.get(ahead.index) {
-        if !ends_by(at, ahead.end, *part) {
-            return ahead;
+    let mut place = from;
+    while let Some(part) = parts.get(place.index) {
+        if !ends_by(at, place.end, *part) {
+            return place;
         }
-        ahead.end += part.gap + part.width;
-        ahead.width += part.width;
-        ahead.index += 1;
+        place.end += part.gap + part.width;
+        place.width += part.width;
+        place.index += 1;
     }
-    ahead
+    place
 }
 
 /// Returns whether no part that is ahead starts before the offset `at`.
-fn is_before(at: usize, ahead: PartsAhead, parts: &[EditedPart]) -> bool
-    ensures { result ≡ is_before at ahead.end (drop ahead.index parts.now) }
+fn is_before(at: usize, place: PartsAhead, parts: &[EditedPart]) -> bool
+    ensures { result ≡ is_before at place.end (drop place.index parts.now) }
 {
-    match parts.get(ahead.index) {
-        Some(part) => at.saturating_sub(ahead.end) <= part.gap,
+    match parts.get(place.index) {
+        Some(part) => at.saturating_sub(place.end) <= part.gap,
         None => true,
     }
 }
 
 /// Returns a token, moved n bytes towards the start of the text.
-fn moved_up(n: usize, token: &Token) -> Token
-    ensures { result ≡ moved_up n token.now }
+fn moved_token(n: usize, token: &Token) -> Token
+    ensures { result ≡ moved_token n token.now }
 {
     Token {
         kind: token.kind,
@@ -118,19 +118,23 @@ fn moved_up(n: usize, token: &Token) -> Token
 
 /// Returns those tokens of a text that no part touches, at the places that they have in the text
 /// without the parts. Returns `Err` if an allocation fails.
-fn outside(alloc: Global, parts: &[EditedPart], tokens: &[Token]) -> Result<Vec<Token>, AllocError>
+fn untouched_tokens(
+    alloc: Global,
+    parts: &[EditedPart],
+    tokens: &[Token],
+) -> Result<Vec<Token>, AllocError>
     ensures { IfOk result (λ v. v.items ≡ walk (from_start parts.now) tokens.now) }
 {
     let mut others = Vec::new(alloc);
-    let mut ahead = PartsAhead {
+    let mut place = PartsAhead {
         end: 0,
         width: 0,
         index: 0,
     };
     for token in tokens {
-        ahead = ahead_of(token.span.start, ahead, parts);
-        if is_before(token.span.end, ahead, parts) {
-            others.push(moved_up(ahead.width, token))?;
+        place = place_after(token.span.start, place, parts);
+        if is_before(token.span.end, place, parts) {
+            others.push(moved_token(place.width, token))?;
         }
     }
     Ok(others)
@@ -158,12 +162,12 @@ pub(crate) fn keeps_tokens(
 {
     let old_tokens = tokens(alloc, old)?;
     let new_tokens = tokens(alloc, new)?;
-    let old_others = outside(
+    let old_others = untouched_tokens(
         alloc,
         old_parts(alloc, edits)?.as_slice(),
         old_tokens.as_slice(),
     )?;
-    let new_others = outside(
+    let new_others = untouched_tokens(
         alloc,
         new_parts(alloc, edits)?.as_slice(),
         new_tokens.as_slice(),

@@ -80,50 +80,50 @@ fn keeps_others(alloc: Global, old: &str, report: &Report, new: &str) -> Result<
 fn next_round(
     alloc: Global,
     text: &str,
-    fixed: &FileFixes,
+    file_fixes: &FileFixes,
     options: &Options<'_>,
 ) -> Result<Option<Round>, AllocError>
     ensures round { IfOk result (λ o. IfSome o (λ x. IsRound
         (map entry options.now.table.rows.items) options.now.is_from_2021
-        (bytes_or fixed.now.text text.now) fixed.now.report (string_bytes x.text) x.report
+        (bytes_or file_fixes.now.text text.now) file_fixes.now.report (string_bytes x.text) x.report
         (map (λ w. w.now) x.ids.items))) }
     ensures last { IfOk result (λ o. IsNone o → IsLast (map entry options.now.table.rows.items)
-        options.now.is_from_2021 (bytes_or fixed.now.text text.now) fixed.now.report) }
+        options.now.is_from_2021 (bytes_or file_fixes.now.text text.now) file_fixes.now.report) }
     ensures spans { IfOk result (λ o. IfSome o (λ x. All (HasSpans (string_bytes x.text))
         x.report.findings.items)) }
 {
-    let source = match &fixed.text {
+    let source = match &file_fixes.text {
         None => text,
-        Some(fixed) => fixed.as_str(),
+        Some(fixed_text) => fixed_text.as_str(),
     };
-    let edited = mend_each(alloc, source, fixed.report.findings.as_slice())?;
-    if edited.ids.is_empty() {
+    let edited_text = mend_each(alloc, source, file_fixes.report.findings.as_slice())?;
+    if edited_text.ids.is_empty() {
         return Ok(None);
     }
-    let Some(text) = String::from_utf8(edited.bytes).ok() else {
+    let Some(text) = String::from_utf8(edited_text.bytes).ok() else {
         return Ok(None);
     };
     let report = file_faults(alloc, text.as_str(), options)?;
-    if !keeps_faults(alloc, &fixed.report, &report)? {
+    if !keeps_faults(alloc, &file_fixes.report, &report)? {
         return Ok(None);
     }
-    if !keeps_others(alloc, source, &fixed.report, text.as_str())? {
+    if !keeps_others(alloc, source, &file_fixes.report, text.as_str())? {
         return Ok(None);
     }
     Ok(Some(Round {
         text,
-        ids: edited.ids,
+        ids: edited_text.ids,
         report,
     }))
 }
 
 /// Returns fixes with those of one more round. Returns `Err` if an allocation fails.
-fn with_round(fixed: FileFixes, round: Round) -> Result<FileFixes, AllocError>
+fn with_round(file_fixes: FileFixes, round: Round) -> Result<FileFixes, AllocError>
     ensures text { IfOk result (λ x. x.text ≡ Some round.text) }
-    ensures ids { IfOk result (λ x. x.ids.items ≡ fixed.ids.items ++ round.ids.items) }
+    ensures ids { IfOk result (λ x. x.ids.items ≡ file_fixes.ids.items ++ round.ids.items) }
     ensures report { IfOk result (λ x. x.report ≡ round.report) }
 {
-    let mut ids = fixed.ids;
+    let mut ids = file_fixes.ids;
     ids.extend_from_slice(round.ids.as_slice())?;
     Ok(FileFixes {
         text: Some(round.text),
@@ -152,18 +152,18 @@ pub fn fixes(alloc: Global, text: &str, options: &Options<'_>) -> Result<FileFix
     ensures spans { IfOk result (λ x. All (HasSpans (bytes_or x.text text.now))
         x.report.findings.items) }
 {
-    let mut fixed = FileFixes {
+    let mut file_fixes = FileFixes {
         text: None,
         ids: Vec::new(alloc),
         report: file_faults(alloc, text, options)?,
     };
     let mut rounds = 0;
     while rounds < MOST_ROUNDS {
-        let Some(round) = next_round(alloc, text, &fixed, options)? else {
-            return Ok(fixed);
+        let Some(round) = next_round(alloc, text, &file_fixes, options)? else {
+            return Ok(file_fixes);
         };
-        fixed = with_round(fixed, round)?;
+        file_fixes = with_round(file_fixes, round)?;
         rounds += 1;
     }
-    Ok(fixed)
+    Ok(file_fixes)
 }

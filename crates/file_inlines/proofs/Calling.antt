@@ -9,7 +9,7 @@ use Rattle.format_calls.specs.declared.listing.Call.{Call}
 use Rattle.format_calls.specs.declared.split.Argument.{Argument}
 use Rattle.format_calls.specs.declared.table.Rule.{Rule}
 use Rattle.asm_lint.specs.Literals.{appends_newline}
-use Rattle.source_lint.specs.Readings.{captures, index_or}
+use Rattle.source_lint.specs.Readings.{captures_variables, index_or}
 use Rattle.source_report.specs.declared.report.CallReading.{CallReading}
 use Rattle.inlined_arguments.specs.Conditions.{Call as FormatCall}
 use Rattle.inlined_arguments.specs.Edits.{Edit}
@@ -35,14 +35,15 @@ inlines-by is_new mixed rule w v bs ys xs x args others p q r es e f g h k =
 pub call-same : (is_new : Bool) (rule : Rule) (w bs : List ℕ) (xs : List Leaf) (lines t text : Text)
     (literal : List ℕ) (style : Option ℕ) (args : List Argument) (counted a c alone const : Bool)
     (fs : List FormatArgument) → text ≡ t ++ newline a → literal ≡ encode_utf8_all lines
-    → a ≡ appends_newline w → c ≡ captures is_new rule w → fs ≡ map (with_source bs xs) args
+    → a ≡ appends_newline w → c ≡ captures_variables is_new rule w → fs
+    ≡ map (with_source bs xs) args
     → alone ≡ is_format_alone is_new rule w → const ≡ has_const_form rule
     → ◌≡◌ {A = FormatCall} (record {
       text = text;
       style = style;
       literal = Some literal;
       appended_newline = a;
-      captures = c;
+      captures_variables = c;
       arguments = fs;
       is_counted = counted;
       is_format_alone = alone;

@@ -21,23 +21,24 @@ use Rattle.source_report.specs.declared.report.CallReading.TheVariants.{NoComma,
 use Rattle.source_report.specs.declared.report.CallReading.TheVariants.{RedefinedMacro, StringAlone}
 use Rattle.source_report.specs.declared.report.CallReading.TheVariants.{Unread as CannotRead, Whole}
 use Rattle.asm_lint.specs.Literals.{appends_newline, without_crs}
-use Rattle.source_lint.specs.Readings.{Scope, arguments_before, captures, ends_early, index_or}
+use Rattle.source_lint.specs.Readings.{Scope, arguments_before, captures_variables, ends_early}
+use Rattle.source_lint.specs.Readings.{index_or}
 use Rattle.source_lint.specs.Readings.{name_at, skipped}
 use Rattle.inlined_arguments.specs.Conditions.{Call as FormatCall}
-use Rattle.inlined_arguments.specs.Edits.{AreApart, Edit, edited}
+use Rattle.inlined_arguments.specs.Edits.{AreApart, Edit, edited_text}
 use Rattle.inlined_arguments.specs.Inlining.{InlinedCall, IsInlined, IsUnchanged}
 use Rattle.file_inlines.specs.declared.calls.CallInlining.{CallInlining}
 use Rattle.file_inlines.specs.declared.calls.CallInlining.TheVariants.{Inlined as IsIn}
 use Rattle.file_inlines.specs.declared.calls.CallInlining.TheVariants.{Assembly, Unchanged, Unread}
-use Rattle.file_inlines.specs.Sources.{removed, with_source}
+use Rattle.file_inlines.specs.Sources.{removed_place, with_source}
 
 -- An edit n bytes further on.
-abbrev pub moved : ℕ → Edit → Edit
-moved n e = record { span = (n + e.span.0, n + e.span.1); text = e.text }
+abbrev pub moved_edit : ℕ → Edit → Edit
+moved_edit n e = record { span = (n + e.span.0, n + e.span.1); text = e.text }
 
 -- The edit that removes an argument with its source.
 abbrev pub removal : List ℕ → List Leaf → Argument → Edit
-removal bs xs a = record { span = removed bs xs a; text = [] }
+removal bs xs a = record { span = removed_place bs xs a; text = [] }
 
 -- The edits of a literal in its file: edits of the token with the new texts of r, with which it is
 -- the literal of r, up to the CR before each LF.
@@ -45,8 +46,8 @@ pub record AreLiteralEdits (literal : Leaf) (r : InlinedCall) (es : List Edit) :
   pub inside : List Edit
   pub texts : map (λ e. e.text) inside ≡ map (λ e. e.text) r.edits
   pub are_apart : AreApart 0 inside (length literal.text)
-  pub is_new : without_crs (chars (edited 0 inside literal.text)) ≡ chars r.literal
-  pub edits : es ≡ map (moved literal.start) inside
+  pub is_new : without_crs (chars (edited_text 0 inside literal.text)) ≡ chars r.literal
+  pub edits : es ≡ map (moved_edit literal.start) inside
 
 -- The edits of a call in a file with the bytes bs: those of its literal, and the removal of each
 -- argument that goes.
@@ -99,7 +100,7 @@ call_of is_new rule w bs xs literal style t args counted = record {
   style = style;
   literal = Some (encode_utf8_all literal);
   appended_newline = appends_newline w;
-  captures = captures is_new rule w;
+  captures_variables = captures_variables is_new rule w;
   arguments = map (with_source bs xs) args;
   is_counted = counted;
   is_format_alone = is_format_alone is_new rule w;

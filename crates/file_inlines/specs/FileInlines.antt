@@ -10,7 +10,7 @@ use Rattle.source_lint.specs.Macros.{macro_names}
 use Rattle.source_lint.specs.Reports.{IsReport}
 use Rattle.source_report.specs.declared.report.Report.{Report}
 use Rattle.file_fixes.specs.FileFixes.{IsNoWorse, bytes_or}
-use Rattle.inlined_arguments.specs.Edits.{AreApart, Edit, MakeNoText, edited}
+use Rattle.inlined_arguments.specs.Edits.{AreApart, Edit, MakeNoText, edited_text}
 use Rattle.file_inlines.specs.CallInlines.{Inlines}
 use Rattle.file_inlines.specs.declared.calls.CallInlining.{CallInlining}
 use Rattle.file_inlines.specs.declared.file.FileInlines.{FileInlines}
@@ -25,7 +25,7 @@ pub record IsEdited (bs : List ℕ) (es : List Edit) (cs : List ℕ) : Type 0 wh
   pub in_order : List Edit
   pub are_sorted : AreSorted es in_order
   pub are_apart : AreApart 0 in_order (length bs)
-  pub text : cs ≡ edited 0 in_order bs
+  pub text : cs ≡ edited_text 0 in_order bs
 
 -- There is no edit, or with the edits the bytes bs are no text.
 abbrev pub GiveNoText : List ℕ → List Edit → Type 0

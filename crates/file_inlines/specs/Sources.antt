@@ -17,8 +17,8 @@ abbrev pub end_at : List ℕ → List Leaf → ℕ → ℕ
 end_at bs xs i = end_of bs (slice_get xs i)
 
 -- The bytes that go with an argument: from the end of the token before its comma to its own end.
-abbrev pub removed : List ℕ → List Leaf → Argument → Place
-removed bs xs a = (end_at bs xs (a.start - 2), end_at bs xs (a.end - 1))
+abbrev pub removed_place : List ℕ → List Leaf → Argument → Place
+removed_place bs xs a = (end_at bs xs (a.start - 2), end_at bs xs (a.end - 1))
 
 abbrev pub word_text : Leaf → Option (List ℕ)
 word_text x = if is_word x then Some x.text else None
@@ -37,5 +37,5 @@ abbrev pub with_source : List ℕ → List Leaf → Argument → FormatArgument
 with_source bs xs a = record {
   name = name_of xs a;
   word = word_of xs a;
-  source = bytes_in bs (removed bs xs a);
+  source = bytes_in bs (removed_place bs xs a);
 }

@@ -27,7 +27,8 @@ use format_calls::{Argument, Call, Part, Rule, arguments, extent_of, is_standard
 use inlined_arguments::{Call as FormatCall, Edit, Obstacle, inline_arguments};
 use rust_trees::Token;
 use source_lint::{
-    File, argument_at, arguments_before, captures, ends_early, index_or, name_at, other_macro,
+    File, argument_at, arguments_before, captures_variables, ends_early, index_or, name_at,
+    other_macro,
 };
 use source_report::CallReading;
 use std::alloc::{AllocError, Global};
@@ -86,7 +87,7 @@ fn has_const_form(rule: Rule) -> bool
 
 /// A call whose format string was found.
 #[derive(Clone, Copy)]
-struct Found<'s, 'a> {
+struct LiteralSite<'s, 'a> {
     /// The text of the file.
     text: &'a str,
     /// The tokens of the file.
@@ -99,9 +100,9 @@ struct Found<'s, 'a> {
 
 /// Returns what inlining makes of this call, which `site` is in its file. Returns `Err` if an
 /// allocation fails.
-fn inlined_as(
+fn inline_format_call(
     alloc: Global,
-    site: Found<'_, '_>,
+    site: LiteralSite<'_, '_>,
     call: FormatCall<'_>,
     allows_mixed: bool,
 ) -> Result<InlinedCall, AllocError>
@@ -144,9 +145,9 @@ fn unchanged_call(alloc: Global, reason: CallInlining) -> InlinedCall
 
 /// Returns what inlining makes of a call of a macro with this rule and this name, whose arguments
 /// are all or not. Returns `Err` if an allocation fails.
-fn inline_found(
+fn inline_site(
     alloc: Global,
-    site: Found<'_, '_>,
+    site: LiteralSite<'_, '_>,
     rule: Rule,
     name: &[u8],
     is_counted: bool,
@@ -170,7 +171,7 @@ fn inline_found(
         style: literal.style,
         snippet: Some(snippet),
         appended_newline,
-        captures: captures(rule, name, is_from_2021),
+        captures_variables: captures_variables(rule, name, is_from_2021),
     };
     let call = FormatCall {
         string,
@@ -179,7 +180,7 @@ fn inline_found(
         is_format_alone: is_format_alone(rule, name, is_from_2021),
         has_const_form: has_const_form(rule),
     };
-    let inlined_call = inlined_as(alloc, site, call, allows_mixed)?;
+    let inlined_call = inline_format_call(alloc, site, call, allows_mixed)?;
     Ok(inlined_call)
 }
 
@@ -201,13 +202,13 @@ fn inline_at(
     ensures { IfOk result (λ x. InlinesAt file.entry.is_from_2021 allows_mixed file.entry.text.now
         part.now call.now arguments.now index x.inlining (map seen_edit x.edits.items)) }
 {
-    let unread = CallInlining::Unread(CallReading::Malformed);
+    let unread_call = CallInlining::Unread(CallReading::Malformed);
     let Some(string) = argument_at(arguments, index) else {
-        return Ok(unchanged_call(alloc, unread));
+        return Ok(unchanged_call(alloc, unread_call));
     };
     let tokens = part.tokens();
     let Some(literal) = token_at(tokens, string.start) else {
-        return Ok(unchanged_call(alloc, unread));
+        return Ok(unchanged_call(alloc, unread_call));
     };
     let extent = extent_of(
         part.source(),
@@ -216,14 +217,14 @@ fn inline_at(
         string.start + 1,
         call.close,
     );
-    let before = arguments_before(alloc, &arguments[index + 1..], extent.end)?;
-    let site = Found {
+    let kept_arguments = arguments_before(alloc, &arguments[index + 1..], extent.end)?;
+    let site = LiteralSite {
         text: file.text,
         tokens,
         literal,
-        arguments: &before,
+        arguments: &kept_arguments,
     };
-    let inlined_call = inline_found(
+    let inlined_call = inline_site(
         alloc,
         site,
         call.rule,

@@ -6,7 +6,7 @@ ghost use Rattle.std.specs.List.{filter_map};
 ghost use Rattle.rust_trees.specs.Leaves.{leaf};
 ghost use Rattle.asm_lint.specs.Literals.{without_crs};
 ghost use Rattle.inlined_arguments.specs.Seen.{seen_edit, seen_inlined};
-ghost use Rattle.file_inlines.specs.CallInlines.{AreEdits, AreLiteralEdits, moved, removal};
+ghost use Rattle.file_inlines.specs.CallInlines.{AreEdits, AreLiteralEdits, moved_edit, removal};
 
 use crate::sources::removal_range;
 use asm_lint::{dropped_crs, offset_in, without_crs};
@@ -18,7 +18,7 @@ use std::alloc::{AllocError, Global};
 
 /// Returns the edits of a literal with lines that end with LF as edits of its token, which has
 /// these CRs more. Returns `Err` if an allocation fails.
-fn in_token(alloc: Global, crs: &[usize], edits: &[Edit]) -> Result<Vec<Edit>, AllocError>
+fn token_edits(alloc: Global, crs: &[usize], edits: &[Edit]) -> Result<Vec<Edit>, AllocError>
     ensures { IfOk result (λ v. map (λ e. e.text) (map seen_edit v.items)
         ≡ map (λ e. e.text) (map seen_edit edits.now)) }
 {
@@ -35,7 +35,8 @@ fn in_token(alloc: Global, crs: &[usize], edits: &[Edit]) -> Result<Vec<Edit>, A
 /// Returns an edit that stands some bytes further on, or `None` if an offset is too large. Returns
 /// `Err` if an allocation fails.
 fn move_edit(alloc: Global, edit: &Edit, offset: usize) -> Result<Option<Edit>, AllocError>
-    ensures { IfOk result (λ o. IfSome o (λ e. seen_edit e ≡ moved offset (seen_edit edit.now))) }
+    ensures { IfOk result (λ o. IfSome o (λ e. seen_edit e
+        ≡ moved_edit offset (seen_edit edit.now))) }
 {
     let (Some(start), Some(end)) = (
         offset.checked_add(edit.span.start),
@@ -53,7 +54,7 @@ fn move_edit(alloc: Global, edit: &Edit, offset: usize) -> Result<Option<Edit>, 
 /// `Err` if an allocation fails.
 fn move_edits(alloc: Global, edits: &[Edit], offset: usize) -> Result<Option<Vec<Edit>>, AllocError>
     ensures { IfOk result (λ o. IfSome o (λ v. map seen_edit v.items
-        ≡ map (moved offset) (map seen_edit edits.now))) }
+        ≡ map (moved_edit offset) (map seen_edit edits.now))) }
 {
     let mut list = Vec::new(alloc);
     for edit in edits {
@@ -110,14 +111,14 @@ fn literal_edits(
         AreLiteralEdits (leaf literal.entry) (seen_inlined inlining.now) (map seen_edit v.items))) }
 {
     let crs = dropped_crs(alloc, literal.text)?;
-    let inside = in_token(alloc, &crs, inlining.edits.as_slice())?;
-    let Some(new) = apply_edits(alloc, literal.text, &inside)? else {
+    let inside_edits = token_edits(alloc, &crs, inlining.edits.as_slice())?;
+    let Some(new) = apply_edits(alloc, literal.text, &inside_edits)? else {
         return Ok(None);
     };
     if !is_literal(alloc, new.as_str(), inlining.literal.as_str())? {
         return Ok(None);
     }
-    move_edits(alloc, inside.as_slice(), literal.start)
+    move_edits(alloc, inside_edits.as_slice(), literal.start)
 }
 
 /// Returns the edits that inline a call, with this token as its literal and these arguments after

@@ -4,7 +4,7 @@ ghost use Rattle.std.specs.Prelude.{◌≡◌, ◌-◌, IfOk, drop, map, option_
 ghost use Rattle.rustc_parse_format.specs.Seen.{pair};
 ghost use Rattle.rust_trees.specs.Leaves.{leaf};
 ghost use Rattle.inlined_arguments.specs.Seen.{seen_argument};
-ghost use Rattle.file_inlines.specs.Sources.{end_at, removed, with_source, word_of};
+ghost use Rattle.file_inlines.specs.Sources.{end_at, removed_place, with_source, word_of};
 
 use asm_lint::name_of;
 use format_calls::{Argument, is_word, token_at};
@@ -26,7 +26,7 @@ fn end_at(text: &str, tokens: &[Token<'_>], index: usize) -> usize
 /// Returns the bytes of a file that go with an argument: from the end of the token before its comma
 /// to its own end.
 pub(crate) fn removal_range(text: &str, tokens: &[Token<'_>], argument: &Argument) -> Range<usize>
-    ensures { pair result ≡ removed text.now (map leaf tokens.now) argument.now }
+    ensures { pair result ≡ removed_place text.now (map leaf tokens.now) argument.now }
 {
     let start = end_at(text, tokens, argument.start.saturating_sub(2));
     let end = end_at(text, tokens, argument.end.saturating_sub(1));

@@ -67,7 +67,7 @@ fn extent(finding: &Finding) -> Range<usize> {
 fn line_start(text: &str, offset: usize) -> usize {
     let (front, _) = text.split_at(text.floor_char_boundary(offset));
     match front.rsplit_once('\n') {
-        Some((before, _)) => before.len() + 1,
+        Some((head, _)) => head.len() + 1,
         None => text.len() - text.strip_prefix('\u{feff}').unwrap_or(text).len(),
     }
 }
@@ -75,11 +75,11 @@ fn line_start(text: &str, offset: usize) -> usize {
 /// Returns the byte offset at which the line of an offset ends, without its line end, or `None` if
 /// that is too far.
 fn line_end(text: &str, offset: usize) -> Option<usize> {
-    let (_, back) = text.split_at(text.floor_char_boundary(offset));
-    let (near, far) = back.split_at(back.floor_char_boundary(MOST + 2));
-    let length = match near.split_once('\n') {
+    let (_, rest) = text.split_at(text.floor_char_boundary(offset));
+    let (window, remainder) = rest.split_at(rest.floor_char_boundary(MOST + 2));
+    let length = match window.split_once('\n') {
         Some((line, _)) => line.strip_suffix('\r').unwrap_or(line).len(),
-        None if far.is_empty() => near.len(),
+        None if remainder.is_empty() => window.len(),
         None => return None,
     };
     Some(offset.saturating_add(length))
@@ -93,12 +93,12 @@ fn excerpt_of<'a>(
 ) -> Result<Option<Excerpt<'a>>, AllocError>
     requires { file.now.places ≡ file.now.text.now }
 {
-    let from = file.text.floor_char_boundary(range.start);
-    let place = file.places.place_of(from);
+    let offset = file.text.floor_char_boundary(range.start);
+    let place = file.places.place_of(offset);
     if range.end.saturating_sub(range.start) > MOST || place.column > MOST {
         return Ok(None);
     }
-    let start = line_start(file.text, from);
+    let start = line_start(file.text, offset);
     let Some(end) = line_end(file.text, range.end) else {
         return Ok(None);
     };

@@ -58,17 +58,17 @@ fn trait_suggestion(id: &str, number: usize) -> Option<LabelSuggestion> {
 /// start of the text.
 fn lines_around(text: &str, start: usize, end: usize) -> &str {
     let (front, _) = text.split_at(text.floor_char_boundary(start));
-    let from = match front.rsplit_once('\n') {
-        Some((before, _)) => before.len() + 1,
+    let line_start = match front.rsplit_once('\n') {
+        Some((head, _)) => head.len() + 1,
         None => text.len() - text.strip_prefix('\u{feff}').unwrap_or(text).len(),
     };
-    let (_, back) = text.split_at(text.floor_char_boundary(end));
-    let to = text.len()
-        - match back.split_once('\n') {
-            Some((line, _)) => back.len() - line.len(),
+    let (_, rest) = text.split_at(text.floor_char_boundary(end));
+    let line_end = text.len()
+        - match rest.split_once('\n') {
+            Some((line, _)) => rest.len() - line.len(),
             None => 0,
         };
-    text.get(from..to).unwrap_or("")
+    text.get(line_start..line_end).unwrap_or("")
 }
 
 /// Returns a range of a file as messages have it, without a label or a suggestion.

@@ -9,7 +9,7 @@ use Rattle.std.proofs.lemmas.List.{length-replicate}
 use Rattle.rustc_parse_format.specs.Faults.{Fault, Message, add_errors, is_front, message}
 use Rattle.rustc_parse_format.specs.World.{faults_in}
 use Rattle.rustc_parse_format.specs.Call.{Call}
-use Rattle.rustc_parse_format.specs.State.{State, after}
+use Rattle.rustc_parse_format.specs.State.{State, state_after}
 use Rattle.flat_reading.specs.Events.{add_finders}
 
 pub length-add_errors : {A : Type 0} (old : List (Message A)) (fs : List (Fault A))
@@ -24,7 +24,7 @@ length-add_errors {A = A} old (f ∷ fs) = by_end (is_front f) (λ ms. length-ad
     by_end true h = omega (arith, h (message f ∷ old))
     by_end false h = omega (arith, h (old ++ message f ∷ []), length-append old (message f ∷ []))
 
-pub length-after : (s : State) (k : Call) → length (after s k).errors
+pub length-after : (s : State) (k : Call) → length (state_after s k).errors
     ≡ length s.errors + length k.faults
 length-after s k = length-add_errors s.errors (faults_in s.world k.faults)
     ∙ ap (λ n. length s.errors + n) (length-map k.faults _)

@@ -9,7 +9,7 @@ use Rattle.rustc_parse_format.specs.State.{State, first_state}
 use Rattle.rustc_parse_format.proofs.Rows.Definitions.{computing}
 use Rattle.flat_reading.specs.Meant.{spec_at, text_at}
 use Rattle.flat_reading.specs.Asked.{refusal}
-use Rattle.flat_reading.specs.Events.{Event, add_finders, events, found_by, fronts_of, is_default}
+use Rattle.flat_reading.specs.Events.{Event, add_finders, events, finders_of, fronts_of, is_default}
 use Rattle.flat_reading.specs.Events.{states}
 
 start : Text → State
@@ -36,7 +36,7 @@ unfolding computing states start
 nothing-has_one_call = refl
 
 -- The third call finds the raw identifier, whose error stands first.
-raw-is_found_later : found_by (start (codes "}a{r#b}")) ≡ 2 ∷ 0 ∷ []
+raw-is_found_later : finders_of (start (codes "}a{r#b}")) ≡ 2 ∷ 0 ∷ []
 unfolding computing states start
 raw-is_found_later = refl
 

@@ -15,7 +15,7 @@ use Rattle.rustc_parse_format.specs.Types.{Position, Implicit, Index, Named, Cou
 use Rattle.rustc_parse_format.specs.Types.{Param, Star, Implied}
 use Rattle.rustc_parse_format.specs.Types.{Argument, Piece, Lit, NextArgument}
 use Rattle.rustc_parse_format.specs.World.{Place, piece_in}
-use Rattle.rustc_parse_format.specs.State.{State, next_call, after}
+use Rattle.rustc_parse_format.specs.State.{State, next_call, state_after}
 use Rattle.rustc_parse_format.proofs.Walking.ParserLaws.{call_rest}
 use Rattle.rustc_parse_format.proofs.Spans.TextPlaces.{ArgumentTexts, CountTexts, EndsAt}
 use Rattle.rustc_parse_format.proofs.Spans.TextPlaces.{PieceStands as TextPieceStands, PieceTexts}
@@ -146,7 +146,7 @@ stands bytes s at None o u c left p f =
     (piece_has bytes p.0 at p.1 s o u c (record { front = left.0; whole = left.1 }) p.2 f)
 stands bytes s at (Some m) o u c left p f = tt
 
-pub still_ends : (s new : State) → EndsWith s.input s.rest → new ≡ after s (next_call s)
+pub still_ends : (s new : State) → EndsWith s.input s.rest → new ≡ state_after s (next_call s)
     → EndsWith new.input new.rest
 still_ends s new e f =
     let k = call_rest s.mode s.next s.rest in

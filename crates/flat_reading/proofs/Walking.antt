@@ -11,7 +11,7 @@ use Rattle.rustc_parse_format.specs.Characters.{Text, is_nil, after_first}
 use Rattle.rustc_parse_format.specs.Types.{Piece, Lit, NextArgument, Spec}
 use Rattle.rustc_parse_format.specs.World.{Place, piece_in}
 use Rattle.rustc_parse_format.specs.Call.{Call, call}
-use Rattle.rustc_parse_format.specs.State.{State, next_call, after, after_all}
+use Rattle.rustc_parse_format.specs.State.{State, next_call, state_after, after_all}
 use Rattle.rustc_parse_format.proofs.Walking.Progress.{call-lt}
 use Rattle.rustc_parse_format.proofs.Lines.StateLines.{at_end, closed_in-none, end_faults}
 use Rattle.flat_reading.specs.declared.flat.SpecBuffer.{SpecBuffer}
@@ -19,9 +19,10 @@ use Rattle.flat_reading.specs.declared.records.Step.{Step}
 use Rattle.flat_reading.specs.declared.records.Spec.{Spec as SpecRecord}
 use Rattle.rustc_parse_format.specs.Lines.{closed_in, with_last}
 use Rattle.flat_reading.specs.Meant.{maybe_place, piece_meant, spec_at}
-use Rattle.flat_reading.specs.Events.{Event, add_finders, event, finders_from, fronts_in, given}
+use Rattle.flat_reading.specs.Events.{Event, add_finders, event, finders_from, fronts_in}
+use Rattle.flat_reading.specs.Events.{given_piece}
 use Rattle.flat_reading.specs.Events.{place_of_first, position}
-use Rattle.flat_reading.specs.Events.{looked_for}
+use Rattle.flat_reading.specs.Events.{looked_for_place}
 use Rattle.flat_reading.specs.Events.{specs_in, is_default, states, states_for}
 use Rattle.flat_reading.specs.Events.{step_meant}
 use Rattle.flat_reading.specs.Held.{Found}
@@ -43,7 +44,7 @@ goes_past : (t : Text) (es : List State) → t ≢ [] → cond (is_nil t) [] es 
 goes_past [] es h = absurd (h refl)
 goes_past (c ∷ t) es h = refl
 
-pub goes_on : (s : State) → s.rest ≢ [] → length (after s (next_call s)).rest < length s.rest
+pub goes_on : (s : State) → s.rest ≢ [] → length (state_after s (next_call s)).rest < length s.rest
 goes_on s h = call-lt s.mode s.next s.rest h
 
 enough : (n m : ℕ) (s : State) → length s.rest ≤ n → length s.rest ≤ m
@@ -54,23 +55,24 @@ enough (suc n) zero s h k = ap (λ es. s ∷ es) (cut_at_end s.rest _ k)
 enough (suc n) (suc m) s h k =
     ap (λ es. s ∷ es) (same_later s.rest _ _ (λ more.
     let l = goes_on s more in
-    enough n m (after s (next_call s)) (omega arith) (omega arith)))
+    enough n m (state_after s (next_call s)) (omega arith) (omega arith)))
 
 pub states-end : (s : State) → s.rest ≡ [] → states s ≡ s ∷ []
 unfolding states
 states-end s e = rw e refl
 
 more_for : (n : ℕ) (s : State) → length s.rest ≡ n → s.rest ≢ []
-    → states_for n s ≡ s ∷ states (after s (next_call s))
+    → states_for n s ≡ s ∷ states (state_after s (next_call s))
 unfolding states
 more_for zero s e h = let l = goes_on s h in absurd (omega arith)
 more_for (suc n) s e h =
     let l = goes_on s h in
     ap (λ es. s ∷ es)
-    (goes_past s.rest _ h ∙ enough n (length (after s (next_call s)).rest) (after s (next_call s))
+    (goes_past s.rest _ h ∙ enough n (length (state_after s (next_call s)).rest)
+    (state_after s (next_call s))
     (omega arith) (omega arith))
 
-pub states-more : (s new : State) → s.rest ≢ [] → new ≡ after s (next_call s)
+pub states-more : (s new : State) → s.rest ≢ [] → new ≡ state_after s (next_call s)
     → states s ≡ s ∷ states new
 unfolding states
 states-more s new h e = rw e (more_for (length s.rest) s refl h)
@@ -128,18 +130,19 @@ put_length count old new r put = by_room (cases_lt count (length old))
 pub one_more : (peeks : Bool) (input : List ℕ) (s0 s new : State) (todo : List State)
     (count used used' : ℕ) (found found' : Found) (steps steps' : List Step)
     (specs specs' : List SpecRecord) →
-    IsUpTo peeks input s0 (s ∷ todo) s count used found steps specs → new ≡ after s (next_call s)
-    → used' ≡ used + specs_in (given s) →
+    IsUpTo peeks input s0 (s ∷ todo) s count used found steps specs
+    → new ≡ state_after s (next_call s)
+    → used' ≡ used + specs_in (given_piece s) →
     found'.calls ≡ add_finders count found.calls (next_call s).faults
-    → found'.fronts ≡ found.fronts + fronts_in (next_call s) →
+    → found'.front_count ≡ found.front_count + fronts_in (next_call s) →
     IsAdded input (event peeks s) count used' steps steps' specs'
     → take used specs' ≡ take used specs → length specs' ≡ length specs →
     IsUpTo peeks input s0 todo new (count + 1) used' found' steps' specs'
 one_more peeks input s0 s new todo count used used' found found' steps steps' specs specs' h state
-    more finders fronts added front long =
+    more finders front_count added front long =
     let r = added.step in
     let put = added.put in
-    let one = specs_in-le (given s) in
+    let one = specs_in-le (given_piece s) in
     let wide : used ≤ used' = omega (arith, more) in
     record {
       counted = omega (arith, h.counted);
@@ -147,15 +150,15 @@ one_more peeks input s0 s new todo count used used' found found' steps steps' sp
         arith,
         h.specs_counted,
         more,
-        sum_by-cons (λ (t : State). specs_in (given t)) s todo,
+        sum_by-cons (λ (t : State). specs_in (given_piece t)) s todo,
       );
       fewer = omega (arith, h.fewer, more, one);
       state = rw state h.state;
       finders = rw (add-one, finders) h.finders;
-      fronts = omega (
+      front_count = omega (
         arith,
-        h.fronts,
-        fronts,
+        h.front_count,
+        front_count,
         sum_by-cons fronts_in (next_call s) (map next_call todo),
       );
       few = put_few used used' steps steps' count r put wide added.few h.few;
@@ -204,24 +207,24 @@ kept_put input e old new orig specs count used added h = by_room (cases_lt count
 
 -- A step describes its call.
 pub described : (peeks : Bool) (input : List ℕ) (specs : List SpecRecord) (r : Step) (s t : State)
-    → t ≡ after s (next_call s) →
+    → t ≡ state_after s (next_call s) →
     piece_meant input (spec_at input specs r.spec) r
     ≡ option_map (piece_in s.world) (next_call s).piece → maybe_place r.place
     ≡ closed_in s.world (next_call s).closes →
     r.offset ≡ position t.input t.rest → r.next_index ≡ t.next → r.lines ≡ length t.line_spans
-    → maybe_place r.peek ≡ looked_for peeks (place_of_first t t.rest) →
-    maybe_place r.peek_ahead ≡ looked_for peeks (place_of_first t (after_first t.rest))
+    → maybe_place r.peek ≡ looked_for_place peeks (place_of_first t t.rest) →
+    maybe_place r.peek_ahead ≡ looked_for_place peeks (place_of_first t (after_first t.rest))
     → step_meant input specs r ≡ event peeks s
 described peeks input specs r s t state piece place read next lines peek ahead =
     rw (piece, place, read, next, lines, peek, ahead, state) refl
 
 -- The call at the end gives nothing, finds nothing and closes nothing, and there is nothing to look
 -- for.
-pub end_specs : (s : State) → s.rest ≡ [] → specs_in (given s) ≡ 0
+pub end_specs : (s : State) → s.rest ≡ [] → specs_in (given_piece s) ≡ 0
 end_specs s e = ap (λ o. specs_in (option_map (piece_in s.world) o)) (at_end s e).0
 
 pub end_stays : (s : State) → s.rest ≡ [] → s.world.has_source ≡ false
-    → s ≡ after s (next_call s)
+    → s ≡ state_after s (next_call s)
 end_stays s e none =
     sym ((at_end s e).1 ∙ ap (λ b. record s {
       line_spans = if b && is_nil s.rest
@@ -239,7 +242,7 @@ end_closes : (s : State) → s.rest ≡ [] → closed_in s.world (next_call s).c
 unfolding call
 end_closes s e = rw e (closed_in-none s.world)
 
-not_looked_for : (peeks : Bool) → looked_for peeks None ≡ None
+not_looked_for : (peeks : Bool) → looked_for_place peeks None ≡ None
 not_looked_for true = refl
 not_looked_for false = refl
 
@@ -249,15 +252,16 @@ unfolding piece_meant
 no_piece input spec r e = rw e refl
 
 pub report_end : (peeks : Bool) (input : List ℕ) (specs : List SpecRecord) (r : Step) (s t : State)
-    → t ≡ after s (next_call s) → s.rest ≡ [] →
+    → t ≡ state_after s (next_call s) → s.rest ≡ [] →
     piece_meant input (spec_at input specs r.spec) r ≡ None → maybe_place r.place ≡ None
     → r.offset ≡ position t.input t.rest → r.next_index ≡ t.next →
     r.lines ≡ length t.line_spans → maybe_place r.peek ≡ None → maybe_place r.peek_ahead ≡ None
     → step_meant input specs r ≡ event peeks s
 report_end peeks input specs r s t state e piece place read next lines peek ahead =
     let none : t.rest ≡ [] = ap (λ (u : State). u.rest) (state ∙ (at_end s e).1) ∙ e in
-    let no_peek = ap (λ u. looked_for peeks (place_of_first t u)) none ∙ not_looked_for peeks in
-    let no_ahead = ap (λ u. looked_for peeks (place_of_first t (after_first u))) none
+    let no_peek = ap (λ u. looked_for_place peeks (place_of_first t u)) none
+    ∙ not_looked_for peeks in
+    let no_ahead = ap (λ u. looked_for_place peeks (place_of_first t (after_first u))) none
     ∙ not_looked_for peeks in
     described peeks input specs r s t state (piece
     ∙ sym (ap (option_map (piece_in s.world)) (at_end s e).0))
@@ -270,11 +274,11 @@ pub length-finders : (n : ℕ) (old : List ℕ) (s : State) (ks : List Call)
     ≡ length (after_all s ks).errors
 length-finders n old s [] e = e
 length-finders n old s (k ∷ ks) e =
-    length-finders (suc n) (add_finders n old k.faults) (after s k) ks
+    length-finders (suc n) (add_finders n old k.faults) (state_after s k) ks
     (omega (arith, length-add_finders n old k.faults, length-after s k, e))
 
 pub begin : (peeks : Bool) (input : List ℕ) (s : State) (found : Found) (steps : List Step)
-    (specs : List SpecRecord) → found.calls ≡ [] → found.fronts ≡ 0 →
+    (specs : List SpecRecord) → found.calls ≡ [] → found.front_count ≡ 0 →
     IsUpTo peeks input s (states s) s 0 0 found steps specs
 begin peeks input s found steps specs e f = record {
   counted = omega arith;
@@ -282,7 +286,7 @@ begin peeks input s found steps specs e f = record {
   fewer = omega arith;
   state = refl;
   finders = rw e refl;
-  fronts = omega (arith, f);
+  front_count = omega (arith, f);
   few = tt;
   written = λ room specs_room. refl;
 }

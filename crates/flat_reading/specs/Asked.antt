@@ -16,7 +16,7 @@ use Rattle.flat_reading.specs.declared.records.Spec.{Spec as SpecRecord}
 use Rattle.flat_reading.specs.declared.records.Fault.{Fault}
 use Rattle.flat_reading.specs.declared.records.Extent.{Extent}
 use Rattle.flat_reading.specs.Meant.{is_set, maybe_place, place}
-use Rattle.flat_reading.specs.Events.{end_of, events, found_by, fronts_of, looked_for}
+use Rattle.flat_reading.specs.Events.{end_of, events, finders_of, fronts_of, looked_for_place}
 use Rattle.flat_reading.specs.Events.{place_of_first, spec_count, states, step_meant}
 use Rattle.flat_reading.specs.Held.{HoldsErrors, texts_len}
 
@@ -37,8 +37,8 @@ abbrev pub snippet_meant : Options → List ℕ → Option Text
 snippet_meant o snippet = if o.has_snippet == 0 then None else Some (chars snippet)
 
 -- A parser at the start of the input, as the options mean.
-abbrev pub begun : Mode → Options → List ℕ → List ℕ → State
-begun mode o input snippet = first_state mode (chars input) (style_meant o)
+abbrev pub first_state_of : Mode → Options → List ℕ → List ℕ → State
+first_state_of mode o input snippet = first_state mode (chars input) (style_meant o)
     (snippet_meant o snippet) (is_set o.appended_newline)
 
 -- A parser at the start of the input of a task.
@@ -74,25 +74,26 @@ buffers steps specs faults texts lines =
 
 -- The answer has the exact numbers for all calls from the state s on, up to the end. The number of
 -- bytes of texts is capped at the greatest number of 64 bits.
-pub record IsCounted (peeks : Bool) (s : State) (a : Answer) : Type 0 where
+pub record IsCounted (wants_peeks : Bool) (s : State) (a : Answer) : Type 0 where
   pub steps : a.steps ≡ length (states s)
   pub specs : a.specs ≡ spec_count s
   pub faults : a.faults ≡ length (end_of s).errors
   pub texts : a.texts ≡ min (texts_len (end_of s).errors) (2 ^ 64 - 1)
   pub lines : a.lines ≡ length (end_of s).line_spans
-  pub fronts : a.front_faults ≡ fronts_of s
+  pub front_count : a.front_faults ≡ fronts_of s
   pub source : is_set a.is_source_literal ≡ s.world.has_source
-  pub peek : maybe_place a.peek ≡ looked_for peeks (place_of_first s s.rest)
+  pub peek : maybe_place a.peek ≡ looked_for_place wants_peeks (place_of_first s s.rest)
   pub peek_ahead : maybe_place a.peek_ahead
-      ≡ looked_for peeks (place_of_first s (after_first s.rest))
+      ≡ looked_for_place wants_peeks (place_of_first s (after_first s.rest))
 
 -- The records describe all calls from the state s on, up to the end, and the errors and the lines
 -- at the end.
-pub record IsDescribed (peeks : Bool) (s : State) (input : List ℕ) (b : Buffers)
+pub record IsDescribed (wants_peeks : Bool) (s : State) (input : List ℕ) (b : Buffers)
     (a : Answer) : Type 0 where
-  pub steps : map (step_meant input (take a.specs b.specs)) (take a.steps b.steps) ≡ events peeks s
+  pub steps : map (step_meant input (take a.specs b.specs)) (take a.steps b.steps)
+      ≡ events wants_peeks s
   pub errors : HoldsErrors b.texts (take a.faults b.faults) (end_of s).errors
-  pub finders : map (λ (f : Fault). f.step) (take a.faults b.faults) ≡ found_by s
+  pub finders : map (λ (f : Fault). f.step) (take a.faults b.faults) ≡ finders_of s
   pub lines : map place (take a.lines b.lines) ≡ (end_of s).line_spans
 
 -- Everything fits into the buffers.

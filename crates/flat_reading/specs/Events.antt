@@ -11,7 +11,7 @@ use Rattle.rustc_parse_format.specs.Faults.{Fault, is_front}
 use Rattle.rustc_parse_format.specs.Call.{Call}
 use Rattle.rustc_parse_format.specs.Lines.{closed_in}
 use Rattle.rustc_parse_format.specs.World.{World, Place, piece_in}
-use Rattle.rustc_parse_format.specs.State.{State, first_of, next_call, after, after_all}
+use Rattle.rustc_parse_format.specs.State.{State, first_of, next_call, state_after, after_all}
 use Rattle.flat_reading.specs.declared.records.Step.{Step}
 use Rattle.flat_reading.specs.declared.records.Spec.{Spec as SpecRecord}
 use Rattle.flat_reading.specs.Meant.{maybe_place, piece_meant, spec_at}
@@ -41,35 +41,36 @@ abbrev pub place_of_first : State → Text → Option Place
 place_of_first s t = option_map (λ x. x.0) (first_of s.world s.input t)
 
 -- The place, if the caller wants peeks, and otherwise None.
-abbrev pub looked_for : Bool → Option Place → Option Place
-looked_for peeks p = if peeks then p else None
+abbrev pub looked_for_place : Bool → Option Place → Option Place
+looked_for_place wants_peeks p = if wants_peeks then p else None
 
 -- The event of the call k, which leaves the parser in the state t. The flag says whether the caller
 -- wants peeks.
 abbrev pub event_of : Bool → World → Call → State → Event
-event_of peeks w k t = record {
+event_of wants_peeks w k t = record {
   piece = option_map (piece_in w) k.piece;
   place = closed_in w k.closes;
   offset = position t.input t.rest;
   next_index = t.next;
   lines = length t.line_spans;
-  peek = looked_for peeks (place_of_first t t.rest);
-  peek_ahead = looked_for peeks (place_of_first t (after_first t.rest));
+  peek = looked_for_place wants_peeks (place_of_first t t.rest);
+  peek_ahead = looked_for_place wants_peeks (place_of_first t (after_first t.rest));
 }
 
 -- The event of the next call.
 abbrev pub event : Bool → State → Event
-event peeks s = event_of peeks s.world (next_call s) (after s (next_call s))
+event wants_peeks s = event_of wants_peeks s.world (next_call s) (state_after s (next_call s))
 
 -- The piece that the next call returns.
-abbrev pub given : State → Option (Piece Place)
-given s = option_map (piece_in s.world) (next_call s).piece
+abbrev pub given_piece : State → Option (Piece Place)
+given_piece s = option_map (piece_in s.world) (next_call s).piece
 
 -- The states before each call, up to the call at the end of the input, and at most n calls before
 -- it. Each of those reads a character.
 abbrev pub states_for : ℕ → State → List State
 states_for zero s = s ∷ []
-states_for (suc n) s = s ∷ (if is_nil s.rest then [] else states_for n (after s (next_call s)))
+states_for (suc n) s = s ∷ (if is_nil s.rest then [] else states_for n
+    (state_after s (next_call s)))
 
 -- The states before each call, up to the call at the end of the input.
 unfoldable pub states : State → List State
@@ -82,7 +83,7 @@ calls s = map next_call (states s)
 
 -- The events of all calls.
 abbrev pub events : Bool → State → List Event
-events peeks s = map (event peeks) (states s)
+events wants_peeks s = map (event wants_peeks) (states s)
 
 -- The state after all calls.
 abbrev pub end_of : State → State
@@ -101,8 +102,8 @@ finders_from n old [] = old
 finders_from n old (k ∷ ks) = finders_from (suc n) (add_finders n old k.faults) ks
 
 -- For each error, in the order of the list of errors, the number of the call that found it.
-abbrev pub found_by : State → List ℕ
-found_by s = finders_from 0 [] (calls s)
+abbrev pub finders_of : State → List ℕ
+finders_of s = finders_from 0 [] (calls s)
 
 -- The number of errors of a call that are added at the start of the list.
 abbrev pub fronts_in : Call → ℕ
@@ -158,7 +159,7 @@ specs_in (Some (NextArgument a)) = if is_default a.format then 0 else 1
 
 -- The number of records of specifications: one for each specification that has a part.
 abbrev pub spec_count : State → ℕ
-spec_count s = sum_by (λ (t : State). specs_in (given t)) (states s)
+spec_count s = sum_by (λ (t : State). specs_in (given_piece t)) (states s)
 
 -- The event that a step describes.
 abbrev pub step_meant : List ℕ → List SpecRecord → Step → Event

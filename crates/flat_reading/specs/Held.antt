@@ -58,7 +58,7 @@ HoldsErrors texts (f ∷ fs) (m ∷ ms) = HoldsError texts f m × HoldsErrors te
 -- list.
 pub record Found : Type 0 where
   pub calls : List ℕ
-  pub fronts : ℕ
+  pub front_count : ℕ
 
 -- The number of bytes of an optional text.
 abbrev pub maybe_len : Option (List ℕ) → ℕ

@@ -13,7 +13,7 @@ use Rattle.rustc_parse_format.specs.Types.{Mode}
 use Rattle.rustc_parse_format.specs.Seen.{seen_mode}
 use Rattle.rustc_parse_format.specs.Call.{call}
 use Rattle.rustc_parse_format.specs.World.{World, Place, piece_in, plain_world}
-use Rattle.rustc_parse_format.specs.State.{State, after, after_all, next_call}
+use Rattle.rustc_parse_format.specs.State.{State, state_after, after_all, next_call}
 use Rattle.flat_reading.specs.declared.flat.SpecBuffer.{SpecBuffer}
 use Rattle.flat_reading.specs.declared.records.Step.{Step}
 use Rattle.flat_reading.specs.declared.records.Spec.{Spec as SpecRecord}
@@ -21,7 +21,8 @@ use Rattle.flat_reading.specs.declared.texts.Texts.{Texts}
 use Rattle.flat_reading.specs.declared.reading.Reading.{Reading}
 use Rattle.flat_reading.specs.declared.walk.Walker.{Walker}
 use Rattle.flat_reading.specs.Events.{Event, add_finders, end_of, event, events, finders_from}
-use Rattle.flat_reading.specs.Events.{found_by, fronts_in, fronts_of, given, spec_count, specs_in}
+use Rattle.flat_reading.specs.Events.{finders_of, fronts_in, fronts_of, given_piece, spec_count}
+use Rattle.flat_reading.specs.Events.{specs_in}
 use Rattle.flat_reading.specs.Events.{states, step_meant}
 use Rattle.flat_reading.specs.Held.{Found}
 use Rattle.flat_reading.specs.Meant.{text_at, type_meant}
@@ -166,11 +167,12 @@ pub record IsOnItsWay (r : Reading) (w : Walker) : Type 0 where
 
 -- The walker made the next call, which has this number, and recorded the errors that it found.
 pub record MakesCall (number : ℕ) (r : Reading) (old new : Walker) : Type 0 where
-  pub state : new.parser ≡ after old.parser (next_call old.parser)
+  pub state : new.parser ≡ state_after old.parser (next_call old.parser)
   pub ready : IsOnItsWay r new
   pub finders : new.finders.calls
       ≡ add_finders number old.finders.calls (next_call old.parser).faults
-  pub fronts : new.finders.fronts ≡ old.finders.fronts + fronts_in (next_call old.parser)
+  pub front_count : new.finders.front_count
+      ≡ old.finders.front_count + fronts_in (next_call old.parser)
 
 -- A step that describes the event was written at the index `count`, if there is room. By then
 -- `used` specifications are counted.
@@ -195,15 +197,16 @@ AllFew k (r ∷ rs) = (r.spec ≤ k) × AllFew k rs
 
 -- So far so many steps and specifications are noted of the calls from the state s0 on, which came
 -- to s; the calls at the states `todo` are left.
-pub record IsUpTo (peeks : Bool) (input : List ℕ) (s0 : State) (todo : List State) (s : State)
+pub record IsUpTo (wants_peeks : Bool) (input : List ℕ) (s0 : State) (todo : List State) (s : State)
     (count used : ℕ) (found : Found) (steps : List Step)
     (specs : List SpecRecord) : Type 0 where
   pub counted : count + length todo ≡ length (states s0)
-  pub specs_counted : used + sum_by (λ (t : State). specs_in (given t)) todo ≡ spec_count s0
+  pub specs_counted : used + sum_by (λ (t : State). specs_in (given_piece t)) todo ≡ spec_count s0
   pub fewer : used ≤ count
   pub state : after_all s (map next_call todo) ≡ end_of s0
-  pub finders : finders_from count found.calls (map next_call todo) ≡ found_by s0
-  pub fronts : found.fronts + sum_by fronts_in (map next_call todo) ≡ fronts_of s0
+  pub finders : finders_from count found.calls (map next_call todo) ≡ finders_of s0
+  pub front_count : found.front_count + sum_by fronts_in (map next_call todo) ≡ fronts_of s0
   pub few : AllFew used (take count steps)
   pub written : count ≤ length steps → used ≤ length specs
-      → map (step_meant input specs) (take count steps) ++ map (event peeks) todo ≡ events peeks s0
+      → map (step_meant input specs) (take count steps) ++ map (event wants_peeks) todo
+      ≡ events wants_peeks s0

@@ -9,9 +9,9 @@ use std::marker::Model;
 #[derive(Drop)]
 pub struct Finders {
     /// The numbers for the errors that were put at the front of the list, in reverse order.
-    fronts: Vec<usize>,
+    front_calls: Vec<usize>,
     /// The numbers for the errors after them.
-    backs: Vec<usize>,
+    back_calls: Vec<usize>,
 }
 
 impl Model for Finders {
@@ -21,8 +21,8 @@ impl Model for Finders {
     ghost Value = { Found };
 
     ghost view = { λ f. record {
-      calls = reverse f.fronts.items ++ f.backs.items;
-      fronts = length f.fronts.items;
+      calls = reverse f.front_calls.items ++ f.back_calls.items;
+      front_count = length f.front_calls.items;
     } };
 }
 
@@ -42,34 +42,35 @@ impl Finders {
 
     /// Creates an empty list. Does not allocate.
     pub fn new(alloc: Global) -> Finders
-        ensures { result ≡ record { calls = []; fronts = 0 } }
+        ensures { result ≡ record { calls = []; front_count = 0 } }
     {
         Finders {
-            fronts: Vec::new(alloc),
-            backs: Vec::new(alloc),
+            front_calls: Vec::new(alloc),
+            back_calls: Vec::new(alloc),
         }
     }
 
-    /// Adds the call `number`, which found `count` errors, of which `fronts` were put at the front
-    /// of the list. Returns `Err` if an allocation fails.
-    pub fn add(&mut self, number: usize, fronts: usize, count: usize) -> Result<(), AllocError>
-        requires { fronts ≤ count }
-        ensures calls { OnOk result (self.new.calls ≡ replicate fronts number
-            ++ (self.old.calls ++ replicate (count - fronts) number)) }
-        ensures fronts { OnOk result (self.new.fronts ≡ self.old.fronts + fronts) }
+    /// Adds the call `number`, which found `count` errors, of which `front_count` were put at the
+    /// front of the list. Returns `Err` if an allocation fails.
+    pub fn add(&mut self, number: usize, front_count: usize, count: usize) -> Result<(), AllocError>
+        requires { front_count ≤ count }
+        ensures calls { OnOk result (self.new.calls ≡ replicate front_count number
+            ++ (self.old.calls ++ replicate (count - front_count) number)) }
+        ensures front_count { OnOk result (self.new.front_count
+            ≡ self.old.front_count + front_count) }
     {
         if count > 0 {
-            repeat(&mut self.fronts, number, fronts)?;
-            repeat(&mut self.backs, number, count - fronts)?;
+            repeat(&mut self.front_calls, number, front_count)?;
+            repeat(&mut self.back_calls, number, count - front_count)?;
         }
         Ok(())
     }
 
     /// Returns the number of errors that were put at the front of the list.
-    pub fn fronts(&self) -> usize
-        ensures { result ≡ self.now.fronts }
+    pub fn front_count(&self) -> usize
+        ensures { result ≡ self.now.front_count }
     {
-        self.fronts.len()
+        self.front_calls.len()
     }
 
     /// Returns the number of the call that found the error with this index.
@@ -77,11 +78,11 @@ impl Finders {
         requires { index < length self.now.calls }
         ensures { result ≡ slice_index self.now.calls index }
     {
-        let fronts = self.fronts.len();
-        if index < fronts {
-            self.fronts[fronts - 1 - index]
+        let front_count = self.front_calls.len();
+        if index < front_count {
+            self.front_calls[front_count - 1 - index]
         } else {
-            self.backs[index - fronts]
+            self.back_calls[index - front_count]
         }
     }
 }

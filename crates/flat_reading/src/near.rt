@@ -22,11 +22,11 @@ fn near_name(input: &str, start: usize, argument: &Argument<'_>) -> Option<Exten
     let Position::ArgumentNamed(name) = &argument.position else {
         return Some(NOWHERE);
     };
-    let after = start.saturating_add(1);
-    if !has_bytes_at(input, after, name.as_bytes()) {
+    let name_start = start.saturating_add(1);
+    if !has_bytes_at(input, name_start, name.as_bytes()) {
         return None;
     }
-    let text = extent_of(input, after, name);
+    let text = extent_of(input, name_start, name);
     // (`{r#r}` has the name `r` after an `r`)
     if has_bytes_at(input, text.end, b"#") {
         return None;
@@ -78,9 +78,6 @@ pub fn texts_of(
 {
     match near_texts(input, start, argument) {
         Some(texts) => Ok(texts),
-        None => {
-            let texts = texts_at(alloc, mode, input, start, next)?;
-            Ok(texts)
-        }
+        None => Ok(texts_at(alloc, mode, input, start, next)?),
     }
 }

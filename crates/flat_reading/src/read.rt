@@ -10,7 +10,7 @@ ghost use Rattle.flat_reading.specs.Meant.{place};
 ghost use Rattle.flat_reading.specs.Stand.{IsPlain};
 
 use crate::errors::put_errors;
-use crate::flat::{NO_EXTENT, SpecBuffer, extent, flag};
+use crate::flat::{NO_EXTENT, SpecBuffer, flag};
 use crate::reading::{Reading, mode_with_escapes, offset_of};
 use crate::records::{Answer, Extent, Fault, Spec, Step};
 use crate::task::Task;
@@ -38,7 +38,9 @@ fn put_lines(spans: &[Range<usize>], lines: &mut [Extent])
 {
     for i in 0..spans.len() {
         if i < lines.len() {
-            lines[i] = extent(&spans[i]);
+            // (a copy of both at once would wait for the two that the parser has just written)
+            lines[i].start = spans[i].start;
+            lines[i].end = spans[i].end;
         }
     }
 }
@@ -68,10 +70,10 @@ fn read_by<'a>(
     requires mode { IfSome escapes (λ m. seen_mode m ≡ start.mode) }
     requires short { length start.rest ≤ length task.input.now }
     ensures counted { OnOk result
-        (IsCounted task.entry.peeks (asked_state task.entry) answer.new) }
+        (IsCounted task.entry.wants_peeks (asked_state task.entry) answer.new) }
     ensures described { OnOk result
         (Fits (buffers steps.old specs.old faults.old texts.old lines.old) answer.new
-        → IsDescribed task.entry.peeks (asked_state task.entry) task.entry.input.now
+        → IsDescribed task.entry.wants_peeks (asked_state task.entry) task.entry.input.now
         (buffers steps.new specs.new faults.new texts.new lines.new) answer.new) }
     ensures kept { OnOk result
         (IsKept answer.new (buffers steps.old specs.old faults.old texts.old lines.old)
@@ -80,11 +82,11 @@ fn read_by<'a>(
 {
     let is_source_literal = flag(start.is_source_literal());
     let mut walker = Walker::new(alloc, start);
-    let reading = Reading::new(task.input, offset, escapes, task.peeks);
+    let reading = Reading::new(task.input, offset, escapes, task.wants_peeks);
     let mut specs = SpecBuffer::new(specs);
     let mut peek = NO_EXTENT;
     let mut peek_ahead = NO_EXTENT;
-    if task.peeks {
+    if task.wants_peeks {
         look_ahead(&walker.parser, &mut peek, &mut peek_ahead);
     }
     let count = walker.walk(&reading, steps, &mut specs)?;
@@ -97,7 +99,7 @@ fn read_by<'a>(
         faults: errors.len(),
         texts: put_errors(errors, &walker.finders, faults, texts),
         lines: spans.len(),
-        front_faults: walker.finders.fronts(),
+        front_faults: walker.finders.front_count(),
         is_source_literal,
         peek,
         peek_ahead,
@@ -120,10 +122,10 @@ fn read_with_snippet(
     requires input_length { length task.input.now ≤ limit }
     requires hashes { hashes task.style ≤ limit }
     ensures counted { OnOk result
-        (IsCounted task.entry.peeks (asked_state task.entry) answer.new) }
+        (IsCounted task.entry.wants_peeks (asked_state task.entry) answer.new) }
     ensures described { OnOk result
         (Fits (buffers steps.old specs.old faults.old texts.old lines.old) answer.new
-        → IsDescribed task.entry.peeks (asked_state task.entry) task.entry.input.now
+        → IsDescribed task.entry.wants_peeks (asked_state task.entry) task.entry.input.now
         (buffers steps.new specs.new faults.new texts.new lines.new) answer.new) }
     ensures kept { OnOk result
         (IsKept answer.new (buffers steps.old specs.old faults.old texts.old lines.old)
@@ -136,48 +138,6 @@ fn read_with_snippet(
         task.input,
         task.style,
         literal,
-        task.appended_newline,
-        task.mode,
-    )?;
-    let escapes = mode_with_escapes(&start, &task);
-    let offset = offset_of(task.style);
-    read_by(
-        alloc, start, task, offset, escapes, steps, specs, faults, texts, lines, answer,
-    )
-}
-
-/// Reads an input without a snippet as `read` does. The compiler then leaves out most of what
-/// `Parser::new` does. No branch comes before that.
-#[inline(always)]
-fn read_bare(
-    alloc: Global,
-    task: Task<'_>,
-    steps: &mut [Step],
-    specs: &mut [Spec],
-    faults: &mut [Fault],
-    texts: &mut [u8],
-    lines: &mut [Extent],
-    answer: &mut Answer,
-) -> Result<(), AllocError>
-    requires input_length { length task.input.now ≤ limit }
-    requires hashes { hashes task.style ≤ limit }
-    requires bare { task.snippet ≡ None }
-    ensures counted { OnOk result
-        (IsCounted task.entry.peeks (asked_state task.entry) answer.new) }
-    ensures described { OnOk result
-        (Fits (buffers steps.old specs.old faults.old texts.old lines.old) answer.new
-        → IsDescribed task.entry.peeks (asked_state task.entry) task.entry.input.now
-        (buffers steps.new specs.new faults.new texts.new lines.new) answer.new) }
-    ensures kept { OnOk result
-        (IsKept answer.new (buffers steps.old specs.old faults.old texts.old lines.old)
-        (buffers steps.new specs.new faults.new texts.new lines.new)) }
-    ensures err { OnErr result (answer.new ≡ answer.old) }
-{
-    let start = Parser::new(
-        alloc,
-        task.input,
-        task.style,
-        None,
         task.appended_newline,
         task.mode,
     )?;
@@ -209,10 +169,10 @@ pub fn read(
     requires input_length { length task.input.now ≤ limit }
     requires hashes { hashes task.style ≤ limit }
     ensures counted { OnOk result
-        (IsCounted task.entry.peeks (asked_state task.entry) answer.new) }
+        (IsCounted task.entry.wants_peeks (asked_state task.entry) answer.new) }
     ensures described { OnOk result
         (Fits (buffers steps.old specs.old faults.old texts.old lines.old) answer.new
-        → IsDescribed task.entry.peeks (asked_state task.entry) task.entry.input.now
+        → IsDescribed task.entry.wants_peeks (asked_state task.entry) task.entry.input.now
         (buffers steps.new specs.new faults.new texts.new lines.new) answer.new) }
     ensures kept { OnOk result
         (IsKept answer.new (buffers steps.old specs.old faults.old texts.old lines.old)
@@ -221,6 +181,21 @@ pub fn read(
 {
     match task.snippet {
         Some(_) => read_with_snippet(alloc, task, steps, specs, faults, texts, lines, answer),
-        None => read_bare(alloc, task, steps, specs, faults, texts, lines, answer),
+        // (without a snippet, the compiler leaves out most of what `Parser::new` does)
+        None => {
+            let start = Parser::new(
+                alloc,
+                task.input,
+                task.style,
+                None,
+                task.appended_newline,
+                task.mode,
+            )?;
+            let escapes = mode_with_escapes(&start, &task);
+            let offset = offset_of(task.style);
+            read_by(
+                alloc, start, task, offset, escapes, steps, specs, faults, texts, lines, answer,
+            )
+        }
     }
 }

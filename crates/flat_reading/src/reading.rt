@@ -74,7 +74,7 @@ pub struct Reading<'a> {
     /// The mode of the parser, if the literal may have escapes.
     pub escapes: Option<ParseMode>,
     /// Whether the byte ranges of the next two characters are wanted.
-    pub peeks: bool,
+    pub wants_peeks: bool,
 }
 
 impl<'a> Reading<'a> {
@@ -87,19 +87,19 @@ impl<'a> Reading<'a> {
         input: &'a str,
         offset: usize,
         escapes: Option<ParseMode>,
-        peeks: bool,
+        wants_peeks: bool,
     ) -> Reading<'a>
         ensures utf8 { IsUtf8 result.input.now }
         ensures input { result.input.now ≡ input.now }
         ensures offset { result.offset ≡ offset }
         ensures escapes { result.escapes ≡ escapes }
-        ensures peeks { result.peeks ≡ peeks }
+        ensures wants_peeks { result.wants_peeks ≡ wants_peeks }
     {
         Reading {
             input,
             offset,
             escapes,
-            peeks,
+            wants_peeks,
         }
     }
 }

@@ -8,13 +8,14 @@ ghost use Rattle.rustc_parse_format.specs.Lines.{closed_in, place_list};
 ghost use Rattle.rustc_parse_format.specs.Marks.{Span};
 ghost use Rattle.rustc_parse_format.specs.Seen.{pair, seen_argument, seen_mode, seen_spec};
 ghost use Rattle.rustc_parse_format.specs.Seen.{seen_taken};
-ghost use Rattle.rustc_parse_format.specs.State.{after, next_call};
+ghost use Rattle.rustc_parse_format.specs.State.{state_after, next_call};
 ghost use Rattle.rustc_parse_format.specs.Types.{NextArgument};
 ghost use Rattle.rustc_parse_format.specs.World.{Place};
 ghost use Rattle.flat_reading.specs.declared.records.Spec.{Spec as SpecRecord};
 ghost use Rattle.flat_reading.specs.declared.records.Step.{Step as StepRecord};
-ghost use Rattle.flat_reading.specs.Events.{end_of, event, events, found_by, fronts_of};
-ghost use Rattle.flat_reading.specs.Events.{given, is_default, looked_for, place_of_first};
+ghost use Rattle.flat_reading.specs.Events.{end_of, event, events, finders_of, fronts_of};
+ghost use Rattle.flat_reading.specs.Events.{given_piece, is_default, looked_for_place};
+ghost use Rattle.flat_reading.specs.Events.{place_of_first};
 ghost use Rattle.flat_reading.specs.Events.{position, spec_count, specs_in, states, step_meant};
 ghost use Rattle.flat_reading.specs.Meant.{maybe_place, piece_meant, spec_at};
 ghost use Rattle.flat_reading.specs.Stand.{Adds, IsAdded, IsOnItsWay, IsReadAt, IsUpTo, MakesCall};
@@ -32,7 +33,7 @@ use rustc_parse_format::{Argument, NextPiece, ParseMode, Parser, PieceKind};
 use std::alloc::{AllocError, Global};
 
 /// A step without a piece and without a state.
-pub const BLANK: Step = Step {
+const BLANK: Step = Step {
     kind: PIECE_NONE,
     position: POSITION_IMPLICIT,
     number: 0,
@@ -73,17 +74,23 @@ pub fn look_ahead(parser: &Parser<'_>, peek: &mut MaybeExtent, peek_ahead: &mut 
     }
 }
 
-/// Writes the byte ranges in the source of the next two characters, or none if `peeks` is false.
+/// Writes the byte ranges in the source of the next two characters, or none if `wants_peeks` is
+/// false.
 #[inline(always)]
-fn put_peeks(parser: &Parser<'_>, peeks: bool, peek: &mut MaybeExtent, peek_ahead: &mut MaybeExtent)
+fn put_peeks(
+    parser: &Parser<'_>,
+    wants_peeks: bool,
+    peek: &mut MaybeExtent,
+    peek_ahead: &mut MaybeExtent,
+)
     ensures place { maybe_place peek.new
-        ≡ looked_for peeks (place_of_first parser.now parser.now.rest) }
+        ≡ looked_for_place wants_peeks (place_of_first parser.now parser.now.rest) }
     ensures ahead { maybe_place peek_ahead.new
-        ≡ looked_for peeks (place_of_first parser.now (after_first parser.now.rest)) }
+        ≡ looked_for_place wants_peeks (place_of_first parser.now (after_first parser.now.rest)) }
 {
     *peek = NO_EXTENT;
     *peek_ahead = NO_EXTENT;
-    if peeks {
+    if wants_peeks {
         look_ahead(parser, peek, peek_ahead);
     }
 }
@@ -131,7 +138,7 @@ impl<'a> Walker<'a> {
     #[inline(always)]
     pub fn new(alloc: Global, parser: Parser<'a>) -> Walker<'a>
         ensures parser { result.parser ≡ parser.entry }
-        ensures finders { result.finders ≡ record { calls = []; fronts = 0 } }
+        ensures finders { result.finders ≡ record { calls = []; front_count = 0 } }
     {
         Walker {
             alloc,
@@ -143,7 +150,7 @@ impl<'a> Walker<'a> {
     /// Writes a placeholder of a literal that may have escapes, which begins at `start`, when the
     /// next implicit argument had the index `next`. Returns `Err` if an allocation fails.
     #[inline(never)]
-    fn put_escaped(
+    fn put_escaped_argument(
         &self,
         input: &str,
         mode: ParseMode,
@@ -174,7 +181,7 @@ impl<'a> Walker<'a> {
     /// argument had the index `next`. Returns `Err` if an allocation fails.
     #[tactic(auto, unfolding(crate::specs::Meant::piece_meant))]
     #[inline(always)]
-    fn put_given(
+    fn put_piece(
         &self,
         reading: &Reading<'_>,
         argument: &Argument<'_>,
@@ -212,7 +219,7 @@ impl<'a> Walker<'a> {
             ),
             Some(PieceKind::NextArgument) => match reading.escapes {
                 Some(mode) => {
-                    return self.put_escaped(
+                    return self.put_escaped_argument(
                         reading.input,
                         mode,
                         argument,
@@ -243,9 +250,10 @@ impl<'a> Walker<'a> {
         requires room { specs.old.count < usize.MAX }
         ensures described { OnOk result (specs.new.count ≤ length specs.old.records.now
             → step_meant reading.now.input.now specs.new.records.now step.new
-            ≡ event reading.now.peeks self.old.parser) }
+            ≡ event reading.now.wants_peeks self.old.parser) }
         ensures number { OnOk result (step.new.spec ≤ specs.new.count) }
-        ensures adds { OnOk result (Adds (specs_in (given self.old.parser)) specs.old specs.new) }
+        ensures adds { OnOk result (Adds (specs_in
+            (given_piece self.old.parser)) specs.old specs.new) }
         ensures call { OnOk result (MakesCall number reading.now self.old self.new) }
         ensures read { OnOk result (step.new.offset
             ≡ position self.new.parser.input self.new.parser.rest) }
@@ -262,13 +270,13 @@ impl<'a> Walker<'a> {
         step.place = closed_place(&self.parser, places);
         put_peeks(
             &self.parser,
-            reading.peeks,
+            reading.wants_peeks,
             &mut step.peek,
             &mut step.peek_ahead,
         );
         self.finders
             .add(number, front_errors, self.parser.errors().len() - faults)?;
-        self.put_given(reading, argument, &piece, start, next, specs, step)?;
+        self.put_piece(reading, argument, &piece, start, next, specs, step)?;
         Ok(())
     }
 
@@ -287,15 +295,16 @@ impl<'a> Walker<'a> {
         requires room { specs.old.count < usize.MAX }
         ensures added { OnOk result ((full : List StepRecord) → length full ≤ number
             → IsAdded reading.now.input.now
-            (event reading.now.peeks self.old.parser) number specs.new.count full full
+            (event reading.now.wants_peeks self.old.parser) number specs.new.count full full
             specs.new.records.now) }
-        ensures adds { OnOk result (Adds (specs_in (given self.old.parser)) specs.old specs.new) }
+        ensures adds { OnOk result (Adds (specs_in
+            (given_piece self.old.parser)) specs.old specs.new) }
         ensures call { OnOk result (MakesCall number reading.now self.old self.new) }
         ensures read { IfOk result (λ n. n ≡ position self.new.parser.input self.new.parser.rest) }
     {
-        let mut spare = BLANK;
-        self.step(reading, argument, number, specs, &mut spare)?;
-        Ok(spare.offset)
+        let mut spare_step = BLANK;
+        self.step(reading, argument, number, specs, &mut spare_step)?;
+        Ok(spare_step.offset)
     }
 
     /// Makes the call with this number and writes it into the step with this index, if there is
@@ -314,9 +323,11 @@ impl<'a> Walker<'a> {
         requires room { specs.old.count < usize.MAX }
         ensures added { OnOk result
             (IsAdded reading.now.input.now
-            (event reading.now.peeks self.old.parser) number specs.new.count steps.old steps.new
+            (event reading.now.wants_peeks self.old.parser) number specs.new.count steps.old
+            steps.new
             specs.new.records.now) }
-        ensures adds { OnOk result (Adds (specs_in (given self.old.parser)) specs.old specs.new) }
+        ensures adds { OnOk result (Adds (specs_in
+            (given_piece self.old.parser)) specs.old specs.new) }
         ensures call { OnOk result (MakesCall number reading.now self.old self.new) }
         ensures read { IfOk result (λ n. n ≡ position self.new.parser.input self.new.parser.rest) }
     {
@@ -324,8 +335,8 @@ impl<'a> Walker<'a> {
             self.step(reading, argument, number, specs, &mut steps[number])?;
             Ok(steps[number].offset)
         } else {
-            let copied = *reading;
-            self.step_unwritten(&copied, argument, number, specs)
+            let reading_copy = *reading;
+            self.step_unwritten(&reading_copy, argument, number, specs)
         }
     }
 
@@ -335,14 +346,14 @@ impl<'a> Walker<'a> {
     fn end(&mut self) -> Result<(), AllocError>
         requires { self.old.parser.rest ≡ [] }
         ensures state { OnOk result (self.new.parser
-            ≡ after self.old.parser (next_call self.old.parser)) }
+            ≡ state_after self.old.parser (next_call self.old.parser)) }
         ensures finders { OnOk result (self.new.finders ≡ self.old.finders) }
     {
         if !self.parser.is_source_literal() {
             return Ok(());
         }
-        let mut unused = Argument::default();
-        let _none = self.parser.next_into(&mut unused)?;
+        let mut unused_argument = Argument::default();
+        let _none = self.parser.next_into(&mut unused_argument)?;
         Ok(())
     }
 
@@ -351,11 +362,12 @@ impl<'a> Walker<'a> {
     #[inline(always)]
     fn put_end(&mut self, step: &mut Step) -> Result<(), AllocError>
         requires { self.old.parser.rest ≡ [] }
-        ensures described { OnOk result ((peeks : Bool) (input : List ℕ) (specs : List SpecRecord)
-            → step_meant input specs step.new ≡ event peeks self.old.parser) }
+        ensures described { OnOk result ((wants_peeks : Bool) (input : List ℕ)
+            (specs : List SpecRecord)
+            → step_meant input specs step.new ≡ event wants_peeks self.old.parser) }
         ensures number { OnOk result (step.new.spec ≡ 0) }
         ensures state { OnOk result (self.new.parser
-            ≡ after self.old.parser (next_call self.old.parser)) }
+            ≡ state_after self.old.parser (next_call self.old.parser)) }
         ensures finders { OnOk result (self.new.finders ≡ self.old.finders) }
     {
         self.end()?;
@@ -373,15 +385,16 @@ impl<'a> Walker<'a> {
     fn add_end(&mut self, number: usize, steps: &mut [Step]) -> Result<(), AllocError>
         requires { self.old.parser.rest ≡ [] }
         ensures added { OnOk result
-            ((peeks : Bool) (input : List ℕ) (used : ℕ) (specs : List SpecRecord)
-            → IsAdded input (event peeks self.old.parser) number used steps.old steps.new specs) }
+            ((wants_peeks : Bool) (input : List ℕ) (count : ℕ) (specs : List SpecRecord)
+            → IsAdded input (event wants_peeks self.old.parser) number count steps.old steps.new
+            specs) }
         ensures state { OnOk result (self.new.parser
-            ≡ after self.old.parser (next_call self.old.parser)) }
+            ≡ state_after self.old.parser (next_call self.old.parser)) }
         ensures finders { OnOk result (self.new.finders ≡ self.old.finders) }
     {
         if number >= steps.len() {
-            let mut spare = BLANK;
-            self.put_end(&mut spare)?;
+            let mut spare_step = BLANK;
+            self.put_end(&mut spare_step)?;
             return Ok(());
         }
         self.put_end(&mut steps[number])?;
@@ -399,12 +412,12 @@ impl<'a> Walker<'a> {
     ) -> Result<usize, AllocError>
         requires ready { IsOnItsWay reading.now self.old }
         requires small { length self.old.parser.rest < 2 ^ 63 }
-        requires none { self.old.finders ≡ record { calls = []; fronts = 0 } }
+        requires none { self.old.finders ≡ record { calls = []; front_count = 0 } }
         requires start { self.old.parser.rest ≡ self.old.parser.input }
         requires empty { specs.old.count ≡ 0 }
         ensures end { OnOk result (self.new.parser.rest ≡ []) }
         ensures small { IfOk result (λ k. k < 2 ^ 63) }
-        ensures up_to { IfOk result (λ k. IsUpTo reading.now.peeks reading.now.input.now
+        ensures up_to { IfOk result (λ k. IsUpTo reading.now.wants_peeks reading.now.input.now
             self.old.parser (states self.new.parser) self.new.parser k specs.new.count
             self.new.finders steps.new specs.new.records.now) }
         ensures specs { OnOk result (Adds specs.new.count specs.old specs.new) }
@@ -416,9 +429,9 @@ impl<'a> Walker<'a> {
         }
         let mut argument = Argument::default();
         let mut count = 0;
-        let mut read = 0;
-        while read < reading.input.len() {
-            read = self.add_step(reading, &mut argument, count, steps, specs)?;
+        let mut offset = 0;
+        while offset < reading.input.len() {
+            offset = self.add_step(reading, &mut argument, count, steps, specs)?;
             count += 1;
         }
         Ok(count)
@@ -436,7 +449,7 @@ impl<'a> Walker<'a> {
     ) -> Result<usize, AllocError>
         requires ready { IsOnItsWay reading.now self.old }
         requires small { length self.old.parser.rest < 2 ^ 63 }
-        requires none { self.old.finders ≡ record { calls = []; fronts = 0 } }
+        requires none { self.old.finders ≡ record { calls = []; front_count = 0 } }
         requires start { self.old.parser.rest ≡ self.old.parser.input }
         requires empty { specs.old.count ≡ 0 }
         ensures count { IfOk result (λ k. k ≡ length (states self.old.parser)) }
@@ -444,10 +457,11 @@ impl<'a> Walker<'a> {
         ensures written { IfOk result (λ k. k ≤ length steps.old → specs.new.count
             ≤ length specs.old.records.now
             → map (step_meant reading.now.input.now (take specs.new.count specs.new.records.now))
-            (take k steps.new) ≡ events reading.now.peeks self.old.parser) }
+            (take k steps.new) ≡ events reading.now.wants_peeks self.old.parser) }
         ensures state { OnOk result (self.new.parser ≡ end_of self.old.parser) }
-        ensures finders { OnOk result (self.new.finders.calls ≡ found_by self.old.parser) }
-        ensures fronts { OnOk result (self.new.finders.fronts ≡ fronts_of self.old.parser) }
+        ensures finders { OnOk result (self.new.finders.calls ≡ finders_of self.old.parser) }
+        ensures front_count { OnOk result (self.new.finders.front_count
+            ≡ fronts_of self.old.parser) }
         ensures kept_steps { IfOk result (λ k. drop k steps.new ≡ drop k steps.old) }
     {
         let count = self.add_steps(reading, steps, specs)?;

@@ -18,7 +18,7 @@ use Rattle.format_calls.specs.Gaps.{BeginsCall, IsClear, LacksFronts, first_wind
 use Rattle.format_calls.specs.Gaps.{window_after}
 use Rattle.format_calls.specs.Marks.{is_mark_of, is_word, word}
 use Rattle.format_calls.specs.Parts.{IsPart, Window, after_next, front_of, front_of_tokens}
-use Rattle.format_calls.specs.Parts.{moved_on}
+use Rattle.format_calls.specs.Parts.{next_window}
 use Rattle.format_calls.specs.Rows.{Entry, rule_of}
 use Rattle.format_calls.proofs.Parting.{IsGap, byte-is, gap-end, gap-more, gap-none, gap-part}
 use Rattle.format_calls.proofs.Parting.{gap_next, punct-no-word, window}
@@ -57,22 +57,22 @@ clear-elsewhere es a b xs c = record {
 abbrev Walked : List Entry → List Leaf → Window → List Leaf → Window → Type 0
 Walked es g w xs v = (h : List Leaf) × (u : Window) × IsGap es h u
     × (◌≡◌ {A = Window} (unplaced_window u) v)
-    × ((left : List Leaf) → g ++ (window w.name w.mark ++ (xs ++ left))
-    ≡ h ++ (window u.name u.mark ++ left))
+    × ((left : List Leaf) → g ++ (window w.name w.bang ++ (xs ++ left))
+    ≡ h ++ (window u.name u.bang ++ left))
 
 walk : (es : List Entry) (xs g : List Leaf) (w v : Window) → IsGap es g w
     → window_after es (unplaced_window w) (map unplaced xs) ≡ Some v → Walked es g w xs v
 walk es [] g w v k e = (g, w, k, same_Some (unplaced_window w) v e, λ left. refl)
 walk es (t ∷ ts) g w v k e =
     by_test (is_some (front_of es (unplaced_window w) (unplaced t))) refl
-    (λ n f. walk es ts (gap_next g w.name) (moved_on w t) v (gap-more es g w t n k).0 f) e
+    (λ n f. walk es ts (gap_next g w.name) (next_window w t) v (gap-more es g w t n k).0 f) e
   where
     by_test : (b : Bool) → is_some (front_of es (unplaced_window w) (unplaced t)) ≡ b
         → ((n : front_of es w t ≡ None)
-        → window_after es (unplaced_window (moved_on w t)) (map unplaced ts) ≡ Some v
-        → Walked es (gap_next g w.name) (moved_on w t) ts v)
+        → window_after es (unplaced_window (next_window w t)) (map unplaced ts) ≡ Some v
+        → Walked es (gap_next g w.name) (next_window w t) ts v)
         → (if b then None
-        else window_after es (moved_on (unplaced_window w) (unplaced t)) (map unplaced ts)) ≡ Some v
+        else window_after es (next_window (unplaced_window w) (unplaced t)) (map unplaced ts)) ≡ Some v
         → Walked es g w (t ∷ ts) v
     by_test true q more f = absurd (none-some v f)
     by_test false q more f =
@@ -89,7 +89,7 @@ walk es (t ∷ ts) g w v k e =
 -- A token that opens nothing ends no beginning of a call.
 no-opening : (es : List Entry) (w : Window) (t : Leaf) → is_opening (side t) ≡ false
     → front_of es w t ≡ None
-no-opening es w t e = by_window w.is_after w.name w.mark
+no-opening es w t e = by_window w.is_after w.name w.bang
   where
     none : (n m : Leaf) → (is_mark_of (code "!") (Some m)
         && (is_opening (side t) && is_some (rule_of_leaf es (Some n)))) ≡ false
@@ -120,9 +120,9 @@ word-no_opening x e = by_kind (is_punct x.kind) refl
     by_kind false h = ap (λ b. is_opening (if b then side_of_mark (slice_index x.text 0)
         else Neither)) h
 
-mark-no_opening : (x : Leaf) → is_mark_of (code "!") (Some x) ≡ true
+bang-no_opening : (x : Leaf) → is_mark_of (code "!") (Some x) ≡ true
     → is_opening (side x) ≡ false
-mark-no_opening x e =
+bang-no_opening x e =
     let p = and_parts (is_punct x.kind) _ e in
     ap (λ b. is_opening (if b then side_of_mark (slice_index x.text 0) else Neither)) p.0
     ∙ ap (λ c. is_opening (side_of_mark c)) (byte-is (code "!") x.text p.1)
@@ -149,22 +149,22 @@ clear-part es gap part left c b end =
     let h : List Leaf = z.0 in
     let u : Window = z.1 in
     let n : Leaf = b.name in
-    let m : Leaf = b.mark in
+    let m : Leaf = b.bang in
     let t : Leaf = b.opening in
     let p = and_parts (is_mark_of (code "!") (Some m)) _ b.opens in
     let q = and_parts (is_opening (side t)) _ p.1 in
     let first = gap-more es h u n
     (no-opening es u n (word-no_opening n (listed-word es n q.1))) z.2 in
-    let second = gap-more es (gap_next h u.name) (moved_on u n) m
-    (no-opening es (moved_on u n) m (mark-no_opening m p.0)) first.0 in
-    let w : Window = moved_on (moved_on u n) m in
-    let g : List Leaf = gap_next (gap_next h u.name) u.mark in
+    let second = gap-more es (gap_next h u.name) (next_window u n) m
+    (no-opening es (next_window u n) m (bang-no_opening m p.0)) first.0 in
+    let w : Window = next_window (next_window u n) m in
+    let g : List Leaf = gap_next (gap_next h u.name) u.bang in
     let same : g ≡ gap = append_cancel_right g gap (n ∷ m ∷ [])
     (sym (z.4 (n ∷ m ∷ []) ∙ (first.1 (m ∷ []) ∙ second.1 []))) in
     let after : w.is_after ≡ false =
-    sym (ap (λ d. after_next d (option_map unplaced u.mark)) (same-after u.is_after u.name)
-    ∙ same-after (after_next u.is_after u.name) u.mark)
-    ∙ (ap (λ v. after_next (after_next v.is_after v.name) v.mark) z.3 ∙ c.fixed) in
+    sym (ap (λ d. after_next d (option_map unplaced u.bang)) (same-after u.is_after u.name)
+    ∙ same-after (after_next u.is_after u.name) u.bang)
+    ∙ (ap (λ v. after_next (after_next v.is_after v.name) v.bang) z.3 ∙ c.fixed) in
     let front : front_of es w t ≡ Some (n ∷ m ∷ t ∷ []) =
     ap (λ d. front_of_tokens es d (Some n) (Some m) t) after
     ∙ ap (λ d. if d then Some (n ∷ m ∷ t ∷ []) else None) b.opens in

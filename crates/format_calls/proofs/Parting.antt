@@ -25,7 +25,7 @@ use Rattle.format_calls.specs.Rows.{Entry, rule_of}
 use Rattle.format_calls.specs.Calls.{IsCall, rule_of_leaf}
 use Rattle.format_calls.specs.Marks.{is_after, is_byte, is_mark, is_mark_of, is_ident, word}
 use Rattle.format_calls.specs.Parts.{IsPart, Window, after_next, front_of, front_of_tokens}
-use Rattle.format_calls.specs.Parts.{moved, moved_on, opens_call}
+use Rattle.format_calls.specs.Parts.{moved, next_window, opens_call}
 use Rattle.format_calls.proofs.CallSteps.{call-within}
 
 -- A token after others, and in front of them.
@@ -259,12 +259,12 @@ window (Some n) (Some m) = n ∷ m ∷ []
 
 -- The facts about the gap in front of a window, whatever is left.
 pub record IsGap (es : List Entry) (gap : List Leaf) (w : Window) : Type 0 where
-  pub before : (left : List Leaf) (c : Call) → IsCall es (gap ++ (window w.name w.mark ++ left)) c
+  pub before : (left : List Leaf) (c : Call) → IsCall es (gap ++ (window w.name w.bang ++ left)) c
       → length gap ≤ c.name
   pub fixed : (left : List Leaf)
-      → is_after (code "$") (gap ++ (window w.name w.mark ++ left)) (length gap) ≡ w.is_after
+      → is_after (code "$") (gap ++ (window w.name w.bang ++ left)) (length gap) ≡ w.is_after
   pub starts : w.name ≡ None → gap ≡ []
-  pub follows : w.mark ≡ None → w.name ≡ None
+  pub follows : w.bang ≡ None → w.name ≡ None
 
 strictly : (a b : ℕ) → a ≤ b → (b ≡ a → ⊥) → a < b
 strictly a b l d = by_order (cases_lt a b)
@@ -321,15 +321,15 @@ gap_next gap (Some n) = gap ++ n ∷ []
 -- The gap in front of the next window.
 pub gap-more : (es : List Entry) (gap : List Leaf) (w : Window) (t : Leaf)
     → front_of es w t ≡ None → IsGap es gap w
-    → IsGap es (gap_next gap w.name) (moved_on w t)
-    × ((left : List Leaf) → gap ++ (window w.name w.mark ++ t ∷ left)
-    ≡ gap_next gap w.name ++ (window w.mark (Some t) ++ left))
-gap-more es gap w t f h = by_window w.is_after w.name w.mark f h
+    → IsGap es (gap_next gap w.name) (next_window w t)
+    × ((left : List Leaf) → gap ++ (window w.name w.bang ++ t ∷ left)
+    ≡ gap_next gap w.name ++ (window w.bang (Some t) ++ left))
+gap-more es gap w t f h = by_window w.is_after w.name w.bang f h
   where
     by_window : (b : Bool) (n m : Option Leaf) → front_of_tokens es b n m t ≡ None
-        → IsGap es gap (record { is_after = b; name = n; mark = m })
+        → IsGap es gap (record { is_after = b; name = n; bang = m })
         → IsGap es (gap_next gap n)
-        (record { is_after = after_next b n; name = m; mark = Some t })
+        (record { is_after = after_next b n; name = m; bang = Some t })
         × ((left : List Leaf) → gap ++ (window n m ++ t ∷ left)
         ≡ gap_next gap n ++ (window m (Some t) ++ left))
     by_window b None None f h = (
@@ -410,7 +410,7 @@ part-long n m t part more e = let l = ap (λ v. length v) e in omega (arith, l)
 
 -- The first window, with nothing in front of it.
 pub gap-none : (es : List Entry)
-    → IsGap es [] (record { is_after = false; name = None; mark = None })
+    → IsGap es [] (record { is_after = false; name = None; bang = None })
 gap-none es = record {
   before = λ left c k. omega arith;
   fixed = λ left. refl;
@@ -428,12 +428,12 @@ left-once u xs ys a b =
 pub gap-part : (es : List Entry) (gap part left f more : List Leaf) (w : Window) (t : Leaf)
     → front_of es w t ≡ Some f → IsGap es gap w → part ≡ f ++ more
     → (left ≡ []) ⊎ IsGroup part
-    → (gap ++ (window w.name w.mark ++ t ∷ (more ++ left)) ≡ gap ++ (part ++ left))
+    → (gap ++ (window w.name w.bang ++ t ∷ (more ++ left)) ≡ gap ++ (part ++ left))
     × IsPart es gap part left
-gap-part es gap part left f more w t s h e end = by_window w.is_after w.name w.mark s h
+gap-part es gap part left f more w t s h e end = by_window w.is_after w.name w.bang s h
   where
     by_window : (b : Bool) (n m : Option Leaf) → front_of_tokens es b n m t ≡ Some f
-        → IsGap es gap (record { is_after = b; name = n; mark = m })
+        → IsGap es gap (record { is_after = b; name = n; bang = m })
         → (gap ++ (window n m ++ t ∷ (more ++ left)) ≡ gap ++ (part ++ left))
         × IsPart es gap part left
     by_window true None None s h = absurd (none-some f s)
@@ -464,12 +464,12 @@ gap-part es gap part left f more w t s h e end = by_window w.is_after w.name w.m
 
 -- No call begins in a gap and the window after it, where nothing is left.
 pub gap-end : (es : List Entry) (gap : List Leaf) (w : Window) (c : Call) → IsGap es gap w
-    → IsCall es (gap ++ (window w.name w.mark ++ [])) c → ⊥
+    → IsCall es (gap ++ (window w.name w.bang ++ [])) c → ⊥
 gap-end es gap w c h k =
     let l = h.before [] c k in
-    let p = (pair-within (gap ++ (window w.name w.mark ++ [])) (c.name + 2) c.close k.is_pair).0 in
-    let a = length-append gap (window w.name w.mark ++ []) in
-    let b = short w.name w.mark in omega (arith, l, p, a, b)
+    let p = (pair-within (gap ++ (window w.name w.bang ++ [])) (c.name + 2) c.close k.is_pair).0 in
+    let a = length-append gap (window w.name w.bang ++ []) in
+    let b = short w.name w.bang in omega (arith, l, p, a, b)
   where
     short : (n m : Option Leaf) → length (window n m ++ []) ≤ 2
     short None None = omega arith

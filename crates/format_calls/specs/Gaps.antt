@@ -6,7 +6,7 @@ use Rattle.rust_tokens.specs.Fronts.{ReadsBeforeWords}
 use Rattle.rust_tokens.specs.Tokens.{Lexeme}
 use Rattle.rust_trees.specs.Leaves.{Leaf, leaves}
 use Rattle.format_calls.specs.Rows.{Entry}
-use Rattle.format_calls.specs.Parts.{Window, after_next, front_of, moved_on, opens_call}
+use Rattle.format_calls.specs.Parts.{Window, after_next, front_of, next_window, opens_call}
 
 -- A token without its place.
 abbrev pub unplaced : Leaf → Leaf
@@ -20,14 +20,14 @@ unplaced x = record {
 
 -- The window in front of the first token.
 abbrev pub first_window : Window
-first_window = record { is_after = false; name = None; mark = None }
+first_window = record { is_after = false; name = None; bang = None }
 
 -- The window after these tokens, read from a window on. None if three of them, one after the other,
 -- begin a call.
 abbrev pub window_after : List Entry → Window → List Leaf → Option Window
 window_after es w [] = Some w
 window_after es w (t ∷ ts) =
-    if is_some (front_of es w t) then None else window_after es (moved_on w t) ts
+    if is_some (front_of es w t) then None else window_after es (next_window w t) ts
 
 -- No three of these tokens, one after the other, begin a call, and w is the window after them.
 abbrev pub LacksFronts : List Entry → List Leaf → Window → Type 0
@@ -37,16 +37,16 @@ LacksFronts es xs w = window_after es first_window (map unplaced xs) ≡ Some w
 pub record IsClear (es : List Entry) (xs : List Leaf) : Type 0 where
   pub window : Window
   pub lacks : LacksFronts es xs window
-  pub fixed : IsFalse (after_next (after_next window.is_after window.name) window.mark)
+  pub fixed : IsFalse (after_next (after_next window.is_after window.name) window.bang)
 
 -- The tokens begin with those that begin a call: a word of the table, `!` and an opening delimiter.
 pub record BeginsCall (es : List Entry) (xs : List Leaf) : Type 0 where
   pub name : Leaf
-  pub mark : Leaf
+  pub bang : Leaf
   pub opening : Leaf
   pub more : List Leaf
-  pub joins : xs ≡ name ∷ mark ∷ opening ∷ more
-  pub opens : IsTrue (opens_call es name mark opening)
+  pub joins : xs ≡ name ∷ bang ∷ opening ∷ more
+  pub opens : IsTrue (opens_call es name bang opening)
 
 -- Before each word a text, in bytes, reads as these tokens, which have their ends; none of them
 -- begins a call, and a call can follow them.

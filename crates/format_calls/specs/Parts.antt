@@ -21,19 +21,19 @@ opens_call es n m t = is_mark_of (code "!") (Some m)
 pub record Window : Type 0 where
   pub is_after : Bool
   pub name : Option Leaf
-  pub mark : Option Leaf
+  pub bang : Option Leaf
 
 -- These two tokens as a contract sees them.
 abbrev pub seen_window : DeclaredWindow → Window
 seen_window w = record {
   is_after = w.is_after;
   name = option_map leaf w.name;
-  mark = option_map leaf w.mark;
+  bang = option_map leaf w.bang;
 }
 
 -- The first three tokens of a call as a contract sees them.
 abbrev pub seen_front : Front → List Leaf
-seen_front f = leaf f.name ∷ leaf f.mark ∷ leaf f.opening ∷ []
+seen_front f = leaf f.name ∷ leaf f.bang ∷ leaf f.opening ∷ []
 
 -- The three tokens that begin a call, if the last two and this one do.
 abbrev pub front_of_tokens : List Entry → Bool → Option Leaf → Option Leaf → Leaf
@@ -43,7 +43,7 @@ front_of_tokens es false (Some n) (Some m) t =
 front_of_tokens es b n m t = None
 
 abbrev pub front_of : List Entry → Window → Leaf → Option (List Leaf)
-front_of es w t = front_of_tokens es w.is_after w.name w.mark t
+front_of es w t = front_of_tokens es w.is_after w.name w.bang t
 
 -- Whether `$` stands before the tokens after the first of them.
 abbrev pub after_next : Bool → Option Leaf → Bool
@@ -51,11 +51,11 @@ after_next b None = b
 after_next b (Some n) = is_mark_of (code "$") (Some n)
 
 -- The last two tokens with one more.
-abbrev pub moved_on : Window → Leaf → Window
-moved_on w t = record {
+abbrev pub next_window : Window → Leaf → Window
+next_window w t = record {
   is_after = after_next w.is_after w.name;
-  name = w.mark;
-  mark = Some t;
+  name = w.bang;
+  bang = Some t;
 }
 
 -- A call whose tokens stand n tokens further on.

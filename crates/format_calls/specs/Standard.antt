@@ -25,8 +25,8 @@ standard =
     ∷ at (codes "global_asm") Templates ∷ at (codes "naked_asm") Templates ∷ []
 
 -- Macros of the crates log, tracing, slog, anyhow and eyre.
-abbrev pub with_crates : List Entry
-with_crates =
+abbrev pub with_crate_macros : List Entry
+with_crate_macros =
     at (codes "error") FirstLiteral ∷ at (codes "warn") FirstLiteral ∷ at
     (codes "info") FirstLiteral
     ∷ at (codes "debug") FirstLiteral ∷ at (codes "trace") FirstLiteral

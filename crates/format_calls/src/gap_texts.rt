@@ -121,16 +121,16 @@ pub fn next_known_part<'a>(
     let Some(name) = rest.next() else {
         return Ok(None);
     };
-    let Some(mark) = rest.next() else {
+    let Some(bang) = rest.next() else {
         return Ok(None);
     };
     let Some(opening) = rest.next() else {
         return Ok(None);
     };
-    if !opens_call(&table.rows, &name, &mark, &opening) {
+    if !opens_call(&table.rows, &name, &bang, &opening) {
         return Ok(None);
     }
-    let tokens = [name, mark, opening];
+    let tokens = [name, bang, opening];
     let part = Source::read_group(alloc, &tokens, rest)?;
     if part.first_break().is_none() && are_ended(part.tokens()) {
         Ok(Some(part))

@@ -26,21 +26,21 @@ pub enum Target {
 }
 
 /// Returns whether arguments are searched for this token.
-fn is_wanted(wanted: Target, token: &Token<'_>) -> bool
-    ensures { result ≡ is_wanted wanted (leaf token.now) }
+fn is_wanted(target: Target, token: &Token<'_>) -> bool
+    ensures { result ≡ is_wanted target (leaf token.now) }
 {
-    match wanted {
+    match target {
         Target::Variable => is_mark_of(token, b'$') || is_mark_of(token, b'#'),
         Target::Raw => is_text(token, "raw"),
     }
 }
 
 /// Returns whether one of these tokens is wanted.
-fn is_one_wanted(tokens: &[Token<'_>], wanted: Target) -> bool
-    ensures { result ≡ list_any (is_wanted wanted) (map leaf tokens.now) }
+fn is_one_wanted(tokens: &[Token<'_>], target: Target) -> bool
+    ensures { result ≡ list_any (is_wanted target) (map leaf tokens.now) }
 {
     for token in tokens {
-        if is_wanted(wanted, token) {
+        if is_wanted(target, token) {
             return true;
         }
     }
@@ -49,17 +49,17 @@ fn is_one_wanted(tokens: &[Token<'_>], wanted: Target) -> bool
 
 /// Returns for each number of tokens from the first one on how many of them end with the last one
 /// that is wanted, or nothing if none is. Returns `Err` if an allocation fails.
-fn last_ones(alloc: Global, tokens: &[Token<'_>], wanted: Target) -> Result<Vec<usize>, AllocError>
-    ensures { IfOk result (λ v. AreLast wanted (map leaf tokens.now) v.items) }
+fn last_ones(alloc: Global, tokens: &[Token<'_>], target: Target) -> Result<Vec<usize>, AllocError>
+    ensures { IfOk result (λ v. AreLast target (map leaf tokens.now) v.items) }
 {
     let mut counts = Vec::new(alloc);
-    if !is_one_wanted(tokens, wanted) {
+    if !is_one_wanted(tokens, target) {
         return Ok(counts);
     }
     let mut last = 0;
     counts.push(last)?;
     for (index, token) in tokens.iter().enumerate() {
-        if is_wanted(wanted, token) {
+        if is_wanted(target, token) {
             last = index + 1;
         }
         counts.push(last)?;
@@ -70,8 +70,8 @@ fn last_ones(alloc: Global, tokens: &[Token<'_>], wanted: Target) -> Result<Vec<
 /// Returns whether one of the tokens of an argument is wanted, where `last_ones` are the numbers
 /// that are returned for them.
 fn is_one_in(last_ones: &[usize], argument: &Argument) -> bool
-    ensures { (wanted : Target) (xs : List Leaf) → AreLast wanted xs last_ones.now
-        → result ≡ list_any (is_wanted wanted) (tokens_of xs argument.now) }
+    ensures { (target : Target) (xs : List Leaf) → AreLast target xs last_ones.now
+        → result ≡ list_any (is_wanted target) (tokens_of xs argument.now) }
 {
     let count = last_ones.len().saturating_sub(1);
     match last_ones.get(argument.end.min(count)) {

@@ -6,7 +6,7 @@ ghost use Rattle.rust_trees.specs.Balances.{IsBalanced};
 ghost use Rattle.rust_trees.specs.Leaves.{AreLeft, Leaf, leaf};
 ghost use Rattle.format_calls.specs.Calls.{IsCall};
 ghost use Rattle.format_calls.specs.Gaps.{BeginsCall, IsClear, LacksFronts};
-ghost use Rattle.format_calls.specs.Parts.{IsPart, Window as LeafWindow, front_of, moved_on};
+ghost use Rattle.format_calls.specs.Parts.{IsPart, Window as LeafWindow, front_of, next_window};
 ghost use Rattle.format_calls.specs.Parts.{opens_call};
 ghost use Rattle.format_calls.specs.Parts.{seen_front, seen_window};
 ghost use Rattle.format_calls.specs.Rows.{entry};
@@ -18,11 +18,11 @@ use rust_trees::{Balance, Source, Token, Tokens, is_opening};
 use std::alloc::{AllocError, Global};
 
 /// Returns whether three tokens are a word of a table, `!` and an opening delimiter.
-pub fn opens_call(rows: &[Row<'_>], name: &Token<'_>, mark: &Token<'_>, opening: &Token<'_>) -> bool
-    ensures { result ≡ opens_call (map entry rows.now) (leaf name.now) (leaf mark.now)
+pub fn opens_call(rows: &[Row<'_>], name: &Token<'_>, bang: &Token<'_>, opening: &Token<'_>) -> bool
+    ensures { result ≡ opens_call (map entry rows.now) (leaf name.now) (leaf bang.now)
         (leaf opening.now) }
 {
-    is_mark_of(mark, b'!')
+    is_mark_of(bang, b'!')
         && is_opening(opening.side())
         && is_word(name)
         && rule_of(rows, word(name)).is_some()
@@ -36,14 +36,14 @@ pub struct Window<'a> {
     /// The first one.
     pub name: Option<Token<'a>>,
     /// The second one.
-    pub mark: Option<Token<'a>>,
+    pub bang: Option<Token<'a>>,
 }
 
 /// The first three tokens of a call: a word, `!` and an opening delimiter.
 #[derive(Clone, Copy)]
 pub struct Front<'a> {
     pub name: Token<'a>,
-    pub mark: Token<'a>,
+    pub bang: Token<'a>,
     pub opening: Token<'a>,
 }
 
@@ -59,13 +59,13 @@ fn front_of<'a>(rows: &[Row<'_>], last: Window<'a>, opening: Token<'a>) -> Optio
     let Some(name) = last.name else {
         return None;
     };
-    let Some(mark) = last.mark else {
+    let Some(bang) = last.bang else {
         return None;
     };
-    if opens_call(rows, &name, &mark, &opening) {
+    if opens_call(rows, &name, &bang, &opening) {
         Some(Front {
             name,
-            mark,
+            bang,
             opening,
         })
     } else {
@@ -74,8 +74,8 @@ fn front_of<'a>(rows: &[Row<'_>], last: Window<'a>, opening: Token<'a>) -> Optio
 }
 
 /// Returns the last two tokens with one more.
-fn moved_on<'a>(last: Window<'a>, token: Token<'a>) -> Window<'a>
-    ensures { seen_window result ≡ moved_on (seen_window last.entry) (leaf token.entry) }
+fn next_window<'a>(last: Window<'a>, token: Token<'a>) -> Window<'a>
+    ensures { seen_window result ≡ next_window (seen_window last.entry) (leaf token.entry) }
 {
     let is_after = match last.name {
         Some(name) => is_mark_of(&name, b'$'),
@@ -83,8 +83,8 @@ fn moved_on<'a>(last: Window<'a>, token: Token<'a>) -> Window<'a>
     };
     Window {
         is_after,
-        name: last.mark,
-        mark: Some(token),
+        name: last.bang,
+        bang: Some(token),
     }
 }
 
@@ -129,17 +129,17 @@ pub fn next_part<'a>(
     let mut last = Window {
         is_after: false,
         name: None,
-        mark: None,
+        bang: None,
     };
     while let Some(token) = rest.next() {
         balance.add(&token)?;
         if let Some(front) = front_of(&table.rows, last, token) {
-            let tokens = [front.name, front.mark, front.opening];
+            let tokens = [front.name, front.bang, front.opening];
             let part = Source::read_group(alloc, &tokens, rest)?;
             add_after_front(balance, &part)?;
             return Ok(Some(part));
         }
-        last = moved_on(last, token);
+        last = next_window(last, token);
     }
     Ok(None)
 }

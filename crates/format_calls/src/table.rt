@@ -2,7 +2,7 @@
 
 ghost use Rattle.std.specs.Prelude.{◌≡◌, ◌∷◌, ◌++◌, IfOk, OnErr, OnOk, is_some, map};
 ghost use Rattle.format_calls.specs.Rows.{entry, rule_of};
-ghost use Rattle.format_calls.specs.Standard.{standard, with_crates};
+ghost use Rattle.format_calls.specs.Standard.{standard, with_crate_macros};
 
 use std::alloc::{AllocError, Global};
 
@@ -191,10 +191,10 @@ const CRATES: [Row<'static>; 13] = [
 ];
 
 /// Adds rows to the end of a list. Returns `Err` if an allocation fails.
-fn push_rows<'a>(rows: &mut Vec<Row<'a>>, more: &[Row<'static>]) -> Result<(), AllocError>
-    ensures { OnOk result (rows.new.items ≡ rows.old.items ++ more.now) }
+fn push_rows<'a>(rows: &mut Vec<Row<'a>>, new_rows: &[Row<'static>]) -> Result<(), AllocError>
+    ensures { OnOk result (rows.new.items ≡ rows.old.items ++ new_rows.now) }
 {
-    for row in more {
+    for row in new_rows {
         rows.push(*row)?;
     }
     Ok(())
@@ -212,8 +212,8 @@ impl<'a> Table<'a> {
 
     /// Returns macros of the crates log, tracing, slog, anyhow and eyre. Returns `Err` if an
     /// allocation fails.
-    pub fn with_crates(alloc: Global) -> Result<Self, AllocError>
-        ensures { IfOk result (λ t. map entry t.rows.items ≡ with_crates) }
+    pub fn with_crate_macros(alloc: Global) -> Result<Self, AllocError>
+        ensures { IfOk result (λ t. map entry t.rows.items ≡ with_crate_macros) }
     {
         let mut rows = Vec::new(alloc);
         push_rows(&mut rows, CRATES.as_slice())?;
@@ -254,7 +254,7 @@ pub fn is_standard(word: &[u8]) -> bool
 
 /// Returns whether a macro of this name is one of log, tracing, slog, anyhow or eyre.
 pub fn is_of_crates(word: &[u8]) -> bool
-    ensures { result ≡ is_some (rule_of with_crates word.now) }
+    ensures { result ≡ is_some (rule_of with_crate_macros word.now) }
 {
     rule_of(&CRATES, word).is_some()
 }

@@ -12,12 +12,13 @@ use Rattle.std.proofs.lemmas.Str.{IsCharBoundary-past_char, IsUtf8-drop, IsUtf8-
 use Rattle.std.proofs.lemmas.Str.{encodes-chars, len_utf8_bounds}
 use Rattle.rustc_parse_format.specs.Characters.{Text, byte_length}
 use Rattle.rustc_parse_format.proofs.Sources.PlainPlaces.{width_chars}
-use Rattle.drawn_lines.specs.Places.{within}
+use Rattle.drawn_lines.specs.Places.{front_within}
 use Rattle.format_lint.specs.Colours.{rest_after}
 
 -- If no character of v ends within w bytes after u, the characters of u are those within w bytes.
 within-append : (w : ℕ) (u v : Text) → byte_length u ≤ w
-    → ((c : ℕ) (t : Text) → v ≡ c ∷ t → w < byte_length u + len_utf8 c) → within w (u ++ v) ≡ u
+    → ((c : ℕ) (t : Text) → v ≡ c ∷ t → w < byte_length u + len_utf8 c)
+    → front_within w (u ++ v) ≡ u
 within-append w [] [] h k = refl
 within-append w [] (c ∷ v) h k =
     let far : w < len_utf8 c = omega (arith, k c v refl) in
@@ -30,7 +31,7 @@ within-append w (d ∷ u) v h k =
     (λ c t f. omega (arith, h, all, k c t f)) in
     rw (e, rest) refl
 
-rest_after-append : (w : ℕ) (u v : Text) → within w (u ++ v) ≡ u → rest_after w (u ++ v) ≡ v
+rest_after-append : (w : ℕ) (u v : Text) → front_within w (u ++ v) ≡ u → rest_after w (u ++ v) ≡ v
 rest_after-append w u v e = ap (λ t. drop (length t) (u ++ v)) e ∙ drop-append_seam u v
 
 -- The last place of a text within w bytes that is between two characters.
@@ -51,7 +52,7 @@ far w text n c t u f e =
 
 -- The text before that place and the text after it.
 pub record AreCut (w : ℕ) (text u v : List ℕ) : Type 0 where
-  pub front : chars u ≡ within w (chars text)
+  pub front : chars u ≡ front_within w (chars text)
   pub back : chars v ≡ rest_after w (chars text)
 
 pub cut : (w : ℕ) (text : List ℕ) (n : ℕ) → IsUtf8 text → IsFloor w text n
@@ -64,7 +65,7 @@ cut w text n u f =
     ∙ chars-append (take n text) (drop n text) a in
     let width : byte_length x ≡ n = width_chars (take n text) a
     ∙ length-take-le n text f.boundary.0 in
-    let front : within w (x ++ y) ≡ x = within-append w x y (omega (arith, width, f.bound))
+    let front : front_within w (x ++ y) ≡ x = within-append w x y (omega (arith, width, f.bound))
     (λ c t e. omega (arith, width, far w text n c t u f e)) in
     record {
       front = rw whole (sym front);

@@ -5,7 +5,7 @@ use Rattle.std.proofs.Common.{append-nil, option_map, IsUtf8}
 use Rattle.std.proofs.Math.Utf8.{encodes}
 use Rattle.std.proofs.lemmas.Str.{encodes-chars}
 use Rattle.rustc_parse_format.specs.Types.{Mode}
-use Rattle.fault_fixes.specs.Fixing.{Fixed}
+use Rattle.fault_fixes.specs.Fixing.{FixedLiteral}
 use Rattle.fault_fixes.proofs.RoundLaws.{fixed-one}
 use Rattle.piece_listing.specs.declared.verdict.RunFault.{RunFault}
 use Rattle.piece_listing.specs.declared.verdict.RunFault.TheVariants.{Words, Read, TooLong, NotText}
@@ -17,11 +17,14 @@ use Rattle.literal_faults.proofs.Snippets.{one-snippet}
 use Rattle.rustc_parse_format.specs.Characters.{Text}
 use Rattle.rustc_parse_format.specs.Literal.{IsLiteral}
 use Rattle.piece_listing.proofs.OneLiteral.{source-only as listed_source-only}
-use Rattle.format_lint.specs.declared.task.Show.{Show}
-use Rattle.format_lint.specs.declared.task.Show.TheVariants.{Fault as ShowFault, Fix as ShowFix}
-use Rattle.format_lint.specs.declared.task.Show.TheVariants.{All as ShowAll, Tokens as ShowTokens}
+use Rattle.format_lint.specs.declared.task.OutputKind.{OutputKind}
+use Rattle.format_lint.specs.declared.task.OutputKind.TheVariants.{Fault as ShowFault}
+use Rattle.format_lint.specs.declared.task.OutputKind.TheVariants.{Fix as ShowFix}
+use Rattle.format_lint.specs.declared.task.OutputKind.TheVariants.{All as ShowAll}
+use Rattle.format_lint.specs.declared.task.OutputKind.TheVariants.{Tokens as ShowTokens}
 use Rattle.format_lint.specs.Lint.{IsLiteralIn, IsMended, IsMendedIn, IsOwed, IsShown, IsSourceIn}
-use Rattle.format_lint.specs.Lint.{Shown, Source, Task, alone, drawn, kept, lexed}
+use Rattle.format_lint.specs.Lint.{Outputs, Source, Task, lone_literal, drawn_source, kept_source}
+use Rattle.format_lint.specs.Lint.{lexed_source}
 
 -- UTF-8 of the same characters is the same.
 same_bytes : (s t : List ℕ) → IsUtf8 s → IsUtf8 t → chars s ≡ chars t → s ≡ t
@@ -78,13 +81,13 @@ source-only true input s r h k = literal_in-only input s r h k
 source-only false input s r h k = h ∙ sym k
 
 -- A source with its edits.
-abbrev with_fixed : Source → Fixed → Source
-with_fixed s f = alone s.style f.text f.snippet
+abbrev with_fixed : Source → FixedLiteral → Source
+with_fixed s f = lone_literal s.style f.text f.snippet
 
 mended_in-only : (mode : Mode) (s : Source) (l : List ℕ) (r q : Source)
     → IsMendedIn mode s l r → IsMendedIn mode s l q → r ≡ q
 mended_in-only mode s l r q (inl (f, h, d)) (inl (g, k, e)) =
-    d ∙ ap (λ (f : Fixed). with_fixed s f) (fixed-one mode s.text s.style l false f g h k)
+    d ∙ ap (λ (f : FixedLiteral). with_fixed s f) (fixed-one mode s.text s.style l false f g h k)
     ∙ sym e
 mended_in-only mode s l r q (inl (f, h, d)) (inr (none, e)) = absurd (none f h)
 mended_in-only mode s l r q (inr (none, d)) (inl (g, k, e)) = absurd (none g k)
@@ -103,28 +106,29 @@ mended-only mode s None r q h k = h ∙ sym k
 mended-only mode s (Some l) r q h k = mended_in-only mode s l r q h k
 
 -- The output that is shown in this way.
-abbrev pub ShownAs : Task → Source → Show → Shown → Type 0
+abbrev pub ShownAs : Task → Source → OutputKind → Outputs → Type 0
 ShownAs a s w x = elim w [
-  | ShowFault ↦ x ≡ drawn false a s
-  | ShowAll ↦ x ≡ drawn true a s
-  | ShowTokens ↦ x ≡ lexed a s
-  | ShowFix ↦ (r : Source) × IsMended a.mode s r × (x ≡ kept a r)
+  | ShowFault ↦ x ≡ drawn_source false a s
+  | ShowAll ↦ x ≡ drawn_source true a s
+  | ShowTokens ↦ x ≡ lexed_source a s
+  | ShowFix ↦ (r : Source) × IsMended a.mode s r × (x ≡ kept_source a r)
 ]
 
-shown-only : (a : Task) (s : Source) (w : Show) (x y : Shown) → ShownAs a s w x → ShownAs a s w y
+shown-only : (a : Task) (s : Source) (w : OutputKind) (x y : Outputs) → ShownAs a s w x
+    → ShownAs a s w y
     → x ≡ y
 shown-only a s ShowFault x y h k = h ∙ sym k
 shown-only a s ShowAll x y h k = h ∙ sym k
 shown-only a s ShowTokens x y h k = h ∙ sym k
 shown-only a s ShowFix x y (r, h, d) (q, k, e) =
-    d ∙ ap (kept a) (mended-only a.mode s s.literal r q h k) ∙ sym e
+    d ∙ ap (kept_source a) (mended-only a.mode s s.literal r q h k) ∙ sym e
 
 -- the answer where something is shown
-with_shown : (a : Task) (input : List ℕ) (x : Shown) (y : Result Shown RunFault)
+with_shown : (a : Task) (input : List ℕ) (x : Outputs) (y : Result Outputs RunFault)
     → IsOwed a input (Ok x) → IsOwed a input y → Ok x ≡ y
 with_shown a input x (Ok y) (_, _, (s, h, e)) (_, _, (r, k, f)) =
     let same : s ≡ r = source-only a.is_literal input s r h k in
-    ap Ok (shown-only a s a.show x y e (subst (λ t. IsShown a t y) (sym same) f))
+    ap Ok (shown-only a s a.output_kind x y e (subst (λ t. IsShown a t y) (sym same) f))
 with_shown a input x (Err TooLong) (short, _, _) long = absurd (omega arith)
 with_shown a input x (Err NotText) (_, text, _) (_, never) = absurd (never text)
 with_shown a input x (Err NotLiteral) (_, _, (s, h, _)) (_, _, never) = absurd (never s h)
@@ -134,7 +138,7 @@ with_shown a input x (Err Memory) h k = absurd k
 with_shown a input x (Err Write) h k = absurd k
 
 -- for an input that is too long
-with_long : (a : Task) (input : List ℕ) (y : Result Shown RunFault) → limit < length input
+with_long : (a : Task) (input : List ℕ) (y : Result Outputs RunFault) → limit < length input
     → IsOwed a input y → Err TooLong ≡ y
 with_long a input (Ok y) long (short, _, _) = absurd (omega arith)
 with_long a input (Err TooLong) long k = refl
@@ -146,7 +150,7 @@ with_long a input (Err Memory) long k = absurd k
 with_long a input (Err Write) long k = absurd k
 
 -- for one that is no text
-with_no_text : (a : Task) (input : List ℕ) (y : Result Shown RunFault) → IsShort input
+with_no_text : (a : Task) (input : List ℕ) (y : Result Outputs RunFault) → IsShort input
     → (IsUtf8 input → ⊥) → IsOwed a input y → Err NotText ≡ y
 with_no_text a input (Ok y) short never (_, text, _) = absurd (never text)
 with_no_text a input (Err TooLong) short never long = absurd (omega arith)
@@ -158,7 +162,7 @@ with_no_text a input (Err Memory) short never k = absurd k
 with_no_text a input (Err Write) short never k = absurd k
 
 -- for one that gives no source
-with_no_source : (a : Task) (input : List ℕ) (y : Result Shown RunFault) → IsShort input
+with_no_source : (a : Task) (input : List ℕ) (y : Result Outputs RunFault) → IsShort input
     → IsUtf8 input → ((s : Source) → IsSourceIn a.is_literal input s → ⊥) → IsOwed a input y
     → Err NotLiteral ≡ y
 with_no_source a input (Ok y) short text never (_, _, (s, h, _)) = absurd (never s h)
@@ -170,7 +174,7 @@ with_no_source a input (Err Read) short text never k = absurd k
 with_no_source a input (Err Memory) short text never k = absurd k
 with_no_source a input (Err Write) short text never k = absurd k
 
-pub owed-only : (a : Task) (input : List ℕ) (x y : Result Shown RunFault) → IsOwed a input x
+pub owed-only : (a : Task) (input : List ℕ) (x y : Result Outputs RunFault) → IsOwed a input x
     → IsOwed a input y → x ≡ y
 owed-only a input (Ok x) y h k = with_shown a input x y h k
 owed-only a input (Err TooLong) y long k = with_long a input y long k

@@ -14,10 +14,11 @@ use Rattle.std.specs.Fmt.{digits, digits_onto, digit_glyph}
 use Rattle.std.specs.List.{list_all}
 use Rattle.std.specs.Prelude.{◌==◌, ◌||◌, codes, flat_map, if◌then◌else◌, nat_lt, not}
 use Rattle.rustc_parse_format.specs.Characters.{Text}
-use Rattle.rustc_parse_format.specs.Written.{plainly_written, written}
+use Rattle.rustc_parse_format.specs.Written.{plainly_written, written_character}
 use Rattle.rustc_parse_format.proofs.Grammar.Fronts.{list_all-weaker}
-use Rattle.piece_listing.specs.Listing.{quoted}
-use Rattle.drawn_lines.specs.Glyphs.{glyph_bytes, is_drawn_as_it_is, is_drawn_as_is, is_printable}
+use Rattle.piece_listing.specs.Listing.{quoted_text}
+use Rattle.drawn_lines.specs.Glyphs.{glyph_bytes, is_non_ascii_drawn_as_is, is_drawn_as_is}
+use Rattle.drawn_lines.specs.Glyphs.{is_printable}
 use Rattle.drawn_lines.proofs.PrintableLemmas.{ascii-printable, whole-as-is}
 
 digit-printable : (n : ℕ) → is_printable (digit_glyph false (n % 16)) ≡ true
@@ -66,8 +67,8 @@ plain-spelled c =
 abbrev IsEscaped : ℕ → Option (List ℕ) → Type 0
 IsEscaped c o = IsSpelled c (elim o [ Some s ↦ s | None ↦ plainly_written c ])
 
-spelled : (c : ℕ) → IsSpelled c (written c)
-unfolding written
+spelled : (c : ℕ) → IsSpelled c (written_character c)
+unfolding written_character
 spelled c =
     let backslash = if c == code "\\" then Some (codes "\\\\") else None in
     let quote = if c == code "\"" then Some (codes "\\\"") else backslash in
@@ -94,19 +95,19 @@ unfolding encode
 late-bytes c l = grind (arith, nat_tests)
 
 late-drawn : (bs : List ℕ) → list_all (λ b. not (nat_lt b 128)) bs ≡ true
-    → list_all is_drawn_as_it_is bs ≡ true → list_all is_drawn_as_is bs ≡ true
+    → list_all is_non_ascii_drawn_as_is bs ≡ true → list_all is_drawn_as_is bs ≡ true
 late-drawn [] late e = refl
 late-drawn (b ∷ bs) late e =
     let p = and_parts (not (nat_lt b 128)) (list_all (λ b. not (nat_lt b 128)) bs) late in
-    let q = and_parts (is_drawn_as_it_is b) (list_all is_drawn_as_it_is bs) e in
+    let q = and_parts (is_non_ascii_drawn_as_is b) (list_all is_non_ascii_drawn_as_is bs) e in
     rw (one b p.0 q.0) (late-drawn bs p.1 q.1)
   where
-    one : (b : ℕ) → not (nat_lt b 128) ≡ true → is_drawn_as_it_is b ≡ true
+    one : (b : ℕ) → not (nat_lt b 128) ≡ true → is_non_ascii_drawn_as_is b ≡ true
         → is_drawn_as_is b ≡ true
     one b p q = grind (arith, nat_tests)
 
 spelled-drawn : (c : ℕ) (bs : List ℕ) → IsSpelled c bs
-    → list_all is_drawn_as_it_is (encode c) ≡ true → list_all is_drawn_as_is bs ≡ true
+    → list_all is_non_ascii_drawn_as_is (encode c) ≡ true → list_all is_drawn_as_is bs ≡ true
 spelled-drawn c bs (inl p) e =
     list_all-weaker is_printable is_drawn_as_is bs (λ b h. grind (arith, nat_tests)) p
 spelled-drawn c bs (inr (l, same)) e =
@@ -117,31 +118,32 @@ spelled-utf8 c bs (inl p) s = IsUtf8-from_ascii bs (ascii-printable bs p)
 spelled-utf8 c bs (inr (l, same)) s =
     (c ∷ [], (rw s refl, append-nil (encode c) ∙ sym same))
 
-text-drawn : (t : Text) → list_all is_drawn_as_it_is (encode_utf8_all t) ≡ true
-    → list_all is_drawn_as_is (flat_map written t) ≡ true
+text-drawn : (t : Text) → list_all is_non_ascii_drawn_as_is (encode_utf8_all t) ≡ true
+    → list_all is_drawn_as_is (flat_map written_character t) ≡ true
 text-drawn [] e = refl
 text-drawn (c ∷ t) e =
     let parts = and_parts _ _
-    (sym (list_all-append is_drawn_as_it_is (encode c) (encode_utf8_all t)) ∙ e) in
-    both is_drawn_as_is (written c) (flat_map written t)
-    (spelled-drawn c (written c) (spelled c) parts.0) (text-drawn t parts.1)
+    (sym (list_all-append is_non_ascii_drawn_as_is (encode c) (encode_utf8_all t)) ∙ e) in
+    both is_drawn_as_is (written_character c) (flat_map written_character t)
+    (spelled-drawn c (written_character c) (spelled c) parts.0) (text-drawn t parts.1)
 
-text-utf8 : (t : Text) → scalars t ≡ true → IsUtf8 (flat_map written t)
+text-utf8 : (t : Text) → scalars t ≡ true → IsUtf8 (flat_map written_character t)
 text-utf8 [] s = IsUtf8-nil
 text-utf8 (c ∷ t) s =
     let parts = and_parts (scalar c) (scalars t) s in
-    IsUtf8-append (written c) (flat_map written t)
-    (spelled-utf8 c (written c) (spelled c) parts.0) (text-utf8 t parts.1)
+    IsUtf8-append (written_character c) (flat_map written_character t)
+    (spelled-utf8 c (written_character c) (spelled c) parts.0) (text-utf8 t parts.1)
 
 -- A quoted text.
 pub quoted-as-is : (t : Text) → scalars t ≡ true
-    → list_all is_drawn_as_it_is (encode_utf8_all t) ≡ true → glyph_bytes (quoted t) ≡ quoted t
+    → list_all is_non_ascii_drawn_as_is (encode_utf8_all t) ≡ true
+    → glyph_bytes (quoted_text t) ≡ quoted_text t
 quoted-as-is t s e =
     let quote : IsUtf8 (codes "\"") =
     IsUtf8-from_ascii (codes "\"") (ascii-printable (codes "\"") refl)
     in
-    whole-as-is (quoted t)
-    (IsUtf8-append (codes "\"") (flat_map written t ++ codes "\"") quote
-    (IsUtf8-append (flat_map written t) (codes "\"") (text-utf8 t s) quote))
-    (both is_drawn_as_is (codes "\"") (flat_map written t ++ codes "\"") refl
-    (both is_drawn_as_is (flat_map written t) (codes "\"") (text-drawn t e) refl))
+    whole-as-is (quoted_text t)
+    (IsUtf8-append (codes "\"") (flat_map written_character t ++ codes "\"") quote
+    (IsUtf8-append (flat_map written_character t) (codes "\"") (text-utf8 t s) quote))
+    (both is_drawn_as_is (codes "\"") (flat_map written_character t ++ codes "\"") refl
+    (both is_drawn_as_is (flat_map written_character t) (codes "\"") (text-drawn t e) refl))

@@ -19,9 +19,10 @@ use Rattle.fault_fixes.specs.Fixing.{all_errors, all_faults, faults_within}
 use Rattle.drawn_lines.specs.Places.{Picture}
 use Rattle.format_lint.specs.Findings.{AreCounted, Finding, add_faults, findings_from}
 use Rattle.format_lint.specs.Findings.{findings_within, first_error}
-use Rattle.format_lint.specs.Findings.{first_error_within, marked_all, mistakes, waits_after_all}
+use Rattle.format_lint.specs.Findings.{first_error_within, marked_findings, mistake_count}
+use Rattle.format_lint.specs.Findings.{waits_after_all}
 use Rattle.format_lint.specs.Findings.{most_drawn}
-use Rattle.format_lint.specs.Lint.{drawings, drawn_finding, first_drawing, more, shown_error}
+use Rattle.format_lint.specs.Lint.{drawings, drawn_finding, first_drawing, more_line, shown_error}
 
 -- The list of a parser has the errors of the faults in their order.
 listed : (old fs : List (Fault Place))
@@ -37,25 +38,27 @@ listed old (f ∷ fs) =
 abbrev first_or : Mode → Picture → Option (Message Place) → List (Message Place) → List ℕ
 first_or d p later es = shown_error d p (elim es [ [] ↦ later | m ∷ ms ↦ Some m ])
 
-step-first : (d : Mode) (p : Picture) (later : Option (Message Place)) (waits : Bool)
+step-first : (d : Mode) (p : Picture) (later : Option (Message Place)) (is_waiting : Bool)
     (l : List (Fault Place)) (fs : List Finding) → shown_error d p later ≡ first_drawing d p fs
-    → first_or d p later (map message l) ≡ first_drawing d p (marked_all waits false l ++ fs)
-step-first d p later waits [] fs h = h
-step-first d p later waits (f ∷ l) fs h = refl
+    → first_or d p later (map message l) ≡ first_drawing d p
+    (marked_findings is_waiting false l ++ fs)
+step-first d p later is_waiting [] fs h = h
+step-first d p later is_waiting (f ∷ l) fs h = refl
 
-within-first : (d : Mode) (p : Picture) (w : World) (n : ℕ) (mode : Mode) (waits : Bool) (c : ℕ)
+within-first : (d : Mode) (p : Picture) (w : World) (n : ℕ) (mode : Mode) (is_waiting : Bool)
+    (c : ℕ)
     (t : Text)
     → shown_error d p (first_error_within w n mode c t)
-    ≡ first_drawing d p (findings_within w n mode waits c t)
-within-first d p w n mode waits c [] = refl
-within-first d p w zero mode waits c (b ∷ t) = refl
-within-first d p w (suc n) mode waits c (b ∷ t) =
+    ≡ first_drawing d p (findings_within w n mode is_waiting c t)
+within-first d p w n mode is_waiting c [] = refl
+within-first d p w zero mode is_waiting c (b ∷ t) = refl
+within-first d p w (suc n) mode is_waiting c (b ∷ t) =
     let a : Call = call mode c (b ∷ t) in
     let fs = add_faults [] (faults_in w a.faults) in
     ap (first_or d p (first_error_within w n mode a.next a.rest)) (listed [] (faults_in w a.faults))
-    ∙ step-first d p (first_error_within w n mode a.next a.rest) waits fs
-    (findings_within w n mode (waits_after_all waits fs) a.next a.rest)
-    (within-first d p w n mode (waits_after_all waits fs) a.next a.rest)
+    ∙ step-first d p (first_error_within w n mode a.next a.rest) is_waiting fs
+    (findings_within w n mode (waits_after_all is_waiting fs) a.next a.rest)
+    (within-first d p w n mode (waits_after_all is_waiting fs) a.next a.rest)
 
 -- The drawing of the error that the compiler shows is that of the first fault that is kept.
 pub first-shown : (d : Mode) (p : Picture) (m : ℕ) (s : State)
@@ -102,7 +105,7 @@ as-long (x ∷ a) (y ∷ b) e = refl
 
 -- A call with faults decides, and after one without no placeholder waits.
 within-some : (w : World) (n : ℕ) (mode : Mode) (c : ℕ) (t : Text)
-    → nat_lt 0 (mistakes (findings_within w n mode false c t))
+    → nat_lt 0 (mistake_count (findings_within w n mode false c t))
     ≡ some (faults_in w (faults_within n mode c t))
 unfolding some
 within-some w n mode c [] = grind arith
@@ -116,8 +119,8 @@ within-some w (suc n) mode c (b ∷ t) =
     ∙ ap some (sym (map-append (map_fault (place_of w)) a.faults later))
   where
     by_faults : (a : Call) (l fs later : List (Fault Place)) → length l ≡ length fs
-        → nat_lt 0 (mistakes (findings_within w n mode false a.next a.rest)) ≡ some later
-        → nat_lt 0 (mistakes (marked_all false false l
+        → nat_lt 0 (mistake_count (findings_within w n mode false a.next a.rest)) ≡ some later
+        → nat_lt 0 (mistake_count (marked_findings false false l
         ++ findings_within w n mode (waits_after_all false l) a.next a.rest)) ≡ some (fs ++ later)
     by_faults a [] [] later e h = h
     by_faults a [] (g ∷ fs) later e h = absurd (omega arith)
@@ -131,7 +134,7 @@ errors-some s e =
     as-long (all_errors s) fs (omega (arith, add_errors-length s.errors fs, ap length e))
 
 own-some : (s : State) → s.errors ≡ []
-    → nat_lt 0 (mistakes (findings_from false s)) ≡ nat_lt 0 (length (all_errors s))
+    → nat_lt 0 (mistake_count (findings_from false s)) ≡ nat_lt 0 (length (all_errors s))
 unfolding findings_from all_faults
 own-some s e =
     within-some s.world (length s.rest) s.mode s.next s.rest ∙ sym (errors-some s e)
@@ -139,7 +142,7 @@ own-some s e =
 
 -- There is no mistake exactly where there is no error.
 pub no_mistakes : (s : State) → s.errors ≡ []
-    → (mistakes (findings_from false s) ≡ 0) ↔ (all_errors s ≡ [])
+    → (mistake_count (findings_from false s) ≡ 0) ↔ (all_errors s ≡ [])
 no_mistakes s e =
     let same = own-some s e in (
       (λ none. nil_from_length (all_errors s) (grind (arith, nat_tests, same, none))),
@@ -149,7 +152,7 @@ no_mistakes s e =
 -- The drawings of the faults that are kept.
 abbrev pub kept_drawings : Bool → Mode → Picture → List Finding → ℕ → List ℕ
 kept_drawings all d p first others =
-    if all then flat_map (drawn_finding d p) first ++ more others else first_drawing d p first
+    if all then flat_map (drawn_finding d p) first ++ more_line others else first_drawing d p first
 
 -- They are those of all faults.
 pub kept-drawn : (all : Bool) (d : Mode) (p : Picture) (s : State) (first : List Finding)

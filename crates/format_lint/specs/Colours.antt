@@ -3,15 +3,16 @@ use Rattle.std.specs.Prelude.{ℕ, ◌-◌, ◌++◌, Bool, true, false, List, [
 use Rattle.std.specs.Prelude.{Some, codes, drop, length}
 use Rattle.std.specs.Str.{encode_utf8_all}
 use Rattle.rustc_parse_format.specs.Characters.{Text}
-use Rattle.piece_listing.specs.Listing.{quoted, span_text}
-use Rattle.drawn_lines.specs.Glyphs.{glyph_bytes, glyphs, is_drawn_as_it_is, is_drawn_as_is}
-use Rattle.drawn_lines.specs.Places.{within}
+use Rattle.piece_listing.specs.Listing.{quoted_text, span_text}
+use Rattle.drawn_lines.specs.Glyphs.{glyph_bytes, glyphs, is_non_ascii_drawn_as_is, is_drawn_as_is}
+use Rattle.drawn_lines.specs.Places.{front_within}
 use Rattle.format_tokens.specs.Escapes.{Placed}
 use Rattle.format_tokens.specs.declared.kinds.Kind.{Kind}
-use Rattle.format_tokens.specs.declared.kinds.Kind.TheVariants.{Text as TextKind, Escape, Open}
-use Rattle.format_tokens.specs.declared.kinds.Kind.TheVariants.{Close, Integer, Identifier}
+use Rattle.format_tokens.specs.declared.kinds.Kind.TheVariants.{Text as TextKind, EscapedBrace}
+use Rattle.format_tokens.specs.declared.kinds.Kind.TheVariants.{OpenBrace}
+use Rattle.format_tokens.specs.declared.kinds.Kind.TheVariants.{CloseBrace, Integer, Identifier}
 use Rattle.format_tokens.specs.declared.kinds.Kind.TheVariants.{RawPrefix, Whitespace, Colon, Fill}
-use Rattle.format_tokens.specs.declared.kinds.Kind.TheVariants.{Align, Sign, NumberSign, Zero}
+use Rattle.format_tokens.specs.declared.kinds.Kind.TheVariants.{Alignment, Sign, NumberSign, Zero}
 use Rattle.format_tokens.specs.declared.kinds.Kind.TheVariants.{DollarSign, Dot, Asterisk}
 use Rattle.format_tokens.specs.declared.kinds.Kind.TheVariants.{«Type» as TypeKind, Modifier}
 use Rattle.format_tokens.specs.declared.kinds.Kind.TheVariants.{DiagnosticText, Unexpected, Quote}
@@ -20,16 +21,16 @@ use Rattle.format_tokens.specs.declared.kinds.Kind.TheVariants.{EscapeSequence}
 -- The name of a kind in a list of tokens.
 unfoldable pub kind_name : Kind → List ℕ
 kind_name TextKind = codes "text"
-kind_name Escape = codes "escape"
-kind_name Open = codes "open"
-kind_name Close = codes "close"
+kind_name EscapedBrace = codes "escape"
+kind_name OpenBrace = codes "open"
+kind_name CloseBrace = codes "close"
 kind_name Integer = codes "integer"
 kind_name Identifier = codes "identifier"
 kind_name RawPrefix = codes "raw-prefix"
 kind_name Whitespace = codes "whitespace"
 kind_name Colon = codes "colon"
 kind_name Fill = codes "fill"
-kind_name Align = codes "align"
+kind_name Alignment = codes "align"
 kind_name Sign = codes "sign"
 kind_name NumberSign = codes "number-sign"
 kind_name Zero = codes "zero"
@@ -49,16 +50,16 @@ kind_name EscapeSequence = codes "escape-sequence"
 -- is wrong. Plain text has none.
 unfoldable pub colour : Kind → Option (List ℕ)
 colour TextKind = None
-colour Escape = Some (codes "34")
-colour Open = Some (codes "35")
-colour Close = Some (codes "35")
+colour EscapedBrace = Some (codes "34")
+colour OpenBrace = Some (codes "35")
+colour CloseBrace = Some (codes "35")
 colour Integer = Some (codes "36")
 colour Identifier = Some (codes "36")
 colour RawPrefix = Some (codes "36")
 colour Whitespace = None
 colour Colon = Some (codes "35")
 colour Fill = Some (codes "33")
-colour Align = Some (codes "33")
+colour Alignment = Some (codes "33")
 colour Sign = Some (codes "33")
 colour NumberSign = Some (codes "33")
 colour Zero = Some (codes "33")
@@ -82,20 +83,20 @@ in_colour (Some n) u = codes "\u{1b}[" ++ (n ++ (codes "m" ++ (u ++ codes "\u{1b
 abbrev pub shown_token : Bool → Placed → Text → List ℕ
 shown_token true x u = in_colour (colour x.0) (encode_utf8_all (glyphs u))
 shown_token false x u = kind_name x.0
-    ++ (codes " " ++ (span_text x.1 ++ (codes " " ++ (glyph_bytes (quoted u) ++ codes "\n"))))
+    ++ (codes " " ++ (span_text x.1 ++ (codes " " ++ (glyph_bytes (quoted_text u) ++ codes "\n"))))
 
 -- The byte is one of a character that is shown as it is in a colour, or that is quoted as it is.
-abbrev pub stays : Bool → ℕ → Bool
-stays true b = is_drawn_as_is b
-stays false b = is_drawn_as_it_is b
+abbrev pub stays_as_is : Bool → ℕ → Bool
+stays_as_is true b = is_drawn_as_is b
+stays_as_is false b = is_non_ascii_drawn_as_is b
 
 -- The rest of a text after its first characters, as many as end within n bytes.
 abbrev pub rest_after : ℕ → Text → Text
-rest_after n t = drop (length (within n t)) t
+rest_after n t = drop (length (front_within n t)) t
 
 -- The tokens of a text: each takes as many bytes from the rest of it as its range has.
 abbrev pub shown_tokens : Bool → Text → List Placed → List ℕ
 shown_tokens colours t [] = []
 shown_tokens colours t (x ∷ xs) =
     let n = x.1.1 - x.1.0 in
-    shown_token colours x (within n t) ++ shown_tokens colours (rest_after n t) xs
+    shown_token colours x (front_within n t) ++ shown_tokens colours (rest_after n t) xs

@@ -30,7 +30,7 @@ first_error s = first_error_within s.world (length s.rest) s.mode s.next s.rest
 -- A fault, and whether it follows from an earlier one. One that does not is a mistake of its own.
 pub record Finding : Type 0 where
   pub fault : Fault Place
-  pub follows : Bool
+  pub is_consequence : Bool
 
 -- Faults with others after them, which are given in the order in which they are found. Their order
 -- is that of their errors in the list of a parser (`add_errors`).
@@ -43,52 +43,56 @@ abbrev pub is_lone_brace : Fault Place → Bool
 is_lone_brace (UnmatchedBrace s) = true
 is_lone_brace f = false
 
--- Whether a placeholder waits for its closing brace after a fault, if `waits` says so of what is
--- before it. The next closing brace that closes nothing is the one that it waits for.
+-- Whether a placeholder waits for its closing brace after a fault, if `is_waiting` says so of what
+-- is before it. The next closing brace that closes nothing is the one that it waits for.
 abbrev pub waits_after : Bool → Fault Place → Bool
-waits_after waits (MissingBrace c s o) = true
-waits_after waits (FillBrace c s o) = true
-waits_after waits (UnmatchedBrace s) = false
-waits_after waits f = waits
+waits_after is_waiting (MissingBrace c s o) = true
+waits_after is_waiting (FillBrace c s o) = true
+waits_after is_waiting (UnmatchedBrace s) = false
+waits_after is_waiting f = is_waiting
 
 -- The same after these faults.
 abbrev pub waits_after_all : Bool → List (Fault Place) → Bool
-waits_after_all waits [] = waits
-waits_after_all waits (f ∷ fs) = waits_after_all (waits_after waits f) fs
+waits_after_all is_waiting [] = is_waiting
+waits_after_all is_waiting (f ∷ fs) = waits_after_all (waits_after is_waiting f) fs
 
 -- A fault as it is shown. It follows if the parser went on after another one of the same call, or
 -- if it is the closing brace that a placeholder waits for.
-abbrev pub marked : Bool → Bool → Fault Place → Finding
-marked waits later f = record { fault = f; follows = later || (waits && is_lone_brace f) }
+abbrev pub marked_finding : Bool → Bool → Fault Place → Finding
+marked_finding is_waiting later f = record {
+  fault = f;
+  is_consequence =
+      later || (is_waiting && is_lone_brace f);
+}
 
 -- The faults of a call as they are shown, where `later` says whether others of the call are before
 -- them.
-abbrev pub marked_all : Bool → Bool → List (Fault Place) → List Finding
-marked_all waits later [] = []
-marked_all waits later (f ∷ fs) =
-    marked waits later f ∷ marked_all (waits_after waits f) true fs
+abbrev pub marked_findings : Bool → Bool → List (Fault Place) → List Finding
+marked_findings is_waiting later [] = []
+marked_findings is_waiting later (f ∷ fs) =
+    marked_finding is_waiting later f ∷ marked_findings (waits_after is_waiting f) true fs
 
 -- The faults of the calls from t on, with at most n calls. A call that returns no piece before the
 -- end, as at a lone closing brace, is followed by others.
 abbrev pub findings_within : World → ℕ → Mode → Bool → ℕ → Text → List Finding
-findings_within w n mode waits c [] = []
-findings_within w zero mode waits c (b ∷ t) = []
-findings_within w (suc n) mode waits c (b ∷ t) =
+findings_within w n mode is_waiting c [] = []
+findings_within w zero mode is_waiting c (b ∷ t) = []
+findings_within w (suc n) mode is_waiting c (b ∷ t) =
     let k = call mode c (b ∷ t) in
     let fs = add_faults [] (faults_in w k.faults) in
-    marked_all waits false fs
-    ++ findings_within w n mode (waits_after_all waits fs) k.next k.rest
+    marked_findings is_waiting false fs
+    ++ findings_within w n mode (waits_after_all is_waiting fs) k.next k.rest
 
 -- The faults of all calls of a parser, up to the end of its input and in the order of the calls.
 -- Those of a call are in the order of their errors in the list of a parser, so that the error of
 -- the first of all is the one that the compiler shows.
 unfoldable pub findings_from : Bool → State → List Finding
-findings_from waits s = findings_within s.world (length s.rest) s.mode waits s.next s.rest
+findings_from is_waiting s = findings_within s.world (length s.rest) s.mode is_waiting s.next s.rest
 
 -- How many of these faults are mistakes of their own.
-abbrev pub mistakes : List Finding → ℕ
-mistakes [] = 0
-mistakes (f ∷ fs) = (if f.follows then 0 else 1) + mistakes fs
+abbrev pub mistake_count : List Finding → ℕ
+mistake_count [] = 0
+mistake_count (f ∷ fs) = (if f.is_consequence then 0 else 1) + mistake_count fs
 
 -- The most faults that are drawn.
 abbrev pub most_drawn : ℕ
@@ -98,4 +102,4 @@ most_drawn = 10
 pub record AreCounted (first : List Finding) (others own : ℕ) (fs : List Finding) : Type 0 where
   pub first_are : first ≡ take most_drawn fs
   pub all_are : length first + others ≡ length fs
-  pub own_are : own ≡ mistakes fs
+  pub own_are : own ≡ mistake_count fs

@@ -15,16 +15,18 @@ use Rattle.rustc_parse_format.specs.Literal.{IsLiteral}
 use Rattle.literal_faults.specs.Margins.{IsSnippet}
 use Rattle.drawn_lines.specs.Places.{Picture}
 use Rattle.drawn_faults.specs.Drawing.{drawing}
-use Rattle.fault_fixes.specs.Fixing.{Fixed, all_errors}
+use Rattle.fault_fixes.specs.Fixing.{FixedLiteral, all_errors}
 use Rattle.fault_fixes.specs.Rounds.{IsFixed}
 use Rattle.drawn_lines.specs.Painting.{IsHarmlessWith}
-use Rattle.format_lint.specs.declared.task.Show.{Show}
-use Rattle.format_lint.specs.declared.task.Show.TheVariants.{Fault as ShowFault, Fix as ShowFix}
-use Rattle.format_lint.specs.declared.task.Show.TheVariants.{All as ShowAll, Tokens as ShowTokens}
+use Rattle.format_lint.specs.declared.task.OutputKind.{OutputKind}
+use Rattle.format_lint.specs.declared.task.OutputKind.TheVariants.{Fault as ShowFault}
+use Rattle.format_lint.specs.declared.task.OutputKind.TheVariants.{Fix as ShowFix}
+use Rattle.format_lint.specs.declared.task.OutputKind.TheVariants.{All as ShowAll}
+use Rattle.format_lint.specs.declared.task.OutputKind.TheVariants.{Tokens as ShowTokens}
 use Rattle.format_tokens.specs.Escapes.{Placed}
 use Rattle.format_tokens.specs.Placed.{tokens}
 use Rattle.format_lint.specs.Colours.{shown_tokens}
-use Rattle.format_lint.specs.Findings.{Finding, findings_from, first_error, mistakes}
+use Rattle.format_lint.specs.Findings.{Finding, findings_from, first_error, mistake_count}
 use Rattle.format_lint.specs.Findings.{most_drawn}
 
 -- The task that the arguments of the program give.
@@ -34,7 +36,7 @@ pub record Task : Type 0 where
   pub is_literal : Bool
   -- The path that is shown for the input.
   pub path : List ℕ
-  pub show : Show
+  pub output_kind : OutputKind
   -- How many columns a row of a drawing has.
   pub width : ℕ
   -- The output has colours.
@@ -62,8 +64,8 @@ pub record IsLiteralIn (input : List ℕ) (s : Source) : Type 0 where
 
 -- A text that is in no literal. A byte offset is one more than in the text, so that is drawn after
 -- a line end, and its lines count from 1.
-abbrev pub bare : List ℕ → Source
-bare t = record {
+abbrev pub source_of_text : List ℕ → Source
+source_of_text t = record {
   text = t;
   style = None;
   literal = None;
@@ -73,8 +75,8 @@ bare t = record {
 }
 
 -- A literal that is drawn alone.
-abbrev pub alone : Option ℕ → List ℕ → List ℕ → Source
-alone style t l = record {
+abbrev pub lone_literal : Option ℕ → List ℕ → List ℕ → Source
+lone_literal style t l = record {
   text = t;
   style = style;
   literal = Some l;
@@ -86,7 +88,7 @@ alone style t l = record {
 -- The source of the input. The flag says whether the input is read as a literal.
 abbrev pub IsSourceIn : Bool → List ℕ → Source → Type 0
 IsSourceIn true input s = IsLiteralIn input s
-IsSourceIn false input s = s ≡ bare input
+IsSourceIn false input s = s ≡ source_of_text input
 
 -- A parser at the start of the source.
 abbrev pub start : Mode → Source → State
@@ -113,12 +115,13 @@ picture a s = record {
 }
 
 -- The line that says how many faults are not drawn, if there are any.
-abbrev pub more : ℕ → List ℕ
-more n = if n == 0 then [] else codes "and " ++ (decimal n ++ codes " more\n")
+abbrev pub more_line : ℕ → List ℕ
+more_line n = if n == 0 then [] else codes "and " ++ (decimal n ++ codes " more\n")
 
 -- The line before the drawing of a fault with this id.
 abbrev pub id_line : Bool → List ℕ → List ℕ
-id_line follows id = (if follows then codes "follows: " else codes "fault: ") ++ (id ++ codes "\n")
+id_line is_consequence id = (if is_consequence then codes "follows: " else codes "fault: ")
+    ++ (id ++ codes "\n")
 
 -- The drawing of the error that the compiler shows, if there is one.
 abbrev pub shown_error : Mode → Picture → Option (Message Place) → List ℕ
@@ -128,12 +131,13 @@ shown_error mode p (Some m) = drawing mode p m
 -- The drawing of a fault with a line before it, which has its id and says whether it follows from
 -- an earlier one.
 abbrev pub drawn_finding : Mode → Picture → Finding → List ℕ
-drawn_finding mode p f = id_line f.follows (fault_id f.fault) ++ drawing mode p (message f.fault)
+drawn_finding mode p f = id_line f.is_consequence (fault_id f.fault)
+    ++ drawing mode p (message f.fault)
 
 -- The drawings of faults, one after the other, and the number of those that are left out.
 abbrev pub drawings : Mode → Picture → List Finding → List ℕ
 drawings mode p fs =
-    flat_map (drawn_finding mode p) (take most_drawn fs) ++ more (length fs - most_drawn)
+    flat_map (drawn_finding mode p) (take most_drawn fs) ++ more_line (length fs - most_drawn)
 
 -- The drawing of the first of these faults, if there is one.
 abbrev pub first_drawing : Mode → Picture → List Finding → List ℕ
@@ -141,10 +145,10 @@ first_drawing mode p [] = []
 first_drawing mode p (f ∷ fs) = drawing mode p (message f.fault)
 
 -- The result of a task: the output, the error output, and the number of mistakes that are left.
-pub record Shown : Type 0 where
+pub record Outputs : Type 0 where
   pub output : List ℕ
   pub error_output : List ℕ
-  pub mistakes : ℕ
+  pub mistake_count : ℕ
 
 -- The drawing of a source, of the error that the compiler shows or of all faults.
 abbrev pub drawing_of : Bool → Task → Source → List ℕ
@@ -153,28 +157,28 @@ drawing_of all a s =
     else shown_error a.mode (picture a s) (first_error (start a.mode s))
 
 -- The drawing of a source is the output.
-abbrev pub drawn : Bool → Task → Source → Shown
-drawn all a s = record {
+abbrev pub drawn_source : Bool → Task → Source → Outputs
+drawn_source all a s = record {
   output = drawing_of all a s;
   error_output = [];
-  mistakes = mistakes (findings a.mode s);
+  mistake_count = mistake_count (findings a.mode s);
 }
 
 -- An output, and for the error output the drawing of the error that the compiler shows of a source.
-abbrev pub with_drawing : List ℕ → Task → Source → Shown
+abbrev pub with_drawing : List ℕ → Task → Source → Outputs
 with_drawing u a s = record {
   output = u;
   error_output = drawing_of false a s;
-  mistakes = mistakes (findings a.mode s);
+  mistake_count = mistake_count (findings a.mode s);
 }
 
 -- A source as it is written, and a line end.
-abbrev pub written : Source → List ℕ
-written s = unwrap_or s.literal s.text ++ codes "\n"
+abbrev pub written_source : Source → List ℕ
+written_source s = unwrap_or s.literal s.text ++ codes "\n"
 
 -- A source is written, and its error is drawn for the error output.
-abbrev pub kept : Task → Source → Shown
-kept a s = with_drawing (written s) a s
+abbrev pub kept_source : Task → Source → Outputs
+kept_source a s = with_drawing (written_source s) a s
 
 -- The tokens of a source, in its literal or in a text that is in none.
 abbrev pub tokens_in : Mode → Source → List Placed
@@ -183,8 +187,8 @@ tokens_in mode s =
 
 -- The tokens of a source are shown, in colours with a line end after them or each in a line, and
 -- its error is drawn for the error output.
-abbrev pub lexed : Task → Source → Shown
-lexed a s =
+abbrev pub lexed_source : Task → Source → Outputs
+lexed_source a s =
     let shown = shown_tokens a.colours (chars (unwrap_or s.literal s.text)) (tokens_in a.mode s) in
     with_drawing (shown ++ (if a.colours then codes "\n" else [])) a s
 
@@ -192,9 +196,9 @@ lexed a s =
 -- is.
 abbrev pub IsMendedIn : Mode → Source → List ℕ → Source → Type 0
 IsMendedIn mode s l r =
-    ((f : Fixed) × IsFixed mode s.text s.style l false f
-    × (r ≡ alone s.style f.text f.snippet))
-    ⊎ (((f : Fixed) → IsFixed mode s.text s.style l false f → ⊥) × (r ≡ s))
+    ((f : FixedLiteral) × IsFixed mode s.text s.style l false f
+    × (r ≡ lone_literal s.style f.text f.snippet))
+    ⊎ (((f : FixedLiteral) → IsFixed mode s.text s.style l false f → ⊥) × (r ≡ s))
 
 -- Any source with the edits that its faults suggest. A text has no edits.
 abbrev pub IsMended : Mode → Source → Source → Type 0
@@ -204,32 +208,32 @@ IsMended mode s r = elim s.literal [
 ]
 
 -- The result of a task for a source.
-abbrev pub IsShown : Task → Source → Shown → Type 0
-IsShown a s x = elim a.show [
-  | ShowFault ↦ x ≡ drawn false a s
-  | ShowAll ↦ x ≡ drawn true a s
-  | ShowTokens ↦ x ≡ lexed a s
-  | ShowFix ↦ (r : Source) × IsMended a.mode s r × (x ≡ kept a r)
+abbrev pub IsShown : Task → Source → Outputs → Type 0
+IsShown a s x = elim a.output_kind [
+  | ShowFault ↦ x ≡ drawn_source false a s
+  | ShowAll ↦ x ≡ drawn_source true a s
+  | ShowTokens ↦ x ≡ lexed_source a s
+  | ShowFix ↦ (r : Source) × IsMended a.mode s r × (x ≡ kept_source a r)
 ]
 
 -- A terminal obeys nothing of this output for a task, but for colours if the task has them, and a
 -- source with its edits, which is the input's own text and is to be read again as it is.
 abbrev pub IsHarmlessOutput : Task → List ℕ → List ℕ → Type 0
-IsHarmlessOutput a input t = elim a.show [
+IsHarmlessOutput a input t = elim a.output_kind [
   | ShowFault ↦ IsHarmlessWith a.colours t
   | ShowAll ↦ IsHarmlessWith a.colours t
   | ShowTokens ↦ IsHarmlessWith a.colours t
   | ShowFix ↦ (s : Source) × (r : Source) × IsSourceIn a.is_literal input s
-      × IsMended a.mode s r × (t ≡ written r)
+      × IsMended a.mode s r × (t ≡ written_source r)
 ]
 
 -- It obeys nothing of either output.
-abbrev pub IsHarmlessFor : Task → List ℕ → Shown → Type 0
+abbrev pub IsHarmlessFor : Task → List ℕ → Outputs → Type 0
 IsHarmlessFor a input x =
     IsHarmlessOutput a input x.output × IsHarmlessWith a.colours x.error_output
 
 -- The answer to a task with this input: its result, or the reason why nothing is written.
-abbrev pub IsOwed : Task → List ℕ → Result Shown RunFault → Type 0
+abbrev pub IsOwed : Task → List ℕ → Result Outputs RunFault → Type 0
 IsOwed a input (Ok x) = IsShort input × IsUtf8 input
     × ((s : Source) × IsSourceIn a.is_literal input s × IsShown a s x)
 IsOwed a input (Err TooLong) = limit < length input

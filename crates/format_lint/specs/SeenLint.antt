@@ -6,9 +6,9 @@ use Rattle.format_lint.specs.declared.task.Task.{Task as DeclaredTask}
 use Rattle.format_lint.specs.declared.faults.Source.{Source as DeclaredSource}
 use Rattle.format_lint.specs.declared.findings.Finding.{Finding as DeclaredFinding}
 use Rattle.format_lint.specs.declared.findings.Findings.{Findings}
-use Rattle.format_lint.specs.declared.shown.Shown.{Shown as DeclaredShown}
+use Rattle.format_lint.specs.declared.outputs.Outputs.{Outputs as DeclaredShown}
 use Rattle.format_lint.specs.Findings.{AreCounted, Finding}
-use Rattle.format_lint.specs.Lint.{Shown, Source, Task}
+use Rattle.format_lint.specs.Lint.{Outputs, Source, Task}
 
 -- A task as a contract sees it.
 abbrev pub seen_task : DeclaredTask → Task
@@ -16,7 +16,7 @@ seen_task t = record {
   mode = seen_mode t.mode;
   is_literal = t.is_literal;
   path = t.path.now;
-  show = t.show;
+  output_kind = t.output_kind;
   width = t.width;
   colours = t.colours;
 }
@@ -34,16 +34,16 @@ seen_source s = record {
 
 -- A fault that is shown, as a contract sees it.
 abbrev pub seen_finding : DeclaredFinding → Finding
-seen_finding f = record { fault = seen_fault f.fault; follows = f.follows }
+seen_finding f = record { fault = seen_fault f.fault; is_consequence = f.is_consequence }
 
 -- The first of these faults are kept, and the others and the mistakes are counted.
 abbrev pub Keeps : Findings → List Finding → Type 0
-Keeps f fs = AreCounted (map seen_finding f.first.items) f.others f.mistakes fs
+Keeps f fs = AreCounted (map seen_finding f.first.items) f.others f.mistake_count fs
 
 -- The result of a task, as a contract sees it.
-abbrev pub seen_shown : DeclaredShown → Shown
-seen_shown x = record {
+abbrev pub seen_outputs : DeclaredShown → Outputs
+seen_outputs x = record {
   output = string_bytes x.output;
   error_output = string_bytes x.error_output;
-  mistakes = x.mistakes;
+  mistake_count = x.mistake_count;
 }

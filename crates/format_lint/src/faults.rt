@@ -4,7 +4,7 @@ ghost use Rattle.std.specs.Prelude.{◌≡◌, ◌≤◌, [], IfOk, chars, false
 ghost use Rattle.rustc_parse_format.specs.Seen.{seen_mode};
 ghost use Rattle.rustc_parse_format.specs.World.{hashes};
 ghost use Rattle.piece_listing.specs.Program.{limit};
-ghost use Rattle.format_tokens.specs.Midway.{sized};
+ghost use Rattle.format_tokens.specs.Midway.{sized_token};
 ghost use Rattle.format_tokens.specs.Seen.{seen_token};
 ghost use Rattle.format_tokens.specs.Walk.{read_tokens};
 ghost use Rattle.format_lint.specs.Findings.{findings_from};
@@ -64,7 +64,7 @@ fn labels_of<'a>(
 ) -> Result<Labelled<'a>, AllocError>
     requires { parser.old ≡ start (seen_mode mode) (seen_source source) }
     ensures labels { IfOk result (λ x. x.labels.items
-        ≡ map sized (read_tokens (seen_mode mode) (chars source.entry.text.now))) }
+        ≡ map sized_token (read_tokens (seen_mode mode) (chars source.entry.text.now))) }
     ensures faults { IfOk result (λ x. Keeps x.faults
         (findings (seen_mode mode) (seen_source source.entry))) }
 {

@@ -4,8 +4,8 @@
 
 mod faults;
 mod findings;
+mod outputs;
 pub mod run;
-mod shown;
 pub mod task;
 mod tokens;
 pub mod verdict;

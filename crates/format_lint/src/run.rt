@@ -7,13 +7,13 @@ ghost use Rattle.piece_listing.specs.declared.verdict.RunFault.TheVariants.{Word
 ghost use Rattle.piece_listing.specs.declared.verdict.RunFault.TheVariants.{NotText, NotLiteral};
 ghost use Rattle.piece_listing.specs.declared.verdict.RunFault.TheVariants.{Write as WriteFault};
 ghost use Rattle.rustc_parse_format.specs.Types.{Mode};
-ghost use Rattle.format_lint.specs.Findings.{mistakes};
-ghost use Rattle.format_lint.specs.Lint.{IsHarmlessFor, IsOwed, Shown, Source, Task as TaskValue};
+ghost use Rattle.format_lint.specs.Findings.{mistake_count};
+ghost use Rattle.format_lint.specs.Lint.{IsHarmlessFor, IsOwed, Outputs, Source, Task as TaskValue};
 ghost use Rattle.format_lint.specs.Lint.{errors, findings};
 ghost use Rattle.piece_listing.specs.declared.verdict.RunFault.{RunFault as FaultValue};
 ghost use Rattle.format_lint.specs.SeenLint.{seen_task};
 
-use super::shown::shown_of_input;
+use super::outputs::outputs_of_input;
 use super::task::Task;
 use piece_listing::run::{read_input, write_whole};
 use piece_listing::verdict::RunFault;
@@ -37,22 +37,22 @@ pub fn run<R: Read, W: Write, E: Write>(
     task: Task<'_>,
 ) -> Result<usize, RunFault>
     // Both outputs and the result are those of the definition `IsOwed`.
-    ensures shown { IfOk result (λ report. IfSome (R.remaining reader.old) (λ input. (x : Shown)
-        × IsOwed (seen_task task.entry) input (Ok x) × (report ≡ x.mistakes)
+    ensures outputs { IfOk result (λ report. IfSome (R.remaining reader.old) (λ input. (x : Outputs)
+        × IsOwed (seen_task task.entry) input (Ok x) × (report ≡ x.mistake_count)
         × Appends (W.contents writer.old) (W.contents writer.new) x.output
         × Appends (E.contents error_writer.old) (E.contents error_writer.new) x.error_output)) }
     // A terminal obeys nothing of them but the colours of the task; with fixes the literal, which
     // is to be read again, is written as it is.
     ensures harmless { IfOk result (λ report. IfSome (R.remaining reader.old)
-        (λ input. (x : Shown) × IsHarmlessFor (seen_task task.entry) input x
+        (λ input. (x : Outputs) × IsHarmlessFor (seen_task task.entry) input x
         × Appends (W.contents writer.old) (W.contents writer.new) x.output
         × Appends (E.contents error_writer.old) (E.contents error_writer.new) x.error_output)) }
     // The definition has only one result.
-    ensures one_answer { (a : TaskValue) (input : List ℕ) (x y : Result Shown FaultValue)
+    ensures one_answer { (a : TaskValue) (input : List ℕ) (x y : Result Outputs FaultValue)
         → IsOwed a input x → IsOwed a input y → x ≡ y }
     // There is a mistake exactly if a parser has an error.
-    ensures mistakes { (mode : Mode) (s : Source)
-        → (mistakes (findings mode s) ≡ 0) ↔ (errors mode s ≡ []) }
+    ensures mistake_count { (mode : Mode) (s : Source)
+        → (mistake_count (findings mode s) ≡ 0) ↔ (errors mode s ≡ []) }
     ensures not_words { IfErr result (λ fault. fault ≢ Words) }
     ensures too_long { IsErrOf result TooLong → IfSome (R.remaining reader.old)
         (λ input. IsOwed (seen_task task.entry) input (Err TooLong)) }
@@ -68,8 +68,8 @@ pub fn run<R: Read, W: Write, E: Write>(
     let Ok(text) = str::from_utf8(input.as_slice()) else {
         return Err(RunFault::NotText);
     };
-    let shown = shown_of_input(alloc, text, task)?;
-    write_whole(writer, shown.output.as_bytes())?;
-    write_whole(error_writer, shown.error_output.as_bytes())?;
-    Ok(shown.mistakes)
+    let outputs = outputs_of_input(alloc, text, task)?;
+    write_whole(writer, outputs.output.as_bytes())?;
+    write_whole(error_writer, outputs.error_output.as_bytes())?;
+    Ok(outputs.mistake_count)
 }

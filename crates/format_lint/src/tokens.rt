@@ -4,14 +4,14 @@
 ghost use Rattle.std.specs.List.{list_all};
 ghost use Rattle.std.specs.Prelude.{◌≡◌, ◌++◌, ℕ, IsTrue, List, MatchOption, OnOk, chars, codes};
 ghost use Rattle.std.specs.Prelude.{false, map, string_bytes, true};
-ghost use Rattle.drawn_lines.specs.Glyphs.{glyph_bytes, is_drawn_as_it_is, is_drawn_as_is};
-ghost use Rattle.drawn_lines.specs.Places.{within};
+ghost use Rattle.drawn_lines.specs.Glyphs.{glyph_bytes, is_non_ascii_drawn_as_is, is_drawn_as_is};
+ghost use Rattle.drawn_lines.specs.Places.{front_within};
 ghost use Rattle.format_tokens.specs.Seen.{seen_token};
-ghost use Rattle.piece_listing.specs.Listing.{quoted};
+ghost use Rattle.piece_listing.specs.Listing.{quoted_text};
 ghost use Rattle.format_lint.specs.Colours.{rest_after, colour, in_colour, kind_name};
-ghost use Rattle.format_lint.specs.Colours.{shown_token, shown_tokens, stays};
+ghost use Rattle.format_lint.specs.Colours.{shown_token, shown_tokens, stays_as_is};
 
-use drawn_lines::{is_drawn_as_is, is_drawn_as_it_is, put_glyphs};
+use drawn_lines::{is_drawn_as_is, is_non_ascii_drawn_as_is, put_glyphs};
 use format_tokens::{Kind, Token};
 use piece_listing::{put_quoted, put_span};
 use std::alloc::AllocError;
@@ -23,16 +23,16 @@ fn kind_name(kind: Kind) -> &'static str
 {
     match kind {
         Kind::Text => "text",
-        Kind::Escape => "escape",
-        Kind::Open => "open",
-        Kind::Close => "close",
+        Kind::EscapedBrace => "escape",
+        Kind::OpenBrace => "open",
+        Kind::CloseBrace => "close",
         Kind::Integer => "integer",
         Kind::Identifier => "identifier",
         Kind::RawPrefix => "raw-prefix",
         Kind::Whitespace => "whitespace",
         Kind::Colon => "colon",
         Kind::Fill => "fill",
-        Kind::Align => "align",
+        Kind::Alignment => "align",
         Kind::Sign => "sign",
         Kind::NumberSign => "number-sign",
         Kind::Zero => "zero",
@@ -58,10 +58,12 @@ fn colour_escape(kind: Kind) -> Option<&'static str>
 {
     match kind {
         Kind::Text | Kind::Whitespace | Kind::DiagnosticText | Kind::Quote => None,
-        Kind::Escape => Some("\u{1b}[34m"),
-        Kind::Open | Kind::Close | Kind::Colon | Kind::DollarSign | Kind::Dot => Some("\u{1b}[35m"),
+        Kind::EscapedBrace => Some("\u{1b}[34m"),
+        Kind::OpenBrace | Kind::CloseBrace | Kind::Colon | Kind::DollarSign | Kind::Dot => Some(
+            "\u{1b}[35m",
+        ),
         Kind::Integer | Kind::Identifier | Kind::RawPrefix | Kind::Asterisk => Some("\u{1b}[36m"),
-        Kind::Fill | Kind::Align | Kind::Sign | Kind::NumberSign | Kind::Zero => {
+        Kind::Fill | Kind::Alignment | Kind::Sign | Kind::NumberSign | Kind::Zero => {
             Some("\u{1b}[33m")
         }
         Kind::Type | Kind::Modifier => Some("\u{1b}[32m"),
@@ -70,83 +72,88 @@ fn colour_escape(kind: Kind) -> Option<&'static str>
     }
 }
 
-/// Adds a text as it is drawn. If `as_is`, each of its characters is drawn as it is.
-fn put_drawn(out: &mut String, as_is: bool, text: &str) -> Result<(), AllocError>
-    requires { IsTrue as_is → list_all is_drawn_as_is text.now ≡ true }
+/// Adds a text as it is drawn. If `is_plain`, each of its characters is drawn as it is.
+fn put_drawn_text(out: &mut String, is_plain: bool, text: &str) -> Result<(), AllocError>
+    requires { IsTrue is_plain → list_all is_drawn_as_is text.now ≡ true }
     ensures { OnOk result (string_bytes out.new ≡ string_bytes out.old ++ glyph_bytes text.now) }
 {
-    if as_is {
+    if is_plain {
         return Ok(out.push_str(text)?);
     }
     put_glyphs(out, text, 0)?;
     Ok(())
 }
 
-/// Adds a text in the colour of a kind, if that has one. If `as_is`, each of its characters is
+/// Adds a text in the colour of a kind, if that has one. If `is_plain`, each of its characters is
 /// drawn as it is.
-fn put_in_colour(out: &mut String, as_is: bool, kind: Kind, text: &str) -> Result<(), AllocError>
-    requires { IsTrue as_is → list_all is_drawn_as_is text.now ≡ true }
+fn put_coloured_text(
+    out: &mut String,
+    is_plain: bool,
+    kind: Kind,
+    text: &str,
+) -> Result<(), AllocError>
+    requires { IsTrue is_plain → list_all is_drawn_as_is text.now ≡ true }
     ensures { OnOk result (string_bytes out.new ≡ string_bytes out.old
         ++ in_colour (colour kind) (glyph_bytes text.now)) }
 {
     match colour_escape(kind) {
         Some(escape) => {
             out.push_str(escape)?;
-            put_drawn(out, as_is, text)?;
+            put_drawn_text(out, is_plain, text)?;
             out.push_str("\u{1b}[0m")?;
         }
-        None => put_drawn(out, as_is, text)?,
+        None => put_drawn_text(out, is_plain, text)?,
     }
     Ok(())
 }
 
-/// Adds a text in quotes as that is drawn. If `as_is`, each of its characters beyond ASCII is drawn
-/// as it is.
-fn put_drawn_quoted(out: &mut String, as_is: bool, text: &str) -> Result<(), AllocError>
-    requires { IsTrue as_is → list_all is_drawn_as_it_is text.now ≡ true }
+/// Adds a text in quotes as that is drawn. If `is_plain`, each of its characters beyond ASCII is
+/// drawn as it is.
+fn put_quoted_text(out: &mut String, is_plain: bool, text: &str) -> Result<(), AllocError>
+    requires { IsTrue is_plain → list_all is_non_ascii_drawn_as_is text.now ≡ true }
     ensures { OnOk result (string_bytes out.new
-        ≡ string_bytes out.old ++ glyph_bytes (quoted (chars text.now))) }
+        ≡ string_bytes out.old ++ glyph_bytes (quoted_text (chars text.now))) }
 {
-    if as_is {
+    if is_plain {
         return put_quoted(out, text);
     }
-    let mut quoted = String::new(*out.allocator());
-    put_quoted(&mut quoted, text)?;
-    put_glyphs(out, quoted.as_str(), 0)?;
+    let mut quoted_string = String::new(*out.allocator());
+    put_quoted(&mut quoted_string, text)?;
+    put_glyphs(out, quoted_string.as_str(), 0)?;
     Ok(())
 }
 
-/// Adds a line with the kind, the byte range and the text of a token. If `as_is`, each character of
-/// that beyond ASCII is drawn as it is.
-fn put_line(out: &mut String, as_is: bool, token: &Token, text: &str) -> Result<(), AllocError>
-    requires { IsTrue as_is → list_all is_drawn_as_it_is text.now ≡ true }
+/// Adds a line with the kind, the byte range and the text of a token. If `is_plain`, each character
+/// of that beyond ASCII is drawn as it is.
+fn put_line(out: &mut String, is_plain: bool, token: &Token, text: &str) -> Result<(), AllocError>
+    requires { IsTrue is_plain → list_all is_non_ascii_drawn_as_is text.now ≡ true }
     ensures { OnOk result (string_bytes out.new ≡ string_bytes out.old
         ++ shown_token false (seen_token token.now) (chars text.now)) }
 {
     out.push_str(kind_name(token.kind))?;
     put_span(out, ' ', &token.span)?;
     out.push(' ')?;
-    put_drawn_quoted(out, as_is, text)?;
+    put_quoted_text(out, is_plain, text)?;
     out.push('\n')?;
     Ok(())
 }
 
-/// Adds a token with this text. If `as_is`, the text is shown as it is, or quoted as it is.
+/// Adds a token with this text. If `is_plain`, the text is shown as it is, or quoted as it is.
 fn put_token(
     out: &mut String,
     colours: bool,
-    as_is: bool,
+    is_plain: bool,
     token: &Token,
     text: &str,
 ) -> Result<(), AllocError>
-    requires { IsTrue as_is → list_all (stays colours) text.now ≡ true }
+    requires { IsTrue is_plain → list_all (stays_as_is colours) text.now ≡ true }
     ensures { OnOk result (string_bytes out.new ≡ string_bytes out.old
         ++ shown_token colours (seen_token token.now) (chars text.now)) }
 {
     if colours {
-        put_in_colour(out, as_is, token.kind, text)?;
+        put_coloured_text(out, is_plain, token.kind, text)?;
     } else {
-        put_line(out, as_is, token, text)?;
+        put_line(out, is_plain, token, text)?;
     }
     Ok(())
 }
@@ -154,7 +161,7 @@ fn put_token(
 /// Returns the first characters of a text, as many as end within `width` bytes, and the rest after
 /// them.
 fn split_within(text: &str, width: usize) -> (&str, &str)
-    ensures front { chars result.0.now ≡ within width (chars text.now) }
+    ensures front { chars result.0.now ≡ front_within width (chars text.now) }
     ensures back { chars result.1.now ≡ rest_after width (chars text.now) }
     ensures whole { text.now ≡ result.0.now ++ result.1.now }
 {
@@ -162,13 +169,13 @@ fn split_within(text: &str, width: usize) -> (&str, &str)
 }
 
 /// Returns `true` only if each part of a text is shown as it is, or quoted as it is.
-fn stays(colours: bool, text: &str) -> bool
-    ensures { IsTrue result → list_all (stays colours) text.now ≡ true }
+fn stays_as_is(colours: bool, text: &str) -> bool
+    ensures { IsTrue result → list_all (stays_as_is colours) text.now ≡ true }
 {
     if colours {
         is_drawn_as_is(text)
     } else {
-        is_drawn_as_it_is(text)
+        is_non_ascii_drawn_as_is(text)
     }
 }
 
@@ -188,15 +195,18 @@ pub fn put_tokens(
     ensures { OnOk result (string_bytes out.new ≡ string_bytes out.old
         ++ shown_tokens colours (chars text.now) (map seen_token tokens.now)) }
 {
-    let each = if colours { ESCAPES_WIDTH } else { LINE_WIDTH };
+    let token_width = if colours { ESCAPES_WIDTH } else { LINE_WIDTH };
     // most often enough for all of them, so that what was written is not moved again and again
-    out.reserve(text.len().saturating_add(tokens.len().saturating_mul(each)))?;
-    let as_is = stays(colours, text);
+    out.reserve(
+        text.len()
+            .saturating_add(tokens.len().saturating_mul(token_width)),
+    )?;
+    let is_plain = stays_as_is(colours, text);
     let mut rest = text;
     for token in tokens {
         let width = token.span.end.saturating_sub(token.span.start);
         let (text, rest_after) = split_within(rest, width);
-        put_token(out, colours, as_is, token, text)?;
+        put_token(out, colours, is_plain, token, text)?;
         rest = rest_after;
     }
     Ok(())

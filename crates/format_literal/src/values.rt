@@ -4,7 +4,7 @@ ghost use Rattle.std.specs.Prelude.{◌+◌, ◌<◌, ◌^◌};
 ghost use Rattle.rustc_parse_format.specs.World.{hashes};
 
 use crate::validity::is_written;
-use fault_fixes::{Fixed, fix};
+use fault_fixes::{FixedLiteral, fix};
 use format_tokens::{Token, tokens};
 use piece_listing::literal::{LiteralText, literal_text};
 use placeholder_check::{Report, check};
@@ -34,7 +34,7 @@ impl<'a> Literal<'a> {
     ghost use Rattle.std.specs.Prelude.{string_bytes};
     ghost use Rattle.rustc_parse_format.specs.Call.{pieces_of};
     ghost use Rattle.rustc_parse_format.specs.Characters.{Text};
-    ghost use Rattle.rustc_parse_format.specs.Seen.{seen, seen_mode};
+    ghost use Rattle.rustc_parse_format.specs.Seen.{seen_piece, seen_mode};
     ghost use Rattle.rustc_parse_format.specs.State.{after_all, calls};
     ghost use Rattle.rustc_parse_format.specs.World.{pieces_in};
     ghost use Rattle.placeholder_check.specs.Report.{IsReport};
@@ -42,7 +42,7 @@ impl<'a> Literal<'a> {
     ghost use Rattle.placeholder_check.specs.Uses.{uses};
     ghost use Rattle.format_tokens.specs.Placed.{tokens};
     ghost use Rattle.format_tokens.specs.Seen.{seen_token};
-    ghost use Rattle.fault_fixes.specs.Fixing.{Fixed as FixedLiteral};
+    ghost use Rattle.fault_fixes.specs.Fixing.{FixedLiteral as FixedValue};
     ghost use Rattle.fault_fixes.specs.Rounds.{IsFixed};
     ghost use Rattle.fault_fixes.specs.SeenEdits.{seen_fixed};
     ghost use Rattle.format_literal.specs.Seen.{EndsLine, IsRead, snippet_of, start, text_of};
@@ -108,7 +108,7 @@ impl<'a> Literal<'a> {
     /// errors are in [`Parser::errors`]. Returns `Err` if an allocation fails.
     pub fn read_all(&self, alloc: Global) -> Result<Reading<'_>, AllocError>
         ensures { IfOk result (λ x. let s = start self.now in
-            (map seen x.pieces.items ≡ pieces_in s.world (pieces_of (calls s)))
+            (map seen_piece x.pieces.items ≡ pieces_in s.world (pieces_of (calls s)))
             × (x.parser ≡ after_all s (calls s))) }
     {
         let snippet = String::from_str(alloc, self.snippet)?;
@@ -142,9 +142,9 @@ impl<'a> Literal<'a> {
     /// Returns the literal with the edits that its faults suggest, as `fault_fixes::fix` does, or
     /// `None` if there is no such literal. Returns `Err` if an allocation fails, or if there is an
     /// edit and the literal or its text has 2^59 bytes or more.
-    pub fn fix(&self, alloc: Global) -> Result<Option<Fixed>, AllocError>
+    pub fn fix(&self, alloc: Global) -> Result<Option<FixedLiteral>, AllocError>
         ensures { IfOk result (λ o. MatchOption o
-            ((f : FixedLiteral) → IsFixed (seen_mode self.now.mode) (string_bytes self.now.text)
+            ((f : FixedValue) → IsFixed (seen_mode self.now.mode) (string_bytes self.now.text)
             self.now.style self.now.snippet.now self.now.appended_newline f → ⊥)
             (λ f. IsFixed (seen_mode self.now.mode) (string_bytes self.now.text) self.now.style
             self.now.snippet.now self.now.appended_newline (seen_fixed f))) }

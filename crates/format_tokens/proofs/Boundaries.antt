@@ -10,7 +10,8 @@ use Rattle.std.proofs.lemmas.Str.{len_utf8_bounds}
 use Rattle.rustc_parse_format.specs.Characters.{Text, byte_length}
 use Rattle.rustc_parse_format.specs.Literal.{IsContent}
 use Rattle.rustc_parse_format.specs.LiteralUnits.{ByteEscape, Continuation, LiteralUnit, Plain}
-use Rattle.rustc_parse_format.specs.LiteralUnits.{SimpleEscape, UnicodeEscape, at_most_one, escaped}
+use Rattle.rustc_parse_format.specs.LiteralUnits.{SimpleEscape, UnicodeEscape, at_most_one}
+use Rattle.rustc_parse_format.specs.LiteralUnits.{escaped_character}
 use Rattle.rustc_parse_format.specs.LiteralUnits.{is_unit, spelling, value}
 use Rattle.rustc_parse_format.specs.World.{Place, content_places, last_stop}
 use Rattle.rustc_parse_format.proofs.Literals.Meanings.{meaning-some}
@@ -44,7 +45,8 @@ unit-no_line c (Plain d) r w v s e =
     false≢true (sym none)
 unit-no_line c (SimpleEscape l) r w v s e =
     let line : l ≡ 10 = ap second-of e in
-    let some : is_some (escaped 10) ≡ true = subst (λ k. is_some (escaped k) ≡ true) line w in
+    let some : is_some (escaped_character 10) ≡ true =
+    subst (λ k. is_some (escaped_character k) ≡ true) line w in
     false≢true some
 unit-no_line c (ByteEscape h l) r w v s e =
     let line : ◌≡◌ {A = ℕ} 120 10 = ap second-of e in omega arith
@@ -60,7 +62,7 @@ some-one (Some c) w v = absurd (cc v)
 nothing-line : (u : LiteralUnit) (t r : Text) → is_unit u ≡ true → value u ≡ []
     → t ≡ spelling u ++ r → HasNoLine t → ⊥
 nothing-line (Plain d) t r w v e none = absurd (cc v)
-nothing-line (SimpleEscape l) t r w v e none = some-one (escaped l) w v
+nothing-line (SimpleEscape l) t r w v e none = some-one (escaped_character l) w v
 nothing-line (ByteEscape h l) t r w v e none = absurd (cc v)
 nothing-line (UnicodeEscape x) t r w v e none = absurd (cc v)
 nothing-line (Continuation x) t r w v e none = none (x ++ r) e

@@ -18,9 +18,10 @@ use Rattle.rustc_parse_format.specs.Types.{Mode, wants_names}
 use Rattle.rustc_parse_format.proofs.Grammar.CleanCuts.{cut_clean, cut_faultless}
 use Rattle.rustc_parse_format.proofs.Grammar.PartCuts.{cut-sound}
 use Rattle.rustc_parse_format.proofs.Readers.Recoveries.{recovery_rest}
-use Rattle.format_tokens.specs.declared.kinds.Kind.TheVariants.{Close, Escape, Open, Unexpected}
+use Rattle.format_tokens.specs.declared.kinds.Kind.TheVariants.{CloseBrace, EscapedBrace, OpenBrace}
+use Rattle.format_tokens.specs.declared.kinds.Kind.TheVariants.{Unexpected}
 use Rattle.format_tokens.specs.declared.kinds.Kind.TheVariants.{Text as TextKind, Whitespace}
-use Rattle.format_tokens.specs.Culprits.{closes, has_argument, marked, role_of}
+use Rattle.format_tokens.specs.Culprits.{closes, has_argument, marked_tokens, role_of}
 use Rattle.format_tokens.specs.Sections.{Section, empty, has_fault, has_mark, is_mark}
 use Rattle.format_tokens.specs.Sections.{opens}
 use Rattle.format_tokens.specs.Tokens.{Label, field_tokens, opened_tokens, piece_tokens, token}
@@ -41,10 +42,10 @@ fault-within (g ∷ x) y z f = refl
 -- The part of a section from t on, before which no call is left in a placeholder: no opening brace
 -- is in it. If it follows one that is not closed, and closes it, it has a mark.
 pub record Front (names : Bool) (t : Text) (s : Section) : Type 0 where
-  pub marks : has_mark (marked names false s.tokens) ≡ has_fault s.faults
+  pub marks : has_mark (marked_tokens names false s.tokens) ≡ has_fault s.faults
   pub closing : closes s.tokens ≡ has_fault s.faults
   pub inside : begins_with 125 t ≡ false → closes s.tokens ≡ true
-      → has_mark (marked names true s.tokens) ≡ true
+      → has_mark (marked_tokens names true s.tokens) ≡ true
 
 pub front-empty : (names : Bool) (t : Text) → Front names t empty
 front-empty names t = record {
@@ -65,7 +66,7 @@ front-run names t r u c s h = record {
 front-doubled : (names : Bool) (t r u d : Text) (s : Section) (c : ℕ) → Front names r s
     → Front names t (record {
       faults = s.faults;
-      tokens = (token Escape (c ∷ d) ++ token TextKind u) ++ s.tokens;
+      tokens = (token EscapedBrace (c ∷ d) ++ token TextKind u) ++ s.tokens;
     })
 unfolding is_mark role_of
 front-doubled names t r [] d s c h = record {
@@ -83,7 +84,7 @@ front-unmatched : (names : Bool) (t u : Text) (c : ℕ) (f : Fault Span) (s : Se
     → begins_with 125 t ≡ true
     → Front names t (record {
       faults = f ∷ s.faults;
-      tokens = token Close (c ∷ u) ++ s.tokens;
+      tokens = token CloseBrace (c ∷ u) ++ s.tokens;
     })
 unfolding is_mark role_of
 front-unmatched names t u c f s q = record {
@@ -133,22 +134,24 @@ front-call mode names c b t s alone h = by_brace (is_brace b) refl
 
 -- A section that an opening brace begins.
 pub record Opened (names : Bool) (s : Section) : Type 0 where
-  pub marks : has_mark (marked names false s.tokens) ≡ has_fault s.faults
+  pub marks : has_mark (marked_tokens names false s.tokens) ≡ has_fault s.faults
   pub text : Text
   pub others : List Label
-  pub begins : s.tokens ≡ (Open, text) ∷ others
+  pub begins : s.tokens ≡ (OpenBrace, text) ∷ others
 
 -- The tokens after an opening brace and those of its field. The flag says that the brace is in
 -- place.
 open-marks : (names : Bool) (o : Text) (x ts : List Label) (m : Bool) → Inner names x m
-    → has_mark (marked names false ((Open, o) ∷ (x ++ ts)))
+    → has_mark (marked_tokens names false ((OpenBrace, o) ∷ (x ++ ts)))
     ≡ (let f = closes ts && (not names || has_argument (x ++ ts)) in
-    is_mark (cond f Open Unexpected) || (m || has_mark (marked names f ts)))
+    is_mark (cond f OpenBrace Unexpected) || (m || has_mark (marked_tokens names f ts)))
 unfolding role_of
 open-marks names o x ts m h =
     ap (λ b. (let f = b && (not names || has_argument (x ++ ts)) in
-    is_mark (cond f Open Unexpected) || has_mark (marked names f (x ++ ts)))) (h.closing ts)
-    ∙ ap (λ b. is_mark (cond (closes ts && (not names || has_argument (x ++ ts))) Open Unexpected)
+    is_mark (cond f OpenBrace Unexpected) || has_mark (marked_tokens names f (x ++ ts))))
+    (h.closing ts)
+    ∙ ap (λ b. is_mark (cond (closes ts &&
+    (not names || has_argument (x ++ ts))) OpenBrace Unexpected)
     || b) (h.passes (closes ts && (not names || has_argument (x ++ ts))) ts)
 
 -- Where a brace closes the placeholder.
@@ -159,8 +162,8 @@ fault-decides (x ∷ fs) true true h k = refl
 fault-decides (x ∷ fs) true false h k = let none = k refl refl in absurd (cc none)
 fault-decides (x ∷ fs) false m h k = refl
 
-weigh : (g m s : Bool) → (is_mark (cond g Open Unexpected)
-    || (m || (is_mark (cond g Close Unexpected) || s))) ≡ ((not g || m) || s)
+weigh : (g m s : Bool) → (is_mark (cond g OpenBrace Unexpected)
+    || (m || (is_mark (cond g CloseBrace Unexpected) || s))) ≡ ((not g || m) || s)
 unfolding is_mark
 weigh true true s = refl
 weigh true false s = refl
@@ -210,48 +213,48 @@ closed-marks mode t s q h =
     let names = wants_names mode in
     let space = front is_whitespace a.rest in
     let x = field_tokens a.field ++ token Whitespace space in
-    let ts = (Close, codes "}") ∷ s.tokens in
-    let shape : (x ++ ((Close, codes "}") ∷ [])) ++ s.tokens ≡ x ++ ts =
-    append_assoc x ((Close, codes "}") ∷ []) s.tokens in
+    let ts = (CloseBrace, codes "}") ∷ s.tokens in
+    let shape : (x ++ ((CloseBrace, codes "}") ∷ [])) ++ s.tokens ≡ x ++ ts =
+    append_assoc x ((CloseBrace, codes "}") ∷ []) s.tokens in
     let g = not names || has_argument (x ++ ts) in
     let m = field_mark names a.field || false in record {
-      marks = ap (λ l. has_mark (marked names false ((Open, codes "{") ∷ l))) shape
+      marks = ap (λ l. has_mark (marked_tokens names false ((OpenBrace, codes "{") ∷ l))) shape
           ∙ (open-marks names (codes "{") x ts m (field-inner names a.field space)
-          ∙ (weigh g m (has_mark (marked names false s.tokens))
-          ∙ (ap (λ b. b || has_mark (marked names false s.tokens))
+          ∙ (weigh g m (has_mark (marked_tokens names false s.tokens))
+          ∙ (ap (λ b. b || has_mark (marked_tokens names false s.tokens))
           (sym (closed-faults mode t ts refl q))
           ∙ (ap (λ b. has_fault (cut_faults mode a) || b) h.marks
           ∙ sym (fault-append (cut_faults mode a) s.faults)))));
       text = codes "{";
-      others = (x ++ ((Close, codes "}") ∷ [])) ++ s.tokens;
+      others = (x ++ ((CloseBrace, codes "}") ∷ [])) ++ s.tokens;
       begins = refl;
     }
 
 -- Where none does, what is read in its place has a mark, or what follows has, or the brace itself.
 skipped-marked : (names : Bool) (ts : List Label) (c : ℕ) (u : Text) → (c == 125) ≡ false
-    → has_mark (marked names true (skipped_tokens (c ∷ u) ++ ts)) ≡ true
+    → has_mark (marked_tokens names true (skipped_tokens (c ∷ u) ++ ts)) ≡ true
 unfolding is_mark role_of
 skipped-marked names ts c [] e = rw e refl
 skipped-marked names ts c (d ∷ u) e =
     let few : length (c ∷ d ∷ u) - 1 ≡ suc (length u) = omega arith in
     cond_both (is_closed (d ∷ u))
-    (token Unexpected (take (length (c ∷ d ∷ u) - 1) (c ∷ d ∷ u)) ++ token Close (codes "}"))
-    (token Unexpected (c ∷ d ∷ u)) (λ l. has_mark (marked names true (l ++ ts)) ≡ true)
-    (λ q. ap (λ n. has_mark (marked names true ((token Unexpected (take n (c ∷ d ∷ u))
-    ++ token Close (codes "}")) ++ ts))) few)
+    (token Unexpected (take (length (c ∷ d ∷ u) - 1) (c ∷ d ∷ u)) ++ token CloseBrace (codes "}"))
+    (token Unexpected (c ∷ d ∷ u)) (λ l. has_mark (marked_tokens names true (l ++ ts)) ≡ true)
+    (λ q. ap (λ n. has_mark (marked_tokens names true ((token Unexpected (take n (c ∷ d ∷ u))
+    ++ token CloseBrace (codes "}")) ++ ts))) few)
     (λ q. refl)
 
 skipped-inside : (names : Bool) (r : Text) (s : Section) (u k : Text)
     → begins_with 125 r ≡ false → r ≡ u ++ k → Front names k s
     → closes (skipped_tokens u ++ s.tokens) ≡ true
-    → has_mark (marked names true (skipped_tokens u ++ s.tokens)) ≡ true
+    → has_mark (marked_tokens names true (skipped_tokens u ++ s.tokens)) ≡ true
 skipped-inside names r s [] k q e h closing =
     h.inside (sym (ap (begins_with 125) e) ∙ q) closing
 skipped-inside names r s (c ∷ u) k q e h closing =
     skipped-marked names s.tokens c u (sym (ap (begins_with 125) e) ∙ q)
 
 left-open : (f m s : Bool) → (f ≡ true → s ≡ true)
-    → (is_mark (cond f Open Unexpected) || (m || s)) ≡ true
+    → (is_mark (cond f OpenBrace Unexpected) || (m || s)) ≡ true
 unfolding is_mark
 left-open true true s h = refl
 left-open true false s h = h refl
@@ -280,11 +283,11 @@ unclosed-marks mode t k fs f s q e h =
     let ts = ls ++ s.tokens in
     let g = closes ts && (not names || has_argument (x ++ ts)) in
     let m = field_mark names a.field || false in record {
-      marks = ap (λ l. has_mark (marked names false ((Open, codes "{") ∷ l)))
+      marks = ap (λ l. has_mark (marked_tokens names false ((OpenBrace, codes "{") ∷ l)))
           (append_assoc x ls s.tokens)
           ∙ (open-marks names (codes "{") x ts m (field-inner names a.field space)
-          ∙ (left-open g m (has_mark (marked names g ts))
-          (λ yes. ap (λ b. has_mark (marked names b ts)) yes
+          ∙ (left-open g m (has_mark (marked_tokens names g ts))
+          (λ yes. ap (λ b. has_mark (marked_tokens names b ts)) yes
           ∙ skipped-inside names r s (up_to_rest r k) k q e h (and-left (closes ts) _ yes))
           ∙ sym (fault-within (cut_faults mode a) fs s.faults f)));
       text = codes "{";

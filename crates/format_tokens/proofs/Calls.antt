@@ -12,7 +12,7 @@ use Rattle.rustc_parse_format.specs.Characters.{Text, is_brace, is_no_brace, fro
 use Rattle.rustc_parse_format.specs.Characters.{begins_with, after_first, after_white}
 use Rattle.rustc_parse_format.specs.Characters.{byte_length}
 use Rattle.rustc_parse_format.specs.Characters.{first_passes}
-use Rattle.rustc_parse_format.specs.Types.{Mode, Argument, Piece, Lit, NextArgument, bare}
+use Rattle.rustc_parse_format.specs.Types.{Mode, Argument, Piece, Lit, NextArgument, bare_piece}
 use Rattle.rustc_parse_format.specs.Types.{bare_argument}
 use Rattle.rustc_parse_format.specs.Marks.{Span}
 use Rattle.rustc_parse_format.specs.Meaning.{argument}
@@ -23,7 +23,8 @@ use Rattle.rustc_parse_format.proofs.Grammar.BarePieces.{bare-piece_in}
 use Rattle.rustc_parse_format.proofs.Grammar.Fronts.{front-rest_after}
 use Rattle.rustc_parse_format.proofs.Grammar.Rests.{IsRest}
 use Rattle.rustc_parse_format.proofs.Readers.Recoveries.{recovery_rest}
-use Rattle.format_tokens.specs.declared.kinds.Kind.TheVariants.{Text as TextKind, Escape, Close}
+use Rattle.format_tokens.specs.declared.kinds.Kind.TheVariants.{Text as TextKind, EscapedBrace}
+use Rattle.format_tokens.specs.declared.kinds.Kind.TheVariants.{CloseBrace}
 use Rattle.format_tokens.specs.declared.kinds.Label.{Label as Sized}
 use Rattle.format_tokens.specs.Midway.{Took}
 use Rattle.format_tokens.specs.Tokens.{opened_tokens, token}
@@ -50,8 +51,8 @@ cut_first c (d ∷ t) h = ap (λ x. x ∷ t) (eqb-true d c h)
 -- What comes after a field: its closing brace, or what is taken in place of it.
 tail-closed : (e f g : List ℕ) (x y z : List Sized) (b m left : ℕ) (r : Text) → chars e ≡ r
     → b ≡ from_bool (begins_with 125 (chars e)) → begins_with 125 r ≡ true
-    → Takes Close b e x y f → m ≡ byte_length (chars f) - left → Skips m f y z g
-    → left ≡ byte_length (after_first r) → Took (token Close (codes "}")) (after_first r) x z g
+    → Takes CloseBrace b e x y f → m ≡ byte_length (chars f) - left → Skips m f y z g
+    → left ≡ byte_length (after_first r) → Took (token CloseBrace (codes "}")) (after_first r) x z g
 tail-closed e f g x y z b m left r s i q close j takes k =
     let whole = cut_first 125 r q in
     let first = close (codes "}") (after_first r) (s ∙ whole)
@@ -61,7 +62,7 @@ tail-closed e f g x y z b m left r s i q close j takes k =
 
 tail-open : (e f g : List ℕ) (x y z : List Sized) (b m left : ℕ) (r s : Text) → chars e ≡ r
     → b ≡ from_bool (begins_with 125 (chars e)) → begins_with 125 r ≡ false
-    → Takes Close b e x y f → m ≡ byte_length (chars f) - left → Skips m f y z g
+    → Takes CloseBrace b e x y f → m ≡ byte_length (chars f) - left → Skips m f y z g
     → IsRest r s → left ≡ byte_length s → Took (skipped_tokens (up_to_rest r s)) s x z g
 tail-open e f g x y z b m left r s h i q close j takes within k =
     let whole = take-rest r s within in
@@ -75,7 +76,7 @@ pub ended : (mode : Mode) (n : ℕ) (o t : Text) (e f g : List ℕ) (w x y z : L
     (b m left : ℕ)
     → Took (opened_tokens (cut mode t).field (front is_whitespace (cut mode t).rest))
     (after_white (cut mode t).rest) w x e
-    → b ≡ from_bool (begins_with 125 (chars e)) → Takes Close b e x y f
+    → b ≡ from_bool (begins_with 125 (chars e)) → Takes CloseBrace b e x y f
     → m ≡ byte_length (chars f) - left → Skips m f y z g
     → left ≡ byte_length (placeholder mode n o t).rest
     → Took (placeholder_tokens mode t (placeholder mode n o t).rest)
@@ -105,9 +106,9 @@ brace-width b h = elim (or_cases _ _ h) [
 
 -- Literal text: a doubled brace or none, and then what has no braces.
 text-took : (p u r : Text) (t d g : List ℕ) (x y z : List Sized) (b m left : ℕ)
-    → chars t ≡ p ++ (u ++ r) → b ≡ byte_length p → Takes Escape b t x y d
+    → chars t ≡ p ++ (u ++ r) → b ≡ byte_length p → Takes EscapedBrace b t x y d
     → m ≡ byte_length (chars d) - left → Takes TextKind m d y z g → left ≡ byte_length r
-    → Took (token Escape p ++ token TextKind u) r x z g
+    → Took (token EscapedBrace p ++ token TextKind u) r x z g
 text-took p u r t d g x y z b m left h i escape j takes k =
     let first = escape p (u ++ r) h i in
     then first (takes u r first.leaves
@@ -130,7 +131,7 @@ brace-no_text mode n o t l false h = cc
 
 pub literal-took : (mode : Mode) (n : ℕ) (t : Text) (l : Text) (s d g : List ℕ)
     (x y z : List Sized) (b m left : ℕ) → chars s ≡ t → (call mode n t).piece ≡ Some (Lit l)
-    → b ≡ cond (first_passes is_brace t) 2 0 → Takes Escape b s x y d
+    → b ≡ cond (first_passes is_brace t) 2 0 → Takes EscapedBrace b s x y d
     → m ≡ byte_length (chars d) - left → Takes TextKind m d y z g
     → left ≡ byte_length (call mode n t).rest
     → Took (call_tokens mode t (call mode n t).rest) (call mode n t).rest x z g
@@ -202,7 +203,7 @@ argument-opens mode n (c ∷ t) a h = by_brace (is_brace c) refl
 -- A call that returns no piece is at the end, or reads a brace that closes nothing.
 pub none-took : (mode : Mode) (n : ℕ) (t : Text) (s g : List ℕ) (x y : List Sized) (m left : ℕ)
     → chars s ≡ t → (call mode n t).piece ≡ None → m ≡ byte_length t - left
-    → Takes Close m s x y g → left ≡ byte_length (call mode n t).rest
+    → Takes CloseBrace m s x y g → left ≡ byte_length (call mode n t).rest
     → Took (call_tokens mode t (call mode n t).rest) (call mode n t).rest x y g
 unfolding call call_tokens
 none-took mode n [] s g x y m left h none j takes k = takes [] [] h (j ∙ omega arith)
@@ -242,7 +243,8 @@ pub record Given (o : Option (Piece Span)) (x : Argument Place) : Type 0 where
   pub is : o ≡ Some (NextArgument argument)
   pub same : bare_argument x ≡ bare_argument argument
 
-same_bare : (x : Argument Place) (a : Argument Span) → bare (NextArgument x) ≡ bare (NextArgument a)
+same_bare : (x : Argument Place) (a : Argument Span)
+    → bare_piece (NextArgument x) ≡ bare_piece (NextArgument a)
     → bare_argument x ≡ bare_argument a
 same_bare x a e = cc
 
@@ -253,7 +255,7 @@ argument-given w (Some (Lit m)) x e = absurd (cc e)
 argument-given w (Some (NextArgument a)) x e = record {
   argument = a;
   is = refl;
-  same = same_bare x a (ap bare (some_same e) ∙ bare-piece_in w (NextArgument a));
+  same = same_bare x a (ap bare_piece (some_same e) ∙ bare-piece_in w (NextArgument a));
 }
   where
     some_same : {p q : Piece Place} → Some p ≡ Some q → p ≡ q

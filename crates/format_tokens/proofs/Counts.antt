@@ -5,7 +5,7 @@ use Rattle.std.specs.Char.{is_ascii_digit}
 use Rattle.std.specs.Int.{from_bool}
 use Rattle.std.proofs.lemmas.Bool.{not-true}
 use Rattle.rustc_parse_format.specs.Characters.{Text, begins_with, byte_length, digits, front}
-use Rattle.rustc_parse_format.specs.Spelling.{IsPart, absent, fixed, integer, unless}
+use Rattle.rustc_parse_format.specs.Spelling.{IsPart, absent_part, fixed_part, integer, part_unless}
 use Rattle.rustc_parse_format.specs.Syntax.{CountText, NumberCount, IndexCount, NameCount, NoCount}
 use Rattle.rustc_parse_format.specs.Syntax.{WidthText, PaddedWidth, ZeroIndexWidth, PlainWidth}
 use Rattle.rustc_parse_format.specs.Syntax.{PrecisionText, NoPrecision, StarPrecision, DotPrecision}
@@ -40,7 +40,7 @@ pub count-is : (t left : List ℕ) (x y : List Sized) (n w : ℕ)
     → (k : CountText) (r : Text) → IsPart (chars t) (count_part k) r → Is w ≡ count_value k
     → Took (count_tokens k) r x y left
 count-is t left x y n w e takes (NumberCount ds) r h v =
-    let s = two-split (chars t) (integer ds) (absent (begins_with 36)) r h in
+    let s = two-split (chars t) (integer ds) (absent_part (begins_with 36)) r h in
     as_kind ds (integer-kind (chars t) ds s.seam s.first)
     (takes ds r (s.first.whole ∙ ap (λ u. ds ++ u) (absent-same s.seam _ r s.second))
     (e ∙ integer-width (chars t) ds s.seam s.first))
@@ -55,7 +55,7 @@ pub count-param : (t d left : List ℕ) (x y z : List Sized) (n w : ℕ)
     → (k : CountText) (r : Text) → IsPart (chars t) (count_part k) r → Param w ≡ count_value k
     → Took (count_tokens k) r x z left
 count-param t d left x y z n w e takes dollar (IndexCount ds) r h v =
-    let s = two-split (chars t) (integer ds) (fixed (codes "$")) r h in
+    let s = two-split (chars t) (integer ds) (fixed_part (codes "$")) r h in
     let first = as_kind ds (integer-kind (chars t) ds s.seam s.first)
     (takes ds s.seam s.first.whole (e ∙ integer-width (chars t) ds s.seam s.first)) in
     then first (dollar (codes "$") r (first.leaves ∙ s.second.whole) refl)
@@ -68,7 +68,7 @@ pub count-name : (t d left : List ℕ) (x y z : List Sized) (w : Text) (n : ℕ)
     → (k : CountText) (r : Text) → IsPart (chars t) (count_part k) r → Name w tt ≡ count_value k
     → Took (count_tokens k) r x z left
 count-name t d left x y z w n e takes dollar (NameCount v) r h i =
-    let s = two-split (chars t) (name_part v) (fixed (codes "$")) r h in
+    let s = two-split (chars t) (name_part v) (fixed_part (codes "$")) r h in
     let same : w ≡ v = cc i in
     let first = as_kind v (ap (word_kind Identifier) same)
     (takes v s.seam s.first.whole (e ∙ ap byte_length same)) in
@@ -83,9 +83,9 @@ CountsFrom v t x y left = (k : CountText) (r : Text) → IsPart (chars t) (count
     → v ≡ count_value k → Took (count_tokens k) r x y left
 
 -- The argument 0 that `0$` means is written as an index.
-zero-index : (t r : Text) → IsPart t (fixed (codes "0$")) r
+zero-index : (t r : Text) → IsPart t (fixed_part (codes "0$")) r
     → IsPart t (count_part (IndexCount (codes "0"))) r
-zero-index t r h = row-two t (codes "$" ++ r) (integer (codes "0")) (fixed (codes "$")) r
+zero-index t r h = row-two t (codes "$" ++ r) (integer (codes "0")) (fixed_part (codes "$")) r
     (record { whole = h.whole; formed = refl; ends = refl })
     (fixed-there (codes "$") r)
 
@@ -94,7 +94,7 @@ pub width-takes : (t b left : List ℕ) (x y z : List Sized) (n : ℕ) (p : Bool
     → (k : WidthText) (r : Text) → IsPart (chars t) (width_part k) r → p ≡ is_padded k
     → v ≡ width_value k → Took (width_tokens k) r x z left
 width-takes t b left x y z n p v e zero counts (PaddedWidth k) r h f i =
-    let s = two-split (chars t) (unless (codes "0") (begins_with 36)) (count_part k) r h in
+    let s = two-split (chars t) (part_unless (codes "0") (begins_with 36)) (count_part k) r h in
     let first = zero (codes "0") s.seam s.first.whole (e ∙ ap from_bool f) in
     then first (counts k r (IsPart-moved _ _ _ _ first.leaves s.second) i)
 width-takes t b left x y z n p v e zero counts ZeroIndexWidth r h f i =
@@ -102,7 +102,7 @@ width-takes t b left x y z n p v e zero counts ZeroIndexWidth r h f i =
     then first (counts (IndexCount (codes "0")) r
     (IsPart-moved _ _ _ _ first.leaves (zero-index (chars t) r h)) i)
 width-takes t b left x y z n p v e zero counts (PlainWidth k) r h f i =
-    let s = two-split (chars t) (absent (begins_with 48)) (count_part k) r h in
+    let s = two-split (chars t) (absent_part (begins_with 48)) (count_part k) r h in
     let first = zero [] s.seam s.first.whole (e ∙ (ap from_bool f ∙ width-nil)) in
     then first (counts k r (IsPart-moved _ _ _ _ first.leaves s.second) i)
 
@@ -123,7 +123,7 @@ precision-takes t b left x y z n v e dot counts star none StarPrecision m r h i 
     (e ∙ ap (λ u. from_bool (begins_with 46 u)) h.whole) in
     then first (star m r first.leaves i)
 precision-takes t b left x y z n v e dot counts star none (DotPrecision k) m r h i =
-    let s = two-split (chars t) (unless (codes ".") (begins_with 42)) (count_part k) r h in
+    let s = two-split (chars t) (part_unless (codes ".") (begins_with 42)) (count_part k) r h in
     let first = dot (codes ".") s.seam s.first.whole
     (e ∙ ap (λ u. from_bool (begins_with 46 u)) s.first.whole) in
     then first (counts k r (IsPart-moved _ _ _ _ first.leaves s.second) i)

@@ -8,7 +8,7 @@ use Rattle.rustc_parse_format.specs.Characters.{Text, byte_length}
 use Rattle.rustc_parse_format.specs.Literal.{IsSource, content_value, newline}
 use Rattle.rustc_parse_format.specs.LiteralUnits.{LiteralUnit}
 use Rattle.rustc_parse_format.specs.Marks.{Start}
-use Rattle.rustc_parse_format.specs.Source.{unappended}
+use Rattle.rustc_parse_format.specs.Source.{unappended_input}
 use Rattle.rustc_parse_format.specs.Types.{Mode}
 use Rattle.rustc_parse_format.specs.World.{Place, World, content_places, last_stop, number_of}
 use Rattle.rustc_parse_format.specs.World.{quote_offset, world}
@@ -23,8 +23,8 @@ use Rattle.format_tokens.specs.Covers.{IsCover, ranges_of}
 use Rattle.format_tokens.specs.declared.kinds.Kind.{Kind}
 use Rattle.format_tokens.specs.declared.kinds.Kind.TheVariants.{Quote}
 use Rattle.format_tokens.specs.Escapes.{Placed}
-use Rattle.format_tokens.specs.Placed.{placed, shown, whole_tokens, within}
-use Rattle.format_tokens.specs.Tokens.{Label, joined, token}
+use Rattle.format_tokens.specs.Placed.{placed_tokens, input_tokens, whole_tokens, first_tokens}
+use Rattle.format_tokens.specs.Tokens.{Label, joined_text, token}
 use Rattle.format_tokens.specs.Walk.{tokens_of}
 use Rattle.format_tokens.proofs.Joining.{shown-joined}
 
@@ -104,19 +104,19 @@ some-also : (k : Kind) (u : Text) (ls : List Label) → AreSome ls → AreSome (
 some-also k [] ls h = h
 some-also k (c ∷ u) ls h = (omega arith, h)
 
-pub within-some : (n : ℕ) (ls : List Label) → AreSome (within n ls)
+pub within-some : (n : ℕ) (ls : List Label) → AreSome (first_tokens n ls)
 within-some n [] = tt
 within-some n (l ∷ ls) = some-also l.0 (take n l.1) _ (within-some (n - length l.1) ls)
 
 -- The byte ranges of tokens whose characters are those before the m that are appended.
 text-cover : (w : World) (n m i : ℕ) (ls : List Label) → HasLiteral w n m → AreSome ls
-    → i ≡ length (joined ls) + m → i ≤ n
-    → IsCover (number_of w (Start i)) w.end (ranges_of (placed w i ls))
+    → i ≡ length (joined_text ls) + m → i ≤ n
+    → IsCover (number_of w (Start i)) w.end (ranges_of (placed_tokens w i ls))
 text-cover w n m i [] h some e l =
     let last : i ≡ m = omega (arith, e) in
     ap (λ k. number_of w (Start k)) last ∙ h.ends
 text-cover w n m i (x ∷ ls) h some e l =
-    let size = length-append x.1 (joined ls) in (
+    let size = length-append x.1 (joined_text ls) in (
       refl,
       h.rises i (i - length x.1) l (omega (arith, e, size)) (omega (arith, some.0, e, size)),
       text-cover w n m (i - length x.1) ls h some.1 (omega (arith, e, size)) (omega (arith, l)),
@@ -125,7 +125,7 @@ text-cover w n m i (x ∷ ls) h some e l =
 -- The input is its text and an appended newline.
 pub source-length : (input : Text) (style : Option ℕ) (source : Text) (b : Bool)
     → IsSource input style source b
-    → length input ≡ length (unappended b input) + length (newline b)
+    → length input ≡ length (unappended_input b input) + length (newline b)
 source-length input style source b h =
     let k = known input style source b h in
     omega (
@@ -146,7 +146,8 @@ pub source-tokens : (mode : Mode) (input : Text) (style : Option ℕ) (source : 
     → (let w = world input style (Some source) b in
     whole_tokens mode input style (Some source) b
     ≡ (Quote, (0, number_of w (Start (length input))))
-    ∷ (placed w (length input) (shown mode input b) ++ (Quote, (w.end, byte_length source)) ∷ []))
+    ∷ (placed_tokens w (length input) (input_tokens mode input b)
+    ++ (Quote, (w.end, byte_length source)) ∷ []))
 unfolding whole_tokens
 source-tokens mode input style source b h =
     cond-true _ _ _ (found-source input style source b h)
@@ -158,7 +159,7 @@ whole-cover mode input style source b h =
     let w = world input style (Some source) b in
     let l = source-literal input style source b h in
     let text = text-cover w (length input) (length (newline b)) (length input)
-    (shown mode input b) l (within-some _ (tokens_of mode input))
+    (input_tokens mode input b) l (within-some _ (tokens_of mode input))
     (omega (arith, source-length input style source b h, ap length (shown-joined mode input b)))
     (omega arith) in
     rw (source-tokens mode input style source b h)

@@ -10,10 +10,11 @@ use Rattle.std.proofs.lemmas.Str.{len_utf8_bounds}
 use Rattle.rustc_parse_format.specs.Characters.{Text, byte_length}
 use Rattle.rustc_parse_format.proofs.Literals.Widths.{width-append, width-cons}
 use Rattle.format_tokens.specs.declared.kinds.Kind.{Kind}
-use Rattle.format_tokens.specs.declared.kinds.Kind.TheVariants.{Text as TextKind, Escape, Open}
-use Rattle.format_tokens.specs.declared.kinds.Kind.TheVariants.{Close, Integer, Identifier}
+use Rattle.format_tokens.specs.declared.kinds.Kind.TheVariants.{Text as TextKind, EscapedBrace}
+use Rattle.format_tokens.specs.declared.kinds.Kind.TheVariants.{OpenBrace}
+use Rattle.format_tokens.specs.declared.kinds.Kind.TheVariants.{CloseBrace, Integer, Identifier}
 use Rattle.format_tokens.specs.declared.kinds.Kind.TheVariants.{RawPrefix, Whitespace, Colon, Fill}
-use Rattle.format_tokens.specs.declared.kinds.Kind.TheVariants.{Align, Sign, NumberSign, Zero}
+use Rattle.format_tokens.specs.declared.kinds.Kind.TheVariants.{Alignment, Sign, NumberSign, Zero}
 use Rattle.format_tokens.specs.declared.kinds.Kind.TheVariants.{DollarSign, Dot, Asterisk}
 use Rattle.format_tokens.specs.declared.kinds.Kind.TheVariants.{«Type» as TypeKind, Modifier}
 use Rattle.format_tokens.specs.declared.kinds.Kind.TheVariants.{DiagnosticText, Unexpected, Quote}
@@ -115,16 +116,16 @@ later-marked (suc n) k from e (c ∷ t) m h =
 mark-no_text : (k : Kind) → is_mark k ≡ true → is_text k ≡ false
 unfolding is_mark is_text
 mark-no_text TextKind h = absurd (false≢true h)
-mark-no_text Escape h = refl
-mark-no_text Open h = refl
-mark-no_text Close h = refl
+mark-no_text EscapedBrace h = refl
+mark-no_text OpenBrace h = refl
+mark-no_text CloseBrace h = refl
 mark-no_text Integer h = refl
 mark-no_text Identifier h = refl
 mark-no_text RawPrefix h = refl
 mark-no_text Whitespace h = refl
 mark-no_text Colon h = refl
 mark-no_text Fill h = refl
-mark-no_text Align h = refl
+mark-no_text Alignment h = refl
 mark-no_text Sign h = refl
 mark-no_text NumberSign h = refl
 mark-no_text Zero h = refl

@@ -9,7 +9,7 @@ use Rattle.std.proofs.lemmas.Bool.{or_from}
 use Rattle.rustc_parse_format.specs.Characters.{Text, begins_raw}
 use Rattle.rustc_parse_format.specs.Grammar.{IsClean, IsCleanFormat, IsCleanPosition}
 use Rattle.rustc_parse_format.specs.Grammar.{IsCleanSpec}
-use Rattle.rustc_parse_format.specs.Spelling.{IsPart, absent, fixed, identifier, run}
+use Rattle.rustc_parse_format.specs.Spelling.{IsPart, absent_part, fixed_part, identifier, run}
 use Rattle.rustc_parse_format.specs.Syntax.{DiagnosticText, FieldText, FormatText, Formatting}
 use Rattle.rustc_parse_format.specs.Syntax.{Default, Modifier}
 use Rattle.rustc_parse_format.specs.Syntax.{PositionText, Digits, Word, RawWord, NoPosition}
@@ -23,7 +23,7 @@ use Rattle.rustc_parse_format.specs.Types.{wants_names}
 use Rattle.rustc_parse_format.specs.Values.{given_position, is_name, type_of}
 use Rattle.rustc_parse_format.proofs.Grammar.PartLaws.{IsRow, only, opened, two-split}
 use Rattle.format_tokens.specs.declared.kinds.Kind.{Kind}
-use Rattle.format_tokens.specs.declared.kinds.Kind.TheVariants.{Align, Colon}
+use Rattle.format_tokens.specs.declared.kinds.Kind.TheVariants.{Alignment, Colon}
 use Rattle.format_tokens.specs.declared.kinds.Kind.TheVariants.{Fill, Identifier}
 use Rattle.format_tokens.specs.declared.kinds.Kind.TheVariants.{Modifier as ModifierKind}
 use Rattle.format_tokens.specs.declared.kinds.Kind.TheVariants.{DiagnosticText as DiagnosticKind}
@@ -54,7 +54,7 @@ format-inner : (names : Bool) (p : FormatText)
 unfolding is_mark role_of
 format-inner names p =
     both (quiet names Fill (fill_part p.fill).spelling tt refl)
-    (both (quiet names Align (align_part p.align).spelling tt refl)
+    (both (quiet names Alignment (align_part p.align).spelling tt refl)
     (both (quiet names Sign (sign_part p.sign).spelling tt refl)
     (both (quiet names NumberSign (alternate_part p.alternate).spelling tt refl)
     (both (width-inner names p.width)
@@ -118,7 +118,7 @@ spec-clean : (mode : Mode) (k : SpecText) {t r : Text} → IsPart t (spec_part m
 unfolding is_mark role_of
 spec-clean mode Default p h = refl
 spec-clean Format (Formatting f) {t = t} {r = r} p h =
-    let s = two-split t (fixed (codes ":")) (format_part f) r p in
+    let s = two-split t (fixed_part (codes ":")) (format_part f) r p in
     format-clean false f refl s.second h
 spec-clean InlineAsm (Formatting f) p h = absurd (false≢true p.formed)
 spec-clean Diagnostic (Formatting f) p h = absurd (false≢true p.formed)
@@ -188,7 +188,7 @@ position-clean names (Digits ds) p h n =
       argument = λ yes. absurd (false≢true (sym none ∙ yes));
     }
 position-clean names (Word w) {t = t} {r = r} p h n =
-    let s = two-split t (absent begins_raw) (identifier w) r p in record {
+    let s = two-split t (absent_part begins_raw) (identifier w) r p in record {
       unmarked = word-clean names Identifier w w refl h;
       argument = λ yes ts. word-argument w ts s.second;
     }

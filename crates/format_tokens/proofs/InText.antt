@@ -8,17 +8,18 @@ use Rattle.std.proofs.lemmas.List.{append-nil, take-append-drop}
 use Rattle.std.proofs.lemmas.Str.{len_utf8_bounds}
 use Rattle.rustc_parse_format.specs.Characters.{Text, byte_length}
 use Rattle.rustc_parse_format.specs.Marks.{Start}
-use Rattle.rustc_parse_format.specs.Source.{HasSource, is_source, unappended}
+use Rattle.rustc_parse_format.specs.Source.{HasSource, is_source, unappended_input}
 use Rattle.rustc_parse_format.specs.Types.{Mode}
 use Rattle.rustc_parse_format.specs.World.{Place, number_of, plain_world}
 use Rattle.rustc_parse_format.proofs.Literals.Widths.{width-append, width-cons}
 use Rattle.rustc_parse_format.proofs.Sources.Decided.{source-found}
 use Rattle.rustc_parse_format.proofs.Sources.PlainPlaces.{place_end, place_inside}
 use Rattle.rustc_parse_format.proofs.Spans.TextBytes.{text-bytes}
-use Rattle.format_tokens.specs.Covers.{IsCover, encoded, ranges_of, slices}
+use Rattle.format_tokens.specs.Covers.{IsCover, encoded_tokens, ranges_of, slices}
 use Rattle.format_tokens.specs.Escapes.{Placed}
-use Rattle.format_tokens.specs.Placed.{in_text, placed, shown, tokens, whole_tokens}
-use Rattle.format_tokens.specs.Tokens.{Label, joined}
+use Rattle.format_tokens.specs.Placed.{tokens_in_text, placed_tokens, input_tokens, tokens}
+use Rattle.format_tokens.specs.Placed.{whole_tokens}
+use Rattle.format_tokens.specs.Tokens.{Label, joined_text}
 use Rattle.format_tokens.specs.Walk.{tokens_of}
 use Rattle.format_tokens.proofs.Covering.{AreSome, within-some}
 use Rattle.format_tokens.proofs.Joining.{shown-joined}
@@ -26,18 +27,18 @@ use Rattle.format_tokens.proofs.Starts.{same_token}
 
 -- These are the tokens of an input between two other texts.
 abbrev AreBetween : Text → List Label → Text → Text → Type 0
-AreBetween before ls after input = input ≡ before ++ (joined ls ++ after)
+AreBetween before ls after input = input ≡ before ++ (joined_text ls ++ after)
 
 -- So are those after the first of them.
 next-between : (before after input : Text) (l : Label) (ls : List Label)
     → AreBetween before (l ∷ ls) after input → AreBetween (before ++ l.1) ls after input
 next-between before after input l ls e =
-    e ∙ (ap (λ t. before ++ t) (append_assoc l.1 (joined ls) after)
-    ∙ sym (append_assoc before l.1 (joined ls ++ after)))
+    e ∙ (ap (λ t. before ++ t) (append_assoc l.1 (joined_text ls) after)
+    ∙ sym (append_assoc before l.1 (joined_text ls ++ after)))
 
 -- The tokens that are shown are those from the start on.
 shown-between : (mode : Mode) (input : Text) (b : Bool)
-    → (after : Text) × AreBetween [] (shown mode input b) after input
+    → (after : Text) × AreBetween [] (input_tokens mode input b) after input
 shown-between mode input true = (
   drop (length input - 1) input,
   sym (take-append-drop (length input - 1) input)
@@ -64,36 +65,39 @@ start-between : (input before left : Text) → input ≡ before ++ left
 start-between input before left e = rw e (start-split before left)
 
 placed-between : (before after input : Text) (ls : List Label) → AreBetween before ls after input
-    → placed (plain_world false 0 input (byte_length input)) (length (joined ls ++ after)) ls
-    ≡ in_text (byte_length before) ls
+    → placed_tokens (plain_world false 0 input (byte_length input))
+    (length (joined_text ls ++ after)) ls
+    ≡ tokens_in_text (byte_length before) ls
 placed-between before after input [] e = refl
 placed-between before after input (l ∷ ls) e =
     let w = plain_world false 0 input (byte_length input) in
-    let n = length (joined (l ∷ ls) ++ after) in
+    let n = length (joined_text (l ∷ ls) ++ after) in
     let more = next-between before after input l ls e in
-    let left : n - length l.1 ≡ length (joined ls ++ after) =
+    let left : n - length l.1 ≡ length (joined_text ls ++ after) =
     omega (
       arith,
-      ap length (append_assoc l.1 (joined ls) after),
-      length-append l.1 (joined ls ++ after),
+      ap length (append_assoc l.1 (joined_text ls) after),
+      length-append l.1 (joined_text ls ++ after),
     ) in
     let to = width-append before l.1 in
     same_token l.0 _ _ _ _ _ _ (start-between input before _ e)
     (ap (λ k. number_of w (Start k)) left ∙ (start-between input _ _ more ∙ to))
-    (ap (λ k. placed w k ls) left ∙ (placed-between (before ++ l.1) after input ls more
-    ∙ ap (λ k. in_text k ls) to))
+    (ap (λ k. placed_tokens w k ls) left ∙ (placed-between (before ++ l.1) after input ls more
+    ∙ ap (λ k. tokens_in_text k ls) to))
 
 pub placed-shown : (mode : Mode) (input : Text) (b : Bool)
-    → placed (plain_world false 0 input (byte_length input)) (length input) (shown mode input b)
-    ≡ in_text 0 (shown mode input b)
+    → placed_tokens (plain_world false 0 input (byte_length input)) (length input)
+    (input_tokens mode input b)
+    ≡ tokens_in_text 0 (input_tokens mode input b)
 placed-shown mode input b =
     let (after, e) = shown-between mode input b in
-    ap (λ n. placed (plain_world false 0 input (byte_length input)) n (shown mode input b))
-    (ap length e) ∙ placed-between [] after input (shown mode input b) e
+    ap (λ n. placed_tokens (plain_world false 0 input (byte_length input)) n
+    (input_tokens mode input b))
+    (ap length e) ∙ placed-between [] after input (input_tokens mode input b) e
 
 pub text-tokens : (mode : Mode) (input : Text) (style : Option ℕ) (snippet : Option Text) (b : Bool)
     → (HasSource input style snippet b → ⊥)
-    → tokens mode input style snippet b ≡ in_text 0 (shown mode input b)
+    → tokens mode input style snippet b ≡ tokens_in_text 0 (input_tokens mode input b)
 unfolding tokens whole_tokens
 text-tokens mode input style None b none = refl
 text-tokens mode input style (Some snippet) b none =
@@ -107,33 +111,34 @@ some-width [] h = absurd (omega arith)
 some-width (c ∷ t) h = omega (arith, len_utf8_bounds c, width-cons c t)
 
 text-covers : (at : ℕ) (ls : List Label) → AreSome ls
-    → IsCover at (at + byte_length (joined ls)) (ranges_of (in_text at ls))
+    → IsCover at (at + byte_length (joined_text ls)) (ranges_of (tokens_in_text at ls))
 text-covers at [] h = omega arith
 text-covers at (l ∷ ls) h =
     let to = at + byte_length l.1 in
-    let end : to + byte_length (joined ls) ≡ at + byte_length (joined (l ∷ ls)) =
-    omega (arith, width-append l.1 (joined ls)) in (
+    let end : to + byte_length (joined_text ls) ≡ at + byte_length (joined_text (l ∷ ls)) =
+    omega (arith, width-append l.1 (joined_text ls)) in (
       refl,
       omega (arith, some-width l.1 h.0),
-      subst (λ z. IsCover to z (ranges_of (in_text to ls))) end (text-covers to ls h.1),
+      subst (λ z. IsCover to z (ranges_of (tokens_in_text to ls))) end (text-covers to ls h.1),
     )
 
 -- and have its bytes.
 text-slices : (bytes : List ℕ) (before after : Text) (ls : List Label) → IsUtf8 bytes
     → AreBetween before ls after (chars bytes)
-    → slices bytes (in_text (byte_length before) ls) ≡ encoded ls
+    → slices bytes (tokens_in_text (byte_length before) ls) ≡ encoded_tokens ls
 text-slices bytes before after [] v e = refl
 text-slices bytes before after (l ∷ ls) v e =
     let to = width-append before l.1 in
     let one = text-bytes bytes (byte_length before) l.1 v (record {
       before = before;
-      after = joined ls ++ after;
-      whole = e ∙ ap (λ t. before ++ t) (append_assoc l.1 (joined ls) after);
+      after = joined_text ls ++ after;
+      whole = e ∙ ap (λ t. before ++ t) (append_assoc l.1 (joined_text ls) after);
       from_is = refl;
     }) in
-    ap (λ u. (l.0, u) ∷ slices bytes (in_text (byte_length before + byte_length l.1) ls)) one.same
+    ap (λ u. (l.0, u) ∷ slices bytes (tokens_in_text (byte_length before + byte_length l.1) ls))
+    one.same
     ∙ ap (λ xs. (l.0, encode_utf8_all l.1) ∷ xs)
-    (ap (λ k. slices bytes (in_text k ls)) (sym to)
+    (ap (λ k. slices bytes (tokens_in_text k ls)) (sym to)
     ∙ text-slices bytes (before ++ l.1) after ls v
     (next-between before after (chars bytes) l ls e))
 
@@ -141,16 +146,16 @@ text-slices bytes before after (l ∷ ls) v e =
 pub text-of : (mode : Mode) (bytes : List ℕ) (style : Option ℕ) (snippet : Option Text) (b : Bool)
     (ts : List Placed) → IsUtf8 bytes → ts ≡ tokens mode (chars bytes) style snippet b
     → (HasSource (chars bytes) style snippet b → ⊥)
-    → IsCover 0 (byte_length (unappended b (chars bytes))) (ranges_of ts)
-    × (slices bytes ts ≡ encoded (shown mode (chars bytes) b))
+    → IsCover 0 (byte_length (unappended_input b (chars bytes))) (ranges_of ts)
+    × (slices bytes ts ≡ encoded_tokens (input_tokens mode (chars bytes) b))
 text-of mode bytes style snippet b ts v e none =
     let input = chars bytes in
     let (after, between) = shown-between mode input b in
-    let ls = shown mode input b in
-    let size : 0 + byte_length (joined ls) ≡ byte_length (unappended b input) =
+    let ls = input_tokens mode input b in
+    let size : 0 + byte_length (joined_text ls) ≡ byte_length (unappended_input b input) =
     omega (arith, ap byte_length (shown-joined mode input b)) in
     rw (e ∙ text-tokens mode input style snippet b none) (
-      subst (λ n. IsCover 0 n (ranges_of (in_text 0 ls))) size
+      subst (λ n. IsCover 0 n (ranges_of (tokens_in_text 0 ls))) size
           (text-covers 0 ls (within-some _ (tokens_of mode input))),
       text-slices bytes [] after ls v between,
     )

@@ -10,9 +10,9 @@ use Rattle.rustc_parse_format.specs.Call.{call, placeholder}
 use Rattle.rustc_parse_format.specs.Characters.{Text, begins_raw, begins_with, after_first}
 use Rattle.rustc_parse_format.specs.Characters.{after_white, front, is_brace, is_no_brace}
 use Rattle.rustc_parse_format.specs.Placeholder.{cut}
-use Rattle.rustc_parse_format.specs.Source.{unappended}
-use Rattle.rustc_parse_format.specs.Spelling.{IsPart, absent, fixed, identifier, integer}
-use Rattle.rustc_parse_format.specs.Spelling.{optional_identifier, run, unless}
+use Rattle.rustc_parse_format.specs.Source.{unappended_input}
+use Rattle.rustc_parse_format.specs.Spelling.{IsPart, absent_part, fixed_part, identifier, integer}
+use Rattle.rustc_parse_format.specs.Spelling.{optional_identifier, run, part_unless}
 use Rattle.rustc_parse_format.specs.Syntax.{CountText, NumberCount, IndexCount, NameCount, NoCount}
 use Rattle.rustc_parse_format.specs.Syntax.{DiagnosticText, FieldText, FormatText, Formatting}
 use Rattle.rustc_parse_format.specs.Syntax.{Default, DotPrecision, Modifier, NoPrecision}
@@ -30,10 +30,11 @@ use Rattle.rustc_parse_format.proofs.Grammar.PartLaws.{IsRow, only, opened, two-
 use Rattle.rustc_parse_format.proofs.Readers.Recoveries.{recovery_rest}
 use Rattle.rustc_parse_format.proofs.Walking.Progress.{call-lt}
 use Rattle.format_tokens.specs.declared.kinds.Kind.{Kind}
-use Rattle.format_tokens.specs.declared.kinds.Kind.TheVariants.{Close, Colon}
-use Rattle.format_tokens.specs.Culprits.{marked}
-use Rattle.format_tokens.specs.Placed.{shown, within}
-use Rattle.format_tokens.specs.Tokens.{Label, count_tokens, field_tokens, format_tokens, joined}
+use Rattle.format_tokens.specs.declared.kinds.Kind.TheVariants.{CloseBrace, Colon}
+use Rattle.format_tokens.specs.Culprits.{marked_tokens}
+use Rattle.format_tokens.specs.Placed.{input_tokens, first_tokens}
+use Rattle.format_tokens.specs.Tokens.{Label, count_tokens, field_tokens, format_tokens}
+use Rattle.format_tokens.specs.Tokens.{joined_text}
 use Rattle.format_tokens.specs.Tokens.{opened_tokens, position_tokens, precision_tokens}
 use Rattle.format_tokens.specs.Tokens.{spec_tokens, token, width_tokens}
 use Rattle.format_tokens.specs.Walk.{call_tokens, is_closed, placeholder_tokens, read_tokens}
@@ -41,18 +42,18 @@ use Rattle.format_tokens.specs.Walk.{skipped_tokens, tokens_of, tokens_within}
 use Rattle.format_tokens.proofs.Calls.{cut_first, take-rest, white-rest_after}
 use Rattle.format_tokens.proofs.Skipping.{closed-shape}
 
-pub joined-append : (x y : List Label) → joined (x ++ y) ≡ joined x ++ joined y
+pub joined-append : (x y : List Label) → joined_text (x ++ y) ≡ joined_text x ++ joined_text y
 joined-append [] y = refl
 joined-append (l ∷ x) y = ap (λ t. l.1 ++ t) (joined-append x y)
-    ∙ sym (append_assoc l.1 (joined x) (joined y))
+    ∙ sym (append_assoc l.1 (joined_text x) (joined_text y))
 
-pub token-joined : (k : Kind) (u : Text) → joined (token k u) ≡ u
+pub token-joined : (k : Kind) (u : Text) → joined_text (token k u) ≡ u
 token-joined k [] = refl
 token-joined k (c ∷ u) = append-nil (c ∷ u)
 
 -- The text t is that of these tokens, followed by r.
 record Splits (ls : List Label) (t r : Text) : Type 0 where
-  whole : t ≡ joined ls ++ r
+  whole : t ≡ joined_text ls ++ r
 
 splits : (k : Kind) (u : Text) {t r : Text} → t ≡ u ++ r → Splits (token k u) t r
 splits k u {r = r} e = record { whole = e ∙ ap (λ v. v ++ r) (sym (token-joined k u)) }
@@ -62,8 +63,8 @@ none e = record { whole = e }
 
 also : {x y : List Label} {t s r : Text} → Splits x t s → Splits y s r → Splits (x ++ y) t r
 also {x = x} {y = y} {r = r} h k = record {
-  whole = h.whole ∙ (ap (λ u. joined x ++ u) k.whole
-      ∙ (sym (append_assoc (joined x) (joined y) r)
+  whole = h.whole ∙ (ap (λ u. joined_text x ++ u) k.whole
+      ∙ (sym (append_assoc (joined_text x) (joined_text y) r)
       ∙ ap (λ u. u ++ r) (sym (joined-append x y))));
 }
 
@@ -72,34 +73,34 @@ position-splits : (t : Text) (p : PositionText) (r : Text) → IsPart t (positio
     → Splits (position_tokens p) t r
 position-splits t (Digits ds) r h = splits _ ds h.whole
 position-splits t (Word w) r h =
-    let s = two-split t (absent begins_raw) (identifier w) r h in
+    let s = two-split t (absent_part begins_raw) (identifier w) r h in
     splits _ w (s.first.whole ∙ s.second.whole)
 position-splits t (RawWord w) r h =
-    let s = two-split t (fixed (codes "r#")) (identifier w) r h in
+    let s = two-split t (fixed_part (codes "r#")) (identifier w) r h in
     also (splits _ (codes "r#") s.first.whole) (splits _ w s.second.whole)
 position-splits t NoPosition r h = none h.whole
 
 count-splits : (t : Text) (k : CountText) (r : Text) → IsPart t (count_part k) r
     → Splits (count_tokens k) t r
 count-splits t (NumberCount ds) r h =
-    let s = two-split t (integer ds) (absent (begins_with 36)) r h in
+    let s = two-split t (integer ds) (absent_part (begins_with 36)) r h in
     splits _ ds (s.first.whole ∙ ap (λ u. ds ++ u) s.second.whole)
 count-splits t (IndexCount ds) r h =
-    let s = two-split t (integer ds) (fixed (codes "$")) r h in
+    let s = two-split t (integer ds) (fixed_part (codes "$")) r h in
     also (splits _ ds s.first.whole) (splits _ (codes "$") s.second.whole)
 count-splits t (NameCount w) r h =
-    let s = two-split t (name_part w) (fixed (codes "$")) r h in
+    let s = two-split t (name_part w) (fixed_part (codes "$")) r h in
     also (splits _ w s.first.whole) (splits _ (codes "$") s.second.whole)
 count-splits t NoCount r h = none h.whole
 
 width-splits : (t : Text) (w : WidthText) (r : Text) → IsPart t (width_part w) r
     → Splits (width_tokens w) t r
 width-splits t (PaddedWidth k) r h =
-    let s = two-split t (unless (codes "0") (begins_with 36)) (count_part k) r h in
+    let s = two-split t (part_unless (codes "0") (begins_with 36)) (count_part k) r h in
     also (splits _ (codes "0") s.first.whole) (count-splits s.seam k r s.second)
 width-splits t ZeroIndexWidth r h = record { whole = h.whole }
 width-splits t (PlainWidth k) r h =
-    let s = two-split t (absent (begins_with 48)) (count_part k) r h in
+    let s = two-split t (absent_part (begins_with 48)) (count_part k) r h in
     also (none s.first.whole) (count-splits s.seam k r s.second)
 
 precision-splits : (t : Text) (p : PrecisionText) (r : Text) → IsPart t (precision_part p) r
@@ -107,7 +108,7 @@ precision-splits : (t : Text) (p : PrecisionText) (r : Text) → IsPart t (preci
 precision-splits t NoPrecision r h = none h.whole
 precision-splits t StarPrecision r h = record { whole = h.whole }
 precision-splits t (DotPrecision k) r h =
-    let s = two-split t (unless (codes ".") (begins_with 42)) (count_part k) r h in
+    let s = two-split t (part_unless (codes ".") (begins_with 42)) (count_part k) r h in
     also (splits _ (codes ".") s.first.whole) (count-splits s.seam k r s.second)
 
 format-splits : (t : Text) (p : FormatText) (r : Text) → IsPart t (format_part p) r
@@ -138,17 +139,17 @@ optional-whole (c ∷ w) h = h.whole
 text-splits : (t u r : Text) → IsPart t (spec_part Diagnostic (DiagnosticText u)) r
     → Splits (spec_tokens (DiagnosticText u)) t r
 text-splits t u r h =
-    let s = two-split t (fixed (codes ":")) (run is_no_brace u) r h in
+    let s = two-split t (fixed_part (codes ":")) (run is_no_brace u) r h in
     also (splits Colon (codes ":") s.first.whole) (splits _ u s.second.whole)
 
 spec-splits : (mode : Mode) (t : Text) (k : SpecText) (r : Text) → IsPart t (spec_part mode k) r
     → Splits (spec_tokens k) t r
 spec-splits mode t Default r h = none h.whole
 spec-splits Format t (Formatting p) r h =
-    let s = two-split t (fixed (codes ":")) (format_part p) r h in
+    let s = two-split t (fixed_part (codes ":")) (format_part p) r h in
     also (splits Colon (codes ":") s.first.whole) (format-splits s.seam p r s.second)
 spec-splits InlineAsm t (Modifier w) r h =
-    let s = two-split t (fixed (codes ":")) (optional_identifier w) r h in
+    let s = two-split t (fixed_part (codes ":")) (optional_identifier w) r h in
     also (splits Colon (codes ":") s.first.whole) (splits _ w (optional-whole w s.second))
 spec-splits Diagnostic t (DiagnosticText u) r h = text-splits t u r h
 spec-splits DiagnosticNamed t (DiagnosticText u) r h = text-splits t u r h
@@ -214,7 +215,7 @@ call-splits mode n (b ∷ t) = by_brace (is_brace b) refl
         (call mode n (b ∷ t)).rest
     by_sign true e q o = rw (e, q, o) (also (none (ap (λ c. c ∷ t) (eqb-true b 123 o)))
         (placeholder-splits mode n (b ∷ t) t))
-    by_sign false e q o = rw (e, q, o) (splits Close (b ∷ []) refl)
+    by_sign false e q o = rw (e, q, o) (splits CloseBrace (b ∷ []) refl)
 
     by_double : (v : Bool) → is_brace b ≡ true → begins_with b t ≡ v
         → Splits (call_tokens mode (b ∷ t) (call mode n (b ∷ t)).rest) (b ∷ t)
@@ -242,19 +243,19 @@ all-splits (suc n) mode c (b ∷ t) h =
     also (call-splits mode c (b ∷ t)) (all-splits n mode k.next k.rest
     (omega (arith, h, call-lt mode c (b ∷ t) (λ e. cc e))))
 
-pub read-joined : (mode : Mode) (t : Text) → joined (read_tokens mode t) ≡ t
+pub read-joined : (mode : Mode) (t : Text) → joined_text (read_tokens mode t) ≡ t
 unfolding read_tokens
 read-joined mode t =
     sym ((all-splits (length t) mode 0 t (omega arith)).whole
-    ∙ append-nil (joined (read_tokens mode t)))
+    ∙ append-nil (joined_text (read_tokens mode t)))
 
 -- A mark changes no characters.
 marked-joined : (names : Bool) (ls : List Label) (inside : Bool)
-    → joined (marked names inside ls) ≡ joined ls
+    → joined_text (marked_tokens names inside ls) ≡ joined_text ls
 marked-joined names [] inside = refl
 marked-joined names (l ∷ ls) inside = ap (λ t. l.1 ++ t) (marked-joined names ls _)
 
-pub tokens-joined : (mode : Mode) (t : Text) → joined (tokens_of mode t) ≡ t
+pub tokens-joined : (mode : Mode) (t : Text) → joined_text (tokens_of mode t) ≡ t
 tokens-joined mode t = marked-joined (wants_names mode) (read_tokens mode t) false
     ∙ read-joined mode t
 
@@ -271,15 +272,17 @@ take-both (suc n) (c ∷ u) r =
     let e : n - length u ≡ suc n - length (c ∷ u) = omega arith in
     ap (λ v. c ∷ v) (take-both n u r ∙ ap (λ k. take n u ++ take k r) e)
 
-within-joined : (n : ℕ) (ls : List Label) → joined (within n ls) ≡ take n (joined ls)
+within-joined : (n : ℕ) (ls : List Label)
+    → joined_text (first_tokens n ls) ≡ take n (joined_text ls)
 within-joined zero [] = refl
 within-joined (suc n) [] = refl
-within-joined n (l ∷ ls) = joined-append (token l.0 (take n l.1)) (within (n - length l.1) ls)
-    ∙ (ap (λ t. t ++ joined (within (n - length l.1) ls)) (token-joined l.0 (take n l.1))
+within-joined n (l ∷ ls) = joined-append (token l.0 (take n l.1)) (first_tokens (n - length l.1) ls)
+    ∙ (ap (λ t. t ++ joined_text (first_tokens (n - length l.1) ls)) (token-joined l.0 (take n l.1))
     ∙ (ap (λ t. take n l.1 ++ t) (within-joined (n - length l.1) ls)
-    ∙ sym (take-both n l.1 (joined ls))))
+    ∙ sym (take-both n l.1 (joined_text ls))))
 
-take-unappended : (b : Bool) (t : Text) → take (length (unappended b t)) t ≡ unappended b t
+take-unappended : (b : Bool) (t : Text) → take (length (unappended_input b t)) t
+    ≡ unappended_input b t
 take-unappended true t =
     let e : length (take (length t - 1) t) ≡ length t - 1 =
     omega (arith, length-take (length t - 1) t) in
@@ -288,8 +291,8 @@ take-unappended false t = take_all (length t) t (omega arith)
 
 -- What is shown of them is the input without an appended newline.
 pub shown-joined : (mode : Mode) (input : Text) (b : Bool)
-    → joined (shown mode input b) ≡ unappended b input
+    → joined_text (input_tokens mode input b) ≡ unappended_input b input
 shown-joined mode input b =
-    within-joined (length (unappended b input)) (tokens_of mode input)
-    ∙ (ap (λ t. take (length (unappended b input)) t) (tokens-joined mode input)
+    within-joined (length (unappended_input b input)) (tokens_of mode input)
+    ∙ (ap (λ t. take (length (unappended_input b input)) t) (tokens-joined mode input)
     ∙ take-unappended b input)

@@ -12,21 +12,23 @@ use Rattle.rustc_parse_format.specs.Call.{call}
 use Rattle.rustc_parse_format.specs.Characters.{Text, after_first, after_white, begins_with, front}
 use Rattle.rustc_parse_format.specs.Characters.{is_brace, is_no_brace}
 use Rattle.rustc_parse_format.specs.Placeholder.{cut}
-use Rattle.rustc_parse_format.specs.Source.{unappended}
+use Rattle.rustc_parse_format.specs.Source.{unappended_input}
 use Rattle.rustc_parse_format.specs.Syntax.{FieldText}
 use Rattle.rustc_parse_format.specs.Types.{Mode, wants_names}
 use Rattle.format_tokens.specs.declared.culprits.Role.{Role}
-use Rattle.format_tokens.specs.declared.culprits.Role.TheVariants.{Open, Close, Text as TextRole}
+use Rattle.format_tokens.specs.declared.culprits.Role.TheVariants.{OpenBrace, CloseBrace}
+use Rattle.format_tokens.specs.declared.culprits.Role.TheVariants.{Text as TextRole}
 use Rattle.format_tokens.specs.declared.culprits.Role.TheVariants.{Name, Number, Message, Other}
 use Rattle.format_tokens.specs.declared.kinds.Kind.{Kind}
-use Rattle.format_tokens.specs.declared.kinds.Kind.TheVariants.{Close as CloseKind, Escape}
-use Rattle.format_tokens.specs.declared.kinds.Kind.TheVariants.{Open as OpenKind, Unexpected}
+use Rattle.format_tokens.specs.declared.kinds.Kind.TheVariants.{CloseBrace as CloseKind}
+use Rattle.format_tokens.specs.declared.kinds.Kind.TheVariants.{EscapedBrace}
+use Rattle.format_tokens.specs.declared.kinds.Kind.TheVariants.{OpenBrace as OpenKind, Unexpected}
 use Rattle.format_tokens.specs.declared.kinds.Kind.TheVariants.{Text as TextKind, Whitespace}
 use Rattle.format_tokens.specs.Culprits.{closes, closes_or, fits, has_argument, inside_after}
-use Rattle.format_tokens.specs.Culprits.{marked, role_of}
-use Rattle.format_tokens.specs.Placed.{shown, within}
+use Rattle.format_tokens.specs.Culprits.{marked_tokens, role_of}
+use Rattle.format_tokens.specs.Placed.{input_tokens, first_tokens}
 use Rattle.format_tokens.specs.Sections.{HasAppended, faults_of, has_fault, has_mark, is_mark}
-use Rattle.format_tokens.specs.Tokens.{Label, field_tokens, joined, opened_tokens, token}
+use Rattle.format_tokens.specs.Tokens.{Label, field_tokens, joined_text, opened_tokens, token}
 use Rattle.format_tokens.specs.Walk.{call_tokens, is_closed, placeholder_tokens, read_tokens}
 use Rattle.format_tokens.specs.Walk.{skipped_tokens, tokens_of, tokens_within, up_to_rest}
 use Rattle.format_tokens.proofs.CallMarks.{and-left}
@@ -82,10 +84,10 @@ placeholder-ends mode t s =
     (λ e. InClose (opened_tokens a.field space) refl)
     (λ e. opened-ends a.field space (up_to_rest r s))
 
-text-ends : (b : ℕ) (u : Text) → Ends (token Escape (b ∷ b ∷ []) ++ token TextKind u)
+text-ends : (b : ℕ) (u : Text) → Ends (token EscapedBrace (b ∷ b ∷ []) ++ token TextKind u)
 unfolding role_of is_mark
-text-ends b [] = InText [] Escape (b ∷ b ∷ []) refl refl refl
-text-ends b (c ∷ u) = InText ((Escape, b ∷ b ∷ []) ∷ []) TextKind (c ∷ u) refl refl refl
+text-ends b [] = InText [] EscapedBrace (b ∷ b ∷ []) refl refl refl
+text-ends b (c ∷ u) = InText ((EscapedBrace, b ∷ b ∷ []) ∷ []) TextKind (c ∷ u) refl refl refl
 
 run-ends : (b : ℕ) (u : Text) → Ends (token TextKind (b ∷ u))
 unfolding role_of is_mark
@@ -121,8 +123,8 @@ all-ends (suc n) mode c (b ∷ t) =
 record Split (names i : Bool) (x y : List Label) : Type 0 where
   before : List Label
   inside : Bool
-  whole : marked names i (x ++ y) ≡ before ++ marked names inside y
-  text : joined before ≡ joined x
+  whole : marked_tokens names i (x ++ y) ≡ before ++ marked_tokens names inside y
+  text : joined_text before ≡ joined_text x
   some : AreSome x → AreSome before
   -- Inside a pair of braces its closing one follows.
   waits : (i ≡ true → closes (x ++ y) ≡ true) → inside ≡ true → closes y ≡ true
@@ -130,8 +132,8 @@ record Split (names i : Bool) (x y : List Label) : Type 0 where
 waiting : (names i : Bool) (ts : List Label) (r : Role)
     → (i ≡ true → closes_or (closes ts) r ≡ true)
     → inside_after i (fits names i ts r) r ≡ true → closes ts ≡ true
-waiting names i ts Open h e = and-left (closes ts) _ e
-waiting names i ts Close h e = absurd (false≢true e)
+waiting names i ts OpenBrace h e = and-left (closes ts) _ e
+waiting names i ts CloseBrace h e = absurd (false≢true e)
 waiting names i ts TextRole h e = h e
 waiting names i ts Name h e = h e
 waiting names i ts Number h e = h e
@@ -163,24 +165,25 @@ token-some : (k : Kind) (u : Text) → 0 < length u → token k u ≡ (k, u) ∷
 token-some k [] h = absurd (omega (arith, h))
 token-some k (c ∷ u) h = refl
 
-within-append : (n : ℕ) (x y : List Label) → AreSome x → length (joined x) ≤ n
-    → within n (x ++ y) ≡ x ++ within (n - length (joined x)) y
+within-append : (n : ℕ) (x y : List Label) → AreSome x → length (joined_text x) ≤ n
+    → first_tokens n (x ++ y) ≡ x ++ first_tokens (n - length (joined_text x)) y
 within-append n [] y h k =
     let e : n ≡ n - 0 = omega arith in
-    ap (λ m. within m y) e
+    ap (λ m. first_tokens m y) e
 within-append n (l ∷ x) y h k =
-    let size = length-append l.1 (joined x) in
-    let less : n - length l.1 - length (joined x) ≡ n - length (joined (l ∷ x)) =
+    let size = length-append l.1 (joined_text x) in
+    let less : n - length l.1 - length (joined_text x) ≡ n - length (joined_text (l ∷ x)) =
     omega (arith, size) in
-    ap (λ u. token l.0 u ++ within (n - length l.1) (x ++ y))
+    ap (λ u. token l.0 u ++ first_tokens (n - length l.1) (x ++ y))
     (take_all n l.1 (omega (arith, size, k)))
-    ∙ ap (λ ts. ts ++ within (n - length l.1) (x ++ y)) (token-some l.0 l.1 h.0)
+    ∙ ap (λ ts. ts ++ first_tokens (n - length l.1) (x ++ y)) (token-some l.0 l.1 h.0)
     ∙ ap (λ ts. l ∷ ts) (within-append (n - length l.1) x y h.1 (omega (arith, size, k))
-    ∙ ap (λ m. x ++ within m y) less)
+    ∙ ap (λ m. x ++ first_tokens m y) less)
 
-within-all : (n : ℕ) (x : List Label) → AreSome x → length (joined x) ≤ n → within n x ≡ x
+within-all : (n : ℕ) (x : List Label) → AreSome x → length (joined_text x) ≤ n
+    → first_tokens n x ≡ x
 within-all n x h k =
-    ap (within n) (sym (append-nil x)) ∙ within-append n x [] h k ∙ append-nil x
+    ap (first_tokens n) (sym (append-nil x)) ∙ within-append n x [] h k ∙ append-nil x
 
 -- The last character of a text.
 last_of : Text → ℕ
@@ -225,15 +228,15 @@ unexpected-mark = refl
 
 -- An opening brace that nothing closes is marked.
 open-shape : (names : Bool) (xs ys : List Label) → closes ys ≡ false
-    → marked names false (xs ++ (OpenKind, codes "{") ∷ ys)
+    → marked_tokens names false (xs ++ (OpenKind, codes "{") ∷ ys)
     ≡ (split names false xs ((OpenKind, codes "{") ∷ ys)).before
-    ++ (Unexpected, codes "{") ∷ marked names false ys
+    ++ (Unexpected, codes "{") ∷ marked_tokens names false ys
 unfolding role_of
 open-shape names xs ys c =
     let s = split names false xs ((OpenKind, codes "{") ∷ ys) in
     s.whole ∙ ap (λ b. s.before
     ++ (cond (b && (not names || has_argument ys)) OpenKind Unexpected, codes "{")
-    ∷ marked names (b && (not names || has_argument ys)) ys) c
+    ∷ marked_tokens names (b && (not names || has_argument ys)) ys) c
 
 after-brace : (x y t : Text) → x ++ (codes "{" ++ y) ≡ t ++ 10 ∷ [] → length x + 1 ≤ length t
 after-brace x [] t e =
@@ -247,55 +250,56 @@ after-brace x (c ∷ y) t e = omega (
 )
 
 open-last : (names : Bool) (xs ys : List Label) (t : Text) → AreSome xs → closes ys ≡ false
-    → joined (xs ++ (OpenKind, codes "{") ∷ ys) ≡ t ++ 10 ∷ []
-    → has_mark (within (length t) (marked names false (xs ++ (OpenKind, codes "{") ∷ ys)))
-    ≡ has_mark (marked names false (xs ++ (OpenKind, codes "{") ∷ ys))
+    → joined_text (xs ++ (OpenKind, codes "{") ∷ ys) ≡ t ++ 10 ∷ []
+    → has_mark (first_tokens (length t) (marked_tokens names false
+    (xs ++ (OpenKind, codes "{") ∷ ys)))
+    ≡ has_mark (marked_tokens names false (xs ++ (OpenKind, codes "{") ∷ ys))
 open-last names xs ys t h c e =
     let s = split names false xs ((OpenKind, codes "{") ∷ ys) in
-    let others = marked names false ys in
-    let fits = after-brace (joined xs) (joined ys) t
+    let others = marked_tokens names false ys in
+    let fits = after-brace (joined_text xs) (joined_text ys) t
     (sym (joined-append xs ((OpenKind, codes "{") ∷ ys)) ∙ e) in
     let size = ap length s.text in
-    let m = length t - length (joined s.before) in
-    ap (λ l. has_mark (within (length t) l)) (open-shape names xs ys c)
+    let m = length t - length (joined_text s.before) in
+    ap (λ l. has_mark (first_tokens (length t) l)) (open-shape names xs ys c)
     ∙ ap has_mark (within-append (length t) s.before ((Unexpected, codes "{") ∷ others) (s.some h)
     (omega (arith, fits, size))
-    ∙ ap (λ u. s.before ++ (token Unexpected u ++ within (m - 1) others))
+    ∙ ap (λ u. s.before ++ (token Unexpected u ++ first_tokens (m - 1) others))
     (take_all m (codes "{") (omega (arith, fits, size))))
-    ∙ mark-there s.before (within (m - 1) others) Unexpected (codes "{") unexpected-mark
+    ∙ mark-there s.before (first_tokens (m - 1) others) Unexpected (codes "{") unexpected-mark
     ∙ sym (ap has_mark (open-shape names xs ys c)
     ∙ mark-there s.before others Unexpected (codes "{") unexpected-mark)
 
 -- Text at the end is not.
 text-shape : (names : Bool) (xs : List Label) (k : Kind) (v : Text) → role_of k ≡ TextRole
-    → marked names false (xs ++ (k, v) ∷ [])
+    → marked_tokens names false (xs ++ (k, v) ∷ [])
     ≡ (split names false xs ((k, v) ∷ [])).before ++ (k, v) ∷ []
 text-shape names xs k v r =
     let s = split names false xs ((k, v) ∷ []) in
     let out : s.inside ≡ false = false_from_ne_true s.inside (λ q.
     false≢true (sym (ap (closes_or false) r)
     ∙ s.waits (λ e. absurd (false≢true e)) q)) in
-    s.whole ∙ ap (λ b. s.before ++ marked names b ((k, v) ∷ [])) out
+    s.whole ∙ ap (λ b. s.before ++ marked_tokens names b ((k, v) ∷ [])) out
     ∙ ap (λ x. s.before ++ (cond (fits {A = Text} names false [] x) k Unexpected, v) ∷ []) r
 
 text-last : (names : Bool) (xs : List Label) (k : Kind) (v t : Text) → AreSome xs → 0 < length v
-    → role_of k ≡ TextRole → is_mark k ≡ false → joined (xs ++ (k, v) ∷ []) ≡ t ++ 10 ∷ []
-    → has_mark (within (length t) (marked names false (xs ++ (k, v) ∷ [])))
-    ≡ has_mark (marked names false (xs ++ (k, v) ∷ []))
+    → role_of k ≡ TextRole → is_mark k ≡ false → joined_text (xs ++ (k, v) ∷ []) ≡ t ++ 10 ∷ []
+    → has_mark (first_tokens (length t) (marked_tokens names false (xs ++ (k, v) ∷ [])))
+    ≡ has_mark (marked_tokens names false (xs ++ (k, v) ∷ []))
 text-last names xs k v t h some r m e =
     let s = split names false xs ((k, v) ∷ []) in
-    let size : length (joined s.before) ≤ length t = omega (
+    let size : length (joined_text s.before) ≤ length t = omega (
       arith,
       ap length e,
       ap length (joined-append xs ((k, v) ∷ [])),
-      length-append (joined xs) (joined ((k, v) ∷ [])),
+      length-append (joined_text xs) (joined_text ((k, v) ∷ [])),
       length-append v [],
       length-append t (10 ∷ []),
       some,
       ap length s.text,
     ) in
-    let n = length t - length (joined s.before) in
-    ap (λ l. has_mark (within (length t) l)) (text-shape names xs k v r)
+    let n = length t - length (joined_text s.before) in
+    ap (λ l. has_mark (first_tokens (length t) l)) (text-shape names xs k v r)
     ∙ ap has_mark (within-append (length t) s.before ((k, v) ∷ []) (s.some h) size
     ∙ ap (λ l. s.before ++ l) (append-nil (token k (take n v))))
     ∙ mark-before s.before (token k (take n v)) (token-unmarked k (take n v) m)
@@ -311,31 +315,32 @@ some-right [] y h = h
 some-right (l ∷ x) y h = some-right x y h.1
 
 last-marks : (names : Bool) (ls : List Label) (t : Text) → Ends ls → AreSome ls
-    → joined ls ≡ t ++ 10 ∷ []
-    → has_mark (within (length t) (marked names false ls)) ≡ has_mark (marked names false ls)
+    → joined_text ls ≡ t ++ 10 ∷ []
+    → has_mark (first_tokens (length t) (marked_tokens names false ls))
+    ≡ has_mark (marked_tokens names false ls)
 last-marks names ls t (Nothing e) h k = absurd (omega (
   arith,
-  ap length (sym (ap joined e) ∙ k),
+  ap length (sym (ap joined_text e) ∙ k),
   length-append t (10 ∷ []),
 ))
 last-marks names ls t (InText xs k v e r m) h j =
     let all = subst AreSome e h in
-    subst (λ l. has_mark (within (length t) (marked names false l))
-    ≡ has_mark (marked names false l)) (sym e)
+    subst (λ l. has_mark (first_tokens (length t) (marked_tokens names false l))
+    ≡ has_mark (marked_tokens names false l)) (sym e)
     (text-last names xs k v t (some-left xs ((k, v) ∷ []) all)
-    (some-right xs ((k, v) ∷ []) all).0 r m (sym (ap joined e) ∙ j))
+    (some-right xs ((k, v) ∷ []) all).0 r m (sym (ap joined_text e) ∙ j))
 last-marks names ls t (InClose xs e) h j =
-    let no : ◌≡◌ {A = ℕ} 125 10 = same-last (joined xs) t 125 10
-    (sym (ap joined e ∙ joined-append xs ((CloseKind, codes "}") ∷ [])) ∙ j) in
+    let no : ◌≡◌ {A = ℕ} 125 10 = same-last (joined_text xs) t 125 10
+    (sym (ap joined_text e ∙ joined-append xs ((CloseKind, codes "}") ∷ [])) ∙ j) in
     absurd (omega (arith, no))
 last-marks names ls t (InOpen xs ys e c) h j =
-    subst (λ l. has_mark (within (length t) (marked names false l))
-    ≡ has_mark (marked names false l)) (sym e)
+    subst (λ l. has_mark (first_tokens (length t) (marked_tokens names false l))
+    ≡ has_mark (marked_tokens names false l)) (sym e)
     (open-last names xs ys t (some-left xs ((OpenKind, codes "{") ∷ ys) (subst AreSome e h)) c
-    (sym (ap joined e) ∙ j))
+    (sym (ap joined_text e) ∙ j))
 
 marked-some : (names : Bool) (ls : List Label) (i : Bool) → AreSome ls
-    → AreSome (marked names i ls)
+    → AreSome (marked_tokens names i ls)
 marked-some names [] i h = tt
 marked-some names (l ∷ ls) i h = (
   h.0,
@@ -349,20 +354,20 @@ tokens-some mode t = marked-some (wants_names mode) (tokens_within (length t) mo
 
 -- So a text has a mark among the tokens that are shown exactly if it has a fault.
 pub shown-marks : (mode : Mode) (input : Text) (appended : Bool) → HasAppended appended input
-    → has_mark (shown mode input appended) ≡ has_fault (faults_of mode input)
+    → has_mark (input_tokens mode input appended) ≡ has_fault (faults_of mode input)
 unfolding read_tokens
 shown-marks mode input false h =
     ap has_mark (within-all (length input) (tokens_of mode input) (tokens-some mode input)
     (omega (arith, ap length (tokens-joined mode input)))) ∙ text-marks mode input
 shown-marks mode input true (t, e) =
     let ls = tokens_within (length input) mode 0 input in
-    let n : length (unappended true input) ≡ length t = omega (
+    let n : length (unappended_input true input) ≡ length t = omega (
       arith,
       length-take (length input - 1) input,
       ap length e,
       length-append t (10 ∷ []),
     ) in
-    ap (λ k. has_mark (within k (tokens_of mode input))) n
+    ap (λ k. has_mark (first_tokens k (tokens_of mode input))) n
     ∙ last-marks (wants_names mode) ls t (all-ends (length input) mode 0 input)
     (some-within (length input) mode 0 input) (read-joined mode input ∙ e)
     ∙ text-marks mode input

@@ -10,7 +10,7 @@ use Rattle.std.proofs.Math.Seq.{get_or-append_seam}
 use Rattle.rustc_parse_format.specs.Characters.{Text, byte_length}
 use Rattle.rustc_parse_format.specs.Literal.{IsSource, content_value, newline}
 use Rattle.rustc_parse_format.specs.Marks.{Start}
-use Rattle.rustc_parse_format.specs.Source.{HasSource, unappended}
+use Rattle.rustc_parse_format.specs.Source.{HasSource, unappended_input}
 use Rattle.rustc_parse_format.specs.Types.{Mode, wants_names}
 use Rattle.rustc_parse_format.specs.World.{Place, World, content_places, last_stop, newline_places}
 use Rattle.rustc_parse_format.specs.World.{number_of, plain_world, quote_offset, world}
@@ -22,53 +22,54 @@ use Rattle.format_tokens.specs.declared.kinds.Kind.{Kind}
 use Rattle.format_tokens.specs.declared.kinds.Kind.TheVariants.{Quote}
 use Rattle.format_tokens.specs.declared.kinds.Token.{Token}
 use Rattle.format_tokens.specs.Seen.{seen_token}
-use Rattle.format_tokens.specs.Midway.{sized}
+use Rattle.format_tokens.specs.Midway.{sized_token}
 use Rattle.format_tokens.specs.Escapes.{Placed}
-use Rattle.format_tokens.specs.Placed.{placed, shown, tokens, whole_tokens, within}
+use Rattle.format_tokens.specs.Placed.{placed_tokens, input_tokens, tokens, whole_tokens}
+use Rattle.format_tokens.specs.Placed.{first_tokens}
 use Rattle.format_tokens.specs.Starts.{pairs, placed_sizes, starts_of}
 use Rattle.format_tokens.specs.Tokens.{Label, token}
 use Rattle.format_tokens.specs.Walk.{read_tokens, tokens_of}
-use Rattle.format_tokens.specs.Culprits.{marked}
+use Rattle.format_tokens.specs.Culprits.{marked_tokens}
 use Rattle.format_tokens.proofs.Marking.{counted, marked-sized}
 use Rattle.format_tokens.proofs.Starts.{firsts, length-starts, placed-none, placed-some, starts-at}
 use Rattle.format_tokens.proofs.InText.{placed-shown, text-tokens}
 
 -- A token is placed if it has characters.
 token-placed : (w : World) (n j : ℕ) (k : Kind) (u : Text) (ls : List Label) → length u ≡ j
-    → 0 < j → placed w n (token k u ++ ls)
-    ≡ (k, (number_of w (Start n), number_of w (Start (n - j)))) ∷ placed w (n - j) ls
+    → 0 < j → placed_tokens w n (token k u ++ ls)
+    ≡ (k, (number_of w (Start n), number_of w (Start (n - j)))) ∷ placed_tokens w (n - j) ls
 token-placed w n j k [] ls e some = absurd (omega arith)
 token-placed w n j k (c ∷ u) ls e some = rw (← e) refl
 
 token-none : (w : World) (n j : ℕ) (k : Kind) (u : Text) (ls : List Label) → length u ≡ j
-    → j ≡ 0 → placed w n (token k u ++ ls) ≡ placed w n ls
+    → j ≡ 0 → placed_tokens w n (token k u ++ ls) ≡ placed_tokens w n ls
 token-none w n j k [] ls e none = refl
 token-none w n j k (c ∷ u) ls e none = absurd (omega arith)
 
 -- By lengths alone the same tokens are placed.
 one-placed : (w : World) (n k j : ℕ) (l : Label) (ls : List Label)
-    → ((m i : ℕ) → placed_sizes w m i (map counted ls) ≡ placed w m (within i ls))
+    → ((m i : ℕ) → placed_sizes w m i (map counted ls) ≡ placed_tokens w m (first_tokens i ls))
     → min (length l.1) k ≡ j
-    → placed_sizes w n k (counted l ∷ map counted ls) ≡ placed w n (within k (l ∷ ls))
+    → placed_sizes w n k (counted l ∷ map counted ls) ≡ placed_tokens w n (first_tokens k (l ∷ ls))
 one-placed w n k zero l ls others e = placed-none w n k (counted l) (map counted ls) e
     ∙ (others n (k - length l.1)
-    ∙ sym (token-none w n 0 l.0 (take k l.1) (within (k - length l.1) ls)
+    ∙ sym (token-none w n 0 l.0 (take k l.1) (first_tokens (k - length l.1) ls)
     (omega (arith, length-take k l.1, e)) refl))
 one-placed w n k (suc j) l ls others e =
     placed-some w n k (counted l) (map counted ls) (omega (arith, e))
     ∙ (ap (λ t. (l.0, (number_of w (Start n), number_of w (Start (n - min (length l.1) k)))) ∷ t)
     (others (n - min (length l.1) k) (k - length l.1))
     ∙ sym (token-placed w n (min (length l.1) k) l.0 (take k l.1)
-    (within (k - length l.1) ls) (omega (arith, length-take k l.1)) (omega (arith, e))))
+    (first_tokens (k - length l.1) ls) (omega (arith, length-take k l.1)) (omega (arith, e))))
 
 pub sizes-placed : (w : World) (n k : ℕ) (ls : List Label)
-    → placed_sizes w n k (map counted ls) ≡ placed w n (within k ls)
+    → placed_sizes w n k (map counted ls) ≡ placed_tokens w n (first_tokens k ls)
 sizes-placed w n k [] = refl
 sizes-placed w n k (l ∷ ls) =
     one-placed w n k (min (length l.1) k) l ls (λ m i. sizes-placed w m i ls) refl
 
 -- How many characters are shown.
-pub kept-is : (b : Bool) (t : Text) → length t - from_bool b ≡ length (unappended b t)
+pub kept-is : (b : Bool) (t : Text) → length t - from_bool b ≡ length (unappended_input b t)
 kept-is true t = omega (arith, length-take (length t - 1) t)
 kept-is false t = omega arith
 
@@ -96,23 +97,23 @@ kept-small w n kept starts e f h = omega (arith, ap length e, length-starts w, f
 
 -- The tokens of the text.
 shown-tokens : (w : World) (mode : Mode) (input : Text) (b : Bool) (kept : ℕ)
-    → length w.places ≡ length input → kept ≡ length (unappended b input)
+    → length w.places ≡ length input → kept ≡ length (unappended_input b input)
     → placed_sizes w (length w.places) kept
-    (marked (wants_names mode) false (pairs (map sized (read_tokens mode input))))
-    ≡ placed w (length input) (shown mode input b)
+    (marked_tokens (wants_names mode) false (pairs (map sized_token (read_tokens mode input))))
+    ≡ placed_tokens w (length input) (input_tokens mode input b)
 shown-tokens w mode input b kept n e =
     ap (placed_sizes w (length w.places) kept)
     (marked-sized (wants_names mode) (read_tokens mode input) false)
     ∙ sizes-placed w (length w.places) kept (tokens_of mode input)
-    ∙ (ap (λ n. placed w n (within kept (tokens_of mode input))) n
-    ∙ ap (λ k. placed w (length input) (within k (tokens_of mode input))) e)
+    ∙ (ap (λ n. placed_tokens w n (first_tokens kept (tokens_of mode input))) n
+    ∙ ap (λ k. placed_tokens w (length input) (first_tokens k (tokens_of mode input))) e)
 
 pub plain-tokens : (mode : Mode) (input : Text) (style : Option ℕ) (snippet : Option Text)
-    (b : Bool) (kept : ℕ) (all : List Placed) → kept ≡ length (unappended b input)
+    (b : Bool) (kept : ℕ) (all : List Placed) → kept ≡ length (unappended_input b input)
     → (HasSource input style snippet b → ⊥)
     → (let w = plain_world false 0 input (byte_length input) in
     all ≡ placed_sizes w (length w.places) kept
-    (marked (wants_names mode) false (pairs (map sized (read_tokens mode input)))))
+    (marked_tokens (wants_names mode) false (pairs (map sized_token (read_tokens mode input)))))
     → all ≡ tokens mode input style snippet b
 plain-tokens mode input style snippet b kept all e none h =
     h ∙ (shown-tokens (plain_world false 0 input (byte_length input)) mode input b kept
@@ -130,13 +131,13 @@ around : (a b c d m n : ℕ) (x y : List Placed) → a ≡ b → c ≡ d → m �
 around a b c d m n x y e f g h = rw (e, f, g, h) refl
 
 pub quoted-tokens : (mode : Mode) (input : Text) (style : Option ℕ) (literal : Text) (b : Bool)
-    (kept n : ℕ) (starts : List ℕ) (all : List Placed) → kept ≡ length (unappended b input)
+    (kept n : ℕ) (starts : List ℕ) (all : List Placed) → kept ≡ length (unappended_input b input)
     → IsSource input style literal b
     → starts ≡ starts_of (world input style (Some literal) b) → n ≡ byte_length literal
     → (let w = world input style (Some literal) b in
     all ≡ ((Quote, (0, get_or starts 0 0)) ∷ []
     ++ placed_sizes w (length w.places) kept
-    (marked (wants_names mode) false (pairs (map sized (read_tokens mode input)))))
+    (marked_tokens (wants_names mode) false (pairs (map sized_token (read_tokens mode input)))))
     ++ (Quote, (get_or starts (length starts - 1) 0, n)) ∷ [])
     → all ≡ whole_tokens mode input style (Some literal) b
 unfolding whole_tokens

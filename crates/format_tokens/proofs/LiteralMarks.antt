@@ -22,9 +22,10 @@ use Rattle.rustc_parse_format.proofs.Spans.Worlds.{known, unit_world}
 use Rattle.format_tokens.specs.declared.kinds.Kind.TheVariants.{Quote}
 use Rattle.format_tokens.specs.Covers.{AreParts}
 use Rattle.format_tokens.specs.Escapes.{Placed}
-use Rattle.format_tokens.specs.Placed.{cut_in, in_text, placed, shown, tokens, whole_tokens}
+use Rattle.format_tokens.specs.Placed.{cut_in, tokens_in_text, placed_tokens, input_tokens, tokens}
+use Rattle.format_tokens.specs.Placed.{whole_tokens}
 use Rattle.format_tokens.specs.Sections.{HasAppended, faults_of, has_fault, has_mark, is_mark}
-use Rattle.format_tokens.specs.Tokens.{Label, joined}
+use Rattle.format_tokens.specs.Tokens.{Label, joined_text}
 use Rattle.format_tokens.specs.Walk.{tokens_of}
 use Rattle.format_tokens.proofs.Boundaries.{IsBoundary, IsStart, content-end, content-start}
 use Rattle.format_tokens.proofs.Covering.{AreSome, source-length, source-tokens, start-end}
@@ -82,11 +83,11 @@ literal-starts input source b (t, (content, us, e, c, v), whole) =
 
 -- The tokens in a source text.
 all-placed : (source : Text) (w : World) (n m i : ℕ) (ls : List Label) (q : Placed)
-    → AreStarts source w n m → AreSome ls → i ≡ length (joined ls) + m → i ≤ n
-    → IsPlaced source q → AllByRecursion (IsPlaced source) (placed w i ls ++ q ∷ [])
+    → AreStarts source w n m → AreSome ls → i ≡ length (joined_text ls) + m → i ≤ n
+    → IsPlaced source q → AllByRecursion (IsPlaced source) (placed_tokens w i ls ++ q ∷ [])
 all-placed source w n m i [] q a some h l last = (last, tt)
 all-placed source w n m i (x ∷ ls) q a some h l last =
-    let size = length-append x.1 (joined ls) in (
+    let size = length-append x.1 (joined_text ls) in (
       record {
         ends = a.bounds (i - length x.1);
         starts = λ k. a.starts i (omega (arith, some.0, h, size)) l;
@@ -105,7 +106,8 @@ literal-placed mode input source b h =
     record { before = source; after = []; whole = sym (append-nil source); width = refl } in
     rw (source-tokens mode input None source b h) (
       record { ends = a.bounds (length input); starts = λ no. absurd (false≢true no) },
-      all-placed source w (length input) (length (newline b)) (length input) (shown mode input b)
+      all-placed source w (length input) (length (newline b)) (length input)
+          (input_tokens mode input b)
           (Quote, (w.end, byte_length source)) a (within-some _ (tokens_of mode input))
           (omega (
             arith,
@@ -128,40 +130,41 @@ source-parts mode input (Some n) source b h =
     whole-parts _ 0 (byte_length source) (whole-cover mode input (Some n) source b h)
 
 -- Byte ranges change no mark.
-text-marks : (at : ℕ) (ls : List Label) → has_mark (in_text at ls) ≡ has_mark ls
+text-marks : (at : ℕ) (ls : List Label) → has_mark (tokens_in_text at ls) ≡ has_mark ls
 text-marks at [] = refl
 text-marks at (l ∷ ls) = ap (λ b. is_mark l.0 || b) (text-marks (at + byte_length l.1) ls)
 
-placed-marks : (w : World) (n : ℕ) (ls : List Label) → has_mark (placed w n ls) ≡ has_mark ls
+placed-marks : (w : World) (n : ℕ) (ls : List Label) → has_mark (placed_tokens w n ls) ≡ has_mark ls
 placed-marks w n [] = refl
 placed-marks w n (l ∷ ls) = ap (λ b. is_mark l.0 || b) (placed-marks w (n - length l.1) ls)
 
 source-marks : (mode : Mode) (input : Text) (style : Option ℕ) (source : Text) (b : Bool)
     → IsSource input style source b
-    → has_mark (whole_tokens mode input style (Some source) b) ≡ has_mark (shown mode input b)
+    → has_mark (whole_tokens mode input style (Some source) b)
+    ≡ has_mark (input_tokens mode input b)
 unfolding is_mark
 source-marks mode input style source b h =
     let w = world input style (Some source) b in
-    let ts = placed w (length input) (shown mode input b) in
+    let ts = placed_tokens w (length input) (input_tokens mode input b) in
     ap has_mark (source-tokens mode input style source b h)
     ∙ (list_any-append (λ (t : Placed). is_mark t.0) ts ((Quote, (w.end, byte_length source)) ∷ [])
-    ∙ (or-nothing (has_mark ts) ∙ placed-marks w (length input) (shown mode input b)))
+    ∙ (or-nothing (has_mark ts) ∙ placed-marks w (length input) (input_tokens mode input b)))
 
 tokens-marks : (mode : Mode) (input : Text) (style : Option ℕ) (snippet : Option Text) (b : Bool)
-    → has_mark (tokens mode input style snippet b) ≡ has_mark (shown mode input b)
+    → has_mark (tokens mode input style snippet b) ≡ has_mark (input_tokens mode input b)
 unfolding tokens whole_tokens
-tokens-marks mode input style None b = text-marks 0 (shown mode input b)
+tokens-marks mode input style None b = text-marks 0 (input_tokens mode input b)
 tokens-marks mode input style (Some source) b =
     by_test (is_source input style (Some source) b) refl
   where
     by_test : (v : Bool) → is_source input style (Some source) b ≡ v
-        → has_mark (tokens mode input style (Some source) b) ≡ has_mark (shown mode input b)
+        → has_mark (tokens mode input style (Some source) b) ≡ has_mark (input_tokens mode input b)
     by_test true e =
         let h = source-found input style source b e in
         ap has_mark (source-cut mode input style source b h)
         ∙ (parts-marks _ _ (source-parts mode input style source b h)
         ∙ source-marks mode input style source b h)
-    by_test false e = rw e (text-marks 0 (shown mode input b))
+    by_test false e = rw e (text-marks 0 (input_tokens mode input b))
 
 pub literal-marks : (mode : Mode) (input : Text) (style : Option ℕ) (snippet : Option Text)
     (b : Bool) → HasAppended b input

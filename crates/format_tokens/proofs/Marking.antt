@@ -2,11 +2,13 @@
 use Rattle.std.proofs.Common.{◌≡◌, Bool, List, [], ◌∷◌, map, length, refl, ap, ◌∙◌}
 use Rattle.std.specs.Prelude.{if◌then◌else◌}
 use Rattle.format_tokens.specs.declared.culprits.Role.{Role}
-use Rattle.format_tokens.specs.declared.culprits.Role.TheVariants.{Open, Close, Text, Name}
+use Rattle.format_tokens.specs.declared.culprits.Role.TheVariants.{OpenBrace, CloseBrace, Text}
+use Rattle.format_tokens.specs.declared.culprits.Role.TheVariants.{Name}
 use Rattle.format_tokens.specs.declared.culprits.Role.TheVariants.{Number, Message, Other}
 use Rattle.format_tokens.specs.declared.kinds.Kind.TheVariants.{Unexpected}
-use Rattle.format_tokens.specs.Culprits.{closes, closes_or, fits, has_argument, marked, role_of}
-use Rattle.format_tokens.specs.Midway.{sized}
+use Rattle.format_tokens.specs.Culprits.{closes, closes_or, fits, has_argument, marked_tokens}
+use Rattle.format_tokens.specs.Culprits.{role_of}
+use Rattle.format_tokens.specs.Midway.{sized_token}
 use Rattle.format_tokens.specs.Starts.{Pair, pairs}
 use Rattle.format_tokens.specs.Tokens.{Label}
 
@@ -24,8 +26,8 @@ argument-counted (l ∷ ls) = refl
 
 fits-counted : (names inside : Bool) (ls : List Label) (r : Role)
     → fits names inside (map counted ls) r ≡ fits names inside ls r
-fits-counted names inside ls Open = rw (closes-counted ls, argument-counted ls) refl
-fits-counted names inside ls Close = refl
+fits-counted names inside ls OpenBrace = rw (closes-counted ls, argument-counted ls) refl
+fits-counted names inside ls CloseBrace = refl
 fits-counted names inside ls Text = refl
 fits-counted names inside ls Name = refl
 fits-counted names inside ls Number = refl
@@ -33,17 +35,18 @@ fits-counted names inside ls Message = refl
 fits-counted names inside ls Other = refl
 
 marked-counted : (names : Bool) (ls : List Label) (inside : Bool)
-    → marked names inside (map counted ls) ≡ map counted (marked names inside ls)
+    → marked_tokens names inside (map counted ls) ≡ map counted (marked_tokens names inside ls)
 marked-counted names [] inside = refl
 marked-counted names (l ∷ ls) inside = rw (fits-counted names inside ls (role_of l.0))
     (ap (λ ss. ((if fits names inside ls (role_of l.0) then l.0 else Unexpected), length l.1) ∷ ss)
     (marked-counted names ls _))
 
-pairs-counted : (ls : List Label) → pairs (map sized ls) ≡ map counted ls
+pairs-counted : (ls : List Label) → pairs (map sized_token ls) ≡ map counted ls
 pairs-counted [] = refl
 pairs-counted (l ∷ ls) = ap (λ (ss : List Pair). counted l ∷ ss) (pairs-counted ls)
 
 pub marked-sized : (names : Bool) (ls : List Label) (inside : Bool)
-    → marked names inside (pairs (map sized ls)) ≡ map counted (marked names inside ls)
+    → marked_tokens names inside (pairs (map sized_token ls))
+    ≡ map counted (marked_tokens names inside ls)
 marked-sized names ls inside =
-    ap (marked names inside) (pairs-counted ls) ∙ marked-counted names ls inside
+    ap (marked_tokens names inside) (pairs-counted ls) ∙ marked-counted names ls inside

@@ -8,7 +8,8 @@ use Rattle.rustc_parse_format.specs.declared.literal.ContentCharacter.{ContentCh
 use Rattle.rustc_parse_format.specs.Characters.{Text, byte_length}
 use Rattle.rustc_parse_format.specs.Literal.{IsReadAs, IsSource, content_value, ordinary_frame}
 use Rattle.rustc_parse_format.specs.LiteralReading.{seen_characters}
-use Rattle.rustc_parse_format.specs.World.{Place, content_places, last_stop, later, newline_places}
+use Rattle.rustc_parse_format.specs.World.{Place, content_places, last_stop, later_place}
+use Rattle.rustc_parse_format.specs.World.{newline_places}
 use Rattle.rustc_parse_format.specs.World.{world, World}
 use Rattle.rustc_parse_format.proofs.Literals.ContentPlaces.{content-world}
 use Rattle.rustc_parse_format.proofs.Sources.PlainPlaces.{width_chars}
@@ -55,7 +56,7 @@ read-next xs i starts more end a b d h l m e f =
     }
 
 places_seen : (xs : List ContentCharacter)
-    → map (λ (x : Place × ℕ). later 1 x.0) (seen_characters xs) ≡ places_of xs
+    → map (λ (x : Place × ℕ). later_place 1 x.0) (seen_characters xs) ≡ places_of xs
 places_seen [] = refl
 places_seen (x ∷ xs) = same (places_seen xs) (omega arith) (omega arith)
   where
@@ -131,7 +132,7 @@ pub ordinary-all : (input snippet content : Text) (xs : List ContentCharacter) (
     (starts all : List ℕ) (end : ℕ) → snippet ≡ ordinary_frame content
     → ((i : Text) (a : Bool) → IsSource i None (ordinary_frame content) a
     → (let w = world i None (Some (ordinary_frame content)) a in
-    w.places ≡ map (λ (x : Place × ℕ). later 1 x.0) (seen_characters xs)
+    w.places ≡ map (λ (x : Place × ℕ). later_place 1 x.0) (seen_characters xs)
     ++ newline_places w.end a))
     → IsReadSoFar xs (length xs) starts end
     → all ≡ (if appended then starts ++ end ∷ [] else starts) ++ end ∷ []

@@ -21,7 +21,8 @@ use Rattle.rustc_parse_format.specs.Syntax.{type_part}
 use Rattle.rustc_parse_format.specs.Types.{Lower, Upper}
 use Rattle.rustc_parse_format.specs.Values.{type_of}
 use Rattle.format_tokens.specs.declared.culprits.Role.{Role}
-use Rattle.format_tokens.specs.declared.culprits.Role.TheVariants.{Open, Close, Text as TextRole}
+use Rattle.format_tokens.specs.declared.culprits.Role.TheVariants.{OpenBrace, CloseBrace}
+use Rattle.format_tokens.specs.declared.culprits.Role.TheVariants.{Text as TextRole}
 use Rattle.format_tokens.specs.declared.culprits.Role.TheVariants.{Name, Number, Message, Other}
 use Rattle.format_tokens.specs.declared.kinds.Kind.{Kind}
 use Rattle.format_tokens.specs.declared.kinds.Kind.TheVariants.{Asterisk, DollarSign}
@@ -30,7 +31,7 @@ use Rattle.format_tokens.specs.declared.kinds.Kind.TheVariants.{«Type» as Type
 use Rattle.format_tokens.specs.declared.kinds.Kind.TheVariants.{Unexpected}
 use Rattle.format_tokens.specs.declared.kinds.Kind.TheVariants.{Zero}
 use Rattle.format_tokens.specs.Culprits.{closes, closes_or, fits, inside_after}
-use Rattle.format_tokens.specs.Culprits.{marked, role_of}
+use Rattle.format_tokens.specs.Culprits.{marked_tokens, role_of}
 use Rattle.format_tokens.specs.Sections.{has_mark, is_mark}
 use Rattle.format_tokens.specs.Tokens.{Label, count_tokens}
 use Rattle.format_tokens.specs.Tokens.{integer_kind, precision_tokens}
@@ -38,8 +39,8 @@ use Rattle.format_tokens.specs.Tokens.{token, width_tokens, word_kind}
 
 -- The role of a token of a field.
 abbrev pub IsInner : Role → Type 0
-IsInner Open = ⊥
-IsInner Close = ⊥
+IsInner OpenBrace = ⊥
+IsInner CloseBrace = ⊥
 IsInner TextRole = ⊥
 IsInner Name = Unit {0}
 IsInner Number = Unit {0}
@@ -48,8 +49,8 @@ IsInner Other = Unit {0}
 
 -- Such a token is in place, wherever it is.
 abbrev in_place : Bool → Role → Bool
-in_place names Open = true
-in_place names Close = true
+in_place names OpenBrace = true
+in_place names CloseBrace = true
 in_place names TextRole = true
 in_place names Name = true
 in_place names Number = not names
@@ -58,8 +59,8 @@ in_place names Other = true
 
 fits-inner : (names inside : Bool) (ts : List Label) (r : Role) → IsInner r
     → fits names inside ts r ≡ in_place names r
-fits-inner names inside ts Open h = absurd h
-fits-inner names inside ts Close h = absurd h
+fits-inner names inside ts OpenBrace h = absurd h
+fits-inner names inside ts CloseBrace h = absurd h
 fits-inner names inside ts TextRole h = absurd h
 fits-inner names inside ts Name h = refl
 fits-inner names inside ts Number h = refl
@@ -67,8 +68,8 @@ fits-inner names inside ts Message h = refl
 fits-inner names inside ts Other h = refl
 
 inside-inner : (inside f : Bool) (r : Role) → IsInner r → inside_after inside f r ≡ inside
-inside-inner inside f Open h = absurd h
-inside-inner inside f Close h = absurd h
+inside-inner inside f OpenBrace h = absurd h
+inside-inner inside f CloseBrace h = absurd h
 inside-inner inside f TextRole h = absurd h
 inside-inner inside f Name h = refl
 inside-inner inside f Number h = refl
@@ -76,8 +77,8 @@ inside-inner inside f Message h = refl
 inside-inner inside f Other h = refl
 
 closes-inner : (b : Bool) (r : Role) → IsInner r → closes_or b r ≡ b
-closes-inner b Open h = absurd h
-closes-inner b Close h = absurd h
+closes-inner b OpenBrace h = absurd h
+closes-inner b CloseBrace h = absurd h
 closes-inner b TextRole h = absurd h
 closes-inner b Name h = refl
 closes-inner b Number h = refl
@@ -91,7 +92,8 @@ inner_mark names k = is_mark (cond (in_place names (role_of k)) k Unexpected)
 -- These tokens are in a field, and the flag says whether one of them is a mark, whatever follows.
 pub record Inner (names : Bool) (ls : List Label) (m : Bool) : Type 0 where
   pub passes : (inside : Bool) (ts : List Label)
-      → has_mark (marked names inside (ls ++ ts)) ≡ (m || has_mark (marked names inside ts))
+      → has_mark (marked_tokens names inside (ls ++ ts))
+      ≡ (m || has_mark (marked_tokens names inside ts))
   pub closing : (ts : List Label) → closes (ls ++ ts) ≡ closes ts
 
 pub inner-none : (names : Bool) → Inner names [] false
@@ -102,9 +104,9 @@ inner-one : (names : Bool) (k : Kind) (u : Text) → IsInner (role_of k)
 inner-one names k u h = record {
   passes = λ inside ts.
       ap (λ f. is_mark (cond f k Unexpected)
-      || has_mark (marked names (inside_after inside f (role_of k)) ts))
+      || has_mark (marked_tokens names (inside_after inside f (role_of k)) ts))
       (fits-inner names inside ts (role_of k) h)
-      ∙ ap (λ b. inner_mark names k || has_mark (marked names b ts))
+      ∙ ap (λ b. inner_mark names k || has_mark (marked_tokens names b ts))
       (inside-inner inside (in_place names (role_of k)) (role_of k) h);
   closing = λ ts. closes-inner (closes ts) (role_of k) h;
 }
@@ -116,9 +118,9 @@ or-assoc false b c = refl
 pub both : {names : Bool} {x y : List Label} {m n : Bool} → Inner names x m → Inner names y n
     → Inner names (x ++ y) (m || n)
 both {names = names} {x = x} {y = y} {m = m} {n = n} h k = record {
-  passes = λ inside ts. ap (λ l. has_mark (marked names inside l)) (append_assoc x y ts)
+  passes = λ inside ts. ap (λ l. has_mark (marked_tokens names inside l)) (append_assoc x y ts)
       ∙ (h.passes inside (y ++ ts) ∙ (ap (λ b. m || b) (k.passes inside ts)
-      ∙ sym (or-assoc m n (has_mark (marked names inside ts)))));
+      ∙ sym (or-assoc m n (has_mark (marked_tokens names inside ts)))));
   closing = λ ts. ap closes (append_assoc x y ts) ∙ (h.closing (y ++ ts) ∙ k.closing ts);
 }
 
@@ -144,7 +146,7 @@ quiet names k [] h e = inner-none names
 quiet names k (c ∷ u) h e =
     let one = inner-one names k (c ∷ u) h in record {
       passes = λ inside ts. one.passes inside ts
-          ∙ ap (λ m. m || has_mark (marked names inside ts)) e;
+          ∙ ap (λ m. m || has_mark (marked_tokens names inside ts)) e;
       closing = one.closing;
     }
 

@@ -7,7 +7,7 @@ use Rattle.std.proofs.lemmas.Bool.{and_parts, and_from, eq-eqb, eqb-true, false�
 use Rattle.std.proofs.lemmas.Bool.{false_from_ne_true}
 use Rattle.rustc_parse_format.specs.Characters.{Text, begins_raw, begins_with, after_first}
 use Rattle.rustc_parse_format.specs.Characters.{byte_length, first_passes, front, is_id_start}
-use Rattle.rustc_parse_format.specs.Spelling.{IsPart, absent, fixed, identifier, is_word}
+use Rattle.rustc_parse_format.specs.Spelling.{IsPart, absent_part, fixed_part, identifier, is_word}
 use Rattle.rustc_parse_format.specs.Syntax.{PositionText, Digits, Word, RawWord, NoPosition}
 use Rattle.rustc_parse_format.specs.Syntax.{position_part}
 use Rattle.rustc_parse_format.specs.Types.{Index, Named}
@@ -60,7 +60,7 @@ pub position-named : (t d left : List ℕ) (x y z : List Sized) (w : Text) (m n 
     → (p : PositionText) (c : ℕ) (r : Text) → IsPart (chars t) (position_part p) r
     → Named w ≡ position_of c p → Took (position_tokens p) r x z left
 position-named t d left x y z w m n e f prefix takes (Word v) c r h i =
-    let s = two-split (chars t) (absent begins_raw) (identifier v) r h in
+    let s = two-split (chars t) (absent_part begins_raw) (identifier v) r h in
     let same : w ≡ v = cc i in
     let here : chars t ≡ s.seam = absent-same (chars t) begins_raw s.seam s.first in
     let plain : names_raw (chars t) w ≡ false = false_from_ne_true _
@@ -71,7 +71,7 @@ position-named t d left x y z w m n e f prefix takes (Word v) c r h i =
     then first (as_kind v (ap (word_kind Identifier) same)
     (takes v r (first.leaves ∙ s.second.whole) (f ∙ ap byte_length same)))
 position-named t d left x y z w m n e f prefix takes (RawWord v) c r h i =
-    let s = two-split (chars t) (fixed (codes "r#")) (identifier v) r h in
+    let s = two-split (chars t) (fixed_part (codes "r#")) (identifier v) r h in
     let same : w ≡ v = cc i in
     let whole : chars t ≡ codes "r#" ++ (v ++ r) = s.first.whole
     ∙ ap (λ u. codes "r#" ++ u) s.second.whole in

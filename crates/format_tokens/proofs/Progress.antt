@@ -12,12 +12,12 @@ use Rattle.rustc_parse_format.proofs.Sources.PlainPlaces.{width_chars}
 use Rattle.rustc_parse_format.specs.Characters.{Text, byte_length}
 use Rattle.rustc_parse_format.specs.Types.{Mode}
 use Rattle.rustc_parse_format.specs.Call.{call}
-use Rattle.rustc_parse_format.specs.State.{State, after, next_call}
+use Rattle.rustc_parse_format.specs.State.{State, state_after, next_call}
 use Rattle.rustc_parse_format.proofs.Grammar.Rests.{IsRest}
 use Rattle.rustc_parse_format.proofs.Walking.ParserLaws.{call_rest}
 use Rattle.rustc_parse_format.proofs.Walking.Progress.{call-lt}
 use Rattle.format_tokens.specs.declared.kinds.Label.{Label as Sized}
-use Rattle.format_tokens.specs.Midway.{Took, sized}
+use Rattle.format_tokens.specs.Midway.{Took, sized_token}
 use Rattle.format_tokens.specs.Walk.{call_tokens, read_tokens, tokens_within}
 
 pub IsRest-width : {t r : Text} → IsRest t r → byte_length r ≤ byte_length t
@@ -33,8 +33,8 @@ pub record IsSoFar (mode : Mode) (input : Text) (x : List Sized) (rest : Text) (
   pub within : byte_length s.rest ≤ byte_length input
   pub turns : ℕ
   pub enough : length s.rest ≤ turns
-  pub tokens : x ++ map sized (tokens_within turns mode s.next s.rest)
-      ≡ map sized (read_tokens mode input)
+  pub tokens : x ++ map sized_token (tokens_within turns mode s.next s.rest)
+      ≡ map sized_token (read_tokens mode input)
 
 -- A parser without its errors.
 abbrev pub forgotten : State → State
@@ -42,7 +42,7 @@ forgotten s = record s { errors = [] }
 
 -- How many bytes are left after a call, by the position of the parser after it.
 pub left_after : (mode : Mode) (input : Text) (x : List Sized) (rest : Text) (s new : State)
-    (m w p : ℕ) → IsSoFar mode input x rest s → new ≡ forgotten (after s (next_call s))
+    (m w p : ℕ) → IsSoFar mode input x rest s → new ≡ forgotten (state_after s (next_call s))
     → m ≡ w - p → w ≡ byte_length input → p ≡ byte_length new.input - byte_length new.rest
     → m ≡ byte_length (call mode s.next rest).rest
 left_after mode input x rest s new m w p h e i j k =
@@ -90,7 +90,7 @@ joins : (x y a b w : List Sized) → y ≡ x ++ a → x ++ (a ++ b) ≡ w → y 
 joins x y a b w e f = ap (λ z. z ++ b) e ∙ (append_assoc x a b ∙ f)
 
 pub so_far-next : (mode : Mode) (input : Text) (x y : List Sized) (rest : Text) (t : List ℕ)
-    (s new : State) → IsSoFar mode input x rest s → new ≡ forgotten (after s (next_call s))
+    (s new : State) → IsSoFar mode input x rest s → new ≡ forgotten (state_after s (next_call s))
     → rest ≢ []
     → Took (call_tokens mode rest (call mode s.next rest).rest) (call mode s.next rest).rest x y t
     → IsSoFar mode input y (chars t) new
@@ -105,8 +105,8 @@ so_far-next mode input x y rest t s new h e some took =
     let f = step mode h.turns s.next rest some (rw h.rest_is h.enough) in
     let less : byte_length k.rest ≤ byte_length rest = IsRest-width (call_rest mode s.next rest) in
     let small : byte_length rest ≤ byte_length input = rw h.rest_is h.within in
-    let all : x ++ map sized (tokens_within h.turns mode s.next rest)
-    ≡ map sized (read_tokens mode input) = rw h.rest_is h.tokens in
+    let all : x ++ map sized_token (tokens_within h.turns mode s.next rest)
+    ≡ map sized_token (read_tokens mode input) = rw h.rest_is h.tokens in
     record {
       mode_is = ap (λ (u : State). u.mode) e ∙ h.mode_is;
       input_is = ap (λ (u : State). u.input) e ∙ h.input_is;
@@ -115,10 +115,11 @@ so_far-next mode input x y rest t s new h e some took =
       turns = f.fewer;
       enough = rw rest_after_part f.enough;
       tokens = rw (rest_after_part, next_after)
-          (joins x y (map sized (call_tokens mode rest k.rest))
-          (map sized (tokens_within f.fewer mode k.next k.rest)) _ took.adds
-          (ap (λ l. x ++ l) (sym (map-append sized (call_tokens mode rest k.rest)
-          (tokens_within f.fewer mode k.next k.rest)) ∙ ap (map sized) (sym f.unfolds)) ∙ all));
+          (joins x y (map sized_token (call_tokens mode rest k.rest))
+          (map sized_token (tokens_within f.fewer mode k.next k.rest)) _ took.adds
+          (ap (λ l. x ++ l) (sym (map-append sized_token (call_tokens mode rest k.rest)
+          (tokens_within f.fewer mode k.next k.rest)) ∙ ap (map sized_token) (sym f.unfolds))
+          ∙ all));
     }
 
 -- At the end all tokens are there.
@@ -127,9 +128,9 @@ none_within mode zero c = refl
 none_within mode (suc n) c = refl
 
 pub so_far-end : (mode : Mode) (input : Text) (x : List Sized) (s : State)
-    → IsSoFar mode input x [] s → x ≡ map sized (read_tokens mode input)
+    → IsSoFar mode input x [] s → x ≡ map sized_token (read_tokens mode input)
 so_far-end mode input x s h =
-    sym (append-nil x) ∙ (ap (λ l. x ++ map sized l) (sym (none_within mode h.turns s.next))
+    sym (append-nil x) ∙ (ap (λ l. x ++ map sized_token l) (sym (none_within mode h.turns s.next))
     ∙ rw (sym h.rest_is) at h.tokens)
 
 -- What a call does where the parser stands.
@@ -140,7 +141,7 @@ piece_so_far mode input x rest s h =
 
 -- Each call leaves fewer characters.
 pub smaller : (mode : Mode) (input : Text) (x : List Sized) (rest : Text) (s new : State)
-    → IsSoFar mode input x rest s → new ≡ forgotten (after s (next_call s)) → rest ≢ []
+    → IsSoFar mode input x rest s → new ≡ forgotten (state_after s (next_call s)) → rest ≢ []
     → length new.rest < length s.rest
 smaller mode input x rest s new h e some =
     rw e (call-lt s.mode s.next s.rest (λ n. some (h.rest_is ∙ n)))

@@ -10,11 +10,12 @@ use Rattle.rustc_parse_format.specs.Faults.{Fault}
 use Rattle.rustc_parse_format.specs.Marks.{Span}
 use Rattle.rustc_parse_format.specs.Types.{Mode, wants_names}
 use Rattle.format_tokens.specs.declared.culprits.Role.{Role}
-use Rattle.format_tokens.specs.declared.culprits.Role.TheVariants.{Open, Close, Text as TextRole}
+use Rattle.format_tokens.specs.declared.culprits.Role.TheVariants.{OpenBrace, CloseBrace}
+use Rattle.format_tokens.specs.declared.culprits.Role.TheVariants.{Text as TextRole}
 use Rattle.format_tokens.specs.declared.culprits.Role.TheVariants.{Name, Number, Message, Other}
-use Rattle.format_tokens.specs.declared.kinds.Kind.TheVariants.{Open as OpenKind, Unexpected}
+use Rattle.format_tokens.specs.declared.kinds.Kind.TheVariants.{OpenBrace as OpenKind, Unexpected}
 use Rattle.format_tokens.specs.Culprits.{closes, closes_or, fits, has_argument, inside_after}
-use Rattle.format_tokens.specs.Culprits.{marked, role_of}
+use Rattle.format_tokens.specs.Culprits.{marked_tokens, role_of}
 use Rattle.format_tokens.specs.Sections.{Section, empty, faults_of, faults_within, has_fault}
 use Rattle.format_tokens.specs.Sections.{has_mark, in_front, is_mark, mark_section, opens, sections}
 use Rattle.format_tokens.specs.Sections.{sections_within}
@@ -27,7 +28,7 @@ use Rattle.format_tokens.proofs.SectionLaws.{section-marks, tail, within-opened}
 record IsCut (names : Bool) (y : List Label) : Type 0 where
   open_again : closes y ≡ false
   no_argument : has_argument y ≡ false
-  anyway : (inside : Bool) → marked names inside y ≡ marked names false y
+  anyway : (inside : Bool) → marked_tokens names inside y ≡ marked_tokens names false y
 
 cut-nil : (names : Bool) → IsCut names []
 cut-nil names = record { open_again = refl; no_argument = refl; anyway = λ inside. refl }
@@ -47,10 +48,10 @@ argument-before (l ∷ x) y h = refl
 
 fits-before : (names inside : Bool) (x y : List Label) (r : Role) → IsCut names y
     → fits names inside (x ++ y) r ≡ fits names inside x r
-fits-before names inside x y Open h =
+fits-before names inside x y OpenBrace h =
     ap (λ b. b && (not names || has_argument (x ++ y))) (closes-before x y h.open_again)
     ∙ ap (λ b. closes x && (not names || b)) (argument-before x y h.no_argument)
-fits-before names inside x y Close h = refl
+fits-before names inside x y CloseBrace h = refl
 fits-before names inside x y TextRole h = refl
 fits-before names inside x y Name h = refl
 fits-before names inside x y Number h = refl
@@ -58,11 +59,12 @@ fits-before names inside x y Message h = refl
 fits-before names inside x y Other h = refl
 
 marked-append : (names inside : Bool) (x y : List Label) → IsCut names y
-    → marked names inside (x ++ y) ≡ marked names inside x ++ marked names false y
+    → marked_tokens names inside (x ++ y)
+    ≡ marked_tokens names inside x ++ marked_tokens names false y
 marked-append names inside [] y h = h.anyway inside
 marked-append names inside (l ∷ x) y h =
     ap (λ f. (cond f l.0 Unexpected, l.1)
-    ∷ marked names (inside_after inside f (role_of l.0)) (x ++ y))
+    ∷ marked_tokens names (inside_after inside f (role_of l.0)) (x ++ y))
     (fits-before names inside x y (role_of l.0) h)
     ∙ ap (λ ts. (cond (fits names inside x (role_of l.0)) l.0 Unexpected, l.1) ∷ ts)
     (marked-append names (inside_after inside (fits names inside x (role_of l.0)) (role_of l.0))
@@ -82,23 +84,25 @@ sections-cut names (s ∷ ss) h = rw h.0.begins (cut-open names h.0.text (h.0.ot
     ++ all_tokens ss))
 
 marked-sections : (mode : Mode) (ss : List Section) → AllByRecursion (Opened (wants_names mode)) ss
-    → marked (wants_names mode) false (all_tokens ss) ≡ all_tokens (map (mark_section mode) ss)
+    → marked_tokens (wants_names mode) false (all_tokens ss)
+    ≡ all_tokens (map (mark_section mode) ss)
 marked-sections mode [] h = refl
 marked-sections mode (s ∷ ss) h =
     marked-append (wants_names mode) false s.tokens (all_tokens ss)
     (sections-cut (wants_names mode) ss h.1)
-    ∙ ap (λ ts. marked (wants_names mode) false s.tokens ++ ts) (marked-sections mode ss h.1)
+    ∙ ap (λ ts. marked_tokens (wants_names mode) false s.tokens ++ ts) (marked-sections mode ss h.1)
 
 -- The first section need not begin with one.
 marked-first : (mode : Mode) (ss : List Section)
     → AllByRecursion (Opened (wants_names mode)) (tail ss)
-    → marked (wants_names mode) false (all_tokens ss) ≡ all_tokens (map (mark_section mode) ss)
+    → marked_tokens (wants_names mode) false (all_tokens ss)
+    ≡ all_tokens (map (mark_section mode) ss)
 unfolding tail
 marked-first mode [] h = refl
 marked-first mode (s ∷ ss) h =
     marked-append (wants_names mode) false s.tokens (all_tokens ss)
     (sections-cut (wants_names mode) ss h)
-    ∙ ap (λ ts. marked (wants_names mode) false s.tokens ++ ts) (marked-sections mode ss h)
+    ∙ ap (λ ts. marked_tokens (wants_names mode) false s.tokens ++ ts) (marked-sections mode ss h)
 
 tokens-front : (fs : List (Fault Span)) (ls : List Label) (ss : List Section)
     → all_tokens (in_front fs ls ss) ≡ ls ++ all_tokens ss
@@ -144,7 +148,7 @@ within-faults (suc n) mode c (b ∷ t) =
 pub sections-tokens : (mode : Mode) (t : Text) → tokens_of mode t ≡ all_tokens (sections mode t)
 unfolding read_tokens sections
 sections-tokens mode t =
-    ap (marked (wants_names mode) false) (within-tokens (length t) mode 0 t)
+    ap (marked_tokens (wants_names mode) false) (within-tokens (length t) mode 0 t)
     ∙ marked-first mode (sections_within (length t) mode 0 t) (within-opened mode t)
 
 faults-marked : (mode : Mode) (ss : List Section)

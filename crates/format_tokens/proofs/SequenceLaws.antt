@@ -6,7 +6,7 @@ use Rattle.rustc_parse_format.specs.Characters.{Text, byte_length}
 use Rattle.format_tokens.specs.declared.kinds.Kind.{Kind}
 use Rattle.format_tokens.specs.declared.kinds.Kind.TheVariants.{EscapeSequence}
 use Rattle.format_tokens.specs.Escapes.{Placed, escape_at, is_apart, parts, parts_within, run}
-use Rattle.format_tokens.specs.Sequences.{apart, escapes_of, escapes_within}
+use Rattle.format_tokens.specs.Sequences.{apart_escapes, escapes_of, escapes_within}
 use Rattle.format_tokens.specs.Sequences.{is_sequence}
 use Rattle.format_tokens.specs.Sequences.{sequence, sequences}
 
@@ -56,6 +56,6 @@ within-sequences (suc n) k from e (c ∷ t) h =
     by_escape (Some x) q on = by_kind x q (is_apart k x.0) refl on
 
 pub part-sequences : (x : Placed) (t : Text) → is_sequence x.0 ≡ false
-    → sequences (parts x t) ≡ map (sequence x.1.1) (apart x.0 t)
+    → sequences (parts x t) ≡ map (sequence x.1.1) (apart_escapes x.0 t)
 unfolding parts escapes_of
 part-sequences x t h = within-sequences (length t) x.0 x.1.0 x.1.1 t h

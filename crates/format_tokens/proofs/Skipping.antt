@@ -10,7 +10,7 @@ use Rattle.std.specs.Int.{from_bool}
 use Rattle.std.proofs.lemmas.Bool.{eqb-true, false≢true, false_from_ne_true}
 use Rattle.std.proofs.lemmas.List.Sums.{sum_by-append}
 use Rattle.rustc_parse_format.specs.Characters.{Text, byte_length}
-use Rattle.format_tokens.specs.declared.kinds.Kind.TheVariants.{Close, Unexpected}
+use Rattle.format_tokens.specs.declared.kinds.Kind.TheVariants.{CloseBrace, Unexpected}
 use Rattle.format_tokens.specs.declared.kinds.Label.{Label as Sized}
 use Rattle.format_tokens.specs.Midway.{Took}
 use Rattle.format_tokens.specs.Tokens.{Label}
@@ -57,7 +57,7 @@ also_none h k = record { adds = k.adds ∙ (append-nil _ ∙ h.adds); leaves = k
 
 pub skips : (t s left : List ℕ) (x y z : List Sized) (n a b : ℕ)
     → ((u r : Text) → chars t ≡ u ++ r → n ≡ byte_length u → b ≡ from_bool (is_closed u))
-    → a ≡ n - b → Takes Unexpected a t x y s → Takes Close b s y z left → Skips n t x z left
+    → a ≡ n - b → Takes Unexpected a t x y s → Takes CloseBrace b s y z left → Skips n t x z left
 skips t s left x y z n a b closed e skip close u r h w = by_end (is_closed u) refl
   where
     by_end : (v : Bool) → is_closed u ≡ v → Took (skipped_tokens u) r x z left

@@ -17,10 +17,11 @@ use Rattle.rustc_parse_format.specs.Syntax.{alternate_part, fill_part, sign_part
 use Rattle.rustc_parse_format.specs.Types.{Mode}
 use Rattle.rustc_parse_format.specs.Values.{type_of}
 use Rattle.format_tokens.specs.declared.kinds.Kind.{Kind}
-use Rattle.format_tokens.specs.declared.kinds.Kind.TheVariants.{Align, Asterisk, Close, Colon}
-use Rattle.format_tokens.specs.declared.kinds.Kind.TheVariants.{DollarSign, Dot, Escape, Fill}
+use Rattle.format_tokens.specs.declared.kinds.Kind.TheVariants.{Alignment, Asterisk, CloseBrace}
+use Rattle.format_tokens.specs.declared.kinds.Kind.TheVariants.{Colon}
+use Rattle.format_tokens.specs.declared.kinds.Kind.TheVariants.{DollarSign, Dot, EscapedBrace, Fill}
 use Rattle.format_tokens.specs.declared.kinds.Kind.TheVariants.{Identifier, Integer, NumberSign}
-use Rattle.format_tokens.specs.declared.kinds.Kind.TheVariants.{Modifier as ModifierKind, Open}
+use Rattle.format_tokens.specs.declared.kinds.Kind.TheVariants.{Modifier as ModifierKind, OpenBrace}
 use Rattle.format_tokens.specs.declared.kinds.Kind.TheVariants.{DiagnosticText as DiagnosticKind}
 use Rattle.format_tokens.specs.declared.kinds.Kind.TheVariants.{Text as TextKind, RawPrefix, Sign}
 use Rattle.format_tokens.specs.declared.kinds.Kind.TheVariants.{«Type» as TypeKind, Unexpected}
@@ -76,7 +77,7 @@ precision (DotPrecision k) = both (one Dot (codes ".")) (count k)
 format : (p : FormatText) → Filled (format_tokens p)
 format p =
     both (one Fill (fill_part p.fill).spelling)
-    (both (one Align (align_part p.align).spelling)
+    (both (one Alignment (align_part p.align).spelling)
     (both (one Sign (sign_part p.sign).spelling)
     (both (one NumberSign (alternate_part p.alternate).spelling)
     (both (width p.width)
@@ -91,14 +92,14 @@ spec (DiagnosticText u) = both (one Colon (codes ":")) (one DiagnosticKind u)
 
 opened : (a : FieldText) (space : Text) → Filled (opened_tokens a space)
 opened a space =
-    both (one Open (codes "{"))
+    both (one OpenBrace (codes "{"))
     (both (both (position a.position) (both (one Whitespace a.space) (spec a.spec)))
     (one Whitespace space))
 
 skipped : (u : Text) → Filled (skipped_tokens u)
 skipped u = cond_both (is_closed u)
-    (token Unexpected (take (length u - 1) u) ++ token Close (codes "}")) (token Unexpected u)
-    Filled (λ e. both (one Unexpected (take (length u - 1) u)) (one Close (codes "}")))
+    (token Unexpected (take (length u - 1) u) ++ token CloseBrace (codes "}")) (token Unexpected u)
+    Filled (λ e. both (one Unexpected (take (length u - 1) u)) (one CloseBrace (codes "}")))
     (λ e. one Unexpected u)
 
 placeholder : (mode : Mode) (t s : Text) → Filled (placeholder_tokens mode t s)
@@ -108,7 +109,7 @@ placeholder mode t s =
     let space = front is_whitespace a.rest in
     let r = after_white a.rest in
     cond_both {A = List Label} (begins_with 125 r) _ _ Filled
-    (λ e. both (opened a.field space) (one Close (codes "}")))
+    (λ e. both (opened a.field space) (one CloseBrace (codes "}")))
     (λ e. both (opened a.field space) (skipped (up_to_rest r s)))
 
 of_call : (mode : Mode) (t s : Text) → Filled (call_tokens mode t s)
@@ -117,9 +118,9 @@ of_call mode [] s = none
 of_call mode (b ∷ t) s =
     cond_both {A = List Label} (is_brace b) _ _ Filled
     (λ e. cond_both {A = List Label} (begins_with b t) _ _ Filled
-    (λ q. both (one Escape (b ∷ b ∷ [])) (one TextKind (front is_no_brace (after_first t))))
+    (λ q. both (one EscapedBrace (b ∷ b ∷ [])) (one TextKind (front is_no_brace (after_first t))))
     (λ q. cond_both {A = List Label} (b == 123) _ _ Filled (λ o. placeholder mode t s)
-    (λ o. one Close (b ∷ []))))
+    (λ o. one CloseBrace (b ∷ []))))
     (λ e. one TextKind (front is_no_brace (b ∷ t)))
 
 within : (n : ℕ) (mode : Mode) (c : ℕ) (t : Text) → Filled (tokens_within n mode c t)

@@ -4,7 +4,7 @@ use Rattle.std.proofs.Common.{◌∙◌, codes}
 use Rattle.std.specs.Int.{from_bool}
 use Rattle.std.proofs.lemmas.Bool.{false≢true, not-true}
 use Rattle.rustc_parse_format.specs.Characters.{Text, begins_with, byte_length, is_no_brace}
-use Rattle.rustc_parse_format.specs.Spelling.{IsPart, fixed, optional_identifier, run}
+use Rattle.rustc_parse_format.specs.Spelling.{IsPart, fixed_part, optional_identifier, run}
 use Rattle.rustc_parse_format.specs.Types.{Mode, Format, InlineAsm, Diagnostic, DiagnosticNamed}
 use Rattle.rustc_parse_format.specs.Types.{Spec}
 use Rattle.rustc_parse_format.specs.Syntax.{FormatText, SpecText, Default, Formatting, Modifier}
@@ -39,7 +39,7 @@ pub format-rest_after : (t b left : List ℕ) (x y z : List Sized) (f : Spec (Un
 format-rest_after t b left x y z f e colon format Default n r h v =
     default_starts Format (chars t) r e h
 format-rest_after t b left x y z f e colon format (Formatting p) n r h v =
-    let s = two-split (chars t) (fixed (codes ":")) (format_part p) r h in
+    let s = two-split (chars t) (fixed_part (codes ":")) (format_part p) r h in
     let first = colon (codes ":") s.seam s.first.whole refl in
     then first (format p n r (IsPart-moved _ _ _ _ first.leaves s.second) v)
 format-rest_after t b left x y z f e colon format (Modifier w) n r h v = absurd (false≢true
@@ -55,7 +55,7 @@ pub modifier-rest_after : (t b left : List ℕ) (x y z : List Sized) (f : Spec (
 modifier-rest_after t b left x y z f m e colon i takes Default n r h v =
     default_starts InlineAsm (chars t) r e h
 modifier-rest_after t b left x y z f m e colon i takes (Modifier w) n r h v =
-    let s = two-split (chars t) (fixed (codes ":")) (optional_identifier w) r h in
+    let s = two-split (chars t) (fixed_part (codes ":")) (optional_identifier w) r h in
     let first = colon (codes ":") s.seam s.first.whole refl in
     then first (as_kind w (ap (λ (g : Spec (Unit {0})). word_kind ModifierKind g.ty) v)
     (takes w r (first.leaves ∙ optional-whole w s.second)
@@ -81,7 +81,7 @@ diagnostic : (t b left : List ℕ) (x y z : List Sized) (f : Spec (Unit {0})) (m
     → (u : Text) (r : Text) → IsPart (chars t) (spec_part Diagnostic (DiagnosticText u)) r
     → f.ty ≡ u → Took (spec_tokens (DiagnosticText u)) r x z left
 diagnostic t b left x y z f m colon i takes u r h v =
-    let s = two-split (chars t) (fixed (codes ":")) (run is_no_brace u) r h in
+    let s = two-split (chars t) (fixed_part (codes ":")) (run is_no_brace u) r h in
     let first = colon (codes ":") s.seam s.first.whole refl in
     then first (takes u r (first.leaves ∙ s.second.whole) (i ∙ ap byte_length v))
 

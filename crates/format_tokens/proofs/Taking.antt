@@ -15,16 +15,16 @@ use Rattle.rustc_parse_format.specs.Characters.{Text, byte_length}
 use Rattle.rustc_parse_format.proofs.Sources.PlainPlaces.{width_encodes}
 use Rattle.format_tokens.specs.declared.kinds.Kind.{Kind}
 use Rattle.format_tokens.specs.declared.kinds.Label.{Label as Sized}
-use Rattle.format_tokens.specs.Midway.{Took, sized}
+use Rattle.format_tokens.specs.Midway.{Took, sized_token}
 use Rattle.format_tokens.specs.Tokens.{Label, token}
 
 -- Tokens that are taken after others.
 pub then : {a b : List Label} {s r : Text} {x y z : List Sized} {t u : List ℕ} → Took a s x y t
     → Took b r y z u → Took (a ++ b) r x z u
 then {a = a} {b = b} {x = x} h k = record {
-  adds = k.adds ∙ (ap (λ l. l ++ map sized b) h.adds
-      ∙ (append_assoc x (map sized a) (map sized b)
-      ∙ ap (λ l. x ++ l) (sym (map-append sized a b))));
+  adds = k.adds ∙ (ap (λ l. l ++ map sized_token b) h.adds
+      ∙ (append_assoc x (map sized_token a) (map sized_token b)
+      ∙ ap (λ l. x ++ l) (sym (map-append sized_token a b))));
   leaves = k.leaves;
 }
 

@@ -11,7 +11,7 @@ use Rattle.rustc_parse_format.specs.Characters.{after_white, after_word, digits,
 use Rattle.rustc_parse_format.specs.Characters.{front, is_brace, is_no_brace, word}
 use Rattle.rustc_parse_format.specs.Grammar.{Reads, piece_values}
 use Rattle.rustc_parse_format.specs.Placeholder.{cut, cut_of}
-use Rattle.rustc_parse_format.specs.Spelling.{IsPart, doubled, fixed, run}
+use Rattle.rustc_parse_format.specs.Spelling.{IsPart, doubled_part, fixed_part, run}
 use Rattle.rustc_parse_format.specs.Syntax.{DoubledText, FieldText, PieceText, PlaceholderText}
 use Rattle.rustc_parse_format.specs.Syntax.{RunText, field_part, piece_part, placeholder_part}
 use Rattle.rustc_parse_format.specs.Types.{Mode, Piece}
@@ -87,8 +87,8 @@ placeholder-takes : (mode : Mode) (c : ℕ) (t : Text) (a : FieldText) (space r 
     → IsPart t (placeholder_part mode a space) r
     → Takes mode c t (piece_tokens (PlaceholderText a space)) r
 placeholder-takes mode c t a space r h =
-    let whole : IsRow t (fixed (codes "{") ∷ field_part mode a ∷ run is_whitespace space
-    ∷ fixed (codes "}") ∷ []) r = record { part = h } in
+    let whole : IsRow t (fixed_part (codes "{") ∷ field_part mode a ∷ run is_whitespace space
+    ∷ fixed_part (codes "}") ∷ []) r = record { part = h } in
     let o = opened whole in
     let f = opened o.others in
     let w = opened f.others in
@@ -109,7 +109,7 @@ piece-takes mode c t (RunText u) r h =
     takes_as (run-takes mode c t k.begins) refl (ap (λ v. piece_tokens (RunText v)) k.read)
     k.rest_after
 piece-takes mode c t (DoubledText b u) r h =
-    let s = two-split t (doubled is_brace b) (run is_no_brace u) r h in
+    let s = two-split t (doubled_part is_brace b) (run is_no_brace u) r h in
     let e = (run-finds is_no_brace).complete s.seam u r s.second in
     takes_as (doubled-takes mode c b s.seam s.first.formed) s.first.whole
     (ap (λ x. piece_tokens (DoubledText b x.0)) e) (ap (λ x. x.1) e)

@@ -4,7 +4,7 @@ use Rattle.std.specs.Prelude.{◌≡◌, ℕ, ◌<◌, ◌++◌, ◌⊎◌, Bool
 use Rattle.std.specs.Prelude.{encode_utf8_all, slice_range}
 use Rattle.std.specs.List.{AllByRecursion}
 use Rattle.rustc_parse_format.specs.Characters.{Text}
-use Rattle.rustc_parse_format.specs.ReadBack.{inside, source_units}
+use Rattle.rustc_parse_format.specs.ReadBack.{text_inside, source_units}
 use Rattle.rustc_parse_format.specs.World.{Place, quote_offset}
 use Rattle.format_tokens.specs.declared.kinds.Kind.{Kind}
 use Rattle.format_tokens.specs.declared.kinds.Kind.TheVariants.{EscapeSequence, Quote}
@@ -35,7 +35,7 @@ AreParts (x ∷ xs) ts = (ys zs : List Placed) × (ts ≡ ys ++ zs)
 -- its escapes decoded.
 abbrev pub read_back : Text → Option ℕ → Text → Bool → List Placed → List Label
 read_back input style source appended ts = map (λ (t : Placed).
-    (t.0, inside t.1 (quote_offset style) (source_units input style source appended))) ts
+    (t.0, text_inside t.1 (quote_offset style) (source_units input style source appended))) ts
 
 -- The tokens of a text in those of the quotes around it, which stand for no text.
 abbrev pub in_quotes : List Label → List Label
@@ -46,5 +46,5 @@ abbrev pub slices : List ℕ → List Placed → List (Kind × List ℕ)
 slices bytes ts = map (λ (t : Placed). (t.0, slice_range bytes t.1.0 t.1.1)) ts
 
 -- The tokens with their characters in UTF-8.
-abbrev pub encoded : List Label → List (Kind × List ℕ)
-encoded ls = map (λ (l : Label). (l.0, encode_utf8_all l.1)) ls
+abbrev pub encoded_tokens : List Label → List (Kind × List ℕ)
+encoded_tokens ls = map (λ (l : Label). (l.0, encode_utf8_all l.1)) ls

@@ -10,12 +10,12 @@ use Rattle.format_tokens.specs.declared.parts.Run.TheVariants.{Digits, Whitespac
 use Rattle.format_tokens.specs.Tokens.{Label}
 
 -- The token with its length in place of its characters.
-abbrev pub sized : Label → Sized
-sized l = record { kind = l.0; width = length l.1 }
+abbrev pub sized_token : Label → Sized
+sized_token l = record { kind = l.0; width = length l.1 }
 
 -- The tokens are added to a list, each with its length, and r is left of the text.
 pub record Took (ls : List Label) (r : Text) (old new : List Sized) (left : List ℕ) : Type 0 where
-  pub adds : new ≡ old ++ map sized ls
+  pub adds : new ≡ old ++ map sized_token ls
   pub leaves : chars left ≡ r
 
 -- The class of a run, as a test of characters.

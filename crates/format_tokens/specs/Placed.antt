@@ -5,7 +5,7 @@ use Rattle.std.specs.Prelude.{Some, None}
 use Rattle.rustc_parse_format.specs.Characters.{Text, byte_length}
 use Rattle.rustc_parse_format.specs.Marks.{Start}
 use Rattle.rustc_parse_format.specs.Types.{Mode}
-use Rattle.rustc_parse_format.specs.Source.{is_source, unappended}
+use Rattle.rustc_parse_format.specs.Source.{is_source, unappended_input}
 use Rattle.rustc_parse_format.specs.World.{World, number_of, place_of, world}
 use Rattle.format_tokens.specs.declared.kinds.Kind.TheVariants.{Quote}
 use Rattle.format_tokens.specs.Tokens.{Label, token}
@@ -13,45 +13,46 @@ use Rattle.format_tokens.specs.Escapes.{Placed, cut}
 use Rattle.format_tokens.specs.Walk.{tokens_of}
 
 -- The tokens of the first n characters. One that goes on after these is shortened.
-abbrev pub within : ℕ → List Label → List Label
-within n [] = []
-within n (l ∷ ls) = token l.0 (take n l.1) ++ within (n - length l.1) ls
+abbrev pub first_tokens : ℕ → List Label → List Label
+first_tokens n [] = []
+first_tokens n (l ∷ ls) = token l.0 (take n l.1) ++ first_tokens (n - length l.1) ls
 
 -- The tokens of an input, faulty or not, without an appended newline.
-abbrev pub shown : Mode → Text → Bool → List Label
-shown mode input appended = within (length (unappended appended input)) (tokens_of mode input)
+abbrev pub input_tokens : Mode → Text → Bool → List Label
+input_tokens mode input appended = first_tokens (length (unappended_input appended input))
+    (tokens_of mode input)
 
 -- The tokens with their byte ranges, where n characters are left at the first of them. A token goes
 -- from where its first character starts to where the next character starts, or to the end of the
 -- text.
-abbrev pub placed : World → ℕ → List Label → List Placed
-placed w n [] = []
-placed w n (l ∷ ls) =
+abbrev pub placed_tokens : World → ℕ → List Label → List Placed
+placed_tokens w n [] = []
+placed_tokens w n (l ∷ ls) =
     (l.0, place_of w (record { from = Start n; to = Start (n - length l.1) }))
-    ∷ placed w (n - length l.1) ls
+    ∷ placed_tokens w (n - length l.1) ls
 
 -- The tokens of a text that starts at the byte `at`, with their byte ranges.
-abbrev pub in_text : ℕ → List Label → List Placed
-in_text at [] = []
-in_text at (l ∷ ls) =
-    (l.0, (at, at + byte_length l.1)) ∷ in_text (at + byte_length l.1) ls
+abbrev pub tokens_in_text : ℕ → List Label → List Placed
+tokens_in_text at [] = []
+tokens_in_text at (l ∷ ls) =
+    (l.0, (at, at + byte_length l.1)) ∷ tokens_in_text (at + byte_length l.1) ls
 
 -- The tokens of a text of n characters with their byte ranges in its source literal, between two
 -- tokens around the text: one from the first byte of the literal to the start of the first
 -- character, and one from the end of the text to the last byte.
-abbrev pub in_literal : World → ℕ → Text → List Label → List Placed
-in_literal w n literal ls = (Quote, (0, number_of w (Start n)))
-    ∷ (placed w n ls ++ (Quote, (w.end, byte_length literal)) ∷ [])
+abbrev pub tokens_in_literal : World → ℕ → Text → List Label → List Placed
+tokens_in_literal w n literal ls = (Quote, (0, number_of w (Start n)))
+    ∷ (placed_tokens w n ls ++ (Quote, (w.end, byte_length literal)) ∷ [])
 
 -- The tokens of an input in its source literal, or in the input if the snippet is no source literal
 -- of it. Escapes are in the tokens of the characters that they stand for.
 unfoldable pub whole_tokens : Mode → Text → Option ℕ → Option Text → Bool → List Placed
-whole_tokens mode input style None appended = in_text 0 (shown mode input appended)
+whole_tokens mode input style None appended = tokens_in_text 0 (input_tokens mode input appended)
 whole_tokens mode input style (Some snippet) appended =
     if is_source input style (Some snippet) appended
-    then in_literal (world input style (Some snippet) appended) (length input) snippet
-    (shown mode input appended)
-    else in_text 0 (shown mode input appended)
+    then tokens_in_literal (world input style (Some snippet) appended) (length input) snippet
+    (input_tokens mode input appended)
+    else tokens_in_text 0 (input_tokens mode input appended)
 
 -- The tokens cut at the escapes of a literal of this style. A raw literal has none.
 abbrev pub cut_in : Option ℕ → Text → List Placed → List Placed

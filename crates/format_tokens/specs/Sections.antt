@@ -11,31 +11,32 @@ use Rattle.rustc_parse_format.specs.Faults.{Fault}
 use Rattle.rustc_parse_format.specs.Marks.{Span}
 use Rattle.rustc_parse_format.specs.Types.{Mode, wants_names}
 use Rattle.format_tokens.specs.declared.kinds.Kind.{Kind}
-use Rattle.format_tokens.specs.declared.kinds.Kind.TheVariants.{Text as TextKind, Escape, Open}
-use Rattle.format_tokens.specs.declared.kinds.Kind.TheVariants.{Close, Integer, Identifier}
+use Rattle.format_tokens.specs.declared.kinds.Kind.TheVariants.{Text as TextKind, EscapedBrace}
+use Rattle.format_tokens.specs.declared.kinds.Kind.TheVariants.{OpenBrace}
+use Rattle.format_tokens.specs.declared.kinds.Kind.TheVariants.{CloseBrace, Integer, Identifier}
 use Rattle.format_tokens.specs.declared.kinds.Kind.TheVariants.{RawPrefix, Whitespace, Colon, Fill}
-use Rattle.format_tokens.specs.declared.kinds.Kind.TheVariants.{Align, Sign, NumberSign, Zero}
+use Rattle.format_tokens.specs.declared.kinds.Kind.TheVariants.{Alignment, Sign, NumberSign, Zero}
 use Rattle.format_tokens.specs.declared.kinds.Kind.TheVariants.{DollarSign, Dot, Asterisk}
 use Rattle.format_tokens.specs.declared.kinds.Kind.TheVariants.{«Type» as TypeKind, Modifier}
 use Rattle.format_tokens.specs.declared.kinds.Kind.TheVariants.{DiagnosticText, Unexpected, Quote}
 use Rattle.format_tokens.specs.declared.kinds.Kind.TheVariants.{EscapeSequence}
-use Rattle.format_tokens.specs.Culprits.{marked}
+use Rattle.format_tokens.specs.Culprits.{marked_tokens}
 use Rattle.format_tokens.specs.Tokens.{Label}
 use Rattle.format_tokens.specs.Walk.{call_tokens}
 
 -- A token of this kind marks a fault.
 unfoldable pub is_mark : Kind → Bool
 is_mark TextKind = false
-is_mark Escape = false
-is_mark Open = false
-is_mark Close = false
+is_mark EscapedBrace = false
+is_mark OpenBrace = false
+is_mark CloseBrace = false
 is_mark Integer = false
 is_mark Identifier = false
 is_mark RawPrefix = true
 is_mark Whitespace = false
 is_mark Colon = false
 is_mark Fill = false
-is_mark Align = false
+is_mark Alignment = false
 is_mark Sign = false
 is_mark NumberSign = false
 is_mark Zero = false
@@ -91,7 +92,7 @@ sections_within (suc n) mode c (b ∷ t) =
 abbrev pub mark_section : Mode → Section → Section
 mark_section mode s = record {
   faults = s.faults;
-  tokens = marked (wants_names mode) false s.tokens;
+  tokens = marked_tokens (wants_names mode) false s.tokens;
 }
 
 -- The sections of a text.

@@ -5,10 +5,11 @@ use Rattle.std.specs.Prelude.{filter}
 use Rattle.std.specs.Prelude.{Some, None}
 use Rattle.rustc_parse_format.specs.Characters.{Text, byte_length}
 use Rattle.format_tokens.specs.declared.kinds.Kind.{Kind}
-use Rattle.format_tokens.specs.declared.kinds.Kind.TheVariants.{Text as TextKind, Escape, Open}
-use Rattle.format_tokens.specs.declared.kinds.Kind.TheVariants.{Close, Integer, Identifier}
+use Rattle.format_tokens.specs.declared.kinds.Kind.TheVariants.{Text as TextKind, EscapedBrace}
+use Rattle.format_tokens.specs.declared.kinds.Kind.TheVariants.{OpenBrace}
+use Rattle.format_tokens.specs.declared.kinds.Kind.TheVariants.{CloseBrace, Integer, Identifier}
 use Rattle.format_tokens.specs.declared.kinds.Kind.TheVariants.{RawPrefix, Whitespace, Colon, Fill}
-use Rattle.format_tokens.specs.declared.kinds.Kind.TheVariants.{Align, Sign, NumberSign, Zero}
+use Rattle.format_tokens.specs.declared.kinds.Kind.TheVariants.{Alignment, Sign, NumberSign, Zero}
 use Rattle.format_tokens.specs.declared.kinds.Kind.TheVariants.{DollarSign, Dot, Asterisk}
 use Rattle.format_tokens.specs.declared.kinds.Kind.TheVariants.{«Type» as TypeKind, Modifier}
 use Rattle.format_tokens.specs.declared.kinds.Kind.TheVariants.{DiagnosticText, Unexpected, Quote}
@@ -18,16 +19,16 @@ use Rattle.format_tokens.specs.Escapes.{Placed, escape_at, is_apart}
 -- The token is an escape of the literal.
 unfoldable pub is_sequence : Kind → Bool
 is_sequence TextKind = false
-is_sequence Escape = false
-is_sequence Open = false
-is_sequence Close = false
+is_sequence EscapedBrace = false
+is_sequence OpenBrace = false
+is_sequence CloseBrace = false
 is_sequence Integer = false
 is_sequence Identifier = false
 is_sequence RawPrefix = false
 is_sequence Whitespace = false
 is_sequence Colon = false
 is_sequence Fill = false
-is_sequence Align = false
+is_sequence Alignment = false
 is_sequence Sign = false
 is_sequence NumberSign = false
 is_sequence Zero = false
@@ -71,5 +72,5 @@ sequence e s = (EscapeSequence, (e - byte_length s.from, e - byte_length s.rest)
 
 -- The escapes of a token of this kind and text that are tokens of their own: those in text, and
 -- each continued line.
-abbrev pub apart : Kind → Text → List SourceEscape
-apart k t = filter (λ s. is_apart k s.value) (escapes_of t)
+abbrev pub apart_escapes : Kind → Text → List SourceEscape
+apart_escapes k t = filter (λ s. is_apart k s.value) (escapes_of t)

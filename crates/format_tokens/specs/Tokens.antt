@@ -12,11 +12,12 @@ use Rattle.rustc_parse_format.specs.Syntax.{DoubledText, PlaceholderText, fill_p
 use Rattle.rustc_parse_format.specs.Syntax.{sign_part, alternate_part, type_part}
 use Rattle.rustc_parse_format.specs.Values.{type_of}
 use Rattle.format_tokens.specs.declared.kinds.Kind.{Kind}
-use Rattle.format_tokens.specs.declared.kinds.Kind.TheVariants.{Text as TextKind, Escape, Open}
-use Rattle.format_tokens.specs.declared.kinds.Kind.TheVariants.{Close}
+use Rattle.format_tokens.specs.declared.kinds.Kind.TheVariants.{Text as TextKind, EscapedBrace}
+use Rattle.format_tokens.specs.declared.kinds.Kind.TheVariants.{OpenBrace}
+use Rattle.format_tokens.specs.declared.kinds.Kind.TheVariants.{CloseBrace}
 use Rattle.format_tokens.specs.declared.kinds.Kind.TheVariants.{Integer, Identifier, RawPrefix}
 use Rattle.format_tokens.specs.declared.kinds.Kind.TheVariants.{Whitespace}
-use Rattle.format_tokens.specs.declared.kinds.Kind.TheVariants.{Colon, Fill, Align, Sign}
+use Rattle.format_tokens.specs.declared.kinds.Kind.TheVariants.{Colon, Fill, Alignment, Sign}
 use Rattle.format_tokens.specs.declared.kinds.Kind.TheVariants.{NumberSign}
 use Rattle.format_tokens.specs.declared.kinds.Kind.TheVariants.{Zero, DollarSign, Dot, Asterisk}
 use Rattle.format_tokens.specs.declared.kinds.Kind.TheVariants.{«Type» as TypeKind}
@@ -70,7 +71,7 @@ precision_tokens (DotPrecision k) = token Dot (codes ".") ++ count_tokens k
 -- format_spec := [[fill]align][sign]['#']['0'][width]['.' precision]type
 abbrev pub format_tokens : FormatText → List Label
 format_tokens p = token Fill (fill_part p.fill).spelling
-    ++ (token Align (align_part p.align).spelling
+    ++ (token Alignment (align_part p.align).spelling
     ++ (token Sign (sign_part p.sign).spelling
     ++ (token NumberSign (alternate_part p.alternate).spelling
     ++ (width_tokens p.width
@@ -90,18 +91,18 @@ field_tokens a = position_tokens a.position ++ (token Whitespace a.space ++ spec
 
 -- An opening brace, a field, and the white space after it.
 abbrev pub opened_tokens : FieldText → Text → List Label
-opened_tokens a space = token Open (codes "{") ++ (field_tokens a ++ token Whitespace space)
+opened_tokens a space = token OpenBrace (codes "{") ++ (field_tokens a ++ token Whitespace space)
 
 -- format_string := text [ maybe_format text ] *, maybe_format := '{' '{' | '}' '}' | format
 abbrev pub piece_tokens : PieceText → List Label
 piece_tokens (RunText u) = token TextKind u
-piece_tokens (DoubledText b u) = token Escape (b ∷ b ∷ []) ++ token TextKind u
-piece_tokens (PlaceholderText a space) = opened_tokens a space ++ token Close (codes "}")
+piece_tokens (DoubledText b u) = token EscapedBrace (b ∷ b ∷ []) ++ token TextKind u
+piece_tokens (PlaceholderText a space) = opened_tokens a space ++ token CloseBrace (codes "}")
 
 -- The tokens of pieces, one after the other.
 abbrev pub pieces_tokens : List PieceText → List Label
 pieces_tokens xs = flat_map piece_tokens xs
 
 -- The characters of tokens, one after the other.
-abbrev pub joined : List Label → Text
-joined ls = flat_map (λ (l : Label). l.1) ls
+abbrev pub joined_text : List Label → Text
+joined_text ls = flat_map (λ (l : Label). l.1) ls

@@ -13,8 +13,8 @@ use Rattle.rustc_parse_format.specs.Syntax.{PieceText, RunText, DoubledText, Pla
 use Rattle.rustc_parse_format.specs.Syntax.{piece_part}
 use Rattle.rustc_parse_format.specs.Placeholder.{cut}
 use Rattle.rustc_parse_format.specs.Call.{call}
-use Rattle.format_tokens.specs.declared.kinds.Kind.TheVariants.{Close, Unexpected}
-use Rattle.format_tokens.specs.Culprits.{marked}
+use Rattle.format_tokens.specs.declared.kinds.Kind.TheVariants.{CloseBrace, Unexpected}
+use Rattle.format_tokens.specs.Culprits.{marked_tokens}
 use Rattle.format_tokens.specs.Tokens.{Label, token, piece_tokens, opened_tokens}
 
 -- The characters of t before r, which is left of it.
@@ -31,7 +31,7 @@ is_closed (c ∷ d ∷ u) = is_closed (d ∷ u)
 -- accessed it reads that brace too.
 abbrev pub skipped_tokens : Text → List Label
 skipped_tokens u =
-    if is_closed u then token Unexpected (take (length u - 1) u) ++ token Close (codes "}")
+    if is_closed u then token Unexpected (take (length u - 1) u) ++ token CloseBrace (codes "}")
     else token Unexpected u
 
 -- The tokens of a placeholder, where t is left after its opening brace and s after the call.
@@ -49,7 +49,7 @@ call_tokens mode [] s = []
 call_tokens mode (b ∷ t) s =
     if is_brace b then
     (if begins_with b t then piece_tokens (DoubledText b (front is_no_brace (after_first t))) else
-    (if b == code "{" then placeholder_tokens mode t s else token Close (b ∷ [])))
+    (if b == code "{" then placeholder_tokens mode t s else token CloseBrace (b ∷ [])))
     else piece_tokens (RunText (front is_no_brace (b ∷ t)))
 
 -- The tokens of at most n calls from t on, where c is the next number.
@@ -66,7 +66,7 @@ read_tokens mode t = tokens_within (length t) mode 0 t
 
 -- The tokens of a text: those of all calls, with those marked that are out of place.
 abbrev pub tokens_of : Mode → Text → List Label
-tokens_of mode t = marked (wants_names mode) false (read_tokens mode t)
+tokens_of mode t = marked_tokens (wants_names mode) false (read_tokens mode t)
 
 -- The text is written as these pieces, one after the other and to its end.
 abbrev pub IsWritten : Mode → Text → List PieceText → Type 0

@@ -12,9 +12,9 @@ use crate::kinds::{Kind, Label};
 #[derive(Clone, Copy)]
 pub enum Role {
     /// An opening brace that stands alone.
-    Open,
+    OpenBrace,
     /// A closing brace that stands alone.
-    Close,
+    CloseBrace,
     /// Text or a doubled brace.
     Text,
     /// The name of an argument, or a token in its place.
@@ -33,16 +33,16 @@ pub fn role_of(kind: Kind) -> Role
     ensures { result ≡ role_of kind }
 {
     match kind {
-        Kind::Open => Role::Open,
-        Kind::Close => Role::Close,
-        Kind::Text | Kind::Escape => Role::Text,
+        Kind::OpenBrace => Role::OpenBrace,
+        Kind::CloseBrace => Role::CloseBrace,
+        Kind::Text | Kind::EscapedBrace => Role::Text,
         Kind::Identifier | Kind::RawPrefix | Kind::Unexpected => Role::Name,
         Kind::Integer => Role::Number,
         Kind::DiagnosticText => Role::Message,
         Kind::Whitespace
         | Kind::Colon
         | Kind::Fill
-        | Kind::Align
+        | Kind::Alignment
         | Kind::Sign
         | Kind::NumberSign
         | Kind::Zero
@@ -62,8 +62,8 @@ fn closes(labels: &[Label]) -> bool
 {
     for label in labels {
         match role_of(label.kind) {
-            Role::Open => return false,
-            Role::Close => return true,
+            Role::OpenBrace => return false,
+            Role::CloseBrace => return true,
             Role::Text | Role::Name | Role::Number | Role::Message | Role::Other => {}
         }
     }
@@ -76,7 +76,7 @@ fn is_argument(role: Role) -> bool
 {
     match role {
         Role::Name | Role::Number => true,
-        Role::Open | Role::Close | Role::Text | Role::Message | Role::Other => false,
+        Role::OpenBrace | Role::CloseBrace | Role::Text | Role::Message | Role::Other => false,
     }
 }
 
@@ -87,35 +87,35 @@ fn has_argument(labels: &[Label]) -> bool
     !labels.is_empty() && is_argument(role_of(labels[0].kind))
 }
 
-/// Returns whether a token is in place before `others`. `names` says that only names are accepted,
-/// `inside` that the token is inside a pair of braces.
-pub fn fits(names: bool, inside: bool, role: Role, others: &[Label]) -> bool
-    ensures { result ≡ fits names inside (pairs others.now) role }
+/// Returns whether a token is in place before `others`. `needs_names` says that only names are
+/// accepted, `is_inside` that the token is inside a pair of braces.
+pub fn fits(needs_names: bool, is_inside: bool, role: Role, others: &[Label]) -> bool
+    ensures { result ≡ fits needs_names is_inside (pairs others.now) role }
 {
     match role {
-        Role::Open => closes(others) && (!names || has_argument(others)),
-        Role::Close => inside,
-        Role::Text => !inside,
-        Role::Number | Role::Message => !names,
+        Role::OpenBrace => closes(others) && (!needs_names || has_argument(others)),
+        Role::CloseBrace => is_inside,
+        Role::Text => !is_inside,
+        Role::Number | Role::Message => !needs_names,
         Role::Name | Role::Other => true,
     }
 }
 
 /// Returns the kind of a token that is in place or not.
-pub fn marked_kind(kind: Kind, fits: bool) -> Kind
-    ensures { result ≡ (if fits then kind else Unexpected) }
+pub fn marked_kind(kind: Kind, is_in_place: bool) -> Kind
+    ensures { result ≡ (if is_in_place then kind else Unexpected) }
 {
-    if fits { kind } else { Kind::Unexpected }
+    if is_in_place { kind } else { Kind::Unexpected }
 }
 
-/// Returns whether the tokens after one of this role are inside a pair of braces. `inside` says
-/// that it is inside one, `fits` that it is in place.
-pub fn inside_after(inside: bool, fits: bool, role: Role) -> bool
-    ensures { result ≡ inside_after inside fits role }
+/// Returns whether the tokens after one of this role are inside a pair of braces. `is_inside` says
+/// that it is inside one, `is_in_place` that it is in place.
+pub fn inside_after(is_inside: bool, is_in_place: bool, role: Role) -> bool
+    ensures { result ≡ inside_after is_inside is_in_place role }
 {
     match role {
-        Role::Open => fits,
-        Role::Close => false,
-        Role::Text | Role::Name | Role::Number | Role::Message | Role::Other => inside,
+        Role::OpenBrace => is_in_place,
+        Role::CloseBrace => false,
+        Role::Text | Role::Name | Role::Number | Role::Message | Role::Other => is_inside,
     }
 }

@@ -36,16 +36,16 @@ fn is_text(kind: Kind) -> bool
 {
     match kind {
         Kind::Text => true,
-        Kind::Escape
-        | Kind::Open
-        | Kind::Close
+        Kind::EscapedBrace
+        | Kind::OpenBrace
+        | Kind::CloseBrace
         | Kind::Integer
         | Kind::Identifier
         | Kind::RawPrefix
         | Kind::Whitespace
         | Kind::Colon
         | Kind::Fill
-        | Kind::Align
+        | Kind::Alignment
         | Kind::Sign
         | Kind::NumberSign
         | Kind::Zero

@@ -4,23 +4,23 @@ ghost use Rattle.std.specs.Prelude.{◌≡◌, ℕ, Bool, List, Option, false, f
 ghost use Rattle.std.specs.List.{AllByRecursion};
 ghost use Rattle.rustc_parse_format.specs.Characters.{Text};
 ghost use Rattle.rustc_parse_format.specs.Grammar.{Reads, piece_values};
-ghost use Rattle.rustc_parse_format.specs.Source.{unappended};
+ghost use Rattle.rustc_parse_format.specs.Source.{unappended_input};
 ghost use Rattle.rustc_parse_format.specs.Syntax.{PieceText};
 ghost use Rattle.rustc_parse_format.specs.Types.{Mode, Piece, wants_names};
-ghost use Rattle.format_tokens.specs.Culprits.{marked};
+ghost use Rattle.format_tokens.specs.Culprits.{marked_tokens};
 ghost use Rattle.format_tokens.specs.Escapes.{Placed, parts};
-ghost use Rattle.format_tokens.specs.Placed.{shown, tokens};
+ghost use Rattle.format_tokens.specs.Placed.{input_tokens, tokens};
 ghost use Rattle.format_tokens.specs.Sections.{HasAppended, Section, faults_of, has_fault};
 ghost use Rattle.format_tokens.specs.Sections.{has_mark, sections};
-ghost use Rattle.format_tokens.specs.Sequences.{apart, is_sequence, sequence, sequences};
-ghost use Rattle.format_tokens.specs.Tokens.{joined, pieces_tokens};
+ghost use Rattle.format_tokens.specs.Sequences.{apart_escapes, is_sequence, sequence, sequences};
+ghost use Rattle.format_tokens.specs.Tokens.{joined_text, pieces_tokens};
 ghost use Rattle.format_tokens.specs.Walk.{IsWritten, tokens_of};
 
 /// States that the characters of the tokens of an input, one after the other, are the input without
 /// an appended newline, even if it has faults. Does nothing.
 pub fn tokens_join()
     ensures { (mode : Mode) (input : Text) (appended : Bool)
-        → joined (shown mode input appended) ≡ unappended appended input }
+        → joined_text (input_tokens mode input appended) ≡ unappended_input appended input }
 {}
 
 /// States that the tokens of a text that is in the grammar are its parts as they are written: of
@@ -28,7 +28,7 @@ pub fn tokens_join()
 /// nothing.
 pub fn tokens_are_parts()
     ensures written { (mode : Mode) (t : Text) (xs : List PieceText) → IsWritten mode t xs
-        → tokens_of mode t ≡ marked (wants_names mode) false (pieces_tokens xs) }
+        → tokens_of mode t ≡ marked_tokens (wants_names mode) false (pieces_tokens xs) }
     ensures reading { (mode : Mode) (t : Text) (ps : List (Piece (Unit {0}))) → Reads mode 0 t ps
         → (xs : List PieceText) × IsWritten mode t xs × (piece_values 0 xs ≡ ps) }
 {}
@@ -39,7 +39,7 @@ pub fn tokens_are_parts()
 /// nothing.
 pub fn escapes()
     ensures { (x : Placed) (t : Text) → is_sequence x.0 ≡ false
-        → sequences (parts x t) ≡ map (sequence x.1.1) (apart x.0 t) }
+        → sequences (parts x t) ≡ map (sequence x.1.1) (apart_escapes x.0 t) }
 {}
 
 /// States that each fault of a text has a mark, and each mark a fault, between the same two

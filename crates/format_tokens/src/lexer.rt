@@ -5,13 +5,13 @@ ghost use Rattle.std.specs.Prelude.{List, length, map};
 ghost use Rattle.rustc_parse_format.specs.Characters.{Text, byte_length};
 ghost use Rattle.rustc_parse_format.specs.Literal.{IsSource};
 ghost use Rattle.rustc_parse_format.specs.Seen.{seen_mode, seen_snippet};
-ghost use Rattle.rustc_parse_format.specs.Source.{HasSource, unappended};
+ghost use Rattle.rustc_parse_format.specs.Source.{HasSource, unappended_input};
 ghost use Rattle.rustc_parse_format.specs.Types.{Mode, wants_names};
 ghost use Rattle.rustc_parse_format.specs.World.{hashes, world};
-ghost use Rattle.format_tokens.specs.Covers.{AreParts, IsCover, encoded, in_quotes};
+ghost use Rattle.format_tokens.specs.Covers.{AreParts, IsCover, encoded_tokens, in_quotes};
 ghost use Rattle.format_tokens.specs.Covers.{ranges_of, read_back, slices};
-ghost use Rattle.format_tokens.specs.Midway.{sized};
-ghost use Rattle.format_tokens.specs.Placed.{cut_in, shown, tokens, whole_tokens};
+ghost use Rattle.format_tokens.specs.Midway.{sized_token};
+ghost use Rattle.format_tokens.specs.Placed.{cut_in, input_tokens, tokens, whole_tokens};
 ghost use Rattle.format_tokens.specs.Escapes.{Placed};
 ghost use Rattle.format_tokens.specs.Seen.{seen_text, seen_token};
 ghost use Rattle.format_tokens.specs.Starts.{starts_of};
@@ -90,13 +90,14 @@ fn place_whole(
     style: Option<usize>,
     literal: &str,
     appended_newline: bool,
-    names: bool,
+    needs_names: bool,
     labels: &[Label],
 ) -> Result<Vec<Token>, AllocError>
     requires room { hashes style + length input.now + 2 < 2 ^ 64 }
     requires source { IsSource (chars input.now) style (chars literal.now) appended_newline }
     ensures { IfOk result (λ v. (mode : Mode)
-        → labels.now ≡ map sized (read_tokens mode (chars input.now)) → names ≡ wants_names mode
+        → labels.now ≡ map sized_token (read_tokens mode (chars input.now))
+        → needs_names ≡ wants_names mode
         → map seen_token v.items
         ≡ whole_tokens mode (chars input.now) style (Some (chars literal.now)) appended_newline) }
 {
@@ -108,7 +109,7 @@ fn place_whole(
         kind: Kind::Quote,
         span: 0..starts[0],
     })?;
-    place(&mut tokens, names, labels, starts, count)?;
+    place(&mut tokens, needs_names, labels, starts, count)?;
     tokens.push(Token {
         kind: Kind::Quote,
         span: starts[starts.len() - 1]..width_of(literal),
@@ -129,16 +130,16 @@ pub fn place_labels(
 ) -> Result<Vec<Token>, AllocError>
     requires { hashes style + length input.now + 2 < 2 ^ 64 }
     ensures { IfOk result (λ v.
-        labels.now ≡ map sized (read_tokens (seen_mode mode) (chars input.now))
+        labels.now ≡ map sized_token (read_tokens (seen_mode mode) (chars input.now))
         → map seen_token v.items ≡ tokens (seen_mode mode) (chars input.now) style
         (seen_text snippet.entry) appended_newline) }
 {
-    let names = wants_names(mode);
+    let needs_names = wants_names(mode);
     let Some(literal) = source_of(input, style, snippet, appended_newline) else {
         let count = length_of(input).saturating_sub(usize::from(appended_newline));
         let starts = plain_starts(alloc, 0, input, width_of(input))?;
         let mut tokens = Vec::with_capacity(alloc, labels.len())?;
-        place(&mut tokens, names, labels, starts.as_slice(), count)?;
+        place(&mut tokens, needs_names, labels, starts.as_slice(), count)?;
         return Ok(tokens);
     };
     let tokens = place_whole(
@@ -147,7 +148,7 @@ pub fn place_labels(
         style,
         literal,
         appended_newline,
-        names,
+        needs_names,
         labels,
     )?;
     match style {
@@ -205,16 +206,16 @@ pub fn tokens(
         → (whole : List Placed) × (map seen_token v.items ≡ cut_in style source whole)
         × AreParts whole (map seen_token v.items)
         × (read_back (chars input.now) style source appended_newline whole
-        ≡ in_quotes (shown (seen_mode mode) (chars input.now) appended_newline))) }
+        ≡ in_quotes (input_tokens (seen_mode mode) (chars input.now) appended_newline))) }
 
     // Without one they cover the text, and the part of the input in each is the characters of the
     // token.
     ensures in_text { IfOk result (λ v.
         (HasSource (chars input.now) style (seen_snippet snippet) appended_newline → ⊥)
-        → IsCover 0 (byte_length (unappended appended_newline (chars input.now)))
+        → IsCover 0 (byte_length (unappended_input appended_newline (chars input.now)))
         (ranges_of (map seen_token v.items))
         × (slices input.now (map seen_token v.items)
-        ≡ encoded (shown (seen_mode mode) (chars input.now) appended_newline))) }
+        ≡ encoded_tokens (input_tokens (seen_mode mode) (chars input.now) appended_newline))) }
 {
     let text = match &snippet {
         None => None,

@@ -7,7 +7,7 @@ ghost use Rattle.std.specs.Prelude.{OnOk, length, map};
 ghost use Rattle.rustc_parse_format.specs.Characters.{Text};
 ghost use Rattle.rustc_parse_format.specs.Literal.{IsSource};
 ghost use Rattle.rustc_parse_format.specs.World.{World, plain_world, world};
-ghost use Rattle.format_tokens.specs.Culprits.{marked};
+ghost use Rattle.format_tokens.specs.Culprits.{marked_tokens};
 ghost use Rattle.format_tokens.specs.Seen.{seen_token};
 ghost use Rattle.format_tokens.specs.Starts.{pairs, placed_sizes, starts_of};
 
@@ -71,11 +71,11 @@ pub fn ordinary_starts(
 }
 
 /// Adds the tokens of the first `count` characters, with those marked that are out of place.
-/// `names` says whether only names are accepted, `starts` where the characters start. Returns `Err`
-/// if an allocation fails.
+/// `needs_names` says whether only names are accepted, `starts` where the characters start. Returns
+/// `Err` if an allocation fails.
 pub fn place(
     tokens: &mut Vec<Token>,
-    names: bool,
+    needs_names: bool,
     labels: &[Label],
     starts: &[usize],
     count: usize,
@@ -83,23 +83,24 @@ pub fn place(
     requires { count < length starts.now }
     ensures { OnOk result ((w : World) → starts.now ≡ starts_of w
         → map seen_token tokens.new.items ≡ map seen_token tokens.old.items
-        ++ placed_sizes w (length w.places) count (marked names false (pairs labels.now))) }
+        ++ placed_sizes w (length w.places) count
+        (marked_tokens needs_names false (pairs labels.now))) }
 {
     let mut at = 0;
-    let mut inside = false;
+    let mut is_inside = false;
     let mut rest = labels;
     while let Some((label, others)) = rest.split_first() {
         let role = role_of(label.kind);
-        let fits = fits(names, inside, role, others);
+        let is_in_place = fits(needs_names, is_inside, role, others);
         let to = at + label.width.min(count - at);
         if at < to {
             tokens.push(Token {
-                kind: marked_kind(label.kind, fits),
+                kind: marked_kind(label.kind, is_in_place),
                 span: starts[at]..starts[to],
             })?;
         }
         at = to;
-        inside = inside_after(inside, fits, role);
+        is_inside = inside_after(is_inside, is_in_place, role);
         rest = others;
     }
     Ok(())

@@ -11,7 +11,7 @@ ghost use Rattle.rustc_parse_format.specs.State.{first_state};
 ghost use Rattle.rustc_parse_format.specs.Types.{Lit as LitPiece, Mode, bare_argument};
 ghost use Rattle.rustc_parse_format.specs.Values.{argument_value};
 ghost use Rattle.rustc_parse_format.specs.World.{World, piece_in};
-ghost use Rattle.format_tokens.specs.Midway.{Took, sized};
+ghost use Rattle.format_tokens.specs.Midway.{Took, sized_token};
 ghost use Rattle.format_tokens.specs.Walk.{call_tokens, is_closed, placeholder_tokens};
 ghost use Rattle.format_tokens.specs.Walk.{read_tokens, skipped_tokens};
 
@@ -48,7 +48,7 @@ fn skip<'a>(labels: &mut Vec<Label>, bytes: usize, text: &'a str) -> Result<&'a 
 {
     let brace = usize::from(is_closed(bytes, text));
     let close = take(labels, Kind::Unexpected, bytes.saturating_sub(brace), text)?;
-    let rest = take(labels, Kind::Close, brace, close)?;
+    let rest = take(labels, Kind::CloseBrace, brace, close)?;
     Ok(rest)
 }
 
@@ -61,15 +61,15 @@ fn placeholder<'a>(
     rest_len: usize,
     text: &'a str,
 ) -> Result<&'a str, AllocError>
-    ensures { IfOk result (λ after. (n : ℕ) (t : Text) → chars text.now ≡ codes "{" ++ t
+    ensures { IfOk result (λ rest_after. (n : ℕ) (t : Text) → chars text.now ≡ codes "{" ++ t
         → bare_argument (seen_argument argument.now)
         ≡ argument_value n (cut (seen_mode mode) t).field
         → (let k = placeholder (seen_mode mode) n (chars text.now) t in
         rest_len ≡ byte_length k.rest
         → Took (placeholder_tokens (seen_mode mode) t k.rest) k.rest
-        labels.old.items labels.new.items after.now)) }
+        labels.old.items labels.new.items rest_after.now)) }
 {
-    let field = take(labels, Kind::Open, 1, text)?;
+    let field = take(labels, Kind::OpenBrace, 1, text)?;
     let space = position(labels, &argument.position, field)?;
     let spec = take(
         labels,
@@ -84,9 +84,9 @@ fn placeholder<'a>(
         run_width(last, Run::Whitespace),
         last,
     )?;
-    let rest = take(labels, Kind::Close, usize::from(begins(end, '}')), end)?;
-    let after = skip(labels, width_of(rest).saturating_sub(rest_len), rest)?;
-    Ok(after)
+    let rest = take(labels, Kind::CloseBrace, usize::from(begins(end, '}')), end)?;
+    let rest_after = skip(labels, width_of(rest).saturating_sub(rest_len), rest)?;
+    Ok(rest_after)
 }
 
 /// Returns the byte length of the doubled brace at the start of a piece of literal text, or 0 if it
@@ -108,20 +108,20 @@ fn literal<'a>(
     rest_len: usize,
     text: &'a str,
 ) -> Result<&'a str, AllocError>
-    ensures { IfOk result (λ after. (mode : Mode) (n : ℕ) (l : Text) →
+    ensures { IfOk result (λ rest_after. (mode : Mode) (n : ℕ) (l : Text) →
         (let k = call mode n (chars text.now) in
         k.piece ≡ Some (LitPiece l) → rest_len ≡ byte_length k.rest
         → Took (call_tokens mode (chars text.now) k.rest) k.rest
-        labels.old.items labels.new.items after.now)) }
+        labels.old.items labels.new.items rest_after.now)) }
 {
-    let rest = take(labels, Kind::Escape, escape_width(text), text)?;
-    let after = take(
+    let rest = take(labels, Kind::EscapedBrace, escape_width(text), text)?;
+    let rest_after = take(
         labels,
         Kind::Text,
         width_of(rest).saturating_sub(rest_len),
         rest,
     )?;
-    Ok(after)
+    Ok(rest_after)
 }
 
 /// Adds the labels of a call at the start of a text, and returns the rest of the text after it:
@@ -136,30 +136,30 @@ pub fn label<'a>(
     rest_len: usize,
     text: &'a str,
 ) -> Result<&'a str, AllocError>
-    ensures { IfOk result (λ after. (w : World) (n : ℕ) →
+    ensures { IfOk result (λ rest_after. (w : World) (n : ℕ) →
         (let k = call (seen_mode mode) n (chars text.now) in
         option_map (seen_taken argument.now) piece.entry ≡ option_map (piece_in w) k.piece
         → rest_len ≡ byte_length k.rest
         → Took (call_tokens (seen_mode mode) (chars text.now) k.rest) k.rest
-        labels.old.items labels.new.items after.now)) }
+        labels.old.items labels.new.items rest_after.now)) }
 {
     let Some(piece) = piece else {
-        let after = take(
+        let rest_after = take(
             labels,
-            Kind::Close,
+            Kind::CloseBrace,
             width_of(text).saturating_sub(rest_len),
             text,
         )?;
-        return Ok(after);
+        return Ok(rest_after);
     };
     match piece {
         PieceKind::Lit(_) => {
-            let after = literal(labels, rest_len, text)?;
-            Ok(after)
+            let rest_after = literal(labels, rest_len, text)?;
+            Ok(rest_after)
         }
         PieceKind::NextArgument => {
-            let after = placeholder(labels, mode, argument, rest_len, text)?;
-            Ok(after)
+            let rest_after = placeholder(labels, mode, argument, rest_len, text)?;
+            Ok(rest_after)
         }
     }
 }
@@ -173,7 +173,7 @@ fn labels_by<'a>(
 ) -> Result<Vec<Label>, AllocError>
     requires { parser.old ≡ first_state (seen_mode mode) (chars input.now) None None false }
     ensures { IfOk result (λ v. v.items
-        ≡ map sized (read_tokens (seen_mode mode) (chars input.now))) }
+        ≡ map sized_token (read_tokens (seen_mode mode) (chars input.now))) }
 {
     let mut labels = Vec::new(alloc);
     let mut argument = Argument::default();
@@ -195,7 +195,7 @@ fn labels_by<'a>(
 pub fn labels(alloc: Global, input: &str, mode: ParseMode) -> Result<Vec<Label>, AllocError>
     requires { length input.now + 2 < 2 ^ 64 }
     ensures { IfOk result (λ v. v.items
-        ≡ map sized (read_tokens (seen_mode mode) (chars input.now))) }
+        ≡ map sized_token (read_tokens (seen_mode mode) (chars input.now))) }
 {
     let mut parser = Parser::new(alloc, input, None, None, false, mode)?;
     labels_by(alloc, &mut parser, mode, input)

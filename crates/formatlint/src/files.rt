@@ -6,7 +6,7 @@ use crate::rewrites::{Rewrite, apply_rewrite};
 use crate::totals::Totals;
 use crate::walk::Walk;
 use finding_forms::{File, put_end, put_finding, put_start};
-use lint_program::{Change, Editions, Failure, Recorder, is_option, replace, tell_of_terminal};
+use lint_program::{Change, Editions, Failure, Recorder, is_option, print_hint, replace};
 use lint_words::Form;
 use piece_listing::run::write_whole;
 use rust_trees::{BreakKind, Places};
@@ -61,9 +61,9 @@ struct Run<'a> {
 /// Returns why a file is not read further.
 fn break_words(kind: BreakKind) -> &'static str {
     match kind {
-        BreakKind::Unclosed => "this delimiter is not closed",
-        BreakKind::Unexpected => "unexpected closing delimiter",
-        BreakKind::Unended => "this literal or comment has no end",
+        BreakKind::UnclosedDelimiter => "this delimiter is not closed",
+        BreakKind::UnexpectedDelimiter => "unexpected closing delimiter",
+        BreakKind::UnterminatedToken => "this literal or comment has no end",
     }
 }
 
@@ -140,8 +140,8 @@ struct FileText<'a> {
 /// Returns the text at the start of a file, and how much of it that is.
 fn text_of(bytes: &[u8]) -> FileText<'_> {
     let is_cut = bytes.len() > MOST;
-    let read = bytes.get(..MOST).unwrap_or(bytes);
-    match str::from_utf8(read) {
+    let front = bytes.get(..MOST).unwrap_or(bytes);
+    match str::from_utf8(front) {
         Ok(text) if is_cut => FileText {
             text,
             extent: Extent::Front,
@@ -151,8 +151,8 @@ fn text_of(bytes: &[u8]) -> FileText<'_> {
             extent: Extent::Whole,
         },
         Err(error) => {
-            let front = read.get(..error.valid_up_to()).unwrap_or(&[]);
-            let text = str::from_utf8(front).unwrap_or("");
+            let valid_front = front.get(..error.valid_up_to()).unwrap_or(&[]);
+            let text = str::from_utf8(valid_front).unwrap_or("");
             let extent = if is_cut && error.error_len().is_none() {
                 Extent::Front
             } else {
@@ -164,7 +164,13 @@ fn text_of(bytes: &[u8]) -> FileText<'_> {
 }
 
 /// Adds a failure to the totals if a file was not read to its end.
-fn tell_end(rt: &HostRuntime, totals: &mut Totals, file: &File<'_>, extent: Extent, report: &Report)
+fn add_break(
+    rt: &HostRuntime,
+    totals: &mut Totals,
+    file: &File<'_>,
+    extent: Extent,
+    report: &Report,
+)
     requires { file.now.places ≡ file.now.text.now }
 {
     let end = file.places.place_of(file.text.len());
@@ -217,7 +223,7 @@ impl<'a> Run<'a> {
             self.put_findings(rt, &file, report)?;
             self.flush(rt)?;
         }
-        tell_end(rt, &mut self.totals, &file, extent, report);
+        add_break(rt, &mut self.totals, &file, extent, report);
         Ok(())
     }
 
@@ -304,8 +310,8 @@ impl<'a> Run<'a> {
     ) -> Result<(), Failure> {
         let FileText { text, extent } = text_of(bytes);
         self.options.is_from_2021 = match self.editions.is_from_2021(rt, path) {
-            Ok(known) => known,
-            Err(error) => return Err(Failure::of(error)),
+            Ok(is_from_2021) => is_from_2021,
+            Err(error) => return Err(Failure::new(error)),
         };
         let Some(change) = self.request.change else {
             return self.report(rt, path, text, extent);
@@ -322,7 +328,7 @@ impl<'a> Run<'a> {
 
     /// Reads standard input.
     fn lint_stdin(&mut self, rt: &HostRuntime) -> Result<(), Failure> {
-        tell_of_terminal(rt);
+        print_hint(rt);
         let path = self.request.stdin_path.unwrap_or("<stdin>");
         match read_all(rt, rt.stdin()) {
             Ok(bytes) => self.lint(rt, path, bytes.as_slice(), Origin::Stdin),
@@ -335,11 +341,11 @@ impl<'a> Run<'a> {
 
     /// Reads a file.
     fn lint_file(&mut self, rt: &HostRuntime, path: &str) -> Result<(), Failure> {
-        let read = match fs::open(rt, path) {
+        let result = match fs::open(rt, path) {
             Ok(file) => read_all(rt, file),
             Err(error) => Err(error),
         };
-        match read {
+        match result {
             Ok(bytes) => self.lint(rt, path, bytes.as_slice(), Origin::File),
             Err(error) => {
                 self.totals.fail(rt, path, &error);

@@ -13,8 +13,8 @@ use drawn_lines::WIDTH;
 use fault_rules::{RULES, put_explanation, rule_of};
 use files::{Request, lint, write};
 use lint_program::{
-    Change, VERSION, change_of, command, form_of, has_colours, literal_status, table_of, tell,
-    width_of,
+    Change, VERSION, change_of, command, form_of, has_colours, literal_status, print_failure,
+    table_of, width_of,
 };
 use lint_words::Form;
 use rewrites::Rewrite;
@@ -39,8 +39,8 @@ const SEVERAL: &str = "--literal and --text read one string, of one file or of s
 const NO_STDIN: &str = "--stdin-path names standard input, and no path is -";
 
 /// Returns the error that a value of the arguments is wrong, with the reason.
-fn value_error(rt: &HostRuntime, why: &str) -> Result<u8, Error> {
-    Err(command(rt.alloc())?.error(ErrorKind::ValueValidation, why)?)
+fn value_error(rt: &HostRuntime, reason: &str) -> Result<u8, Error> {
+    Err(command(rt.alloc())?.error(ErrorKind::ValueValidation, reason)?)
 }
 
 /// Appends the ids of all kinds of faults, each in a line.
@@ -56,19 +56,19 @@ fn put_ids(out: &mut String) -> Result<(), AllocError> {
 fn print(rt: &HostRuntime, text: &str) -> u8 {
     match write(rt, text) {
         Ok(()) => 0,
-        Err(failure) => tell(rt, "<stdout>", &[], &failure),
+        Err(failure) => print_failure(rt, "<stdout>", &[], &failure),
     }
 }
 
 /// Returns the id that is nearest to a word by the number of characters to change, the first of
 /// several, or `None` if each wants more than a third of the word changed, as rustc does for names.
 fn similar_id(alloc: Global, word: &str) -> Result<Option<&'static str>, AllocError> {
-    let mut most = word.len().max(3) / 3;
+    let mut limit = word.len().max(3) / 3;
     let mut id = None;
     for rule in &RULES {
         let count = levenshtein(alloc, word, rule.id)?;
-        if count < most || count == most && id.is_none() {
-            most = count;
+        if count < limit || count == limit && id.is_none() {
+            limit = count;
             id = Some(rule.id);
         }
     }
@@ -77,13 +77,13 @@ fn similar_id(alloc: Global, word: &str) -> Result<Option<&'static str>, AllocEr
 
 /// Returns the error that no kind of fault has this id.
 fn id_error(rt: &HostRuntime, id: &str) -> Result<u8, Error> {
-    let why = match similar_id(rt.alloc(), id)? {
-        Some(other) => format!(in rt.alloc();
-            "no kind of fault has the id '{id}'\n\n  tip: a similar id exists: '{other}'"
+    let reason = match similar_id(rt.alloc(), id)? {
+        Some(similar_id) => format!(in rt.alloc();
+            "no kind of fault has the id '{id}'\n\n  tip: a similar id exists: '{similar_id}'"
         )?,
         None => format!(in rt.alloc(); "no kind of fault has the id '{id}': --list-ids lists all")?,
     };
-    value_error(rt, why.as_str())
+    value_error(rt, reason.as_str())
 }
 
 /// Writes the explanation of the kind of fault with this id. Returns the exit status, and `Err` if
@@ -120,7 +120,7 @@ fn is_preview(change: Option<Change>) -> bool {
 /// otherwise 1 if there is a fault, or for a preview if a file would change, and otherwise 0.
 fn status_of(totals: &Totals, change: Option<Change>) -> u8 {
     let is_found = if is_preview(change) {
-        totals.changed > 0
+        totals.changed_files > 0
     } else {
         totals.faults > 0
     };
@@ -142,7 +142,7 @@ fn read_files(
 ) -> u8 {
     let (totals, result) = lint(rt, request, options);
     if let Err(failure) = result {
-        return tell(rt, "<stdout>", &[], &failure);
+        return print_failure(rt, "<stdout>", &[], &failure);
     }
     if matches.get_flag("stats") {
         totals.show_counts(rt);
@@ -161,11 +161,11 @@ fn files_status(rt: &HostRuntime, matches: &ArgMatches<'_>) -> Result<u8, Error>
     let table = match table_of(rt.alloc(), matches.get_strs("macro").unwrap_or(&[])) {
         Ok(table) => table,
         Err(Some(word)) => {
-            let why = format!(in rt.alloc();
+            let reason = format!(in rt.alloc();
                 "invalid value '{word}' for '--macro <NAME:INDEX>': \
                 it is the name of a macro and a number, as in say:0"
             )?;
-            return value_error(rt, why.as_str());
+            return value_error(rt, reason.as_str());
         }
         Err(None) => return Err(Error::from(AllocError)),
     };
@@ -221,8 +221,8 @@ fn status(rt: &HostRuntime, words: &[String]) -> Result<u8, Error> {
 }
 
 /// Writes to standard error why the arguments cannot be read, and returns this exit status.
-fn fail(rt: &HostRuntime, why: &str, status: u8) -> ExitCode {
-    let _ = eprintln!(rt; "formatlint: {why}");
+fn fail(rt: &HostRuntime, reason: &str, status: u8) -> ExitCode {
+    let _ = eprintln!(rt; "formatlint: {reason}");
     ExitCode::from(status)
 }
 

@@ -91,15 +91,15 @@ impl<'a> Walk<'a> {
         folder: &str,
         totals: &mut Totals,
     ) -> io::Result<Vec<Entry>> {
-        let shown = if folder.is_empty() { "." } else { folder };
+        let path = if folder.is_empty() { "." } else { folder };
         let mut entries = Vec::new(rt.alloc());
-        for entry in fs::read_dir(rt, shown)? {
-            let added = match entry {
+        for entry in fs::read_dir(rt, path)? {
+            let result = match entry {
                 Ok(entry) => self.add(rt, folder, &entry, &mut entries),
                 Err(error) => Err(error),
             };
-            if let Err(error) = added {
-                totals.fail(rt, shown, &error);
+            if let Err(error) = result {
+                totals.fail(rt, path, &error);
             }
         }
         entries.sort()?;

@@ -5,9 +5,9 @@ use Rattle.std.specs.Prelude.{option_map}
 use denote.Ref.{Bor}
 use Rattle.rustc_parse_format.specs.Call.{pieces_of}
 use Rattle.rustc_parse_format.specs.Characters.{Text}
-use Rattle.rustc_parse_format.specs.State.{calls, first_state, fresh}
+use Rattle.rustc_parse_format.specs.State.{calls, first_state, fresh_state}
 use Rattle.rustc_parse_format.specs.Types.{Count, Is, Name, Param, Star, Implied, Format, Piece}
-use Rattle.rustc_parse_format.specs.Types.{Lit, NextArgument, bare, bare_count}
+use Rattle.rustc_parse_format.specs.Types.{Lit, NextArgument, bare_piece, bare_count}
 use Rattle.rustc_parse_format.specs.World.{Place, World, pieces_in}
 use Rattle.rustc_parse_format.proofs.Grammar.BarePieces.{bare-pieces_in}
 use Rattle.rustc_parse_format.proofs.Walking.FaultlessStates.{reads_walk}
@@ -18,17 +18,17 @@ use Rattle.call_faults.specs.Clean.{IsClean}
 use Rattle.inlined_arguments.specs.Conditions.{Call}
 use Rattle.inlined_arguments.specs.Inlining.{IsCleanAs, MeansSame, ReadsClean}
 use Rattle.inlined_arguments.specs.Meaning.{Part, ValuePart, flags, meaning, part}
-use Rattle.inlined_arguments.specs.Values.{Amount, Slot, amount_of, given, slots, value_of}
+use Rattle.inlined_arguments.specs.Values.{Amount, Slot, amount_of, slot_argument, slots, value_of}
 
 -- The pieces of a clean call are those that were read.
 pub clean-pieces : (captures : Bool) (gs : List FormatArgument) (t : Text) (w : World) (at : ℕ)
-    (ps : List (Piece Place)) → ps ≡ pieces_in w (pieces_of (calls (fresh Format w t at)))
-    → IsClean captures gs t → ReadsClean captures gs t (map bare ps)
+    (ps : List (Piece Place)) → ps ≡ pieces_in w (pieces_of (calls (fresh_state Format w t at)))
+    → IsClean captures gs t → ReadsClean captures gs t (map bare_piece ps)
 clean-pieces captures gs t w at ps e c = (
   c,
   sym (reads_walk Format w t at c.pieces c.are_read).1
-      ∙ sym (bare-pieces_in w (pieces_of (calls (fresh Format w t at))))
-      ∙ ap (λ (qs : List (Piece Place)). map bare qs) (sym e),
+      ∙ sym (bare-pieces_in w (pieces_of (calls (fresh_state Format w t at))))
+      ∙ ap (λ (qs : List (Piece Place)). map bare_piece qs) (sym e),
 )
 
 -- Places have no meaning.
@@ -40,7 +40,7 @@ amount-bare ts (Param n) = refl
 amount-bare ts (Star n) = refl
 amount-bare ts Implied = refl
 
-part-bare : {A : Type 0} (ts : List Slot) (p : Piece A) → part ts (bare p) ≡ part ts p
+part-bare : {A : Type 0} (ts : List Slot) (p : Piece A) → part ts (bare_piece p) ≡ part ts p
 part-bare ts (Lit t) = refl
 part-bare ts (NextArgument a) =
     let v = value_of ts (position_use a.position) in
@@ -50,18 +50,19 @@ part-bare ts (NextArgument a) =
     (amount-bare ts a.format.precision)
 
 meaning-bare : {A : Type 0} (ts : List Slot) (ps : List (Piece A))
-    → meaning ts (map bare ps) ≡ meaning ts ps
+    → meaning ts (map bare_piece ps) ≡ meaning ts ps
 meaning-bare ts [] = refl
 meaning-bare ts (p ∷ ps) = rw (part-bare ts p) (ap (λ (xs : List Part). part ts p ∷ xs)
     (meaning-bare ts ps))
 
 -- A call that was read, and that means the same.
 pub clean-as : (captures : Bool) (ss ts : List Slot) (gs : List FormatArgument) (t : Text)
-    (ps qs : List (Piece Place)) → gs ≡ map given ts → ReadsClean captures gs t (map bare qs)
+    (ps qs : List (Piece Place)) → gs ≡ map slot_argument ts
+    → ReadsClean captures gs t (map bare_piece qs)
     → meaning ss ps ≡ meaning ts qs → IsCleanAs captures ss ps ts t
 clean-as captures ss ts gs t ps qs e r m =
-    let new : ReadsClean captures (map given ts) t (map bare qs) =
-    subst (λ (hs : List FormatArgument). ReadsClean captures hs t (map bare qs)) e r in
+    let new : ReadsClean captures (map slot_argument ts) t (map bare_piece qs) =
+    subst (λ (hs : List FormatArgument). ReadsClean captures hs t (map bare_piece qs)) e r in
     record {
       clean = new.0;
       same = m ∙ sym (meaning-bare ts qs)
@@ -70,7 +71,7 @@ clean-as captures ss ts gs t ps qs e r m =
 
 -- The places of the pieces do not matter either.
 pub bare-same : (c : Call) (ps : List (Piece Place)) (qs : List (Piece (Unit {0})))
-    (literal : Text) → qs ≡ map bare ps → MeansSame c ps literal → MeansSame c qs literal
+    (literal : Text) → qs ≡ map bare_piece ps → MeansSame c ps literal → MeansSame c qs literal
 bare-same c ps qs literal e h = record {
   text = h.text;
   is_literal = h.is_literal;

@@ -20,7 +20,7 @@ pub record Call : Type 0 where
   pub style : Option ℕ
   pub literal : Option (List ℕ)
   pub appended_newline : Bool
-  pub captures : Bool
+  pub captures_variables : Bool
   pub arguments : List Argument
   pub is_counted : Bool
   pub is_format_alone : Bool
@@ -52,7 +52,7 @@ is_bare (c ∷ d ∷ e ∷ t) = false
 -- The reason in its macro and its string.
 abbrev pub string_condition : Call → Option Obstacle
 string_condition c =
-    if not c.captures then Some CapturesNone
+    if not c.captures_variables then Some CapturesNone
     else (if not c.is_format_alone && not (has_other c.arguments) then Some Alone
     else (if c.has_const_form && is_bare c.text then Some ConstForm else None))
 

@@ -18,14 +18,14 @@ AreApart at [] end = at ≤ end
 AreApart at (e ∷ es) end = (at ≤ e.span.0) × (e.span.0 ≤ e.span.1) × AreApart e.span.1 es end
 
 -- The bytes bs from the offset `at` on, with these edits.
-abbrev pub edited : ℕ → List Edit → List ℕ → List ℕ
-edited at [] bs = drop at bs
-edited at (e ∷ es) bs =
-    take (e.span.0 - at) (drop at bs) ++ (e.text ++ edited e.span.1 es bs)
+abbrev pub edited_text : ℕ → List Edit → List ℕ → List ℕ
+edited_text at [] bs = drop at bs
+edited_text at (e ∷ es) bs =
+    take (e.span.0 - at) (drop at bs) ++ (e.text ++ edited_text e.span.1 es bs)
 
 -- The bytes bs are no text with these edits: they are not one after the other, or cut a character.
 abbrev pub MakeNoText : List ℕ → List Edit → Type 0
-MakeNoText bs es = AreApart 0 es (length bs) → IsUtf8 (edited 0 es bs) → ⊥
+MakeNoText bs es = AreApart 0 es (length bs) → IsUtf8 (edited_text 0 es bs) → ⊥
 
 -- Where a piece refers to arguments: at its position, and at its width and its precision, if it has
 -- these.

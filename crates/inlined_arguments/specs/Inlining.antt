@@ -12,9 +12,9 @@ use Rattle.rustc_parse_format.specs.World.{Place, pieces_in}
 use Rattle.call_faults.specs.Arguments.{FormatArgument}
 use Rattle.call_faults.specs.Clean.{IsClean}
 use Rattle.inlined_arguments.specs.Conditions.{Call, condition}
-use Rattle.inlined_arguments.specs.Edits.{AreApart, AreAtReferences, Edit, edited}
+use Rattle.inlined_arguments.specs.Edits.{AreApart, AreAtReferences, Edit, edited_text}
 use Rattle.inlined_arguments.specs.Meaning.{meaning}
-use Rattle.inlined_arguments.specs.Values.{Slot, given, kept, slots}
+use Rattle.inlined_arguments.specs.Values.{Slot, slot_argument, kept, slots}
 use Rattle.inlined_arguments.specs.Variables.{gone_from}
 use Rattle.inlined_arguments.specs.declared.call.Obstacle.{Obstacle}
 use Rattle.inlined_arguments.specs.declared.call.Obstacle.TheVariants.{Uncounted, NoVariable, Mixed}
@@ -36,7 +36,7 @@ ReadsClean captures gs t ps = (c : IsClean captures gs t) × (c.pieces ≡ ps)
 
 -- Nothing is wrong with a call with these slots and this string.
 abbrev pub IsCleanCall : Bool → List Slot → Text → Type 0
-IsCleanCall captures ss t = IsClean captures (map given ss) t
+IsCleanCall captures ss t = IsClean captures (map slot_argument ss) t
 
 -- Nothing is wrong with a call with the slots ts and the string t, and it means what a call means
 -- that has the slots ss and a string with the pieces ps.
@@ -51,7 +51,7 @@ pub record IsCleanAs {A : Type 0} (captures : Bool) (ss : List Slot) (ps : List 
 pub record MeansSame {A : Type 0} (c : Call) (ps : List (Piece A)) (literal : Text) : Type 0 where
   pub text : Text
   pub is_literal : IsLiteral c.style literal text
-  pub new : IsCleanAs c.captures (slots c.arguments) ps (kept (slots c.arguments))
+  pub new : IsCleanAs c.captures_variables (slots c.arguments) ps (kept (slots c.arguments))
       (text ++ newline c.appended_newline)
 
 -- A call that was inlined: the edits of its literal, the bytes of the literal with them, and the
@@ -69,11 +69,11 @@ pub record IsInlined (allows_mixed : Bool) (c : Call) (r : InlinedCall) : Type 0
   -- The literal is the old one with edits where that refers to arguments.
   pub literal : List ℕ
   pub is_literal : c.literal ≡ Some literal
-  pub is_edited : r.literal ≡ edited 0 r.edits literal
+  pub is_edited : r.literal ≡ edited_text 0 r.edits literal
   pub are_apart : AreApart 0 r.edits (length literal)
   pub are_at_references : AreAtReferences (pieces c) r.edits
   -- Nothing was wrong with the call, so each of its arguments was used. It means what it meant.
-  pub old : IsCleanCall c.captures (slots c.arguments) c.text
+  pub old : IsCleanCall c.captures_variables (slots c.arguments) c.text
   pub means_same : MeansSame c old.pieces (chars r.literal)
 
 -- The call c is left as it is for this reason.
@@ -86,7 +86,7 @@ IsUnchanged m c Alone = condition m c ≡ Some Alone
 IsUnchanged m c ConstForm = condition m c ≡ Some ConstForm
 IsUnchanged m c Comment = condition m c ≡ Some Comment
 IsUnchanged m c Faulty = (condition m c ≡ None)
-    × (IsCleanCall c.captures (slots c.arguments) c.text → ⊥)
+    × (IsCleanCall c.captures_variables (slots c.arguments) c.text → ⊥)
 IsUnchanged m c NoLiteral = (condition m c ≡ None) × (c.literal ≡ None)
 IsUnchanged m c OtherMeaning = (condition m c ≡ None)
-    × IsCleanCall c.captures (slots c.arguments) c.text
+    × IsCleanCall c.captures_variables (slots c.arguments) c.text

@@ -22,12 +22,12 @@ items = codes "const" ∷ codes "enum" ∷ codes "extern" ∷ codes "fn" ∷ cod
     ∷ codes "where" ∷ []
 
 -- Those that are reserved.
-abbrev pub reserved : List (List ℕ)
-reserved = codes "abstract" ∷ codes "become" ∷ codes "box" ∷ codes "do" ∷ codes "final"
+abbrev pub reserved_words : List (List ℕ)
+reserved_words = codes "abstract" ∷ codes "become" ∷ codes "box" ∷ codes "do" ∷ codes "final"
     ∷ codes "gen" ∷ codes "macro" ∷ codes "override" ∷ codes "priv" ∷ codes "try" ∷ codes "typeof"
     ∷ codes "unsized" ∷ codes "virtual" ∷ codes "yield" ∷ []
 
 -- The word is one of these.
 abbrev pub is_keyword : List ℕ → Bool
 is_keyword w = list_any (bytes_eq w) expressions || (list_any (bytes_eq w) statements
-    || (list_any (bytes_eq w) items || list_any (bytes_eq w) reserved))
+    || (list_any (bytes_eq w) items || list_any (bytes_eq w) reserved_words))

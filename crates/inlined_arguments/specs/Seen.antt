@@ -43,7 +43,7 @@ seen_call c = record {
   style = c.string.style;
   literal = option_map (λ s. s.now) c.string.snippet;
   appended_newline = c.string.appended_newline;
-  captures = c.string.captures;
+  captures_variables = c.string.captures_variables;
   arguments = map seen_argument c.arguments.now;
   is_counted = c.is_counted;
   is_format_alone = c.is_format_alone;
@@ -88,4 +88,4 @@ seen_slots v = map seen_slot v.slots.now
 
 -- The map of the values has the values of names.
 abbrev pub Knows : Values → Type 0
-Knows v = (w : Text) → found_in v.named w ≡ value_after None (seen_slots v) w
+Knows v = (w : Text) → found_in v.named_values w ≡ value_after None (seen_slots v) w

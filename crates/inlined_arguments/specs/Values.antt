@@ -48,8 +48,8 @@ abbrev pub kept : List Slot → List Slot
 kept ss = filter (λ s. is_expression s.value) ss
 
 -- A slot as an argument of a call.
-abbrev pub given : Slot → FormatArgument
-given s = record { name = s.name; variable = None }
+abbrev pub slot_argument : Slot → FormatArgument
+slot_argument s = record { name = s.name; variable = None }
 
 -- The value of a name after these slots, where o is the one before them: that of the last of these
 -- slots with this name. (The names of a call with which nothing is wrong differ.)

@@ -82,7 +82,7 @@ fn is_bare(text: &str) -> bool
 fn string_condition(call: &Call<'_>) -> Option<Obstacle>
     ensures { result ≡ string_condition (seen_call call.now) }
 {
-    if !call.string.captures {
+    if !call.string.captures_variables {
         return Some(Obstacle::CapturesNone);
     }
     if !call.is_format_alone && !has_other(call.arguments) {

@@ -1,7 +1,7 @@
 //! A literal with edits.
 
 ghost use Rattle.std.specs.Prelude.{◌≡◌, IfOk, IfSome, IsNone, length, map, string_bytes};
-ghost use Rattle.inlined_arguments.specs.Edits.{AreApart, MakeNoText, edited};
+ghost use Rattle.inlined_arguments.specs.Edits.{AreApart, MakeNoText, edited_text};
 ghost use Rattle.inlined_arguments.specs.Seen.{seen_edit};
 
 use crate::call::Edit;
@@ -12,7 +12,7 @@ use std::alloc::{AllocError, Global};
 fn edited_bytes(alloc: Global, bytes: &[u8], edits: &[Edit]) -> Result<Option<Vec<u8>>, AllocError>
     ensures some { IfOk result (λ o. IfSome o (λ v.
         AreApart 0 (map seen_edit edits.now) (length bytes.now)
-        × (v.items ≡ edited 0 (map seen_edit edits.now) bytes.now))) }
+        × (v.items ≡ edited_text 0 (map seen_edit edits.now) bytes.now))) }
     ensures none { IfOk result (λ o. IsNone o
         → AreApart 0 (map seen_edit edits.now) (length bytes.now) → ⊥) }
 {
@@ -42,7 +42,7 @@ pub fn apply_edits(
 ) -> Result<Option<String>, AllocError>
     ensures some { IfOk result (λ o. IfSome o (λ s.
         AreApart 0 (map seen_edit edits.now) (length literal.now)
-        × (string_bytes s ≡ edited 0 (map seen_edit edits.now) literal.now))) }
+        × (string_bytes s ≡ edited_text 0 (map seen_edit edits.now) literal.now))) }
     ensures none { IfOk result (λ o. IsNone o
         → MakeNoText literal.now (map seen_edit edits.now)) }
 {

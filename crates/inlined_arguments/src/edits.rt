@@ -2,13 +2,13 @@
 
 ghost use Rattle.std.specs.Prelude.{◌++◌, ◌∷◌, [], IfOk, List, OnOk, map, option_map};
 ghost use Rattle.std.specs.Option.{option_to_list};
-ghost use Rattle.rustc_parse_format.specs.Seen.{pair, seen};
+ghost use Rattle.rustc_parse_format.specs.Seen.{pair, seen_piece};
 ghost use Rattle.rustc_parse_format.specs.World.{Place};
 ghost use Rattle.inlined_arguments.specs.Edits.{AreAt, AreAtReferences, reference_places};
 ghost use Rattle.inlined_arguments.specs.Seen.{seen_edit};
 
 use crate::call::Edit;
-use crate::meaning::Meant;
+use crate::meaning::CallMeaning;
 use crate::slots::Value;
 use crate::values::{Amount, Values, amount_of, position_value};
 use itoa::Buffer;
@@ -160,7 +160,8 @@ fn push_piece<'a>(
     piece: &Piece<'a>,
 ) -> Result<(), AllocError>
     ensures { OnOk result ((places : List Place) → AreAt places (map seen_edit edits.old.items)
-        → AreAt (places ++ reference_places (seen piece.now)) (map seen_edit edits.new.items)) }
+        → AreAt (places ++ reference_places (seen_piece piece.now))
+        (map seen_edit edits.new.items)) }
 {
     let Piece::NextArgument(argument) = piece else {
         return Ok(());
@@ -182,9 +183,9 @@ fn push_piece<'a>(
 /// Returns the edits of a literal whose text has these pieces: they put variables in the place of
 /// references to arguments that are these, and make the others those to the arguments that stay.
 /// Returns `Err` if an allocation fails.
-pub(crate) fn edits_of(alloc: Global, call: Meant<'_, '_>) -> Result<Vec<Edit>, AllocError>
+pub(crate) fn edits_of(alloc: Global, call: CallMeaning<'_, '_>) -> Result<Vec<Edit>, AllocError>
     ensures { IfOk result (λ v.
-        AreAtReferences (map seen call.entry.pieces.now) (map seen_edit v.items)) }
+        AreAtReferences (map seen_piece call.entry.pieces.now) (map seen_edit v.items)) }
 {
     let mut edits = Vec::new(alloc);
     for piece in call.pieces {

@@ -3,20 +3,20 @@
 ghost use Rattle.std.specs.Prelude.{◌≡◌, ◌+◌, ◌<◌, ◌≤◌, ◌^◌, ◌++◌, Bool, IfErr, IfOk, IsTrue};
 ghost use Rattle.std.specs.Prelude.{None, OnOk, chars, length, map, string_bytes};
 ghost use Rattle.rustc_parse_format.specs.Literal.{newline};
-ghost use Rattle.rustc_parse_format.specs.Seen.{seen};
+ghost use Rattle.rustc_parse_format.specs.Seen.{seen_piece};
 ghost use Rattle.rustc_parse_format.specs.World.{hashes};
 ghost use Rattle.call_faults.specs.Seen.{seen_given};
 ghost use Rattle.inlined_arguments.specs.Conditions.{condition};
 ghost use Rattle.inlined_arguments.specs.Inlining.{IsCleanAs, IsInlined, IsUnchanged, MeansSame};
 ghost use Rattle.inlined_arguments.specs.Seen.{Knows, seen_argument, seen_call, seen_inlined};
 ghost use Rattle.inlined_arguments.specs.Seen.{seen_slot, seen_slots};
-ghost use Rattle.inlined_arguments.specs.Values.{given as given_of, slots as slots_of};
+ghost use Rattle.inlined_arguments.specs.Values.{slot_argument, slots as slots_of};
 
 use crate::call::{Call, InlinedCall, Obstacle};
 use crate::conditions::condition;
 use crate::edited::apply_edits;
 use crate::edits::edits_of;
-use crate::meaning::{Meant, means_same};
+use crate::meaning::{CallMeaning, means_same};
 use crate::reading::read;
 use crate::slots::{Slot, expression_slots, givens, slots};
 use crate::values::values_of;
@@ -26,13 +26,13 @@ use piece_listing::literal::{LiteralText, literal_text};
 use std::alloc::{AllocError, Global};
 
 /// Adds the newline that a macro appends, if it does. Returns `Err` if an allocation fails.
-fn put_newline(text: &mut String, appended: bool) -> Result<(), AllocError>
+fn put_newline(text: &mut String, appends_newline: bool) -> Result<(), AllocError>
     ensures text { OnOk result (chars (string_bytes text.new)
-        ≡ chars (string_bytes text.old) ++ newline appended) }
+        ≡ chars (string_bytes text.old) ++ newline appends_newline) }
     ensures short { OnOk result (length (string_bytes text.new)
         ≤ length (string_bytes text.old) + 1) }
 {
-    if appended {
+    if appends_newline {
         text.push('\n')?;
         return Ok(());
     }
@@ -55,22 +55,23 @@ fn is_same_style(left: Option<usize>, right: Option<usize>) -> bool
 /// fails.
 fn means_same_with<'c>(
     alloc: Global,
-    old: Meant<'_, '_>,
+    old: CallMeaning<'_, '_>,
     string: FormatString<'c>,
     slots: &[Slot<'c>],
     arguments: &'c [FormatArgument<'c>],
 ) -> Result<bool, AllocError>
     requires { hashes string.style + length string.text.now + 2 < 2 ^ 64 }
     ensures { IfOk result (λ b. Knows old.entry.values.now
-        → map seen_given arguments.now ≡ map given_of (map seen_slot slots.now) → IsTrue b
-        → IsCleanAs string.entry.captures (seen_slots old.entry.values.now)
-        (map seen old.entry.pieces.now) (map seen_slot slots.now) (chars string.entry.text.now)) }
+        → map seen_given arguments.now ≡ map slot_argument (map seen_slot slots.now) → IsTrue b
+        → IsCleanAs string.entry.captures_variables (seen_slots old.entry.values.now)
+        (map seen_piece old.entry.pieces.now) (map seen_slot slots.now)
+        (chars string.entry.text.now)) }
 {
     let Some(pieces) = read(alloc, string, arguments)? else {
         return Ok(false);
     };
     let values = values_of(alloc, slots)?;
-    let new = Meant {
+    let new = CallMeaning {
         pieces: &pieces,
         values: &values,
     };
@@ -82,13 +83,14 @@ fn means_same_with<'c>(
 fn keeps_meaning(
     alloc: Global,
     call: Call<'_>,
-    old: Meant<'_, '_>,
+    old: CallMeaning<'_, '_>,
     literal: &str,
 ) -> Result<bool, AllocError>
     ensures { IfOk result (λ b. Knows old.entry.values.now
         → seen_slots old.entry.values.now ≡ slots_of (map seen_argument call.entry.arguments.now)
         → IsTrue b
-        → MeansSame (seen_call call.entry) (map seen old.entry.pieces.now) (chars literal.now)) }
+        → MeansSame (seen_call call.entry) (map seen_piece old.entry.pieces.now)
+        (chars literal.now)) }
 {
     let Some(LiteralText { mut text, style }) = literal_text(alloc, literal)? else {
         return Ok(false);
@@ -102,7 +104,7 @@ fn keeps_meaning(
         style,
         snippet: Some(literal),
         appended_newline: call.string.appended_newline,
-        captures: call.string.captures,
+        captures_variables: call.string.captures_variables,
     };
     let slots = expression_slots(alloc, old.values.slots)?;
     let arguments = givens(alloc, &slots)?;
@@ -120,7 +122,7 @@ fn inline_with<'c>(
 ) -> Result<Result<InlinedCall, Obstacle>, AllocError>
     requires fits { hashes call.string.style + length call.string.text.now + 2 < 2 ^ 64 }
     requires slots { map seen_slot slots.now ≡ slots_of (map seen_argument call.arguments.now) }
-    requires given { map seen_given arguments.now ≡ map given_of (map seen_slot slots.now) }
+    requires given { map seen_given arguments.now ≡ map slot_argument (map seen_slot slots.now) }
     ensures inlined { IfOk result (λ r. IfOk r (λ x. (mixed : Bool)
         → condition mixed (seen_call call.entry) ≡ None
         → IsInlined mixed (seen_call call.entry) (seen_inlined x))) }
@@ -135,7 +137,7 @@ fn inline_with<'c>(
         return Ok(Err(Obstacle::Faulty));
     };
     let values = values_of(alloc, slots)?;
-    let old = Meant {
+    let old = CallMeaning {
         pieces: &pieces,
         values: &values,
     };

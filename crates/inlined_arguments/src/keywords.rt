@@ -3,7 +3,7 @@
 ghost use Rattle.std.specs.Prelude.{◌≡◌, chars};
 ghost use Rattle.std.specs.List.{list_any};
 ghost use Rattle.std.specs.Str.{bytes_eq};
-ghost use Rattle.inlined_arguments.specs.Keywords.{expressions, is_keyword, items, reserved};
+ghost use Rattle.inlined_arguments.specs.Keywords.{expressions, is_keyword, items, reserved_words};
 ghost use Rattle.inlined_arguments.specs.Keywords.{statements};
 
 /// Returns whether a word is a keyword that stands in expressions.
@@ -64,7 +64,7 @@ fn is_in_items(word: &str) -> bool
 
 /// Returns whether a word is a keyword without a use.
 fn is_reserved(word: &str) -> bool
-    ensures { result ≡ list_any (bytes_eq word.now) reserved }
+    ensures { result ≡ list_any (bytes_eq word.now) reserved_words }
 {
     word == "abstract"
         || word == "become"

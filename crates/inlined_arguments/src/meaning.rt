@@ -1,7 +1,8 @@
 //! The comparison of the meanings of two calls.
 
 ghost use Rattle.std.specs.Prelude.{◌≡◌, IsTrue, map, option_map};
-ghost use Rattle.rustc_parse_format.specs.Seen.{seen, seen_argument, seen_debug_hex, seen_sign};
+ghost use Rattle.rustc_parse_format.specs.Seen.{seen_piece, seen_argument, seen_debug_hex};
+ghost use Rattle.rustc_parse_format.specs.Seen.{seen_sign};
 ghost use Rattle.rustc_parse_format.specs.Seen.{seen_spec};
 ghost use Rattle.inlined_arguments.specs.Meaning.{flags, meaning, part, use_part};
 ghost use Rattle.inlined_arguments.specs.Seen.{Knows, seen_amount, seen_slots, seen_value};
@@ -96,7 +97,7 @@ fn are_same_flags(left: &FormatSpec<'_>, right: &FormatSpec<'_>) -> bool
 
 /// A format string and the values that it refers to.
 #[derive(Clone, Copy)]
-pub(crate) struct Meant<'s, 'a> {
+pub(crate) struct CallMeaning<'s, 'a> {
     /// Its pieces.
     pub pieces: &'s [Piece<'a>],
     /// The values of its arguments.
@@ -134,8 +135,8 @@ fn are_same_parts<'a, 'b>(
     right: &Piece<'b>,
 ) -> bool
     ensures { Knows left_values.now → Knows right_values.now → IsTrue result
-        → part (seen_slots left_values.now) (seen left.now)
-        ≡ part (seen_slots right_values.now) (seen right.now) }
+        → part (seen_slots left_values.now) (seen_piece left.now)
+        ≡ part (seen_slots right_values.now) (seen_piece right.now) }
 {
     match (left, right) {
         (Piece::Lit(left), Piece::Lit(right)) => left == right,
@@ -147,10 +148,10 @@ fn are_same_parts<'a, 'b>(
 }
 
 /// Returns whether two calls mean the same.
-pub(crate) fn means_same<'a, 'b>(left: Meant<'_, 'a>, right: Meant<'_, 'b>) -> bool
+pub(crate) fn means_same<'a, 'b>(left: CallMeaning<'_, 'a>, right: CallMeaning<'_, 'b>) -> bool
     ensures { Knows left.entry.values.now → Knows right.entry.values.now → IsTrue result
-        → meaning (seen_slots left.entry.values.now) (map seen left.entry.pieces.now)
-        ≡ meaning (seen_slots right.entry.values.now) (map seen right.entry.pieces.now) }
+        → meaning (seen_slots left.entry.values.now) (map seen_piece left.entry.pieces.now)
+        ≡ meaning (seen_slots right.entry.values.now) (map seen_piece right.entry.pieces.now) }
 {
     if left.pieces.len() != right.pieces.len() {
         return false;

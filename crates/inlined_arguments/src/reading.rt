@@ -3,9 +3,9 @@
 ghost use Rattle.std.specs.Prelude.{◌≡◌, ◌+◌, ◌<◌, ◌^◌, IfOk, MatchOption, chars, length, map};
 ghost use Rattle.std.specs.List.{list_all};
 ghost use Rattle.rustc_parse_format.specs.Call.{pieces_of};
-ghost use Rattle.rustc_parse_format.specs.Seen.{seen};
+ghost use Rattle.rustc_parse_format.specs.Seen.{seen_piece};
 ghost use Rattle.rustc_parse_format.specs.State.{calls};
-ghost use Rattle.rustc_parse_format.specs.Types.{bare};
+ghost use Rattle.rustc_parse_format.specs.Types.{bare_piece};
 ghost use Rattle.rustc_parse_format.specs.World.{hashes, pieces_in};
 ghost use Rattle.call_faults.specs.CallFaults.{is_warning};
 ghost use Rattle.call_faults.specs.Clean.{IsClean};
@@ -44,16 +44,17 @@ pub(crate) fn read<'a>(
 ) -> Result<Option<Vec<Piece<'a>>>, AllocError>
     requires { hashes string.style + length string.text.now + 2 < 2 ^ 64 }
     ensures { IfOk result (λ o. MatchOption o
-        (IsClean string.entry.captures (map seen_given arguments.now) (chars string.entry.text.now)
+        (IsClean string.entry.captures_variables (map seen_given arguments.now)
+        (chars string.entry.text.now)
         → ⊥)
         (λ v. let s = start string.entry in
-        (map seen v.items ≡ pieces_in s.world (pieces_of (calls s)))
-        × ReadsClean string.entry.captures (map seen_given arguments.now)
-        (chars string.entry.text.now) (map bare (map seen v.items)))) }
+        (map seen_piece v.items ≡ pieces_in s.world (pieces_of (calls s)))
+        × ReadsClean string.entry.captures_variables (map seen_given arguments.now)
+        (chars string.entry.text.now) (map bare_piece (map seen_piece v.items)))) }
 {
-    let checked = call_faults(alloc, string, arguments)?;
-    if are_warnings(&checked.faults) {
-        Ok(Some(checked.pieces))
+    let report = call_faults(alloc, string, arguments)?;
+    if are_warnings(&report.faults) {
+        Ok(Some(report.pieces))
     } else {
         Ok(None)
     }

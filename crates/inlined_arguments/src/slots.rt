@@ -3,7 +3,8 @@
 ghost use Rattle.std.specs.Prelude.{◌≡◌, IfOk, map};
 ghost use Rattle.call_faults.specs.Seen.{seen_given};
 ghost use Rattle.inlined_arguments.specs.Seen.{seen_argument, seen_slot, seen_value};
-ghost use Rattle.inlined_arguments.specs.Values.{given, is_expression, kept, slot_value, slots};
+ghost use Rattle.inlined_arguments.specs.Values.{slot_argument, is_expression, kept, slot_value};
+ghost use Rattle.inlined_arguments.specs.Values.{slots};
 
 use crate::call::Argument;
 use crate::variables::variable;
@@ -94,7 +95,8 @@ pub(crate) fn givens<'a>(
     alloc: Global,
     slots: &[Slot<'a>],
 ) -> Result<Vec<FormatArgument<'a>>, AllocError>
-    ensures { IfOk result (λ v. map seen_given v.items ≡ map given (map seen_slot slots.now)) }
+    ensures { IfOk result (λ v. map seen_given v.items
+        ≡ map slot_argument (map seen_slot slots.now)) }
 {
     let mut arguments = Vec::new(alloc);
     for slot in slots {

@@ -31,26 +31,27 @@ pub(crate) struct Values<'s, 'a> {
     /// The slots of these.
     pub slots: &'s [Slot<'a>],
     /// The value of the last one with each name.
-    pub named: BTreeMap<&'a str, Value<'a>>,
+    pub named_values: BTreeMap<&'a str, Value<'a>>,
 }
 
 /// Returns the value that a map has for a name, or `None` if it has none.
-fn found_in<'a>(named: &BTreeMap<&'a str, Value<'a>>, name: &'a str) -> Option<Value<'a>>
-    ensures { option_map seen_value result ≡ found_in named.now (chars name.now) }
+fn found_in<'a>(named_values: &BTreeMap<&'a str, Value<'a>>, name: &'a str) -> Option<Value<'a>>
+    ensures { option_map seen_value result ≡ found_in named_values.now (chars name.now) }
 {
-    named.get(&name).copied()
+    named_values.get(&name).copied()
 }
 
 /// Puts the value of a name into a map. Returns `Err` if an allocation fails.
 fn insert<'a>(
-    named: &mut BTreeMap<&'a str, Value<'a>>,
+    named_values: &mut BTreeMap<&'a str, Value<'a>>,
     name: &'a str,
     value: Value<'a>,
 ) -> Result<(), AllocError>
-    ensures { OnOk result ((w : Text) → found_in named.new w ≡ (if bytes_eq w (chars name.now) then
-        Some (seen_value value.entry) else found_in named.old w)) }
+    ensures { OnOk result ((w : Text) → found_in named_values.new w
+        ≡ (if bytes_eq w (chars name.now) then
+        Some (seen_value value.entry) else found_in named_values.old w)) }
 {
-    named.insert(name, value)?;
+    named_values.insert(name, value)?;
     Ok(())
 }
 
@@ -62,13 +63,16 @@ pub(crate) fn values_of<'s, 'a>(
     ensures knows { IfOk result Knows }
     ensures slots { IfOk result (λ v. seen_slots v ≡ map seen_slot slots.now) }
 {
-    let mut named = BTreeMap::new(alloc);
+    let mut named_values = BTreeMap::new(alloc);
     for slot in slots {
         if let Some(name) = slot.name {
-            insert(&mut named, name, slot.value)?;
+            insert(&mut named_values, name, slot.value)?;
         }
     }
-    Ok(Values { slots, named })
+    Ok(Values {
+        slots,
+        named_values,
+    })
 }
 
 /// Returns the value of an index, or `None` if no argument has it.
@@ -86,7 +90,7 @@ fn value_named<'a>(values: &Values<'_, 'a>, name: &'a str) -> Value<'a>
     ensures { Knows values.now
         → seen_value result ≡ value_named (seen_slots values.now) (chars name.now) }
 {
-    match found_in(&values.named, name) {
+    match found_in(&values.named_values, name) {
         Some(value) => value,
         None => Value::Variable(name),
     }

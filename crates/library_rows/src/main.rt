@@ -35,7 +35,7 @@ struct Row<'a> {
     appended_newline: bool,
     snippet: Option<String>,
     input: String,
-    wanted: String,
+    expected: String,
 }
 
 fn mode_of(column: &str) -> Option<ParseMode> {
@@ -76,7 +76,7 @@ fn snippet_of(alloc: Global, column: &str) -> Result<Option<Option<String>>, All
 /// The row of a line, or None if the line has another form.
 fn row_of(alloc: Global, line: &str) -> Result<Option<Row<'_>>, AllocError> {
     let columns: Vec<&str> = line.split('\t').collect(alloc)?;
-    let [name, mode, style, newline, snippet, input, wanted] = columns.as_slice() else {
+    let [name, mode, style, newline, snippet, input, expected] = columns.as_slice() else {
         return Ok(None);
     };
     let (Some(mode), Some(style)) = (mode_of(mode), style_of(style)) else {
@@ -86,7 +86,7 @@ fn row_of(alloc: Global, line: &str) -> Result<Option<Row<'_>>, AllocError> {
     else {
         return Ok(None);
     };
-    let (Some(input), Some(wanted)) = (text_of(alloc, input)?, text_of(alloc, wanted)?) else {
+    let (Some(input), Some(expected)) = (text_of(alloc, input)?, text_of(alloc, expected)?) else {
         return Ok(None);
     };
     let row = Row {
@@ -96,13 +96,13 @@ fn row_of(alloc: Global, line: &str) -> Result<Option<Row<'_>>, AllocError> {
         appended_newline,
         snippet,
         input,
-        wanted,
+        expected,
     };
     Ok(Some(row))
 }
 
 /// A new snippet like that of a row.
-fn copied(alloc: Global, snippet: &Option<String>) -> Result<Option<String>, AllocError> {
+fn copy_of(alloc: Global, snippet: &Option<String>) -> Result<Option<String>, AllocError> {
     match snippet {
         Some(snippet) => Ok(Some(String::from_str(alloc, snippet.as_str())?)),
         None => Ok(None),
@@ -120,7 +120,7 @@ fn start<'a>(
     if input.len() > 10_000 || style.unwrap_or(0) > usize::MAX - 2 - input.len() {
         return Ok(None);
     }
-    let snippet = copied(alloc, &row.snippet)?;
+    let snippet = copy_of(alloc, &row.snippet)?;
     let mut parser = Parser::new(alloc, input, style, snippet, row.appended_newline, row.mode)?;
     if number > usize::MAX - input.len() {
         return Ok(None);
@@ -135,9 +135,9 @@ fn read<'a>(alloc: Global, row: &'a Row<'_>) -> Result<Option<Reading<'a>>, Allo
     if input.len() > 10_000 || style.unwrap_or(0) > usize::MAX - 2 - input.len() {
         return Ok(None);
     }
-    let snippet = copied(alloc, &row.snippet)?;
-    let found = read_all(alloc, input, style, snippet, row.appended_newline, row.mode)?;
-    Ok(Some(found))
+    let snippet = copy_of(alloc, &row.snippet)?;
+    let reading = read_all(alloc, input, style, snippet, row.appended_newline, row.mode)?;
+    Ok(Some(reading))
 }
 
 /// Adds what the calls of `next` return up to the first one at the end of the input.
@@ -173,8 +173,8 @@ fn by_read_all(alloc: Global, row: &Row<'_>) -> Result<String, AllocError> {
         }
         out.push_str("none\n")?;
         // After a `}` that closes nothing the row goes on.
-        let (_, after) = row.wanted.split_once("\nnone\n").unwrap_or(("", ""));
-        if !after.starts_with("curarg ") {
+        let (_, rest_after) = row.expected.split_once("\nnone\n").unwrap_or(("", ""));
+        if !rest_after.starts_with("curarg ") {
             put_calls(&mut out, &mut parser, row.input.len())?;
         }
         put_end(&mut out, &parser)?;
@@ -202,31 +202,31 @@ fn differs(
     rt: &HostRuntime,
     row: &Row<'_>,
     way: &str,
-    found: &str,
-    wanted: &str,
+    result: &str,
+    expected: &str,
 ) -> Result<bool, Fail> {
-    if found == wanted {
+    if result == expected {
         return Ok(false);
     }
     let name = row.name;
-    println!(rt; "{name} by {way}: wanted\n{wanted}and found\n{found}")?;
+    println!(rt; "{name} by {way}: wanted\n{expected}and found\n{result}")?;
     Ok(true)
 }
 
 /// Compares a row in each way. Returns whether it differs in any.
 fn row_differs(rt: &HostRuntime, row: &Row<'_>) -> Result<bool, Fail> {
-    let (alloc, wanted) = (rt.alloc(), row.wanted.as_str());
-    if !wanted.starts_with("source ") {
-        let found = script::follow(alloc, row)?;
-        return differs(rt, row, "its script", found.as_str(), wanted);
+    let (alloc, expected) = (rt.alloc(), row.expected.as_str());
+    if !expected.starts_with("source ") {
+        let result = script::follow(alloc, row)?;
+        return differs(rt, row, "its script", result.as_str(), expected);
     }
-    let found = by_literal(alloc, row)?;
-    let source = wanted.split_inclusive('\n').next().unwrap_or("");
-    let by_literal = differs(rt, row, "is_source_literal", found.as_str(), source)?;
-    let found = by_next(alloc, row)?;
-    let by_next = differs(rt, row, "next", found.as_str(), wanted)?;
-    let found = by_read_all(alloc, row)?;
-    let by_read_all = differs(rt, row, "read_all", found.as_str(), wanted)?;
+    let result = by_literal(alloc, row)?;
+    let source = expected.split_inclusive('\n').next().unwrap_or("");
+    let by_literal = differs(rt, row, "is_source_literal", result.as_str(), source)?;
+    let result = by_next(alloc, row)?;
+    let by_next = differs(rt, row, "next", result.as_str(), expected)?;
+    let result = by_read_all(alloc, row)?;
+    let by_read_all = differs(rt, row, "read_all", result.as_str(), expected)?;
     Ok(by_literal || by_next || by_read_all)
 }
 

@@ -100,13 +100,13 @@ fn put_pieces(out: &mut String, parser: &mut Parser<'_>) -> Result<(), AllocErro
 }
 
 /// Adds the piece that a call returned, with the argument that it read a placeholder into.
-fn put_taken<'a>(
+fn put_piece_kind<'a>(
     alloc: Global,
     out: &mut String,
-    taken: Option<PieceKind<'a>>,
+    kind: Option<PieceKind<'a>>,
     argument: Argument<'a>,
 ) -> Result<(), AllocError> {
-    let piece = match taken {
+    let piece = match kind {
         Some(PieceKind::Lit(text)) => Some(Piece::Lit(text)),
         Some(PieceKind::NextArgument) => { Some(Piece::NextArgument(Box::new(alloc, argument)?)) }
         None => None,
@@ -122,9 +122,9 @@ fn put_next_into(
 ) -> Result<(), AllocError> {
     let mut argument = Argument::default();
     let next = parser.next_into(&mut argument)?;
-    put_taken(alloc, out, next.piece, argument)?;
-    let fronts = next.front_errors;
-    write!(out, "and {fronts}")
+    put_piece_kind(alloc, out, next.piece, argument)?;
+    let front_errors = next.front_errors;
+    write!(out, "and {front_errors}")
 }
 
 /// Adds the piece of the next call, which leaves its faults, and the error of each of them.
@@ -134,8 +134,8 @@ fn put_next_with_faults(
     parser: &mut Parser<'_>,
 ) -> Result<(), AllocError> {
     let (mut argument, mut faults) = (Argument::default(), Vec::new(alloc));
-    let taken = parser.next_with_faults(&mut argument, &mut faults)?;
-    put_taken(alloc, out, taken, argument)?;
+    let kind = parser.next_with_faults(&mut argument, &mut faults)?;
+    put_piece_kind(alloc, out, kind, argument)?;
     for fault in &faults {
         put_error(out, &fault.error(alloc)?)?;
     }
@@ -143,11 +143,11 @@ fn put_next_with_faults(
 }
 
 /// Adds how many errors the next call puts in front of how many.
-fn put_fronts(out: &mut String, parser: &mut Parser<'_>) -> Result<(), AllocError> {
+fn put_front_errors(out: &mut String, parser: &mut Parser<'_>) -> Result<(), AllocError> {
     let mut argument = Argument::default();
     let next = parser.next_into(&mut argument)?;
-    let (fronts, errors) = (next.front_errors, parser.errors().len());
-    write!(out, "{fronts} of {errors}")
+    let (front_errors, errors) = (next.front_errors, parser.errors().len());
+    write!(out, "{front_errors} of {errors}")
 }
 
 fn put_names(alloc: Global, out: &mut String, text: &str) -> Result<(), AllocError> {
@@ -261,7 +261,7 @@ fn put_result(
         "next_into" => put_next_into(alloc, out, parser),
         "next_with_faults" => put_next_with_faults(alloc, out, parser),
         "is_identifier" => put_identifier(out, parser),
-        "fronts" => put_fronts(out, parser),
+        "fronts" => put_front_errors(out, parser),
         "step" => step(parser),
         "pieces" => put_pieces(out, parser),
         "skip" => skip(parser),
@@ -270,9 +270,9 @@ fn put_result(
 }
 
 /// Adds a call with its result.
-fn put_call(out: &mut String, call: &str, found: &str) -> Result<(), AllocError> {
+fn put_call(out: &mut String, call: &str, result: &str) -> Result<(), AllocError> {
     out.push_str(call)?;
-    for (at, line) in found.lines().enumerate() {
+    for (at, line) in result.lines().enumerate() {
         out.push_str(if at == 0 { " " } else { "\n  " })?;
         out.push_str(line)?;
     }
@@ -301,7 +301,7 @@ fn put_calls(
 /// another index, or after `read_all`.
 pub fn follow(alloc: Global, row: &Row<'_>) -> Result<String, AllocError> {
     let (mut out, mut result) = (String::new(alloc), String::new(alloc));
-    let script = row.wanted.as_str();
+    let script = row.expected.as_str();
     let (first, others) = script.split_once('\n').unwrap_or((script, ""));
     let call = first.split(' ').next().unwrap_or("");
     if put_of_input(alloc, &mut result, call, row.input.as_str())? {

@@ -4,7 +4,7 @@ use crate::changes::Change;
 use clap::ArgMatches;
 use drawn_lines::WIDTH;
 use format_calls::{Row, Rule, Table};
-use format_lint::task::{Show, Task};
+use format_lint::task::{OutputKind, Task};
 use lint_words::{ColourChoice, Form, wants_colours};
 use rust_tokens::{Kind, first_token};
 use rustc_parse_format::ParseMode;
@@ -39,10 +39,10 @@ fn when_of(matches: &ArgMatches<'_>) -> ColourChoice {
 /// Returns whether each stream to which tokens or drawings are written is a terminal. Drawings go
 /// to standard error where the output is tokens or a literal.
 fn are_terminals(rt: &HostRuntime, matches: &ArgMatches<'_>) -> bool {
-    match show_of(matches) {
-        Show::Fix => rt.stderr().is_terminal(),
-        Show::Tokens => rt.stdout().is_terminal() && rt.stderr().is_terminal(),
-        Show::Fault | Show::All => rt.stdout().is_terminal(),
+    match output_kind_of(matches) {
+        OutputKind::Fix => rt.stderr().is_terminal(),
+        OutputKind::Tokens => rt.stdout().is_terminal() && rt.stderr().is_terminal(),
+        OutputKind::Fault | OutputKind::All => rt.stdout().is_terminal(),
     }
 }
 
@@ -113,15 +113,15 @@ pub fn file_of<'a>(matches: &ArgMatches<'a>) -> Option<&'a str> {
 }
 
 /// Returns which answer is shown for one string.
-fn show_of(matches: &ArgMatches<'_>) -> Show {
+fn output_kind_of(matches: &ArgMatches<'_>) -> OutputKind {
     if matches.get_flag("fix") {
-        Show::Fix
+        OutputKind::Fix
     } else if matches.get_flag("all") {
-        Show::All
+        OutputKind::All
     } else if matches.get_flag("tokens") {
-        Show::Tokens
+        OutputKind::Tokens
     } else {
-        Show::Fault
+        OutputKind::Fault
     }
 }
 
@@ -136,7 +136,7 @@ pub fn task_of<'a>(
         mode: mode_of(matches),
         is_literal: !matches.get_flag("text"),
         path,
-        show: show_of(matches),
+        output_kind: output_kind_of(matches),
         width,
         colours,
     }
@@ -181,10 +181,10 @@ pub fn table_of<'a>(alloc: Global, words: &[&'a str]) -> Result<Table<'a>, Optio
     let Ok(mut table) = Table::standard(alloc) else {
         return Err(None);
     };
-    let Ok(others) = Table::with_crates(alloc) else {
+    let Ok(crate_macros) = Table::with_crate_macros(alloc) else {
         return Err(None);
     };
-    for row in &others.rows {
+    for row in &crate_macros.rows {
         if table.rows.push(*row).is_err() {
             return Err(None);
         }

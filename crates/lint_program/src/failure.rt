@@ -27,7 +27,7 @@ impl From<AllocError> for Failure {
 
 impl Failure {
     /// Returns the failure of a read with this error.
-    pub fn of(error: io::Error) -> Failure {
+    pub fn new(error: io::Error) -> Failure {
         Failure {
             fault: RunFault::Read,
             error: Some(error),
@@ -35,7 +35,7 @@ impl Failure {
     }
 
     /// Returns whether the system's error is of this kind.
-    pub fn is_of(&self, kind: io::ErrorKind) -> bool {
+    pub fn has_kind(&self, kind: io::ErrorKind) -> bool {
         match &self.error {
             Some(error) => error.kind() == kind,
             None => false,

@@ -15,7 +15,7 @@ pub use arguments::{change_of, form_of, has_colours, table_of, width_of};
 pub use changes::{Change, StepFailure, replace};
 pub use editions::Editions;
 pub use failure::Failure;
-pub use literal::{literal_status, tell, tell_of_terminal};
+pub use literal::{literal_status, print_failure, print_hint};
 pub use options::{VERSION, command, is_option};
 pub use progress::Progress;
 pub use recorder::Recorder;

@@ -30,12 +30,12 @@ fn read<R: Read + Drop>(rt: &HostRuntime, stream: R) -> Result<Vec<u8>, Failure>
 /// Reads a file, or standard input.
 fn read_file(rt: &HostRuntime, file: Option<&str>) -> Result<Vec<u8>, Failure> {
     let Some(path) = file else {
-        tell_of_terminal(rt);
+        print_hint(rt);
         return read(rt, rt.stdin());
     };
     match fs::open(rt, path) {
         Ok(file) => read(rt, file),
-        Err(error) => Err(Failure::of(error)),
+        Err(error) => Err(Failure::new(error)),
     }
 }
 
@@ -59,7 +59,7 @@ fn without_returns(
 }
 
 /// Writes to standard error that standard input is read, if it is a terminal.
-pub fn tell_of_terminal(rt: &HostRuntime) {
+pub fn print_hint(rt: &HostRuntime) {
     if rt.stdin().is_terminal() {
         let _ = rt.eprintln("formatlint: reads what is typed here, up to Ctrl-D; --help says more");
     }
@@ -113,9 +113,9 @@ fn answer_listing<W: Write>(
     let listing = listing_of(rt.alloc(), matches, input)?;
     match str::from_utf8(listing.bytes.as_slice()) {
         Ok(text) if rt.stdout().is_terminal() => {
-            let mut drawn = String::new(rt.alloc());
-            put_glyphs(&mut drawn, text, 0)?;
-            write_whole(writer, drawn.as_bytes())?;
+            let mut drawing = String::new(rt.alloc());
+            put_glyphs(&mut drawing, text, 0)?;
+            write_whole(writer, drawing.as_bytes())?;
         }
         _ => write_whole(writer, listing.bytes.as_slice())?,
     }
@@ -151,7 +151,7 @@ fn answer(
 }
 
 /// Appends the lines with the reason why there is no answer.
-fn put_why(
+fn put_reason(
     out: &mut String,
     path: &str,
     input: &[u8],
@@ -179,12 +179,12 @@ const GONE: u8 = 141;
 const NO_PATH: &str = "  = help: without a PATH the string is read from standard input";
 
 /// Writes to standard error why there is no answer, and returns the exit status.
-pub fn tell(rt: &HostRuntime, path: &str, input: &[u8], failure: &Failure) -> u8 {
-    if failure.is_of(ErrorKind::BrokenPipe) {
+pub fn print_failure(rt: &HostRuntime, path: &str, input: &[u8], failure: &Failure) -> u8 {
+    if failure.has_kind(ErrorKind::BrokenPipe) {
         return GONE;
     }
     let mut out = String::new(rt.alloc());
-    let _ = match put_why(&mut out, path, input, failure) {
+    let _ = match put_reason(&mut out, path, input, failure) {
         Ok(()) => rt.eprint(out.as_str()),
         Err(_) => rt.eprintln("formatlint: out of memory"),
     };
@@ -197,10 +197,10 @@ pub fn tell(rt: &HostRuntime, path: &str, input: &[u8], failure: &Failure) -> u8
 
 /// Writes to standard error how many mistakes there are besides the first, where only that is
 /// drawn.
-fn tell_others(rt: &HostRuntime, matches: &ArgMatches<'_>, count: usize) {
+fn print_other_count(rt: &HostRuntime, matches: &ArgMatches<'_>, count: usize) {
     if count > 1 && !matches.get_flag("all") {
-        let others = count - 1;
-        let _ = eprintln!(rt; "formatlint: and {others} more, which --all draws");
+        let other_count = count - 1;
+        let _ = eprintln!(rt; "formatlint: and {other_count} more, which --all draws");
     }
 }
 
@@ -215,8 +215,8 @@ pub fn literal_status(rt: &HostRuntime, matches: &ArgMatches<'_>) -> Option<u8> 
     let bytes = match input(rt, matches, file) {
         Ok(bytes) => bytes,
         Err(failure) => {
-            let status = tell(rt, path, &[], &failure);
-            if failure.is_of(ErrorKind::NotFound) {
+            let status = print_failure(rt, path, &[], &failure);
+            if failure.has_kind(ErrorKind::NotFound) {
                 let _ = rt.eprintln(NO_PATH);
             }
             return Some(status);
@@ -224,10 +224,10 @@ pub fn literal_status(rt: &HostRuntime, matches: &ArgMatches<'_>) -> Option<u8> 
     };
     match answer(rt, matches, path, bytes.as_slice()) {
         Ok(count) => {
-            tell_others(rt, matches, count);
+            print_other_count(rt, matches, count);
             Some(u8::from(count > 0))
         }
         Err(failure) if failure.fault == RunFault::Words => None,
-        Err(failure) => Some(tell(rt, path, bytes.as_slice(), &failure)),
+        Err(failure) => Some(print_failure(rt, path, bytes.as_slice(), &failure)),
     }
 }

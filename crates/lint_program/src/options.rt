@@ -55,9 +55,9 @@ struct Row {
     /// Whether it may be given again and again.
     is_repeated: bool,
     /// The options, or the group, without which it is not given.
-    needs: &'static [&'static str],
+    required_names: &'static [&'static str],
     /// The options with which it is not given.
-    conflicts: &'static [&'static str],
+    conflicting_names: &'static [&'static str],
 }
 
 /// An option without a value that may be given with all others.
@@ -69,8 +69,8 @@ const FLAG: Row = Row {
     values: &[],
     default: None,
     is_repeated: false,
-    needs: &[],
-    conflicts: &[],
+    required_names: &[],
+    conflicting_names: &[],
 };
 
 /// The options, in the order of the help.
@@ -124,73 +124,73 @@ static OPTIONS: [Row; 24] = [
     Row {
         name: "literal",
         help: "Read one string literal, of a file or of standard input",
-        conflicts: &FILES,
+        conflicting_names: &FILES,
         ..FLAG
     },
     Row {
         name: "text",
         help: "Read the text of one string, of a file or of standard input",
-        conflicts: &FILES,
+        conflicting_names: &FILES,
         ..FLAG
     },
     Row {
         name: "fix",
         help: "Apply the suggestions to the files in place, or print the literal or standard input with them",
-        conflicts: &["text"],
+        conflicting_names: &["text"],
         ..FLAG
     },
     Row {
         name: "inline",
         help: "Move arguments that are variables into format strings, in the files in place, or print standard input with them",
-        conflicts: &["literal", "text"],
+        conflicting_names: &["literal", "text"],
         ..FLAG
     },
     Row {
         name: "mixed",
         help: "With --inline: also in calls that have other arguments; these stay",
-        needs: &["inline"],
+        required_names: &["inline"],
         ..FLAG
     },
     Row {
         name: "diff",
         help: "With --fix or --inline: print what would change in files as a unified diff, and write no file",
-        needs: &["change"],
-        conflicts: &NO_PREVIEW,
+        required_names: &["change"],
+        conflicting_names: &NO_PREVIEW,
         ..FLAG
     },
     Row {
         name: "check",
         help: "With --fix or --inline: print the paths of the files that would change, and write no file",
-        needs: &["change"],
-        conflicts: &NO_CHECK,
+        required_names: &["change"],
+        conflicting_names: &NO_CHECK,
         ..FLAG
     },
     Row {
         name: "tokens",
         help: "Print the tokens of the string, in colours or each in a line; the fault goes to standard error",
-        needs: &["string"],
-        conflicts: &["fix"],
+        required_names: &["string"],
+        conflicting_names: &["fix"],
         ..FLAG
     },
     Row {
         name: "all",
         help: "Draw all faults of the string, each with its id and whether it follows from another",
-        needs: &["string"],
-        conflicts: &["fix", "tokens"],
+        required_names: &["string"],
+        conflicting_names: &["fix", "tokens"],
         ..FLAG
     },
     Row {
         name: "list",
         help: "List the pieces and the faults of the string, each in a line, as formatread does",
-        needs: &["string"],
-        conflicts: &["fix", "tokens", "all"],
+        required_names: &["string"],
+        conflicting_names: &["fix", "tokens", "all"],
         ..FLAG
     },
     Row {
         name: "args",
         value: Some("LIST"),
         help: "With --list: the number of positional arguments and the names of the others, as 2,w; those that are missing or unused are listed",
-        needs: &["list"],
+        required_names: &["list"],
         ..FLAG
     },
     Row {
@@ -198,7 +198,7 @@ static OPTIONS: [Row; 24] = [
         value: Some("FORM"),
         help: "With --list: text, as formatread writes it, or json, an object in each line",
         values: &LISTINGS,
-        needs: &["list"],
+        required_names: &["list"],
         ..FLAG
     },
     Row {
@@ -207,7 +207,7 @@ static OPTIONS: [Row; 24] = [
         help: "What the string is",
         values: &MODES,
         default: Some("format"),
-        needs: &["string"],
+        required_names: &["string"],
         ..FLAG
     },
     Row {
@@ -257,8 +257,8 @@ fn option<'a>(alloc: Global, row: &'a Row) -> Result<Arg<'a>, AllocError> {
     if let Some(value) = row.default {
         arg = arg.default_value(value);
     }
-    arg.requires_all(row.needs)?
-        .conflicts_with_all(row.conflicts)
+    arg.requires_all(row.required_names)?
+        .conflicts_with_all(row.conflicting_names)
 }
 
 /// Adds all options to a command. Returns `Err` if an allocation fails.
@@ -272,7 +272,7 @@ fn with_options<'a>(alloc: Global, command: Command<'a>) -> Result<Command<'a>, 
 
 /// Returns the options and the arguments of the program. Returns `Err` if an allocation fails.
 pub fn command<'a>(alloc: Global) -> Result<Command<'a>, AllocError> {
-    let named = Command::new(alloc, "formatlint")
+    let base = Command::new(alloc, "formatlint")
         .bin_name("formatlint")?
         .version(VERSION)
         .about("Finds the faults of format strings in Rust sources, as the Rust compiler does");
@@ -283,11 +283,11 @@ pub fn command<'a>(alloc: Global) -> Result<Command<'a>, AllocError> {
         .help(
             "The files and folders to read; - is standard input; the default is the current folder",
         );
-    let with_all = with_options(alloc, named.arg(path)?)?;
+    let with_arguments = with_options(alloc, base.arg(path)?)?;
     let string = ArgGroup::new(alloc, "string").arg("literal")?;
     let change = ArgGroup::new(alloc, "change").arg("fix")?;
-    let with_string = with_all.group(string.arg("text")?)?;
-    with_string.group(change.arg("inline")?.multiple(true))
+    let with_group = with_arguments.group(string.arg("text")?)?;
+    with_group.group(change.arg("inline")?.multiple(true))
 }
 
 /// Returns whether an option has this name.

@@ -10,7 +10,7 @@ const DELAY: u128 = 500;
 #[derive(Drop)]
 pub struct Progress {
     /// The time when the run or the last line began, or `None` if no line is written.
-    since: Option<Instant>,
+    start: Option<Instant>,
     /// Whether the line is on the terminal.
     is_shown: bool,
 }
@@ -19,21 +19,21 @@ impl Progress {
     /// Returns the progress of a run that begins now, without a line if standard error is no
     /// terminal.
     pub fn new(rt: &HostRuntime) -> Progress {
-        let since = if rt.stderr().is_terminal() {
+        let start = if rt.stderr().is_terminal() {
             Instant::now(rt).ok()
         } else {
             None
         };
         Progress {
-            since,
+            start,
             is_shown: false,
         }
     }
 
     /// Returns whether the line is to be written.
     fn is_due(&self, rt: &HostRuntime) -> bool {
-        match &self.since {
-            Some(since) => match since.elapsed(rt) {
+        match &self.start {
+            Some(start) => match start.elapsed(rt) {
                 Ok(time) => time.as_millis() > DELAY,
                 Err(_) => false,
             },
@@ -47,7 +47,7 @@ impl Progress {
         if self.is_due(rt) {
             let _ = eprint!(rt; "\rformatlint: files read: {files}");
             self.is_shown = true;
-            self.since = Instant::now(rt).ok();
+            self.start = Instant::now(rt).ok();
         }
     }
 

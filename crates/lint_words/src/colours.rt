@@ -18,15 +18,15 @@ pub enum ColourChoice {
 /// variables `NO_COLOR` and `TERM`. With `Auto` they are if the output is a terminal, `NO_COLOR` is
 /// unset or empty, and `TERM` is set and not `dumb`.
 pub fn wants_colours(
-    when: ColourChoice,
+    choice: ColourChoice,
     is_terminal: bool,
     no_color: Option<&str>,
     term: Option<&str>,
 ) -> bool
-    ensures { result ≡ wants_colours when is_terminal (option_map (λ w. w.now) no_color.entry)
+    ensures { result ≡ wants_colours choice is_terminal (option_map (λ w. w.now) no_color.entry)
         (option_map (λ w. w.now) term.entry) }
 {
-    match when {
+    match choice {
         ColourChoice::Always => true,
         ColourChoice::Never => false,
         ColourChoice::Auto => {

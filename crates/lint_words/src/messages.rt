@@ -31,15 +31,15 @@ fn put_opening(out: &mut String, path: &str) -> Result<(), AllocError>
     Ok(())
 }
 
-/// Returns the reason why there is no answer. For a read or a write that failed, `why` has the
+/// Returns the reason why there is no answer. For a read or a write that failed, `words` has the
 /// words of the system, if it has any.
-fn reason<'a>(fault: RunFault, why: &'a str) -> &'a str
-    ensures { result.now ≡ reason fault why.now }
+fn reason<'a>(fault: RunFault, words: &'a str) -> &'a str
+    ensures { result.now ≡ reason fault words.now }
 {
     match fault {
-        RunFault::Read if why.is_empty() => "reading failed",
-        RunFault::Write if why.is_empty() => "writing failed",
-        RunFault::Read | RunFault::Write => why,
+        RunFault::Read if words.is_empty() => "reading failed",
+        RunFault::Write if words.is_empty() => "writing failed",
+        RunFault::Read | RunFault::Write => words,
         RunFault::Words => "invalid arguments",
         RunFault::TooLong => "longer than 1048576 bytes",
         RunFault::NotText => "not UTF-8",
@@ -49,20 +49,20 @@ fn reason<'a>(fault: RunFault, why: &'a str) -> &'a str
 }
 
 /// Appends the line that says why there is no answer for the input with this path. For a read or a
-/// write that failed `why` has the words of the system, if it has any. Returns `Err` if an
+/// write that failed `words` has the words of the system, if it has any. Returns `Err` if an
 /// allocation fails, and a part of the line may then be appended.
 pub fn put_failure(
     out: &mut String,
     path: &str,
     fault: RunFault,
-    why: &str,
+    words: &str,
 ) -> Result<(), AllocError>
     ensures { OnOk result (string_bytes out.new
-        ≡ string_bytes out.old ++ failure path.now fault why.now) }
+        ≡ string_bytes out.old ++ failure path.now fault words.now) }
 {
     put_opening(out, path)?;
     out.push_str(" ")?;
-    out.push_str(reason(fault, why))?;
+    out.push_str(reason(fault, words))?;
     out.push_str("\n")?;
     Ok(())
 }
@@ -113,15 +113,15 @@ pub fn put_place_failure(
     out: &mut String,
     path: &str,
     place: Place,
-    why: &str,
+    words: &str,
 ) -> Result<(), AllocError>
     ensures { OnOk result (string_bytes out.new
-        ≡ string_bytes out.old ++ place_failure path.now place why.now) }
+        ≡ string_bytes out.old ++ place_failure path.now place words.now) }
 {
     put_opening(out, path)?;
     put_place(out, place)?;
     out.push_str(": ")?;
-    out.push_str(why)?;
+    out.push_str(words)?;
     out.push_str("\n")?;
     Ok(())
 }

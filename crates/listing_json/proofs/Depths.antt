@@ -15,22 +15,23 @@ use Rattle.rustc_parse_format.specs.FaultIds.{fault_id}
 use Rattle.rustc_parse_format.specs.World.{Place}
 use Rattle.listing_json.specs.Values.{align_value, count_value, error_value, fault_value}
 use Rattle.listing_json.specs.Values.{fill_value}
-use Rattle.listing_json.specs.Values.{format_value, hex_value, index_value, label_value, maybe}
+use Rattle.listing_json.specs.Values.{format_value, hex_value, index_value, label_value}
+use Rattle.listing_json.specs.Values.{maybe_value}
 use Rattle.listing_json.specs.Values.{name_value, piece_value, position_value, sign_value}
 use Rattle.listing_json.specs.Values.{span_value, suggestion_value}
 
 maybe-low : {A : Type 0} (f : A → Json) (o : Option A) → ((x : A) → depth (f x) ≤ 2)
-    → depth (maybe f o) ≤ 2
+    → depth (maybe_value f o) ≤ 2
 maybe-low f None h = omega arith
 maybe-low f (Some x) h = h x
 
 span-low : (s : Place) → depth (span_value s) ≤ 2
 span-low s = omega arith
 
-spans-low : (o : Option Place) → depth (maybe span_value o) ≤ 2
+spans-low : (o : Option Place) → depth (maybe_value span_value o) ≤ 2
 spans-low o = maybe-low span_value o span-low
 
-fill-low : (o : Option ℕ) → depth (maybe fill_value o) ≤ 2
+fill-low : (o : Option ℕ) → depth (maybe_value fill_value o) ≤ 2
 fill-low o = maybe-low fill_value o (λ c. omega arith)
 
 align-low : (a : Alignment) → depth (align_value a) ≤ 2
@@ -39,12 +40,12 @@ align-low Right = omega arith
 align-low Center = omega arith
 align-low Unknown = omega arith
 
-sign-low : (o : Option Sign) → depth (maybe sign_value o) ≤ 2
+sign-low : (o : Option Sign) → depth (maybe_value sign_value o) ≤ 2
 sign-low None = omega arith
 sign-low (Some Plus) = omega arith
 sign-low (Some Minus) = omega arith
 
-hex-low : (o : Option DebugHex) → depth (maybe hex_value o) ≤ 2
+hex-low : (o : Option DebugHex) → depth (maybe_value hex_value o) ≤ 2
 hex-low None = omega arith
 hex-low (Some Lower) = omega arith
 hex-low (Some Upper) = omega arith

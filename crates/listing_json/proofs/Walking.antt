@@ -6,7 +6,7 @@ use Rattle.std.proofs.lemmas.Bool.Decides.{nat_tests}
 use Rattle.std.proofs.lemmas.List.{length-map}
 use Rattle.std.specs.Prelude.{is_some, option_map}
 use Rattle.rustc_parse_format.specs.Call.{Call}
-use Rattle.rustc_parse_format.specs.State.{State, after, calls, next_call}
+use Rattle.rustc_parse_format.specs.State.{State, state_after, calls, next_call}
 use Rattle.rustc_parse_format.specs.World.{piece_in}
 use Rattle.json.specs.Json.{Json}
 use Rattle.listing_json.specs.Lines.{Adds, call_values, calls_values, has_faults}
@@ -24,7 +24,7 @@ abbrev pub turns : Bool → State → ℕ
 turns true s = suc (length s.rest)
 turns false s = 0
 
-pub calls-next : (s new : State) → new ≡ record (after s (next_call s)) { errors = s.errors }
+pub calls-next : (s new : State) → new ≡ record (state_after s (next_call s)) { errors = s.errors }
     → calls s ≡ next_call s ∷ left (is_some (next_call s).piece) new
 calls-next s new e = by_piece (next_call s).piece refl where
   by_piece : (o : Option _) → (next_call s).piece ≡ o → calls s
@@ -34,18 +34,18 @@ calls-next s new e = by_piece (next_call s).piece refl where
       ∙ (ap (λ t. next_call s ∷ calls t) (sym e)
       ∙ ap (λ o. next_call s ∷ left (is_some o) new) (sym h))
 
-pub turns-fewer : (s new : State) → new ≡ record (after s (next_call s)) { errors = s.errors }
+pub turns-fewer : (s new : State) → new ≡ record (state_after s (next_call s)) { errors = s.errors }
     → turns (is_some (next_call s).piece) new < suc (length s.rest)
 turns-fewer s new e = by_piece (next_call s).piece refl where
   by_piece : (o : Option _) → (next_call s).piece ≡ o
       → turns (is_some (next_call s).piece) new < suc (length s.rest)
   by_piece None h = rw h (omega arith)
   by_piece (Some p) h =
-      let shorter = piece_moves (piece_in s.world) s (after s (next_call s)) p
+      let shorter = piece_moves (piece_in s.world) s (state_after s (next_call s)) p
       (ap (option_map (piece_in s.world)) (sym h)) refl in
       rw (h, e) (omega (arith, shorter))
 
-pub values-next : (s new : State) → new ≡ record (after s (next_call s)) { errors = s.errors }
+pub values-next : (s new : State) → new ≡ record (state_after s (next_call s)) { errors = s.errors }
     → calls_values s.world (calls s) ≡ call_values s.world (next_call s)
     ++ calls_values new.world (left (is_some (next_call s).piece) new)
 values-next s new e = ap (calls_values s.world) (calls-next s new e)
@@ -54,7 +54,7 @@ values-next s new e = ap (calls_values s.world) (calls-next s new e)
 
 -- The lines of a call are added, so those of the calls after it are still to come.
 pub owes-call : (s new : State) (b : Bool) (all : List Json) (old now next : List ℕ)
-    → new ≡ record (after s (next_call s)) { errors = s.errors }
+    → new ≡ record (state_after s (next_call s)) { errors = s.errors }
     → b ≡ is_some (next_call s).piece → Adds (call_values s.world (next_call s)) now next
     → Owes (calls_values s.world (calls s)) all old now
     → Owes (calls_values new.world (left b new)) all old next
@@ -68,7 +68,7 @@ or-assoc false b c = refl
 
 -- Whether there is a fault in a call or in those after it.
 pub faults-next : (s new : State) (a b x t : Bool)
-    → new ≡ record (after s (next_call s)) { errors = s.errors }
+    → new ≡ record (state_after s (next_call s)) { errors = s.errors }
     → b ≡ is_some (next_call s).piece → x ≡ nat_lt 0 (length (next_call s).faults)
     → (a || has_faults (calls s)) ≡ t → ((a || x) || has_faults (left b new)) ≡ t
 faults-next s new a b x t e g f h =

@@ -18,13 +18,13 @@ use Rattle.rustc_parse_format.specs.World.{Place}
 use Rattle.placeholder_check.specs.Report.{Report}
 
 -- The value of a part that may be absent.
-abbrev pub maybe : {A : Type 0} → (A → Json) → Option A → Json
-maybe value None = null
-maybe value (Some x) = value x
+abbrev pub maybe_value : {A : Type 0} → (A → Json) → Option A → Json
+maybe_value value None = null
+maybe_value value (Some x) = value x
 
 -- An object of this kind with further members.
-abbrev pub of_kind : List ℕ → Members → Json
-of_kind kind ms = object (member (codes "kind") (string kind) ms)
+abbrev pub object_of_kind : List ℕ → Members → Json
+object_of_kind kind ms = object (member (codes "kind") (string kind) ms)
 
 -- A number.
 abbrev pub number_value : ℕ → Json
@@ -41,11 +41,11 @@ span_value s = object (member (codes "start") (number_value s.0)
 
 -- An object of this kind with the index of an argument.
 abbrev pub index_value : List ℕ → ℕ → Json
-index_value kind n = of_kind kind (member (codes "index") (number_value n) no_members)
+index_value kind n = object_of_kind kind (member (codes "index") (number_value n) no_members)
 
 -- An object of this kind with the name of an argument.
 abbrev pub name_value : List ℕ → Text → Json
-name_value kind w = of_kind kind (member (codes "name") (text_value w) no_members)
+name_value kind w = object_of_kind kind (member (codes "name") (text_value w) no_members)
 
 -- A position.
 abbrev pub position_value : Position → Json
@@ -55,8 +55,9 @@ position_value (Named w) = name_value (codes "name") w
 
 -- A width or a precision.
 abbrev pub count_value : Count Place → Json
-count_value (Is n) = of_kind (codes "number") (member (codes "value") (number_value n) no_members)
-count_value (Name w s) = of_kind (codes "name") (member (codes "name") (text_value w)
+count_value (Is n) = object_of_kind (codes "number")
+    (member (codes "value") (number_value n) no_members)
+count_value (Name w s) = object_of_kind (codes "name") (member (codes "name") (text_value w)
     (member (codes "span") (span_value s) no_members))
 count_value (Param n) = index_value (codes "index") n
 count_value (Star n) = index_value (codes "star") n
@@ -85,27 +86,27 @@ hex_value Upper = string (codes "upper")
 
 -- A format specification.
 abbrev pub format_value : Spec Place → Json
-format_value f = object (member (codes "fill") (maybe fill_value f.fill)
-    (member (codes "fill_span") (maybe span_value f.fill_span)
+format_value f = object (member (codes "fill") (maybe_value fill_value f.fill)
+    (member (codes "fill_span") (maybe_value span_value f.fill_span)
     (member (codes "align") (align_value f.align)
-    (member (codes "sign") (maybe sign_value f.sign)
+    (member (codes "sign") (maybe_value sign_value f.sign)
     (member (codes "alternate") (boolean f.alternate)
     (member (codes "zero_pad") (boolean f.zero_pad)
-    (member (codes "debug_hex") (maybe hex_value f.debug_hex)
+    (member (codes "debug_hex") (maybe_value hex_value f.debug_hex)
     (member (codes "precision") (count_value f.precision)
-    (member (codes "precision_span") (maybe span_value f.precision_span)
+    (member (codes "precision_span") (maybe_value span_value f.precision_span)
     (member (codes "width") (count_value f.width)
-    (member (codes "width_span") (maybe span_value f.width_span)
+    (member (codes "width_span") (maybe_value span_value f.width_span)
     (member (codes "ty") (text_value f.ty)
-    (member (codes "ty_span") (maybe span_value f.ty_span) no_members)))))))))))))
+    (member (codes "ty_span") (maybe_value span_value f.ty_span) no_members)))))))))))))
 
 -- A run of text.
 abbrev pub run_value : Text → Json
-run_value t = of_kind (codes "text") (member (codes "text") (text_value t) no_members)
+run_value t = object_of_kind (codes "text") (member (codes "text") (text_value t) no_members)
 
 -- A placeholder.
 abbrev pub placeholder_value : Argument Place → Json
-placeholder_value a = of_kind (codes "placeholder")
+placeholder_value a = object_of_kind (codes "placeholder")
     (member (codes "position") (position_value a.position)
     (member (codes "position_span") (span_value a.position_span)
     (member (codes "format") (format_value a.format) no_members)))
@@ -117,18 +118,18 @@ piece_value (NextArgument a) = placeholder_value a
 
 -- A suggestion of this kind for a span.
 abbrev pub mend_value : List ℕ → Place → Json
-mend_value kind s = of_kind kind (member (codes "span") (span_value s) no_members)
+mend_value kind s = object_of_kind kind (member (codes "span") (span_value s) no_members)
 
 -- A suggestion.
 abbrev pub suggestion_value : Suggestion Place → Json
 suggestion_value Nothing = null
-suggestion_value UsePositional = of_kind (codes "use-positional") no_members
+suggestion_value UsePositional = object_of_kind (codes "use-positional") no_members
 suggestion_value (RemoveRawIdent s) = mend_value (codes "remove-raw-ident") s
-suggestion_value (ReorderFormatParameter s w) = of_kind (codes "reorder-format-parameter")
+suggestion_value (ReorderFormatParameter s w) = object_of_kind (codes "reorder-format-parameter")
     (member (codes "span") (span_value s) (member (codes "text") (string w) no_members))
 suggestion_value (AddMissingColon s) = mend_value (codes "add-missing-colon") s
 suggestion_value UseRustDebugPrintingMacro =
-    of_kind (codes "use-rust-debug-printing-macro") no_members
+    object_of_kind (codes "use-rust-debug-printing-macro") no_members
 
 -- A second label and its span.
 abbrev pub label_value : List ℕ × Place → Json
@@ -137,12 +138,12 @@ label_value x = object (member (codes "label") (string x.0)
 
 -- The error of a fault with this id.
 abbrev pub error_value : List ℕ → Message Place → Json
-error_value id m = of_kind (codes "fault") (member (codes "id") (string id)
+error_value id m = object_of_kind (codes "fault") (member (codes "id") (string id)
     (member (codes "description") (string m.description)
-    (member (codes "note") (maybe string m.note)
+    (member (codes "note") (maybe_value string m.note)
     (member (codes "label") (string m.label)
     (member (codes "span") (span_value m.span)
-    (member (codes "secondary_label") (maybe label_value m.second)
+    (member (codes "secondary_label") (maybe_value label_value m.second)
     (member (codes "suggestion") (suggestion_value m.suggestion) no_members)))))))
 
 -- A fault.

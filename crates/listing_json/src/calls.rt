@@ -6,7 +6,7 @@ ghost use Rattle.json.specs.Json.{Json, max_depth};
 ghost use Rattle.json.specs.Tree.{depth, json_tokens};
 ghost use Rattle.rustc_parse_format.specs.Seen.{seen_taken};
 ghost use Rattle.rustc_parse_format.specs.SeenFaults.{seen_fault};
-ghost use Rattle.rustc_parse_format.specs.State.{after, calls, next_call};
+ghost use Rattle.rustc_parse_format.specs.State.{state_after, calls, next_call};
 ghost use Rattle.rustc_parse_format.specs.World.{faults_in};
 ghost use Rattle.listing_json.specs.Lines.{Adds, call_values, calls_values, given_values};
 ghost use Rattle.listing_json.specs.Lines.{has_faults};
@@ -54,7 +54,7 @@ fn put_piece_line(
 }
 
 /// Appends the line of a piece, if there is one.
-fn put_given(
+fn put_maybe_piece(
     alloc: Global,
     out: &mut Vec<u8>,
     piece: &Option<PieceKind<'_>>,
@@ -106,11 +106,11 @@ fn put_call<'a>(
     ensures faults { OnOk result (map seen_fault faults.new.items
         ≡ faults_in parser.old.world (next_call parser.old).faults) }
     ensures state { OnOk result (parser.new
-        ≡ record (after parser.old (next_call parser.old)) { errors = parser.old.errors }) }
-    ensures goes_on { IfOk result (λ b. b ≡ is_some (next_call parser.old).piece) }
+        ≡ record (state_after parser.old (next_call parser.old)) { errors = parser.old.errors }) }
+    ensures has_piece { IfOk result (λ b. b ≡ is_some (next_call parser.old).piece) }
 {
     let piece = parser.next_with_faults(argument, faults)?;
-    put_given(alloc, out, &piece, argument)?;
+    put_maybe_piece(alloc, out, &piece, argument)?;
     put_faults(alloc, out, faults.as_slice())?;
     Ok(piece.is_some())
 }
@@ -129,9 +129,9 @@ pub fn put_calls<'a>(
     let mut argument = Argument::default();
     let mut faults = Vec::new(alloc);
     let mut has_faults = false;
-    let mut goes_on = true;
-    while goes_on {
-        goes_on = put_call(alloc, out, parser, &mut argument, &mut faults)?;
+    let mut has_piece = true;
+    while has_piece {
+        has_piece = put_call(alloc, out, parser, &mut argument, &mut faults)?;
         has_faults |= !faults.is_empty();
         faults.clear();
     }

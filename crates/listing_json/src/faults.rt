@@ -6,8 +6,8 @@ ghost use Rattle.json.specs.Json.{no_members, string};
 ghost use Rattle.json.specs.Tree.{json_tokens};
 ghost use Rattle.rustc_parse_format.specs.Seen.{pair, seen_error, seen_suggestion};
 ghost use Rattle.rustc_parse_format.specs.SeenFaults.{seen_fault};
-ghost use Rattle.listing_json.specs.Values.{error_value, fault_value, label_value, maybe};
-ghost use Rattle.listing_json.specs.Values.{mend_value, of_kind, suggestion_value};
+ghost use Rattle.listing_json.specs.Values.{error_value, fault_value, label_value, maybe_value};
+ghost use Rattle.listing_json.specs.Values.{mend_value, object_of_kind, suggestion_value};
 ghost use Rattle.rustc_parse_format.specs.Faults.{ReorderFormatParameter};
 
 use super::fields::{begin_kind, put_span_of, put_string};
@@ -19,7 +19,8 @@ use std::ops::Range;
 /// Appends a note, or null if there is none.
 fn put_note(writer: &mut Writer, note: &Option<String>) -> Result<(), AllocError>
     ensures tokens { OnOk result (writer.new.tokens
-        ≡ writer.old.tokens ++ json_tokens (maybe string (option_map string_bytes note.now))) }
+        ≡ writer.old.tokens ++ json_tokens
+        (maybe_value string (option_map string_bytes note.now))) }
     ensures before { writer.new.before ≡ writer.old.before }
 {
     match note {
@@ -47,7 +48,7 @@ fn put_secondary(
     second: &Option<(String, Range<usize>)>,
 ) -> Result<(), AllocError>
     ensures tokens { OnOk result (writer.new.tokens ≡ writer.old.tokens
-        ++ json_tokens (maybe label_value
+        ++ json_tokens (maybe_value label_value
         (option_map (λ x. (string_bytes x.0, pair x.1)) second.now))) }
     ensures before { writer.new.before ≡ writer.old.before }
 {
@@ -72,7 +73,7 @@ fn put_mend(writer: &mut Writer, kind: &str, span: &Range<usize>) -> Result<(), 
 /// Appends a suggestion of this kind without a span.
 fn put_bare_mend(writer: &mut Writer, kind: &str) -> Result<(), AllocError>
     ensures tokens { OnOk result (writer.new.tokens
-        ≡ writer.old.tokens ++ json_tokens (of_kind kind.now no_members)) }
+        ≡ writer.old.tokens ++ json_tokens (object_of_kind kind.now no_members)) }
     ensures before { writer.new.before ≡ writer.old.before }
 {
     begin_kind(writer, kind)?;

@@ -7,7 +7,8 @@ ghost use Rattle.json.specs.Json.{string};
 ghost use Rattle.json.specs.Token.{begin_object, key, number};
 ghost use Rattle.json.specs.Tree.{json_tokens};
 ghost use Rattle.rustc_parse_format.specs.Seen.{pair};
-ghost use Rattle.listing_json.specs.Values.{index_value, maybe, name_value, span_value, text_value};
+ghost use Rattle.listing_json.specs.Values.{index_value, maybe_value, name_value, span_value};
+ghost use Rattle.listing_json.specs.Values.{text_value};
 
 use json::Writer;
 use std::alloc::AllocError;
@@ -77,7 +78,7 @@ pub fn put_maybe_span(
 ) -> Result<(), AllocError>
     ensures tokens { OnOk result (writer.new.tokens
         ≡ writer.old.tokens ++ key name.now
-        ∷ json_tokens (maybe span_value (option_map pair span.now))) }
+        ∷ json_tokens (maybe_value span_value (option_map pair span.now))) }
     ensures before { writer.new.before ≡ writer.old.before }
 {
     writer.key(name)?;

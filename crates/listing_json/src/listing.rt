@@ -52,7 +52,7 @@ fn snippet_of(alloc: Global, literal: Option<&str>) -> Result<Option<String>, Al
 
 /// Returns the arguments that the placeholders of a text use, if the task has a list of arguments.
 /// Returns `Err` if an allocation fails.
-fn used_by<'a>(
+fn uses_in<'a>(
     alloc: Global,
     text: &'a str,
     style: Option<usize>,
@@ -92,7 +92,7 @@ fn report_of<'a>(
           snippet = seen_snippet snippet;
         })) (seen_report r)) }
 {
-    let uses = used_by(alloc, text, style, snippet, task)?;
+    let uses = uses_in(alloc, text, style, snippet, task)?;
     report_for(alloc, &uses, task.arguments)
 }
 

@@ -9,7 +9,7 @@ ghost use Rattle.rustc_parse_format.specs.Seen.{pair, seen_alignment, seen_argum
 ghost use Rattle.rustc_parse_format.specs.Seen.{seen_debug_hex, seen_position, seen_sign};
 ghost use Rattle.rustc_parse_format.specs.Seen.{seen_spec, seen_taken};
 ghost use Rattle.listing_json.specs.Values.{align_value, count_value, fill_value, format_value};
-ghost use Rattle.listing_json.specs.Values.{hex_value, maybe, piece_value, placeholder_value};
+ghost use Rattle.listing_json.specs.Values.{hex_value, maybe_value, piece_value, placeholder_value};
 ghost use Rattle.listing_json.specs.Values.{position_value, run_value, sign_value, text_value};
 ghost use Rattle.rustc_parse_format.specs.Types.{Is, Name};
 
@@ -94,7 +94,7 @@ fn put_char(alloc: Global, writer: &mut Writer, c: char) -> Result<(), AllocErro
 /// Appends a fill character, or null if there is none.
 fn put_fill(alloc: Global, writer: &mut Writer, fill: Option<char>) -> Result<(), AllocError>
     ensures tokens { OnOk result (writer.new.tokens
-        ≡ writer.old.tokens ++ json_tokens (maybe fill_value fill)) }
+        ≡ writer.old.tokens ++ json_tokens (maybe_value fill_value fill)) }
     ensures before { writer.new.before ≡ writer.old.before }
 {
     match fill {
@@ -120,7 +120,7 @@ fn put_align(writer: &mut Writer, align: Alignment) -> Result<(), AllocError>
 /// Appends a sign flag, or null if there is none.
 fn put_sign(writer: &mut Writer, sign: Option<Sign>) -> Result<(), AllocError>
     ensures tokens { OnOk result (writer.new.tokens
-        ≡ writer.old.tokens ++ json_tokens (maybe sign_value (option_map seen_sign sign))) }
+        ≡ writer.old.tokens ++ json_tokens (maybe_value sign_value (option_map seen_sign sign))) }
     ensures before { writer.new.before ≡ writer.old.before }
 {
     match sign {
@@ -144,7 +144,8 @@ fn put_flag(writer: &mut Writer, name: &str, flag: bool) -> Result<(), AllocErro
 /// Appends the case of hexadecimal digits, or null if it is not given.
 fn put_hex(writer: &mut Writer, hex: Option<DebugHex>) -> Result<(), AllocError>
     ensures tokens { OnOk result (writer.new.tokens
-        ≡ writer.old.tokens ++ json_tokens (maybe hex_value (option_map seen_debug_hex hex))) }
+        ≡ writer.old.tokens ++ json_tokens
+        (maybe_value hex_value (option_map seen_debug_hex hex))) }
     ensures before { writer.new.before ≡ writer.old.before }
 {
     match hex {

@@ -28,15 +28,15 @@ abbrev pub IsAnyLiteral : Text → Type 0
 IsAnyLiteral t = (style : Option ℕ) × (text : Text) × IsLiteral style t text
 
 -- The fault of a literal that is not alone, by whether a suffix follows it.
-abbrev pub trailing : Bool → FaultKind
-trailing true = Suffix
-trailing false = TrailingText
+abbrev pub trailing_kind : Bool → FaultKind
+trailing_kind true = Suffix
+trailing_kind false = TrailingText
 
 -- The fault at a place where no unit comes next. None if only the closing quote is left.
 abbrev pub stop_fault : Text → Option FaultKind
 stop_fault [] = Some UnterminatedString
 stop_fault (c ∷ t) = if c == code "\"" then
-    (if is_nil t then None else Some (trailing (first_passes is_id_start t))) else
+    (if is_nil t then None else Some (trailing_kind (first_passes is_id_start t))) else
     (if c == code "\\" then Some (escape_fault t) else Some BareCarriageReturn)
 
 -- The rest of the text from the fault on: a closing quote is none.
@@ -61,7 +61,7 @@ is_raw k = false
 
 -- The fault of a raw string that is no literal alone.
 abbrev pub raw_fault : Lexeme → FaultKind
-raw_fault x = if x.is_ended then trailing (not (is_nil x.suffix)) else UnterminatedRawString
+raw_fault x = if x.is_ended then trailing_kind (not (is_nil x.suffix)) else UnterminatedRawString
 
 -- The fault of a text that begins with the token x, where that is no ordinary string.
 abbrev pub token_fault : Lexeme → LiteralFault

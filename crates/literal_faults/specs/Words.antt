@@ -72,15 +72,15 @@ named_character (InvalidCharInUnicodeEscape c) = Some c
 named_character k = None
 
 -- A character in a message: printable ASCII as it is, and any other as an escape.
-abbrev pub shown : ℕ → List ℕ
-shown c = if is_in_range 0x20 0x7E c then c ∷ [] else
+abbrev pub shown_character : ℕ → List ℕ
+shown_character c = if is_in_range 0x20 0x7E c then c ∷ [] else
     (if c == code "\t" then codes "\\t" else (if c == code "\r" then codes "\\r" else
     (if c == code "\n" then codes "\\n" else codes "\\u{" ++ digits 16 false c ++ codes "}")))
 
 -- The end of a message after its title: the character that it names, or nothing.
 abbrev pub named_end : Option ℕ → List ℕ
 named_end None = []
-named_end (Some c) = codes ": `" ++ (shown c ++ codes "`")
+named_end (Some c) = codes ": `" ++ (shown_character c ++ codes "`")
 
 -- The message of a fault.
 abbrev pub message : FaultKind → List ℕ

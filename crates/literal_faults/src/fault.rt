@@ -3,7 +3,7 @@
 ghost use Rattle.std.specs.Prelude.{◌≡◌, ◌↔◌, [], ◌∷◌, IfSome, IsCharBoundary, IsNone, chars};
 ghost use Rattle.rustc_parse_format.specs.Characters.{is_id_start};
 ghost use Rattle.literal_faults.specs.Faults.{IsAnyLiteral, IsFault, IsOrdinary, IsStringFault};
-ghost use Rattle.literal_faults.specs.Faults.{IsTokenFault, fault_rest, stop_fault, trailing};
+ghost use Rattle.literal_faults.specs.Faults.{IsTokenFault, fault_rest, stop_fault, trailing_kind};
 
 use crate::escapes::escape_fault;
 use crate::stops::after_units;
@@ -73,7 +73,7 @@ fn is_id_start(c: char) -> bool
 
 /// Returns the fault of a literal that is not alone.
 fn trailing_fault(is_suffix: bool) -> FaultKind
-    ensures { result ≡ trailing is_suffix }
+    ensures { result ≡ trailing_kind is_suffix }
 {
     if is_suffix {
         FaultKind::Suffix

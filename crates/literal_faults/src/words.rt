@@ -2,7 +2,7 @@
 
 ghost use Rattle.std.specs.Prelude.{◌≡◌, ◌++◌, OnOk, option_map, string_bytes};
 ghost use Rattle.literal_faults.specs.Words.{found_title, message, named_character, named_end};
-ghost use Rattle.literal_faults.specs.Words.{shown, title};
+ghost use Rattle.literal_faults.specs.Words.{shown_character, title};
 
 use crate::fault::FaultKind;
 use rust_tokens::Kind;
@@ -70,8 +70,8 @@ fn named_character(kind: FaultKind) -> Option<char>
 
 /// Appends a character: printable ASCII as it is, and any other as an escape. Returns `Err` if an
 /// allocation fails.
-fn put_shown(out: &mut String, c: char) -> Result<(), AllocError>
-    ensures { OnOk result (string_bytes out.new ≡ string_bytes out.old ++ shown c) }
+fn put_shown_character(out: &mut String, c: char) -> Result<(), AllocError>
+    ensures { OnOk result (string_bytes out.new ≡ string_bytes out.old ++ shown_character c) }
 {
     match c {
         ' '..='~' => out.push(c)?,
@@ -97,7 +97,7 @@ impl FaultKind {
         out.push_str(title(*self))?;
         if let Some(c) = named_character(*self) {
             out.push_str(": `")?;
-            put_shown(out, c)?;
+            put_shown_character(out, c)?;
             out.push_str("`")?;
         }
         Ok(())

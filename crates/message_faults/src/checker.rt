@@ -4,7 +4,7 @@ ghost use Rattle.std.specs.Prelude.{◌≡◌, ◌+◌, ◌<◌, ◌^◌, ◌++�
 ghost use Rattle.std.specs.Prelude.{Option, chars, codes, encode_utf8_all, length, map, option_map};
 ghost use Rattle.std.specs.Str.{bytes_eq};
 ghost use Rattle.rustc_parse_format.specs.Characters.{Text};
-ghost use Rattle.rustc_parse_format.specs.Seen.{pair, seen, seen_argument, seen_snippet};
+ghost use Rattle.rustc_parse_format.specs.Seen.{pair, seen_piece, seen_argument, seen_snippet};
 ghost use Rattle.rustc_parse_format.specs.SeenFaults.{seen_fault as seen_text_fault};
 ghost use Rattle.placeholder_check.specs.Noted.{has_text};
 ghost use Rattle.placeholder_check.specs.Seen.{text as seen_text};
@@ -182,7 +182,7 @@ fn push_piece<'a>(
     piece: &Piece<'a>,
 ) -> Result<(), AllocError>
     ensures { OnOk result (map seen_fault faults.new.items ≡ map seen_fault faults.old.items
-        ++ piece_faults (known_names names.entry) is_known (seen piece.now)) }
+        ++ piece_faults (known_names names.entry) is_known (seen_piece piece.now)) }
 {
     match piece {
         Piece::Lit(_) => Ok(()),
@@ -198,7 +198,7 @@ fn push_pieces<'a>(
     pieces: &[Piece<'a>],
 ) -> Result<(), AllocError>
     ensures { OnOk result (map seen_fault faults.new.items ≡ map seen_fault faults.old.items
-        ++ faults_of (known_names names.entry) is_known (map seen pieces.now)) }
+        ++ faults_of (known_names names.entry) is_known (map seen_piece pieces.now)) }
 {
     for piece in pieces {
         push_piece(faults, names, is_known, piece)?;

@@ -11,8 +11,8 @@ use Rattle.message_forms.specs.Texts.{array_text, items_of, number_json, object_
 use Rattle.message_forms.specs.Words.{level_name}
 
 -- A message of SARIF that is plain text.
-abbrev pub plain : List ℕ → Data
-plain t = object (member (codes "text") (string t) no_members)
+abbrev pub plain_message : List ℕ → Data
+plain_message t = object (member (codes "text") (string t) no_members)
 
 -- A region. Its end is the place after its last character.
 abbrev pub region : Span → Data
@@ -26,28 +26,28 @@ abbrev pub artifact : List ℕ → Data
 artifact path = object (member (codes "uri") (string (uri path)) no_members)
 
 -- A range of a file.
-abbrev pub physical : List ℕ → Span → Data
-physical path s = object (member (codes "artifactLocation") (artifact path)
+abbrev pub physical_location : List ℕ → Span → Data
+physical_location path s = object (member (codes "artifactLocation") (artifact path)
     (member (codes "region") (region s) no_members))
 
 -- A range of a file, as a location.
 abbrev pub location : List ℕ → Span → Data
-location path s = object (member (codes "physicalLocation") (physical path s) no_members)
+location path s = object (member (codes "physicalLocation") (physical_location path s) no_members)
 
 -- A result: a message.
 abbrev pub result_json : Message → Data
 result_json m = object (member (codes "ruleId") (string m.id.now)
     (member (codes "level") (string (level_name m.level))
-    (member (codes "message") (plain m.title.now)
+    (member (codes "message") (plain_message m.title.now)
     (member (codes "locations") (array (item (location m.path.now m.primary) no_items))
     no_members))))
 
 -- A rule.
 abbrev pub rule_json : Rule → Data
 rule_json r = object (member (codes "id") (string r.id.now)
-    (member (codes "shortDescription") (plain r.summary.now)
-    (member (codes "fullDescription") (plain r.explanation.now)
-    (member (codes "help") (plain (explanation_text r)) no_members))))
+    (member (codes "shortDescription") (plain_message r.summary.now)
+    (member (codes "fullDescription") (plain_message r.explanation.now)
+    (member (codes "help") (plain_message (explanation_text r)) no_members))))
 
 -- The program of this version with its rules.
 abbrev pub driver : List ℕ → List Rule → Data

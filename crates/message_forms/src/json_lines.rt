@@ -58,22 +58,22 @@ fn length_of(text: &str) -> usize
     text.chars().count()
 }
 
-/// Adds the lines of a span that begins and ends at these columns, where `more` lines come after
-/// the first one.
+/// Adds the lines of a span that begins and ends at these columns, where `line_count` lines come
+/// after the first one.
 fn put_lines(
     out: &mut String,
     lines: &str,
     from: usize,
     to: usize,
-    more: usize,
+    line_count: usize,
 ) -> Result<(), AllocError>
     ensures { OnOk result (string_bytes out.new
-        ≡ string_bytes out.old ++ json_text (array (line_items more from to lines.now))) }
+        ≡ string_bytes out.old ++ json_text (array (line_items line_count from to lines.now))) }
 {
     out.push_str("[")?;
     let mut rest = lines;
     let mut start = from;
-    let mut countdown = more;
+    let mut countdown = line_count;
     while countdown > 0 {
         let (line, tail) = split_line(rest);
         put_line(out, line, start, length_of(line) + 1)?;
@@ -131,8 +131,14 @@ fn put_details(out: &mut String, span: &Span<'_>) -> Result<(), AllocError>
 {
     put_truth(out, true, "is_primary", span.is_primary)?;
     put_key(out, true, "text")?;
-    let more = span.end.line.saturating_sub(span.start.line);
-    put_lines(out, span.lines, span.start.column, span.end.column, more)?;
+    let line_count = span.end.line.saturating_sub(span.start.line);
+    put_lines(
+        out,
+        span.lines,
+        span.start.column,
+        span.end.column,
+        line_count,
+    )?;
     put_text_or_null(out, "label", span.label)?;
     let text = replacement(&span.suggestion);
     put_text_or_null(out, "suggested_replacement", text)?;

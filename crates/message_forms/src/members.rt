@@ -74,11 +74,11 @@ fn put_digits(out: &mut String, number: usize) -> Result<(), AllocError>
 
 /// Adds a truth value.
 #[tactic(auto, unfolding(crate::specs::Texts::json_text))]
-fn put_bool(out: &mut String, is_so: bool) -> Result<(), AllocError>
+fn put_bool(out: &mut String, value: bool) -> Result<(), AllocError>
     ensures { OnOk result (string_bytes out.new
-        ≡ string_bytes out.old ++ json_text (boolean is_so)) }
+        ≡ string_bytes out.old ++ json_text (boolean value)) }
 {
-    out.push_str(if is_so { "true" } else { "false" })?;
+    out.push_str(if value { "true" } else { "false" })?;
     Ok(())
 }
 
@@ -119,12 +119,12 @@ pub fn put_count(
 }
 
 /// Adds a member with a truth value.
-pub fn put_truth(out: &mut String, is_later: bool, key: &str, is_so: bool) -> Result<(), AllocError>
+pub fn put_truth(out: &mut String, is_later: bool, key: &str, value: bool) -> Result<(), AllocError>
     ensures { OnOk result ((ms : Members) → string_bytes out.new ++ object_text true ms
-        ≡ string_bytes out.old ++ object_text is_later (member key.now (boolean is_so) ms)) }
+        ≡ string_bytes out.old ++ object_text is_later (member key.now (boolean value) ms)) }
 {
     put_key(out, is_later, key)?;
-    put_bool(out, is_so)?;
+    put_bool(out, value)?;
     Ok(())
 }
 

@@ -7,7 +7,8 @@ ghost use Rattle.fault_rules.specs.Rules.{explanation_text};
 ghost use Rattle.serde_json.specs.Data.{Items, Members, array, item, member, no_items};
 ghost use Rattle.message_forms.specs.Escapes.{uri};
 ghost use Rattle.message_forms.specs.Sarif.{artifact, driver, invocation, location, log_end};
-ghost use Rattle.message_forms.specs.Sarif.{log_json, physical, plain, region, result_json};
+ghost use Rattle.message_forms.specs.Sarif.{log_json, physical_location, plain_message, region};
+ghost use Rattle.message_forms.specs.Sarif.{result_json};
 ghost use Rattle.message_forms.specs.Sarif.{rule_json, run_end, run_json, tool};
 ghost use Rattle.message_forms.specs.Texts.{array_text, items_of, json_text, object_text};
 
@@ -20,7 +21,7 @@ use std::alloc::{AllocError, Global};
 /// Adds a plain text as a message.
 fn put_plain(out: &mut String, text: &str) -> Result<(), AllocError>
     ensures { OnOk result (string_bytes out.new
-        ≡ string_bytes out.old ++ json_text (plain text.now)) }
+        ≡ string_bytes out.old ++ json_text (plain_message text.now)) }
 {
     put_text(out, false, "text", text)?;
     put_end(out)?;
@@ -30,7 +31,7 @@ fn put_plain(out: &mut String, text: &str) -> Result<(), AllocError>
 /// Adds a member with a plain text as a message, after another one.
 fn put_plain_member(out: &mut String, key: &str, text: &str) -> Result<(), AllocError>
     ensures { OnOk result ((ms : Members) → string_bytes out.new ++ object_text true ms
-        ≡ string_bytes out.old ++ object_text true (member key.now (plain text.now) ms)) }
+        ≡ string_bytes out.old ++ object_text true (member key.now (plain_message text.now) ms)) }
 {
     put_key(out, true, key)?;
     put_plain(out, text)?;
@@ -73,7 +74,7 @@ fn put_artifact(out: &mut String, path: &str) -> Result<(), AllocError>
 /// Adds a range of a file.
 fn put_physical(out: &mut String, path: &str, span: &Span<'_>) -> Result<(), AllocError>
     ensures { OnOk result (string_bytes out.new
-        ≡ string_bytes out.old ++ json_text (physical path.now span.now)) }
+        ≡ string_bytes out.old ++ json_text (physical_location path.now span.now)) }
 {
     put_key(out, false, "artifactLocation")?;
     put_artifact(out, path)?;

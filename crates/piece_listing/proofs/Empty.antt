@@ -10,7 +10,7 @@ use Rattle.rustc_parse_format.specs.Literal.{IsLiteral, ordinary_frame, raw_fram
 use Rattle.rustc_parse_format.specs.Types.{Mode}
 use Rattle.rustc_parse_format.specs.Call.{call, walk}
 use Rattle.rustc_parse_format.specs.Faults.{Message}
-use Rattle.rustc_parse_format.specs.State.{after_all, calls, fresh}
+use Rattle.rustc_parse_format.specs.State.{after_all, calls, fresh_state}
 use Rattle.rustc_parse_format.specs.World.{Place, World}
 use Rattle.rustc_parse_format.specs.Seen.{seen_mode}
 use Rattle.piece_listing.specs.declared.arguments.GivenArguments.{GivenArguments as ArgumentsValue}
@@ -20,18 +20,18 @@ use Rattle.piece_listing.specs.declared.task.Task.{Task as DeclaredTask}
 use Rattle.piece_listing.specs.declared.verdict.RunFault.{RunFault}
 use Rattle.piece_listing.specs.declared.verdict.RunFault.TheVariants.{NotLiteral}
 use Rattle.piece_listing.specs.Listing.{report_lines}
-use Rattle.piece_listing.specs.Program.{IsListed, Task, errors, listed, no_entries, pieces}
+use Rattle.piece_listing.specs.Program.{IsListed, Task, errors, listing_of, no_entries, pieces}
 use Rattle.piece_listing.specs.SeenTask.{seen_given, seen_task}
 use Rattle.piece_listing.specs.Source.{IsSourceOf, Source, bare_source}
 use Rattle.piece_listing.proofs.Literals.{raw_frame-parts}
 
 -- an empty text has no errors and so no fault
 errors-nil : (mode : Mode) (w : World) (start : ℕ)
-    → (after_all (fresh mode w [] start) (calls (fresh mode w [] start))).errors ≡ []
+    → (after_all (fresh_state mode w [] start) (calls (fresh_state mode w [] start))).errors ≡ []
 unfolding walk call
 errors-nil mode w start = refl
 
-listed-nil : (mode : Mode) → listed mode (bare_source []) no_entries ≡ ([], false)
+listed-nil : (mode : Mode) → listing_of mode (bare_source []) no_entries ≡ ([], false)
 unfolding pieces errors walk call report_lines
 listed-nil mode = refl
 
@@ -39,7 +39,8 @@ pub chars-empty : (bs : List ℕ) → bs ≡ [] → chars bs ≡ []
 chars-empty bs e = ap chars e ∙ chars-nil
 
 pub no_faults : (mode : Mode) (w : World) (start : ℕ) (text : List ℕ) → text ≡ []
-    → (after_all (fresh mode w (chars text) start) (calls (fresh mode w (chars text) start))).errors
+    → (after_all (fresh_state mode w (chars text) start)
+    (calls (fresh_state mode w (chars text) start))).errors
     ≡ []
 no_faults mode w start text e = rw (chars-empty text e) (errors-nil mode w start)
 
@@ -109,8 +110,8 @@ empty-listed t x bs e bare refused found = by_literal t.is_literal refused found
     by_literal true refused found = absurd (let no_listing = refused e refl in cc)
     by_literal false refused (s, is, (r, report, given)) =
         let none : r ≡ no_entries = rw bare at report in
-        let same = given ∙ ap (listed (seen_mode t.mode) s) none
-        ∙ ap (λ s. listed (seen_mode t.mode) s no_entries) (is
+        let same = given ∙ ap (listing_of (seen_mode t.mode) s) none
+        ∙ ap (λ s. listing_of (seen_mode t.mode) s no_entries) (is
         ∙ ap bare_source (chars-empty bs e))
         ∙ listed-nil (seen_mode t.mode) in
         (refl, ap (λ (x : List ℕ × Bool). x.0) same, ap (λ (x : List ℕ × Bool). x.1) same)

@@ -12,7 +12,7 @@ use Rattle.placeholder_check.specs.Uses.{uses}
 use Rattle.placeholder_check.proofs.Unique.{one-report}
 use Rattle.piece_listing.specs.GivenArguments.{GivenArguments}
 use Rattle.piece_listing.specs.Program.{Answer, IsListed, IsOwed, IsOwedFor, IsReportFor, IsShort}
-use Rattle.piece_listing.specs.Program.{Task, limit, listed, pieces}
+use Rattle.piece_listing.specs.Program.{Task, limit, listing_of, pieces}
 use Rattle.piece_listing.specs.Source.{IsSourceOf, Source}
 use Rattle.piece_listing.proofs.OneLiteral.{source-only}
 
@@ -26,7 +26,7 @@ report-only (Some g) ps r q h k = one-report (uses ps) g.positional g.names r q 
 listed-only : (a : Task) (s : Source) (x y : List ℕ × Bool) → IsListed a s x → IsListed a s y
     → x ≡ y
 listed-only a s x y (r, h, e) (q, k, f) = e
-    ∙ ap (listed a.mode s) (report-only a.given (pieces a.mode s) r q h k) ∙ sym f
+    ∙ ap (listing_of a.mode s) (report-only a.given (pieces a.mode s) r q h k) ∙ sym f
 
 -- any other answer that is owed for a source that is listed is the same
 with_listing : (a : Task) (input : List ℕ) (x : List ℕ × Bool) (y : Answer)

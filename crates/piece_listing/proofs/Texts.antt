@@ -8,7 +8,7 @@ use Rattle.std.proofs.lemmas.Bool.Decides.{nat_tests}
 use Rattle.std.proofs.lemmas.Str.{encodes-chars, chars-nil}
 use Rattle.rustc_parse_format.specs.Characters.{Text}
 use Rattle.rustc_parse_format.specs.Seen.{pair}
-use Rattle.piece_listing.specs.Listing.{at_entry, quoted, type_entry}
+use Rattle.piece_listing.specs.Listing.{at_entry, quoted_text, type_entry}
 
 -- a type that was not written leaves nothing
 pub type_entry-absent : (out : List ℕ) (s : Option (Range ℕ)) (bs : List ℕ) → is_some s ≡ false
@@ -21,7 +21,7 @@ type_entry-absent out (Some r) bs e h = cc
 
 -- the entry of a type
 abbrev type_text : Option (Range ℕ) → Text → List ℕ
-type_text s t = codes " ty=" ++ (quoted t ++ at_entry (option_map pair s))
+type_text s t = codes " ty=" ++ (quoted_text t ++ at_entry (option_map pair s))
 
 -- one with a span is shown
 pub type_entry-given : (s : Option (Range ℕ)) (t : Text) → is_some s ≡ true
@@ -36,7 +36,7 @@ type_entry-cons : (s : Option (Range ℕ)) (bs : List ℕ) (t : Text) → encode
 type_entry-cons None bs [] w e h = absurd (elim bs as (λ x. [] ≡ x → false ≡ (length x == 0) →
     ⊥) [ [] ↦ λ p q. grind (arith, nat_tests) | b ∷ bs ↦ λ p q. cc ] w h)
 type_entry-cons None bs (c ∷ t) w e h =
-    ap (λ x. codes " ty=" ++ x) (sym (append-nil (quoted (c ∷ t))))
+    ap (λ x. codes " ty=" ++ x) (sym (append-nil (quoted_text (c ∷ t))))
 type_entry-cons (Some r) bs t w e h = cc
 
 pub type_entry-chars : (s : Option (Range ℕ)) (bs : List ℕ) → IsUtf8 bs → is_some s ≡ false

@@ -7,7 +7,7 @@ use Rattle.rustc_parse_format.specs.Types.{Mode, Format, InlineAsm, Diagnostic, 
 use Rattle.rustc_parse_format.proofs.Rows.Definitions.{computing}
 use Rattle.placeholder_check.specs.Report.{Report}
 use Rattle.placeholder_check.proofs.Deciding.{report-decided}
-use Rattle.piece_listing.specs.GivenArguments.{GivenArguments, cut, given_by}
+use Rattle.piece_listing.specs.GivenArguments.{GivenArguments, cut, given_arguments}
 use Rattle.piece_listing.specs.Listing.{flag_entries, report_lines, value_entries}
 use Rattle.piece_listing.specs.Program.{IsListed, Task, task_of, errors, mode_named, pieces}
 use Rattle.piece_listing.specs.Source.{bare_source}
@@ -18,49 +18,49 @@ given_are n ws = Some (record { positional = n; names = map chars ws })
 abbrev asks : Mode → Bool → Option GivenArguments → Option Task
 asks mode literal g = Some (record { mode = mode; is_literal = literal; given = g })
 
-list-number_alone : given_by (codes "2") ≡ given_are 2 []
+list-number_alone : given_arguments (codes "2") ≡ given_are 2 []
 unfolding cut
 list-number_alone = refl
 
-list-names : given_by (codes "2,w,z") ≡ given_are 2 (codes "w" ∷ codes "z" ∷ [])
+list-names : given_arguments (codes "2,w,z") ≡ given_are 2 (codes "w" ∷ codes "z" ∷ [])
 unfolding cut
 list-names = refl
 
 -- any character but a comma may stand in a name, and a name may come twice
-list-any_names : given_by (codes "00004,a b,+1,a b")
+list-any_names : given_arguments (codes "00004,a b,+1,a b")
     ≡ given_are 4 (codes "a b" ∷ codes "+1" ∷ codes "a b" ∷ [])
 unfolding cut
 list-any_names = refl
 
-list-greatest : given_by (codes "65535") ≡ given_are 65535 []
+list-greatest : given_arguments (codes "65535") ≡ given_are 65535 []
 unfolding cut
 list-greatest = refl
 
-no_list-empty : given_by [] ≡ None
+no_list-empty : given_arguments [] ≡ None
 unfolding cut
 no_list-empty = refl
 
-no_list-name_alone : given_by (codes ",a") ≡ None
+no_list-name_alone : given_arguments (codes ",a") ≡ None
 unfolding cut
 no_list-name_alone = refl
 
-no_list-empty_last_name : given_by (codes "2,") ≡ None
+no_list-empty_last_name : given_arguments (codes "2,") ≡ None
 unfolding cut
 no_list-empty_last_name = refl
 
-no_list-empty_first_name : given_by (codes "2,,a") ≡ None
+no_list-empty_first_name : given_arguments (codes "2,,a") ≡ None
 unfolding cut
 no_list-empty_first_name = refl
 
-no_list-too_large : given_by (codes "65536") ≡ None
+no_list-too_large : given_arguments (codes "65536") ≡ None
 unfolding cut
 no_list-too_large = refl
 
-no_list-six_digits : given_by (codes "123456") ≡ None
+no_list-six_digits : given_arguments (codes "123456") ≡ None
 unfolding cut
 no_list-six_digits = refl
 
-no_list-sign : given_by (codes "+1") ≡ None
+no_list-sign : given_arguments (codes "+1") ≡ None
 unfolding cut
 no_list-sign = refl
 

@@ -34,8 +34,8 @@ is_name w = not (is_nil w)
 
 -- The arguments that a word gives: a number, and then any number of names, each after a comma. None
 -- for any other word.
-abbrev pub given_by : List ℕ → Option GivenArguments
-given_by w =
+abbrev pub given_arguments : List ℕ → Option GivenArguments
+given_arguments w =
     if is_number (cut w).0 && list_all is_name (cut w).1
     then Some (record { positional = digits_value 10 (cut w).0; names = map chars (cut w).1 })
     else None

@@ -4,7 +4,7 @@ use Rattle.std.specs.Prelude.{ℕ, Bool, true, false, List, [], ◌∷◌, ◌++
 use Rattle.std.specs.Prelude.{flat_map, codes, decimal}
 use Rattle.std.specs.Str.{encode_utf8_all}
 use Rattle.rustc_parse_format.specs.Characters.{Text}
-use Rattle.rustc_parse_format.specs.Written.{written}
+use Rattle.rustc_parse_format.specs.Written.{written_character}
 use Rattle.rustc_parse_format.specs.Types.{Alignment, Left, Right, Center, Unknown, Sign, Plus}
 use Rattle.rustc_parse_format.specs.Types.{Minus, DebugHex, Lower, Upper, Position, Implicit, Index}
 use Rattle.rustc_parse_format.specs.Types.{Named}
@@ -14,9 +14,9 @@ use Rattle.rustc_parse_format.specs.Faults.{Message}
 use Rattle.rustc_parse_format.specs.World.{Place}
 use Rattle.placeholder_check.specs.Report.{Report}
 
--- A text between quotes, each character written as `written` says.
-abbrev pub quoted : Text → List ℕ
-quoted t = codes "\"" ++ (flat_map written t ++ codes "\"")
+-- A text between quotes, each character written as `written_character` says.
+abbrev pub quoted_text : Text → List ℕ
+quoted_text t = codes "\"" ++ (flat_map written_character t ++ codes "\"")
 
 -- A span: its two offsets with `..` between them.
 abbrev pub span_text : Place → List ℕ
@@ -49,7 +49,7 @@ count_text Implied = codes "implied"
 -- entry.
 abbrev pub fill_entry : Option ℕ → Option Place → List ℕ
 fill_entry None s = []
-fill_entry (Some c) s = codes " fill=" ++ (quoted (c ∷ []) ++ at_entry s)
+fill_entry (Some c) s = codes " fill=" ++ (quoted_text (c ∷ []) ++ at_entry s)
 
 -- The entry of an alignment.
 abbrev pub align_entry : Alignment → List ℕ
@@ -96,8 +96,8 @@ hex_entry (Some Upper) = codes " hex=upper"
 -- The entry of a type, with its span if it has one.
 abbrev pub type_entry : Option Place → Text → List ℕ
 type_entry None [] = []
-type_entry None (c ∷ t) = codes " ty=" ++ quoted (c ∷ t)
-type_entry (Some s) t = codes " ty=" ++ (quoted t ++ at_span s)
+type_entry None (c ∷ t) = codes " ty=" ++ quoted_text (c ∷ t)
+type_entry (Some s) t = codes " ty=" ++ (quoted_text t ++ at_span s)
 
 -- The entries of the fill, the alignment and the flags.
 unfoldable pub flag_entries : Spec Place → List ℕ
@@ -113,7 +113,7 @@ value_entries s =
 
 -- The line of a piece.
 abbrev pub piece_line : Piece Place → List ℕ
-piece_line (Lit t) = codes "lit " ++ (quoted t ++ codes "\n")
+piece_line (Lit t) = codes "lit " ++ (quoted_text t ++ codes "\n")
 piece_line (NextArgument a) =
     codes "arg " ++ (position_text a.position ++ (codes " " ++ (span_text a.position_span
     ++ (flag_entries a.format ++ (value_entries a.format ++ codes "\n")))))
@@ -128,7 +128,7 @@ index_line label n = label ++ (decimal n ++ codes "\n")
 
 -- The line of a name in a report.
 abbrev pub name_line : List ℕ → Text → List ℕ
-name_line label w = label ++ (quoted w ++ codes "\n")
+name_line label w = label ++ (quoted_text w ++ codes "\n")
 
 -- The lines of a report.
 unfoldable pub report_lines : Report → List ℕ

@@ -16,7 +16,7 @@ use Rattle.piece_listing.specs.declared.verdict.RunFault.TheVariants.{Words, Rea
 use Rattle.piece_listing.specs.declared.verdict.RunFault.TheVariants.{NotLiteral, Memory, Write}
 use Rattle.piece_listing.specs.Listing.{listing}
 use Rattle.piece_listing.specs.Source.{Source, IsSourceOf}
-use Rattle.piece_listing.specs.GivenArguments.{GivenArguments, given_by}
+use Rattle.piece_listing.specs.GivenArguments.{GivenArguments, given_arguments}
 
 -- The most bytes that an input may have: 1 MiB.
 abbrev pub limit : ℕ
@@ -56,10 +56,10 @@ task_of (w ∷ []) = task false None (mode_named w)
 task_of (w ∷ v ∷ []) = if bytes_eq v (codes "--literal") then task true None
     (mode_named w) else None
 task_of (w ∷ v ∷ l ∷ []) = if bytes_eq v (codes "--args")
-    then task_with false (given_by l) (mode_named w) else None
+    then task_with false (given_arguments l) (mode_named w) else None
 task_of (w ∷ u ∷ v ∷ l ∷ []) =
     if bytes_eq u (codes "--literal") && bytes_eq v (codes "--args")
-    then task_with true (given_by l) (mode_named w) else None
+    then task_with true (given_arguments l) (mode_named w) else None
 task_of (w ∷ u ∷ v ∷ l ∷ x ∷ ws) = None
 
 -- A parser at the start of this source.
@@ -96,12 +96,13 @@ has_entries r = nat_lt 0 (length r.missing_index)
 
 -- The listing of a source with a report, and whether the source has an error or the report an
 -- entry.
-abbrev pub listed : Mode → Source → Report → List ℕ × Bool
-listed mode s r = (listing (pieces mode s) (errors mode s) r, is_faulty mode s || has_entries r)
+abbrev pub listing_of : Mode → Source → Report → List ℕ × Bool
+listing_of mode s r = (listing (pieces mode s) (errors mode s) r, is_faulty mode s || has_entries r)
 
 -- The listing of a task: that of the source with the report on its pieces.
 abbrev pub IsListed : Task → Source → List ℕ × Bool → Type 0
-IsListed a s x = (r : Report) × IsReportFor a.given (pieces a.mode s) r × (x ≡ listed a.mode s r)
+IsListed a s x = (r : Report) × IsReportFor a.given (pieces a.mode s) r
+    × (x ≡ listing_of a.mode s r)
 
 -- The input is at most 1 MiB long.
 abbrev pub IsShort : List ℕ → Type 0

@@ -5,7 +5,7 @@ ghost use Rattle.std.specs.Prelude.{chars, if◌then◌else◌, length, map, opt
 ghost use Rattle.std.specs.List.{list_all};
 ghost use Rattle.std.specs.Str.Parse.{digits_value};
 ghost use Rattle.placeholder_check.specs.Seen.{texts};
-ghost use Rattle.piece_listing.specs.GivenArguments.{given_by, is_name, is_number, parts};
+ghost use Rattle.piece_listing.specs.GivenArguments.{given_arguments, is_name, is_number, parts};
 ghost use Rattle.piece_listing.specs.SeenTask.{seen_given, seen_names};
 
 use std::alloc::{AllocError, Global};
@@ -51,18 +51,18 @@ fn are_names(text: &str) -> bool
     ensures { result ≡ list_all is_name (parts text.now) }
 {
     let mut rest = text;
-    while let Some((name, more)) = around_comma(rest) {
+    while let Some((name, rest_after)) = around_comma(rest) {
         if name.is_empty() {
             return false;
         }
-        rest = more;
+        rest = rest_after;
     }
     !rest.is_empty()
 }
 
 /// Returns the list of arguments that a word is, or `None` if it is none.
-pub fn given_by(word: &str) -> Option<GivenArguments<'_>>
-    ensures { option_map seen_given result ≡ given_by word.now }
+pub fn given_arguments(word: &str) -> Option<GivenArguments<'_>>
+    ensures { option_map seen_given result ≡ given_arguments word.now }
 {
     let Some((digits, names)) = around_comma(word) else {
         let positional = number(word)?;
@@ -87,9 +87,9 @@ fn between_commas<'a>(alloc: Global, text: &'a str) -> Result<Vec<&'a str>, Allo
 {
     let mut names = Vec::new(alloc);
     let mut rest = text;
-    while let Some((name, more)) = around_comma(rest) {
+    while let Some((name, rest_after)) = around_comma(rest) {
         names.push(name)?;
-        rest = more;
+        rest = rest_after;
     }
     names.push(rest)?;
     Ok(names)

@@ -5,7 +5,8 @@ ghost use Rattle.std.specs.Prelude.{◌≡◌, ◌++◌, [], false, IfOk, IsOk, 
 ghost use Rattle.std.specs.Prelude.{flat_map, option_map, string_bytes};
 ghost use Rattle.rustc_parse_format.specs.Call.{pieces_of};
 ghost use Rattle.rustc_parse_format.specs.Seen.{seen_taken};
-ghost use Rattle.rustc_parse_format.specs.State.{AddsNothing, after, after_all, calls, next_call};
+ghost use Rattle.rustc_parse_format.specs.State.{AddsNothing, state_after, after_all, calls};
+ghost use Rattle.rustc_parse_format.specs.State.{next_call};
 ghost use Rattle.rustc_parse_format.specs.World.{piece_in, pieces_in};
 ghost use Rattle.placeholder_check.specs.Noted.{Holds};
 ghost use Rattle.placeholder_check.specs.Uses.{Use, piece_uses, uses};
@@ -24,7 +25,7 @@ fn next_piece<'a>(
 ) -> Result<Option<PieceKind<'a>>, AllocError>
     ensures piece { IfOk result (λ t. option_map (seen_taken argument.new) t
         ≡ option_map (piece_in parser.old.world) (next_call parser.old).piece) }
-    ensures state { OnOk result (parser.new ≡ after parser.old (next_call parser.old)) }
+    ensures state { OnOk result (parser.new ≡ state_after parser.old (next_call parser.old)) }
     ensures spare { AddsNothing parser.old (next_call parser.old) → IsOk result }
 {
     let NextPiece {
@@ -35,7 +36,7 @@ fn next_piece<'a>(
 }
 
 /// Appends the line of a piece. Returns `Err` if an allocation fails.
-fn put_taken(
+fn put_piece_kind(
     out: &mut String,
     piece: &PieceKind<'_>,
     argument: &Argument<'_>,
@@ -54,31 +55,31 @@ fn put_taken(
 /// Returns `Err` if an allocation fails.
 fn add_uses<'a>(
     uses: &mut Uses<'a>,
-    compares: bool,
+    compares_arguments: bool,
     piece: &PieceKind<'a>,
     argument: &Argument<'a>,
 ) -> Result<(), AllocError>
-    ensures { OnOk result (IsTrue compares → (us : List Use) → Holds us uses.old
+    ensures { OnOk result (IsTrue compares_arguments → (us : List Use) → Holds us uses.old
         → Holds (us ++ piece_uses (seen_taken argument.now piece.now)) uses.new) }
 {
-    if compares && matches!(piece, PieceKind::NextArgument) {
+    if compares_arguments && matches!(piece, PieceKind::NextArgument) {
         uses.add(argument)?;
     }
     Ok(())
 }
 
 /// Appends the lines of the pieces of a parser up to the first call that returns `None`, and adds
-/// the arguments that they use to `all_uses` if `compares` is set. Returns `Err` if an allocation
-/// fails.
+/// the arguments that they use to `all_uses` if `compares_arguments` is set. Returns `Err` if an
+/// allocation fails.
 pub fn put_calls<'a>(
     out: &mut String,
     all_uses: &mut Uses<'a>,
-    compares: bool,
+    compares_arguments: bool,
     parser: &mut Parser<'a>,
 ) -> Result<(), AllocError>
     ensures lines { OnOk result (string_bytes out.new ≡ string_bytes out.old
         ++ flat_map piece_line (pieces_in parser.old.world (pieces_of (calls parser.old)))) }
-    ensures used { OnOk result (IsTrue compares → (us : List Use) → Holds us all_uses.old
+    ensures used { OnOk result (IsTrue compares_arguments → (us : List Use) → Holds us all_uses.old
         → Holds (us ++ uses (pieces_in parser.old.world (pieces_of (calls parser.old))))
         all_uses.new) }
     ensures state { OnOk result (parser.new ≡ after_all parser.old (calls parser.old)) }
@@ -90,8 +91,8 @@ pub fn put_calls<'a>(
         format: FormatSpec::default(),
     };
     while let Some(piece) = next_piece(parser, &mut argument)? {
-        put_taken(out, &piece, &argument)?;
-        add_uses(all_uses, compares, &piece, &argument)?;
+        put_piece_kind(out, &piece, &argument)?;
+        add_uses(all_uses, compares_arguments, &piece, &argument)?;
     }
     Ok(())
 }

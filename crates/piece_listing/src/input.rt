@@ -103,8 +103,8 @@ fn list_source(
         → task.entry.arguments ≡ None → IsOk result }
 {
     let mut parser = Parser::new(alloc, text, style, snippet, false, task.mode)?;
-    let listed = list_calls(alloc, &mut parser, task.arguments)?;
-    Ok(listed)
+    let listing = list_calls(alloc, &mut parser, task.arguments)?;
+    Ok(listing)
 }
 
 /// Returns the listing of the text that a literal stands for. Returns `Err` if an allocation fails.

@@ -3,15 +3,15 @@
 
 ghost use Rattle.std.specs.Prelude.{◌≡◌, ◌++◌, [], IsOk, OnOk, map, chars, codes};
 ghost use Rattle.std.specs.Prelude.{encode_utf8_all, flat_map, option_map, string_bytes};
-ghost use Rattle.rustc_parse_format.specs.Written.{written};
-ghost use Rattle.rustc_parse_format.specs.Seen.{pair, seen, seen_alignment, seen_count};
+ghost use Rattle.rustc_parse_format.specs.Written.{written_character};
+ghost use Rattle.rustc_parse_format.specs.Seen.{pair, seen_piece, seen_alignment, seen_count};
 ghost use Rattle.rustc_parse_format.specs.Seen.{seen_debug_hex, seen_error, seen_position};
 ghost use Rattle.rustc_parse_format.specs.Seen.{seen_sign, seen_spec};
 ghost use Rattle.piece_listing.specs.Listing.{align_entry, at_entry, count_entry, count_text};
 ghost use Rattle.piece_listing.specs.Listing.{fault_line, fill_entry, flag_entry, flag_entries};
 ghost use Rattle.piece_listing.specs.Listing.{hex_entry};
 ghost use Rattle.piece_listing.specs.Listing.{piece_line, position_text, precision_entry};
-ghost use Rattle.piece_listing.specs.Listing.{quoted, sign_entry, span_text, type_entry};
+ghost use Rattle.piece_listing.specs.Listing.{quoted_text, sign_entry, span_text, type_entry};
 ghost use Rattle.piece_listing.specs.Listing.{value_entries, width_entry};
 
 use super::numbers::{put_number, put_span};
@@ -24,7 +24,8 @@ use std::ops::Range;
 
 /// Adds a text, escaped, between quotes.
 pub fn put_quoted(out: &mut String, text: &str) -> Result<(), AllocError>
-    ensures { OnOk result (string_bytes out.new ≡ string_bytes out.old ++ quoted (chars text.now)) }
+    ensures { OnOk result (string_bytes out.new
+        ≡ string_bytes out.old ++ quoted_text (chars text.now)) }
 {
     out.push('"')?;
     put_all_written(out, text)?;
@@ -35,7 +36,7 @@ pub fn put_quoted(out: &mut String, text: &str) -> Result<(), AllocError>
 /// Adds the line of a piece of literal text.
 pub(crate) fn put_literal(out: &mut String, text: &str) -> Result<(), AllocError>
     ensures { OnOk result (string_bytes out.new ≡ string_bytes out.old ++
-        (codes "lit " ++ (quoted (chars text.now) ++ codes "\n"))) }
+        (codes "lit " ++ (quoted_text (chars text.now) ++ codes "\n"))) }
 {
     out.push_str("lit \"")?;
     put_all_written(out, text)?;
@@ -55,7 +56,7 @@ fn put_name(out: &mut String, label: &str, name: &str) -> Result<(), AllocError>
 }
 
 /// Adds the span of the part before it, if that has one.
-fn put_at(out: &mut String, span: &Option<Range<usize>>) -> Result<(), AllocError>
+fn put_span_at(out: &mut String, span: &Option<Range<usize>>) -> Result<(), AllocError>
     ensures { OnOk result (string_bytes out.new ≡ string_bytes out.old ++
         at_entry (option_map pair span.now)) }
 {
@@ -91,7 +92,7 @@ fn put_fill(
         out.push_str(" fill=\"")?;
         put_written(out, c)?;
         out.push('"')?;
-        put_at(out, span)?;
+        put_span_at(out, span)?;
     }
     Ok(())
 }
@@ -179,7 +180,7 @@ fn put_named_count(
 {
     out.push_str(name)?;
     put_count(out, count)?;
-    put_at(out, span)?;
+    put_span_at(out, span)?;
     Ok(())
 }
 
@@ -237,7 +238,7 @@ fn put_type(out: &mut String, ty: &str, span: &Option<Range<usize>>) -> Result<(
     }
     out.push_str(" ty=")?;
     put_quoted(out, ty)?;
-    put_at(out, span)?;
+    put_span_at(out, span)?;
     Ok(())
 }
 
@@ -274,7 +275,7 @@ pub(crate) fn put_argument(out: &mut String, argument: &Argument<'_>) -> Result<
 /// may then be in `out`.
 pub fn put_piece(out: &mut String, piece: &Piece<'_>) -> Result<(), AllocError>
     ensures { OnOk result (string_bytes out.new ≡ string_bytes out.old
-        ++ piece_line (seen piece.now)) }
+        ++ piece_line (seen_piece piece.now)) }
 {
     match piece {
         Piece::Lit(text) => put_literal(out, text)?,

@@ -57,8 +57,8 @@ fn leading_hashes(text: &str) -> (usize, &str)
 {
     let mut count = 0;
     let mut rest = text;
-    while let Some(more) = without_first(rest, '#') {
-        rest = more;
+    while let Some(rest_after) = without_first(rest, '#') {
+        rest = rest_after;
         count += 1;
     }
     (count, rest)

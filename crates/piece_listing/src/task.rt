@@ -2,11 +2,11 @@
 
 ghost use Rattle.std.specs.Prelude.{◌≡◌, map, option_map, string_bytes};
 ghost use Rattle.rustc_parse_format.specs.Seen.{seen_mode};
-ghost use Rattle.piece_listing.specs.GivenArguments.{given_by};
+ghost use Rattle.piece_listing.specs.GivenArguments.{given_arguments};
 ghost use Rattle.piece_listing.specs.Program.{task_of, mode_named, task, task_with};
 ghost use Rattle.piece_listing.specs.SeenTask.{seen_given, seen_task};
 
-use super::arguments::{GivenArguments, given_by};
+use super::arguments::{GivenArguments, given_arguments};
 use rustc_parse_format::ParseMode;
 
 /// The task that the command-line arguments give.
@@ -58,9 +58,9 @@ fn task_in<'a>(
 /// if `word` names no mode or `list` is not a list of arguments.
 fn task_with<'a>(word: &str, is_literal: bool, list: &'a str) -> Option<Task<'a>>
     ensures { option_map seen_task result
-        ≡ task_with is_literal (given_by list.now) (mode_named word.now) }
+        ≡ task_with is_literal (given_arguments list.now) (mode_named word.now) }
 {
-    let arguments = given_by(list)?;
+    let arguments = given_arguments(list)?;
     task_in(word, is_literal, Some(arguments))
 }
 

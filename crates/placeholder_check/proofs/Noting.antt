@@ -12,7 +12,7 @@ use Rattle.std.proofs.lemmas.List.{map-append, take_more}
 use Rattle.std.proofs.lemmas.List.Folds.{list_any-append}
 use Rattle.std.proofs.lemmas.List.Elements.{filter_map-append, Decides-contains}
 use Rattle.rustc_parse_format.specs.declared.types.Piece.{Piece}
-use Rattle.rustc_parse_format.specs.Seen.{seen}
+use Rattle.rustc_parse_format.specs.Seen.{seen_piece}
 use Rattle.placeholder_check.specs.declared.uses.Uses.{Uses}
 use Rattle.placeholder_check.specs.Uses.{Use, ByIndex, ByName, piece_uses, used_name, used_names}
 use Rattle.placeholder_check.specs.Uses.{uses}
@@ -44,19 +44,20 @@ pub ruleset adding = (Adds-three)
 
 -- the uses of one piece more
 uses-next : (ps : List Piece) (i : ℕ) (p : Piece) → i < length ps →
-    uses (map seen (take (i + 1) ps)) ≡ uses (map seen (take i ps))
-    ++ piece_uses (seen (get_or ps i p))
+    uses (map seen_piece (take (i + 1) ps)) ≡ uses (map seen_piece (take i ps))
+    ++ piece_uses (seen_piece (get_or ps i p))
 uses-next ps i p h = rw (
   take_more ps i p h,
-  map-append seen (take i ps) (get_or ps i p ∷ []),
-  flat_map-append piece_uses (map seen (take i ps)) (seen (get_or ps i p) ∷ []),
+  map-append seen_piece (take i ps) (get_or ps i p ∷ []),
+  flat_map-append piece_uses (map seen_piece (take i ps)) (seen_piece (get_or ps i p) ∷ []),
 )
-    (ap (λ x. uses (map seen (take i ps)) ++ x) (append-nil (piece_uses (seen (get_or ps i p)))))
+    (ap (λ x. uses (map seen_piece (take i ps)) ++ x)
+    (append-nil (piece_uses (seen_piece (get_or ps i p)))))
 
 pub Holds-next : (ps : List Piece) (i : ℕ) (p : Piece) (a b : Uses) → i < length ps
     → p ≡ get_or ps i p →
-    Holds (uses (map seen (take i ps))) a → Adds (piece_uses (seen p)) a b
-    → Holds (uses (map seen (take (i + 1) ps))) b
+    Holds (uses (map seen_piece (take i ps))) a → Adds (piece_uses (seen_piece p)) a b
+    → Holds (uses (map seen_piece (take (i + 1) ps))) b
 Holds-next ps i p a b h e held adds = rw (uses-next ps i p h, ← e) (Holds-append _ _ a b held adds)
 
 -- whether a number is among uses

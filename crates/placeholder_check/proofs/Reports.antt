@@ -10,7 +10,7 @@ use Rattle.std.proofs.lemmas.Bool.Decides.{Decides-at, not_from_Decides}
 use Rattle.placeholder_check.specs.declared.uses.Uses.{Uses}
 use Rattle.rustc_parse_format.specs.Characters.{Text}
 use Rattle.rustc_parse_format.specs.Types.{Count, Is, Name, Param, Star, Implied, Piece, Lit}
-use Rattle.rustc_parse_format.specs.Types.{NextArgument, bare, bare_count}
+use Rattle.rustc_parse_format.specs.Types.{NextArgument, bare_piece, bare_count}
 use Rattle.placeholder_check.specs.Uses.{Use, ByIndex, count_uses, used_names, uses}
 use Rattle.placeholder_check.specs.Entries.{AreFirsts, Lists}
 use Rattle.placeholder_check.specs.Report.{IsReport}
@@ -70,7 +70,7 @@ count_uses-bare (Param n) = refl
 count_uses-bare (Star n) = refl
 count_uses-bare Implied = refl
 
-pub uses-bare : {A : Type 0} (ps : List (Piece A)) → uses (map bare ps) ≡ uses ps
+pub uses-bare : {A : Type 0} (ps : List (Piece A)) → uses (map bare_piece ps) ≡ uses ps
 uses-bare [] = refl
 uses-bare (Lit t ∷ ps) = uses-bare ps
 uses-bare (NextArgument a ∷ ps) =

@@ -38,7 +38,7 @@ is_among ws s t = list_any (bytes_eq t) (texts (take 16 ws)) || has_text s t
 
 -- This text is among the names.
 abbrev pub is_known : Names → Text → Bool
-is_known s t = is_among s.list.items s.later t
+is_known s t = is_among s.list.items s.later_set t
 
 -- The names are those of the texts ts that ys does not have, each once, in the order of their first
 -- entries.

@@ -1,14 +1,14 @@
 //! The report on missing and unused arguments.
 
 ghost use Rattle.std.specs.Prelude.{◌≡◌, [], IfOk, IsOk, List, map};
-ghost use Rattle.rustc_parse_format.specs.Seen.{seen};
+ghost use Rattle.rustc_parse_format.specs.Seen.{seen_piece};
 ghost use Rattle.placeholder_check.specs.Noted.{Holds, IsNew};
 ghost use Rattle.placeholder_check.specs.Uses.{Use, uses};
 ghost use Rattle.placeholder_check.specs.Report.{IsReport, Report as ReportOf};
 ghost use Rattle.placeholder_check.specs.Seen.{seen_report, texts};
 
-use crate::indices::{lacked_below, members_from};
-use crate::names::{lacked_by, later_names, unused_names};
+use crate::indices::{members_from, missing_indices};
+use crate::names::{later_names, missing_names, unused_names};
 use crate::uses::{Uses, uses_of};
 use rustc_parse_format::Piece;
 use std::alloc::{AllocError, Global};
@@ -43,11 +43,11 @@ pub fn check_uses<'a>(
     ensures empty { IsNew uses.now → positional ≡ 0 → names.now ≡ [] → IsOk result }
 {
     let missing_index = members_from(alloc, &uses.indices, positional)?;
-    let used_below = uses.indices.count.saturating_sub(missing_index.len());
-    let room = positional.saturating_sub(used_below);
-    let unused_index = lacked_below(alloc, &uses.indices, positional, room)?;
-    let later = later_names(alloc, names)?;
-    let missing_name = lacked_by(alloc, &uses.names.list, names, &later)?;
+    let used_count = uses.indices.count.saturating_sub(missing_index.len());
+    let room = positional.saturating_sub(used_count);
+    let unused_index = missing_indices(alloc, &uses.indices, positional, room)?;
+    let later_set = later_names(alloc, names)?;
+    let missing_name = missing_names(alloc, &uses.names.list, names, &later_set)?;
     let unused_name = unused_names(alloc, names, &uses.names)?;
     Ok(Report {
         missing_index,
@@ -70,15 +70,15 @@ pub fn check<'a>(
     names: &[&'a str],
 ) -> Result<Report<'a>, AllocError>
     ensures report { IfOk result
-        (λ r. IsReport (uses (map seen pieces.now)) positional (texts names.now) (seen_report r)) }
+        (λ r. IsReport (uses (map seen_piece pieces.now)) positional (texts names.now)
+        (seen_report r)) }
     // No other report satisfies this.
     ensures only { IfOk result (λ r. (s : ReportOf)
-        → IsReport (uses (map seen pieces.now)) positional (texts names.now) s
+        → IsReport (uses (map seen_piece pieces.now)) positional (texts names.now) s
         → s ≡ seen_report r) }
     // If there are no pieces and no arguments, the call succeeds even if every allocation fails.
     ensures empty { pieces.now ≡ [] → positional ≡ 0 → names.now ≡ [] → IsOk result }
 {
     let uses = uses_of(alloc, pieces)?;
-    let report = check_uses(alloc, &uses, positional, names)?;
-    Ok(report)
+    Ok(check_uses(alloc, &uses, positional, names)?)
 }

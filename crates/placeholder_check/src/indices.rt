@@ -137,7 +137,7 @@ pub fn members_from(alloc: Global, set: &Indices, first: usize) -> Result<Vec<us
 /// Returns the indices below `end` that are not in a set, in ascending order. Allocates room for
 /// `room` indices first, since `end` may be the greatest `usize`, and filling the memory before the
 /// failure would take minutes. Returns `Err` if an allocation fails.
-pub fn lacked_below(
+pub fn missing_indices(
     alloc: Global,
     set: &Indices,
     end: usize,
@@ -147,11 +147,11 @@ pub fn lacked_below(
         (λ v. Lists (λ n. (n < end) × (is_noted set.now n ≡ false)) v.items) }
     ensures empty { end ≡ 0 → room ≡ 0 → IsOk result }
 {
-    let mut lacked = Vec::with_capacity(alloc, room)?;
+    let mut missing_indices = Vec::with_capacity(alloc, room)?;
     for n in 0..end {
         if !has_index(set, n) {
-            lacked.push(n)?;
+            missing_indices.push(n)?;
         }
     }
-    Ok(lacked)
+    Ok(missing_indices)
 }

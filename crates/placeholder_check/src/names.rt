@@ -14,15 +14,15 @@ use std::alloc::{AllocError, Global};
 use std::collections::BTreeSet;
 
 /// The number of names that are compared one after the other.
-const FEW: usize = 16;
+const SCAN_LIMIT: usize = 16;
 
 /// Names, each once, in the order in which they were first added.
 #[derive(Drop)]
 pub struct Names<'a> {
     /// The names.
     pub list: Vec<&'a str>,
-    /// The names after the first [`FEW`].
-    pub later: BTreeSet<&'a str>,
+    /// The names after the first [`SCAN_LIMIT`].
+    pub later_set: BTreeSet<&'a str>,
 }
 
 /// Returns the empty set. Allocates nothing.
@@ -32,7 +32,7 @@ pub fn no_names<'a>(alloc: Global) -> Names<'a>
 {
     Names {
         list: Vec::new(alloc),
-        later: BTreeSet::new(alloc),
+        later_set: BTreeSet::new(alloc),
     }
 }
 
@@ -43,11 +43,11 @@ fn is_same(a: &str, b: &str) -> bool
     a == b
 }
 
-/// Returns whether a name is among the first [`FEW`] of a list.
+/// Returns whether a name is among the first [`SCAN_LIMIT`] of a list.
 fn is_early(names: &[&str], name: &str) -> bool
     ensures { result ≡ list_any (bytes_eq (chars name.now)) (texts (take 16 names.now)) }
 {
-    for i in 0..names.len().min(FEW) {
+    for i in 0..names.len().min(SCAN_LIMIT) {
         if is_same(name, names[i]) {
             return true;
         }
@@ -56,17 +56,18 @@ fn is_early(names: &[&str], name: &str) -> bool
 }
 
 /// Returns whether a name is in a set of names.
-fn is_later<'a>(later: &BTreeSet<&'a str>, name: &'a str) -> bool
-    ensures { result ≡ has_text later.now (chars name.now) }
+fn is_later<'a>(later_set: &BTreeSet<&'a str>, name: &'a str) -> bool
+    ensures { result ≡ has_text later_set.now (chars name.now) }
 {
-    later.contains(&name)
+    later_set.contains(&name)
 }
 
-/// Returns whether a name is among others, of which `later` has those after the first [`FEW`].
-fn has_name<'a>(names: &[&'a str], later: &BTreeSet<&'a str>, name: &'a str) -> bool
-    ensures { result ≡ is_among names.now later.now (chars name.now) }
+/// Returns whether a name is among others, of which `later_set` has those after the first
+/// [`SCAN_LIMIT`].
+fn has_name<'a>(names: &[&'a str], later_set: &BTreeSet<&'a str>, name: &'a str) -> bool
+    ensures { result ≡ is_among names.now later_set.now (chars name.now) }
 {
-    is_early(names, name) || is_later(later, name)
+    is_early(names, name) || is_later(later_set, name)
 }
 
 /// Inserts a name into a set. Returns `Err` if an allocation fails.
@@ -84,48 +85,49 @@ pub fn insert_name<'a>(names: &mut Names<'a>, name: &'a str) -> Result<(), Alloc
     ensures { OnOk result ((before ys : List Text) → list_any (bytes_eq (chars name.now)) ys ≡ false
         → Follows before ys names.old → Follows (before ++ chars name.now ∷ []) ys names.new) }
 {
-    if has_name(&names.list, &names.later, name) {
+    if has_name(&names.list, &names.later_set, name) {
         return Ok(());
     }
-    if names.list.len() >= FEW {
-        insert_later(&mut names.later, name)?;
+    if names.list.len() >= SCAN_LIMIT {
+        insert_later(&mut names.later_set, name)?;
     }
     names.list.push(name)?;
     Ok(())
 }
 
-/// Returns the names of a list after the first [`FEW`]. Returns `Err` if an allocation fails.
+/// Returns the names of a list after the first [`SCAN_LIMIT`]. Returns `Err` if an allocation
+/// fails.
 pub fn later_names<'a>(alloc: Global, names: &[&'a str]) -> Result<BTreeSet<&'a str>, AllocError>
     ensures known { IfOk result (λ s. (t : Text)
         → is_among names.now s t ≡ list_any (bytes_eq t) (texts names.now)) }
     ensures empty { names.now ≡ [] → IsOk result }
 {
-    let mut later = BTreeSet::new(alloc);
-    for i in FEW..names.len() {
-        insert_later(&mut later, names[i])?;
+    let mut later_set = BTreeSet::new(alloc);
+    for i in SCAN_LIMIT..names.len() {
+        insert_later(&mut later_set, names[i])?;
     }
-    Ok(later)
+    Ok(later_set)
 }
 
-/// Returns the names of a list that are not among others, in their order; `later` has those of the
-/// others after the first [`FEW`]. Returns `Err` if an allocation fails.
-pub fn lacked_by<'a>(
+/// Returns the names of a list that are not among others, in their order; `later_set` has those of
+/// the others after the first [`SCAN_LIMIT`]. Returns `Err` if an allocation fails.
+pub fn missing_names<'a>(
     alloc: Global,
     names: &[&'a str],
     others: &[&'a str],
-    later: &BTreeSet<&'a str>,
+    later_set: &BTreeSet<&'a str>,
 ) -> Result<Vec<&'a str>, AllocError>
     ensures lacked { IfOk result (λ v. texts v.items
-        ≡ filter (λ t. not (is_among others.now later.now t)) (texts names.now)) }
+        ≡ filter (λ t. not (is_among others.now later_set.now t)) (texts names.now)) }
     ensures empty { names.now ≡ [] → IsOk result }
 {
-    let mut lacked = Vec::new(alloc);
+    let mut missing_names = Vec::new(alloc);
     for name in names {
-        if !has_name(others, later, name) {
-            lacked.push(*name)?;
+        if !has_name(others, later_set, name) {
+            missing_names.push(*name)?;
         }
     }
-    Ok(lacked)
+    Ok(missing_names)
 }
 
 /// Returns the names of a list that are not in a set, each once, in the order of their first
@@ -140,12 +142,12 @@ pub fn unused_names<'a>(
         → AreFirsts (texts names.now) ys (texts v.items)) }
     ensures empty { names.now ≡ [] → IsOk result }
 {
-    let mut unused = no_names(alloc);
+    let mut unused_set = no_names(alloc);
     for name in names {
-        if !has_name(&uses.list, &uses.later, name) {
-            insert_name(&mut unused, name)?;
+        if !has_name(&uses.list, &uses.later_set, name) {
+            insert_name(&mut unused_set, name)?;
         }
     }
-    let Names { list, later: _ } = unused;
+    let Names { list, later_set: _ } = unused_set;
     Ok(list)
 }

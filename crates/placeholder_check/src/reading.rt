@@ -3,7 +3,7 @@
 ghost use Rattle.std.specs.Prelude.{◌≡◌, ◌+◌, ◌<◌, ◌^◌, ◌↔◌, [], IfOk, IsOk, chars, length, map};
 ghost use Rattle.rustc_parse_format.specs.Call.{pieces_of};
 ghost use Rattle.rustc_parse_format.specs.Grammar.{IsInGrammar};
-ghost use Rattle.rustc_parse_format.specs.Seen.{seen, seen_mode, seen_snippet};
+ghost use Rattle.rustc_parse_format.specs.Seen.{seen_piece, seen_mode, seen_snippet};
 ghost use Rattle.rustc_parse_format.specs.Source.{HasSource};
 ghost use Rattle.rustc_parse_format.specs.State.{after_all, calls, first_state};
 ghost use Rattle.rustc_parse_format.specs.Types.{DiagnosticNamed};
@@ -57,9 +57,9 @@ pub fn read_and_check<'a>(
     ensures walk { IfOk result (λ x.
         let s = first_state (seen_mode mode) (chars input.now) style
         (seen_snippet snippet) appended_newline in
-        (map seen x.pieces.items ≡ pieces_in s.world (pieces_of (calls s)))
+        (map seen_piece x.pieces.items ≡ pieces_in s.world (pieces_of (calls s)))
         × (x.parser ≡ after_all s (calls s))) }
-    ensures report { IfOk result (λ x. IsReport (uses (map seen x.pieces.items)) positional
+    ensures report { IfOk result (λ x. IsReport (uses (map seen_piece x.pieces.items)) positional
         (texts names.now) (seen_report x.report)) }
 
     // The parser has no error exactly if the input is in the grammar, and then the report is on its

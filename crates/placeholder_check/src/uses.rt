@@ -1,7 +1,8 @@
 //! The arguments that pieces use.
 
 ghost use Rattle.std.specs.Prelude.{[], ◌≡◌, ◌∷◌, IfOk, IsOk, OnOk, chars, map};
-ghost use Rattle.rustc_parse_format.specs.Seen.{seen, seen_argument, seen_count, seen_position};
+ghost use Rattle.rustc_parse_format.specs.Seen.{seen_piece, seen_argument, seen_count};
+ghost use Rattle.rustc_parse_format.specs.Seen.{seen_position};
 ghost use Rattle.placeholder_check.specs.Uses.{ByIndex, ByName, argument_uses, count_uses};
 ghost use Rattle.placeholder_check.specs.Uses.{piece_uses, position_use, uses};
 ghost use Rattle.placeholder_check.specs.Noted.{Adds, Holds, IsNew};
@@ -101,7 +102,7 @@ fn add_argument<'a>(uses: &mut Uses<'a>, argument: &Argument<'a>) -> Result<(), 
 
 /// Adds the arguments that a piece uses. Returns `Err` if an allocation fails.
 fn add_piece<'a>(uses: &mut Uses<'a>, piece: &Piece<'a>) -> Result<(), AllocError>
-    ensures { OnOk result (Adds (piece_uses (seen piece.now)) uses.old uses.new) }
+    ensures { OnOk result (Adds (piece_uses (seen_piece piece.now)) uses.old uses.new) }
 {
     match piece {
         Piece::Lit(_) => Ok(()),
@@ -111,7 +112,7 @@ fn add_piece<'a>(uses: &mut Uses<'a>, piece: &Piece<'a>) -> Result<(), AllocErro
 
 /// Returns the arguments that pieces use. Returns `Err` if an allocation fails.
 pub fn uses_of<'a>(alloc: Global, pieces: &[Piece<'a>]) -> Result<Uses<'a>, AllocError>
-    ensures uses { IfOk result (λ u. Holds (uses (map seen pieces.now)) u) }
+    ensures uses { IfOk result (λ u. Holds (uses (map seen_piece pieces.now)) u) }
     ensures empty { pieces.now ≡ [] → IfOk result (λ u. IsNew u) × IsOk result }
 {
     let mut uses = Uses::new(alloc);

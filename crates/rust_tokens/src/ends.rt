@@ -45,20 +45,20 @@ pub fn after_comment(text: &str) -> Option<&str>
     ensures { option_map (λ r. chars r.now) result ≡ after_comment 0 0 (chars text.now) }
 {
     let mut rest = text.as_bytes();
-    let mut above: usize = 0;
-    let mut before = 0;
+    let mut depth: usize = 0;
+    let mut previous = 0;
     while let Some((byte, more)) = rest.split_first() {
-        if before == b'/' && *byte == b'*' {
-            above += 1;
-            before = 0;
-        } else if before == b'*' && *byte == b'/' {
-            if above == 0 {
+        if previous == b'/' && *byte == b'*' {
+            depth += 1;
+            previous = 0;
+        } else if previous == b'*' && *byte == b'/' {
+            if depth == 0 {
                 return Some(rest_of(text, more));
             }
-            above -= 1;
-            before = 0;
+            depth -= 1;
+            previous = 0;
         } else {
-            before = *byte;
+            previous = *byte;
         }
         rest = more;
     }

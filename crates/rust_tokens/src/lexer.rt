@@ -202,9 +202,9 @@ pub fn tokens(alloc: Global, text: &str) -> Result<Vec<Token>, AllocError>
         × (v.items ≡ placed 0 xs)) }
     ensures covers { IfOk result (λ v. Covers 0 v.items (length text.now)) }
 {
-    let unmarked = after_mark(text);
-    let mark_end = text.len() - unmarked.len();
-    let mut rest = after_shebang(unmarked);
+    let unmarked_text = after_mark(text);
+    let mark_end = text.len() - unmarked_text.len();
+    let mut rest = after_shebang(unmarked_text);
     let mut list = Vec::new(alloc);
     add_unless_empty(&mut list, Kind::ByteOrderMark, 0, mark_end)?;
     add_unless_empty(&mut list, Kind::Shebang, mark_end, text.len() - rest.len())?;

@@ -6,7 +6,9 @@ use Rattle.std.specs.List.{list_all}
 use Rattle.std.proofs.lemmas.Bool.{and_parts}
 use Rattle.std.proofs.lemmas.List.{append_assoc, append-nil}
 use Rattle.rust_trees.specs.declared.balance.FileBreak.{FileBreak}
-use Rattle.rust_trees.specs.declared.balance.BreakKind.TheVariants.{Unclosed, Unexpected, Unended}
+use Rattle.rust_trees.specs.declared.balance.BreakKind.TheVariants.{UnclosedDelimiter}
+use Rattle.rust_trees.specs.declared.balance.BreakKind.TheVariants.{UnexpectedDelimiter}
+use Rattle.rust_trees.specs.declared.balance.BreakKind.TheVariants.{UnterminatedToken}
 use Rattle.rust_trees.specs.declared.matching.Opening.{Opening}
 use Rattle.rust_trees.specs.declared.sides.Delimiter.{Delimiter}
 use Rattle.rust_trees.specs.declared.sides.Side.TheVariants.{Opens, Closes, Neither}
@@ -43,7 +45,8 @@ known-first_break w x os (Some b) e h = λ ys.
     subst (λ t. BreaksIn t b.kind b.start) (sym (append_assoc w (x ∷ []) ys)) (h (x ∷ ys))
 
 pub known-unended : (w : List Leaf) (x : Leaf) (os : List Opening) → GoesOn w os
-    → x.is_ended ≡ false → (ys : List Leaf) → BreaksIn ((w ++ x ∷ []) ++ ys) Unended x.start
+    → x.is_ended ≡ false → (ys : List Leaf)
+    → BreaksIn ((w ++ x ∷ []) ++ ys) UnterminatedToken x.start
 known-unended w x os g e ys = record {
   before = w;
   token = x;
@@ -57,7 +60,7 @@ known-unended w x os g e ys = record {
 
 pub known-unexpected : (w : List Leaf) (x : Leaf) (os : List Opening) (d : Delimiter)
     → GoesOn w os → side x ≡ Closes d → Mismatches (reverse os) d
-    → (ys : List Leaf) → BreaksIn ((w ++ x ∷ []) ++ ys) Unexpected x.start
+    → (ys : List Leaf) → BreaksIn ((w ++ x ∷ []) ++ ys) UnexpectedDelimiter x.start
 known-unexpected w x os d g s m ys = record {
   before = w;
   closing = x;
@@ -153,7 +156,7 @@ all-known w os None e h = absurd cc
 all-known w os (Some b) e h = subst (λ t. BreaksIn t b.kind b.start) (append-nil w) (h [])
 
 pub all-unclosed : (w : List Leaf) (os ns : List Opening) (o : Opening) → GoesOn w os
-    → os ≡ ns ++ o ∷ [] → BreaksIn w Unclosed o.position
+    → os ≡ ns ++ o ∷ [] → BreaksIn w UnclosedDelimiter o.position
 all-unclosed w os ns o g f =
     let r : reverse os ≡ o ∷ reverse ns = ap (λ t. reverse t) f ∙ reverse-last ns o in
     let l : AreOpen (o ∷ reverse ns) w = subst (λ t. AreOpen t w) r g.are_open in record {

@@ -109,7 +109,7 @@ reverse-last os o = reverse-append os (o ∷ [])
 -- A token that is no delimiter.
 pub matched-token : (w : List Leaf) (x : Leaf) (m n : Matching) → side x ≡ Neither → IsMatched w m
     → n.partners.items ≡ m.partners.items ++ None ∷ []
-    → n.openings.items ≡ m.openings.items → n.unexpected ≡ m.unexpected
+    → n.openings.items ≡ m.openings.items → n.unexpected_index ≡ m.unexpected_index
     → IsMatched (w ++ x ∷ []) n
 matched-token w x m n s h e f g = record {
   counted = counted-more w x m.partners.items n.partners.items None h.counted e;
@@ -118,7 +118,8 @@ matched-token w x m n s h e f g = record {
       (λ i j p. no-close-neither p.pairs.0 (sym p.pairs.2 ∙ s)) h.is_complete);
   has_open = rw (f, g) (record {
     alive = alive-token (reverse m.openings.items) w x s h.has_open.alive;
-    is_first = first-more w x (reverse m.openings.items) (reverse m.openings.items) m.unexpected
+    is_first = first-more w x (reverse m.openings.items) (reverse m.openings.items)
+        m.unexpected_index
         h.has_open.is_first
         (ap (λ t. open_after t (Some (kinds (reverse m.openings.items)))) s);
   });
@@ -128,7 +129,7 @@ matched-token w x m n s h e f g = record {
 pub matched-open : (w : List Leaf) (x : Leaf) (m n : Matching) (o : Opening)
     → side x ≡ Opens o.delimiter → IsMatched w m → o.position ≡ length m.partners.items
     → n.partners.items ≡ m.partners.items ++ None ∷ []
-    → n.openings.items ≡ m.openings.items ++ o ∷ [] → n.unexpected ≡ m.unexpected
+    → n.openings.items ≡ m.openings.items ++ o ∷ [] → n.unexpected_index ≡ m.unexpected_index
     → IsMatched (w ++ x ∷ []) n
 matched-open w x m n o s h a e f g =
     let r : reverse n.openings.items ≡ o ∷ reverse m.openings.items =
@@ -140,10 +141,10 @@ matched-open w x m n o s h a e f g =
       has_open = record {
         alive = subst (λ t. Alive t (w ++ x ∷ [])) (sym r)
             (alive-open (reverse m.openings.items) o w x s (a ∙ h.counted) h.has_open.alive);
-        is_first = subst (λ t. IsFirst (w ++ x ∷ []) t n.unexpected) (sym r)
+        is_first = subst (λ t. IsFirst (w ++ x ∷ []) t n.unexpected_index) (sym r)
             (subst (λ t. IsFirst (w ++ x ∷ []) (o ∷ reverse m.openings.items) t) (sym g)
             (first-more w x (reverse m.openings.items) (o ∷ reverse m.openings.items)
-            m.unexpected h.has_open.is_first
+            m.unexpected_index h.has_open.is_first
             (ap (λ t. open_after t (Some (kinds (reverse m.openings.items)))) s)));
       };
     }
@@ -152,7 +153,7 @@ matched-open w x m n o s h a e f g =
 pub matched-close : (w : List Leaf) (x : Leaf) (m n : Matching) (os : List Opening) (o : Opening)
     → side x ≡ Closes o.delimiter → IsMatched w m → m.openings.items ≡ os ++ o ∷ []
     → n.partners.items ≡ with_pair m.partners.items o.position (length m.partners.items)
-    → n.openings.items ≡ os → n.unexpected ≡ m.unexpected → IsMatched (w ++ x ∷ []) n
+    → n.openings.items ≡ os → n.unexpected_index ≡ m.unexpected_index → IsMatched (w ++ x ∷ []) n
 matched-close w x m n os o s h b e f g =
     let r : reverse m.openings.items ≡ o ∷ reverse os =
     ap (λ t. reverse t) b ∙ reverse-last os o in
@@ -167,7 +168,7 @@ matched-close w x m n os o s h b e f g =
           (length m.partners.items) s l refl (sym h.counted) h.is_complete);
       has_open = rw (f, g) (record {
         alive = alive-close (reverse os) o w x s l;
-        is_first = first-more w x (reverse m.openings.items) (reverse os) m.unexpected
+        is_first = first-more w x (reverse m.openings.items) (reverse os) m.unexpected_index
             h.has_open.is_first (ap (λ t. open_after (side x) (Some (kinds t))) r
             ∙ closes-top (side x) o.delimiter (kinds (reverse os)) s);
       });
@@ -182,7 +183,7 @@ breaks-after (o ∷ os) x d s m = breaks-top (side x) o.delimiter d (kinds os) s
 pub matched-break : (w : List Leaf) (x : Leaf) (m n : Matching) (d : Delimiter)
     → side x ≡ Closes d → IsMatched w m → Mismatches (reverse m.openings.items) d
     → n.partners.items ≡ m.partners.items ++ None ∷ [] → n.openings.items ≡ []
-    → n.unexpected ≡ option_or m.unexpected (Some (length m.partners.items))
+    → n.unexpected_index ≡ option_or m.unexpected_index (Some (length m.partners.items))
     → IsMatched (w ++ x ∷ []) n
 matched-break w x m n d s h z e f g = record {
   counted = counted-more w x m.partners.items n.partners.items None h.counted e;
@@ -191,7 +192,7 @@ matched-break w x m n d s h z e f g = record {
       (ends-none (reverse m.openings.items) w x d s z h.has_open.alive) h.is_complete);
   has_open = rw (f, g, h.counted) (record {
     alive = alive-break (reverse m.openings.items) w x d s z h.has_open.alive;
-    is_first = first-break w x (reverse m.openings.items) [] m.unexpected h.has_open.is_first
+    is_first = first-break w x (reverse m.openings.items) [] m.unexpected_index h.has_open.is_first
         (breaks-after (reverse m.openings.items) x d s z);
   });
 }
@@ -207,7 +208,7 @@ mismatch-none os d e = subst (λ t. Mismatches (reverse t) d) (sym e) tt
 
 -- Before the first token.
 pub matched-nothing : (m : Matching) → m.partners.items ≡ [] → m.openings.items ≡ []
-    → m.unexpected ≡ None → IsMatched [] m
+    → m.unexpected_index ≡ None → IsMatched [] m
 matched-nothing m e f g = record {
   counted = ap (λ t. length t) e;
   is_sound = rw e (λ i j h. absurd (none-some j (sym (nothing i) ∙ h)));

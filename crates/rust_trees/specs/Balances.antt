@@ -4,7 +4,9 @@ use Rattle.std.specs.Prelude.{reverse, slice_get}
 use Rattle.std.specs.List.{list_all}
 use Rattle.rust_trees.specs.declared.balance.FileBreak.{FileBreak}
 use Rattle.rust_trees.specs.declared.balance.BreakKind.{BreakKind}
-use Rattle.rust_trees.specs.declared.balance.BreakKind.TheVariants.{Unclosed, Unexpected, Unended}
+use Rattle.rust_trees.specs.declared.balance.BreakKind.TheVariants.{UnclosedDelimiter}
+use Rattle.rust_trees.specs.declared.balance.BreakKind.TheVariants.{UnexpectedDelimiter}
+use Rattle.rust_trees.specs.declared.balance.BreakKind.TheVariants.{UnterminatedToken}
 use Rattle.rust_trees.specs.declared.balance.Balance.{Balance}
 use Rattle.rust_trees.specs.declared.matching.Opening.{Opening}
 use Rattle.rust_trees.specs.declared.sides.Delimiter.{Delimiter}
@@ -57,9 +59,9 @@ pub record IsUnclosedAt (xs : List Leaf) (start : ℕ) : Type 0 where
   pub place : start ≡ opening.start
 
 abbrev pub BreaksIn : List Leaf → BreakKind → ℕ → Type 0
-BreaksIn xs Unclosed n = IsUnclosedAt xs n
-BreaksIn xs Unexpected n = IsUnexpectedAt xs n
-BreaksIn xs Unended n = IsUnended xs n
+BreaksIn xs UnclosedDelimiter n = IsUnclosedAt xs n
+BreaksIn xs UnexpectedDelimiter n = IsUnexpectedAt xs n
+BreaksIn xs UnterminatedToken n = IsUnended xs n
 
 -- The tokens of a file break there; or they are a forest, and have their ends.
 abbrev pub BreaksAt : List Leaf → Option FileBreak → Type 0

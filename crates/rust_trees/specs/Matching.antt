@@ -50,4 +50,4 @@ pub record IsMatched (w : List Leaf) (m : Matching) : Type 0 where
   pub counted : length m.partners.items ≡ length w
   pub is_sound : IsSound w m.partners.items
   pub is_complete : IsComplete w m.partners.items
-  pub has_open : HasOpen w m.openings.items m.unexpected
+  pub has_open : HasOpen w m.openings.items m.unexpected_index

@@ -14,11 +14,11 @@ use std::alloc::{AllocError, Global};
 #[derive(Clone, Copy)]
 pub enum BreakKind {
     /// A delimiter is not closed: the last of these.
-    Unclosed,
+    UnclosedDelimiter,
     /// A closing delimiter stands where nothing is to be closed, or another kind of delimiter.
-    Unexpected,
+    UnexpectedDelimiter,
     /// A token lacks its end.
-    Unended,
+    UnterminatedToken,
 }
 
 /// Where tokens break.
@@ -62,7 +62,7 @@ impl Balance {
             }
         }
         self.first_break = Some(FileBreak {
-            kind: BreakKind::Unexpected,
+            kind: BreakKind::UnexpectedDelimiter,
             start,
         });
     }
@@ -77,7 +77,7 @@ impl Balance {
         }
         if !token.is_ended {
             self.first_break = Some(FileBreak {
-                kind: BreakKind::Unended,
+                kind: BreakKind::UnterminatedToken,
                 start: token.start,
             });
             return Ok(());
@@ -113,7 +113,7 @@ impl Balance {
         }
         match self.openings.pop() {
             Some(opening) => Some(FileBreak {
-                kind: BreakKind::Unclosed,
+                kind: BreakKind::UnclosedDelimiter,
                 start: opening.position,
             }),
             None => None,

@@ -35,7 +35,7 @@ pub struct Matching {
     /// The delimiters that may still be closed.
     pub openings: Vec<Opening>,
     /// The first closing delimiter that nothing allows.
-    pub unexpected: Option<usize>,
+    pub unexpected_index: Option<usize>,
 }
 
 /// Adds a closing delimiter. Returns `Err` if an allocation fails.
@@ -53,7 +53,7 @@ fn close(matching: &mut Matching, delimiter: Delimiter) -> Result<(), AllocError
         }
     }
     matching.openings.clear();
-    matching.unexpected = matching.unexpected.or(Some(index));
+    matching.unexpected_index = matching.unexpected_index.or(Some(index));
     matching.partners.push(None)?;
     Ok(())
 }
@@ -93,7 +93,7 @@ pub fn match_delimiters(alloc: Global, tokens: &[Token<'_>]) -> Result<Matching,
     let mut matching = Matching {
         partners: Vec::new(alloc),
         openings: Vec::new(alloc),
-        unexpected: None,
+        unexpected_index: None,
     };
     for token in tokens {
         add(&mut matching, token)?;
@@ -102,10 +102,13 @@ pub fn match_delimiters(alloc: Global, tokens: &[Token<'_>]) -> Result<Matching,
 }
 
 /// Returns where the tokens break, or `None` if they are a forest.
-pub fn break_of(unexpected: Option<usize>, mut openings: Vec<Opening>) -> Option<DelimiterBreak>
-    ensures { (w : List Leaf) → HasOpen w openings.items unexpected → Breaks w result }
+pub fn break_of(
+    unexpected_index: Option<usize>,
+    mut openings: Vec<Opening>,
+) -> Option<DelimiterBreak>
+    ensures { (w : List Leaf) → HasOpen w openings.items unexpected_index → Breaks w result }
 {
-    match unexpected {
+    match unexpected_index {
         Some(index) => Some(DelimiterBreak::Unexpected(index)),
         None => match openings.pop() {
             Some(opening) => Some(DelimiterBreak::Unclosed(opening.position)),

@@ -61,13 +61,13 @@ pub fn place_after(place: Place, front: &str, back: &str) -> Place
     requires column { place.column + length front.now < 2 ^ 64 }
     ensures { result ≡ place_after place (chars front.now) (chars back.now) }
 {
-    let mut reached = place;
+    let mut current_place = place;
     let mut rest = front;
     while let Some((c, more)) = split_first(rest) {
-        reached = after_char(reached, c, is_lf_next(more, back));
+        current_place = after_char(current_place, c, is_lf_next(more, back));
         rest = more;
     }
-    reached
+    current_place
 }
 
 /// Returns the text without the byte order mark at its start.
@@ -101,14 +101,14 @@ pub struct KnownPlace {
 }
 
 /// Returns the place of a byte offset, from the last place before it of those that are known.
-fn place_from(text: &str, known: &[KnownPlace], offset: usize) -> Place
-    requires known { All (IsKnown text.now) known.now }
+fn place_from(text: &str, known_places: &[KnownPlace], offset: usize) -> Place
+    requires known_places { All (IsKnown text.now) known_places.now }
     requires boundary { IsCharBoundary text.now offset }
     ensures { result ≡ place_of text.now offset }
 {
-    let count = known.len().min(offset / STEP);
+    let count = known_places.len().min(offset / STEP);
     if count > 0 {
-        let last = known[count - 1];
+        let last = known_places[count - 1];
         if last.offset <= offset {
             return place_after(last.place, &text[last.offset..offset], &text[offset..]);
         }
@@ -118,16 +118,20 @@ fn place_from(text: &str, known: &[KnownPlace], offset: usize) -> Place
 
 /// Adds a byte offset with its place to those that are known, unless it is 0. Returns `Err` if an
 /// allocation fails.
-fn add_known(known: &mut Vec<KnownPlace>, text: &str, offset: usize) -> Result<(), AllocError>
-    requires known { All (IsKnown text.now) known.old.items }
+fn add_known(
+    known_places: &mut Vec<KnownPlace>,
+    text: &str,
+    offset: usize,
+) -> Result<(), AllocError>
+    requires known_places { All (IsKnown text.now) known_places.old.items }
     requires boundary { IsCharBoundary text.now offset }
-    ensures { All (IsKnown text.now) known.new.items }
+    ensures { All (IsKnown text.now) known_places.new.items }
 {
     if offset == 0 {
         return Ok(());
     }
-    let place = place_from(text, known, offset);
-    known.push(KnownPlace { offset, place })?;
+    let place = place_from(text, known_places, offset);
+    known_places.push(KnownPlace { offset, place })?;
     Ok(())
 }
 

@@ -37,7 +37,7 @@ fn source_of<'a>(tokens: Vec<Token<'a>>, matching: Matching) -> Source<'a>
     requires { IsMatched (map leaf tokens.items) matching }
     ensures { result ≡ map leaf tokens.entry.items }
 {
-    let first_break = break_of(matching.unexpected, matching.openings);
+    let first_break = break_of(matching.unexpected_index, matching.openings);
     Source {
         tokens,
         partners: matching.partners,

@@ -7,7 +7,7 @@ use Rattle.std.specs.Prelude.{Option, Some, None}
 use Rattle.rustc_parse_format.specs.Characters.{Text, is_brace, is_no_brace, front, rest_after}
 use Rattle.rustc_parse_format.specs.Characters.{after_white, first, after_first, begins_with}
 use Rattle.rustc_parse_format.specs.Types.{Mode, Spec, Piece, Lit, NextArgument}
-use Rattle.rustc_parse_format.specs.Marks.{Span, up_to, through, over_first, run_texts}
+use Rattle.rustc_parse_format.specs.Marks.{Span, up_to, span_through, over_first, run_texts}
 use Rattle.rustc_parse_format.specs.Placeholder.{cut, Cut}
 use Rattle.rustc_parse_format.specs.Values.{number_after_field}
 use Rattle.rustc_parse_format.specs.Meaning.{argument, spec_texts}
@@ -58,7 +58,7 @@ closed_call mode c opening a r = record {
   next = number_after_field c a.field;
   texts = spec_texts a.field.spec a.rest;
   tries = spec_tries a.field.spec a.rest;
-  closes = Some (through opening r);
+  closes = Some (span_through opening r);
 }
 
 -- A call that reads the placeholder at `opening`, where r does not begin with its closing brace.

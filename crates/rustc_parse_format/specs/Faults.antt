@@ -6,7 +6,7 @@ use Rattle.std.specs.Prelude.{◌≡◌, ℕ, Bool, true, false, ◌++◌, ◌==
 use Rattle.std.specs.Prelude.{Option, Some, None, option_map, codes, encode_utf8}
 use Rattle.std.specs.Prelude.{encode_utf8_all}
 use Rattle.rustc_parse_format.specs.Characters.{Text}
-use Rattle.rustc_parse_format.specs.Written.{written}
+use Rattle.rustc_parse_format.specs.Written.{written_character}
 
 pub data Fault (Span : Type 0) : Type 0 where
   -- A closing brace that closes nothing.
@@ -147,9 +147,9 @@ abbrev pub bare_message : {A : Type 0} → Message A → Message (Unit {0})
 bare_message m = map_message (λ s. tt) m
 
 -- The text for a missing closing brace, by the character that is found instead.
-abbrev pub expected : Option ℕ → List ℕ
-expected None = codes "expected `}` but string was terminated"
-expected (Some c) = codes "expected `}`, found `" ++ written c ++ codes "`"
+abbrev pub expected_brace : Option ℕ → List ℕ
+expected_brace None = codes "expected `}` but string was terminated"
+expected_brace (Some c) = codes "expected `}`, found `" ++ written_character c ++ codes "`"
 
 -- The text for digits whose number is above 65535.
 abbrev pub out_of_range : Text → List ℕ
@@ -178,12 +178,12 @@ error description note label span second =
     }
 
 -- The error with this suggestion.
-abbrev pub suggesting : {A : Type 0} → Suggestion A → Message A → Message A
-suggesting g m = record m { suggestion = g }
+abbrev pub with_suggestion : {A : Type 0} → Suggestion A → Message A → Message A
+with_suggestion g m = record m { suggestion = g }
 
 -- The error of a field after a dot.
 abbrev pub local_variable : {A : Type 0} → List ℕ → A → Message A
-local_variable description s = suggesting UsePositional (error
+local_variable description s = with_suggestion UsePositional (error
     description
     (Some (codes
     "consider moving this expression to a local variable and then using the local here instead"))
@@ -198,12 +198,12 @@ message (UnmatchedBrace s) = error
     (codes "unmatched `}`") s
     None
 message (MissingBrace c s o) = error
-    (expected c)
+    (expected_brace c)
     (Some (codes "if you intended to print `{`, you can escape it using `{{`"))
     (codes "expected `}`") s
     (Some (codes "because of this opening brace", o))
 message (FillBrace c s o) = error
-    (expected c)
+    (expected_brace c)
     (Some (codes
     "the character `}` is interpreted as a fill character because of the `:` that precedes it"))
     (codes "expected `}`") s
@@ -228,19 +228,20 @@ message (TextAfterColon s) = error
     None
     (codes "remove this text") s
     None
-message (RawIdentifier s p) = suggesting (RemoveRawIdent p) (error
+message (RawIdentifier s p) = with_suggestion (RemoveRawIdent p) (error
     (codes "raw identifiers are not supported")
     (Some (codes
     "identifiers in format strings can be keywords and don't need to be prefixed with `r#`"))
     (codes "raw identifier used here") s
     None)
-message (LateFlag c s b) = suggesting (ReorderFormatParameter b (encode_utf8_all (c ∷ codes "?")))
+message (LateFlag c s b) = with_suggestion
+    (ReorderFormatParameter b (encode_utf8_all (c ∷ codes "?")))
     (error
-    (expected (Some c))
+    (expected_brace (Some c))
     None
     (codes "expected `'}'`") s
     None)
-message (MissingColon s) = suggesting (AddMissingColon s) (error
+message (MissingColon s) = with_suggestion (AddMissingColon s) (error
     (codes "expected `}`, found `?`")
     (Some (codes "to print `{`, you can escape it using `{{`"))
     (codes "expected `:` before `?` to format with `Debug`") s
@@ -260,7 +261,7 @@ message (Grouping s o) = error
     (Some (codes "to print `{`, you can escape it using `{{`"))
     (codes "expected `}`") s
     (Some (codes "because of this opening brace", o))
-message (DebugPrint s o) = suggesting UseRustDebugPrintingMacro (error
+message (DebugPrint s o) = with_suggestion UseRustDebugPrintingMacro (error
     (codes "python's f-string debug `=` is not supported in rust, use `dbg(x)` instead")
     (Some (codes "to print `{`, you can escape it using `{{`"))
     (codes "expected `}`") s

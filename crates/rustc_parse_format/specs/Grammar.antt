@@ -125,9 +125,9 @@ piece_values c [] = []
 piece_values c (x ∷ xs) = piece_value c x ∷ piece_values (number_after c x) xs
 
 -- The spellings of written pieces, one after the other.
-abbrev pub spelled : Mode → List PieceText → Text
-spelled mode [] = []
-spelled mode (x ∷ xs) = (piece_part mode x).spelling ++ spelled mode xs
+abbrev pub spelled_pieces : Mode → List PieceText → Text
+spelled_pieces mode [] = []
+spelled_pieces mode (x ∷ xs) = (piece_part mode x).spelling ++ spelled_pieces mode xs
 
 -- There are written pieces, each well formed and clean, whose meanings are ps and whose spellings,
 -- one after the other, are the whole text t.
@@ -136,4 +136,4 @@ pub record IsSpelled (mode : Mode) (c : ℕ) (t : Text) (ps : List (Piece (Unit 
   pub formed : AllByRecursion (λ x. IsTrue (piece_part mode x).is_formed
       × IsCleanPiece mode x) texts
   pub means : piece_values c texts ≡ ps
-  pub whole : spelled mode texts ≡ t
+  pub whole : spelled_pieces mode texts ≡ t

@@ -33,7 +33,7 @@ pub mod Lines
 pub mod SeenSource
 pub mod Back
 pub mod Midway
-pub mod Ahead
+pub mod Lookahead
 pub mod ReadBack
 pub mod Reads
 pub mod LiteralReading

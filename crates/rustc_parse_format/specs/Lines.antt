@@ -27,21 +27,21 @@ abbrev pub is_indent : ℕ → PlacedCharacter → Bool
 is_indent start x = is_whitespace x.0 && x.1.0 == start
 
 -- The byte where a line starts after the white space at its start.
-abbrev pub indented : ℕ → List PlacedCharacter → ℕ
-indented start [] = start
-indented start (x ∷ xs) = indented (if is_indent start x then x.1.1 else start) xs
+abbrev pub indented_start : ℕ → List PlacedCharacter → ℕ
+indented_start start [] = start
+indented_start start (x ∷ xs) = indented_start (if is_indent start x then x.1.1 else start) xs
 
 -- The characters xs, which are read from `start` on, are cut at their newlines into these lines,
 -- and `next` is the start of the line after them. A line ends where its newline starts, and the
 -- next line starts where the newline ends.
 abbrev pub IsLines : ℕ → List PlacedCharacter → List Place → ℕ → Type 0
 IsLines start xs [] next = IsTrue (list_all (λ x. not (is_newline x)) xs)
-    × (next ≡ indented start xs)
+    × (next ≡ indented_start start xs)
 IsLines start xs (line ∷ lines) next =
     (front rest_after : List PlacedCharacter) × (newline : PlacedCharacter)
     × (xs ≡ front ++ newline ∷ rest_after)
     × IsTrue (list_all (λ x. not (is_newline x)) front) × IsTrue (is_newline newline)
-    × (line ≡ (indented start front, newline.1.0)) × IsLines newline.1.1 rest_after lines next
+    × (line ≡ (indented_start start front, newline.1.0)) × IsLines newline.1.1 rest_after lines next
 
 -- The start of the next line and the lines, computed from the characters that are read.
 abbrev pub read_lines : ℕ → List PlacedCharacter → ℕ × List Place

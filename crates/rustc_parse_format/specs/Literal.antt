@@ -18,15 +18,15 @@ IsContent t (u ∷ us) = (r : Text) × IsTrue (is_unit u) × IsTrue (may_precede
     × (t ≡ spelling u ++ r) × IsContent r us
 
 -- The units of a content, computed: the unit u before the others.
-abbrev pub more : LiteralUnit → Option (List LiteralUnit) → Option (List LiteralUnit)
-more u None = None
-more u (Some us) = Some (u ∷ us)
+abbrev pub more_units : LiteralUnit → Option (List LiteralUnit) → Option (List LiteralUnit)
+more_units u None = None
+more_units u (Some us) = Some (u ∷ us)
 
 -- The unit at the start, and the units of the rest after it.
 abbrev pub first_and_rest : (Text → Option (List LiteralUnit)) → Option (LiteralUnit × Text)
     → Option (List LiteralUnit)
 first_and_rest rest None = None
-first_and_rest rest (Some x) = more x.0 (rest x.1)
+first_and_rest rest (Some x) = more_units x.0 (rest x.1)
 
 -- The units of a content with at most n of them. None if the text is not such a content.
 abbrev pub units_within : ℕ → Text → Option (List LiteralUnit)

@@ -32,8 +32,8 @@ spelling (Continuation w) = codes "\\\n" ++ w
 
 -- The character that a backslash and this letter stand for: `\n`, `\r`, `\t` and `\0`, and both
 -- quotes and the backslash for themselves. None for any other letter.
-abbrev pub escaped : ℕ → Option ℕ
-escaped l =
+abbrev pub escaped_character : ℕ → Option ℕ
+escaped_character l =
     if l == code "n" then Some (code "\n") else (if l == code "r" then Some (code "\r") else
     (if l == code "t" then Some (code "\t") else (if l == code "0" then Some (code "\0")
     else (if (l == code "'" || l == code "\"") || l == code "\\" then Some l else None))))
@@ -70,7 +70,7 @@ at_most_one (Some c) = c ∷ []
 -- The text that a unit stands for: one character, or none for a continuation.
 abbrev pub value : LiteralUnit → Text
 value (Plain c) = c ∷ []
-value (SimpleEscape l) = at_most_one (escaped l)
+value (SimpleEscape l) = at_most_one (escaped_character l)
 value (ByteEscape h l) = byte_value h l ∷ []
 value (UnicodeEscape w) = unicode_value w ∷ []
 value (Continuation w) = []
@@ -97,7 +97,7 @@ is_unicode w =
 -- The unit is well formed.
 abbrev pub is_unit : LiteralUnit → Bool
 is_unit (Plain c) = is_plain c
-is_unit (SimpleEscape l) = is_some (escaped l)
+is_unit (SimpleEscape l) = is_some (escaped_character l)
 is_unit (ByteEscape h l) = is_octal h && is_hex l
 is_unit (UnicodeEscape w) = is_unicode w
 is_unit (Continuation w) = list_all is_skipped w

@@ -20,12 +20,12 @@ abbrev pub up_to : Text → Text → Span
 up_to t r = record { from = Start (length t); to = Start (length r) }
 
 -- The span from the start of the first character of t to the end of the first character of r.
-abbrev pub through : Text → Text → Span
-through t r = record { from = Start (length t); to = End (length r) }
+abbrev pub span_through : Text → Text → Span
+span_through t r = record { from = Start (length t); to = End (length r) }
 
 -- The span of the first character of t.
 abbrev pub over_first : Text → Span
-over_first t = through t t
+over_first t = span_through t t
 
 -- The characters of a run of text that is followed by r, each with the number of characters that
 -- are left from it on.

@@ -5,7 +5,7 @@ use Rattle.std.specs.Prelude.{ℕ, ◌++◌, List, [], ◌∷◌, Option, Some, 
 use Rattle.rustc_parse_format.specs.Characters.{Text, after_first, number}
 use Rattle.rustc_parse_format.specs.Types.{Count, Is, Name, Param, Star, Implied, Spec, Argument}
 use Rattle.rustc_parse_format.specs.Types.{default_spec}
-use Rattle.rustc_parse_format.specs.Marks.{Span, up_to, through, over_first, run_texts}
+use Rattle.rustc_parse_format.specs.Marks.{Span, up_to, span_through, over_first, run_texts}
 use Rattle.rustc_parse_format.specs.Placeholder.{Cut}
 use Rattle.rustc_parse_format.specs.Syntax.{CountText, NumberCount, IndexCount, NameCount, NoCount}
 use Rattle.rustc_parse_format.specs.Syntax.{WidthText, PaddedWidth, ZeroIndexWidth, PlainWidth}
@@ -39,7 +39,7 @@ width_of t (PlainWidth k) r = count_of t k r
 -- The span of the count in a width that is at t with r after it, without the flag `0`.
 abbrev pub width_span : Text → WidthText → Text → Option Span
 width_span t (PaddedWidth k) r = count_span (after_first t) k r
-width_span t ZeroIndexWidth r = Some (through t (after_first t))
+width_span t ZeroIndexWidth r = Some (span_through t (after_first t))
 width_span t (PlainWidth k) r = count_span t k r
 
 -- The meaning of the precision that is at t with r after it. A star takes the next number, c.

@@ -8,7 +8,7 @@ use Rattle.rustc_parse_format.specs.declared.source.Source.{Source}
 use Rattle.rustc_parse_format.specs.Characters.{Text, front, rest_after, after_first, begins_with}
 use Rattle.rustc_parse_format.specs.Characters.{is_no_brace}
 use Rattle.rustc_parse_format.specs.Back.{Back, IsPaid}
-use Rattle.rustc_parse_format.specs.Marks.{Span, run_texts, through}
+use Rattle.rustc_parse_format.specs.Marks.{Span, run_texts, span_through}
 use Rattle.rustc_parse_format.specs.Faults.{Fault}
 use Rattle.rustc_parse_format.specs.World.{World, Place, StartAfter, faults_in, place_at}
 use Rattle.rustc_parse_format.specs.Call.{Call, unclosed_fault}
@@ -21,18 +21,18 @@ use Rattle.rustc_parse_format.specs.Lines.{lines_in, closed_in, read_lines}
 -- The numbers that a cursor counts: of the characters that it has read, those that it gave back
 -- included, and of the characters that were left when it last went back.
 pub record Passed : Type 0 where
-  pub made : ℕ
-  pub left : ℕ
+  pub pass_count : ℕ
+  pub left_count : ℕ
 
 -- The characters that were given back, where t is left of the input n, by the number of those that
 -- were read again.
 abbrev pub back_at : Text → Text → Passed → Back
-back_at n t p = record { again = (p.made + length t) - length n; left = p.left }
+back_at n t p = record { again = (p.pass_count + length t) - length n; left = p.left_count }
 
 -- The count covers all characters that were read, and those that were given back are bounded as
 -- `IsPaid` says.
 pub record IsCounted (n t : Text) (p : Passed) : Type 0 where
-  pub made : length n ≤ p.made + length t
+  pub made : length n ≤ p.pass_count + length t
   pub paid : IsPaid n t (back_at n t p)
 
 -- The text that a cursor has left to read: a suffix of an input, in the world of its source.
@@ -167,8 +167,8 @@ after_sign s None = s
 after_sign s (Some f) = record s { rest = after_first s.rest; faults = s.faults ++ f ∷ [] }
 
 -- The state after a recovery.
-abbrev pub recovered : Midway → Recovery → Midway
-recovered s k = read_texts (read_tries (read_to s k.rest k.next k.faults) k.tries) k.texts
+abbrev pub recovered_state : Midway → Recovery → Midway
+recovered_state s k = read_texts (read_tries (read_to s k.rest k.next k.faults) k.tries) k.texts
 
 -- The state after the place of the closing brace: after the brace if it is there, or after the
 -- fault and the recovery. The placeholder begins at o and has the argument a.
@@ -177,7 +177,7 @@ after_closing mode o a s =
     if begins_with (code "}") s.rest
     then record s {
       rest = after_first s.rest;
-      closed_place = closed_then s.closed_place (closed_in s.world (Some (through o s.rest)));
+      closed_place = closed_then s.closed_place (closed_in s.world (Some (span_through o s.rest)));
     }
-    else recovered (read_to s s.rest s.next (unclosed_fault o a.format s.rest ∷ []))
+    else recovered_state (read_to s s.rest s.next (unclosed_fault o a.format s.rest ∷ []))
     (recovery mode s.next o a s.rest)

@@ -5,7 +5,7 @@ use Rattle.std.specs.Prelude.{is_some, ℕ, ◌++◌, ◌&&◌, not, ◌||◌, �
 use Rattle.std.specs.Prelude.{[], ◌∷◌, Option, Some, None, codes, bytes_eq}
 use Rattle.rustc_parse_format.specs.Characters.{Text, word, after_word, digits, after_digits}
 use Rattle.rustc_parse_format.specs.Characters.{first, after_first, after_prefix, is_over}
-use Rattle.rustc_parse_format.specs.Marks.{Span, up_to, through, over_first}
+use Rattle.rustc_parse_format.specs.Marks.{Span, up_to, span_through, over_first}
 use Rattle.rustc_parse_format.specs.Placeholder.{Cut}
 use Rattle.rustc_parse_format.specs.Syntax.{PositionText, Digits, Word, RawWord, NoPosition}
 use Rattle.rustc_parse_format.specs.Syntax.{WidthText, PaddedWidth, ZeroIndexWidth, PlainWidth}
@@ -27,13 +27,14 @@ word_faults t = if bytes_eq (word t) (codes "_") then Underscore (up_to t (after
 -- The fault of an integer above 65535 at the start of t. Its span includes the character after the
 -- digits.
 abbrev pub number_faults : Text → List (Fault Span)
-number_faults t = if is_over (digits t) then TooLarge (digits t) (through t (after_digits t)) ∷ []
+number_faults t = if is_over (digits t) then TooLarge (digits t) (span_through t (after_digits t))
+    ∷ []
     else []
 
 -- The faults of a raw identifier at the start of t. The fault of its word comes first.
 abbrev pub raw_faults : Text → List (Fault Span)
 raw_faults t = word_faults (after_prefix t)
-    ++ RawIdentifier (up_to t (after_word (after_prefix t))) (through t (after_first t)) ∷ []
+    ++ RawIdentifier (up_to t (after_word (after_prefix t))) (span_through t (after_first t)) ∷ []
 
 -- The faults of a position at the start of t.
 abbrev pub position_faults : Text → PositionText → List (Fault Span)
@@ -76,7 +77,7 @@ late_flag (Some c) s b = if is_debug_flag c then LateFlag c s b ∷ [] else []
 -- The fault of a flag after the `?` at the start of t.
 abbrev pub flag_faults : Text → List (Fault Span)
 flag_faults t = late_flag (first (after_first t)) (over_first (after_first t))
-    (through t (after_first t))
+    (span_through t (after_first t))
 
 -- The faults of a type at the start of t.
 abbrev pub type_faults : Text → TypeText → List (Fault Span)

@@ -5,8 +5,8 @@ use Rattle.std.specs.declared.alloc.AllocError.{AllocError}
 use Rattle.std.specs.Borrow.{GName}
 use Rattle.rustc_parse_format.specs.declared.pieces.Pieces.{Pieces}
 use Rattle.rustc_parse_format.specs.declared.types.Piece.{Piece as DeclaredPiece}
-use Rattle.rustc_parse_format.specs.Seen.{seen}
-use Rattle.rustc_parse_format.specs.State.{State, IsPutBack, NeedsNoMemory, after, next_call}
+use Rattle.rustc_parse_format.specs.Seen.{seen_piece}
+use Rattle.rustc_parse_format.specs.State.{State, IsPutBack, NeedsNoMemory, state_after, next_call}
 use Rattle.rustc_parse_format.specs.Steps.{AreFew}
 use Rattle.rustc_parse_format.specs.World.{piece_in}
 
@@ -26,10 +26,10 @@ has_ended it = it.has_ended
 -- item. The item is the piece, or None if the call returns no piece, or Err if an allocation fails.
 -- After Err the parser is unchanged. A call that needs no allocation never returns Err.
 abbrev pub IsCall : State → Option (Result DeclaredPiece AllocError) → State → Type 0
-IsCall s (Some (Ok p)) t = (Some (seen p) ≡ option_map (piece_in s.world) (next_call s).piece)
-    × (t ≡ after s (next_call s))
+IsCall s (Some (Ok p)) t = (Some (seen_piece p) ≡ option_map (piece_in s.world) (next_call s).piece)
+    × (t ≡ state_after s (next_call s))
 IsCall s (Some (Err e)) t = (NeedsNoMemory s (next_call s) → ⊥) × IsPutBack s t
-IsCall s None t = ((next_call s).piece ≡ None) × (t ≡ after s (next_call s))
+IsCall s None t = ((next_call s).piece ≡ None) × (t ≡ state_after s (next_call s))
 
 -- The item is a piece. Only after a piece may another item come.
 abbrev pub is_piece : Option (Result DeclaredPiece AllocError) → Bool

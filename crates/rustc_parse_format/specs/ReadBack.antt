@@ -6,7 +6,7 @@ use Rattle.std.specs.Prelude.{List, [], ◌∷◌, length, map, take, drop, Opti
 use Rattle.std.specs.Prelude.{None, ◌⊎◌, true, option_map}
 use Rattle.rustc_parse_format.specs.Characters.{Text, byte_length}
 use Rattle.rustc_parse_format.specs.LiteralUnits.{LiteralUnit, Plain, spelling, value}
-use Rattle.rustc_parse_format.specs.Source.{units_between, unappended}
+use Rattle.rustc_parse_format.specs.Source.{units_between, unappended_input}
 use Rattle.rustc_parse_format.specs.Marks.{Mark, Start, End, Span}
 use Rattle.rustc_parse_format.specs.Types.{Count, Name, Spec, Piece, Lit, NextArgument}
 use Rattle.rustc_parse_format.specs.Faults.{Fault, UnmatchedBrace, MissingBrace, FillBrace}
@@ -27,22 +27,22 @@ use Rattle.rustc_parse_format.specs.State.{State}
 -- the characters of its text.
 abbrev pub source_units : Text → Option ℕ → Text → Bool → List LiteralUnit
 source_units input None snippet appended = units_between snippet
-source_units input (Some n) snippet appended = map Plain (unappended appended input)
+source_units input (Some n) snippet appended = map Plain (unappended_input appended input)
 
 -- The text that the units before the byte s stand for: those that end at s or before. The first
 -- unit starts at the byte `at`.
-abbrev pub before : ℕ → ℕ → List LiteralUnit → Text
-before s at [] = []
-before s at (u ∷ us) =
+abbrev pub text_before : ℕ → ℕ → List LiteralUnit → Text
+text_before s at [] = []
+text_before s at (u ∷ us) =
     (if nat_le (at + byte_length (spelling u)) s then value u else [])
-    ++ before s (at + byte_length (spelling u)) us
+    ++ text_before s (at + byte_length (spelling u)) us
 
 -- The text that the units inside a byte range stand for. The first unit starts at the byte `at`.
-abbrev pub inside : Place → ℕ → List LiteralUnit → Text
-inside p at [] = []
-inside p at (u ∷ us) =
+abbrev pub text_inside : Place → ℕ → List LiteralUnit → Text
+text_inside p at [] = []
+text_inside p at (u ∷ us) =
     (if nat_le p.0 at && nat_le (at + byte_length (spelling u)) p.1 then value u else [])
-    ++ inside p (at + byte_length (spelling u)) us
+    ++ text_inside p (at + byte_length (spelling u)) us
 
 -- The number of characters, of the n of a text, that are before a mark. The end of a character is
 -- after it.
@@ -72,11 +72,11 @@ pub record IsForward (n : ℕ) (s : Span) : Type 0 where
 -- and is left out of both.
 pub record ReadsBack (input : Text) (style : Option ℕ) (snippet : Text) (appended : Bool) (s : Span)
     (p : Place) : Type 0 where
-  pub before : before p.0 (quote_offset style) (source_units input style snippet appended)
-      ≡ take (count_before (length input) s.from) (unappended appended input)
-  pub inside : inside p (quote_offset style) (source_units input style snippet appended)
+  pub before : text_before p.0 (quote_offset style) (source_units input style snippet appended)
+      ≡ take (count_before (length input) s.from) (unappended_input appended input)
+  pub inside : text_inside p (quote_offset style) (source_units input style snippet appended)
       ≡ drop (count_before (length input) s.from)
-      (take (count_before (length input) s.to) (unappended appended input))
+      (take (count_before (length input) s.to) (unappended_input appended input))
 
 -- The place is a byte range inside the snippet that does not run backwards.
 pub record IsInside (snippet : Text) (p : Place) : Type 0 where
@@ -84,9 +84,9 @@ pub record IsInside (snippet : Text) (p : Place) : Type 0 where
   pub within : p.1 ≤ byte_length snippet
 
 -- An optional value as a list.
-abbrev pub optional : {A : Type 0} → Option A → List A
-optional None = []
-optional (Some x) = x ∷ []
+abbrev pub optional_list : {A : Type 0} → Option A → List A
+optional_list None = []
+optional_list (Some x) = x ∷ []
 
 -- The spans in a count.
 abbrev pub spans_of_count : {A : Type 0} → Count A → List A
@@ -95,9 +95,9 @@ spans_of_count k = []
 
 -- The spans in a specification.
 abbrev pub spans_of_spec : {A : Type 0} → Spec A → List A
-spans_of_spec f = optional f.fill_span ++ spans_of_count f.width ++ optional f.width_span
+spans_of_spec f = optional_list f.fill_span ++ spans_of_count f.width ++ optional_list f.width_span
     ++ spans_of_count f.precision
-    ++ optional f.precision_span ++ optional f.ty_span
+    ++ optional_list f.precision_span ++ optional_list f.ty_span
 
 -- The spans in a piece.
 abbrev pub spans_of : {A : Type 0} → Piece A → List A
@@ -133,7 +133,7 @@ piece_spans (Some p) = spans_of p
 -- and of its faults.
 pub record AllSpans (P : Span → Type 0) (k : Call) : Type 0 where
   pub piece : AllByRecursion P (piece_spans k.piece)
-  pub closes : AllByRecursion P (optional k.closes)
+  pub closes : AllByRecursion P (optional_list k.closes)
   pub faults : AllByRecursion (λ f. AllByRecursion P (spans_of_fault f)) k.faults
 
 -- The spans in a suggestion.
@@ -147,7 +147,7 @@ spans_of_suggestion UseRustDebugPrintingMacro = []
 
 -- The spans in an error: its own, that of its second label, and that of its suggestion.
 abbrev pub spans_of_error : {A : Type 0} → Message A → List A
-spans_of_error m = m.span ∷ optional (option_map (λ x. x.1) m.second)
+spans_of_error m = m.span ∷ optional_list (option_map (λ x. x.1) m.second)
     ++ spans_of_suggestion m.suggestion
 
 -- The line is a byte range inside the snippet. With an appended newline it may also be the place of

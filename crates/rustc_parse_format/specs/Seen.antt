@@ -132,9 +132,9 @@ seen_taken a (TextKind t) = Lit (chars t.now)
 seen_taken a ArgumentKind = NextArgument (seen_argument a)
 
 -- A piece as a contract sees it.
-abbrev pub seen : DeclaredPiece → Piece Place
-seen (LitPiece t) = Lit (chars t.now)
-seen (ArgumentPiece b) = NextArgument (seen_argument b.value)
+abbrev pub seen_piece : DeclaredPiece → Piece Place
+seen_piece (LitPiece t) = Lit (chars t.now)
+seen_piece (ArgumentPiece b) = NextArgument (seen_argument b.value)
 
 -- A suggestion as a contract sees it.
 abbrev pub seen_suggestion : DeclaredSuggestion → Suggestion Place

@@ -124,7 +124,7 @@ pub record IsUnescaped (snippet : List ℕ) (at n : ℕ) : Type 0 where
 -- and as many bytes as it says stand for themselves there.
 abbrev pub IsAnchor : List ℕ → World → Anchor → Type 0
 IsAnchor snippet w a = IsHere snippet w (chars a.rest.now) a.offset
-    × IsUnescaped snippet a.offset a.unescaped
+    × IsUnescaped snippet a.offset a.unescaped_len
 
 -- The text `rest` is a suffix of the rest at an anchor in this snippet.
 pub record Leads (snippet : List ℕ) (a : Anchor) (rest : List ℕ) : Type 0 where

@@ -22,24 +22,24 @@ pub record IsPart (t : Text) (p : Part) (r : Text) : Type 0 where
   pub ends : IsTrue (p.may_precede r)
 
 -- The text u, followed by a text that passes the test p.
-abbrev pub before : Text → (Text → Bool) → Part
-before u p = record { spelling = u; is_formed = true; may_precede = p }
+abbrev pub part_before : Text → (Text → Bool) → Part
+part_before u p = record { spelling = u; is_formed = true; may_precede = p }
 
 -- The text u, followed by a text that does not pass the test p.
-abbrev pub unless : Text → (Text → Bool) → Part
-unless u p = before u (λ r. not (p r))
+abbrev pub part_unless : Text → (Text → Bool) → Part
+part_unless u p = part_before u (λ r. not (p r))
 
 -- The text u, followed by anything.
-abbrev pub fixed : Text → Part
-fixed u = before u (λ r. true)
+abbrev pub fixed_part : Text → Part
+fixed_part u = part_before u (λ r. true)
 
 -- A part that is left out, where the text that follows does not pass the test p.
-abbrev pub absent : (Text → Bool) → Part
-absent p = unless [] p
+abbrev pub absent_part : (Text → Bool) → Part
+absent_part p = part_unless [] p
 
 -- A part that is never well formed.
-abbrev pub never : Part
-never = record { spelling = []; is_formed = false; may_precede = λ r. true }
+abbrev pub never_part : Part
+never_part = record { spelling = []; is_formed = false; may_precede = λ r. true }
 
 -- Characters that pass the test p, and all of them: the next character does not pass.
 abbrev pub run : (ℕ → Bool) → Text → Part
@@ -54,8 +54,8 @@ abbrev pub some_run : (ℕ → Bool) → Text → Part
 some_run p u = record (run p u) { is_formed = first_passes p u && list_all p u }
 
 -- A character that passes the test p, written twice.
-abbrev pub doubled : (ℕ → Bool) → ℕ → Part
-doubled p c = record { spelling = c ∷ c ∷ []; is_formed = p c; may_precede = λ r. true }
+abbrev pub doubled_part : (ℕ → Bool) → ℕ → Part
+doubled_part p c = record { spelling = c ∷ c ∷ []; is_formed = p c; may_precede = λ r. true }
 
 -- One or more decimal digits, and all of them.
 abbrev pub integer : Text → Part
@@ -80,7 +80,7 @@ identifier_before p w = record { spelling = w; is_formed = is_word w; may_preced
 
 -- A word, or nothing where no word begins.
 abbrev pub optional_identifier : Text → Part
-optional_identifier [] = absent (first_passes is_id_start)
+optional_identifier [] = absent_part (first_passes is_id_start)
 optional_identifier (c ∷ w) = identifier (c ∷ w)
 
 -- Some prefix of the text, with the rest after it, passes the test p.
@@ -95,7 +95,7 @@ begins_with_part part t = some_front t (λ u r. (part u).is_formed && (part u).m
 
 -- Parts one after the other. Each may be followed by the parts after it and the text after them.
 abbrev pub row : List Part → Part
-row [] = fixed []
+row [] = fixed_part []
 row (p ∷ ps) = record {
   spelling = p.spelling ++ (row ps).spelling;
   is_formed = p.is_formed && (row ps).is_formed;

@@ -4,7 +4,7 @@ use Rattle.std.specs.Prelude.{length, Option, Some, None, option_map}
 use Rattle.rustc_parse_format.specs.Characters.{Text, byte_length, is_nil}
 use Rattle.rustc_parse_format.specs.Back.{Back, nothing_back}
 use Rattle.rustc_parse_format.specs.Tries.{back_after}
-use Rattle.rustc_parse_format.specs.Types.{Mode, Piece, bare}
+use Rattle.rustc_parse_format.specs.Types.{Mode, Piece, bare_piece}
 use Rattle.rustc_parse_format.specs.Faults.{Message, add_errors}
 use Rattle.rustc_parse_format.specs.World.{World, Place, place_at, world, quote_offset, faults_in}
 use Rattle.rustc_parse_format.specs.World.{pieces_in}
@@ -44,8 +44,8 @@ pub record State : Type 0 where
   pub line_spans : List Place
 
 -- A parser at the start of an input, whose first line starts at the byte `start`.
-abbrev pub fresh : Mode → World → Text → ℕ → State
-fresh mode w input start = record {
+abbrev pub fresh_state : Mode → World → Text → ℕ → State
+fresh_state mode w input start = record {
   mode = mode;
   world = w;
   input = input;
@@ -63,7 +63,7 @@ fresh mode w input start = record {
 -- whether a newline was appended to the input.
 abbrev pub first_state : Mode → Text → Option ℕ → Option Text → Bool → State
 first_state mode input style snippet appended =
-    fresh mode (world input style snippet appended) input (quote_offset style)
+    fresh_state mode (world input style snippet appended) input (quote_offset style)
 
 -- The next call.
 abbrev pub next_call : State → Call
@@ -81,8 +81,8 @@ abbrev pub IsPutBack : State → State → Type 0
 IsPutBack s new = new ≡ record s { undo_count = new.undo_count }
 
 -- The state after the call k.
-abbrev pub after : State → Call → State
-after s k =
+abbrev pub state_after : State → Call → State
+state_after s k =
     let lines = lines_in s.world s.line_start k.texts in
     record s {
       rest = k.rest;
@@ -97,19 +97,19 @@ after s k =
 -- The call needs no allocation: it returns text or nothing, finds no fault, and ends no line of a
 -- source literal.
 abbrev pub NeedsNoMemory : State → Call → Type 0
-NeedsNoMemory s k = GivesAtMostText k × ((after s k).line_spans ≡ s.line_spans)
+NeedsNoMemory s k = GivesAtMostText k × ((state_after s k).line_spans ≡ s.line_spans)
 
 -- The call adds nothing to the parser's lists: it finds no fault, closes no placeholder of a source
 -- literal, and ends no line of one.
 abbrev pub AddsNothing : State → Call → Type 0
-AddsNothing s k = (k.faults ≡ []) × ((after s k).arg_places ≡ s.arg_places)
-    × ((after s k).line_spans ≡ s.line_spans)
+AddsNothing s k = (k.faults ≡ []) × ((state_after s k).arg_places ≡ s.arg_places)
+    × ((state_after s k).line_spans ≡ s.line_spans)
 
 -- The call returned the piece q without its spans and found no fault. Then r is left, and n is the
 -- next number.
 pub record GivesPiece (given : Option (Piece Place)) (q : Piece (Unit {0})) (r : Text) (n : ℕ)
     (old new : State) : Type 0 where
-  pub piece : option_map bare given ≡ Some q
+  pub piece : option_map bare_piece given ≡ Some q
   pub rest : new.rest ≡ r
   pub next : new.next ≡ n
   pub errors : new.errors ≡ old.errors
@@ -121,7 +121,7 @@ calls s = walk s.mode s.next s.rest
 -- The state after these calls.
 abbrev pub after_all : State → List Call → State
 after_all s [] = s
-after_all s (k ∷ ks) = after_all (after s k) ks
+after_all s (k ∷ ks) = after_all (state_after s k) ks
 
 -- The characters that these calls read as text, in order.
 abbrev pub texts_of : List Call → List (ℕ × ℕ)

@@ -13,8 +13,9 @@ use Rattle.rustc_parse_format.specs.Types.{Mode, Format, InlineAsm, Diagnostic, 
 use Rattle.rustc_parse_format.specs.Types.{Alignment, Left, Right, Center, Unknown, Sign, Plus}
 use Rattle.rustc_parse_format.specs.Types.{Minus}
 use Rattle.rustc_parse_format.specs.Types.{DebugHex, Lower, Upper}
-use Rattle.rustc_parse_format.specs.Spelling.{Part, IsPart, before, fixed, unless, absent, never}
-use Rattle.rustc_parse_format.specs.Spelling.{run, some_run, doubled, integer, identifier}
+use Rattle.rustc_parse_format.specs.Spelling.{Part, IsPart, part_before, fixed_part, part_unless}
+use Rattle.rustc_parse_format.specs.Spelling.{absent_part, never_part}
+use Rattle.rustc_parse_format.specs.Spelling.{run, some_run, doubled_part, integer, identifier}
 use Rattle.rustc_parse_format.specs.Spelling.{identifier_before, optional_identifier}
 use Rattle.rustc_parse_format.specs.Spelling.{begins_with_part, row}
 
@@ -29,21 +30,22 @@ pub data PositionText : Type 0 where
 -- no word begins.
 abbrev pub position_part : PositionText → Part
 position_part (Digits ds) = integer ds
-position_part (Word w) = row (absent begins_raw ∷ identifier w ∷ [])
-position_part (RawWord w) = row (fixed (codes "r#") ∷ identifier w ∷ [])
-position_part NoPosition = absent (λ t. first_passes is_ascii_digit t || first_passes is_id_start t)
+position_part (Word w) = row (absent_part begins_raw ∷ identifier w ∷ [])
+position_part (RawWord w) = row (fixed_part (codes "r#") ∷ identifier w ∷ [])
+position_part NoPosition = absent_part (λ t. first_passes is_ascii_digit t || first_passes
+    is_id_start t)
 
 -- fill := character, and only where an alignment follows it.
 abbrev pub fill_part : Option ℕ → Part
-fill_part (Some c) = before (c ∷ []) (first_passes is_align)
-fill_part None = absent (λ t. first_passes is_align (after_first t))
+fill_part (Some c) = part_before (c ∷ []) (first_passes is_align)
+fill_part None = absent_part (λ t. first_passes is_align (after_first t))
 
 -- align := '<' | '^' | '>'
 abbrev pub align_part : Alignment → Part
-align_part Left = fixed (codes "<")
-align_part Right = fixed (codes ">")
-align_part Center = fixed (codes "^")
-align_part Unknown = absent (first_passes is_align)
+align_part Left = fixed_part (codes "<")
+align_part Right = fixed_part (codes ">")
+align_part Center = fixed_part (codes "^")
+align_part Unknown = absent_part (first_passes is_align)
 
 -- The character is a sign: `+` or `-`.
 abbrev pub is_sign : ℕ → Bool
@@ -51,14 +53,14 @@ is_sign c = (c == code "+") || (c == code "-")
 
 -- sign := '+' | '-'
 abbrev pub sign_part : Option Sign → Part
-sign_part (Some Plus) = fixed (codes "+")
-sign_part (Some Minus) = fixed (codes "-")
-sign_part None = absent (first_passes is_sign)
+sign_part (Some Plus) = fixed_part (codes "+")
+sign_part (Some Minus) = fixed_part (codes "-")
+sign_part None = absent_part (first_passes is_sign)
 
 -- ['#']
 abbrev pub alternate_part : Bool → Part
-alternate_part true = fixed (codes "#")
-alternate_part false = absent (begins_with (code "#"))
+alternate_part true = fixed_part (codes "#")
+alternate_part false = absent_part (begins_with (code "#"))
 
 pub data CountText : Type 0 where
   -- A number: `10`.
@@ -76,10 +78,11 @@ name_part w = identifier_before (begins_with (code "$")) w
 -- count := integer | parameter, parameter := argument '$'. A count is left out only where neither
 -- digits begin nor a name that is followed by `$`.
 abbrev pub count_part : CountText → Part
-count_part (NumberCount ds) = row (integer ds ∷ absent (begins_with (code "$")) ∷ [])
-count_part (IndexCount ds) = row (integer ds ∷ fixed (codes "$") ∷ [])
-count_part (NameCount w) = row (name_part w ∷ fixed (codes "$") ∷ [])
-count_part NoCount = absent (λ t. first_passes is_ascii_digit t || begins_with_part name_part t)
+count_part (NumberCount ds) = row (integer ds ∷ absent_part (begins_with (code "$")) ∷ [])
+count_part (IndexCount ds) = row (integer ds ∷ fixed_part (codes "$") ∷ [])
+count_part (NameCount w) = row (name_part w ∷ fixed_part (codes "$") ∷ [])
+count_part NoCount = absent_part (λ t. first_passes is_ascii_digit t || begins_with_part name_part
+    t)
 
 pub data WidthText : Type 0 where
   -- The flag `0` and a count.
@@ -91,9 +94,10 @@ pub data WidthText : Type 0 where
 
 -- ['0'] [width], width := count. A `0` at the start is the flag, unless a `$` follows it.
 abbrev pub width_part : WidthText → Part
-width_part (PaddedWidth k) = row (unless (codes "0") (begins_with (code "$")) ∷ count_part k ∷ [])
-width_part ZeroIndexWidth = fixed (codes "0$")
-width_part (PlainWidth k) = row (absent (begins_with (code "0")) ∷ count_part k ∷ [])
+width_part (PaddedWidth k) = row (part_unless (codes "0") (begins_with (code "$")) ∷ count_part k
+    ∷ [])
+width_part ZeroIndexWidth = fixed_part (codes "0$")
+width_part (PlainWidth k) = row (absent_part (begins_with (code "0")) ∷ count_part k ∷ [])
 
 pub data PrecisionText : Type 0 where
   NoPrecision : PrecisionText
@@ -104,10 +108,10 @@ pub data PrecisionText : Type 0 where
 
 -- ['.' precision], precision := count | '*'
 abbrev pub precision_part : PrecisionText → Part
-precision_part NoPrecision = absent (begins_with (code "."))
-precision_part StarPrecision = fixed (codes ".*")
+precision_part NoPrecision = absent_part (begins_with (code "."))
+precision_part StarPrecision = fixed_part (codes ".*")
 precision_part (DotPrecision k) =
-    row (unless (codes ".") (begins_with (code "*")) ∷ count_part k ∷ [])
+    row (part_unless (codes ".") (begins_with (code "*")) ∷ count_part k ∷ [])
 
 pub data TypeText : Type 0 where
   -- `x?` or `X?`
@@ -124,14 +128,15 @@ is_type_character c = (c == code "x") || (c == code "X") || (c == code "?")
 -- type := '' | '?' | 'x?' | 'X?' | identifier. No longer word begins with `x` or `X`: each is a
 -- type by itself, or with the `?` that follows it.
 abbrev pub type_part : TypeText → Part
-type_part (DebugHexType Lower) = fixed (codes "x?")
-type_part (DebugHexType Upper) = fixed (codes "X?")
+type_part (DebugHexType Lower) = fixed_part (codes "x?")
+type_part (DebugHexType Upper) = fixed_part (codes "X?")
 type_part (CharacterType c) = record {
   spelling = c ∷ [];
   is_formed = is_type_character c;
   may_precede = λ t. (c == code "?") || not (begins_with (code "?") t);
 }
-type_part (WordType w) = row (absent (first_passes is_type_character) ∷ optional_identifier w ∷ [])
+type_part (WordType w) = row (absent_part (first_passes is_type_character) ∷ optional_identifier w
+    ∷ [])
 
 -- The parts of a format specification as they are written.
 pub record FormatText : Type 0 where
@@ -162,19 +167,19 @@ pub data SpecText : Type 0 where
 -- [ ':' format_spec ] in the mode Format. In the mode InlineAsm a word or nothing follows the
 -- colon, in the two modes of diagnostics any text without braces.
 abbrev pub spec_part : Mode → SpecText → Part
-spec_part mode Default = absent (begins_with (code ":"))
-spec_part Format (Formatting p) = row (fixed (codes ":") ∷ format_part p ∷ [])
-spec_part Format (Modifier w) = never
-spec_part Format (DiagnosticText u) = never
-spec_part InlineAsm (Formatting p) = never
-spec_part InlineAsm (Modifier w) = row (fixed (codes ":") ∷ optional_identifier w ∷ [])
-spec_part InlineAsm (DiagnosticText u) = never
-spec_part Diagnostic (Formatting p) = never
-spec_part Diagnostic (Modifier w) = never
-spec_part Diagnostic (DiagnosticText u) = row (fixed (codes ":") ∷ run is_no_brace u ∷ [])
-spec_part DiagnosticNamed (Formatting p) = never
-spec_part DiagnosticNamed (Modifier w) = never
-spec_part DiagnosticNamed (DiagnosticText u) = row (fixed (codes ":") ∷ run is_no_brace u ∷ [])
+spec_part mode Default = absent_part (begins_with (code ":"))
+spec_part Format (Formatting p) = row (fixed_part (codes ":") ∷ format_part p ∷ [])
+spec_part Format (Modifier w) = never_part
+spec_part Format (DiagnosticText u) = never_part
+spec_part InlineAsm (Formatting p) = never_part
+spec_part InlineAsm (Modifier w) = row (fixed_part (codes ":") ∷ optional_identifier w ∷ [])
+spec_part InlineAsm (DiagnosticText u) = never_part
+spec_part Diagnostic (Formatting p) = never_part
+spec_part Diagnostic (Modifier w) = never_part
+spec_part Diagnostic (DiagnosticText u) = row (fixed_part (codes ":") ∷ run is_no_brace u ∷ [])
+spec_part DiagnosticNamed (Formatting p) = never_part
+spec_part DiagnosticNamed (Modifier w) = never_part
+spec_part DiagnosticNamed (DiagnosticText u) = row (fixed_part (codes ":") ∷ run is_no_brace u ∷ [])
 
 -- The text between the braces of a placeholder, without the white space before the closing brace.
 pub record FieldText : Type 0 where
@@ -192,7 +197,8 @@ field_part mode a = row (position_part a.position ∷ run is_whitespace a.space
 -- too.
 abbrev pub placeholder_part : Mode → FieldText → Text → Part
 placeholder_part mode a space =
-    row (fixed (codes "{") ∷ field_part mode a ∷ run is_whitespace space ∷ fixed (codes "}") ∷ [])
+    row (fixed_part (codes "{") ∷ field_part mode a ∷ run is_whitespace space
+    ∷ fixed_part (codes "}") ∷ [])
 
 -- A piece of a format string, as it is written.
 pub data PieceText : Type 0 where
@@ -206,12 +212,12 @@ pub data PieceText : Type 0 where
 -- format_string := text [ maybe_format text ] *, maybe_format := '{' '{' | '}' '}' | format
 abbrev pub piece_part : Mode → PieceText → Part
 piece_part mode (RunText u) = some_run is_no_brace u
-piece_part mode (DoubledText b u) = row (doubled is_brace b ∷ run is_no_brace u ∷ [])
+piece_part mode (DoubledText b u) = row (doubled_part is_brace b ∷ run is_no_brace u ∷ [])
 piece_part mode (PlaceholderText a space) = placeholder_part mode a space
 
 -- An opening brace that is not doubled and the field after it, with a closing brace or without.
 abbrev pub opened_part : Mode → FieldText → Part
-opened_part mode a = row (unless (codes "{") (begins_with (code "{")) ∷ field_part mode a ∷ [])
+opened_part mode a = row (part_unless (codes "{") (begins_with (code "{")) ∷ field_part mode a ∷ [])
 
 -- The text t is the field a followed by r.
 abbrev pub IsCut : Mode → Text → FieldText → Text → Type 0

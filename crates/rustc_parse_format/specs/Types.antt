@@ -171,6 +171,6 @@ abbrev pub bare_argument : {A : Type 0} → Argument A → Argument (Unit {0})
 bare_argument a = record { position = a.position; position_span = tt; format = bare_spec a.format }
 
 -- A piece without its spans.
-abbrev pub bare : {A : Type 0} → Piece A → Piece (Unit {0})
-bare (Lit t) = Lit t
-bare (NextArgument a) = NextArgument (bare_argument a)
+abbrev pub bare_piece : {A : Type 0} → Piece A → Piece (Unit {0})
+bare_piece (Lit t) = Lit t
+bare_piece (NextArgument a) = NextArgument (bare_argument a)

@@ -54,8 +54,8 @@ abbrev pub content_places : ℕ → List LiteralUnit → List Place
 content_places at us = map (λ (x : Place × ℕ). x.0) (placed_characters at us)
 
 -- A place moved k bytes towards the end.
-abbrev pub later : ℕ → Place → Place
-later k p = (k + p.0, k + p.1)
+abbrev pub later_place : ℕ → Place → Place
+later_place k p = (k + p.0, k + p.1)
 
 -- The end of the last of these places, or e if there are none.
 abbrev pub last_stop : ℕ → List Place → ℕ

@@ -23,8 +23,8 @@ plainly_written c = if nat_lt c (code " ") || c == code "\u{7f}"
     then codes "\\u{" ++ digits 16 false c ++ codes "}" else encode_utf8 c
 
 -- How a character is written in a message and in a quoted text.
-unfoldable pub written : ℕ → List ℕ
-written c = elim (short_escape c) [ Some s ↦ s | None ↦ plainly_written c ]
+unfoldable pub written_character : ℕ → List ℕ
+written_character c = elim (short_escape c) [ Some s ↦ s | None ↦ plainly_written c ]
 
 -- The character is written as itself: it has no escape of its own and is no control character.
 abbrev pub is_unchanged : ℕ → Bool

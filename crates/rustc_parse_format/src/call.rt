@@ -16,7 +16,7 @@ impl<'input> Reader<'input> {
     ghost use Rattle.rustc_parse_format.specs.Faults.{brace_fill, no_brace};
     ghost use Rattle.rustc_parse_format.specs.Marks.{End, Span, over_first, up_to};
     ghost use Rattle.rustc_parse_format.specs.Reads.{Reaches};
-    ghost use Rattle.rustc_parse_format.specs.Seen.{pair, seen, seen_argument, seen_mode};
+    ghost use Rattle.rustc_parse_format.specs.Seen.{pair, seen_piece, seen_argument, seen_mode};
     ghost use Rattle.rustc_parse_format.specs.Seen.{seen_position, seen_spec, seen_taken};
     ghost use Rattle.rustc_parse_format.specs.Midway.{FindsNothing, after_closing};
     ghost use Rattle.rustc_parse_format.specs.Midway.{opens_placeholder, read_call};
@@ -93,29 +93,29 @@ impl<'input> Reader<'input> {
         self.recover(mode, argument, opening)
     }
 
-    /// Reads a placeholder, with its opening brace, into `into`, whose position is still implicit
-    /// and whose format is the default. Returns `Err` if an allocation fails.
+    /// Reads a placeholder, with its opening brace, into `slot`, whose position is still
+    /// implicit and whose format is the default. Returns `Err` if an allocation fails.
     #[tactic(auto, using(crate::proofs::Readers::Steps::part_le, crate::proofs::Readers::Placeholders::placeholder_given))]
     pub fn placeholder(
         &mut self,
         mode: ParseMode,
-        into: &mut Argument<'input>,
+        slot: &mut Argument<'input>,
     ) -> Result<(), AllocError>
-        requires implicit { seen_position into.old.position ≡ Implicit 0 }
-        requires blank { seen_spec into.old.format ≡ default_spec }
+        requires implicit { seen_position slot.old.position ≡ Implicit 0 }
+        requires blank { seen_spec slot.old.format ≡ default_spec }
         requires opens { opens_placeholder self.old.rest ≡ true }
         requires numbers { self.old.next + length self.old.rest < 2 ^ 64 }
         ensures value { (let k = call (seen_mode mode) self.old.next self.old.rest in
-            OnOk result (Some (NextArgument (seen_argument into.new))
+            OnOk result (Some (NextArgument (seen_argument slot.new))
             ≡ option_map (piece_in self.old.world) k.piece)) }
         ensures reads { let k = call (seen_mode mode) self.old.next self.old.rest in
             Reaches self.old result self.new (read_call self.old k)
             (FindsNothing self.old k.faults k.texts) }
     {
         let opening = self.cursor.consume_place();
-        self.argument(mode, into)?;
+        self.argument(mode, slot)?;
         self.cursor.ws();
-        self.closing_brace(mode, into, opening)?;
+        self.closing_brace(mode, slot, opening)?;
         Ok(())
     }
 
@@ -159,7 +159,7 @@ impl<'input> Reader<'input> {
         mode: ParseMode,
     ) -> Result<Option<Piece<'input>>, AllocError>
         requires numbers { self.old.next + length self.old.rest < 2 ^ 64 }
-        ensures piece { IfOk result (λ p. option_map seen p
+        ensures piece { IfOk result (λ p. option_map seen_piece p
             ≡ option_map (piece_in self.old.world)
             (call (seen_mode mode) self.old.next self.old.rest).piece) }
         ensures reads { let k = call (seen_mode mode) self.old.next self.old.rest in
@@ -178,16 +178,16 @@ impl<'input> Reader<'input> {
         }
     }
 
-    /// Reads the next piece, a placeholder into `into`. Returns `None` at the end of the input and
-    /// after a closing brace that closes nothing. Returns `Err` if an allocation fails.
+    /// Reads the next piece, a placeholder into `argument`. Returns `None` at the end of the input
+    /// and after a closing brace that closes nothing. Returns `Err` if an allocation fails.
     #[inline(always)]
     pub fn piece_into(
         &mut self,
         mode: ParseMode,
-        into: &mut Argument<'input>,
+        argument: &mut Argument<'input>,
     ) -> Result<Option<PieceKind<'input>>, AllocError>
         requires numbers { self.old.next + length self.old.rest < 2 ^ 64 }
-        ensures piece { IfOk result (λ p. option_map (seen_taken into.new) p
+        ensures piece { IfOk result (λ p. option_map (seen_taken argument.new) p
             ≡ option_map (piece_in self.old.world)
             (call (seen_mode mode) self.old.next self.old.rest).piece) }
         ensures reads { let k = call (seen_mode mode) self.old.next self.old.rest in
@@ -195,9 +195,9 @@ impl<'input> Reader<'input> {
             (FindsNothing self.old k.faults k.texts) }
     {
         if self.cursor.opens_placeholder() {
-            into.position = Position::ArgumentImplicitlyIs(0);
-            into.format = default_of_spec();
-            self.placeholder(mode, into)?;
+            argument.position = Position::ArgumentImplicitlyIs(0);
+            argument.format = default_of_spec();
+            self.placeholder(mode, argument)?;
             return Ok(Some(PieceKind::NextArgument));
         }
         let text = self.text()?;

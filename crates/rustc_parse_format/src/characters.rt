@@ -279,7 +279,7 @@ fn split_wide_word(text: &str) -> (&str, &str)
     ensures left { (input : List ℕ) → IsLeft input text.now → IsLeft input result.1.now }
 {
     let rest = after_while(after_first(text), Class::Continue);
-    (before(text, rest), rest)
+    (text_before(text, rest), rest)
 }
 
 /// The number that the ASCII digits at the start of a text write.
@@ -306,9 +306,9 @@ pub fn leading_number(text: &str) -> LeadingNumber<'_>
     let mut is_over = false;
     let mut rest = text;
     while let Some(digit) = first_digit(rest) {
-        let more = with_digit(value, digit);
-        value = more.0;
-        is_over |= more.1;
+        let next_number = with_digit(value, digit);
+        value = next_number.0;
+        is_over |= next_number.1;
         rest = after_first(rest);
     }
     LeadingNumber {
@@ -320,7 +320,7 @@ pub fn leading_number(text: &str) -> LeadingNumber<'_>
 
 /// Returns the part of `text` before its suffix `rest_after`.
 #[inline(always)]
-pub fn before<'a>(text: &'a str, rest_after: &str) -> &'a str
+pub fn text_before<'a>(text: &'a str, rest_after: &str) -> &'a str
     requires { (u : Text) × (chars text.now ≡ u ++ chars rest_after.now) }
     ensures { (u : Text) → chars text.now ≡ u ++ chars rest_after.now → chars result.now ≡ u }
 {

@@ -35,8 +35,8 @@ impl<'input> Reader<'input> {
         ensures reads { ReadsTo self.old result self.new (after_digits self.old.rest) self.old.next
             (number_faults self.old.rest) [] }
     {
-        let (number, over) = self.cursor.number();
-        if let Some((digits, span)) = over {
+        let (number, overflow) = self.cursor.number();
+        if let Some((digits, span)) = overflow {
             self.note(Fault::TooLarge(digits, span))?;
         }
         Ok(number)
@@ -58,17 +58,17 @@ impl<'input> Reader<'input> {
         Ok(word)
     }
 
-    /// Reads a name and the `$` after it into `into`, which is still `CountImplied`. If there is no
+    /// Reads a name and the `$` after it into `slot`, which is still `CountImplied`. If there is no
     /// `$`, goes back to the start of the word, but keeps its fault. Returns `Err` if an allocation
     /// fails.
     #[tactic(auto, using(crate::proofs::Readers::Steps::part_le))]
     #[inline(always)]
-    fn named_count(&mut self, into: &mut Count<'input>) -> Result<(), AllocError>
-        requires blank { seen_count into.old ≡ Implied }
+    fn named_count(&mut self, slot: &mut Count<'input>) -> Result<(), AllocError>
+        requires blank { seen_count slot.old ≡ Implied }
         requires furthest { IsFurthest self.old.rest self.old.back }
         requires word { first_passes is_id_start self.old.rest ≡ true }
         ensures value { (let t = self.old.rest in let k = after_name t (word t) (after_word t) in
-            OnOk result (seen_count into.new
+            OnOk result (seen_count slot.new
             ≡ map_count (place_of self.old.world) (count_of t k.0 k.1))) }
         ensures reads { (let t = self.old.rest in let k = after_name t (word t) (after_word t) in
             ReadsTo self.old result self.new k.1 self.old.next (word_faults t)
@@ -79,22 +79,22 @@ impl<'input> Reader<'input> {
         let name = self.word()?;
         let span = start..self.cursor.start();
         if self.cursor.consume('$') {
-            *into = Count::CountIsName(name, span);
+            *slot = Count::CountIsName(name, span);
             return Ok(());
         }
         self.cursor.rewind(front);
         Ok(())
     }
 
-    /// Reads a count, as in the grammar of `std::fmt`, into `into`, which is still `CountImplied`:
+    /// Reads a count, as in the grammar of `std::fmt`, into `slot`, which is still `CountImplied`:
     /// a number, the index or the name of an argument and a `$`, or nothing. Returns `Err` if an
     /// allocation fails.
     #[tactic(auto, using(crate::proofs::Readers::Steps::part_le, crate::proofs::Readers::TriedParts::tried_parts, crate::proofs::Readers::Parts::read_nothing))]
     #[inline(always)]
-    pub fn count(&mut self, into: &mut Count<'input>) -> Result<(), AllocError>
-        requires blank { seen_count into.old ≡ Implied }
+    pub fn count(&mut self, slot: &mut Count<'input>) -> Result<(), AllocError>
+        requires blank { seen_count slot.old ≡ Implied }
         requires furthest { IsFurthest self.old.rest self.old.back }
-        ensures value { (let k = count self.old.rest in OnOk result (seen_count into.new
+        ensures value { (let k = count self.old.rest in OnOk result (seen_count slot.new
             ≡ map_count (place_of self.old.world) (count_of self.old.rest k.0 k.1))) }
         ensures reads { (let k = count self.old.rest in
             ReadsTo self.old result self.new k.1 self.old.next (argument_faults self.old.rest)
@@ -103,14 +103,14 @@ impl<'input> Reader<'input> {
         if self.cursor.is_digit_next() {
             let number = self.integer()?;
             if self.cursor.consume('$') {
-                *into = Count::CountIsParam(usize::from(number));
+                *slot = Count::CountIsParam(usize::from(number));
                 return Ok(());
             }
-            *into = Count::CountIs(number);
+            *slot = Count::CountIs(number);
             return Ok(());
         }
         if self.cursor.is_word_next() {
-            return self.named_count(into);
+            return self.named_count(slot);
         }
         Ok(())
     }

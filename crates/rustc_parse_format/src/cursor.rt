@@ -2,8 +2,8 @@
 
 mod words;
 
-use crate::parser::ahead::Ahead;
-pub use crate::parser::ahead::Checkpoint;
+pub use crate::parser::lookahead::Checkpoint;
+use crate::parser::lookahead::Lookahead;
 use crate::source::{Anchor, Source, first_anchor};
 use std::marker::Model;
 use std::ops::Range;
@@ -12,7 +12,7 @@ use std::ops::Range;
 #[derive(Drop)]
 pub struct Cursor<'input> {
     source: Source<'input>,
-    ahead: Ahead<'input>,
+    lookahead: Lookahead<'input>,
     anchor: Anchor<'input>,
 }
 
@@ -25,12 +25,13 @@ impl<'input> Model for Cursor<'input> {
 
     // The view shows the number of characters passed plus that of those left, less the length of
     // the input. So a move that is not counted changes the view.
-    ghost view = { λ c. unread_at c.source c.ahead.rest.text.now (back_at
-        (chars c.source.input.now) (chars c.ahead.rest.text.now) c.ahead.tally)
-        c.ahead.undo_count.made };
+    ghost view = { λ c. unread_at c.source c.lookahead.rest.text.now (back_at
+        (chars c.source.input.now) (chars c.lookahead.rest.text.now) c.lookahead.tally)
+        c.lookahead.undo_count.number };
 
-    ghost invariant = { λ c. IsAnchored c.source c.ahead.rest.text.now c.anchor
-        × IsCounted (chars c.source.input.now) (chars c.ahead.rest.text.now) c.ahead.tally };
+    ghost invariant = { λ c. IsAnchored c.source c.lookahead.rest.text.now c.anchor
+        × IsCounted (chars c.source.input.now) (chars c.lookahead.rest.text.now)
+        c.lookahead.tally };
 }
 
 impl<'input> Cursor<'input> {
@@ -52,14 +53,15 @@ impl<'input> Cursor<'input> {
     ghost use Rattle.rustc_parse_format.specs.Steps.{AreFew};
     ghost use Rattle.rustc_parse_format.specs.World.{number_of, place_at};
 
-    /// Returns a cursor at the start of the input of `source`, which `ahead` is. Does not allocate.
+    /// Returns a cursor at the start of the input of `source`, which `lookahead` is. Does not
+    /// allocate.
     #[inline(always)]
-    pub fn new(source: Source<'input>, ahead: Ahead<'input>) -> Cursor<'input>
-        requires input { source.input.now ≡ ahead.rest.text.now }
-        requires left { IsLeft source.input.now ahead.rest.text.now }
-        requires first { ahead.tally
-            ≡ record { made = 0; left = length (chars ahead.rest.text.now) } }
-        requires undo_count { ahead.undo_count.made ≡ 0 }
+    pub fn new(source: Source<'input>, lookahead: Lookahead<'input>) -> Cursor<'input>
+        requires input { source.input.now ≡ lookahead.rest.text.now }
+        requires left { IsLeft source.input.now lookahead.rest.text.now }
+        requires first { lookahead.tally
+            ≡ record { pass_count = 0; left_count = length (chars lookahead.rest.text.now) } }
+        requires undo_count { lookahead.undo_count.number ≡ 0 }
         requires kept { IsKept source }
         requires fits { source.offset + length source.input.now < 2 ^ 64 }
         ensures { result ≡ unread_at source.entry source.entry.input.now
@@ -68,12 +70,12 @@ impl<'input> Cursor<'input> {
         let anchor = first_anchor(&source);
         Cursor {
             source,
-            ahead,
+            lookahead,
             anchor,
         }
     }
 
-    /// Returns the current position, for `since`, `rewind` and `undo`.
+    /// Returns the current position, for `text_since`, `rewind` and `undo`.
     #[inline(always)]
     pub fn checkpoint(&self) -> Checkpoint<'input>
         ensures at { self.now ≡ unread_at self.now.source result.rest.text.now
@@ -83,7 +85,7 @@ impl<'input> Cursor<'input> {
         ensures counted { IsCounted (chars self.now.source.input.now)
             (chars result.rest.text.now) result.tally }
     {
-        self.ahead.checkpoint(self.anchor)
+        self.lookahead.checkpoint(self.anchor)
     }
 
     /// Proves that the cursor has made few steps, at most two for each character of the input. Does
@@ -92,17 +94,17 @@ impl<'input> Cursor<'input> {
         ensures few { AreFew self.now.input self.now.rest self.now.back }
         ensures word { after_part self.now.rest ≤ self.now.back.left }
     {
-        let _rest = self.ahead.next();
+        let _rest = self.lookahead.next();
     }
 
-    /// Returns the text between `from` and the current position.
+    /// Returns the text between `start` and the current position.
     #[inline(always)]
-    pub fn since(&self, from: &Checkpoint<'input>) -> &'input str
-        requires { (read : Text) × (chars from.now.rest.text.now ≡ read ++ self.now.rest) }
-        ensures { (read : Text) → chars from.now.rest.text.now ≡ read ++ self.now.rest
-            → chars result.now ≡ read }
+    pub fn text_since(&self, start: &Checkpoint<'input>) -> &'input str
+        requires { (text : Text) × (chars start.now.rest.text.now ≡ text ++ self.now.rest) }
+        ensures { (text : Text) → chars start.now.rest.text.now ≡ text ++ self.now.rest
+            → chars result.now ≡ text }
     {
-        self.ahead.since(from.rest)
+        self.lookahead.text_since(start.rest)
     }
 
     /// Returns the next character, or `None` at the end of the input.
@@ -110,14 +112,14 @@ impl<'input> Cursor<'input> {
     pub fn peek(&self) -> Option<char>
         ensures { result ≡ first self.now.rest }
     {
-        self.ahead.next().character()
+        self.lookahead.next().character()
     }
 
     /// Returns the character after the next one, or `None` if there is none.
     pub fn peek_ahead(&self) -> Option<char>
         ensures { result ≡ first (after_first self.now.rest) }
     {
-        self.ahead.second().character()
+        self.lookahead.second().character()
     }
 
     /// Moves past the next character, if there is one. Only this function, `consume_place` and the
@@ -125,7 +127,7 @@ impl<'input> Cursor<'input> {
     pub fn skip_char(&mut self)
         ensures rest { self.new ≡ record self.old { rest = after_first self.old.rest } }
     {
-        self.ahead.skip_char();
+        self.lookahead.skip_char();
     }
 
     /// Moves past the next character, if there is one, and returns its byte range in the source. At
@@ -135,43 +137,43 @@ impl<'input> Cursor<'input> {
         ensures place { pair result ≡ place_at self.old.world (length self.old.rest) }
         ensures rest { self.new ≡ record self.old { rest = after_first self.old.rest } }
     {
-        self.ahead.consume_place(&self.source, &mut self.anchor)
+        self.lookahead.consume_place(&self.source, &mut self.anchor)
     }
 
-    /// Goes back to the position `to`. The characters from there on can then be read again, which
-    /// counts as new steps.
-    pub fn rewind(&mut self, to: Checkpoint<'input>)
-        requires anchored { IsAnchored self.old.source to.rest.text.now to.anchor }
-        requires furthest { IsFurthest (chars to.rest.text.now) self.old.back }
-        requires earlier { length self.old.rest ≤ length (chars to.rest.text.now) }
-        requires word { after_part (chars to.rest.text.now) ≤ length self.old.rest }
-        ensures { self.new ≡ unread_at self.old.source to.entry.rest.text.now
-            (given_back self.old.rest (chars to.entry.rest.text.now) self.old.back)
+    /// Goes back to the position `checkpoint`. The characters from there on can then be read again,
+    /// which counts as new steps.
+    pub fn rewind(&mut self, checkpoint: Checkpoint<'input>)
+        requires anchored { IsAnchored self.old.source checkpoint.rest.text.now checkpoint.anchor }
+        requires furthest { IsFurthest (chars checkpoint.rest.text.now) self.old.back }
+        requires earlier { length self.old.rest ≤ length (chars checkpoint.rest.text.now) }
+        requires word { after_part (chars checkpoint.rest.text.now) ≤ length self.old.rest }
+        ensures { self.new ≡ unread_at self.old.source checkpoint.entry.rest.text.now
+            (given_back self.old.rest (chars checkpoint.entry.rest.text.now) self.old.back)
             self.old.undo_count }
     {
-        self.anchor = to.anchor;
-        self.ahead.rewind(to.rest);
+        self.anchor = checkpoint.anchor;
+        self.lookahead.rewind(checkpoint.rest);
     }
 
-    /// Goes back to the position `to`, before a call in which an allocation failed. The steps of
-    /// that call then do not count.
-    pub fn undo(&mut self, to: Checkpoint<'input>)
-        requires anchored { IsAnchored self.old.source to.rest.text.now to.anchor }
+    /// Goes back to the position `checkpoint`, before a call in which an allocation failed. The
+    /// steps of that call then do not count.
+    pub fn undo(&mut self, checkpoint: Checkpoint<'input>)
+        requires anchored { IsAnchored self.old.source checkpoint.rest.text.now checkpoint.anchor }
         requires counted { IsCounted (chars self.old.source.input.now)
-            (chars to.rest.text.now) to.tally }
-        ensures { self.new ≡ unread_at self.old.source to.entry.rest.text.now
-            (back_at (chars self.old.source.input.now) (chars to.entry.rest.text.now)
-            to.entry.tally) (self.old.undo_count + 1) }
+            (chars checkpoint.rest.text.now) checkpoint.tally }
+        ensures { self.new ≡ unread_at self.old.source checkpoint.entry.rest.text.now
+            (back_at (chars self.old.source.input.now) (chars checkpoint.entry.rest.text.now)
+            checkpoint.entry.tally) (self.old.undo_count + 1) }
     {
-        self.anchor = to.anchor;
-        self.ahead.undo(to);
+        self.anchor = checkpoint.anchor;
+        self.lookahead.undo(checkpoint);
     }
 
     /// Proves that the rest is a suffix of the input. Does nothing when the program runs.
     pub fn reads_its_input(&self)
         ensures { (front : Text) × (self.now.input ≡ front ++ self.now.rest) }
     {
-        let _rest = self.ahead.next();
+        let _rest = self.lookahead.next();
     }
 
     /// Returns the byte offset in the source at which the next character starts, or at the end of
@@ -180,7 +182,7 @@ impl<'input> Cursor<'input> {
     pub fn start(&self) -> usize
         ensures { result ≡ number_of self.now.world (Start (length self.now.rest)) }
     {
-        self.ahead.next().start(&self.source, &self.anchor)
+        self.lookahead.next().start(&self.source, &self.anchor)
     }
 
     /// Returns whether the next character `c` is past the indentation of a line that starts at the
@@ -190,7 +192,7 @@ impl<'input> Cursor<'input> {
         ensures { IsTrue result → first self.now.rest ≡ Some c
             → IsPastIndent c byte self.now.world self.now.rest }
     {
-        let start = self.ahead.next().start(&self.source, &self.anchor);
+        let start = self.lookahead.next().start(&self.source, &self.anchor);
         start > byte || start == byte && !c.is_whitespace()
     }
 
@@ -200,7 +202,7 @@ impl<'input> Cursor<'input> {
     pub fn move_anchor(&mut self)
         ensures { self.new ≡ self.old }
     {
-        self.ahead
+        self.lookahead
             .next()
             .move_anchor(&self.source, &mut self.anchor);
     }
@@ -211,7 +213,7 @@ impl<'input> Cursor<'input> {
     pub fn stop(&self) -> usize
         ensures { result ≡ number_of self.now.world (End (length self.now.rest)) }
     {
-        self.ahead.next().stop(&self.source, &self.anchor)
+        self.lookahead.next().stop(&self.source, &self.anchor)
     }
 
     /// Returns whether the snippet is the source literal of the input.
@@ -228,7 +230,7 @@ impl<'input> Cursor<'input> {
         ensures { option_map (λ x. (pair x.0, x.1, x.2)) result
             ≡ first_of self.now.world self.now.input self.now.rest }
     {
-        self.ahead.next().place(&self.source, &self.anchor)
+        self.lookahead.next().place(&self.source, &self.anchor)
     }
 
     /// Returns, for the character after the next one, its byte range in the source, its byte offset
@@ -238,7 +240,7 @@ impl<'input> Cursor<'input> {
         ensures { option_map (λ x. (pair x.0, x.1, x.2)) result
             ≡ first_of self.now.world self.now.input (after_first self.now.rest) }
     {
-        self.ahead.second().place(&self.source, &self.anchor)
+        self.lookahead.second().place(&self.source, &self.anchor)
     }
 
     /// Returns the byte offset of the next character in the input, or at the end the length of the
@@ -247,7 +249,7 @@ impl<'input> Cursor<'input> {
     pub fn position(&self) -> usize
         ensures { result ≡ byte_length self.now.input - byte_length self.now.rest }
     {
-        self.ahead.next().position(&self.source)
+        self.lookahead.next().position(&self.source)
     }
 
     /// Returns whether the next character is `c`, which is ASCII.
@@ -255,7 +257,7 @@ impl<'input> Cursor<'input> {
         requires { c < 128 }
         ensures { result ≡ begins_with c self.now.rest }
     {
-        self.ahead.next().is(c)
+        self.lookahead.next().is_char(c)
     }
 
     /// Moves past the next character if it is `c`, which is ASCII. Returns whether it is.
@@ -266,11 +268,11 @@ impl<'input> Cursor<'input> {
           rest = if begins_with c self.old.rest then after_first self.old.rest else self.old.rest;
         } }
     {
-        let is_there = self.is_next(c);
-        if is_there {
+        let is_present = self.is_next(c);
+        if is_present {
             self.skip_char();
         }
-        is_there
+        is_present
     }
 
     /// Returns whether the character after the next one is `c`, which is ASCII.
@@ -278,7 +280,7 @@ impl<'input> Cursor<'input> {
         requires { c < 128 }
         ensures { result ≡ begins_with c (after_first self.now.rest) }
     {
-        self.ahead.second().is(c)
+        self.lookahead.second().is_char(c)
     }
 
     /// Returns whether a placeholder opens here: the next character is an opening brace, and the
@@ -294,14 +296,14 @@ impl<'input> Cursor<'input> {
     pub fn is_digit_next(&self) -> bool
         ensures { result ≡ first_passes is_ascii_digit self.now.rest }
     {
-        self.ahead.next().is_digit()
+        self.lookahead.next().is_digit()
     }
 
     /// Returns whether the next character can begin a word.
     pub fn is_word_next(&self) -> bool
         ensures { result ≡ first_passes is_id_start self.now.rest }
     {
-        self.ahead.next().is_id_start()
+        self.lookahead.next().is_id_start()
     }
 
     /// Returns whether the next two characters are `r#`.
@@ -315,6 +317,6 @@ impl<'input> Cursor<'input> {
     pub fn is_word_ahead(&self) -> bool
         ensures { result ≡ first_passes is_id_start (after_first self.now.rest) }
     {
-        self.ahead.second().is_id_start()
+        self.lookahead.second().is_id_start()
     }
 }

@@ -175,14 +175,14 @@ impl ErrorList {
         push_error(alloc, entries, fault)
     }
 
-    /// Keeps `count` errors after the first `skipped` ones, and drops all others.
+    /// Keeps `count` errors after the first `front_count` ones, and drops all others.
     #[tactic(auto, using(crate::proofs::Readers::Errors::list_parts))]
-    pub fn keep(&mut self, skipped: usize, count: usize)
-        requires { skipped + count ≤ length self.old }
-        ensures { self.new ≡ take count (drop skipped self.old) }
+    pub fn keep(&mut self, front_count: usize, count: usize)
+        requires { front_count + count ≤ length self.old }
+        ensures { self.new ≡ take count (drop front_count self.old) }
     {
         if let Some(entries) = &mut self.entries {
-            self.room += skipped;
+            self.room += front_count;
             entries.truncate(self.room + count);
         }
     }

@@ -2,7 +2,8 @@
 
 ghost use Rattle.std.specs.Prelude.{◌≡◌, ◌≤◌, ◌++◌, OnErr, OnOk, chars, flat_map, length};
 ghost use Rattle.std.specs.Prelude.{option_map, string_bytes};
-ghost use Rattle.rustc_parse_format.specs.Written.{plainly_written, short_escape, written};
+ghost use Rattle.rustc_parse_format.specs.Written.{plainly_written, short_escape};
+ghost use Rattle.rustc_parse_format.specs.Written.{written_character};
 
 use crate::characters::Class;
 use crate::literal::Rest;
@@ -43,9 +44,9 @@ fn put_plainly_written(out: &mut String, c: char) -> Result<(), AllocError>
 
 /// Appends a character, escaped if it has an escape or is an ASCII control character. Returns `Err`
 /// if an allocation fails, and `out` is then unchanged.
-#[tactic(auto, unfolding(crate::specs::Written::written))]
+#[tactic(auto, unfolding(crate::specs::Written::written_character))]
 pub fn put_written(out: &mut String, c: char) -> Result<(), AllocError>
-    ensures ok { OnOk result (string_bytes out.new ≡ string_bytes out.old ++ written c) }
+    ensures ok { OnOk result (string_bytes out.new ≡ string_bytes out.old ++ written_character c) }
     ensures err { OnErr result (string_bytes out.new ≡ string_bytes out.old) }
 {
     match short_escape(c) {
@@ -70,8 +71,8 @@ fn push_run(out: &mut String, run: &str) -> Result<(), AllocError>
 /// allocation fails.
 #[inline(always)]
 fn put_unchanged(out: &mut String, rest: &mut Rest<'_>) -> Result<(), AllocError>
-    ensures written { OnOk result (string_bytes out.new ++ flat_map written rest.new
-        ≡ string_bytes out.old ++ flat_map written rest.old) }
+    ensures written { OnOk result (string_bytes out.new ++ flat_map written_character rest.new
+        ≡ string_bytes out.old ++ flat_map written_character rest.old) }
     ensures shorter { length rest.new ≤ length rest.old }
 {
     push_run(out, rest.take_run(Class::Unchanged))?;
@@ -82,7 +83,7 @@ fn put_unchanged(out: &mut String, rest: &mut Rest<'_>) -> Result<(), AllocError
 /// fails, and `out` may then have a part of them.
 pub fn put_all_written(out: &mut String, text: &str) -> Result<(), AllocError>
     ensures { OnOk result (string_bytes out.new
-        ≡ string_bytes out.old ++ flat_map written (chars text.now)) }
+        ≡ string_bytes out.old ++ flat_map written_character (chars text.now)) }
 {
     let mut rest = Rest::new(text);
     put_unchanged(out, &mut rest)?;

@@ -87,7 +87,7 @@ impl Fault<'_> {
 pub struct Faults<'input> {
     first: Option<Fault<'input>>,
     second: Option<Fault<'input>>,
-    more: Vec<Fault<'input>>,
+    rest: Vec<Fault<'input>>,
 }
 
 impl<'input> Model for Faults<'input> {
@@ -98,10 +98,10 @@ impl<'input> Model for Faults<'input> {
 
     ghost Value = { List (Fault Place) };
 
-    ghost view = { λ f. seen_faults f.first f.second f.more.items };
+    ghost view = { λ f. seen_faults f.first f.second f.rest.items };
 
     ghost invariant = { λ f. (IsNone f.first → IsNone f.second)
-        × (IsNone f.second → f.more.items ≡ []) };
+        × (IsNone f.second → f.rest.items ≡ []) };
 }
 
 impl<'input> Faults<'input> {
@@ -112,7 +112,7 @@ impl<'input> Faults<'input> {
         Faults {
             first: None,
             second: None,
-            more: Vec::new(alloc),
+            rest: Vec::new(alloc),
         }
     }
 
@@ -136,7 +136,7 @@ impl<'input> Faults<'input> {
         } else if self.second.is_none() {
             self.second = Some(fault);
         } else {
-            self.more.push(fault)?;
+            self.rest.push(fault)?;
         }
         Ok(())
     }
@@ -152,7 +152,7 @@ impl<'input> Faults<'input> {
         if index == 1 {
             return self.second.as_ref();
         }
-        self.more.get(index - 2)
+        self.rest.get(index - 2)
     }
 
     /// Moves all faults to the end of `list`. Returns `Err` if an allocation fails: some of the
@@ -167,7 +167,7 @@ impl<'input> Faults<'input> {
         if self.is_empty() {
             return Ok(());
         }
-        let alloc = *self.more.allocator();
+        let alloc = *self.rest.allocator();
         let mut faults = mem::replace(self, Faults::new(alloc));
         if let Some(first) = faults.first.take() {
             list.push(first)?;
@@ -175,7 +175,7 @@ impl<'input> Faults<'input> {
         if let Some(second) = faults.second.take() {
             list.push(second)?;
         }
-        list.append(&mut faults.more)?;
+        list.append(&mut faults.rest)?;
         Ok(())
     }
 
@@ -185,6 +185,6 @@ impl<'input> Faults<'input> {
     {
         self.first = None;
         self.second = None;
-        self.more.clear();
+        self.rest.clear();
     }
 }

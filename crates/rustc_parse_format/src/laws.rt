@@ -15,7 +15,8 @@ ghost use Rattle.rustc_parse_format.specs.KnownTexts.{IsTextInArgument, IsTextIn
 ghost use Rattle.rustc_parse_format.specs.KnownTexts.{IsTextInPiece, IsTextInPosition};
 ghost use Rattle.rustc_parse_format.specs.KnownTexts.{IsTextInSpec};
 ghost use Rattle.rustc_parse_format.specs.Types.{Implied, Unknown, default_spec};
-ghost use Rattle.rustc_parse_format.specs.Seen.{seen, seen_alignment, seen_argument, seen_count};
+ghost use Rattle.rustc_parse_format.specs.Seen.{seen_piece, seen_alignment, seen_argument};
+ghost use Rattle.rustc_parse_format.specs.Seen.{seen_count};
 ghost use Rattle.rustc_parse_format.specs.Seen.{seen_debug_hex, seen_mode, seen_position};
 ghost use Rattle.rustc_parse_format.specs.Seen.{seen_sign, seen_spec};
 
@@ -234,7 +235,7 @@ fn know_piece(piece: &Piece<'_>)
 /// Returns whether two pieces are equal, by `==`: texts are compared by their characters, and spans
 /// too.
 pub fn pieces_are_equal<'input>(a: &Piece<'input>, b: &Piece<'input>) -> bool
-    ensures { IsTrue result ↔ AreSame seen a.now b.now }
+    ensures { IsTrue result ↔ AreSame seen_piece a.now b.now }
 {
     know_piece(a);
     know_piece(b);
@@ -252,5 +253,5 @@ pub fn equality_is_an_equivalence()
     ensures counts { IsEquivalence (AreSame seen_count) }
     ensures specs { IsEquivalence (AreSame seen_spec) }
     ensures arguments { IsEquivalence (AreSame seen_argument) }
-    ensures pieces { IsEquivalence (AreSame seen) }
+    ensures pieces { IsEquivalence (AreSame seen_piece) }
 {}

@@ -21,7 +21,8 @@ use std::ops::Range;
 /// allocation fails, and `errors` is then unchanged.
 fn add_error(alloc: Global, errors: &mut ErrorList, fault: &Fault<'_>) -> Result<usize, AllocError>
     ensures ok { OnOk result (errors.new ≡ add_errors errors.old (seen_fault fault.now ∷ [])) }
-    ensures fronts { IfOk result (λ n. n ≡ length (filter is_front (seen_fault fault.now ∷ []))) }
+    ensures front_count { IfOk result
+        (λ n. n ≡ length (filter is_front (seen_fault fault.now ∷ []))) }
     ensures err { OnErr result (errors.new ≡ errors.old) }
 {
     if fault.is_front() {
@@ -43,23 +44,23 @@ fn add_errors(
 ) -> Result<usize, AllocError>
     requires { length faults.now < 2 ^ 64 }
     ensures ok { OnOk result (errors.new ≡ add_errors errors.old faults.now) }
-    ensures fronts { IfOk result (λ n. n ≡ length (filter is_front faults.now)) }
+    ensures front_count { IfOk result (λ n. n ≡ length (filter is_front faults.now)) }
     ensures err { OnErr result (errors.new ≡ errors.old) }
 {
     let count = errors.as_slice().len();
-    let mut fronts = 0;
+    let mut front_count = 0;
     let mut index = 0;
     while let Some(fault) = faults.get(index) {
         match add_error(alloc, errors, fault) {
-            Ok(added) => fronts += added,
-            Err(refused) => {
-                errors.keep(fronts, count);
-                return Err(refused);
+            Ok(number) => front_count += number,
+            Err(error) => {
+                errors.keep(front_count, count);
+                return Err(error);
             }
         }
         index += 1;
     }
-    Ok(fronts)
+    Ok(front_count)
 }
 
 /// The errors that a parser has found, and the byte ranges of placeholders and of lines.
@@ -96,7 +97,7 @@ impl Lists {
     ) -> Result<usize, AllocError>
         ensures errors { OnOk result ((self.new.errors ≡ add_errors self.old.errors faults.old)
             × (faults.new ≡ [])) }
-        ensures fronts { IfOk result (λ n. n ≡ length (filter is_front faults.old)) }
+        ensures front_count { IfOk result (λ n. n ≡ length (filter is_front faults.old)) }
         ensures places { OnOk result ((self.new.arg_places
             ≡ self.old.arg_places ++ place_list (option_map pair closed_place.old))
             × (closed_place.new ≡ None)) }
@@ -115,9 +116,9 @@ impl Lists {
         if faults.is_empty() {
             return Ok(0);
         }
-        let fronts = add_errors(alloc, &mut self.errors, faults)?;
+        let front_count = add_errors(alloc, &mut self.errors, faults)?;
         faults.clear();
-        Ok(fronts)
+        Ok(front_count)
     }
 
     /// Moves all that a call has found from `reader` into the lists. Returns how many errors were
@@ -131,7 +132,7 @@ impl Lists {
             ≡ self.old.arg_places ++ place_list reader.old.closed_place) }
         ensures lines { OnOk result (self.new.line_spans
             ≡ self.old.line_spans ++ reader.old.lines) }
-        ensures fronts { IfOk result (λ n. n ≡ length (filter is_front reader.old.faults)) }
+        ensures front_count { IfOk result (λ n. n ≡ length (filter is_front reader.old.faults)) }
         ensures reader { OnOk result (reader.new
             ≡ record reader.old { faults = []; lines = []; closed_place = None }) }
         ensures source { OnErr result (reader.new.source ≡ reader.old.source) }
@@ -145,17 +146,17 @@ impl Lists {
         }
         let places = self.arg_places.len();
         let lines = self.line_spans.len();
-        let added = self.add(
+        let front_count = self.add(
             alloc,
             &mut reader.faults,
             &mut reader.lines,
             &mut reader.closed_place,
         );
-        if added.is_err() {
+        if front_count.is_err() {
             self.arg_places.truncate(places);
             self.line_spans.truncate(lines);
         }
-        added
+        front_count
     }
 }
 

@@ -16,7 +16,7 @@ ghost use Rattle.rustc_parse_format.specs.LiteralUnits.{LiteralUnit, at_most_one
 ghost use Rattle.rustc_parse_format.specs.LiteralUnits.{meaning};
 ghost use Rattle.rustc_parse_format.specs.LiteralUnits.{unit_at};
 ghost use Rattle.rustc_parse_format.specs.Characters.{Text, rest_after, front};
-ghost use Rattle.rustc_parse_format.specs.World.{later, literal_end, newline_places, world};
+ghost use Rattle.rustc_parse_format.specs.World.{later_place, literal_end, newline_places, world};
 
 mod rest;
 mod unit;
@@ -111,7 +111,7 @@ pub fn read_content(
     ensures places { IfOk result (λ o. IfSome o (λ v. (input : Text) (appended : Bool)
         → IsSource input None (ordinary_frame (chars content.now)) appended
         → (let w = world input None (Some (ordinary_frame (chars content.now))) appended in
-        w.places ≡ map (λ x. later 1 x.0) (seen_characters v.items)
+        w.places ≡ map (λ x. later_place 1 x.0) (seen_characters v.items)
         ++ newline_places w.end appended))) }
     ensures empty { content.now ≡ [] → IsOk result }
 {
@@ -126,9 +126,9 @@ fn put_plain(text: &mut String, rest: &mut Rest<'_>) -> Result<(), AllocError>
     ensures rest { rest.new ≡ rest_after is_plain rest.old }
     ensures empty { rest.old ≡ [] → IsOk result }
 {
-    let plain = rest.take_run(Class::Plain);
-    if !plain.is_empty() {
-        text.push_str(plain)?;
+    let run = rest.take_run(Class::Plain);
+    if !run.is_empty() {
+        text.push_str(run)?;
     }
     Ok(())
 }
@@ -224,11 +224,11 @@ pub fn quoted_content(snippet: &str) -> Option<&str>
 /// Skips the `\x` escapes at the start of a content and, in a text, the characters that they stand
 /// for, up to the first escape with which the text does not go on.
 #[inline(always)]
-fn skip_byte_escapes(rest: &mut Rest<'_>, wanted: &mut Rest<'_>)
-    ensures { SameEnds rest.old wanted.old rest.new wanted.new }
+fn skip_byte_escapes(rest: &mut Rest<'_>, expected: &mut Rest<'_>)
+    ensures { SameEnds rest.old expected.old rest.new expected.new }
 {
     while let Some((byte, rest_after)) = byte_escape(rest.text()) {
-        if !wanted.consume_ascii(byte) {
+        if !expected.consume_ascii(byte) {
             return;
         }
         *rest = Rest::new(rest_after);
@@ -238,11 +238,11 @@ fn skip_byte_escapes(rest: &mut Rest<'_>, wanted: &mut Rest<'_>)
 /// Skips the plain characters with which a content and a text both begin, and the `\x` escapes
 /// after them.
 #[inline(always)]
-fn skip_alike(rest: &mut Rest<'_>, wanted: &mut Rest<'_>)
-    ensures { SameEnds rest.old wanted.old rest.new wanted.new }
+fn skip_alike(rest: &mut Rest<'_>, expected: &mut Rest<'_>)
+    ensures { SameEnds rest.old expected.old rest.new expected.new }
 {
-    rest.skip_plain(wanted);
-    skip_byte_escapes(rest, wanted);
+    rest.skip_plain(expected);
+    skip_byte_escapes(rest, expected);
 }
 
 /// Returns where the text ends that the content stands for, as a byte offset that counts the quote
@@ -253,22 +253,22 @@ fn spelled_end(content: &str, text: &str) -> Option<usize>
 {
     let total = content.len() + 1;
     let mut rest = Rest::new(content);
-    let mut wanted = Rest::new(text);
-    skip_alike(&mut rest, &mut wanted);
+    let mut expected = Rest::new(text);
+    skip_alike(&mut rest, &mut expected);
     let mut end = total - rest.len();
     while !rest.is_empty() {
         let Some(value) = read_unit(&mut rest) else {
             return None;
         };
         if let Some(c) = value {
-            if !wanted.next_eq(c) {
+            if !expected.next_eq(c) {
                 return None;
             }
-            skip_alike(&mut rest, &mut wanted);
+            skip_alike(&mut rest, &mut expected);
             end = total - rest.len();
         }
     }
-    if wanted.is_empty() { Some(end) } else { None }
+    if expected.is_empty() { Some(end) } else { None }
 }
 
 /// Returns the byte offset in an ordinary literal at which the text ends that it stands for, or
@@ -318,8 +318,8 @@ fn consume_opening(rest: &mut Rest<'_>, hashes: usize) -> bool
 fn consume_text(rest: &mut Rest<'_>, text: &str) -> bool
     ensures { IsTaken (chars text.now) rest.old result rest.new }
 {
-    let mut wanted = Rest::new(text);
-    while let Some(c) = wanted.next() {
+    let mut expected = Rest::new(text);
+    while let Some(c) = expected.next() {
         if !rest.next_eq(c) {
             return false;
         }

@@ -5,9 +5,9 @@
 
 ghost use Rattle.std.specs.Prelude.{◌≡◌, ◌∷◌, [], IfOk, None, OnOk, Some};
 ghost use Rattle.std.specs.Prelude.{chars, codes, encode_utf8_all, string_bytes};
-ghost use Rattle.rustc_parse_format.specs.Faults.{align_after, debug_after, error, expected};
+ghost use Rattle.rustc_parse_format.specs.Faults.{align_after, debug_after, error, expected_brace};
 ghost use Rattle.rustc_parse_format.specs.Faults.{local_variable, message, out_of_range};
-ghost use Rattle.rustc_parse_format.specs.Faults.{UsePositional, suggesting};
+ghost use Rattle.rustc_parse_format.specs.Faults.{UsePositional, with_suggestion};
 ghost use Rattle.rustc_parse_format.specs.Seen.{pair, seen_error};
 ghost use Rattle.rustc_parse_format.specs.SeenFaults.{seen_fault};
 
@@ -20,7 +20,7 @@ use std::ops::Range;
 /// Returns the description of a missing closing brace, from the character found in its place, or
 /// `None` at the end of the input. Returns `Err` if an allocation fails.
 fn expected_brace(alloc: Global, character: Option<char>) -> Result<String, AllocError>
-    ensures { IfOk result (λ s. string_bytes s ≡ expected character) }
+    ensures { IfOk result (λ s. string_bytes s ≡ expected_brace character) }
 {
     let Some(c) = character else {
         return String::from_str(alloc, "expected `}` but string was terminated");
@@ -82,20 +82,20 @@ fn align_after(alloc: Global, sign: char) -> Result<String, AllocError>
 #[inline(always)]
 fn set_texts(
     alloc: Global,
-    into: &mut ParseError,
+    parse_error: &mut ParseError,
     description: String,
     label: &str,
     span: &Range<usize>,
 ) -> Result<(), AllocError>
-    ensures { OnOk result (seen_error into.new ≡ record (seen_error into.old) {
+    ensures { OnOk result (seen_error parse_error.new ≡ record (seen_error parse_error.old) {
       description = string_bytes description;
       label = label.now;
       span = pair span.now;
     }) }
 {
-    into.description = description;
-    into.label = String::from_str(alloc, label)?;
-    into.span = span.start..span.end;
+    parse_error.description = description;
+    parse_error.label = String::from_str(alloc, label)?;
+    parse_error.span = span.start..span.end;
     Ok(())
 }
 
@@ -104,13 +104,13 @@ fn set_texts(
 #[inline(always)]
 fn set_texts_with_note(
     alloc: Global,
-    into: &mut ParseError,
+    parse_error: &mut ParseError,
     description: &str,
     note: &str,
     label: &str,
     span: &Range<usize>,
 ) -> Result<(), AllocError>
-    ensures { OnOk result (seen_error into.new ≡ record (seen_error into.old) {
+    ensures { OnOk result (seen_error parse_error.new ≡ record (seen_error parse_error.old) {
       description = description.now;
       note = Some note.now;
       label = label.now;
@@ -118,21 +118,21 @@ fn set_texts_with_note(
     }) }
 {
     let description = String::from_str(alloc, description)?;
-    into.note = Some(String::from_str(alloc, note)?);
-    set_texts(alloc, into, description, label, span)
+    parse_error.note = Some(String::from_str(alloc, note)?);
+    set_texts(alloc, parse_error, description, label, span)
 }
 
 /// Sets the description, the note, the span and the secondary label of an error whose label is that
 /// of a missing closing brace. Returns `Err` if an allocation fails.
 fn set_brace_error(
     alloc: Global,
-    into: &mut ParseError,
+    parse_error: &mut ParseError,
     description: String,
     note: &str,
     span: &Range<usize>,
     second: (&str, &Range<usize>),
 ) -> Result<(), AllocError>
-    ensures { OnOk result (seen_error into.new ≡ record (seen_error into.old) {
+    ensures { OnOk result (seen_error parse_error.new ≡ record (seen_error parse_error.old) {
       description = string_bytes description;
       note = Some note.now;
       label = codes "expected `}`";
@@ -140,28 +140,30 @@ fn set_brace_error(
       second = Some (second.entry.0.now, pair second.entry.1.now);
     }) }
 {
-    into.note = Some(String::from_str(alloc, note)?);
-    into.secondary_label = Some((
+    parse_error.note = Some(String::from_str(alloc, note)?);
+    parse_error.secondary_label = Some((
         String::from_str(alloc, second.0)?,
         second.1.start..second.1.end,
     ));
-    set_texts(alloc, into, description, "expected `}`", span)
+    set_texts(alloc, parse_error, description, "expected `}`", span)
 }
 
 /// Sets the texts and the span of the error of a field access. Returns `Err` if an allocation
 /// fails.
 fn set_field_error(
     alloc: Global,
-    into: &mut ParseError,
+    parse_error: &mut ParseError,
     description: &str,
     span: &Range<usize>,
 ) -> Result<(), AllocError>
-    requires { seen_error into.old ≡ suggesting UsePositional (error [] None [] (0, 0) None) }
-    ensures { OnOk result (seen_error into.new ≡ local_variable description.now (pair span.now)) }
+    requires { seen_error parse_error.old
+        ≡ with_suggestion UsePositional (error [] None [] (0, 0) None) }
+    ensures { OnOk result (seen_error parse_error.new
+        ≡ local_variable description.now (pair span.now)) }
 {
     set_texts_with_note(
         alloc,
-        into,
+        parse_error,
         description,
         "consider moving this expression to a local variable and then using the local here instead",
         "not supported",
@@ -200,14 +202,18 @@ impl Fault<'_> {
 
 /// Sets an error, which is still empty, to that of a fault. Returns `Err` if an allocation fails.
 #[tactic(auto, unfolding(crate::specs::Faults::message))]
-pub fn set_error(alloc: Global, into: &mut ParseError, fault: &Fault<'_>) -> Result<(), AllocError>
-    requires { seen_error into.old ≡ error [] None [] (0, 0) None }
-    ensures { OnOk result (seen_error into.new ≡ message (seen_fault fault.now)) }
+pub fn set_error(
+    alloc: Global,
+    parse_error: &mut ParseError,
+    fault: &Fault<'_>,
+) -> Result<(), AllocError>
+    requires { seen_error parse_error.old ≡ error [] None [] (0, 0) None }
+    ensures { OnOk result (seen_error parse_error.new ≡ message (seen_fault fault.now)) }
 {
     match fault {
         Fault::UnmatchedBrace(span) => set_texts_with_note(
             alloc,
-            into,
+            parse_error,
             "unmatched `}` found",
             "if you intended to print `}`, you can escape it using `}}`",
             "unmatched `}`",
@@ -215,7 +221,7 @@ pub fn set_error(alloc: Global, into: &mut ParseError, fault: &Fault<'_>) -> Res
         ),
         Fault::MissingBrace(character, span, opening) => set_brace_error(
             alloc,
-            into,
+            parse_error,
             expected_brace(alloc, *character)?,
             "if you intended to print `{`, you can escape it using `{{`",
             span,
@@ -223,7 +229,7 @@ pub fn set_error(alloc: Global, into: &mut ParseError, fault: &Fault<'_>) -> Res
         ),
         Fault::FillBrace(character, span, fill) => set_brace_error(
             alloc,
-            into,
+            parse_error,
             expected_brace(alloc, *character)?,
             "the character `}` is interpreted as a fill character because of the `:` that precedes it",
             span,
@@ -234,7 +240,7 @@ pub fn set_error(alloc: Global, into: &mut ParseError, fault: &Fault<'_>) -> Res
         ),
         Fault::Underscore(span) => set_texts_with_note(
             alloc,
-            into,
+            parse_error,
             "invalid argument name `_`",
             "argument name cannot be a single underscore",
             "invalid argument name",
@@ -242,14 +248,14 @@ pub fn set_error(alloc: Global, into: &mut ParseError, fault: &Fault<'_>) -> Res
         ),
         Fault::TooLarge(digits, span) => set_texts(
             alloc,
-            into,
+            parse_error,
             out_of_range(alloc, digits)?,
             "integer out of range for `u16`",
             span,
         ),
         Fault::Unnamed(span) => set_texts_with_note(
             alloc,
-            into,
+            parse_error,
             "expected a named argument",
             "only named arguments are allowed here",
             "expected a name",
@@ -257,16 +263,16 @@ pub fn set_error(alloc: Global, into: &mut ParseError, fault: &Fault<'_>) -> Res
         ),
         Fault::TextAfterColon(span) => set_texts(
             alloc,
-            into,
+            parse_error,
             String::from_str(alloc, "format specifiers are not allowed")?,
             "remove this text",
             span,
         ),
         Fault::RawIdentifier(span, _) => {
-            into.suggestion = fault.suggestion(alloc)?;
+            parse_error.suggestion = fault.suggestion(alloc)?;
             set_texts_with_note(
                 alloc,
-                into,
+                parse_error,
                 "raw identifiers are not supported",
                 "identifiers in format strings can be keywords and don't need to be prefixed with `r#`",
                 "raw identifier used here",
@@ -274,15 +280,15 @@ pub fn set_error(alloc: Global, into: &mut ParseError, fault: &Fault<'_>) -> Res
             )
         }
         Fault::LateFlag(flag, span, _) => {
-            into.suggestion = fault.suggestion(alloc)?;
+            parse_error.suggestion = fault.suggestion(alloc)?;
             let description = expected_brace(alloc, Some(*flag))?;
-            set_texts(alloc, into, description, "expected `'}'`", span)
+            set_texts(alloc, parse_error, description, "expected `'}'`", span)
         }
         Fault::MissingColon(span) => {
-            into.suggestion = fault.suggestion(alloc)?;
+            parse_error.suggestion = fault.suggestion(alloc)?;
             set_texts_with_note(
                 alloc,
-                into,
+                parse_error,
                 "expected `}`, found `?`",
                 "to print `{`, you can escape it using `{{`",
                 "expected `:` before `?` to format with `Debug`",
@@ -290,19 +296,19 @@ pub fn set_error(alloc: Global, into: &mut ParseError, fault: &Fault<'_>) -> Res
             )
         }
         Fault::LateDebug(word, span) => {
-            into.note = Some(debug_after(alloc, word)?);
+            parse_error.note = Some(debug_after(alloc, word)?);
             set_texts(
                 alloc,
-                into,
+                parse_error,
                 String::from_str(alloc, "expected format parameter to occur after `:`")?,
                 "expected `?` to occur after `:`",
                 span,
             )
         }
         Fault::LateAlign(sign, span) => {
-            into.label = align_after(alloc, *sign)?;
-            into.span = span.start..span.end;
-            into.description = String::from_str(
+            parse_error.label = align_after(alloc, *sign)?;
+            parse_error.span = span.start..span.end;
+            parse_error.description = String::from_str(
                 alloc,
                 "expected alignment specifier after `:` in format string; example: `{:>?}`",
             )?;
@@ -310,7 +316,7 @@ pub fn set_error(alloc: Global, into: &mut ParseError, fault: &Fault<'_>) -> Res
         }
         Fault::Grouping(span, opening) => set_brace_error(
             alloc,
-            into,
+            parse_error,
             String::from_str(
                 alloc,
                 "python's numeric grouping `,` is not supported in rust format strings",
@@ -320,10 +326,10 @@ pub fn set_error(alloc: Global, into: &mut ParseError, fault: &Fault<'_>) -> Res
             ("because of this opening brace", opening),
         ),
         Fault::DebugPrint(span, opening) => {
-            into.suggestion = fault.suggestion(alloc)?;
+            parse_error.suggestion = fault.suggestion(alloc)?;
             set_brace_error(
                 alloc,
-                into,
+                parse_error,
                 String::from_str(
                     alloc,
                     "python's f-string debug `=` is not supported in rust, use `dbg(x)` instead",
@@ -335,19 +341,24 @@ pub fn set_error(alloc: Global, into: &mut ParseError, fault: &Fault<'_>) -> Res
         }
         Fault::LateSign(span) => set_texts_with_note(
             alloc,
-            into,
+            parse_error,
             "the `+` sign flag must appear after `:` in a format string",
             "`+` comes after `:`, try `{:+}` instead of `{+}`",
             "expected `:` before `+` sign flag",
             span,
         ),
         Fault::FieldAccess(span) => {
-            into.suggestion = fault.suggestion(alloc)?;
-            set_field_error(alloc, into, "field access isn't supported", span)
+            parse_error.suggestion = fault.suggestion(alloc)?;
+            set_field_error(alloc, parse_error, "field access isn't supported", span)
         }
         Fault::TupleIndex(span) => {
-            into.suggestion = fault.suggestion(alloc)?;
-            set_field_error(alloc, into, "tuple index access isn't supported", span)
+            parse_error.suggestion = fault.suggestion(alloc)?;
+            set_field_error(
+                alloc,
+                parse_error,
+                "tuple index access isn't supported",
+                span,
+            )
         }
     }
 }

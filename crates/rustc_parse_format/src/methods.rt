@@ -11,14 +11,14 @@ use std::alloc::{AllocError, Global};
 
 impl<'input> Piece<'input> {
     ghost use Rattle.std.specs.Prelude.{IfOk, IsOk};
-    ghost use Rattle.rustc_parse_format.specs.Seen.{seen};
+    ghost use Rattle.rustc_parse_format.specs.Seen.{seen_piece};
     ghost use Rattle.rustc_parse_format.specs.Types.{IsText};
 
     /// Returns a clone of the piece, with all its spans. Only a placeholder allocates, with
     /// `alloc`: returns `Err` if that allocation fails.
     pub fn clone(&self, alloc: Global) -> Result<Piece<'input>, AllocError>
-        ensures clone { IfOk result (λ p. seen p ≡ seen self.now) }
-        ensures spare { IsText (seen self.now) → IsOk result }
+        ensures clone { IfOk result (λ p. seen_piece p ≡ seen_piece self.now) }
+        ensures spare { IsText (seen_piece self.now) → IsOk result }
     {
         match self {
             Piece::Lit(text) => Ok(Piece::Lit(text)),

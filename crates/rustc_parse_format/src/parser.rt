@@ -1,6 +1,6 @@
 //! The parser: each call reads one piece, up to the end of the input.
 
-pub mod ahead;
+pub mod lookahead;
 mod step;
 mod steps;
 mod with_faults;
@@ -10,7 +10,7 @@ use crate::lists::Lists;
 use crate::reader::Reader;
 use crate::source::{quote_offset, source_of};
 use crate::types::{Argument, NextPiece, ParseError, ParseMode, Piece};
-use ahead::Ahead;
+use lookahead::Lookahead;
 use std::alloc::{AllocError, Global};
 use std::marker::Model;
 use std::ops::Range;
@@ -67,13 +67,13 @@ impl<'input> Parser<'input> {
     ghost use Rattle.rustc_parse_format.specs.ReadBack.{AllSpans, IsInside, LiesInside, ReadsBack};
     ghost use Rattle.rustc_parse_format.specs.Grammar.{Begins};
     ghost use Rattle.rustc_parse_format.specs.Meaning.{argument};
-    ghost use Rattle.rustc_parse_format.specs.Types.{NextArgument, Piece as BarePiece, bare};
-    ghost use Rattle.rustc_parse_format.specs.Seen.{pair, seen, seen_error, seen_mode};
+    ghost use Rattle.rustc_parse_format.specs.Types.{NextArgument, Piece as BarePiece, bare_piece};
+    ghost use Rattle.rustc_parse_format.specs.Seen.{pair, seen_piece, seen_error, seen_mode};
     ghost use Rattle.rustc_parse_format.specs.Seen.{seen_snippet, seen_taken};
     ghost use Rattle.rustc_parse_format.specs.Literal.{IsSource};
     ghost use Rattle.rustc_parse_format.specs.Source.{HasSource};
     ghost use Rattle.rustc_parse_format.specs.State.{AddsNothing, ComesFrom, GivesPiece, IsPutBack};
-    ghost use Rattle.rustc_parse_format.specs.State.{State, after, first_of, first_state};
+    ghost use Rattle.rustc_parse_format.specs.State.{State, state_after, first_of, first_state};
     ghost use Rattle.rustc_parse_format.specs.State.{last_lines, next_call};
     ghost use Rattle.rustc_parse_format.specs.Spelling.{IsPart};
     ghost use Rattle.rustc_parse_format.specs.State.{NeedsNoMemory};
@@ -119,7 +119,7 @@ impl<'input> Parser<'input> {
         ensures short { IfOk result (λ p. length p.rest ≤ length input.now) }
     {
         let source = source_of(input, style, snippet, appended_newline);
-        let cursor = Cursor::new(source, Ahead::new(input));
+        let cursor = Cursor::new(source, Lookahead::new(input));
         Ok(Parser {
             alloc,
             mode,
@@ -154,9 +154,9 @@ impl<'input> Parser<'input> {
     pub fn next(&mut self) -> Result<Option<Piece<'input>>, AllocError>
         // The piece and the new state are those of `call` in specs/Call.antt, with byte offsets for
         // its marks.
-        ensures piece { IfOk result (λ p. option_map seen p
+        ensures piece { IfOk result (λ p. option_map seen_piece p
             ≡ option_map (piece_in self.old.world) (next_call self.old).piece) }
-        ensures state { OnOk result (self.new ≡ after self.old (next_call self.old)) }
+        ensures state { OnOk result (self.new ≡ state_after self.old (next_call self.old)) }
         ensures err { OnErr result (IsPutBack self.old self.new) }
         ensures spare { NeedsNoMemory self.old (next_call self.old) → IsOk result }
 
@@ -165,7 +165,7 @@ impl<'input> Parser<'input> {
         // only adds the last line of a source literal. Earlier errors stay, in order.
         ensures reads { IfOk result (λ p. (q : BarePiece (Unit {0})) (r : Text) (n : ℕ)
             → Begins self.old.mode self.old.next self.old.rest q r n
-            → GivesPiece (option_map seen p) q r n self.old self.new) }
+            → GivesPiece (option_map seen_piece p) q r n self.old self.new) }
         ensures faulty { OnOk result (self.old.rest ≢ []
             → ((q : BarePiece (Unit {0})) (r : Text) (n : ℕ)
             → ¬ (Begins self.old.mode self.old.next self.old.rest q r n))
@@ -179,13 +179,14 @@ impl<'input> Parser<'input> {
         // whether a brace closes it or not.
         ensures cut { IfOk result (λ p. (a : FieldText) (r : Text)
             → IsPart self.old.rest (opened_part self.old.mode a) r
-            → option_map seen p
+            → option_map seen_piece p
             ≡ Some (piece_in self.old.world
             (NextArgument (argument self.old.next (cut_of self.old.mode a r))))) }
 
         // Apart from their spans, the piece and the errors do not depend on the world.
         ensures worlds { IfOk result
-            (λ p. (option_map bare (option_map seen p) ≡ option_map bare (next_call self.old).piece)
+            (λ p. (option_map bare_piece (option_map seen_piece p)
+            ≡ option_map bare_piece (next_call self.old).piece)
             × (map bare_message self.new.errors
             ≡ add_errors (map bare_message self.old.errors)
             (map bare_fault (next_call self.old).faults))) }
@@ -193,8 +194,9 @@ impl<'input> Parser<'input> {
         // So a parser in another world that agrees with this one returns the same piece apart from
         // its spans, and they agree again after the call.
         ensures agrees { IfOk result (λ p. (other : State) → Agree self.old other
-            → (option_map bare (option_map seen p) ≡ option_map bare (next_call other).piece)
-            × Agree self.new (after other (next_call other))) }
+            → (option_map bare_piece (option_map seen_piece p)
+            ≡ option_map bare_piece (next_call other).piece)
+            × Agree self.new (state_after other (next_call other))) }
 
         // With a source literal, the part of the snippet in each span, with its escapes decoded, is
         // the characters that the span was read from. And each span is a byte range of the snippet.
@@ -253,9 +255,9 @@ impl<'input> Parser<'input> {
     ) -> Result<NextPiece<'input>, AllocError>
         ensures piece { IfOk result (λ x. option_map (seen_taken argument.new) x.piece
             ≡ option_map (piece_in self.old.world) (next_call self.old).piece) }
-        ensures fronts { IfOk result (λ x. x.front_errors
+        ensures front_count { IfOk result (λ x. x.front_errors
             ≡ length (filter is_front (next_call self.old).faults)) }
-        ensures state { OnOk result (self.new ≡ after self.old (next_call self.old)) }
+        ensures state { OnOk result (self.new ≡ state_after self.old (next_call self.old)) }
         ensures err { OnErr result (IsPutBack self.old self.new) }
         ensures spare { AddsNothing self.old (next_call self.old) → IsOk result }
         ensures few { AreFew self.new.input self.new.rest self.new.back }

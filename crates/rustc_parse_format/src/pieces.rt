@@ -23,7 +23,7 @@ impl<'input> Parser<'input> {
     ghost use Rattle.rustc_parse_format.specs.declared.types.Piece.{Piece as DeclaredPiece};
     ghost use Rattle.rustc_parse_format.specs.Call.{pieces_of};
     ghost use Rattle.rustc_parse_format.specs.Pieces.{GivesItem, has_ended, lender_of, parser_of};
-    ghost use Rattle.rustc_parse_format.specs.Seen.{seen};
+    ghost use Rattle.rustc_parse_format.specs.Seen.{seen_piece};
     ghost use Rattle.rustc_parse_format.specs.State.{after_all, calls};
     ghost use Rattle.rustc_parse_format.specs.World.{pieces_in};
 
@@ -38,7 +38,7 @@ impl<'input> Parser<'input> {
         // first `None`, and the parser is then the one after them.
         ensures walk { (ps : List DeclaredPiece) (last : Pieces)
             → YieldsThen GivesItem result (map Ok ps) None last
-            → (map seen ps ≡ pieces_in self.old.world (pieces_of (calls self.old)))
+            → (map seen_piece ps ≡ pieces_in self.old.world (pieces_of (calls self.old)))
             × (parser_of last ≡ after_all self.old (calls self.old)) }
     {
         Pieces {

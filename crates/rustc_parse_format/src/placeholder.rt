@@ -47,7 +47,7 @@ impl<'input> Reader<'input> {
         let front = self.cursor.checkpoint();
         self.cursor.skip_char();
         if !self.cursor.is_word_ahead() {
-            return Ok(self.cursor.since(&front));
+            return Ok(self.cursor.text_since(&front));
         }
         let prefix = from..self.cursor.stop();
         self.cursor.skip_char();
@@ -57,26 +57,26 @@ impl<'input> Reader<'input> {
         Ok(word)
     }
 
-    /// Reads the position, an integer or else a word, which may be raw, into `into`, which is still
+    /// Reads the position, an integer or else a word, which may be raw, into `slot`, which is still
     /// implicit. Reads nothing if there is neither. Returns `Err` if an allocation fails.
     #[tactic(auto, using(crate::proofs::Readers::TriedParts::tried_parts, crate::proofs::Readers::Parts::read_nothing, crate::proofs::Readers::RawWords::no_raw_words))]
     #[inline(always)]
-    fn position(&mut self, into: &mut Position<'input>) -> Result<(), AllocError>
-        requires { seen_position into.old ≡ Implicit 0 }
+    fn position(&mut self, slot: &mut Position<'input>) -> Result<(), AllocError>
+        requires { seen_position slot.old ≡ Implicit 0 }
         ensures value { OnOk result
-            (seen_position into.new ≡ position_of 0 (position self.old.rest).0) }
+            (seen_position slot.new ≡ position_of 0 (position self.old.rest).0) }
         ensures reads { let p = position self.old.rest in ReadsTo self.old result self.new p.1
             self.old.next (position_faults self.old.rest p.0) [] }
     {
         if self.cursor.is_digit_next() {
             let number = self.integer()?;
-            *into = Position::ArgumentIs(usize::from(number));
+            *slot = Position::ArgumentIs(usize::from(number));
         } else if self.cursor.is_raw_prefix_next() {
             let name = self.prefixed_word()?;
-            *into = Position::ArgumentNamed(name);
+            *slot = Position::ArgumentNamed(name);
         } else if self.cursor.is_word_next() {
             let name = self.word()?;
-            *into = Position::ArgumentNamed(name);
+            *slot = Position::ArgumentNamed(name);
         }
         Ok(())
     }
@@ -90,26 +90,27 @@ impl<'input> Reader<'input> {
         matches!(self.cursor.peek(), Some('}' | ':'))
     }
 
-    /// Reads the position and the white space after it into `into`, whose position is still
+    /// Reads the position and the white space after it into `argument`, whose position is still
     /// implicit, and sets their byte range. Returns `Err` if an allocation fails. In a mode that
     /// allows only names, anything but a name is a fault.
     #[inline(always)]
     fn spaced_position(
         &mut self,
         mode: ParseMode,
-        into: &mut Argument<'input>,
+        argument: &mut Argument<'input>,
     ) -> Result<(), AllocError>
-        requires { seen_position into.old.position ≡ Implicit 0 }
+        requires { seen_position argument.old.position ≡ Implicit 0 }
         ensures value { OnOk result
-            (seen_position into.new.position ≡ position_of 0 (position self.old.rest).0) }
-        ensures span { (let p = position self.old.rest in OnOk result (pair into.new.position_span
+            (seen_position argument.new.position ≡ position_of 0 (position self.old.rest).0) }
+        ensures span { (let p = position self.old.rest in OnOk result
+            (pair argument.new.position_span
             ≡ place_of self.old.world (up_to self.old.rest (after_white p.1)))) }
-        ensures format { into.new.format ≡ into.old.format }
+        ensures format { argument.new.format ≡ argument.old.format }
         ensures state { OnOk result (self.new ≡ (let p = position self.old.rest in
             let fs = position_faults self.old.rest p.0 in
             record (read_to self.old (after_white p.1) self.old.next fs) {
               faults = (self.old.faults ++ faults_in self.old.world fs) ++ name_faults
-                  (seen_mode mode) (given_position p.0) (pair into.new.position_span);
+                  (seen_mode mode) (given_position p.0) (pair argument.new.position_span);
             })) }
         ensures err { OnErr result (self.new.source ≡ self.old.source) }
         ensures spare { (let p = position self.old.rest in
@@ -120,12 +121,12 @@ impl<'input> Reader<'input> {
         let start = self.cursor.start();
         let mut end = start;
         if !self.has_no_position() {
-            self.position(&mut into.position)?;
+            self.position(&mut argument.position)?;
             self.cursor.ws();
             end = self.cursor.start();
         }
-        into.position_span = start..end;
-        if wants_names(mode) && !matches!(into.position, Position::ArgumentNamed(_)) {
+        argument.position_span = start..end;
+        if wants_names(mode) && !matches!(argument.position, Position::ArgumentNamed(_)) {
             self.note(Fault::Unnamed(start..end))?;
         }
         Ok(())
@@ -144,32 +145,32 @@ impl<'input> Reader<'input> {
         }
     }
 
-    /// Reads a position, white space and a specification into `into`, whose position is still
+    /// Reads a position, white space and a specification into `slot`, whose position is still
     /// implicit and whose format is the default. Returns `Err` if an allocation fails.
     #[tactic(auto, using(crate::proofs::Readers::Steps::part_le), unfolding(crate::specs::Placeholder::cut, crate::specs::Meaning::argument, crate::specs::Values::number_after_field, crate::specs::PartFaults::cut_faults))]
     #[inline(always)]
     pub fn argument(
         &mut self,
         mode: ParseMode,
-        into: &mut Argument<'input>,
+        slot: &mut Argument<'input>,
     ) -> Result<(), AllocError>
-        requires implicit { seen_position into.old.position ≡ Implicit 0 }
-        requires blank { seen_spec into.old.format ≡ default_spec }
+        requires implicit { seen_position slot.old.position ≡ Implicit 0 }
+        requires blank { seen_spec slot.old.format ≡ default_spec }
         requires numbers { self.old.next + 1 + length self.old.rest < 2 ^ 64 }
         ensures value { (let a = cut (seen_mode mode) self.old.rest in
-            OnOk result (seen_argument into.new
+            OnOk result (seen_argument slot.new
             ≡ map_argument (place_of self.old.world) (argument self.old.next a))) }
         ensures reads { let a = cut (seen_mode mode) self.old.rest in
             let fs = cut_faults (seen_mode mode) a in
-            let read = read_to self.old a.rest (number_after_field self.old.next a.field) fs in
+            let reader = read_to self.old a.rest (number_after_field self.old.next a.field) fs in
             let texts = spec_texts a.field.spec a.rest in
             Reaches self.old result self.new
-            (read_texts (read_tries read (spec_tries a.field.spec a.rest)) texts)
+            (read_texts (read_tries reader (spec_tries a.field.spec a.rest)) texts)
             (FindsNothing self.old fs texts) }
     {
-        self.spaced_position(mode, into)?;
-        self.specification(mode, &mut into.format)?;
-        self.resolve(&mut into.position);
+        self.spaced_position(mode, slot)?;
+        self.specification(mode, &mut slot.format)?;
+        self.resolve(&mut slot.position);
         Ok(())
     }
 }

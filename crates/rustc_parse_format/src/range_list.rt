@@ -9,14 +9,14 @@ use std::marker::Model;
 use std::mem;
 use std::ops::Range;
 
-/// A list of byte ranges: the first `few_len` entries of `few` while `many` is empty, and otherwise
-/// `many`, with `few_len` 0. Most texts are one line with one or two placeholders, and an
-/// allocation takes longer than reading them.
+/// A list of byte ranges: the first `array_len` entries of `array` while `list` is empty, and
+/// otherwise `list`, with `array_len` 0. Most texts are one line with one or two placeholders, and
+/// an allocation takes longer than reading them.
 #[derive(Drop)]
 pub struct RangeList {
-    few: [Range<usize>; 2],
-    few_len: usize,
-    many: Vec<Range<usize>>,
+    array: [Range<usize>; 2],
+    array_len: usize,
+    list: Vec<Range<usize>>,
 }
 
 impl Model for RangeList {
@@ -26,23 +26,23 @@ impl Model for RangeList {
 
     ghost Value = { List Place };
 
-    ghost view = { λ l. map pair (take l.few_len l.few ++ l.many.items) };
+    ghost view = { λ l. map pair (take l.array_len l.array ++ l.list.items) };
 
-    ghost invariant = { λ l. (length l.few ≡ 2) × (l.few_len ≤ 2)
-        × (l.few_len ≢ 0 → l.many.items ≡ []) };
+    ghost invariant = { λ l. (length l.array ≡ 2) × (l.array_len ≤ 2)
+        × (l.array_len ≢ 0 → l.list.items ≡ []) };
 }
 
 /// Returns a list of the two ranges, with room for six more. Returns `Err` if an allocation fails.
 #[inline(never)]
-fn list_of_two(alloc: Global, few: &[Range<usize>; 2]) -> Result<Vec<Range<usize>>, AllocError>
-    ensures { IfOk result (λ many. map pair many.items ≡ map pair few.now) }
+fn list_of_two(alloc: Global, array: &[Range<usize>; 2]) -> Result<Vec<Range<usize>>, AllocError>
+    ensures { IfOk result (λ list. map pair list.items ≡ map pair array.now) }
 {
-    let mut many = Vec::new(alloc);
-    many.reserve(8)?;
-    let [first, second] = few;
-    many.push_reserved(first.start..first.end);
-    many.push_reserved(second.start..second.end);
-    Ok(many)
+    let mut list = Vec::new(alloc);
+    list.reserve(8)?;
+    let [first, second] = array;
+    list.push_reserved(first.start..first.end);
+    list.push_reserved(second.start..second.end);
+    Ok(list)
 }
 
 impl RangeList {
@@ -51,9 +51,9 @@ impl RangeList {
         ensures { result ≡ [] }
     {
         RangeList {
-            few: [0..0, 0..0],
-            few_len: 0,
-            many: Vec::new(alloc),
+            array: [0..0, 0..0],
+            array_len: 0,
+            list: Vec::new(alloc),
         }
     }
 
@@ -61,7 +61,7 @@ impl RangeList {
     pub fn len(&self) -> usize
         ensures { result ≡ length self.now }
     {
-        self.few_len + self.many.len()
+        self.array_len + self.list.len()
     }
 
     /// Returns whether there are no ranges.
@@ -75,10 +75,10 @@ impl RangeList {
     pub fn as_slice(&self) -> &[Range<usize>]
         ensures { map pair result.now ≡ self.now }
     {
-        if self.few_len == 0 {
-            return self.many.as_slice();
+        if self.array_len == 0 {
+            return self.list.as_slice();
         }
-        &self.few[..self.few_len]
+        &self.array[..self.array_len]
     }
 
     /// Adds a range at the end. Returns `Err` if an allocation fails, and the list is then
@@ -88,16 +88,16 @@ impl RangeList {
         ensures ok { OnOk result (self.new ≡ self.old ++ pair range ∷ []) }
         ensures err { OnErr result (self.new ≡ self.old) }
     {
-        if self.many.is_empty() {
-            if self.few_len < 2 {
-                self.few[self.few_len] = range;
-                self.few_len += 1;
+        if self.list.is_empty() {
+            if self.array_len < 2 {
+                self.array[self.array_len] = range;
+                self.array_len += 1;
                 return Ok(());
             }
-            self.many = list_of_two(*self.many.allocator(), &self.few)?;
-            self.few_len = 0;
+            self.list = list_of_two(*self.list.allocator(), &self.array)?;
+            self.array_len = 0;
         }
-        self.many.push(range)?;
+        self.list.push(range)?;
         Ok(())
     }
 
@@ -105,11 +105,11 @@ impl RangeList {
     pub fn truncate(&mut self, count: usize)
         ensures { self.new ≡ take count self.old }
     {
-        if count < self.few_len {
-            self.few_len = count;
+        if count < self.array_len {
+            self.array_len = count;
             return;
         }
-        self.many.truncate(count);
+        self.list.truncate(count);
     }
 
     /// Moves all of `ranges` to the end. Returns `Err` if an allocation fails, and the list is then
@@ -121,8 +121,8 @@ impl RangeList {
         ensures err { OnErr result (self.new ≡ self.old) }
     {
         if self.is_empty() && ranges.len() > 1 {
-            self.few_len = 0;
-            self.many = mem::replace(ranges, Vec::new(*ranges.allocator()));
+            self.array_len = 0;
+            self.list = mem::replace(ranges, Vec::new(*ranges.allocator()));
             return Ok(());
         }
         let count = self.len();

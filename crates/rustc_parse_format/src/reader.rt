@@ -182,7 +182,7 @@ impl<'input> Reader<'input> {
     {
         let from = self.cursor.checkpoint();
         self.skip_string()?;
-        Ok(self.cursor.since(&from))
+        Ok(self.cursor.text_since(&from))
     }
 
     /// Reads the next character, and the longest prefix without braces after it, which alone counts
@@ -197,7 +197,7 @@ impl<'input> Reader<'input> {
         let from = self.cursor.checkpoint();
         self.cursor.skip_char();
         self.skip_string()?;
-        Ok(self.cursor.since(&from))
+        Ok(self.cursor.text_since(&from))
     }
 
     /// Moves past the longest prefix without braces. In a source literal it does so line by line,

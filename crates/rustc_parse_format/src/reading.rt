@@ -4,8 +4,8 @@ ghost use Rattle.std.specs.Prelude.{◌≡◌, ◌≢◌, ◌+◌, false, ◌<�
 ghost use Rattle.std.specs.Prelude.{IsOk, IsTrue, chars, length, map};
 ghost use Rattle.rustc_parse_format.specs.Characters.{Text};
 ghost use Rattle.rustc_parse_format.specs.Grammar.{IsInGrammar, IsSpelled, Reads, StopsInside};
-ghost use Rattle.rustc_parse_format.specs.Types.{Mode, Piece as BarePiece, bare};
-ghost use Rattle.rustc_parse_format.specs.Seen.{seen, seen_mode, seen_snippet};
+ghost use Rattle.rustc_parse_format.specs.Types.{Mode, Piece as BarePiece, bare_piece};
+ghost use Rattle.rustc_parse_format.specs.Seen.{seen_piece, seen_mode, seen_snippet};
 ghost use Rattle.rustc_parse_format.specs.Source.{HasSource};
 ghost use Rattle.rustc_parse_format.specs.State.{AreLines, Walks, after_all, calls, closed_of};
 ghost use Rattle.rustc_parse_format.specs.State.{first_state};
@@ -26,7 +26,7 @@ use std::alloc::{AllocError, Global};
 const PIECE_BYTES: usize = 10;
 
 /// The most pieces after the first one for which a list makes room.
-const MOST_ROOM: usize = 16;
+const MAX_ROOM: usize = 16;
 
 /// Makes room in an empty list for a piece and those that are likely to follow it in so many bytes.
 /// Returns `Err` if an allocation fails.
@@ -35,7 +35,7 @@ fn make_room(pieces: &mut Vec<Piece<'_>>, bytes: usize) -> Result<(), AllocError
     ensures { pieces.new.items ≡ pieces.old.items }
 {
     if pieces.is_empty() {
-        pieces.reserve(1 + (bytes / PIECE_BYTES).min(MOST_ROOM))?;
+        pieces.reserve(1 + (bytes / PIECE_BYTES).min(MAX_ROOM))?;
     }
     Ok(())
 }
@@ -47,7 +47,7 @@ fn read_pieces<'input>(
     size: usize,
     parser: &mut Parser<'input>,
 ) -> Result<Vec<Piece<'input>>, AllocError>
-    ensures pieces { IfOk result (λ ps. map seen ps.items
+    ensures pieces { IfOk result (λ ps. map seen_piece ps.items
         ≡ pieces_in parser.old.world (pieces_of (calls parser.old))) }
     ensures state { IfOk result (λ ps. parser.new ≡ after_all parser.old (calls parser.old)) }
     ensures few { IfOk result (λ ps. AreFew parser.new.input parser.new.rest parser.new.back) }
@@ -96,13 +96,13 @@ pub fn read_all<'input>(
     ensures walk { IfOk result (λ x.
         let s = first_state (seen_mode mode) (chars input.now) style
         (seen_snippet snippet) appended_newline in
-        (map seen x.pieces.items ≡ pieces_in s.world (pieces_of (calls s)))
+        (map seen_piece x.pieces.items ≡ pieces_in s.world (pieces_of (calls s)))
         × (x.parser ≡ after_all s (calls s))) }
 
     ensures walks { IfOk result (λ x. Walks
         (first_state (seen_mode mode) (chars input.now) style
         (seen_snippet snippet) appended_newline)
-        (map seen x.pieces.items) x.parser) }
+        (map seen_piece x.pieces.items) x.parser) }
 
     // Few steps are taken, those of the last call included: at most two for each character of the
     // input.
@@ -116,9 +116,11 @@ pub fn read_all<'input>(
     ensures clean { IfOk result (λ x. (x.parser.errors ≡ [])
         ↔ IsInGrammar (seen_mode mode) (chars input.now)) }
     ensures reading { IfOk result (λ x. x.parser.errors ≡ []
-        → Reads (seen_mode mode) 0 (chars input.now) (map bare (map seen x.pieces.items))) }
+        → Reads (seen_mode mode) 0 (chars input.now)
+        (map bare_piece (map seen_piece x.pieces.items))) }
     ensures round_trip { IfOk result (λ x. x.parser.errors ≡ []
-        → IsSpelled (seen_mode mode) 0 (chars input.now) (map bare (map seen x.pieces.items))) }
+        → IsSpelled (seen_mode mode) 0 (chars input.now)
+        (map bare_piece (map seen_piece x.pieces.items))) }
     ensures one_reading { (m : Mode) (c : ℕ) (t : Text) (ps qs : List (BarePiece (Unit {0})))
         → Reads m c t ps → Reads m c t qs → ps ≡ qs }
     ensures one_cut { (m : Mode) (t : Text) → (a : FieldText) × (r : Text) × IsOnlyCut m t a r }
@@ -126,12 +128,13 @@ pub fn read_all<'input>(
     // With an error, the first pieces read the input up to a character inside it at which no piece
     // of the grammar begins.
     ensures first_fault { IfOk result (λ x. x.parser.errors ≢ []
-        → StopsInside (seen_mode mode) 0 (chars input.now) (map bare (map seen x.pieces.items))) }
+        → StopsInside (seen_mode mode) 0 (chars input.now)
+        (map bare_piece (map seen_piece x.pieces.items))) }
 
     // Apart from their spans, pieces and errors do not depend on style, snippet or appended
     // newline.
     ensures worlds { IfOk result (λ x. let ks = walk (seen_mode mode) 0 (chars input.now) in
-        (map bare (map seen x.pieces.items) ≡ map bare (pieces_of ks))
+        (map bare_piece (map seen_piece x.pieces.items) ≡ map bare_piece (pieces_of ks))
         × (map bare_message x.parser.errors ≡ add_errors [] (map bare_fault (faults_of ks)))) }
 
     // With a source literal, the part of the snippet in each span, with its escapes decoded, is the

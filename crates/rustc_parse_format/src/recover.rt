@@ -52,7 +52,7 @@ impl<'input> Reader<'input> {
     ghost use Rattle.std.specs.Prelude.{[], ◌+◌, ◌<◌, ◌^◌, ◌≡◌, ◌≢◌, length, OnErr, OnOk};
     ghost use Rattle.rustc_parse_format.specs.Characters.{Text};
     ghost use Rattle.rustc_parse_format.specs.Marks.{Mark, Span, over_first};
-    ghost use Rattle.rustc_parse_format.specs.Midway.{after_sign, recovered};
+    ghost use Rattle.rustc_parse_format.specs.Midway.{after_sign, recovered_state};
     ghost use Rattle.rustc_parse_format.specs.Recovery.{field, late_debug, recovery, sign_fault};
     ghost use Rattle.rustc_parse_format.specs.Seen.{pair, seen_argument, seen_mode};
     ghost use Rattle.rustc_parse_format.specs.Types.{Argument as ArgumentValue, map_argument};
@@ -84,7 +84,7 @@ impl<'input> Reader<'input> {
     #[tactic(auto, using(crate::proofs::Readers::WordFronts::words_at_front), unfolding(crate::specs::Recovery::late_debug))]
     fn suggest_format_debug(&mut self) -> Result<(), AllocError>
         ensures state { OnOk result (self.new
-            ≡ recovered self.old (late_debug self.old.next self.old.rest)) }
+            ≡ recovered_state self.old (late_debug self.old.next self.old.rest)) }
         ensures err { OnErr result (self.new.source ≡ self.old.source) }
     {
         let span = self.cursor.start()..self.cursor.stop();
@@ -111,7 +111,7 @@ impl<'input> Reader<'input> {
         requires here { self.old.rest ≢ [] }
         requires numbers { self.old.next + length self.old.rest < 2 ^ 64 }
         ensures state { OnOk result ((m : Mark) → from ≡ number_of self.old.world m → self.new
-            ≡ recovered self.old (field (seen_mode mode) self.old.next m self.old.rest)) }
+            ≡ recovered_state self.old (field (seen_mode mode) self.old.next m self.old.rest)) }
         ensures source { self.new.source ≡ self.old.source }
     {
         self.cursor.skip_char();
@@ -141,8 +141,9 @@ impl<'input> Reader<'input> {
         requires numbers { self.old.next + length self.old.rest < 2 ^ 64 }
         ensures state { OnOk result ((o : Text) (a : ArgumentValue Span)
             → pair opening ≡ place_of self.old.world (over_first o)
-            → seen_argument argument.now ≡ map_argument (place_of self.old.world) a → self.new
-            ≡ recovered self.old (recovery (seen_mode mode) self.old.next o a self.old.rest)) }
+            → seen_argument argument.now ≡ map_argument (place_of self.old.world) a
+            → self.new ≡ recovered_state self.old
+            (recovery (seen_mode mode) self.old.next o a self.old.rest)) }
         ensures source { self.new.source ≡ self.old.source }
     {
         let Some(sign) = self.cursor.peek() else {

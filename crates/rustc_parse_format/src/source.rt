@@ -251,7 +251,7 @@ pub fn first_anchor<'input>(source: &Source<'input>) -> Anchor<'input>
         None => Anchor {
             rest: source.input,
             offset: 0,
-            unescaped: 0,
+            unescaped_len: 0,
         },
     }
 }

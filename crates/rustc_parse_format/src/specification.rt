@@ -251,9 +251,9 @@ impl<'input> Reader<'input> {
             (spec_of self.old.next self.old.rest s.0 s.1))) }
         ensures reads { let s = specification (seen_mode mode) self.old.rest in
             let fs = spec_faults (seen_mode mode) self.old.rest s.0 s.1 in
-            let read = read_to self.old s.1 (number_after_spec self.old.next s.0) fs in
+            let reader = read_to self.old s.1 (number_after_spec self.old.next s.0) fs in
             Reaches self.old result self.new
-            (read_texts (read_tries read (spec_tries s.0 s.1)) (spec_texts s.0 s.1))
+            (read_texts (read_tries reader (spec_tries s.0 s.1)) (spec_texts s.0 s.1))
             (FindsNothing self.old fs (spec_texts s.0 s.1)) }
     {
         self.cursor.steps_are_few();

@@ -3,7 +3,7 @@ use Rattle.std.proofs.Common.{◌≡◌, ◌++◌, ℕ, Bool, List, ap, refl, �
 use Rattle.std.proofs.Common.{Option, Some}
 use Rattle.rustc_parse_format.specs.Characters.{Text}
 use Rattle.rustc_parse_format.specs.Literal.{newline}
-use Rattle.rustc_parse_format.specs.Seen.{seen}
+use Rattle.rustc_parse_format.specs.Seen.{seen_piece}
 use Rattle.rustc_parse_format.specs.State.{State, after_all, calls, first_state}
 use Rattle.rustc_parse_format.specs.Types.{Format}
 use Rattle.call_faults.specs.Arguments.{FormatArgument}
@@ -18,10 +18,11 @@ use Rattle.source_lint.specs.Readings.{call_of, pieces, start_of}
 -- A checked call is that of the string at whose start the parser was.
 pub call-same : (s : State) (x : CallReport) (gs : List FormatArgument) (captures : Bool)
     → map seen_given x.arguments.now ≡ gs → x.indices.items ≡ kept_indices gs
-    → map seen x.pieces.items ≡ pieces s
-    → x.counts.items ≡ counts_before 0 (map seen x.pieces.items) → x.parser ≡ after_all s (calls s)
+    → map seen_piece x.pieces.items ≡ pieces s
+    → x.counts.items ≡ counts_before 0 (map seen_piece x.pieces.items)
+    → x.parser ≡ after_all s (calls s)
     → map seen_fault x.faults.items
-    ≡ call_faults captures gs (text_fault s) (map seen x.pieces.items)
+    ≡ call_faults captures gs (text_fault s) (map seen_piece x.pieces.items)
     → ◌≡◌ {A = Call} (seen_call x) (call_of captures s gs)
 call-same s x gs captures e f h n k l =
     let counts : x.counts.items ≡ counts_before 0 (pieces s) =

@@ -22,7 +22,8 @@ use Rattle.asm_lint.specs.Literals.{appends_newline}
 use Rattle.source_lint.specs.FormWords.{TellsForms}
 use Rattle.call_forms.specs.Expressions.{joined}
 use Rattle.call_forms.specs.Forms.{form_here}
-use Rattle.source_lint.specs.Readings.{Reads, ReadsAt, ReadsBy, ReadsOne, ReadsUnless, captures}
+use Rattle.source_lint.specs.Readings.{Reads, ReadsAt, ReadsBy, ReadsOne, ReadsUnless}
+use Rattle.source_lint.specs.Readings.{captures_variables}
 use Rattle.source_lint.specs.Readings.{ends_early}
 use Rattle.source_lint.specs.Readings.{has_expressions, index_if, index_or, is_empty}
 use Rattle.source_lint.specs.Readings.{lack_expression, name_at}
@@ -68,7 +69,7 @@ at-same is_new xs ys g c bs n r fs e p k h =
           (up-to-at (ends_early c.rule) xs ys g (c.name + 2) c.close (h.string.start + 1) h.end
           h.trees e p (omega (arith, s)) h.are_up_to);
       reads = reads-by _ _ _ _ _ _ _ _ _ r fs (ap appends_newline (sym name))
-          (ap (captures is_new c.rule) (sym name))
+          (ap (captures_variables is_new c.rule) (sym name))
           (ap not (sym (counted-at xs ys g (c.name + 2) c.close (h.string.start + 1) h.end h.trees e
           p h.are_up_to.within h.are_up_to.are_trees)))
           (sym (others-same xs ys g (c.name + 3) c.close h.end (n + 1) bs e w all)) h.reads;

@@ -15,7 +15,7 @@ use Rattle.format_calls.specs.Arguments.{AreArguments, tokens_of}
 use Rattle.format_calls.specs.Counted.{AreUpTo, is_uncounted}
 use Rattle.format_calls.specs.Marks.{word}
 use Rattle.format_calls.specs.Rows.{rule_of}
-use Rattle.format_calls.specs.Standard.{with_crates}
+use Rattle.format_calls.specs.Standard.{with_crate_macros}
 use Rattle.format_calls.specs.Strings.{format_string}
 use Rattle.format_calls.specs.declared.listing.Call.{Call}
 use Rattle.format_calls.specs.declared.split.Argument.{Argument}
@@ -100,11 +100,11 @@ name_at xs i = name_of_leaf (slice_get xs i)
 
 -- The format string of a macro captures variables, unless the macro puts it into another text: so
 -- does `unreachable!` of the standard library before the edition 2021.
-abbrev pub captures : Bool → Rule → List ℕ → Bool
-captures is_new (Index n) w = true
-captures is_new (IndexByEdition n) w = is_new || not (bytes_eq w (codes "unreachable"))
-captures is_new FirstLiteral w = true
-captures is_new Templates w = true
+abbrev pub captures_variables : Bool → Rule → List ℕ → Bool
+captures_variables is_new (Index n) w = true
+captures_variables is_new (IndexByEdition n) w = is_new || not (bytes_eq w (codes "unreachable"))
+captures_variables is_new FirstLiteral w = true
+captures_variables is_new Templates w = true
 
 -- `;` ends the arguments of a macro with this rule: key-values follow it in those of slog.
 abbrev pub ends_early : Rule → Bool
@@ -132,7 +132,8 @@ pub record ReadsAt (is_new : Bool) (xs : List Leaf) (c : Call) (args : List Argu
   pub end : ℕ
   pub are_up_to : AreUpTo (ends_early c.rule) xs (string.start + 1) trees end c.close
   pub reads : ReadsLiteral (without_crs (chars literal.text)) (appends_newline (name_at xs c.name))
-      (captures is_new c.rule (name_at xs c.name)) (not (list_any (is_uncounted xs) trees))
+      (captures_variables is_new c.rule (name_at xs c.name))
+      (not (list_any (is_uncounted xs) trees))
       (map (given xs) (arguments_before end (drop (n + 1) args))) r fs
 
 -- The same where the argument n is the format string by this rule, or where it is the first
@@ -214,7 +215,7 @@ offset_of_leaf (Some x) = x.start
 abbrev pub is_log : Rule → List ℕ → Bool
 is_log (Index n) w = false
 is_log (IndexByEdition n) w = false
-is_log FirstLiteral w = is_some (rule_of with_crates w)
+is_log FirstLiteral w = is_some (rule_of with_crate_macros w)
 is_log Templates w = false
 
 abbrev pub skipped_if : Bool → Bool → Option CallReading

@@ -63,20 +63,20 @@ fn counted_help(help: Option<CallHelp>, is_whole: bool) -> Option<CallHelp>
 fn finding<'c>(
     alloc: Global,
     site: Site<'_, '_>,
-    checked: &CallReport<'c>,
+    report: &CallReport<'c>,
     fault: &CallFault<'c>,
     is_whole: bool,
 ) -> Result<Finding, AllocError>
     ensures outcome { IfOk result (λ x.
-        Tells is_whole (seen_call checked.now) (seen_fault fault.now) x) }
+        Tells is_whole (seen_call report.now) (seen_fault fault.now) x) }
     ensures spans { IfOk result (λ x. HasSpans site.entry.text.now x) }
 {
     let mut title = String::new(alloc);
-    checked.put_title(&mut title, fault)?;
-    let labels = labels(alloc, site, checked.labels(alloc, fault)?)?;
+    report.put_title(&mut title, fault)?;
+    let labels = labels(alloc, site, report.labels(alloc, fault)?)?;
     let span = primary_span(site, &labels);
-    let notes = notes(alloc, site, checked.notes(alloc, fault)?)?;
-    let call_help = counted_help(checked.help(alloc, fault)?, is_whole);
+    let notes = notes(alloc, site, report.notes(alloc, fault)?)?;
+    let call_help = counted_help(report.help(alloc, fault)?, is_whole);
     let help = help(alloc, site, call_help)?;
     Ok(Finding {
         is_warning: is_warning(fault),
@@ -95,19 +95,19 @@ fn put_finding<'c>(
     alloc: Global,
     findings: &mut Vec<Finding>,
     site: Site<'_, '_>,
-    checked: &CallReport<'c>,
+    report: &CallReport<'c>,
     fault: &CallFault<'c>,
     is_whole: bool,
 ) -> Result<(), AllocError>
     ensures outcome { OnOk result ((xs : List FindingValue)
         × (findings.new.items ≡ findings.old.items ++ xs)
-        × TellAll is_whole (seen_call checked.now)
+        × TellAll is_whole (seen_call report.now)
         (counted_faults is_whole (seen_fault fault.now ∷ [])) xs) }
     ensures spans { OnOk result (All (HasSpans site.entry.text.now) findings.old.items
         → All (HasSpans site.entry.text.now) findings.new.items) }
 {
     if is_whole || is_text_fault(fault) {
-        findings.push(finding(alloc, site, checked, fault, is_whole)?)?;
+        findings.push(finding(alloc, site, report, fault, is_whole)?)?;
     }
     Ok(())
 }
@@ -118,17 +118,17 @@ pub fn put_findings<'c>(
     alloc: Global,
     findings: &mut Vec<Finding>,
     site: Site<'_, '_>,
-    checked: &CallReport<'c>,
+    report: &CallReport<'c>,
     is_whole: bool,
 ) -> Result<(), AllocError>
     ensures outcome { OnOk result ((xs : List FindingValue)
         × (findings.new.items ≡ findings.old.items ++ xs)
-        × AreFindings is_whole (seen_call checked.now) xs) }
+        × AreFindings is_whole (seen_call report.now) xs) }
     ensures spans { OnOk result (All (HasSpans site.entry.text.now) findings.old.items
         → All (HasSpans site.entry.text.now) findings.new.items) }
 {
-    for fault in &checked.faults {
-        put_finding(alloc, findings, site, checked, fault, is_whole)?;
+    for fault in &report.faults {
+        put_finding(alloc, findings, site, report, fault, is_whole)?;
     }
     Ok(())
 }

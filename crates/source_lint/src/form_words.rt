@@ -187,8 +187,11 @@ fn form_range(
 {
     let range = match form {
         Form::NoString => call_range(text, tokens, call.name, call.close),
-        Form::NoLiteral { others, .. } => {
-            let index = arguments.len().saturating_sub(others).saturating_sub(1);
+        Form::NoLiteral { other_count, .. } => {
+            let index = arguments
+                .len()
+                .saturating_sub(other_count)
+                .saturating_sub(1);
             argument_range(tokens, arguments, index)
         }
         Form::NoComma { operator, .. } => found_range(operator),
@@ -222,7 +225,10 @@ fn lacks_literal(form: Form<'_>) -> Option<usize>
     ensures { result ≡ lacks_literal (seen_form form.entry) }
 {
     match form {
-        Form::NoLiteral { others, is_bytes } => { if is_bytes { None } else { Some(others) } }
+        Form::NoLiteral {
+            other_count,
+            is_bytes,
+        } => { if is_bytes { None } else { Some(other_count) } }
         _ => None,
     }
 }
@@ -280,11 +286,11 @@ fn put_more(out: &mut String, count: usize) -> Result<(), AllocError>
 
 /// Returns the format string for an argument and so many others, with the comma after it. Returns
 /// `Err` if an allocation fails.
-fn literal_for(alloc: Global, others: usize) -> Result<String, AllocError>
-    ensures { IfOk result (λ s. string_bytes s ≡ literal_for others) }
+fn literal_for(alloc: Global, other_count: usize) -> Result<String, AllocError>
+    ensures { IfOk result (λ s. string_bytes s ≡ literal_for other_count) }
 {
     let mut text = String::from_str(alloc, "\"{}")?;
-    put_more(&mut text, others)?;
+    put_more(&mut text, other_count)?;
     text.push_str("\", ")?;
     Ok(text)
 }
@@ -301,12 +307,12 @@ fn form_help(
     ensures spans { IfOk result (λ o. IfSome o (λ h. All (λ e. IsSpan text.now e.range)
         h.edits.items)) }
 {
-    let Some(others) = lacks_literal(form) else {
+    let Some(other_count) = lacks_literal(form) else {
         return Ok(None);
     };
-    let says = "you might be missing a string literal to format with";
-    let words = String::from_str(alloc, says)?;
-    let literal = literal_for(alloc, others)?;
+    let message = "you might be missing a string literal to format with";
+    let words = String::from_str(alloc, message)?;
+    let literal = literal_for(alloc, other_count)?;
     let mut edits = Vec::new(alloc);
     edits.push(Edit {
         range: range_in(text, span.start, span.start),

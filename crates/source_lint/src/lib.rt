@@ -13,4 +13,4 @@ mod readings;
 pub use changed::changed_file_faults;
 pub use lint::{Readings, file_faults, read_calls, report_on};
 pub use macros::{File, macro_names, name_at, other_macro};
-pub use readings::{argument_at, arguments_before, captures, ends_early, index_or};
+pub use readings::{argument_at, arguments_before, captures_variables, ends_early, index_or};

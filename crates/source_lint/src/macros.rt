@@ -36,11 +36,11 @@ fn is_macro_rules(token: &Token<'_>) -> bool
 }
 
 /// Returns whether two tokens, one after the other, are `macro_rules` and `!`.
-fn begins_definition(word: Option<Token<'_>>, mark: Option<Token<'_>>) -> bool
-    ensures { result ≡ begins_definition (option_map leaf word.entry) (option_map leaf mark.entry) }
+fn begins_definition(word: Option<Token<'_>>, bang: Option<Token<'_>>) -> bool
+    ensures { result ≡ begins_definition (option_map leaf word.entry) (option_map leaf bang.entry) }
 {
-    match (word, mark) {
-        (Some(word), Some(mark)) => is_macro_rules(&word) && is_mark_of(&mark, b'!'),
+    match (word, bang) {
+        (Some(word), Some(bang)) => is_macro_rules(&word) && is_mark_of(&bang, b'!'),
         _ => false,
     }
 }
@@ -76,11 +76,11 @@ pub fn macro_names<'a>(alloc: Global, text: &'a str) -> Result<BTreeSet<&'a [u8]
         return Ok(names);
     }
     let mut rest = Tokens::new(text);
-    let mut before = None;
+    let mut previous = None;
     let mut last = None;
     while let Some(token) = rest.next() {
-        put_definition(&mut names, before, last, &token)?;
-        before = last;
+        put_definition(&mut names, previous, last, &token)?;
+        previous = last;
         last = Some(token);
     }
     Ok(names)

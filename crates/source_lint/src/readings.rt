@@ -16,7 +16,7 @@ ghost use Rattle.source_lint.specs.Givens.{given};
 ghost use Rattle.asm_lint.specs.Literals.{appends_newline, without_crs};
 ghost use Rattle.source_lint.specs.Readings.{Reads, ReadsAt, ReadsLiteral, ReadsOne, call_of};
 ghost use Rattle.call_forms.specs.Operators.{lacks_operand};
-ghost use Rattle.source_lint.specs.Readings.{are_expressions, arguments_before, captures};
+ghost use Rattle.source_lint.specs.Readings.{are_expressions, arguments_before, captures_variables};
 ghost use Rattle.source_lint.specs.Readings.{counted_givens, lack_expression};
 ghost use Rattle.source_lint.specs.Readings.{ends_early, has_expressions, index_or, is_empty};
 ghost use Rattle.source_lint.specs.Readings.{name_at, scope};
@@ -64,13 +64,13 @@ fn check_string<'c>(
     requires { hashes string.style + length string.text.now + 2 < 2 ^ 64 }
     ensures outcome { OnOk result (let s = start string.entry in (xs : List FindingValue)
         × (findings.new.items ≡ findings.old.items ++ xs)
-        × AreFindings is_counted (call_of string.entry.captures s
+        × AreFindings is_counted (call_of string.entry.captures_variables s
         (map seen_given arguments.now)) xs) }
     ensures spans { OnOk result (All (HasSpans site.entry.text.now) findings.old.items
         → All (HasSpans site.entry.text.now) findings.new.items) }
 {
-    let checked = call_faults(alloc, string, arguments)?;
-    put_findings(alloc, findings, site, &checked, is_counted)?;
+    let report = call_faults(alloc, string, arguments)?;
+    put_findings(alloc, findings, site, &report, is_counted)?;
     Ok(())
 }
 
@@ -81,12 +81,13 @@ fn read_string(
     findings: &mut Vec<Finding>,
     site: Site<'_, '_>,
     appended_newline: bool,
-    captures: bool,
+    captures_variables: bool,
     is_counted: bool,
 ) -> Result<CallReading, AllocError>
     ensures read { IfOk result (λ r. (xs : List FindingValue)
         × (findings.new.items ≡ findings.old.items ++ xs)
-        × ReadsLiteral (without_crs (chars site.entry.literal.text.now)) appended_newline captures
+        × ReadsLiteral (without_crs (chars site.entry.literal.text.now)) appended_newline
+        captures_variables
         is_counted (map (given (map leaf site.entry.tokens.now)) site.entry.arguments.now) r xs) }
     ensures spans { OnOk result (All (HasSpans site.entry.text.now) findings.old.items
         → All (HasSpans site.entry.text.now) findings.new.items) }
@@ -103,7 +104,7 @@ fn read_string(
         style: literal.style,
         snippet: Some(snippet),
         appended_newline,
-        captures,
+        captures_variables,
     };
     check_string(alloc, findings, site, string, list, is_counted)?;
     Ok(reading_of(is_counted))
@@ -111,8 +112,8 @@ fn read_string(
 
 /// Returns whether the format string of a macro captures variables. `unreachable!` of the standard
 /// library puts it into another text before the edition 2021, where it captures none.
-pub fn captures(rule: Rule, name: &[u8], is_from_2021: bool) -> bool
-    ensures { result ≡ captures is_from_2021 rule name.now }
+pub fn captures_variables(rule: Rule, name: &[u8], is_from_2021: bool) -> bool
+    ensures { result ≡ captures_variables is_from_2021 rule name.now }
 {
     match rule {
         Rule::IndexByEdition(_) => is_from_2021 || name != b"unreachable".as_slice(),
@@ -178,7 +179,7 @@ fn read_with(
         × (findings.new.items ≡ findings.old.items ++ xs)
         × ReadsLiteral (without_crs (chars literal.entry.text.now))
         (appends_newline (name_at part.now call.now.name))
-        (captures file.entry.is_from_2021 call.now.rule (name_at part.now call.now.name))
+        (captures_variables file.entry.is_from_2021 call.now.rule (name_at part.now call.now.name))
         is_counted (map (given part.now) arguments.now) r xs) }
     ensures spans { OnOk result (All (HasSpans file.entry.text.now) findings.old.items
         → All (HasSpans file.entry.text.now) findings.new.items) }
@@ -196,13 +197,13 @@ fn read_with(
     };
     let name = name_at(tokens, call.name);
     let appended_newline = appends_newline(name);
-    let captures = captures(call.rule, name, file.is_from_2021);
+    let captures_variables = captures_variables(call.rule, name, file.is_from_2021);
     let reading = read_string(
         alloc,
         findings,
         site,
         appended_newline,
-        captures,
+        captures_variables,
         is_counted,
     )?;
     Ok(reading)
@@ -250,9 +251,16 @@ fn read_at(
         )?;
         return Ok(reading);
     }
-    let before = arguments_before(alloc, others, extent.end)?;
+    let kept_arguments = arguments_before(alloc, others, extent.end)?;
     let reading = read_with(
-        alloc, findings, file, part, call, literal, &before, is_counted,
+        alloc,
+        findings,
+        file,
+        part,
+        call,
+        literal,
+        &kept_arguments,
+        is_counted,
     )?;
     Ok(reading)
 }

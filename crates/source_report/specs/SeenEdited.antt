@@ -1,6 +1,6 @@
 -- Suggestions and a text in the middle of its edits as a contract sees them.
 use Rattle.std.specs.Prelude.{◌++◌, ℕ, List, map}
-use Rattle.fault_fixes.specs.Edits.{Edit, applied}
+use Rattle.fault_fixes.specs.Edits.{Edit, edited_bytes}
 use Rattle.source_report.specs.declared.report.Finding.{Finding}
 use Rattle.source_report.specs.Suggestions.{LabelSuggestion, all_edits, mended}
 use Rattle.source_report.specs.declared.edited.EditedText.{EditedText}
@@ -12,7 +12,7 @@ seen_suggestion s = record { advice = s.advice.now; text = s.text.now; is_sure =
 
 -- The text with further edits.
 abbrev pub with_edits : EditedText → List Edit → List ℕ
-with_edits x es = x.bytes.items ++ applied x.end es x.rest.now
+with_edits x es = x.bytes.items ++ edited_bytes x.end es x.rest.now
 
 -- The text with the edits of those of these faults that are mended.
 abbrev pub with_faults : EditedText → List Finding → List ℕ

@@ -1,7 +1,7 @@
 //! A text with the edits of faults.
 
 ghost use Rattle.std.specs.Prelude.{◌≡◌, ◌++◌, ◌∷◌, IfOk, List, OnOk, drop, map, take};
-ghost use Rattle.fault_fixes.specs.Edits.{Edit as EditValue, applied};
+ghost use Rattle.fault_fixes.specs.Edits.{Edit as EditValue, edited_bytes};
 ghost use Rattle.fault_fixes.specs.SeenEdits.{seen_edit};
 ghost use Rattle.source_report.specs.Suggestions.{all_edits, end_after, mended};
 ghost use Rattle.source_report.specs.SeenEdited.{with_edits, with_faults, with_ids};
@@ -40,46 +40,56 @@ fn rest_after(bytes: &[u8], n: usize) -> &[u8]
 }
 
 /// Makes an edit. Returns `Err` if an allocation fails.
-fn make(edited: &mut EditedText<'_>, edit: &Edit<'_>) -> Result<(), AllocError>
-    ensures edit { OnOk result ((es : List EditValue) → with_edits edited.new es
-        ≡ with_edits edited.old (seen_edit edit.now ∷ es)) }
-    ensures end { OnOk result (edited.new.end ≡ edit.now.span.end) }
-    ensures ids { OnOk result (edited.new.ids ≡ edited.old.ids) }
+fn apply_edit(edited_text: &mut EditedText<'_>, edit: &Edit<'_>) -> Result<(), AllocError>
+    ensures edit { OnOk result ((es : List EditValue) → with_edits edited_text.new es
+        ≡ with_edits edited_text.old (seen_edit edit.now ∷ es)) }
+    ensures end { OnOk result (edited_text.new.end ≡ edit.now.span.end) }
+    ensures ids { OnOk result (edited_text.new.ids ≡ edited_text.old.ids) }
 {
-    let source = front(edited.rest, edit.span.start.saturating_sub(edited.end));
-    edited.bytes.extend_from_slice(source)?;
-    edited.bytes.extend_from_slice(edit.text.as_bytes())?;
-    edited.rest = rest_after(edited.rest, edit.span.end.saturating_sub(edited.end));
-    edited.end = edit.span.end;
+    let source = front(
+        edited_text.rest,
+        edit.span.start.saturating_sub(edited_text.end),
+    );
+    edited_text.bytes.extend_from_slice(source)?;
+    edited_text.bytes.extend_from_slice(edit.text.as_bytes())?;
+    edited_text.rest = rest_after(
+        edited_text.rest,
+        edit.span.end.saturating_sub(edited_text.end),
+    );
+    edited_text.end = edit.span.end;
     Ok(())
 }
 
 /// Makes edits, the first one first. Returns `Err` if an allocation fails.
-fn make_each(edited: &mut EditedText<'_>, edits: &[Edit<'_>]) -> Result<(), AllocError>
-    ensures edits { OnOk result ((es : List EditValue) → with_edits edited.new es
-        ≡ with_edits edited.old (map seen_edit edits.now ++ es)) }
-    ensures end { OnOk result (edited.new.end
-        ≡ end_after edited.old.end (map seen_edit edits.now)) }
-    ensures ids { OnOk result (edited.new.ids ≡ edited.old.ids) }
+fn apply_edits(edited_text: &mut EditedText<'_>, edits: &[Edit<'_>]) -> Result<(), AllocError>
+    ensures edits { OnOk result ((es : List EditValue) → with_edits edited_text.new es
+        ≡ with_edits edited_text.old (map seen_edit edits.now ++ es)) }
+    ensures end { OnOk result (edited_text.new.end
+        ≡ end_after edited_text.old.end (map seen_edit edits.now)) }
+    ensures ids { OnOk result (edited_text.new.ids ≡ edited_text.old.ids) }
 {
     for edit in edits {
-        make(edited, edit)?;
+        apply_edit(edited_text, edit)?;
     }
     Ok(())
 }
 
 /// Mends a fault, if it has edits, and these follow the last one. Returns `Err` if an allocation
 /// fails.
-fn mend(alloc: Global, edited: &mut EditedText<'_>, finding: &Finding) -> Result<(), AllocError>
-    ensures text { OnOk result ((xs : List FindingValue) → with_faults edited.new xs
-        ≡ with_faults edited.old (finding.now ∷ xs)) }
-    ensures ids { OnOk result ((xs : List FindingValue) → with_ids edited.new xs
-        ≡ with_ids edited.old (finding.now ∷ xs)) }
+fn mend(
+    alloc: Global,
+    edited_text: &mut EditedText<'_>,
+    finding: &Finding,
+) -> Result<(), AllocError>
+    ensures text { OnOk result ((xs : List FindingValue) → with_faults edited_text.new xs
+        ≡ with_faults edited_text.old (finding.now ∷ xs)) }
+    ensures ids { OnOk result ((xs : List FindingValue) → with_ids edited_text.new xs
+        ≡ with_ids edited_text.old (finding.now ∷ xs)) }
 {
     let edits = edits_of(alloc, finding)?;
-    if !edits.is_empty() && are_after(edited.end, edits.as_slice()) {
-        make_each(edited, edits.as_slice())?;
-        edited.ids.push(finding.id)?;
+    if !edits.is_empty() && are_after(edited_text.end, edits.as_slice()) {
+        apply_edits(edited_text, edits.as_slice())?;
+        edited_text.ids.push(finding.id)?;
     }
     Ok(())
 }
@@ -92,20 +102,20 @@ pub fn mend_each<'t>(
     findings: &[Finding],
 ) -> Result<EditedText<'t>, AllocError>
     ensures text { IfOk result (λ x. x.bytes.items
-        ≡ applied 0 (all_edits (mended 0 findings.now)) text.now) }
+        ≡ edited_bytes 0 (all_edits (mended 0 findings.now)) text.now) }
     ensures ids { IfOk result (λ x. map (λ w. w.now) x.ids.items
         ≡ map (λ f. f.id.now) (mended 0 findings.now)) }
 {
-    let mut edited = EditedText {
+    let mut edited_text = EditedText {
         bytes: Vec::new(alloc),
         rest: text.as_bytes(),
         end: 0,
         ids: Vec::new(alloc),
     };
     for finding in findings {
-        mend(alloc, &mut edited, finding)?;
+        mend(alloc, &mut edited_text, finding)?;
     }
-    let rest = edited.rest;
-    edited.bytes.extend_from_slice(rest)?;
-    Ok(edited)
+    let rest = edited_text.rest;
+    edited_text.bytes.extend_from_slice(rest)?;
+    Ok(edited_text)
 }

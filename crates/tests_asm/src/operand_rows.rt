@@ -7,21 +7,21 @@ use crate::rows::Row;
 pub const OPERANDS: &[Row] = &[
     Row {
         call: "\"nop\", in(reg) x",
-        said: "argument never used\n\
+        output: "argument never used\n\
             ^7..16 argument never used\n\
             ? if this argument is intentionally unused, consider using it in an asm comment: `\"/* \
             {0} */\"`\n",
     },
     Row {
         call: "\"nop\", a = in(reg) x",
-        said: "named argument never used\n\
+        output: "named argument never used\n\
             ^7..20 named argument never used\n\
             ? if this argument is intentionally unused, consider using it in an asm comment: `\"/* \
             {a} */\"`\n",
     },
     Row {
         call: "\"nop\", in(reg) x, in(reg) y",
-        said: "multiple unused asm arguments\n\
+        output: "multiple unused asm arguments\n\
             ^18..27 argument never used\n\
             ^7..16 argument never used\n\
             ? if these arguments are intentionally unused, consider using them in an asm comment: \
@@ -29,7 +29,7 @@ pub const OPERANDS: &[Row] = &[
     },
     Row {
         call: "\"nop\", in(reg) x, b = in(reg) y, in(\"eax\") 1",
-        said: "multiple unused asm arguments\n\
+        output: "multiple unused asm arguments\n\
             ^18..31 named argument never used\n\
             ^7..16 argument never used\n\
             ? if these arguments are intentionally unused, consider using them in an asm comment: \
@@ -37,7 +37,7 @@ pub const OPERANDS: &[Row] = &[
     },
     Row {
         call: "\"{a}\", a = in(reg) x, a = in(reg) y",
-        said: "duplicate argument named `a`\n\
+        output: "duplicate argument named `a`\n\
             -7..20 previously here\n\
             ^22..35 duplicate argument\n\
             argument never used\n\
@@ -47,13 +47,13 @@ pub const OPERANDS: &[Row] = &[
     },
     Row {
         call: "\"{a} {1}\", a = in(reg) x, a = in(reg) y",
-        said: "duplicate argument named `a`\n\
+        output: "duplicate argument named `a`\n\
             -11..24 previously here\n\
             ^26..39 duplicate argument\n",
     },
     Row {
         call: "\"{a} {a2} {1}\", a = in(reg) x, in(reg) y, in(reg) x, a2 = in(reg) y",
-        said: "positional arguments cannot follow named arguments or explicit register \
+        output: "positional arguments cannot follow named arguments or explicit register \
             arguments\n\
             -16..29 named argument\n\
             ^31..40 positional argument\n\
@@ -67,7 +67,7 @@ pub const OPERANDS: &[Row] = &[
     },
     Row {
         call: "\"{0}\", in(\"eax\") x, in(reg) y",
-        said: "positional arguments cannot follow named arguments or explicit register \
+        output: "positional arguments cannot follow named arguments or explicit register \
             arguments\n\
             -7..18 explicit register argument\n\
             ^20..29 positional argument\n\
@@ -84,7 +84,7 @@ pub const OPERANDS: &[Row] = &[
     },
     Row {
         call: "\"{0} {1}\", a = in(reg) x, in(\"ebx\") x, in(reg) y, in(reg) y",
-        said: "positional arguments cannot follow named arguments or explicit register \
+        output: "positional arguments cannot follow named arguments or explicit register \
             arguments\n\
             -11..24 named argument\n\
             -26..37 explicit register argument\n\
@@ -113,14 +113,14 @@ pub const OPERANDS: &[Row] = &[
     },
     Row {
         call: "\"{a}\", a = in(\"eax\") x",
-        said: "explicit register arguments cannot have names\n\
+        output: "explicit register arguments cannot have names\n\
             ^7..22 \n\
             there is no argument named `a`\n\
             ^2..3 \n",
     },
     Row {
         call: "\"{a}\", \"{b\", \"{c}\", a = in(reg) x, a = in(reg) y",
-        said: "duplicate argument named `a`\n\
+        output: "duplicate argument named `a`\n\
             -20..33 previously here\n\
             ^35..48 duplicate argument\n\
             invalid asm template string: expected `}` but string was terminated\n\
@@ -130,7 +130,7 @@ pub const OPERANDS: &[Row] = &[
     },
     Row {
         call: "\"{0}\", a = in(\"ecx\") x",
-        said: "explicit register arguments cannot have names\n\
+        output: "explicit register arguments cannot have names\n\
             ^7..22 \n\
             invalid reference to argument at index 0\n\
             -7..22 explicit register argument\n\
@@ -141,7 +141,7 @@ pub const OPERANDS: &[Row] = &[
     },
     Row {
         call: "\"{b}{a}\", a = in(reg) x, a = in(reg) y, b = in(reg) x, b = in(reg) y",
-        said: "duplicate argument named `a`\n\
+        output: "duplicate argument named `a`\n\
             -10..23 previously here\n\
             ^25..38 duplicate argument\n\
             duplicate argument named `b`\n\
@@ -155,7 +155,7 @@ pub const OPERANDS: &[Row] = &[
     },
     Row {
         call: "\"{0}{1}{2}{3}\", a = in(reg) x, in(\"eax\") y, in(reg) x, a = in(reg) y",
-        said: "positional arguments cannot follow named arguments or explicit register \
+        output: "positional arguments cannot follow named arguments or explicit register \
             arguments\n\
             -16..29 named argument\n\
             -31..42 explicit register argument\n\
@@ -181,7 +181,7 @@ pub const OPERANDS: &[Row] = &[
     },
     Row {
         call: "\"{1}{1}\", in(reg) x, in(reg) y",
-        said: "argument never used\n\
+        output: "argument never used\n\
             ^10..19 argument never used\n\
             ? if this argument is intentionally unused, consider using it in an asm comment: `\"/* \
             {0} */\"`\n",

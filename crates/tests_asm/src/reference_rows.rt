@@ -7,13 +7,13 @@ use crate::rows::Row;
 pub const REFERENCES: &[Row] = &[
     Row {
         call: "\"{}\", \"{}\", in(reg) x",
-        said: "invalid reference to argument at index 1\n\
+        output: "invalid reference to argument at index 1\n\
             ^7..9 from here\n\
             = there is 1 argument\n",
     },
     Row {
         call: "\"{0}\", in(\"eax\") x",
-        said: "invalid reference to argument at index 0\n\
+        output: "invalid reference to argument at index 0\n\
             -7..18 explicit register argument\n\
             ^1..4 from here\n\
             = no positional arguments were given\n\
@@ -22,7 +22,7 @@ pub const REFERENCES: &[Row] = &[
     },
     Row {
         call: "\"{a}\", in(reg) x",
-        said: "there is no argument named `a`\n\
+        output: "there is no argument named `a`\n\
             ^2..3 \n\
             argument never used\n\
             ^7..16 argument never used\n\
@@ -31,7 +31,7 @@ pub const REFERENCES: &[Row] = &[
     },
     Row {
         call: "\"{}\", a = in(reg) x",
-        said: "invalid reference to argument at index 0\n\
+        output: "invalid reference to argument at index 0\n\
             -6..19 named argument\n\
             ^1..3 from here\n\
             = no positional arguments were given\n\
@@ -43,7 +43,7 @@ pub const REFERENCES: &[Row] = &[
     },
     Row {
         call: "\"{} {3} {z}\", \"{0:eax}\", in(reg) x, in(reg) y",
-        said: "invalid reference to argument at index 3\n\
+        output: "invalid reference to argument at index 3\n\
             ^4..7 from here\n\
             = there are 2 arguments\n\
             there is no argument named `z`\n\
@@ -57,7 +57,7 @@ pub const REFERENCES: &[Row] = &[
     },
     Row {
         call: "\"{9:eax}\", in(reg) x",
-        said: "invalid reference to argument at index 9\n\
+        output: "invalid reference to argument at index 9\n\
             ^1..8 from here\n\
             = there is 1 argument\n\
             asm template modifier must be a single character\n\
@@ -69,7 +69,7 @@ pub const REFERENCES: &[Row] = &[
     },
     Row {
         call: "\"{0} {1}\", in(reg) x, a = const 5",
-        said: "invalid reference to argument at index 1\n\
+        output: "invalid reference to argument at index 1\n\
             -22..33 named argument\n\
             ^5..8 from here\n\
             = there is 1 positional argument\n\
@@ -81,24 +81,24 @@ pub const REFERENCES: &[Row] = &[
     },
     Row {
         call: "\"{} {}\", \"{}\", in(reg) x, in(reg) y",
-        said: "invalid reference to argument at index 2\n\
+        output: "invalid reference to argument at index 2\n\
             ^10..12 from here\n\
             = there are 2 arguments\n",
     },
     Row {
         call: "\"{x}\"",
-        said: "there is no argument named `x`\n\
+        output: "there is no argument named `x`\n\
             ^2..3 \n",
     },
     Row {
         call: "\"{0}\"",
-        said: "invalid reference to argument at index 0\n\
+        output: "invalid reference to argument at index 0\n\
             ^1..4 from here\n\
             = no arguments were given\n",
     },
     Row {
         call: "\"{0} {0}\"",
-        said: "invalid reference to argument at index 0\n\
+        output: "invalid reference to argument at index 0\n\
             ^1..4 from here\n\
             = no arguments were given\n\
             invalid reference to argument at index 0\n\
@@ -107,14 +107,14 @@ pub const REFERENCES: &[Row] = &[
     },
     Row {
         call: "\"{q} {q}\"",
-        said: "there is no argument named `q`\n\
+        output: "there is no argument named `q`\n\
             ^2..3 \n\
             there is no argument named `q`\n\
             ^6..7 \n",
     },
     Row {
         call: "\"{a} {0}\", a = in(reg) x, b = in(reg) y",
-        said: "invalid reference to argument at index 0\n\
+        output: "invalid reference to argument at index 0\n\
             -11..24 named argument\n\
             ^5..8 from here\n\
             = no positional arguments were given\n\
@@ -126,7 +126,7 @@ pub const REFERENCES: &[Row] = &[
     },
     Row {
         call: "\"{}\", \"{}{}\", \"{1}\", in(reg) x, in(reg) y, out(\"eax\") _",
-        said: "invalid reference to argument at index 2\n\
+        output: "invalid reference to argument at index 2\n\
             -43..55 explicit register argument\n\
             ^9..11 from here\n\
             = there are 2 positional arguments\n\
@@ -135,12 +135,12 @@ pub const REFERENCES: &[Row] = &[
     },
     Row {
         call: "\"{a} {b} {c}\", a = in(reg) x, b = const 1",
-        said: "there is no argument named `c`\n\
+        output: "there is no argument named `c`\n\
             ^10..11 \n",
     },
     Row {
         call: "\"{a:rr}\", \"{:rr}\", \"{9:rr} {q:rr}\", in(reg) x",
-        said: "there is no argument named `a`\n\
+        output: "there is no argument named `a`\n\
             ^2..3 \n\
             asm template modifier must be a single character\n\
             ^4..6 \n\
@@ -158,7 +158,7 @@ pub const REFERENCES: &[Row] = &[
     },
     Row {
         call: "\"mov {}\", \"add {}\", in(\"eax\") x, b = in(reg) y",
-        said: "invalid reference to argument at index 0\n\
+        output: "invalid reference to argument at index 0\n\
             -20..31 explicit register argument\n\
             ^5..7 from here\n\
             = no positional arguments were given\n\
@@ -176,7 +176,7 @@ pub const REFERENCES: &[Row] = &[
     },
     Row {
         call: "\"é{}é{7}é{z}é{:zz}\", in(reg) x",
-        said: "invalid reference to argument at index 7\n\
+        output: "invalid reference to argument at index 7\n\
             ^7..10 from here\n\
             = there is 1 argument\n\
             there is no argument named `z`\n\
@@ -189,18 +189,18 @@ pub const REFERENCES: &[Row] = &[
     },
     Row {
         call: "\"{}\", \"{0}\", \"{}\", in(reg) x",
-        said: "invalid reference to argument at index 1\n\
+        output: "invalid reference to argument at index 1\n\
             ^14..16 from here\n\
             = there is 1 argument\n",
     },
     Row {
         call: "\"{a:}\"",
-        said: "there is no argument named `a`\n\
+        output: "there is no argument named `a`\n\
             ^2..3 \n",
     },
     Row {
         call: "\"{} {} {}\", in(reg) x, in(reg) y",
-        said: "invalid reference to argument at index 2\n\
+        output: "invalid reference to argument at index 2\n\
             ^7..9 from here\n\
             = there are 2 arguments\n",
     },

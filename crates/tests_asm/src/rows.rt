@@ -9,5 +9,5 @@ pub struct Row {
     /// Of each fault its title, its labels, whose lines are sorted, and its notes and helps, each
     /// on a line. Byte ranges count from the start of the call. A label has the sign `^` or `-`,
     /// its range and its text; a note has `=`, a help `?`, and the range that it shows.
-    pub said: &'static str,
+    pub output: &'static str,
 }

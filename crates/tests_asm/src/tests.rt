@@ -134,12 +134,12 @@ fn put_fault<'a>(
 }
 
 /// Returns the words for a call.
-fn said(alloc: Global, call: &str) -> Result<String, AllocError> {
+fn output_of(alloc: Global, call: &str) -> Result<String, AllocError> {
     let parts = parts_of(alloc, call)?;
-    let checked = asm_faults(alloc, &parts.templates, &parts.operands)?;
+    let report = asm_faults(alloc, &parts.templates, &parts.operands)?;
     let mut out = String::new(alloc);
-    for fault in &checked.faults {
-        put_fault(&mut out, &parts, &checked, fault)?;
+    for fault in &report.faults {
+        put_fault(&mut out, &parts, &report, fault)?;
     }
     Ok(out)
 }
@@ -162,8 +162,8 @@ fn calls_are_as_rustc_says(rt: HostRuntime) -> Result<(), Fail> {
     let alloc = rt.alloc();
     for rows in [REFERENCES, OPERANDS, TEMPLATES] {
         for row in rows {
-            let said = said(alloc, row.call)?;
-            assert_eq!(&rt; said.as_str(), row.said, "{}", row.call);
+            let output = output_of(alloc, row.call)?;
+            assert_eq!(&rt; output.as_str(), row.output, "{}", row.call);
         }
     }
     Ok(())
@@ -178,14 +178,14 @@ fn calls_out_of_memory_are_said_again(rt: HostRuntime) -> Result<(), Fail> {
             if index % 8 != 0 {
                 continue;
             }
-            let said = match said(alloc, row.call) {
-                Ok(said) => said,
+            let output = match output_of(alloc, row.call) {
+                Ok(output) => output,
                 Err(_) => {
                     println!(rt; "refused")?;
-                    said(alloc, row.call)?
+                    output_of(alloc, row.call)?
                 }
             };
-            assert_eq!(&rt; said.as_str(), row.said, "{}", row.call);
+            assert_eq!(&rt; output.as_str(), row.output, "{}", row.call);
         }
     }
     Ok(())
@@ -206,8 +206,8 @@ fn each_kind_has_its_id(rt: HostRuntime) -> Result<(), Fail> {
         ("\"{\", in(reg) x", "missing-closing-brace"),
     ];
     for (call, expected) in rows {
-        let said = ids(alloc, call)?;
-        assert_eq!(&rt; said.as_str(), expected, "{}", call);
+        let output = ids(alloc, call)?;
+        assert_eq!(&rt; output.as_str(), expected, "{}", call);
     }
     Ok(())
 }

@@ -10,7 +10,7 @@ pub struct TextRow {
     /// Of each fault its title, its labels, whose lines are sorted, and its help, each on a line,
     /// and the faults are sorted. Byte ranges count from the start of the literal. A label has the
     /// sign `^` or `-`, its range and its text, and a help has `?`.
-    pub said: &'static str,
+    pub output: &'static str,
 }
 
 /// The output of `rustc --edition 2021 --error-format=json` for
@@ -19,21 +19,21 @@ pub const TEXT_ROWS: [TextRow; 27] = [
     TextRow {
         literal: "\"{\"",
         text: "{",
-        said: "expected `}` but string was terminated\n\
+        output: "expected `}` but string was terminated\n\
             -2..2 expected `}`\n\
             ^0..3 \n",
     },
     TextRow {
         literal: "\"}\"",
         text: "}",
-        said: "unmatched `}` found\n\
+        output: "unmatched `}` found\n\
             -1..2 unmatched `}`\n\
             ^0..3 \n",
     },
     TextRow {
         literal: "\"{Self} {}\"",
         text: "{Self} {}",
-        said: "positional format arguments are not allowed here\n\
+        output: "positional format arguments are not allowed here\n\
             ^9..9 \n\
             ? only named format arguments with the name of one of the generic types are allowed in \
             this context\n",
@@ -41,7 +41,7 @@ pub const TEXT_ROWS: [TextRow; 27] = [
     TextRow {
         literal: "\"{0}\"",
         text: "{0}",
-        said: "positional format arguments are not allowed here\n\
+        output: "positional format arguments are not allowed here\n\
             ^2..3 \n\
             ? only named format arguments with the name of one of the generic types are allowed in \
             this context\n",
@@ -49,35 +49,35 @@ pub const TEXT_ROWS: [TextRow; 27] = [
     TextRow {
         literal: "\"{A:?}\"",
         text: "{A:?}",
-        said: "invalid format specifier\n\
+        output: "invalid format specifier\n\
             ^3..5 \n\
             ? no format specifier are supported in this position\n",
     },
     TextRow {
         literal: "\"{Z}\"",
         text: "{Z}",
-        said: "there is no parameter `Z` on trait `T`\n\
+        output: "there is no parameter `Z` on trait `T`\n\
             ^2..3 \n\
             ? expect either a generic argument name or `{Self}` as format argument\n",
     },
     TextRow {
         literal: "r\"{\"",
         text: "{",
-        said: "expected `}` but string was terminated\n\
+        output: "expected `}` but string was terminated\n\
             -4..4 expected `}`\n\
             ^0..4 \n",
     },
     TextRow {
         literal: "\"{Self} {A}} x\"",
         text: "{Self} {A}} x",
-        said: "unmatched `}` found\n\
+        output: "unmatched `}` found\n\
             -11..12 unmatched `}`\n\
             ^0..15 \n",
     },
     TextRow {
         literal: "\"{A:?} {Z:x} {}\"",
         text: "{A:?} {Z:x} {}",
-        said: "invalid format specifier\n\
+        output: "invalid format specifier\n\
             ^3..5 \n\
             ? no format specifier are supported in this position\n\
             invalid format specifier\n\
@@ -94,26 +94,26 @@ pub const TEXT_ROWS: [TextRow; 27] = [
     TextRow {
         literal: "\"{Self} {A} {B} {N}\"",
         text: "{Self} {A} {B} {N}",
-        said: "",
+        output: "",
     },
     TextRow {
         literal: "\"{ A } {Self }\"",
         text: "{ A } {Self }",
-        said: "expected `}`, found `A`\n\
+        output: "expected `}`, found `A`\n\
             -3..3 expected `}`\n\
             ^0..15 \n",
     },
     TextRow {
         literal: "\"{{}} {Z}\"",
         text: "{{}} {Z}",
-        said: "there is no parameter `Z` on trait `T`\n\
+        output: "there is no parameter `Z` on trait `T`\n\
             ^7..8 \n\
             ? expect either a generic argument name or `{Self}` as format argument\n",
     },
     TextRow {
         literal: "\"{This} {Trait} {ItemContext}\"",
         text: "{This} {Trait} {ItemContext}",
-        said: "there is no parameter `ItemContext` on trait `T`\n\
+        output: "there is no parameter `ItemContext` on trait `T`\n\
             ^17..28 \n\
             ? expect either a generic argument name or `{Self}` as format argument\n\
             there is no parameter `This` on trait `T`\n\
@@ -126,7 +126,7 @@ pub const TEXT_ROWS: [TextRow; 27] = [
     TextRow {
         literal: "r\"{Z} {:x}\"",
         text: "{Z} {:x}",
-        said: "invalid format specifier\n\
+        output: "invalid format specifier\n\
             ^0..11 \n\
             ? no format specifier are supported in this position\n\
             positional format arguments are not allowed here\n\
@@ -140,14 +140,14 @@ pub const TEXT_ROWS: [TextRow; 27] = [
     TextRow {
         literal: "r#\"{A}} \"#",
         text: "{A}} ",
-        said: "unmatched `}` found\n\
+        output: "unmatched `}` found\n\
             -4..5 unmatched `}`\n\
             ^0..10 \n",
     },
     TextRow {
         literal: "\"\\t{Z} {A:}\"",
         text: "\t{Z} {A:}",
-        said: "invalid format specifier\n\
+        output: "invalid format specifier\n\
             ^9..10 \n\
             ? no format specifier are supported in this position\n\
             there is no parameter `Z` on trait `T`\n\
@@ -157,42 +157,42 @@ pub const TEXT_ROWS: [TextRow; 27] = [
     TextRow {
         literal: "\"\\t{A}} \"",
         text: "\t{A}} ",
-        said: "unmatched `}` found\n\
+        output: "unmatched `}` found\n\
             -6..7 unmatched `}`\n\
             ^0..9 \n",
     },
     TextRow {
         literal: "\"{r#A}\"",
         text: "{r#A}",
-        said: "raw identifiers are not supported\n\
+        output: "raw identifiers are not supported\n\
             -2..5 raw identifier used here\n\
             ^0..7 \n",
     },
     TextRow {
         literal: "\"{A.b}\"",
         text: "{A.b}",
-        said: "field access isn't supported\n\
+        output: "field access isn't supported\n\
             -2..5 not supported\n\
             ^0..7 \n",
     },
     TextRow {
         literal: "\"{_}\"",
         text: "{_}",
-        said: "invalid argument name `_`\n\
+        output: "invalid argument name `_`\n\
             -2..3 invalid argument name\n\
             ^0..5 \n",
     },
     TextRow {
         literal: "\"{A:{}}\"",
         text: "{A:{}}",
-        said: "expected `}`, found `{`\n\
+        output: "expected `}`, found `{`\n\
             -4..4 expected `}`\n\
             ^0..8 \n",
     },
     TextRow {
         literal: "\"{:?}\"",
         text: "{:?}",
-        said: "invalid format specifier\n\
+        output: "invalid format specifier\n\
             ^2..4 \n\
             ? no format specifier are supported in this position\n\
             positional format arguments are not allowed here\n\
@@ -203,14 +203,14 @@ pub const TEXT_ROWS: [TextRow; 27] = [
     TextRow {
         literal: "\"{a}\"",
         text: "{a}",
-        said: "there is no parameter `a` on trait `T`\n\
+        output: "there is no parameter `a` on trait `T`\n\
             ^2..3 \n\
             ? expect either a generic argument name or `{Self}` as format argument\n",
     },
     TextRow {
         literal: "\"é{é} {Z}é {:é}\"",
         text: "é{é} {Z}é {:é}",
-        said: "invalid format specifier\n\
+        output: "invalid format specifier\n\
             ^15..18 \n\
             ? no format specifier are supported in this position\n\
             positional format arguments are not allowed here\n\
@@ -227,20 +227,20 @@ pub const TEXT_ROWS: [TextRow; 27] = [
     TextRow {
         literal: "\"{A?}\"",
         text: "{A?}",
-        said: "expected `}`, found `?`\n\
+        output: "expected `}`, found `?`\n\
             -3..4 expected `:` before `?` to format with `Debug`\n\
             ^0..6 \n",
     },
     TextRow {
         literal: "\"{A:?#}\"",
         text: "{A:?#}",
-        said: "invalid format specifier\n\
+        output: "invalid format specifier\n\
             ^3..6 \n\
             ? no format specifier are supported in this position\n",
     },
     TextRow {
         literal: "\"\"",
         text: "",
-        said: "",
+        output: "",
     },
 ];

@@ -58,7 +58,7 @@ fn faults<'a>(
 }
 
 /// Returns the words for a text with this literal: for each fault, sorted.
-fn said(alloc: Global, text: &str, literal: &str) -> Result<String, AllocError> {
+fn output_of(alloc: Global, text: &str, literal: &str) -> Result<String, AllocError> {
     let names = names_of(alloc, &["A", "B", "N"])?;
     let mut parts = Vec::new(alloc);
     for fault in &faults(alloc, text, literal, Some(&names))? {
@@ -67,19 +67,19 @@ fn said(alloc: Global, text: &str, literal: &str) -> Result<String, AllocError> 
         parts.push(part)?;
     }
     parts.sort()?;
-    let mut said = String::new(alloc);
+    let mut output = String::new(alloc);
     for part in &parts {
-        said.push_str(part)?;
+        output.push_str(part)?;
     }
-    Ok(said)
+    Ok(output)
 }
 
 #[test]
 fn texts_are_as_rustc_says(rt: HostRuntime) -> Result<(), Fail> {
     let alloc = rt.alloc();
     for row in TEXT_ROWS {
-        let said = said(alloc, row.text, row.literal)?;
-        assert_eq!(&rt; said.as_str(), row.said, "{}", row.literal);
+        let output = output_of(alloc, row.text, row.literal)?;
+        assert_eq!(&rt; output.as_str(), row.output, "{}", row.literal);
     }
     Ok(())
 }
@@ -90,14 +90,14 @@ fn texts_out_of_memory_are_said_again(rt: HostRuntime) -> Result<(), Fail> {
     let alloc = rt.alloc();
     for index in 0..5 {
         let row = &TEXT_ROWS[5 * index];
-        let said = match said(alloc, row.text, row.literal) {
-            Ok(said) => said,
+        let output = match output_of(alloc, row.text, row.literal) {
+            Ok(output) => output,
             Err(_) => {
                 println!(rt; "refused")?;
-                said(alloc, row.text, row.literal)?
+                output_of(alloc, row.text, row.literal)?
             }
         };
-        assert_eq!(&rt; said.as_str(), row.said, "{}", row.literal);
+        assert_eq!(&rt; output.as_str(), row.output, "{}", row.literal);
     }
     Ok(())
 }
@@ -116,11 +116,11 @@ fn each_kind_of_text_has_its_id(rt: HostRuntime) -> Result<(), Fail> {
     ];
     let names = names_of(alloc, &["A"])?;
     for (text, literal, expected) in rows {
-        let mut said = String::new(alloc);
+        let mut output = String::new(alloc);
         for fault in &faults(alloc, text, literal, Some(&names))? {
-            write!(&mut said, "{} ", fault.id())?;
+            write!(&mut output, "{} ", fault.id())?;
         }
-        assert_eq!(&rt; said.as_str(), expected, "{}", literal);
+        assert_eq!(&rt; output.as_str(), expected, "{}", literal);
     }
     Ok(())
 }

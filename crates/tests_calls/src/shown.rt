@@ -154,7 +154,7 @@ fn put_help(
 }
 
 /// Returns the parts of messages under the titles of a call.
-fn shown(alloc: Global, text: &str, list: &str) -> Result<String, AllocError> {
+fn output_of(alloc: Global, text: &str, list: &str) -> Result<String, AllocError> {
     let mut literal = String::from_str(alloc, "\"")?;
     literal.push_str(text)?;
     literal.push('"')?;
@@ -163,15 +163,15 @@ fn shown(alloc: Global, text: &str, list: &str) -> Result<String, AllocError> {
     let given = arguments(alloc, list)?;
     let mut string = plain(text);
     string.snippet = Some(literal.as_str());
-    let checked = call_faults(alloc, string, &given)?;
+    let report = call_faults(alloc, string, &given)?;
     let mut out = String::new(alloc);
-    for fault in &checked.faults {
-        let labels = checked.labels(alloc, fault)?;
+    for fault in &report.faults {
+        let labels = report.labels(alloc, fault)?;
         put_labels(&mut out, literal.len(), &places, &labels)?;
-        for note in &checked.notes(alloc, fault)? {
+        for note in &report.notes(alloc, fault)? {
             put_note(&mut out, literal.len(), &places, note)?;
         }
-        if let Some(help) = &checked.help(alloc, fault)? {
+        if let Some(help) = &report.help(alloc, fault)? {
             put_help(&mut out, &source, literal.len(), &places, help)?;
         }
     }
@@ -183,8 +183,14 @@ fn labels_notes_and_helps_are_those_of_rustc(rt: HostRuntime) -> Result<(), Fail
     let alloc = rt.alloc();
     for rows in [MISSING, UNUSED, NAMES, STRINGS] {
         for row in rows {
-            let said = shown(alloc, row.text, row.arguments)?;
-            assert_eq!(&rt; said.as_str(), row.shown, "{} {}", row.text, row.arguments);
+            let output = output_of(alloc, row.text, row.arguments)?;
+            assert_eq!(&rt;
+                output.as_str(),
+                row.output,
+                "{} {}",
+                row.text,
+                row.arguments
+            );
         }
     }
     Ok(())
@@ -199,14 +205,20 @@ fn labels_out_of_memory_are_made_again(rt: HostRuntime) -> Result<(), Fail> {
             if index % 12 != 0 {
                 continue;
             }
-            let said = match shown(alloc, row.text, row.arguments) {
-                Ok(said) => said,
+            let output = match output_of(alloc, row.text, row.arguments) {
+                Ok(output) => output,
                 Err(_) => {
                     println!(rt; "refused")?;
-                    shown(alloc, row.text, row.arguments)?
+                    output_of(alloc, row.text, row.arguments)?
                 }
             };
-            assert_eq!(&rt; said.as_str(), row.shown, "{} {}", row.text, row.arguments);
+            assert_eq!(&rt;
+                output.as_str(),
+                row.output,
+                "{} {}",
+                row.text,
+                row.arguments
+            );
         }
     }
     Ok(())

@@ -2,7 +2,7 @@
 
 /// A call of `format!`, and the parts of rustc's messages under the titles.
 #[derive(Clone, Copy)]
-pub struct Shown {
+pub struct ShownRow {
     /// The text of the string, which stands for itself in an ordinary literal.
     pub text: &'static str,
     /// The arguments, with a comma and a space between them.
@@ -11,5 +11,5 @@ pub struct Shown {
     /// Byte ranges count from the start of the literal. A label has the sign `^` or `-`, its range
     /// and its text; a note has `=`, and the ranges that it shows; a help has `?`, and its edits,
     /// each a range, or `call` for the whole call, and the new text.
-    pub shown: &'static str,
+    pub output: &'static str,
 }

@@ -12,7 +12,7 @@ pub fn plain(text: &str) -> FormatString<'_> {
         style: None,
         snippet: None,
         appended_newline: false,
-        captures: true,
+        captures_variables: true,
     }
 }
 
@@ -49,16 +49,16 @@ pub fn arguments<'a>(alloc: Global, list: &'a str) -> Result<Vec<FormatArgument<
 /// Returns the titles of the faults of a call, each on a line.
 fn titles(alloc: Global, string: FormatString<'_>, list: &str) -> Result<String, AllocError> {
     let given = arguments(alloc, list)?;
-    let checked = call_faults(alloc, string, &given)?;
+    let report = call_faults(alloc, string, &given)?;
     let mut out = String::new(alloc);
-    for fault in &checked.faults {
+    for fault in &report.faults {
         if !out.is_empty() {
             out.push('\n')?;
         }
         if let CallFault::NameUsedByIndex { .. } = fault {
             out.push_str("warning: ")?;
         }
-        checked.put_title(&mut out, fault)?;
+        report.put_title(&mut out, fault)?;
     }
     Ok(out)
 }
@@ -80,8 +80,14 @@ fn ids(alloc: Global, string: FormatString<'_>, list: &str) -> Result<String, Al
 fn titles_are_those_of_rustc(rt: HostRuntime) -> Result<(), Fail> {
     let alloc = rt.alloc();
     for row in ROWS {
-        let said = titles(alloc, plain(row.text), row.arguments)?;
-        assert_eq!(&rt; said.as_str(), row.titles, "{} {}", row.text, row.arguments);
+        let output = titles(alloc, plain(row.text), row.arguments)?;
+        assert_eq!(&rt;
+            output.as_str(),
+            row.titles,
+            "{} {}",
+            row.text,
+            row.arguments
+        );
     }
     Ok(())
 }
@@ -115,9 +121,9 @@ fn names_that_are_not_captured(rt: HostRuntime) -> Result<(), Fail> {
     ];
     for (text, list, expected) in rows {
         let mut string = plain(text);
-        string.captures = false;
-        let said = titles(alloc, string, list)?;
-        assert_eq!(&rt; said.as_str(), expected, "{} {}", text, list);
+        string.captures_variables = false;
+        let output = titles(alloc, string, list)?;
+        assert_eq!(&rt; output.as_str(), expected, "{} {}", text, list);
     }
     Ok(())
 }
@@ -170,8 +176,8 @@ fn literals_of_println(rt: HostRuntime) -> Result<(), Fail> {
         string.style = style;
         string.snippet = Some(snippet);
         string.appended_newline = true;
-        let said = titles(alloc, string, list)?;
-        assert_eq!(&rt; said.as_str(), expected, "{} {}", snippet, list);
+        let output = titles(alloc, string, list)?;
+        assert_eq!(&rt; output.as_str(), expected, "{} {}", snippet, list);
     }
     Ok(())
 }
@@ -191,9 +197,9 @@ fn each_kind_has_its_id(rt: HostRuntime) -> Result<(), Fail> {
     ];
     for (text, list, expected) in rows {
         let mut string = plain(text);
-        string.captures = list.starts_with('a') && text == "{a}";
-        let said = ids(alloc, string, list)?;
-        assert_eq!(&rt; said.as_str(), expected, "{} {}", text, list);
+        string.captures_variables = list.starts_with('a') && text == "{a}";
+        let output = ids(alloc, string, list)?;
+        assert_eq!(&rt; output.as_str(), expected, "{} {}", text, list);
     }
     Ok(())
 }
@@ -204,14 +210,14 @@ fn titles_out_of_memory_are_read_again(rt: HostRuntime) -> Result<(), Fail> {
     let string = plain("{:q}{a}{4}{x:y$}{");
     let expected = "duplicate argument named `x`\n\
                     invalid format string: expected `}` but string was terminated";
-    let said = match titles(alloc, string, "b, x = 1, x = 2") {
-        Ok(said) => said,
+    let output = match titles(alloc, string, "b, x = 1, x = 2") {
+        Ok(output) => output,
         Err(_) => {
             println!(rt; "refused")?;
             titles(alloc, string, "b, x = 1, x = 2")?
         }
     };
-    assert_eq!(rt; said.as_str(), expected);
+    assert_eq!(rt; output.as_str(), expected);
     Ok(())
 }
 
@@ -222,13 +228,13 @@ fn compared_out_of_memory_is_read_again(rt: HostRuntime) -> Result<(), Fail> {
     let expected = "unknown format trait `q`\n\
                     invalid reference to positional argument 4 (there are 3 arguments)\n\
                     argument never used";
-    let said = match titles(alloc, string, "a, c, x = 1") {
-        Ok(said) => said,
+    let output = match titles(alloc, string, "a, c, x = 1") {
+        Ok(output) => output,
         Err(_) => {
             println!(rt; "refused")?;
             titles(alloc, string, "a, c, x = 1")?
         }
     };
-    assert_eq!(rt; said.as_str(), expected);
+    assert_eq!(rt; output.as_str(), expected);
     Ok(())
 }

@@ -5,9 +5,9 @@ use crate::row::Row;
 /// One label.
 const UNMATCHED: Row = Row {
     line: 1,
-    before: "fn f() { unsafe { core::arch::asm!(",
+    text_before: "fn f() { unsafe { core::arch::asm!(",
     literal: "\"nop }\"",
-    after: "); } }",
+    text_after: "); } }",
     style: None,
     text: "nop }",
     appended_newline: false,
@@ -25,9 +25,9 @@ const UNMATCHED: Row = Row {
 /// A brace that is not closed.
 const OPEN: Row = Row {
     line: 1,
-    before: "fn f() { unsafe { core::arch::asm!(",
+    text_before: "fn f() { unsafe { core::arch::asm!(",
     literal: "\"nop {\"",
-    after: "); } }",
+    text_after: "); } }",
     style: None,
     text: "nop {",
     appended_newline: false,
@@ -47,9 +47,9 @@ const OPEN: Row = Row {
 /// Another character in its place.
 const FOUND: Row = Row {
     line: 1,
-    before: "fn f() { unsafe { core::arch::asm!(",
+    text_before: "fn f() { unsafe { core::arch::asm!(",
     literal: "\"{a!}\"",
-    after: "); } }",
+    text_after: "); } }",
     style: None,
     text: "{a!}",
     appended_newline: false,
@@ -69,9 +69,9 @@ const FOUND: Row = Row {
 /// No flag has a fault of its own after the type `?`.
 const FLAG: Row = Row {
     line: 1,
-    before: "fn f() { unsafe { core::arch::asm!(",
+    text_before: "fn f() { unsafe { core::arch::asm!(",
     literal: "\"{a:?x}\"",
-    after: "); } }",
+    text_after: "); } }",
     style: None,
     text: "{a:?x}",
     appended_newline: false,
@@ -91,9 +91,9 @@ const FLAG: Row = Row {
 /// The word `_`.
 const UNDERSCORE: Row = Row {
     line: 1,
-    before: "fn f() { unsafe { core::arch::asm!(",
+    text_before: "fn f() { unsafe { core::arch::asm!(",
     literal: "\"{_}\"",
-    after: "); } }",
+    text_after: "); } }",
     style: None,
     text: "{_}",
     appended_newline: false,
@@ -111,9 +111,9 @@ const UNDERSCORE: Row = Row {
 /// A number without a note.
 const LARGE: Row = Row {
     line: 1,
-    before: "fn f() { unsafe { core::arch::asm!(",
+    text_before: "fn f() { unsafe { core::arch::asm!(",
     literal: "\"mov {0}, {99999}\"",
-    after: "); } }",
+    text_after: "); } }",
     style: None,
     text: "mov {0}, {99999}",
     appended_newline: false,
@@ -129,9 +129,9 @@ const LARGE: Row = Row {
 /// A raw identifier, for which nothing is suggested.
 const RAW: Row = Row {
     line: 1,
-    before: "fn f() { unsafe { core::arch::asm!(",
+    text_before: "fn f() { unsafe { core::arch::asm!(",
     literal: "\"{r#a}\"",
-    after: "); } }",
+    text_after: "); } }",
     style: None,
     text: "{r#a}",
     appended_newline: false,
@@ -149,9 +149,9 @@ const RAW: Row = Row {
 /// A missing colon, for which nothing is suggested.
 const COLON: Row = Row {
     line: 1,
-    before: "fn f() { unsafe { core::arch::asm!(",
+    text_before: "fn f() { unsafe { core::arch::asm!(",
     literal: "\"{a?}\"",
-    after: "); } }",
+    text_after: "); } }",
     style: None,
     text: "{a?}",
     appended_newline: false,
@@ -169,9 +169,9 @@ const COLON: Row = Row {
 /// A type in front of its colon.
 const LATE: Row = Row {
     line: 1,
-    before: "fn f() { unsafe { core::arch::asm!(",
+    text_before: "fn f() { unsafe { core::arch::asm!(",
     literal: "\"{?:a}\"",
-    after: "); } }",
+    text_after: "); } }",
     style: None,
     text: "{?:a}",
     appended_newline: false,
@@ -189,9 +189,9 @@ const LATE: Row = Row {
 /// An alignment without a colon.
 const ALIGNMENT: Row = Row {
     line: 1,
-    before: "fn f() { unsafe { core::arch::asm!(",
+    text_before: "fn f() { unsafe { core::arch::asm!(",
     literal: "\"{a>}\"",
-    after: "); } }",
+    text_after: "); } }",
     style: None,
     text: "{a>}",
     appended_newline: false,
@@ -207,9 +207,9 @@ const ALIGNMENT: Row = Row {
 /// Grouping.
 const GROUPING: Row = Row {
     line: 1,
-    before: "fn f() { unsafe { core::arch::asm!(",
+    text_before: "fn f() { unsafe { core::arch::asm!(",
     literal: "\"{a,}\"",
-    after: "); } }",
+    text_after: "); } }",
     style: None,
     text: "{a,}",
     appended_newline: false,
@@ -229,9 +229,9 @@ const GROUPING: Row = Row {
 /// The sign `=`.
 const DEBUG: Row = Row {
     line: 1,
-    before: "fn f() { unsafe { core::arch::asm!(",
+    text_before: "fn f() { unsafe { core::arch::asm!(",
     literal: "\"{a=}\"",
-    after: "); } }",
+    text_after: "); } }",
     style: None,
     text: "{a=}",
     appended_newline: false,
@@ -251,9 +251,9 @@ const DEBUG: Row = Row {
 /// A field, for which nothing is suggested.
 const FIELD: Row = Row {
     line: 1,
-    before: "fn f() { unsafe { core::arch::asm!(",
+    text_before: "fn f() { unsafe { core::arch::asm!(",
     literal: "\"{a.b}\"",
-    after: "); } }",
+    text_after: "); } }",
     style: None,
     text: "{a.b}",
     appended_newline: false,
@@ -271,9 +271,9 @@ const FIELD: Row = Row {
 /// The same with a number.
 const INDEX: Row = Row {
     line: 1,
-    before: "fn f() { unsafe { core::arch::asm!(",
+    text_before: "fn f() { unsafe { core::arch::asm!(",
     literal: "\"{a.0}\"",
-    after: "); } }",
+    text_after: "); } }",
     style: None,
     text: "{a.0}",
     appended_newline: false,
@@ -291,9 +291,9 @@ const INDEX: Row = Row {
 /// A raw literal of two lines.
 const LINES: Row = Row {
     line: 1,
-    before: "fn f() { unsafe { core::arch::asm!(",
+    text_before: "fn f() { unsafe { core::arch::asm!(",
     literal: "r#\"nop\n  {a!}\"#",
-    after: "); } }",
+    text_after: "); } }",
     style: Some(1),
     text: "nop\n  {a!}",
     appended_newline: false,

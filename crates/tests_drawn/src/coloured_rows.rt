@@ -5,9 +5,9 @@ use crate::row::Row;
 /// One label.
 const UNMATCHED: Row = Row {
     line: 1,
-    before: "fn f() { format!(",
+    text_before: "fn f() { format!(",
     literal: "\"}\"",
-    after: "); }",
+    text_after: "); }",
     style: None,
     text: "}",
     appended_newline: false,
@@ -25,9 +25,9 @@ const UNMATCHED: Row = Row {
 /// Two labels, the text of one of which hangs.
 const AT_THE_END: Row = Row {
     line: 1,
-    before: "fn f() { format!(",
+    text_before: "fn f() { format!(",
     literal: "\"{a\"",
-    after: "); }",
+    text_after: "); }",
     style: None,
     text: "{a",
     appended_newline: false,
@@ -47,9 +47,9 @@ const AT_THE_END: Row = Row {
 /// Two labels with other signs between them.
 const FAR: Row = Row {
     line: 9,
-    before: "fn f() { format!(",
+    text_before: "fn f() { format!(",
     literal: "\"{:x?y}\"",
-    after: "); }",
+    text_after: "); }",
     style: None,
     text: "{:x?y}",
     appended_newline: false,
@@ -69,9 +69,9 @@ const FAR: Row = Row {
 /// Two labels that hang from one column, of which one is primary.
 const RAW_IDENT: Row = Row {
     line: 1,
-    before: "fn f() { format!(",
+    text_before: "fn f() { format!(",
     literal: "\"{r#a}\"",
-    after: "); }",
+    text_after: "); }",
     style: None,
     text: "{r#a}",
     appended_newline: false,
@@ -92,9 +92,9 @@ const RAW_IDENT: Row = Row {
 /// The same with more after it.
 const RAW_WORD: Row = Row {
     line: 10,
-    before: "fn f() { println!(",
+    text_before: "fn f() { println!(",
     literal: "\"x {r#abc:?} y\"",
-    after: ", 1); }",
+    text_after: ", 1); }",
     style: None,
     text: "x {r#abc:?} y",
     appended_newline: true,
@@ -115,9 +115,9 @@ const RAW_WORD: Row = Row {
 /// Two primary labels that hang from one column.
 const NO_COLON: Row = Row {
     line: 1,
-    before: "fn f() { format!(",
+    text_before: "fn f() { format!(",
     literal: "\"{a?}\"",
-    after: "); }",
+    text_after: "); }",
     style: None,
     text: "{a?}",
     appended_newline: false,
@@ -138,9 +138,9 @@ const NO_COLON: Row = Row {
 /// A label over several lines.
 const LONG: Row = Row {
     line: 1,
-    before: "fn f() { format!(",
+    text_before: "fn f() { format!(",
     literal: "\"{foo\n  .bar}\"",
-    after: ", 1); }",
+    text_after: ", 1); }",
     style: None,
     text: "{foo\n  .bar}",
     appended_newline: false,
@@ -160,9 +160,9 @@ const LONG: Row = Row {
 /// One that begins with the text of its line.
 const LONG_INDENT: Row = Row {
     line: 1,
-    before: "fn f() { format!(",
+    text_before: "fn f() { format!(",
     literal: "\"{\n  foo\n  .bar}\"",
-    after: "); }",
+    text_after: "); }",
     style: None,
     text: "{\n  foo\n  .bar}",
     appended_newline: false,
@@ -182,9 +182,9 @@ const LONG_INDENT: Row = Row {
 /// One with dots between its lines.
 const LONG_DOTS: Row = Row {
     line: 7,
-    before: "fn f() { format!(",
+    text_before: "fn f() { format!(",
     literal: "\"{foo\n\n\n\n\n\n\n  .bar}\"",
-    after: "); }",
+    text_after: "); }",
     style: None,
     text: "{foo\n\n\n\n\n\n\n  .bar}",
     appended_newline: false,
@@ -205,9 +205,9 @@ const LONG_DOTS: Row = Row {
 /// One in lines that are cut.
 const LONG_CUT: Row = Row {
     line: 1,
-    before: "fn f() {\n                                format!(",
+    text_before: "fn f() {\n                                format!(",
     literal: "\"{foo\n                                .bar}\"",
-    after: ");\n}",
+    text_after: ");\n}",
     style: None,
     text: "{foo\n                                .bar}",
     appended_newline: false,
@@ -227,9 +227,9 @@ const LONG_CUT: Row = Row {
 /// A note of one label.
 const NO_NAME: Row = Row {
     line: 3,
-    before: "fn f() { format!(",
+    text_before: "fn f() { format!(",
     literal: "\"{?:#x}\"",
-    after: "); }",
+    text_after: "); }",
     style: None,
     text: "{?:#x}",
     appended_newline: false,
@@ -247,9 +247,9 @@ const NO_NAME: Row = Row {
 /// A help with a removed and an added part.
 const FLAG: Row = Row {
     line: 1,
-    before: "fn f() { format!(",
+    text_before: "fn f() { format!(",
     literal: "\"{:?#}\"",
-    after: "); }",
+    text_after: "); }",
     style: None,
     text: "{:?#}",
     appended_newline: false,
@@ -271,9 +271,9 @@ const FLAG: Row = Row {
 /// The same in a raw literal.
 const FLAG_X: Row = Row {
     line: 99,
-    before: "fn f() { println!(",
+    text_before: "fn f() { println!(",
     literal: "r#\"{a:#?x} b\"#",
-    after: ", 1); }",
+    text_after: ", 1); }",
     style: Some(1),
     text: "{a:#?x} b",
     appended_newline: true,
@@ -295,9 +295,9 @@ const FLAG_X: Row = Row {
 /// A label at the start of a line, below another line.
 const LINE_START: Row = Row {
     line: 1,
-    before: "fn f() { format!(",
+    text_before: "fn f() { format!(",
     literal: "\"{a:\n?# } b\"",
-    after: "); }",
+    text_after: "); }",
     style: None,
     text: "{a:\n?# } b",
     appended_newline: false,
@@ -317,9 +317,9 @@ const LINE_START: Row = Row {
 /// The removed part is in two lines.
 const FLAG_LINES: Row = Row {
     line: 1,
-    before: "fn f() { format!(",
+    text_before: "fn f() { format!(",
     literal: "\"{a:?\\\n      #}\"",
-    after: "); }",
+    text_after: "); }",
     style: None,
     text: "{a:?#}",
     appended_newline: false,
@@ -342,9 +342,9 @@ const FLAG_LINES: Row = Row {
 /// Labels in two lines.
 const NEXT_LINE: Row = Row {
     line: 1,
-    before: "fn f() { format!(",
+    text_before: "fn f() { format!(",
     literal: "\"{a\n  b}\"",
-    after: "); }",
+    text_after: "); }",
     style: None,
     text: "{a\n  b}",
     appended_newline: false,
@@ -364,9 +364,9 @@ const NEXT_LINE: Row = Row {
 /// A line between two with labels.
 const IN_BETWEEN: Row = Row {
     line: 1,
-    before: "fn f() { format!(",
+    text_before: "fn f() { format!(",
     literal: "\"{a\n\n  b}\"",
-    after: "); }",
+    text_after: "); }",
     style: None,
     text: "{a\n\n  b}",
     appended_newline: false,
@@ -387,9 +387,9 @@ const IN_BETWEEN: Row = Row {
 /// Dots between two lines with labels.
 const DOTS: Row = Row {
     line: 8,
-    before: "fn f() { format!(",
+    text_before: "fn f() { format!(",
     literal: "\"{a\n\n\n\n  b}\"",
-    after: "); }",
+    text_after: "); }",
     style: None,
     text: "{a\n\n\n\n  b}",
     appended_newline: false,
@@ -410,9 +410,9 @@ const DOTS: Row = Row {
 /// A line that is cut.
 const CUT: Row = Row {
     line: 1,
-    before: "fn f() {\n                                format!(",
+    text_before: "fn f() {\n                                format!(",
     literal: "\"{a b}\"",
-    after: ");\n}",
+    text_after: ");\n}",
     style: None,
     text: "{a b}",
     appended_newline: false,
@@ -432,9 +432,9 @@ const CUT: Row = Row {
 /// Labels after wide characters.
 const WIDE: Row = Row {
     line: 1,
-    before: "fn f() { format!(",
+    text_before: "fn f() { format!(",
     literal: "\"日本 {a!}\"",
-    after: "); }",
+    text_after: "); }",
     style: None,
     text: "日本 {a!}",
     appended_newline: false,

@@ -5,9 +5,9 @@ use crate::row::Row;
 /// Cut at the end, where the text of the label fits.
 const CUT_AT_THE_END: Row = Row {
     line: 1,
-    before: "fn f() { println!(",
+    text_before: "fn f() { println!(",
     literal: "\"{a b} and more of this line than fits\"",
-    after: "); }",
+    text_after: "); }",
     style: None,
     text: "{a b} and more of this line than fits",
     appended_newline: true,
@@ -27,9 +27,9 @@ const CUT_AT_THE_END: Row = Row {
 /// Cut at both ends, around the labels.
 const CUT_AT_BOTH_ENDS: Row = Row {
     line: 1,
-    before: "fn f() { println!(",
+    text_before: "fn f() { println!(",
     literal: "\"a line that begins with so much text {a b} and goes on\"",
-    after: "); }",
+    text_after: "); }",
     style: None,
     text: "a line that begins with so much text {a b} and goes on",
     appended_newline: true,
@@ -49,9 +49,9 @@ const CUT_AT_BOTH_ENDS: Row = Row {
 /// Cut at the start, with room for the text at the right.
 const CUT_AT_THE_START: Row = Row {
     line: 1,
-    before: "fn f() { println!(",
+    text_before: "fn f() { println!(",
     literal: "\"a line that begins with so much text }\"",
-    after: "); }",
+    text_after: "); }",
     style: None,
     text: "a line that begins with so much text }",
     appended_newline: true,
@@ -69,9 +69,9 @@ const CUT_AT_THE_START: Row = Row {
 /// An indent is cut first.
 const CUT_AT_THE_INDENT: Row = Row {
     line: 1,
-    before: "fn f() {\n                                    println!(",
+    text_before: "fn f() {\n                                    println!(",
     literal: "\"a } b\"",
-    after: ", 1, 2, 3); }",
+    text_after: ", 1, 2, 3); }",
     style: None,
     text: "a } b",
     appended_newline: true,
@@ -89,9 +89,9 @@ const CUT_AT_THE_INDENT: Row = Row {
 /// Dots over characters of two columns: a space stays at their right, or a column is left out.
 const CUT_WIDE: Row = Row {
     line: 1,
-    before: "fn f() { println!(",
+    text_before: "fn f() { println!(",
     literal: "\"x漢字漢字漢字漢字漢字漢字漢字漢字 } 漢字漢字漢字漢字漢字漢字漢字\"",
-    after: "); }",
+    text_after: "); }",
     style: None,
     text: "x漢字漢字漢字漢字漢字漢字漢字漢字 } 漢字漢字漢字漢字漢字漢字漢字",
     appended_newline: true,
@@ -109,9 +109,9 @@ const CUT_WIDE: Row = Row {
 /// A tab is four columns, of which some may be cut.
 const CUT_TABS: Row = Row {
     line: 1,
-    before: "fn f() {\n\tprintln!(",
+    text_before: "fn f() {\n\tprintln!(",
     literal: "\"a\t\t\t\t\tb } c\t\t\t\t\td\"",
-    after: "); }",
+    text_after: "); }",
     style: None,
     text: "a\t\t\t\t\tb } c\t\t\t\t\td",
     appended_newline: true,
@@ -129,9 +129,9 @@ const CUT_TABS: Row = Row {
 /// Labels that do not fit are shown whole.
 const LONG_LABEL: Row = Row {
     line: 1,
-    before: "fn f() { println!(",
+    text_before: "fn f() { println!(",
     literal: "\"before {aaaaaaaaaaaaaaaaaaaaaaaaaaaaaaaaaaaaaaaaa!} after that\"",
-    after: "); }",
+    text_after: "); }",
     style: None,
     text: "before {aaaaaaaaaaaaaaaaaaaaaaaaaaaaaaaaaaaaaaaaa!} after that",
     appended_newline: true,
@@ -149,9 +149,9 @@ const LONG_LABEL: Row = Row {
 /// A label over several lines, beside its bar.
 const CUT_LINES: Row = Row {
     line: 1,
-    before: "fn f() { println!(",
+    text_before: "fn f() { println!(",
     literal: "\"{a\n.b} and text that does not fit into it\"",
-    after: "); }",
+    text_after: "); }",
     style: None,
     text: "{a\n.b} and text that does not fit into it",
     appended_newline: true,

@@ -53,12 +53,12 @@ fn drawn(
     row: &Row,
     error: &ParseError,
 ) -> Result<String, AllocError> {
-    let source = joined(alloc, &[row.before, row.literal, row.after], "")?;
+    let source = joined(alloc, &[row.text_before, row.literal, row.text_after], "")?;
     let picture = Picture {
         path: "a.rs",
         source: source.as_str(),
         line_start: row.line,
-        literal_start: row.before.len(),
+        literal_start: row.text_before.len(),
         width,
         colours,
     };

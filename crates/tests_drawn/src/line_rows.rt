@@ -6,9 +6,9 @@ use crate::row::Row;
 /// Numbers of lines stand at the right.
 const NUMBERS: Row = Row {
     line: 9,
-    before: "fn f() { format!(",
+    text_before: "fn f() { format!(",
     literal: "\"{a\n!\"",
-    after: "); }",
+    text_after: "); }",
     style: None,
     text: "{a\n!",
     appended_newline: false,
@@ -28,9 +28,9 @@ const NUMBERS: Row = Row {
 /// The same with three digits, and a line between that is drawn.
 const THREE_DIGITS: Row = Row {
     line: 98,
-    before: "fn f() { format!(",
+    text_before: "fn f() { format!(",
     literal: "\"{a\n\n!\"",
-    after: "); }",
+    text_after: "); }",
     style: None,
     text: "{a\n\n!",
     appended_newline: false,
@@ -51,9 +51,9 @@ const THREE_DIGITS: Row = Row {
 /// Lines between that are not drawn.
 const DOTS: Row = Row {
     line: 1,
-    before: "fn f() { format!(",
+    text_before: "fn f() { format!(",
     literal: "\"{a\n\n\n !\"",
-    after: "); }",
+    text_after: "); }",
     style: None,
     text: "{a\n\n\n !",
     appended_newline: false,
@@ -74,9 +74,9 @@ const DOTS: Row = Row {
 /// A deep indent is cut.
 const DEEP: Row = Row {
     line: 1,
-    before: "fn f() {\n    format!(",
+    text_before: "fn f() {\n    format!(",
     literal: "\"\n                            }\"",
-    after: "); }",
+    text_after: "); }",
     style: None,
     text: "\n                            }",
     appended_newline: false,
@@ -94,9 +94,9 @@ const DEEP: Row = Row {
 /// A lesser one is not.
 const NOT_DEEP: Row = Row {
     line: 1,
-    before: "fn f() {\n    format!(",
+    text_before: "fn f() {\n    format!(",
     literal: "\"\n                          }\"",
-    after: "); }",
+    text_after: "); }",
     style: None,
     text: "\n                          }",
     appended_newline: false,
@@ -114,9 +114,9 @@ const NOT_DEEP: Row = Row {
 /// The least indent of both lines with labels decides.
 const LESS_DEEP: Row = Row {
     line: 1,
-    before: "fn f() { format!(",
+    text_before: "fn f() { format!(",
     literal: "\"\n                              {a\n  !\"",
-    after: "); }",
+    text_after: "); }",
     style: None,
     text: "\n                              {a\n  !",
     appended_newline: false,
@@ -136,9 +136,9 @@ const LESS_DEEP: Row = Row {
 /// A blank line has no indent, whatever is below it.
 const DEEP_BLANK: Row = Row {
     line: 1,
-    before: "fn f() { format!(",
+    text_before: "fn f() { format!(",
     literal: "\"\n                              {65536\n\n  }\"",
-    after: "); }",
+    text_after: "); }",
     style: None,
     text: "\n                              {65536\n\n  }",
     appended_newline: false,
@@ -156,9 +156,9 @@ const DEEP_BLANK: Row = Row {
 /// A tab is four columns of an indent.
 const DEEP_TABS: Row = Row {
     line: 1,
-    before: "fn f() { format!(",
+    text_before: "fn f() { format!(",
     literal: "\"\n\t\t\t\t\t\t\t{a\n\n\t\t\t\t\t\t\t\t!\"",
-    after: "); }",
+    text_after: "); }",
     style: None,
     text: "\n\t\t\t\t\t\t\t{a\n\n\t\t\t\t\t\t\t\t!",
     appended_newline: false,
@@ -179,9 +179,9 @@ const DEEP_TABS: Row = Row {
 /// A label over two lines.
 const LONG: Row = Row {
     line: 1,
-    before: "fn f() { format!(",
+    text_before: "fn f() { format!(",
     literal: "\"{a\n.b}\"",
-    after: "); }",
+    text_after: "); }",
     style: None,
     text: "{a\n.b}",
     appended_newline: false,
@@ -201,9 +201,9 @@ const LONG: Row = Row {
 /// A label that begins with the text of its line.
 const LONG_SLASH: Row = Row {
     line: 1,
-    before: "fn f() { format!(",
+    text_before: "fn f() { format!(",
     literal: "\"{\\\n  a\n  .b}\"",
-    after: "); }",
+    text_after: "); }",
     style: None,
     text: "{a\n  .b}",
     appended_newline: false,
@@ -222,9 +222,9 @@ const LONG_SLASH: Row = Row {
 /// Of a long label three lines after the first one, and the one before the last one.
 const LONG_DOTS: Row = Row {
     line: 1,
-    before: "fn f() { format!(",
+    text_before: "fn f() { format!(",
     literal: "\"{a\n\\x20\n\\x20\\x20\n\\x20\\x0a\n\\x20\n\\x20\n\\x20\\x09\n.b}\"",
-    after: "); }",
+    text_after: "); }",
     style: None,
     text: "{a\n \n  \n \n\n \n \n \t\n.b}",
     appended_newline: false,
@@ -249,9 +249,9 @@ const LONG_DOTS: Row = Row {
 /// Blank lines at the end of these are left out.
 const LONG_BARE: Row = Row {
     line: 1,
-    before: "fn f() { format!(",
+    text_before: "fn f() { format!(",
     literal: "\"{a\n\\x20\n\n\n\n\n\n  .b}\"",
-    after: "); }",
+    text_after: "); }",
     style: None,
     text: "{a\n \n\n\n\n\n\n  .b}",
     appended_newline: false,
@@ -273,9 +273,9 @@ const LONG_BARE: Row = Row {
 /// A line alone between is drawn.
 const LONG_GAP: Row = Row {
     line: 1,
-    before: "fn f() { format!(",
+    text_before: "fn f() { format!(",
     literal: "\"{a\n\\x20\n\\x20\n\n .b}\"",
-    after: "); }",
+    text_after: "); }",
     style: None,
     text: "{a\n \n \n\n .b}",
     appended_newline: false,
@@ -298,9 +298,9 @@ const LONG_GAP: Row = Row {
 /// Characters of two columns.
 const WIDE: Row = Row {
     line: 1,
-    before: "fn f() { format!(",
+    text_before: "fn f() { format!(",
     literal: "\"日本{名!}\"",
-    after: "); }",
+    text_after: "); }",
     style: None,
     text: "日本{名!}",
     appended_newline: false,
@@ -320,9 +320,9 @@ const WIDE: Row = Row {
 /// A joiner is left out.
 const JOINED: Row = Row {
     line: 1,
-    before: "fn f() { format!(",
+    text_before: "fn f() { format!(",
     literal: "\"👩\u{200d}🔧}\"",
-    after: "); }",
+    text_after: "); }",
     style: None,
     text: "👩\u{200d}🔧}",
     appended_newline: false,
@@ -340,9 +340,9 @@ const JOINED: Row = Row {
 /// Characters of no column.
 const MARKS: Row = Row {
     line: 1,
-    before: "fn f() { format!(",
+    text_before: "fn f() { format!(",
     literal: "\"e\u{301}\u{200b}}\"",
-    after: "); }",
+    text_after: "); }",
     style: None,
     text: "e\u{301}\u{200b}}",
     appended_newline: false,
@@ -360,9 +360,9 @@ const MARKS: Row = Row {
 /// Pictures of control characters.
 const CONTROL: Row = Row {
     line: 1,
-    before: "fn f() { format!(",
+    text_before: "fn f() { format!(",
     literal: "\"\u{1}\u{1b}\u{7f}}\"",
-    after: "); }",
+    text_after: "); }",
     style: None,
     text: "\u{1}\u{1b}\u{7f}}",
     appended_newline: false,
@@ -380,9 +380,9 @@ const CONTROL: Row = Row {
 /// Characters that change the direction of text.
 const DIRECTION: Row = Row {
     line: 1,
-    before: "fn f() { format!(",
+    text_before: "fn f() { format!(",
     literal: "\"\u{202e}\u{2066}}\"",
-    after: "); }",
+    text_after: "); }",
     style: None,
     text: "\u{202e}\u{2066}}",
     appended_newline: false,
@@ -400,9 +400,9 @@ const DIRECTION: Row = Row {
 /// A tab is four spaces, wherever it stands.
 const TABS: Row = Row {
     line: 1,
-    before: "fn f() { format!(",
+    text_before: "fn f() { format!(",
     literal: "\"a\tb\t}\"",
-    after: "); }",
+    text_after: "); }",
     style: None,
     text: "a\tb\t}",
     appended_newline: false,
@@ -420,9 +420,9 @@ const TABS: Row = Row {
 /// The end of a text that gets a newline.
 const NEWLINE: Row = Row {
     line: 1,
-    before: "fn f() { println!(",
+    text_before: "fn f() { println!(",
     literal: "\"{a\"",
-    after: "); }",
+    text_after: "); }",
     style: None,
     text: "{a\n",
     appended_newline: true,

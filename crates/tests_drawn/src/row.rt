@@ -6,11 +6,11 @@ pub struct Row {
     /// The number of the first line of the source.
     pub line: u32,
     /// The text before the literal in the source.
-    pub before: &'static str,
+    pub text_before: &'static str,
     /// The literal.
     pub literal: &'static str,
     /// The text after it.
-    pub after: &'static str,
+    pub text_after: &'static str,
     /// The hashes of a raw literal.
     pub style: Option<usize>,
     /// The text that the literal stands for.

@@ -6,9 +6,9 @@ use crate::row::Row;
 /// One label, of one column.
 const UNMATCHED: Row = Row {
     line: 1,
-    before: "fn f() { format!(",
+    text_before: "fn f() { format!(",
     literal: "\"}\"",
-    after: "); }",
+    text_after: "); }",
     style: None,
     text: "}",
     appended_newline: false,
@@ -26,9 +26,9 @@ const UNMATCHED: Row = Row {
 /// A label after the text, and a second one: their texts hang.
 const AT_THE_END: Row = Row {
     line: 1,
-    before: "fn f() { format!(",
+    text_before: "fn f() { format!(",
     literal: "\"{a\"",
-    after: "); }",
+    text_after: "); }",
     style: None,
     text: "{a",
     appended_newline: false,
@@ -48,9 +48,9 @@ const AT_THE_END: Row = Row {
 /// A second label with no room for its text.
 const FOUND: Row = Row {
     line: 1,
-    before: "fn f() { format!(",
+    text_before: "fn f() { format!(",
     literal: "\"{a!}\"",
-    after: "); }",
+    text_after: "); }",
     style: None,
     text: "{a!}",
     appended_newline: false,
@@ -70,9 +70,9 @@ const FOUND: Row = Row {
 /// As much room as the text of the second label needs.
 const ROOM: Row = Row {
     line: 1,
-    before: "fn f() { format!(",
+    text_before: "fn f() { format!(",
     literal: "\"{a                              !}\"",
-    after: "); }",
+    text_after: "); }",
     style: None,
     text: "{a                              !}",
     appended_newline: false,
@@ -90,9 +90,9 @@ const ROOM: Row = Row {
 /// One column less: the text hangs.
 const NO_ROOM: Row = Row {
     line: 1,
-    before: "fn f() { format!(",
+    text_before: "fn f() { format!(",
     literal: "\"{a                             !}\"",
-    after: "); }",
+    text_after: "); }",
     style: None,
     text: "{a                             !}",
     appended_newline: false,
@@ -112,9 +112,9 @@ const NO_ROOM: Row = Row {
 /// Two labels that begin together: the signs of the shorter one cover the other.
 const RAW_IDENTIFIER: Row = Row {
     line: 1,
-    before: "fn f() { format!(",
+    text_before: "fn f() { format!(",
     literal: "\"{r#type}\"",
-    after: "); }",
+    text_after: "); }",
     style: None,
     text: "{r#type}",
     appended_newline: false,
@@ -135,9 +135,9 @@ const RAW_IDENTIFIER: Row = Row {
 /// Two labels of one range.
 const MISSING_COLON: Row = Row {
     line: 1,
-    before: "fn f() { format!(",
+    text_before: "fn f() { format!(",
     literal: "\"{a?}\"",
-    after: "); }",
+    text_after: "); }",
     style: None,
     text: "{a?}",
     appended_newline: false,
@@ -158,9 +158,9 @@ const MISSING_COLON: Row = Row {
 /// A suggestion with its old and its new line.
 const LATE_FLAG: Row = Row {
     line: 1,
-    before: "fn f() { format!(",
+    text_before: "fn f() { format!(",
     literal: "\"{a:?#}\"",
-    after: "); }",
+    text_after: "); }",
     style: None,
     text: "{a:?#}",
     appended_newline: false,
@@ -182,9 +182,9 @@ const LATE_FLAG: Row = Row {
 /// The same over two lines.
 const LATE_FLAG_BROKEN: Row = Row {
     line: 1,
-    before: "fn f() {\n    format!(",
+    text_before: "fn f() {\n    format!(",
     literal: "\"{a:?\\\n    #}\"",
-    after: ");\n}",
+    text_after: ");\n}",
     style: None,
     text: "{a:?#}",
     appended_newline: false,
@@ -207,9 +207,9 @@ const LATE_FLAG_BROKEN: Row = Row {
 /// A note, and no second label.
 const UNDERSCORE: Row = Row {
     line: 1,
-    before: "fn f() { format!(",
+    text_before: "fn f() { format!(",
     literal: "\"{_}\"",
-    after: "); }",
+    text_after: "); }",
     style: None,
     text: "{_}",
     appended_newline: false,
@@ -227,9 +227,9 @@ const UNDERSCORE: Row = Row {
 /// No note.
 const TOO_LARGE: Row = Row {
     line: 1,
-    before: "fn f() { format!(",
+    text_before: "fn f() { format!(",
     literal: "\"{65536}\"",
-    after: "); }",
+    text_after: "); }",
     style: None,
     text: "{65536}",
     appended_newline: false,
@@ -245,9 +245,9 @@ const TOO_LARGE: Row = Row {
 /// A fill that is a closing brace.
 const FILL: Row = Row {
     line: 1,
-    before: "fn f() { format!(",
+    text_before: "fn f() { format!(",
     literal: "\"{:}>\"",
-    after: "); }",
+    text_after: "); }",
     style: None,
     text: "{:}>",
     appended_newline: false,
@@ -267,9 +267,9 @@ const FILL: Row = Row {
 /// A type in front of its colon.
 const LATE_DEBUG: Row = Row {
     line: 1,
-    before: "fn f() { format!(",
+    text_before: "fn f() { format!(",
     literal: "\"{?:a}\"",
-    after: "); }",
+    text_after: "); }",
     style: None,
     text: "{?:a}",
     appended_newline: false,
@@ -287,9 +287,9 @@ const LATE_DEBUG: Row = Row {
 /// An alignment without a colon.
 const LATE_ALIGNMENT: Row = Row {
     line: 1,
-    before: "fn f() { format!(",
+    text_before: "fn f() { format!(",
     literal: "\"{a<5}\"",
-    after: "); }",
+    text_after: "); }",
     style: None,
     text: "{a<5}",
     appended_newline: false,
@@ -305,9 +305,9 @@ const LATE_ALIGNMENT: Row = Row {
 /// Two labels in columns that touch.
 const GROUPING: Row = Row {
     line: 1,
-    before: "fn f() { format!(",
+    text_before: "fn f() { format!(",
     literal: "\"{,}\"",
-    after: "); }",
+    text_after: "); }",
     style: None,
     text: "{,}",
     appended_newline: false,
@@ -327,9 +327,9 @@ const GROUPING: Row = Row {
 /// A suggestion for which the call is needed.
 const DEBUG_PRINT: Row = Row {
     line: 1,
-    before: "fn f() { format!(",
+    text_before: "fn f() { format!(",
     literal: "\"{a=}\"",
-    after: "); }",
+    text_after: "); }",
     style: None,
     text: "{a=}",
     appended_newline: false,
@@ -349,9 +349,9 @@ const DEBUG_PRINT: Row = Row {
 /// A label of several columns, and a suggestion for which the call is needed.
 const FIELD: Row = Row {
     line: 1,
-    before: "fn f() { format!(",
+    text_before: "fn f() { format!(",
     literal: "\"{a.b}\"",
-    after: "); }",
+    text_after: "); }",
     style: None,
     text: "{a.b}",
     appended_newline: false,
@@ -369,9 +369,9 @@ const FIELD: Row = Row {
 /// A raw literal.
 const RAW_LITERAL: Row = Row {
     line: 1,
-    before: "fn f() { format!(",
+    text_before: "fn f() { format!(",
     literal: "r#\"}\"#",
-    after: "); }",
+    text_after: "); }",
     style: Some(1),
     text: "}",
     appended_newline: false,
@@ -389,9 +389,9 @@ const RAW_LITERAL: Row = Row {
 /// A character that is written as an escape.
 const ESCAPED: Row = Row {
     line: 1,
-    before: "fn f() { format!(",
+    text_before: "fn f() { format!(",
     literal: "\"a\\x7d\"",
-    after: "); }",
+    text_after: "); }",
     style: None,
     text: "a}",
     appended_newline: false,

@@ -11,8 +11,8 @@ use std::test::Fail;
 /// Reads a file with all macros that are known.
 fn report(alloc: Global, text: &str, is_from_2021: bool) -> Result<Report, AllocError> {
     let mut table = Table::standard(alloc)?;
-    let others = Table::with_crates(alloc)?;
-    for row in &others.rows {
+    let crate_macros = Table::with_crate_macros(alloc)?;
+    for row in &crate_macros.rows {
         table.rows.push(*row)?;
     }
     let options = Options {
@@ -91,8 +91,8 @@ fn findings_of_files(rt: HostRuntime) -> Result<(), Fail> {
         ),
     ];
     for (text, expected) in rows {
-        let said = findings(alloc, text)?;
-        assert_eq!(&rt; said.as_str(), expected, "{}", text);
+        let answer = findings(alloc, text)?;
+        assert_eq!(&rt; answer.as_str(), expected, "{}", text);
     }
     Ok(())
 }
@@ -154,8 +154,8 @@ fn commas_that_are_missing(rt: HostRuntime) -> Result<(), Fail> {
     ];
     for (list, expected) in rows {
         let text = format!(in alloc; "print!({list});")?;
-        let said = findings(alloc, text.as_str())?;
-        assert_eq!(&rt; said.as_str(), expected, "{}", list);
+        let answer = findings(alloc, text.as_str())?;
+        assert_eq!(&rt; answer.as_str(), expected, "{}", list);
     }
     Ok(())
 }
@@ -227,8 +227,8 @@ fn arguments_that_are_no_expressions(rt: HostRuntime) -> Result<(), Fail> {
     ];
     for (list, expected) in rows {
         let text = format!(in alloc; "print!(\"{{}}\", {list});")?;
-        let said = findings(alloc, text.as_str())?;
-        assert_eq!(&rt; said.as_str(), expected, "{}", list);
+        let answer = findings(alloc, text.as_str())?;
+        assert_eq!(&rt; answer.as_str(), expected, "{}", list);
     }
     Ok(())
 }
@@ -290,11 +290,11 @@ fn readings_of_calls(rt: HostRuntime) -> Result<(), Fail> {
             "www",
         ),
     ];
-    for (text, expected, before) in rows {
-        let said = readings(alloc, text, true)?;
-        assert_eq!(&rt; said.as_str(), expected, "{}", text);
-        let said = readings(alloc, text, false)?;
-        assert_eq!(&rt; said.as_str(), before, "{}", text);
+    for (text, expected, old_expected) in rows {
+        let answer = readings(alloc, text, true)?;
+        assert_eq!(&rt; answer.as_str(), expected, "{}", text);
+        let answer = readings(alloc, text, false)?;
+        assert_eq!(&rt; answer.as_str(), old_expected, "{}", text);
     }
     Ok(())
 }
@@ -306,13 +306,13 @@ fn a_file_out_of_memory_is_read_again(rt: HostRuntime) -> Result<(), Fail> {
     let expected = "9 field-access invalid format string: field access isn't supported\n\
                     32 missing-name there is no argument named `b`\n\
                     45 no-string-literal format argument must be a string literal";
-    let said = match findings(alloc, text) {
-        Ok(said) => said,
+    let answer = match findings(alloc, text) {
+        Ok(answer) => answer,
         Err(_) => {
             println!(rt; "refused")?;
             findings(alloc, text)?
         }
     };
-    assert_eq!(rt; said.as_str(), expected);
+    assert_eq!(rt; answer.as_str(), expected);
     Ok(())
 }

@@ -1,6 +1,6 @@
 //! Literals and their fixes.
 
-use fault_fixes::{Edit, Fixed, edits, errors_of, fix};
+use fault_fixes::{Edit, FixedLiteral, edits, errors_of, fix};
 use rustc_parse_format::ParseMode;
 use std::alloc::{AllocError, Global};
 use std::process::Abort;
@@ -12,7 +12,7 @@ use std::test::Fail;
 type Row<'a> = (&'a str, Option<usize>, &'a str, bool, &'a str, &'a str);
 
 /// Returns whether a literal was fixed to this literal, which stands for this text.
-fn is_fixed_to(fixed: &Option<Fixed>, literal: &str, text: &str) -> bool {
+fn is_fixed_to(fixed: &Option<FixedLiteral>, literal: &str, text: &str) -> bool {
     match fixed {
         Some(fixed) => fixed.snippet.as_str() == literal && fixed.text.as_str() == text,
         None => literal.is_empty(),

@@ -4,7 +4,7 @@
 //! it prints a line `refused`. `.ci/refusals` runs it with its first allocation failing, then with
 //! its second, and so on.
 
-use fault_fixes::{Fixed, fix};
+use fault_fixes::{FixedLiteral, fix};
 use rustc_parse_format::ParseMode;
 use std::alloc::{AllocError, Global};
 use std::io::Print;
@@ -12,13 +12,13 @@ use std::process::Abort;
 use std::test::Fail;
 
 /// A literal with its fix.
-fn fixed(alloc: Global) -> Result<Option<Fixed>, AllocError> {
+fn fixed(alloc: Global) -> Result<Option<FixedLiteral>, AllocError> {
     let literal = "\"{r#a} {b?}\"";
     fix(alloc, "{r#a} {b?}", None, literal, false, ParseMode::Format)
 }
 
 /// The same, made once more where an allocation fails.
-fn fixed_again(rt: &(impl Abort + Print), alloc: Global) -> Result<Option<Fixed>, Fail> {
+fn fixed_again(rt: &(impl Abort + Print), alloc: Global) -> Result<Option<FixedLiteral>, Fail> {
     if let Ok(found) = fixed(alloc) {
         return Ok(found);
     }

@@ -13,8 +13,8 @@ fn inline_text(alloc: Global, text: &str) -> Result<String, AllocError> {
         table: Table::standard(alloc)?,
         is_from_2021: true,
     };
-    let made = inlines(alloc, text, &options, true)?;
-    let FileInlines { text, .. } = made;
+    let file_inlines = inlines(alloc, text, &options, true)?;
+    let FileInlines { text, .. } = file_inlines;
     match text {
         Some(text) => Ok(text),
         None => Ok(String::new(alloc)),
@@ -43,10 +43,10 @@ fn files_with_calls_inlined(rt: HostRuntime) -> Result<(), Fail> {
         ),
     ];
     for (text, expected) in rows {
-        let made = inline_text(alloc, text)?;
-        assert_eq!(&rt; made.as_str(), expected, "{text}");
-        let again = inline_text(alloc, expected)?;
-        assert_eq!(&rt; again.as_str(), "", "{text}");
+        let new_text = inline_text(alloc, text)?;
+        assert_eq!(&rt; new_text.as_str(), expected, "{text}");
+        let second_text = inline_text(alloc, expected)?;
+        assert_eq!(&rt; second_text.as_str(), "", "{text}");
     }
     Ok(())
 }
@@ -72,8 +72,8 @@ fn files_that_stay(rt: HostRuntime) -> Result<(), Fail> {
         "print!(\"{}\"a, x);",
     ];
     for text in rows {
-        let made = inline_text(alloc, text)?;
-        assert_eq!(&rt; made.as_str(), "", "{text}");
+        let new_text = inline_text(alloc, text)?;
+        assert_eq!(&rt; new_text.as_str(), "", "{text}");
     }
     Ok(())
 }
@@ -82,14 +82,14 @@ fn files_that_stay(rt: HostRuntime) -> Result<(), Fail> {
 fn a_file_out_of_memory_is_inlined_again(rt: HostRuntime) -> Result<(), Fail> {
     let alloc = rt.alloc();
     let text = "print!(\"{}\r\n{} {}\", x, format!(\"{}\", y), z);";
-    let made = match inline_text(alloc, text) {
-        Ok(made) => made,
+    let new_text = match inline_text(alloc, text) {
+        Ok(new_text) => new_text,
         Err(_) => {
             println!(rt; "refused")?;
             inline_text(alloc, text)?
         }
     };
     let expected = "print!(\"{x}\r\n{} {z}\", format!(\"{y}\"));";
-    assert_eq!(rt; made.as_str(), expected);
+    assert_eq!(rt; new_text.as_str(), expected);
     Ok(())
 }

@@ -56,14 +56,14 @@ fn name_of(obstacle: Obstacle) -> &'static str {
 }
 
 /// Returns what stands between the parentheses of a call that is inlined.
-fn after(
+fn text_of(
     alloc: Global,
-    made: &InlinedCall,
+    inlined_call: &InlinedCall,
     arguments: &[Argument<'_>],
 ) -> Result<String, AllocError> {
-    let mut out = String::from_str(alloc, &made.literal)?;
+    let mut out = String::from_str(alloc, &inlined_call.literal)?;
     for (index, argument) in arguments.iter().enumerate() {
-        if !made.removed_indices.contains(&index) {
+        if !inlined_call.removed_indices.contains(&index) {
             out.push_str(", ")?;
             out.push_str(str::from_utf8(argument.source).unwrap_or(""))?;
         }
@@ -75,7 +75,7 @@ fn after(
 #[derive(Clone, Copy)]
 struct Case {
     appended_newline: bool,
-    captures: bool,
+    captures_variables: bool,
     is_counted: bool,
     is_format_alone: bool,
     has_const_form: bool,
@@ -85,7 +85,7 @@ struct Case {
 /// The case of `format!`, with mixed calls allowed.
 const FORMAT: Case = Case {
     appended_newline: false,
-    captures: true,
+    captures_variables: true,
     is_counted: true,
     is_format_alone: true,
     has_const_form: false,
@@ -94,7 +94,7 @@ const FORMAT: Case = Case {
 
 /// Returns what stands between the parentheses of a call after it was inlined, or the reason why it
 /// is left.
-fn said(alloc: Global, case: Case, literal: &str, list: &str) -> Result<String, AllocError> {
+fn answer(alloc: Global, case: Case, literal: &str, list: &str) -> Result<String, AllocError> {
     let Some(LiteralText { mut text, style }) = literal_text(alloc, literal)? else {
         return String::from_str(alloc, "no literal");
     };
@@ -107,7 +107,7 @@ fn said(alloc: Global, case: Case, literal: &str, list: &str) -> Result<String, 
         style,
         snippet: Some(literal),
         appended_newline: case.appended_newline,
-        captures: case.captures,
+        captures_variables: case.captures_variables,
     };
     let call = Call {
         string,
@@ -117,8 +117,8 @@ fn said(alloc: Global, case: Case, literal: &str, list: &str) -> Result<String, 
         has_const_form: case.has_const_form,
     };
     match inline_arguments(alloc, call, case.allows_mixed)? {
-        Ok(made) => after(alloc, &made, &arguments),
-        Err(left) => String::from_str(alloc, name_of(left)),
+        Ok(inlined_call) => text_of(alloc, &inlined_call, &arguments),
+        Err(obstacle) => String::from_str(alloc, name_of(obstacle)),
     }
 }
 
@@ -126,10 +126,10 @@ fn said(alloc: Global, case: Case, literal: &str, list: &str) -> Result<String, 
 fn calls_become_those_of_clippy(rt: HostRuntime) -> Result<(), Fail> {
     let alloc = rt.alloc();
     for row in ROWS {
-        let made = said(alloc, FORMAT, row.literal, row.arguments)?;
+        let new_text = answer(alloc, FORMAT, row.literal, row.arguments)?;
         assert_eq!(&rt;
-            made.as_str(),
-            row.after,
+            new_text.as_str(),
+            row.new_text,
             "{} {}",
             row.literal,
             row.arguments
@@ -142,10 +142,10 @@ fn calls_become_those_of_clippy(rt: HostRuntime) -> Result<(), Fail> {
 fn indices_that_stay(rt: HostRuntime) -> Result<(), Fail> {
     let alloc = rt.alloc();
     for row in NUMBERED {
-        let made = said(alloc, FORMAT, row.literal, row.arguments)?;
+        let new_text = answer(alloc, FORMAT, row.literal, row.arguments)?;
         assert_eq!(&rt;
-            made.as_str(),
-            row.after,
+            new_text.as_str(),
+            row.new_text,
             "{} {}",
             row.literal,
             row.arguments
@@ -160,10 +160,10 @@ fn mixed_calls(rt: HostRuntime) -> Result<(), Fail> {
     let mut case = FORMAT;
     case.allows_mixed = false;
     for row in ROWS {
-        let made = said(alloc, case, row.literal, row.arguments)?;
-        let expected = if row.is_mixed { "Mixed" } else { row.after };
+        let new_text = answer(alloc, case, row.literal, row.arguments)?;
+        let expected = if row.is_mixed { "Mixed" } else { row.new_text };
         assert_eq!(&rt;
-            made.as_str(),
+            new_text.as_str(),
             expected,
             "{} {}",
             row.literal,
@@ -201,8 +201,8 @@ fn calls_that_are_left(rt: HostRuntime) -> Result<(), Fail> {
         ("\"{:.*} {p}\"", "p, y, p = 1", "OtherMeaning"),
     ];
     for (literal, list, expected) in rows {
-        let made = said(alloc, FORMAT, literal, list)?;
-        assert_eq!(&rt; made.as_str(), expected, "{} {}", literal, list);
+        let new_text = answer(alloc, FORMAT, literal, list)?;
+        assert_eq!(&rt; new_text.as_str(), expected, "{} {}", literal, list);
     }
     Ok(())
 }
@@ -211,13 +211,13 @@ fn calls_that_are_left(rt: HostRuntime) -> Result<(), Fail> {
 #[test]
 fn call_out_of_memory_is_inlined_again(rt: HostRuntime) -> Result<(), Fail> {
     let literal = "\"{}, {:>w$}\"";
-    let made = match said(rt.alloc(), FORMAT, literal, "x, y + 1, w = w") {
-        Ok(made) => made,
+    let new_text = match answer(rt.alloc(), FORMAT, literal, "x, y + 1, w = w") {
+        Ok(new_text) => new_text,
         Err(_) => {
             println!(rt; "refused")?;
-            said(rt.alloc(), FORMAT, literal, "x, y + 1, w = w")?
+            answer(rt.alloc(), FORMAT, literal, "x, y + 1, w = w")?
         }
     };
-    assert_eq!(rt; made.as_str(), "\"{x}, {:>w$}\", y + 1");
+    assert_eq!(rt; new_text.as_str(), "\"{x}, {:>w$}\", y + 1");
     Ok(())
 }

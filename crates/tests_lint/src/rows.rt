@@ -1,7 +1,7 @@
 //! The output for an input.
 
 use format_lint::run::run;
-use format_lint::task::{Show, Task};
+use format_lint::task::{OutputKind, Task};
 use format_lint::verdict::verdict;
 use piece_listing::verdict::RunFault;
 use rustc_parse_format::ParseMode;
@@ -14,7 +14,7 @@ use std::test::Fail;
 pub struct Row {
     pub mode: ParseMode,
     pub is_literal: bool,
-    pub show: Show,
+    pub output_kind: OutputKind,
     pub colours: bool,
     pub input: &'static [u8],
     pub output: &'static str,
@@ -29,7 +29,7 @@ impl Row {
             mode: self.mode,
             is_literal: self.is_literal,
             path: "a",
-            show: self.show,
+            output_kind: self.output_kind,
             width: 140,
             colours: self.colours,
         }
@@ -41,7 +41,7 @@ const ALL: Task<'static> = Task {
     mode: ParseMode::Format,
     is_literal: false,
     path: "a",
-    show: Show::All,
+    output_kind: OutputKind::All,
     width: 140,
     colours: false,
 };
@@ -62,7 +62,7 @@ fn check(rt: &impl Abort, alloc: Global, row: &Row) -> Result<(), Fail> {
 const LISTED: Row = Row {
     mode: ParseMode::Format,
     is_literal: true,
-    show: Show::Tokens,
+    output_kind: OutputKind::Tokens,
     colours: false,
     input: b"\"hi {a :*>+#01$.*x? }{{b\"\n",
     output: "quote 0..1 \"\\\"\"\n\
@@ -94,7 +94,7 @@ const LISTED: Row = Row {
 const COLOURED: Row = Row {
     mode: ParseMode::Format,
     is_literal: true,
-    show: Show::Tokens,
+    output_kind: OutputKind::Tokens,
     colours: true,
     input: b"\"hi {a :*>+#01$.*x? }{{b\"\n",
     output: "\"hi \u{1b}[35m{\u{1b}[0m\u{1b}[36ma\u{1b}[0m \u{1b}[35m:\u{1b}[0m\u{1b}[33m*\u{1b}[0m\
@@ -109,7 +109,7 @@ const COLOURED: Row = Row {
 const MODIFIER: Row = Row {
     mode: ParseMode::InlineAsm,
     is_literal: false,
-    show: Show::Tokens,
+    output_kind: OutputKind::Tokens,
     colours: false,
     input: b"{0:e}",
     output: "open 0..1 \"{\"\ninteger 1..2 \"0\"\ncolon 2..3 \":\"\nmodifier 3..4 \"e\"\n\
@@ -121,7 +121,7 @@ const MODIFIER: Row = Row {
 const DIAGNOSTIC: Row = Row {
     mode: ParseMode::Diagnostic,
     is_literal: false,
-    show: Show::Tokens,
+    output_kind: OutputKind::Tokens,
     colours: true,
     input: b"{T:a }",
     output: "\u{1b}[35m{\u{1b}[0m\u{1b}[36mT\u{1b}[0m\u{1b}[35m:\u{1b}[0ma \u{1b}[35m}\u{1b}[0m\n",
@@ -134,7 +134,7 @@ const DIAGNOSTIC: Row = Row {
 const OBEYED: Row = Row {
     mode: ParseMode::Format,
     is_literal: false,
-    show: Show::Tokens,
+    output_kind: OutputKind::Tokens,
     colours: false,
     input: b"a\xc2\x9b\xe2\x80\xae\tb",
     output: "text 0..8 \"a\u{fffd}\u{fffd}\\tb\"\n",
@@ -151,7 +151,7 @@ const OBEYED_COLOURED: Row = Row {
 /// The literal is to be read again, and is written as it is.
 const OBEYED_FIXED: Row = Row {
     is_literal: true,
-    show: Show::Fix,
+    output_kind: OutputKind::Fix,
     input: b"\"\xc2\x9b\t{r#a}\"",
     output: "\"\u{9b}\t{a}\"\n",
     ..OBEYED
@@ -161,7 +161,7 @@ const OBEYED_FIXED: Row = Row {
 pub const RAW_PREFIX: Row = Row {
     mode: ParseMode::Format,
     is_literal: true,
-    show: Show::Tokens,
+    output_kind: OutputKind::Tokens,
     colours: false,
     input: b"\"\\x7br#a}\"",
     output: "quote 0..1 \"\\\"\"\n\
@@ -181,7 +181,7 @@ pub const RAW_PREFIX: Row = Row {
 pub const UNEXPECTED: Row = Row {
     mode: ParseMode::Format,
     is_literal: false,
-    show: Show::Tokens,
+    output_kind: OutputKind::Tokens,
     colours: true,
     input: b"\xe6\x97\xa5}",
     output: "\u{65e5}\u{1b}[31m}\u{1b}[0m\n",
@@ -199,7 +199,7 @@ pub const UNEXPECTED: Row = Row {
 pub const FIXED: Row = Row {
     mode: ParseMode::Format,
     is_literal: true,
-    show: Show::Fix,
+    output_kind: OutputKind::Fix,
     colours: false,
     input: b"\"\\x7br#a}\"",
     output: "\"\\x7ba}\"\n",
@@ -212,7 +212,7 @@ pub const FIXED: Row = Row {
 const FIRST: Row = Row {
     mode: ParseMode::Format,
     is_literal: true,
-    show: Show::Fault,
+    output_kind: OutputKind::Fault,
     colours: false,
     input: b"\"} {r#a}\"",
     output: "error: invalid format string: unmatched `}` found\n --> a:1:2\n  |\n\
@@ -226,7 +226,7 @@ const FIRST: Row = Row {
 const ONE_OF_TWO: Row = Row {
     mode: ParseMode::Format,
     is_literal: true,
-    show: Show::Fault,
+    output_kind: OutputKind::Fault,
     colours: false,
     input: b"\"{a<>\"",
     output: "error: invalid format string: expected alignment specifier after `:` in format \
@@ -240,7 +240,7 @@ const ONE_OF_TWO: Row = Row {
 pub const BOTH: Row = Row {
     mode: ParseMode::Format,
     is_literal: true,
-    show: Show::All,
+    output_kind: OutputKind::All,
     colours: false,
     input: b"\"{a<>\"",
     output: "fault: alignment-before-colon\n\
@@ -260,7 +260,7 @@ pub const BOTH: Row = Row {
 const WAITING: Row = Row {
     mode: ParseMode::Format,
     is_literal: true,
-    show: Show::All,
+    output_kind: OutputKind::All,
     colours: false,
     input: b"\"{a!}{} }\"",
     output: "fault: missing-closing-brace\n\
@@ -285,7 +285,7 @@ const WAITING: Row = Row {
 const ALL_FIXED: Row = Row {
     mode: ParseMode::Format,
     is_literal: true,
-    show: Show::Fix,
+    output_kind: OutputKind::Fix,
     colours: false,
     input: b"\"{r#a} {b.c}\"",
     output: "\"{a} {b.c}\"\n",
@@ -300,7 +300,7 @@ const ALL_FIXED: Row = Row {
 const ASSEMBLY: Row = Row {
     mode: ParseMode::InlineAsm,
     is_literal: true,
-    show: Show::Fix,
+    output_kind: OutputKind::Fix,
     colours: false,
     input: b"\"mov {r#a} }\"",
     output: "\"mov {r#a} }\"\n",

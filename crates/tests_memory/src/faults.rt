@@ -73,8 +73,8 @@ fn call_again<'input>(
 ) -> Result<Option<PieceKind<'input>>, Fail> {
     let (before, errors) = (shown(parser)?, listed(rt, alloc, faults)?);
     check_unchanged(rt, alloc, parser, &before)?;
-    if let Ok(taken) = parser.next_with_faults(argument, faults) {
-        return Ok(taken);
+    if let Ok(kind) = parser.next_with_faults(argument, faults) {
+        return Ok(kind);
     }
     println!(rt; "refused")?;
     check_unchanged(rt, alloc, parser, &before)?;
@@ -94,7 +94,7 @@ fn put_pieces<'input>(
     let mut argument = Argument::default();
     for _ in 0..most {
         match call_again(rt, alloc, parser, &mut argument, faults)? {
-            Some(taken) => put_read(out, &taken, &argument)?,
+            Some(kind) => put_read(out, &kind, &argument)?,
             None => break,
         }
     }

@@ -129,8 +129,8 @@ pub fn put_piece(out: &mut Sheet, piece: &Piece<'_>) -> fmt::Result {
 }
 
 /// Adds the line of a piece whose placeholder was read into an argument.
-pub fn put_read(out: &mut Sheet, taken: &PieceKind<'_>, argument: &Argument<'_>) -> fmt::Result {
-    match taken {
+pub fn put_read(out: &mut Sheet, kind: &PieceKind<'_>, argument: &Argument<'_>) -> fmt::Result {
+    match kind {
         PieceKind::Lit(text) => put_literal(out, text)?,
         PieceKind::NextArgument => put_argument(out, argument)?,
     }

@@ -63,19 +63,23 @@ fn held(parser: &Parser<'_>) -> Result<Sheet, fmt::Error> {
 }
 
 /// The errors that are taken out of a parser.
-fn taken(parser: &mut Parser<'_>) -> Result<Sheet, fmt::Error> {
-    let mut taken = Sheet::new();
-    put_errors(&mut taken, parser.take_errors().as_slice())?;
-    Ok(taken)
+fn taken_errors(parser: &mut Parser<'_>) -> Result<Sheet, fmt::Error> {
+    let mut errors = Sheet::new();
+    put_errors(&mut errors, parser.take_errors().as_slice())?;
+    Ok(errors)
 }
 
 /// Adds the errors that a parser has, which are then taken out.
-pub fn put_taken(rt: &impl Abort, parser: &mut Parser<'_>, out: &mut Sheet) -> Result<(), Fail> {
+pub fn put_taken_errors(
+    rt: &impl Abort,
+    parser: &mut Parser<'_>,
+    out: &mut Sheet,
+) -> Result<(), Fail> {
     let held = held(parser)?;
-    let taken = taken(parser)?;
-    assert_eq!(rt; taken.text(), held.text());
+    let errors = taken_errors(parser)?;
+    assert_eq!(rt; errors.text(), held.text());
     assert!(rt; parser.errors().is_empty());
-    out.write_str(taken.text())?;
+    out.write_str(errors.text())?;
     Ok(())
 }
 
@@ -85,14 +89,14 @@ pub fn check_row(
     rt: &impl Abort,
     row: Row,
     out: &mut Sheet,
-    taken: &Sheet,
+    taken_errors: &Sheet,
     parser: &mut Parser<'_>,
 ) -> Result<(), Fail> {
     check_end(rt, parser)?;
     put_number(out, parser)?;
-    put_taken(rt, parser, out)?;
+    put_taken_errors(rt, parser, out)?;
     put_kept(out, parser)?;
-    let (front, back) = row.lines.split_once(taken.text()).unwrap_or(("", ""));
+    let (front, back) = row.lines.split_once(taken_errors.text()).unwrap_or(("", ""));
     assert_eq!(rt; out.text().strip_prefix(front), Some(back));
     Ok(())
 }

@@ -64,7 +64,7 @@ fn put_pieces(
     let mut argument = Argument::default();
     for _ in 0..most {
         match call_again(rt, alloc, parser, &mut argument)? {
-            Some(taken) => put_read(out, &taken, &argument)?,
+            Some(kind) => put_read(out, &kind, &argument)?,
             None => break,
         }
     }

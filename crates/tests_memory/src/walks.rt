@@ -4,7 +4,7 @@ use crate::listing::{put_piece, shown};
 use crate::rows::{Row, rows};
 use crate::sheet::Sheet;
 use crate::spare::{check_spare, touch};
-use crate::start::{check_row, check_shown, put_taken, start};
+use crate::start::{check_row, check_shown, put_taken_errors, start};
 use rustc_parse_format::{Parser, Piece};
 use std::alloc::{AllocError, Global};
 use std::io::Print;
@@ -73,7 +73,7 @@ fn call_again<'input>(
     alloc: Global,
     parser: &mut Parser<'input>,
     way: Way,
-    taken: &mut Sheet,
+    taken_errors: &mut Sheet,
 ) -> Result<Option<Piece<'input>>, Fail> {
     let before = shown(parser)?;
     check_unchanged(rt, alloc, parser, &before)?;
@@ -83,7 +83,7 @@ fn call_again<'input>(
     println!(rt; "refused")?;
     check_unchanged(rt, alloc, parser, &before)?;
     if matches!(way, Way::Item) {
-        put_taken(rt, parser, taken)?;
+        put_taken_errors(rt, parser, taken_errors)?;
     }
     second_call(rt, parser, way)
 }
@@ -97,14 +97,14 @@ fn walk_from(
     parser: &mut Parser<'_>,
 ) -> Result<(), Fail> {
     let mut out = Sheet::new();
-    let mut taken = Sheet::new();
+    let mut taken_errors = Sheet::new();
     for _ in 0..row.input.len() {
-        match call_again(rt, alloc, parser, way, &mut taken)? {
+        match call_again(rt, alloc, parser, way, &mut taken_errors)? {
             Some(piece) => put_piece(&mut out, &piece)?,
             None => break,
         }
     }
-    check_row(rt, row, &mut out, &taken, parser)
+    check_row(rt, row, &mut out, &taken_errors, parser)
 }
 
 /// Reads a row up to the first call without a piece.

@@ -15,12 +15,12 @@ fn check(
     text: &str,
     expected: &[(Kind, usize)],
 ) -> Result<(), Fail> {
-    let found = tokens(alloc, text)?;
-    assert_eq!(rt; found.len(), expected.len());
+    let list = tokens(alloc, text)?;
+    assert_eq!(rt; list.len(), expected.len());
     let mut start = 0;
     for i in 0..expected.len() {
-        assert!(rt; i < found.len() && found[i].kind == expected[i].0);
-        assert!(rt; found[i].span.start == start && found[i].span.end == expected[i].1);
+        assert!(rt; i < list.len() && list[i].kind == expected[i].0);
+        assert!(rt; list[i].span.start == start && list[i].span.end == expected[i].1);
         start = expected[i].1;
     }
     Ok(())
@@ -35,12 +35,12 @@ fn check_one(
     suffix_start: usize,
     is_ended: bool,
 ) -> Result<(), Fail> {
-    let found = tokens(alloc, text)?;
+    let list = tokens(alloc, text)?;
     let span = 0..text.len();
-    assert_eq!(rt; found.len(), 1);
+    assert_eq!(rt; list.len(), 1);
     assert!(rt;
-        found.len() == 1
-            && found[0]
+        list.len() == 1
+            && list[0]
                 == Token {
                     kind,
                     span,
@@ -251,9 +251,9 @@ fn files(rt: HostRuntime) -> Result<(), Fail> {
 #[test]
 fn first_of_a_text(rt: HostRuntime) {
     assert!(rt; first_token("").is_none());
-    let found = first_token("#!a");
+    let token = first_token("#!a");
     assert!(rt;
-        found
+        token
             == Some(Token {
                 kind: Punct,
                 span: 0..1,
@@ -261,9 +261,9 @@ fn first_of_a_text(rt: HostRuntime) {
                 is_ended: true
             })
     );
-    let found = first_token("1u8+");
+    let token = first_token("1u8+");
     assert!(rt;
-        found
+        token
             == Some(Token {
                 kind: DecimalInt,
                 span: 0..3,
@@ -278,13 +278,13 @@ fn first_of_a_text(rt: HostRuntime) {
 fn tokens_out_of_memory_are_read_again(rt: HostRuntime) -> Result<(), Fail> {
     let alloc = rt.alloc();
     let text = "\u{feff}#!a\nlet b = 1;";
-    let found = match tokens(alloc, text) {
-        Ok(found) => found,
+    let list = match tokens(alloc, text) {
+        Ok(list) => list,
         Err(_) => {
             println!(rt; "refused")?;
             tokens(alloc, text)?
         }
     };
-    assert_eq!(rt; found.len(), 11);
+    assert_eq!(rt; list.len(), 11);
     Ok(())
 }

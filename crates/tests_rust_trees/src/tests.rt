@@ -81,10 +81,10 @@ fn places_of_a_long_file(rt: HostRuntime) -> Result<(), Fail> {
     let mut offset = 0;
     while offset <= text.len() {
         if text.is_char_boundary(offset) {
-            let found = places.place_of(offset);
+            let other = places.place_of(offset);
             let place = place_at(&text, offset);
-            assert_eq!(&rt; found.line, place.line);
-            assert_eq!(&rt; found.column, place.column);
+            assert_eq!(&rt; other.line, place.line);
+            assert_eq!(&rt; other.column, place.column);
         }
         offset += 61;
     }
@@ -103,11 +103,11 @@ fn check(
     expected: &[(usize, usize)],
 ) -> Result<(), Fail> {
     let source = Source::new(alloc, text)?;
-    let found = calls(alloc, &source, table)?;
-    assert_eq!(rt; found.len(), expected.len());
+    let list = calls(alloc, &source, table)?;
+    assert_eq!(rt; list.len(), expected.len());
     for i in 0..expected.len() {
-        assert!(rt; i < found.len() && found[i].name == expected[i].0);
-        assert!(rt; i < found.len() && found[i].close == expected[i].1);
+        assert!(rt; i < list.len() && list[i].name == expected[i].0);
+        assert!(rt; i < list.len() && list[i].close == expected[i].1);
     }
     // the same calls, part by part
     let mut rest = Tokens::new(text);
@@ -115,8 +115,8 @@ fn check(
     let mut count = 0;
     while let Some(part) = next_part(alloc, &mut rest, table, &mut balance)? {
         for call in &calls(alloc, &part, table)? {
-            assert!(rt; count < found.len());
-            let name = source.tokens()[found[count].name];
+            assert!(rt; count < list.len());
+            let name = source.tokens()[list[count].name];
             assert_eq!(rt; part.tokens()[call.name].start, name.start);
             count += 1;
         }
@@ -160,7 +160,7 @@ fn macro_calls(rt: HostRuntime) -> Result<(), Fail> {
     check(&rt, alloc, &table, "$todo!() todo() todo! a != (b)", &[])?;
     check(&rt, alloc, &table, "( ] assert!(a) panic!(", &[(2, 6)])?;
     check(&rt, alloc, &table, "info!(\"a\")", &[])?;
-    let crates = Table::with_crates(alloc)?;
+    let crates = Table::with_crate_macros(alloc)?;
     for row in &crates.rows {
         table.add(*row)?;
     }
@@ -190,7 +190,7 @@ fn number(string: Result<usize, Reason>) -> usize {
 fn strings_of_calls(rt: HostRuntime) -> Result<(), Fail> {
     let alloc = rt.alloc();
     let mut table = Table::standard(alloc)?;
-    let crates = Table::with_crates(alloc)?;
+    let crates = Table::with_crate_macros(alloc)?;
     for row in &crates.rows {
         table.add(*row)?;
     }
@@ -255,9 +255,9 @@ fn strings_of_calls(rt: HostRuntime) -> Result<(), Fail> {
     ];
     for (text, count, named, string) in rows {
         let source = Source::new(alloc, text)?;
-        let found = calls(alloc, &source, &table)?;
-        assert!(&rt; !found.is_empty());
-        if let Some(call) = found.first() {
+        let list = calls(alloc, &source, &table)?;
+        assert!(&rt; !list.is_empty());
+        if let Some(call) = list.first() {
             let list = match arguments(alloc, &source, call.close)? {
                 Some(list) => list,
                 None => Vec::new(alloc),
@@ -325,9 +325,9 @@ fn operands(rt: HostRuntime) -> Result<(), Fail> {
     for (text, templates, parts) in rows {
         let part = Part::new(alloc, Source::new(alloc, text)?)?;
         let tokens = part.tokens();
-        let found = calls(alloc, part.source(), &table)?;
-        assert!(&rt; !found.is_empty());
-        if let Some(call) = found.first() {
+        let list = calls(alloc, part.source(), &table)?;
+        assert!(&rt; !list.is_empty());
+        if let Some(call) = list.first() {
             let list = match arguments(alloc, part.source(), call.close)? {
                 Some(list) => list,
                 None => Vec::new(alloc),
@@ -368,9 +368,9 @@ fn words_and_punctuation(rt: HostRuntime) -> Result<(), Fail> {
 fn strings_of_a_file(rt: HostRuntime) -> Result<(), Fail> {
     let text =
         "fn f() { println!(r#\"{}\"#, format!(\"{x}\")); assert!(a); write!(f, $b); info!(\"c\") }";
-    let found = format_strings(rt.alloc(), text)?;
-    assert_eq!(&rt; found.len(), 2);
-    assert!(&rt; found.first() == Some(&"r#\"{}\"#") && found.last() == Some(&"\"{x}\""));
+    let list = format_strings(rt.alloc(), text)?;
+    assert_eq!(&rt; list.len(), 2);
+    assert!(&rt; list.first() == Some(&"r#\"{}\"#") && list.last() == Some(&"\"{x}\""));
     Ok(())
 }
 

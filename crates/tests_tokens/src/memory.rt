@@ -31,9 +31,9 @@ fn read(
 fn tokens_out_of_memory_are_read_again(rt: HostRuntime) -> Result<(), Fail> {
     let row = [
         (Quote, 0),
-        (Open, 1),
+        (OpenBrace, 1),
         (Identifier, 5),
-        (Close, 6),
+        (CloseBrace, 6),
         (Quote, 7),
     ];
     let found = read(&rt, rt.alloc(), "{a}", "\"\\x7ba}\"")?;

@@ -42,13 +42,13 @@ fn each_kind_of_a_format_string(rt: HostRuntime) -> Result<(), Fail> {
     let row = [
         (Quote, 0),
         (Text, 1),
-        (Open, 4),
+        (OpenBrace, 4),
         (RawPrefix, 5),
         (Identifier, 7),
         (Whitespace, 8),
         (Colon, 9),
         (Fill, 10),
-        (Align, 11),
+        (Alignment, 11),
         (Sign, 12),
         (NumberSign, 13),
         (Zero, 14),
@@ -58,8 +58,8 @@ fn each_kind_of_a_format_string(rt: HostRuntime) -> Result<(), Fail> {
         (Asterisk, 18),
         (Type, 19),
         (Whitespace, 21),
-        (Close, 22),
-        (Escape, 23),
+        (CloseBrace, 22),
+        (EscapedBrace, 23),
         (Text, 25),
         (Unexpected, 26),
         (Quote, 27),
@@ -79,11 +79,11 @@ fn each_kind_of_a_format_string(rt: HostRuntime) -> Result<(), Fail> {
 fn a_template_and_a_diagnostic(rt: HostRuntime) -> Result<(), Fail> {
     let template = [
         (Quote, 0),
-        (Open, 1),
+        (OpenBrace, 1),
         (Integer, 2),
         (Colon, 3),
         (Modifier, 4),
-        (Close, 5),
+        (CloseBrace, 5),
         (Quote, 6),
     ];
     check_literal(
@@ -96,11 +96,11 @@ fn a_template_and_a_diagnostic(rt: HostRuntime) -> Result<(), Fail> {
     )?;
     let message = [
         (Quote, 0),
-        (Open, 1),
+        (OpenBrace, 1),
         (Identifier, 2),
         (Colon, 3),
         (DiagnosticText, 4),
-        (Close, 6),
+        (CloseBrace, 6),
         (Quote, 7),
     ];
     check_literal(
@@ -117,19 +117,19 @@ fn a_template_and_a_diagnostic(rt: HostRuntime) -> Result<(), Fail> {
 fn what_recovery_takes(rt: HostRuntime) -> Result<(), Fail> {
     let row = [
         (Quote, 0),
-        (Open, 1),
+        (OpenBrace, 1),
         (Identifier, 2),
         (Unexpected, 3),
-        (Close, 4),
+        (CloseBrace, 4),
         (Quote, 5),
     ];
     check_literal(&rt, rt.alloc(), ParseMode::Format, "{a?}", "\"{a?}\"", &row)?;
     let field = [
         (Quote, 0),
-        (Open, 1),
+        (OpenBrace, 1),
         (Identifier, 2),
         (Unexpected, 3),
-        (Close, 5),
+        (CloseBrace, 5),
         (Quote, 6),
     ];
     check_literal(
@@ -147,10 +147,10 @@ fn escapes_and_continued_lines(rt: HostRuntime) -> Result<(), Fail> {
     let row = [
         (Quote, 0),
         (EscapeSequence, 1),
-        (Open, 3),
+        (OpenBrace, 3),
         (Identifier, 7),
         (EscapeSequence, 8),
-        (Close, 11),
+        (CloseBrace, 11),
         (Quote, 12),
     ];
     check_literal(
@@ -172,8 +172,8 @@ fn escapes_in_text(rt: HostRuntime) -> Result<(), Fail> {
         (EscapeSequence, 4),
         (EscapeSequence, 10),
         (EscapeSequence, 13),
-        (Open, 15),
-        (Close, 19),
+        (OpenBrace, 15),
+        (CloseBrace, 19),
         (Text, 20),
         (Quote, 21),
     ];
@@ -205,26 +205,26 @@ fn check_text(
 fn culprits(rt: HostRuntime) -> Result<(), Fail> {
     let alloc = rt.alloc();
     let inside = [
-        (Open, 0),
+        (OpenBrace, 0),
         (Identifier, 1),
         (Whitespace, 2),
         (Unexpected, 3),
-        (Close, 4),
+        (CloseBrace, 4),
     ];
     check_text(&rt, alloc, ParseMode::Format, "{a b}", &inside)?;
     let alone = [
         (Unexpected, 0),
         (Identifier, 1),
         (Whitespace, 2),
-        (Open, 3),
-        (Close, 4),
+        (OpenBrace, 3),
+        (CloseBrace, 4),
     ];
     check_text(&rt, alloc, ParseMode::Format, "{a {}", &alone)?;
-    let underscore = [(Open, 0), (Unexpected, 1), (Close, 2)];
+    let underscore = [(OpenBrace, 0), (Unexpected, 1), (CloseBrace, 2)];
     check_text(&rt, alloc, ParseMode::Format, "{_}", &underscore)?;
-    let fits = [(Open, 0), (Integer, 1), (Close, 6)];
+    let fits = [(OpenBrace, 0), (Integer, 1), (CloseBrace, 6)];
     check_text(&rt, alloc, ParseMode::Format, "{65535}", &fits)?;
-    let above = [(Open, 0), (Unexpected, 1), (Close, 6)];
+    let above = [(OpenBrace, 0), (Unexpected, 1), (CloseBrace, 6)];
     check_text(&rt, alloc, ParseMode::Format, "{65536}", &above)?;
     let unnamed = [(Unexpected, 0), (Unexpected, 1)];
     check_text(&rt, alloc, ParseMode::DiagnosticNamed, "{}", &unnamed)

@@ -34,9 +34,9 @@ fn a_raw_literal(rt: HostRuntime) -> Result<(), Fail> {
     let row = [
         (Quote, 0),
         (Text, 4),
-        (Open, 5),
+        (OpenBrace, 5),
         (Identifier, 6),
-        (Close, 7),
+        (CloseBrace, 7),
         (Quote, 8),
     ];
     let found = tokens_of(&rt, rt.alloc(), "a{b}", Some(2), "r##\"a{b}\"##", false)?;
@@ -49,9 +49,9 @@ fn an_appended_newline(rt: HostRuntime) -> Result<(), Fail> {
     // it is a token of its own, which is left out
     let row = [
         (Quote, 0),
-        (Open, 1),
+        (OpenBrace, 1),
         (Identifier, 2),
-        (Close, 3),
+        (CloseBrace, 3),
         (Quote, 4),
     ];
     let found = tokens_of(&rt, rt.alloc(), "{a}\n", None, "\"{a}\"", true)?;
@@ -71,7 +71,7 @@ fn a_newline_after_text(rt: HostRuntime) -> Result<(), Fail> {
 #[test]
 fn a_snippet_that_is_not_the_literal(rt: HostRuntime) -> Result<(), Fail> {
     // no quotes, and the ranges are those of the input
-    let row = [(Open, 0), (Identifier, 1), (Close, 2)];
+    let row = [(OpenBrace, 0), (Identifier, 1), (CloseBrace, 2)];
     let found = tokens_of(&rt, rt.alloc(), "{a}", None, "stringify!({a})", false)?;
     check(&rt, found.as_slice(), &row, 3);
     Ok(())
@@ -80,7 +80,7 @@ fn a_snippet_that_is_not_the_literal(rt: HostRuntime) -> Result<(), Fail> {
 #[test]
 fn an_appended_newline_without_the_literal(rt: HostRuntime) -> Result<(), Fail> {
     // the first character has two bytes
-    let row = [(Text, 0), (Open, 2), (Close, 3)];
+    let row = [(Text, 0), (OpenBrace, 2), (CloseBrace, 3)];
     let found = tokens_of(&rt, rt.alloc(), "é{}\n", Some(1), "concat!(\"é{}\")", true)?;
     check(&rt, found.as_slice(), &row, 4);
     Ok(())
@@ -88,7 +88,7 @@ fn an_appended_newline_without_the_literal(rt: HostRuntime) -> Result<(), Fail> 
 
 #[test]
 fn no_snippet_of_a_raw_literal(rt: HostRuntime) -> Result<(), Fail> {
-    let row = [(Text, 0), (Open, 1), (Close, 2)];
+    let row = [(Text, 0), (OpenBrace, 1), (CloseBrace, 2)];
     let found = tokens(rt.alloc(), "a{}", Some(2), None, false, ParseMode::Format)?;
     check(&rt, found.as_slice(), &row, 3);
     Ok(())
@@ -110,7 +110,9 @@ fn a_mebibyte(rt: HostRuntime) -> Result<(), Fail> {
         ParseMode::Format,
     )?;
     assert!(rt; found.len() == input.len());
-    let kinds = [Open, Identifier, Colon, Align, Integer, Close, Text];
+    let kinds = [
+        OpenBrace, Identifier, Colon, Alignment, Integer, CloseBrace, Text,
+    ];
     let mut at = 0;
     for (i, token) in found.iter().enumerate() {
         assert!(rt; token.kind == kinds[i % 7]);

@@ -10,7 +10,7 @@ use Rattle.rustc_parse_format.specs.Call.{placeholder}
 use Rattle.rustc_parse_format.specs.Characters.{Text, begins_with, after_first, is_brace, is_nil}
 use Rattle.rustc_parse_format.specs.Faults.{Fault, is_front, map_fault}
 use Rattle.rustc_parse_format.specs.Marks.{Span}
-use Rattle.rustc_parse_format.specs.State.{State, after, after_all, calls, next_call}
+use Rattle.rustc_parse_format.specs.State.{State, state_after, after_all, calls, next_call}
 use Rattle.rustc_parse_format.specs.Types.{Mode, Piece}
 use Rattle.rustc_parse_format.specs.World.{World, Place, faults_in, place_of}
 use Rattle.rustc_parse_format.proofs.Readers.Placeholders.{placeholder-piece}
@@ -90,7 +90,7 @@ last-step : (w : World) (s : State) (k : Call) (fs : List (Fault Span)) (gs : Li
 last-step w s k [] gs e n h = absurd (n refl)
 last-step w s k (f ∷ fs) gs e n h = rw (h, e) refl
 
-pub first-step : (s new : State) → new ≡ record (after s (next_call s)) { errors = s.errors }
+pub first-step : (s new : State) → new ≡ record (state_after s (next_call s)) { errors = s.errors }
     → is_nil s.rest ≡ false
     → or_else (faults_in s.world (next_call s).faults) (faults_in new.world (first_faults (calls
     new)))
@@ -105,9 +105,9 @@ first-step s new e h =
 
     step : (o : Option (Piece Span)) → (next_call s).piece ≡ o
         → or_else (faults_in s.world (next_call s).faults)
-        (faults_in s.world (first_faults (calls (after s (next_call s)))))
+        (faults_in s.world (first_faults (calls (state_after s (next_call s)))))
         ≡ faults_in s.world (first_faults (calls s))
-    step (Some p) f = some-step s.world s (next_call s) (calls (after s (next_call s)))
+    step (Some p) f = some-step s.world s (next_call s) (calls (state_after s (next_call s)))
         (calls-some s p f)
     step None f = last-step s.world s (next_call s) (next_call s).faults _ refl
         (before-end s.rest h f) (calls-none s f)
@@ -178,7 +178,8 @@ read-is s (x ∷ xs) f e h k =
     ∙ sym (ne_eqb (suc (length xs)) 0 (λ g. absurd (omega arith)))
 
 -- a call reads a character
-pub first-shorter : (s new : State) → new ≡ record (after s (next_call s)) { errors = s.errors }
+pub first-shorter : (s new : State) → new
+    ≡ record (state_after s (next_call s)) { errors = s.errors }
     → is_nil s.rest ≡ false → length new.rest < length s.rest
 first-shorter s new e h = rw e (shorter s.rest h)
   where
@@ -187,7 +188,8 @@ first-shorter s new e h = rw e (shorter s.rest h)
     shorter (b ∷ t) h = omega (arith, call-lt s.mode s.next (b ∷ t) (λ e. absurd (cc)))
 
 pub first-preserved : (s new : State) (fs gs : List (Fault Place)) (all : List (Fault Place))
-    → new ≡ record (after s (next_call s)) { errors = s.errors } → is_nil s.rest ≡ false → fs ≡ []
+    → new ≡ record (state_after s (next_call s)) { errors = s.errors } → is_nil s.rest ≡ false
+    → fs ≡ []
     → gs ≡ fs ++ faults_in s.world (next_call s).faults
     → or_else fs (faults_in s.world (first_faults (calls s))) ≡ all
     → or_else gs (faults_in new.world (first_faults (calls new))) ≡ all

@@ -10,14 +10,14 @@ ghost use Rattle.text_faults.specs.Texts.{first_faults, shown as fault_shown, te
 use rustc_parse_format::{Argument, Fault, Parser};
 use std::alloc::{AllocError, Global};
 
-/// Returns the fault that is shown of those of a call up to `fault`, where `shown` is that of those
-/// before it.
-fn choose<'a>(shown: Option<Fault<'a>>, fault: Fault<'a>) -> Option<Fault<'a>>
-    ensures { (fs : List (FaultValue Place)) → option_map seen_fault shown.entry ≡ fault_shown fs
+/// Returns the fault that is shown of those of a call up to `fault`, where `choice` is that of
+/// those before it.
+fn choose<'a>(choice: Option<Fault<'a>>, fault: Fault<'a>) -> Option<Fault<'a>>
+    ensures { (fs : List (FaultValue Place)) → option_map seen_fault choice.entry ≡ fault_shown fs
         → option_map seen_fault result ≡ fault_shown (fs ++ seen_fault fault.entry ∷ []) }
 {
-    if shown.is_some() && !fault.is_front() {
-        shown
+    if choice.is_some() && !fault.is_front() {
+        choice
     } else {
         Some(fault)
     }
@@ -28,11 +28,11 @@ fn choose<'a>(shown: Option<Fault<'a>>, fault: Fault<'a>) -> Option<Fault<'a>>
 fn shown_fault(faults: Vec<Fault<'_>>) -> Option<Fault<'_>>
     ensures { option_map seen_fault result ≡ fault_shown (map seen_fault faults.entry.items) }
 {
-    let mut shown = None;
+    let mut choice = None;
     for fault in faults {
-        shown = choose(shown, fault);
+        choice = choose(choice, fault);
     }
-    shown
+    choice
 }
 
 /// Returns the faults of the first call of a parser that finds any. Returns `Err` if an allocation

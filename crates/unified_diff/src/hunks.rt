@@ -65,16 +65,16 @@ fn hunk_len(rows: &[Row<'_>]) -> usize
     ensures { 0 < length rows.now → 0 < result }
 {
     let mut count = 0usize;
-    let mut changed = 0usize;
+    let mut change_end = 0usize;
     for row in rows {
         count = count.saturating_add(1);
         if !is_shared(row.side) {
-            changed = count;
-        } else if count.saturating_sub(changed) > 2 * CONTEXT {
+            change_end = count;
+        } else if count.saturating_sub(change_end) > 2 * CONTEXT {
             break;
         }
     }
-    changed.saturating_add(CONTEXT)
+    change_end.saturating_add(CONTEXT)
 }
 
 /// Appends a number in decimal digits. Returns `Err` if an allocation fails.
@@ -152,11 +152,11 @@ fn put_hunk(out: &mut String, numbers: Numbers, rows: &[Row<'_>]) -> Result<(), 
     ensures { OnOk result (string_bytes out.new
         ≡ string_bytes out.old ++ hunk_text numbers.old numbers.new rows.now) }
 {
-    let inside = count(rows);
+    let row_numbers = count(rows);
     out.push_str("@@ -")?;
-    put_extent(out, numbers.old, inside.old)?;
+    put_extent(out, numbers.old, row_numbers.old)?;
     out.push_str(" +")?;
-    put_extent(out, numbers.new, inside.new)?;
+    put_extent(out, numbers.new, row_numbers.new)?;
     out.push_str(" @@\n")?;
     put_rows(out, rows)
 }
@@ -169,10 +169,10 @@ fn numbers_after(numbers: Numbers, rows: &[Row<'_>]) -> Numbers
     ensures old { result.old ≡ numbers.old + old_count rows.now }
     ensures new { result.new ≡ numbers.new + new_count rows.now }
 {
-    let inside = count(rows);
+    let row_numbers = count(rows);
     Numbers {
-        old: numbers.old + inside.old,
-        new: numbers.new + inside.new,
+        old: numbers.old + row_numbers.old,
+        new: numbers.new + row_numbers.new,
     }
 }
 
@@ -182,15 +182,15 @@ fn put_hunks(out: &mut String, rows: &[Row<'_>]) -> Result<(), AllocError>
         × AreHunks rows.now t) }
 {
     let mut rest = rows;
-    let mut before = Numbers { old: 0, new: 0 };
-    while let Some(shared) = first_change(rest) {
-        let left_out = shared.saturating_sub(CONTEXT);
-        let others = rest_after(rest, left_out);
+    let mut numbers = Numbers { old: 0, new: 0 };
+    while let Some(change) = first_change(rest) {
+        let gap = change.saturating_sub(CONTEXT);
+        let others = rest_after(rest, gap);
         let length = hunk_len(others);
         let hunk = front(others, length);
-        let start = numbers_after(before, front(rest, left_out));
+        let start = numbers_after(numbers, front(rest, gap));
         put_hunk(out, start, hunk)?;
-        before = numbers_after(start, hunk);
+        numbers = numbers_after(start, hunk);
         rest = rest_after(others, length);
     }
     Ok(())

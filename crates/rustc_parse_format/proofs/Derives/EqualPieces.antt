@@ -4,7 +4,8 @@ use Rattle.std.proofs.Common.{◌≡◌, ◌↔◌, IsTrue, ap}
 use Rattle.std.specs.Prelude.{chars, option_map}
 use Rattle.rustc_parse_format.specs.KnownTexts.{IsTextInArgument, IsTextInPiece, IsTextInSpec}
 use Rattle.rustc_parse_format.specs.Types.{Argument, Lit, NextArgument, Piece, Spec}
-use Rattle.rustc_parse_format.specs.Seen.{pair, seen, seen_alignment, seen_argument, seen_count}
+use Rattle.rustc_parse_format.specs.Seen.{pair, seen_piece, seen_alignment, seen_argument}
+use Rattle.rustc_parse_format.specs.Seen.{seen_count}
 use Rattle.rustc_parse_format.specs.Seen.{seen_debug_hex, seen_sign, seen_spec}
 use Rattle.rustc_parse_format.specs.World.{Place}
 use Rattle.rustc_parse_format.specs.declared.types.Argument.{Argument as DeclaredArgument}
@@ -89,7 +90,7 @@ argument_same a b u v =
     (spec_same a.format b.format u.format v.format)))
 
 pub piece_same : (a b : DeclaredPiece) → IsTextInPiece a → IsTextInPiece b
-    → IsTrue (piece_eq.ghosts.eq a b) ↔ seen a ≡ seen b
+    → IsTrue (piece_eq.ghosts.eq a b) ↔ seen_piece a ≡ seen_piece b
 piece_same (LitPiece s) (LitPiece t) u v =
     same_along (ap (λ z. Lit z))
     (λ (h : ◌≡◌ {A = Piece Place} (Lit (chars s.now)) (Lit (chars t.now))). cc)

@@ -15,7 +15,8 @@ use Rattle.rustc_parse_format.specs.Characters.{begins_raw, first_passes}
 use Rattle.rustc_parse_format.specs.Types.{Mode, Format, InlineAsm, Diagnostic, DiagnosticNamed}
 use Rattle.rustc_parse_format.specs.Types.{Alignment, Left}
 use Rattle.rustc_parse_format.specs.Types.{Right, Center, Unknown, Sign, Plus, Minus, Lower, Upper}
-use Rattle.rustc_parse_format.specs.Spelling.{Part, IsPart, row, fixed, unless, absent, run}
+use Rattle.rustc_parse_format.specs.Spelling.{Part, IsPart, row, fixed_part, part_unless}
+use Rattle.rustc_parse_format.specs.Spelling.{absent_part, run}
 use Rattle.rustc_parse_format.specs.Spelling.{integer, identifier, optional_identifier}
 use Rattle.rustc_parse_format.specs.Spelling.{begins_with_part}
 use Rattle.rustc_parse_format.proofs.Grammar.PartNames.{begins_count, begins_with_part-count}
@@ -139,9 +140,9 @@ raw-blind (c ∷ d ∷ e ∷ u) r s = refl
 
 position-local : (p : PositionText) → PartIsLocal (position_part p)
 position-local (Digits ds) = class_ends is_ascii_digit
-position-local (Word w) = two-local (absent begins_raw) (identifier w)
+position-local (Word w) = two-local (absent_part begins_raw) (identifier w)
     (blind_not begins_raw raw-blind) (class_ends is_id_continue)
-position-local (RawWord w) = two-local (fixed (codes "r#")) (identifier w) always
+position-local (RawWord w) = two-local (fixed_part (codes "r#")) (identifier w) always
     (class_ends is_id_continue)
 position-local NoPosition = blind_not (λ t. first_passes is_ascii_digit t
     || first_passes is_id_start t) (either-blind is_ascii_digit is_id_start)
@@ -171,28 +172,30 @@ alternate-local true = always
 alternate-local false = letter_ends (code "#")
 
 count-local : (k : CountText) → PartIsLocal (count_part k)
-count-local (NumberCount ds) = two-local (integer ds) (absent (begins_with (code "$")))
+count-local (NumberCount ds) = two-local (integer ds) (absent_part (begins_with (code "$")))
     (class_ends is_ascii_digit) (letter_ends (code "$"))
-count-local (IndexCount ds) = two-local (integer ds) (fixed (codes "$"))
+count-local (IndexCount ds) = two-local (integer ds) (fixed_part (codes "$"))
     (class_ends is_ascii_digit) always
-count-local (NameCount w) = two-local (name_part w) (fixed (codes "$"))
+count-local (NameCount w) = two-local (name_part w) (fixed_part (codes "$"))
     (blind (begins_with (code "$")) (begins_with-blind (code "$"))) always
 count-local NoCount = blind_not (λ t. first_passes is_ascii_digit t || begins_with_part name_part t)
     (λ u r s. begins_with_part-count (u ++ 125 ∷ r)
     ∙ (count-blind u r s ∙ sym (begins_with_part-count (u ++ 125 ∷ s))))
 
 width-local : (w : WidthText) → PartIsLocal (width_part w)
-width-local (PaddedWidth k) = two-local (unless (codes "0") (begins_with (code "$"))) (count_part k)
+width-local (PaddedWidth k) = two-local (part_unless (codes "0") (begins_with (code "$")))
+    (count_part k)
     (letter_ends (code "$")) (count-local k)
 width-local ZeroIndexWidth = always
-width-local (PlainWidth k) = two-local (absent (begins_with (code "0"))) (count_part k)
+width-local (PlainWidth k) = two-local (absent_part (begins_with (code "0"))) (count_part k)
     (letter_ends (code "0")) (count-local k)
 
 precision-local : (p : PrecisionText) → PartIsLocal (precision_part p)
 precision-local NoPrecision = letter_ends (code ".")
 precision-local StarPrecision = always
 precision-local (DotPrecision k) =
-    two-local (unless (codes ".") (begins_with (code "*"))) (count_part k) (letter_ends (code "*"))
+    two-local (part_unless (codes ".") (begins_with (code "*"))) (count_part k)
+    (letter_ends (code "*"))
     (count-local k)
 
 word-local : (w : Text) → PartIsLocal (optional_identifier w)
@@ -204,7 +207,7 @@ type-local (DebugHexType Lower) = always
 type-local (DebugHexType Upper) = always
 type-local (CharacterType c) = λ u q z e. ap (λ b. (c == code "?") || not b)
     (begins_with-blind (code "?") u q (q ++ z)) ∙ e
-type-local (WordType w) = two-local (absent (first_passes is_type_character))
+type-local (WordType w) = two-local (absent_part (first_passes is_type_character))
     (optional_identifier w) (class_ends is_type_character) (word-local w)
 
 format-local : (p : FormatText) → PartIsLocal (format_part p)
@@ -228,21 +231,21 @@ format-local p =
 spec-local : (mode : Mode) (s : SpecText) → PartIsLocal (spec_part mode s)
 spec-local mode Default = letter_ends (code ":")
 spec-local Format (Formatting p) =
-    two-local (fixed (codes ":")) (format_part p) always (format-local p)
+    two-local (fixed_part (codes ":")) (format_part p) always (format-local p)
 spec-local Format (Modifier w) = always
 spec-local Format (DiagnosticText u) = always
 spec-local InlineAsm (Formatting p) = always
 spec-local InlineAsm (Modifier w) =
-    two-local (fixed (codes ":")) (optional_identifier w) always (word-local w)
+    two-local (fixed_part (codes ":")) (optional_identifier w) always (word-local w)
 spec-local InlineAsm (DiagnosticText u) = always
 spec-local Diagnostic (Formatting p) = always
 spec-local Diagnostic (Modifier w) = always
 spec-local Diagnostic (DiagnosticText u) =
-    two-local (fixed (codes ":")) (run is_no_brace u) always (class_ends is_no_brace)
+    two-local (fixed_part (codes ":")) (run is_no_brace u) always (class_ends is_no_brace)
 spec-local DiagnosticNamed (Formatting p) = always
 spec-local DiagnosticNamed (Modifier w) = always
 spec-local DiagnosticNamed (DiagnosticText u) =
-    two-local (fixed (codes ":")) (run is_no_brace u) always (class_ends is_no_brace)
+    two-local (fixed_part (codes ":")) (run is_no_brace u) always (class_ends is_no_brace)
 
 field-local : (mode : Mode) (a : FieldText) → PartIsLocal (field_part mode a)
 field-local mode a =

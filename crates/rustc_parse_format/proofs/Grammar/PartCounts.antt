@@ -11,7 +11,8 @@ use Rattle.rustc_parse_format.specs.Characters.{Text, is_id_start, word, after_w
 use Rattle.rustc_parse_format.specs.Characters.{after_digits, begins_with, begins_raw}
 use Rattle.rustc_parse_format.specs.Characters.{after_prefix}
 use Rattle.rustc_parse_format.specs.Characters.{first_passes}
-use Rattle.rustc_parse_format.specs.Spelling.{IsPart, fixed, unless, absent, integer, identifier}
+use Rattle.rustc_parse_format.specs.Spelling.{IsPart, fixed_part, part_unless, absent_part, integer}
+use Rattle.rustc_parse_format.specs.Spelling.{identifier}
 use Rattle.rustc_parse_format.specs.Syntax.{CountText, NumberCount, IndexCount, NameCount, NoCount}
 use Rattle.rustc_parse_format.specs.Syntax.{name_part, count_part, WidthText, PaddedWidth}
 use Rattle.rustc_parse_format.specs.Syntax.{ZeroIndexWidth, PlainWidth, width_part, PrecisionText}
@@ -43,7 +44,7 @@ raw-sound (c ∷ d ∷ i ∷ t) e =
     let later = and_parts (d == code "#") (is_id_start i) (and_parts (c == code "r") _ e).1 in
     let letter = eqb-true c (code "r") (and_parts (c == code "r") _ e).0 in
     let hash = eqb-true d (code "#") later.0 in
-    row-two (c ∷ d ∷ i ∷ t) (i ∷ t) (fixed (codes "r#")) (identifier (word (i ∷ t)))
+    row-two (c ∷ d ∷ i ∷ t) (i ∷ t) (fixed_part (codes "r#")) (identifier (word (i ∷ t)))
     (after_word (i ∷ t))
     (IsPart-moved _ (codes "r#" ++ i ∷ t) _ (i ∷ t) (ap (λ x. x ∷ d ∷ i ∷ t) letter
     ∙ ap (λ x. code "r" ∷ x ∷ i ∷ t) hash) (fixed-there (codes "r#") (i ∷ t)))
@@ -60,7 +61,7 @@ position-sound (c ∷ t) =
     (λ r. raw-sound (c ∷ t) r)
     (λ r. cond_both {A = PositionText × Text} (is_id_start c) _ _
     (λ x. IsPart (c ∷ t) (position_part x.0) x.1)
-    (λ i. row-two (c ∷ t) (c ∷ t) (absent begins_raw) (identifier (word (c ∷ t)))
+    (λ i. row-two (c ∷ t) (c ∷ t) (absent_part begins_raw) (identifier (word (c ∷ t)))
     (after_word (c ∷ t)) (absent-here (c ∷ t) begins_raw r)
     (identifier-sound c t i))
     (λ i. absent-here (c ∷ t) (λ u. first_passes is_ascii_digit u || first_passes is_id_start u)
@@ -111,13 +112,13 @@ position-complete t (Digits ds) r h =
     position-digits t k.digit
     ∙ (ap (λ u. (Digits u, after_digits t)) k.read ∙ ap (λ u. (Digits ds, u)) k.rest_after)
 position-complete t (Word w) r h =
-    let s = two-split t (absent begins_raw) (identifier w) r h in
+    let s = two-split t (absent_part begins_raw) (identifier w) r h in
     let k = identifier-complete s.seam w r s.second in
     ap position (absent-same t begins_raw s.seam s.first)
     ∙ (position-word s.seam (not-true _ s.first.ends) k.first_passes
     ∙ (ap (λ u. (Word u, after_word s.seam)) k.read ∙ ap (λ u. (Word w, u)) k.rest_after))
 position-complete t (RawWord w) r h =
-    let s = two-split t (fixed (codes "r#")) (identifier w) r h in
+    let s = two-split t (fixed_part (codes "r#")) (identifier w) r h in
     let k = identifier-complete s.seam w r s.second in
     ap position s.first.whole
     ∙ (position-raw s.seam k.first_passes
@@ -131,12 +132,13 @@ position-finds = record { sound = position-sound; complete = position-complete }
 -- counts
 number-sound : (t ds s : Text) → IsPart t (integer ds) s
     → IsPart t (count_part (after_number ds s).0) (after_number ds s).1
-number-sound t ds [] h = row-two t [] (integer ds) (absent (begins_with (code "$"))) [] h
+number-sound t ds [] h = row-two t [] (integer ds) (absent_part (begins_with (code "$"))) [] h
     (absent-here [] (begins_with (code "$")) refl)
 number-sound t ds (d ∷ s) h =
     cond_both {A = CountText × Text} (d == code "$") _ _ (λ x. IsPart t (count_part x.0) x.1)
-    (λ e. row-two t (d ∷ s) (integer ds) (fixed (codes "$")) s h (letter-there d (code "$") s e))
-    (λ e. row-two t (d ∷ s) (integer ds) (absent (begins_with (code "$"))) (d ∷ s) h
+    (λ e. row-two t (d ∷ s) (integer ds) (fixed_part (codes "$")) s h
+    (letter-there d (code "$") s e))
+    (λ e. row-two t (d ∷ s) (integer ds) (absent_part (begins_with (code "$"))) (d ∷ s) h
     (absent-here (d ∷ s) (begins_with (code "$")) e))
 
 name-sound : (t w s : Text) → IsPart t (identifier w) s
@@ -145,7 +147,7 @@ name-sound : (t w s : Text) → IsPart t (identifier w) s
 name-sound t w [] h f = no_count-here t (f refl)
 name-sound t w (d ∷ s) h f =
     cond_both {A = CountText × Text} (d == code "$") _ _ (λ x. IsPart t (count_part x.0) x.1)
-    (λ e. row-two t (d ∷ s) (name_part w) (fixed (codes "$")) s
+    (λ e. row-two t (d ∷ s) (name_part w) (fixed_part (codes "$")) s
     (record { whole = h.whole; formed = h.formed; ends = e }) (letter-there d (code "$") s e))
     (λ e. no_count-here t (f e))
 
@@ -195,20 +197,20 @@ count-none (c ∷ t) e =
 count-complete : (t : Text) (k : CountText) (r : Text) → IsPart t (count_part k) r
     → count t ≡ (k, r)
 count-complete t (NumberCount ds) r h =
-    let s = two-split t (integer ds) (absent (begins_with (code "$"))) r h in
+    let s = two-split t (integer ds) (absent_part (begins_with (code "$"))) r h in
     let i = integer-complete t ds s.seam s.first in
     count-digits t i.digit
     ∙ (ap (λ u. after_number u (after_digits t)) i.read
     ∙ (ap (after_number ds) (i.rest_after ∙ absent-same s.seam (begins_with (code "$")) r s.second)
     ∙ number-alone ds r (not-true _ s.second.ends)))
 count-complete t (IndexCount ds) r h =
-    let s = two-split t (integer ds) (fixed (codes "$")) r h in
+    let s = two-split t (integer ds) (fixed_part (codes "$")) r h in
     let i = integer-complete t ds s.seam s.first in
     count-digits t i.digit
     ∙ (ap (λ u. after_number u (after_digits t)) i.read
     ∙ ap (after_number ds) (i.rest_after ∙ s.second.whole))
 count-complete t (NameCount w) r h =
-    let s = two-split t (name_part w) (fixed (codes "$")) r h in
+    let s = two-split t (name_part w) (fixed_part (codes "$")) r h in
     let i = identifier-complete t w s.seam (named-identifier t w s.seam s.first) in
     count-word t i.first_passes
     ∙ (ap (λ u. after_name t u (after_word t)) i.read
@@ -218,13 +220,13 @@ count-complete t NoCount r h = ap count h.whole ∙ count-none r (no_count-read 
 -- widths
 plain : (t : Text) → begins_with (code "0") t ≡ false
     → IsPart t (width_part (width_with PlainWidth t).0) (width_with PlainWidth t).1
-plain t e = row-two t t (absent (begins_with (code "0"))) (count_part (count t).0) (count t).1
+plain t e = row-two t t (absent_part (begins_with (code "0"))) (count_part (count t).0) (count t).1
     (absent-here t (begins_with (code "0")) e) (count-sound t)
 
 padded : (t : Text) → begins_with (code "$") t ≡ false
     → IsPart (codes "0" ++ t) (width_part (width_with PaddedWidth t).0) (width_with PaddedWidth t).1
 padded t e =
-    row-two (codes "0" ++ t) t (unless (codes "0") (begins_with (code "$")))
+    row-two (codes "0" ++ t) t (part_unless (codes "0") (begins_with (code "$")))
     (count_part (count t).0) (count t).1
     (unless-there (begins_with (code "$")) (codes "0") t e) (count-sound t)
 
@@ -260,12 +262,12 @@ counted-as make t k r h = ap (λ x. (make x.0, x.1)) (count-complete t k r h)
 width-complete : (t : Text) (w : WidthText) (r : Text) → IsPart t (width_part w) r
     → width t ≡ (w, r)
 width-complete t (PaddedWidth k) r h =
-    let s = two-split t (unless (codes "0") (begins_with (code "$"))) (count_part k) r h in
+    let s = two-split t (part_unless (codes "0") (begins_with (code "$"))) (count_part k) r h in
     ap width s.first.whole
     ∙ (zero-flag s.seam (not-true _ s.first.ends) ∙ counted-as PaddedWidth s.seam k r s.second)
 width-complete t ZeroIndexWidth r h = ap width h.whole
 width-complete t (PlainWidth k) r h =
-    let s = two-split t (absent (begins_with (code "0"))) (count_part k) r h in
+    let s = two-split t (absent_part (begins_with (code "0"))) (count_part k) r h in
     ap width (absent-same t _ s.seam s.first)
     ∙ (width-plain s.seam (not-true _ s.first.ends) ∙ counted-as PlainWidth s.seam k r s.second)
 
@@ -275,7 +277,7 @@ width-finds = record { sound = width-sound; complete = width-complete }
 -- precisions
 dotted : (t : Text) → begins_with (code "*") t ≡ false
     → IsPart (codes "." ++ t) (precision_part (DotPrecision (count t).0)) (count t).1
-dotted t e = row-two (codes "." ++ t) t (unless (codes ".") (begins_with (code "*")))
+dotted t e = row-two (codes "." ++ t) t (part_unless (codes ".") (begins_with (code "*")))
     (count_part (count t).0) (count t).1
     (unless-there (begins_with (code "*")) (codes ".") t e) (count-sound t)
 
@@ -311,7 +313,7 @@ precision-complete t NoPrecision r h = ap precision (absent-same t _ r h)
     ∙ precision-none r (not-true _ h.ends)
 precision-complete t StarPrecision r h = ap precision h.whole
 precision-complete t (DotPrecision k) r h =
-    let s = two-split t (unless (codes ".") (begins_with (code "*"))) (count_part k) r h in
+    let s = two-split t (part_unless (codes ".") (begins_with (code "*"))) (count_part k) r h in
     ap precision s.first.whole
     ∙ (dot-count s.seam (not-true _ s.first.ends)
     ∙ ap (λ x. (DotPrecision x.0, x.1)) (count-complete s.seam k r s.second))

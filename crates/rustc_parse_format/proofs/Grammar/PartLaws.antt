@@ -4,7 +4,8 @@ use Rattle.std.proofs.Common.{◌≡◌, ◌++◌, ◌==◌, Bool, true, false, 
 use Rattle.std.proofs.Common.{append_assoc, ℕ}
 use Rattle.std.proofs.lemmas.Bool.{and_parts, and_from, not_from_false, eqb-true}
 use Rattle.rustc_parse_format.specs.Characters.{Text}
-use Rattle.rustc_parse_format.specs.Spelling.{Part, IsPart, row, fixed, unless, absent}
+use Rattle.rustc_parse_format.specs.Spelling.{Part, IsPart, row, fixed_part, part_unless}
+use Rattle.rustc_parse_format.specs.Spelling.{absent_part}
 
 -- The function gives what is written at the front, and the rest; and where a part is written, it
 -- gives this part.
@@ -15,21 +16,22 @@ pub record Finds {A : Type 0} (part : A → Part) (f : Text → A × Text) : Typ
 pub IsPart-moved : (t u : Text) (p : Part) (r : Text) → t ≡ u → IsPart u p r → IsPart t p r
 IsPart-moved t u p r e h = record { whole = e ∙ h.whole; formed = h.formed; ends = h.ends }
 
-pub unless-there : (p : Text → Bool) (u r : Text) → p r ≡ false → IsPart (u ++ r) (unless u p) r
+pub unless-there : (p : Text → Bool) (u r : Text) → p r ≡ false
+    → IsPart (u ++ r) (part_unless u p) r
 unless-there p u r e = record { whole = refl; formed = refl; ends = not_from_false (p r) e }
 
 -- nothing is written, and it would not begin
-pub absent-same : (t : Text) (p : Text → Bool) (r : Text) → IsPart t (absent p) r → t ≡ r
+pub absent-same : (t : Text) (p : Text → Bool) (r : Text) → IsPart t (absent_part p) r → t ≡ r
 absent-same t p r h = h.whole
 
-pub absent-here : (t : Text) (p : Text → Bool) → p t ≡ false → IsPart t (absent p) t
+pub absent-here : (t : Text) (p : Text → Bool) → p t ≡ false → IsPart t (absent_part p) t
 absent-here t p e = unless-there p [] t e
 
-pub fixed-there : (u r : Text) → IsPart (u ++ r) (fixed u) r
+pub fixed-there : (u r : Text) → IsPart (u ++ r) (fixed_part u) r
 fixed-there u r = unless-there (λ s. false) u r refl
 
-pub letter-there : (c d : ℕ) (r : Text) → (c == d) ≡ true → IsPart (c ∷ r) (fixed (d ∷ [])) r
-letter-there c d r e = IsPart-moved (c ∷ r) (d ∷ r) (fixed (d ∷ [])) r
+pub letter-there : (c d : ℕ) (r : Text) → (c == d) ≡ true → IsPart (c ∷ r) (fixed_part (d ∷ [])) r
+letter-there c d r e = IsPart-moved (c ∷ r) (d ∷ r) (fixed_part (d ∷ [])) r
     (ap (λ x. x ∷ r) (eqb-true c d e)) (fixed-there (d ∷ []) r)
 
 pub row-nil : (t : Text) → IsPart t (row []) t

@@ -7,7 +7,8 @@ use Rattle.std.proofs.lemmas.Bool.{cond_both, cond-true, cond-false, or_from, or
 use Rattle.std.proofs.lemmas.Bool.{or_left, or_right, not-true, false≢true, eqb-true}
 use Rattle.rustc_parse_format.specs.Characters.{Text, is_align, is_no_brace, word, after_word}
 use Rattle.rustc_parse_format.specs.Characters.{after_first, begins_with, first_passes}
-use Rattle.rustc_parse_format.specs.Spelling.{IsPart, fixed, absent, run, optional_identifier}
+use Rattle.rustc_parse_format.specs.Spelling.{IsPart, fixed_part, absent_part, run}
+use Rattle.rustc_parse_format.specs.Spelling.{optional_identifier}
 use Rattle.rustc_parse_format.specs.Types.{Mode, Format, InlineAsm, Diagnostic, DiagnosticNamed}
 use Rattle.rustc_parse_format.specs.Types.{Alignment, Left}
 use Rattle.rustc_parse_format.specs.Types.{Right, Center, Unknown, Sign, Plus, Minus, DebugHex}
@@ -171,7 +172,7 @@ type-sound (c ∷ t) =
     (λ f. cond_both {A = TypeText × Text} (c == code "?") _ _
     (λ x. IsPart (c ∷ t) (type_part x.0) x.1)
     (λ g. record { whole = refl; formed = or_right _ _ g; ends = or_left _ _ g })
-    (λ g. row-two (c ∷ t) (c ∷ t) (absent (first_passes is_type_character))
+    (λ g. row-two (c ∷ t) (c ∷ t) (absent_part (first_passes is_type_character))
     (optional_identifier (word (c ∷ t))) (after_word (c ∷ t))
     (absent-here (c ∷ t) (first_passes is_type_character) (or_from _ _ (or_from _ _ e f) g))
     (optional_identifier-finds.sound (c ∷ t)))))
@@ -214,7 +215,8 @@ type-complete t (DebugHexType Lower) r h = ap type h.whole
 type-complete t (DebugHexType Upper) r h = ap type h.whole
 type-complete t (CharacterType c) r h = ap type h.whole ∙ sign-read c r h.formed h.ends
 type-complete t (WordType w) r h =
-    let s = two-split t (absent (first_passes is_type_character)) (optional_identifier w) r h in
+    let s = two-split t (absent_part (first_passes is_type_character))
+    (optional_identifier w) r h in
     ap type (absent-same t _ s.seam s.first)
     ∙ (type-word s.seam (not-true _ s.first.ends)
     ∙ ap (λ x. (WordType x.0, x.1)) (optional_identifier-finds.complete s.seam w r s.second))
@@ -315,7 +317,7 @@ spec-none mode (c ∷ t) e = cond-false (c == code ":") _ _ e
 text-complete : (t u r : Text) → IsPart t (spec_part Diagnostic (DiagnosticText u)) r
     → specification Diagnostic t ≡ (DiagnosticText u, r)
 text-complete t u r h =
-    let s = two-split t (fixed (codes ":")) (run is_no_brace u) r h in
+    let s = two-split t (fixed_part (codes ":")) (run is_no_brace u) r h in
     ap (specification Diagnostic) s.first.whole
     ∙ ap (λ x. (DiagnosticText x.0, x.1)) ((run-finds is_no_brace).complete s.seam u r s.second)
 
@@ -328,11 +330,11 @@ spec-complete : (mode : Mode) (t : Text) (s : SpecText) (r : Text) → IsPart t 
 spec-complete mode t Default r h = ap (specification mode) (absent-same t _ r h)
     ∙ spec-none mode r (not-true _ h.ends)
 spec-complete Format t (Formatting p) r h =
-    let s = two-split t (fixed (codes ":")) (format_part p) r h in
+    let s = two-split t (fixed_part (codes ":")) (format_part p) r h in
     ap (specification Format) s.first.whole
     ∙ ap (λ x. (Formatting x.0, x.1)) (format-complete s.seam p r s.second)
 spec-complete InlineAsm t (Modifier w) r h =
-    let s = two-split t (fixed (codes ":")) (optional_identifier w) r h in
+    let s = two-split t (fixed_part (codes ":")) (optional_identifier w) r h in
     ap (specification InlineAsm) s.first.whole
     ∙ ap (λ x. (Modifier x.0, x.1)) (optional_identifier-finds.complete s.seam w r s.second)
 spec-complete Diagnostic t (DiagnosticText u) r h = text-complete t u r h

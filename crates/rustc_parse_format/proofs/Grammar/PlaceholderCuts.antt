@@ -2,7 +2,7 @@
 use Rattle.std.proofs.Common.{◌≡◌, ◌++◌, [], ◌∷◌, sym, ◌∙◌, ap, subst, codes}
 use Rattle.std.specs.Char.{is_whitespace}
 use Rattle.rustc_parse_format.specs.Characters.{Text, front, after_white}
-use Rattle.rustc_parse_format.specs.Spelling.{IsPart, fixed, run}
+use Rattle.rustc_parse_format.specs.Spelling.{IsPart, fixed_part, run}
 use Rattle.rustc_parse_format.specs.Types.{Mode}
 use Rattle.rustc_parse_format.specs.Syntax.{FieldText, field_part, placeholder_part}
 use Rattle.rustc_parse_format.specs.Placeholder.{cut, cut_of}
@@ -25,8 +25,8 @@ white-rest_after t w r h = ap (λ x. x.1) ((run-finds is_whitespace).complete t 
 pub by_cut : (mode : Mode) (t : Text) (a : FieldText) (space r : Text)
     → IsPart t (placeholder_part mode a space) r → ClosesCut mode t a r
 by_cut mode t a space r h =
-    let whole : IsRow t (fixed (codes "{") ∷ field_part mode a ∷ run is_whitespace space
-    ∷ fixed (codes "}") ∷ []) r = record { part = h } in
+    let whole : IsRow t (fixed_part (codes "{") ∷ field_part mode a ∷ run is_whitespace space
+    ∷ fixed_part (codes "}") ∷ []) r = record { part = h } in
     let o = opened whole in
     let f = opened o.others in
     let w = opened f.others in

@@ -1,7 +1,7 @@
 -- A text has at most one reading, and the spellings of its pieces are the text.
 use Rattle.std.proofs.Common.{◌≡◌, ℕ, ◌++◌, List, [], ◌∷◌, refl, sym, ◌∙◌, ap, Some, None}
 use Rattle.rustc_parse_format.specs.Characters.{Text}
-use Rattle.rustc_parse_format.specs.Types.{Mode, Piece, bare}
+use Rattle.rustc_parse_format.specs.Types.{Mode, Piece, bare_piece}
 use Rattle.rustc_parse_format.specs.Syntax.{piece_part}
 use Rattle.rustc_parse_format.specs.Grammar.{Begins, Reads, piece_values, IsSpelled}
 use Rattle.rustc_parse_format.specs.Call.{call}
@@ -22,7 +22,8 @@ Begins-unique mode c t p q r s n m a b =
     let x = begins_call mode c t p r n a in
     let y = begins_call mode c t q s m b in
     record {
-      piece = sym x.same ∙ (ap bare (same_piece x.piece y.piece (sym x.given ∙ y.given)) ∙ y.same);
+      piece = sym x.same ∙ (ap bare_piece (same_piece x.piece y.piece (sym x.given ∙ y.given))
+          ∙ y.same);
       rest = sym x.rest ∙ y.rest;
       next = sym x.next ∙ y.next;
     }

@@ -13,7 +13,7 @@ use Rattle.rustc_parse_format.specs.World.{World, Place, place_at}
 use Rattle.rustc_parse_format.specs.Marks.{run_texts}
 use Rattle.rustc_parse_format.specs.Midway.{Midway, read_texts}
 use Rattle.rustc_parse_format.specs.Lines.{PlacedCharacter, texts_in, is_newline, is_indent}
-use Rattle.rustc_parse_format.specs.Lines.{indented, IsLines}
+use Rattle.rustc_parse_format.specs.Lines.{indented_start, IsLines}
 use Rattle.rustc_parse_format.specs.Lines.{read_lines, lines_in}
 
 -- Reading from a line start on, and then more from where that stopped.
@@ -144,7 +144,7 @@ has_no_indent start xs = list_all (λ x. not (is_indent start x)) xs
 
 -- Characters with no newline give no line,
 pub read_lines-one_line : (start : ℕ) (xs : List PlacedCharacter) → has_no_newline xs ≡ true
-    → read_lines start xs ≡ (indented start xs, [])
+    → read_lines start xs ≡ (indented_start start xs, [])
 read_lines-one_line start [] a = refl
 read_lines-one_line start (x ∷ xs) a =
     let h : (not (is_newline x) ≡ true) × (has_no_newline xs ≡ true) =
@@ -206,18 +206,18 @@ pub cut-only : (start : ℕ) (xs : List PlacedCharacter) (ls : List Place) (next
     → (next, ls) ≡ read_lines start xs
 cut-only start xs [] next h = ap (λ (n : ℕ). (n, [])) h.1 ∙ sym (read_lines-one_line start xs h.0)
 cut-only start xs (line ∷ lines) next (front, rest_after, newline, split, none, is, l, rest) =
-    let first : read_lines start front ≡ (indented start front, []) =
+    let first : read_lines start front ≡ (indented_start start front, []) =
     read_lines-one_line start front none in
-    let ended : read_lines (indented start front) (newline ∷ rest_after)
+    let ended : read_lines (indented_start start front) (newline ∷ rest_after)
     ≡ (
       (read_lines newline.1.1 rest_after).0,
-      (indented start front, newline.1.0)
+      (indented_start start front, newline.1.0)
           ∷ (read_lines newline.1.1 rest_after).1,
     ) =
-    read_lines-newline (indented start front) newline rest_after is in
+    read_lines-newline (indented_start start front) newline rest_after is in
     let later : (next, lines) ≡ read_lines newline.1.1 rest_after =
     cut-only newline.1.1 rest_after lines next rest in
     sym (ap (read_lines start) split ∙ (read_lines-append start front (newline ∷ rest_after)
     ∙ (ap (λ (r : Reading). then_read r (read_lines r.0 (newline ∷ rest_after))) first ∙ (ended
-    ∙ (ap (λ (r : Reading). (r.0, (indented start front, newline.1.0) ∷ r.1)) (sym later)
+    ∙ (ap (λ (r : Reading). (r.0, (indented_start start front, newline.1.0) ∷ r.1)) (sym later)
     ∙ ap (λ (p : Place). (next, p ∷ lines)) (sym l))))))

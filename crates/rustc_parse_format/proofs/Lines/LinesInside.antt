@@ -12,7 +12,7 @@ use Rattle.rustc_parse_format.specs.Characters.{front}
 use Rattle.rustc_parse_format.specs.Characters.{is_nil, byte_length}
 use Rattle.rustc_parse_format.specs.Types.{Mode, Format, InlineAsm, Diagnostic, DiagnosticNamed}
 use Rattle.rustc_parse_format.specs.Types.{Argument, Piece}
-use Rattle.rustc_parse_format.specs.Spelling.{IsPart, fixed, run}
+use Rattle.rustc_parse_format.specs.Spelling.{IsPart, fixed_part, run}
 use Rattle.rustc_parse_format.specs.Syntax.{SpecText, Default, Formatting, Modifier, DiagnosticText}
 use Rattle.rustc_parse_format.specs.Syntax.{spec_part}
 use Rattle.rustc_parse_format.specs.Placeholder.{cut}
@@ -37,10 +37,11 @@ use Rattle.rustc_parse_format.specs.World.{World, Place, world, quote_offset, co
 use Rattle.rustc_parse_format.specs.World.{place_at, place_of, faults_in}
 use Rattle.rustc_parse_format.specs.Lines.{is_indent, is_newline, texts_in, read_lines, lines_in}
 use Rattle.rustc_parse_format.specs.Lines.{closed_places, place_list, ends_with, with_last}
-use Rattle.rustc_parse_format.specs.State.{State, ComesFrom, after, after_all, calls, first_state}
+use Rattle.rustc_parse_format.specs.State.{State, ComesFrom, state_after, after_all, calls}
+use Rattle.rustc_parse_format.specs.State.{first_state}
 use Rattle.rustc_parse_format.specs.State.{last_lines, next_call}
 use Rattle.rustc_parse_format.specs.ReadBack.{IsInside, IsLineInside, HasBegun, LiesInside}
-use Rattle.rustc_parse_format.specs.ReadBack.{optional, spans_of_fault, spans_of_error}
+use Rattle.rustc_parse_format.specs.ReadBack.{optional_list, spans_of_fault, spans_of_error}
 use Rattle.rustc_parse_format.proofs.Grammar.Fronts.{front-rest_after}
 use Rattle.rustc_parse_format.proofs.Sources.PlainPlaces.{place_end}
 use Rattle.rustc_parse_format.proofs.Spans.PlaceOrder.{length-content_places}
@@ -145,7 +146,7 @@ run-between t =
 text-between : (t u r : Text) → IsPart t (spec_part Diagnostic (DiagnosticText u)) r
     → AreBetween (length t) (run_texts u r) (length r)
 text-between t u r h =
-    let s = two-split t (fixed (codes ":")) (run is_no_brace u) r h in
+    let s = two-split t (fixed_part (codes ":")) (run is_no_brace u) r h in
     between-wider (length (u ++ r)) (length r) (length t) (length r) (run_texts u r)
     (omega (arith, ap length s.first.whole, ap length s.second.whole)) (omega arith)
     (marked-between u r)
@@ -361,12 +362,13 @@ errors-inside P w old (f ∷ fs) h k =
     (λ back. all-append (λ x. AllByRecursion P (spans_of_error x)) old (e ∷ []) h (one, tt))) k.1
 
 closed-inside : (P : Place → Type 0) (w : World) (o : Option Span)
-    → AllByRecursion (λ m. P (place_of w m)) (optional o) → AllByRecursion P (closed_places w o)
+    → AllByRecursion (λ m. P (place_of w m)) (optional_list o)
+    → AllByRecursion P (closed_places w o)
 closed-inside P w o h =
     cond_both {A = Option Place} w.has_source (option_map (place_of w) o) None
     (λ x. AllByRecursion P (place_list x)) (λ yes. placed o h) (λ no. tt)
   where
-    placed : (o : Option Span) → AllByRecursion (λ m. P (place_of w m)) (optional o)
+    placed : (o : Option Span) → AllByRecursion (λ m. P (place_of w m)) (optional_list o)
         → AllByRecursion P (place_list (option_map (place_of w) o))
     placed None h = tt
     placed (Some s) h = h
@@ -374,7 +376,7 @@ closed-inside P w o h =
 -- A call keeps all inside,
 pub call_lies_inside : (s : State) (style : Option ℕ) (snippet : Text) (appended : Bool)
     → IsRest s.input s.rest → ComesFrom s style snippet appended →
-    LiesInside snippet appended s → LiesInside snippet appended (after s (next_call s))
+    LiesInside snippet appended s → LiesInside snippet appended (state_after s (next_call s))
 call_lies_inside s style snippet appended r f h =
     let k = next_call s in
     let w = s.world in
@@ -416,17 +418,18 @@ walk_lies_inside : (s : State) (ks : List Call) (style : Option ℕ) (snippet : 
     → LiesInside snippet appended s → LiesInside snippet appended (after_all s ks)
 walk_lies_inside s [] style snippet appended r f w h = absurd w
 walk_lies_inside s (k ∷ ks) style snippet appended r f w h =
-    let one : LiesInside snippet appended (after s k) =
-    subst (λ x. LiesInside snippet appended (after s x)) (sym w.0)
+    let one : LiesInside snippet appended (state_after s k) =
+    subst (λ x. LiesInside snippet appended (state_after s x)) (sym w.0)
     (call_lies_inside s style snippet appended r f h) in
     by_piece k.piece w.1 one
-    (λ v. walk_lies_inside (after s k) ks style snippet appended (rest_after_call s k r w.0)
+    (λ v. walk_lies_inside (state_after s k) ks style snippet appended (rest_after_call s k r w.0)
     (record { is_source = f.is_source; world_is = f.world_is }) v one)
   where
     by_piece : (o : Option (Piece Span)) → GoesOn o ks (IsWalk s.mode k.next k.rest ks)
-        → LiesInside snippet appended (after s k) →
-        (IsWalk s.mode k.next k.rest ks → LiesInside snippet appended (after_all (after s k) ks))
-        → LiesInside snippet appended (after_all (after s k) ks)
+        → LiesInside snippet appended (state_after s k) →
+        (IsWalk s.mode k.next k.rest ks → LiesInside snippet appended
+        (after_all (state_after s k) ks))
+        → LiesInside snippet appended (after_all (state_after s k) ks)
     by_piece None e one f = rw e one
     by_piece (Some p) v one f = f v
 

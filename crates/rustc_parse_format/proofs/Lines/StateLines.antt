@@ -13,7 +13,7 @@ use Rattle.rustc_parse_format.specs.World.{World, Place, place_at}
 use Rattle.rustc_parse_format.specs.Midway.{FindsNothing, HasFoundNothing, Midway}
 use Rattle.rustc_parse_format.specs.Midway.{read_call}
 use Rattle.rustc_parse_format.proofs.Sources.PlainPlaces.{place_end}
-use Rattle.rustc_parse_format.specs.State.{State, AddsNothing, after, last_lines, next_call}
+use Rattle.rustc_parse_format.specs.State.{State, AddsNothing, state_after, last_lines, next_call}
 
 nothing_appended : {A : Type 0} (xs ys : List A) → xs ++ ys ≡ xs → ys ≡ []
 nothing_appended xs ys e = nil_from_length ys (omega (arith, ap length e, length-append xs ys))
@@ -31,7 +31,7 @@ closed_in-none w = same_either w.has_source None
 -- at the end
 pub at_end : (s : State) → s.rest ≡ [] →
     ((next_call s).piece ≡ None)
-    × (after s (next_call s) ≡ record s { line_spans = last_lines s s.line_spans })
+    × (state_after s (next_call s) ≡ record s { line_spans = last_lines s s.line_spans })
 unfolding call
 at_end s e =
     rw (

@@ -5,7 +5,7 @@ use Rattle.std.proofs.lemmas.Option.{same_Some, none-some}
 use Rattle.rustc_parse_format.specs.Characters.{Text}
 use Rattle.rustc_parse_format.specs.LiteralUnits.{LiteralUnit, Plain, SimpleEscape, ByteEscape}
 use Rattle.rustc_parse_format.specs.LiteralUnits.{UnicodeEscape, Continuation, spelling, unit_at}
-use Rattle.rustc_parse_format.specs.Literal.{IsContent, IsOnlyContent, more, first_and_rest}
+use Rattle.rustc_parse_format.specs.Literal.{IsContent, IsOnlyContent, more_units, first_and_rest}
 use Rattle.rustc_parse_format.specs.Literal.{units_within, units}
 use Rattle.rustc_parse_format.proofs.Literals.UnitLaws.{IsAtFront, unit_at-nil, unit_at-front}
 use Rattle.rustc_parse_format.proofs.Literals.UnitLaws.{unit_at-complete}
@@ -39,7 +39,7 @@ units_within-enough (suc m) (suc n) (c ∷ t) a b =
     by_unit None e ih = refl
     by_unit (Some (u, r)) e ih =
         let shorter : length r < suc (length t) = unit_at-shorter (c ∷ t) u r e in
-        ap (more u) (ih r (omega arith) (omega arith))
+        ap (more_units u) (ih r (omega arith) (omega arith))
 
 -- The units of a text by the one at its front.
 pub units-nil : units [] ≡ Some []
@@ -47,13 +47,13 @@ unfolding units
 units-nil = refl
 
 pub units-some : (t : Text) (u : LiteralUnit) (r : Text) → unit_at t ≡ Some (u, r)
-    → units t ≡ more u (units r)
+    → units t ≡ more_units u (units r)
 unfolding units
 units-some [] u r e = absurd (none-some (u, r) (sym unit_at-nil ∙ e))
 units-some (c ∷ t) u r e =
     let shorter : length r < suc (length t) = unit_at-shorter (c ∷ t) u r e in
     ap (first_and_rest (λ s. units_within (length t) s)) e
-    ∙ ap (more u) (units_within-enough (length t) (length r) r (omega arith) (omega arith))
+    ∙ ap (more_units u) (units_within-enough (length t) (length r) r (omega arith) (omega arith))
 
 pub units-none : (c : ℕ) (t : Text) → unit_at (c ∷ t) ≡ None → units (c ∷ t) ≡ None
 unfolding units
@@ -68,7 +68,7 @@ units_within-content (suc n) (c ∷ t) us e =
     by_unit (unit_at (c ∷ t)) refl e (λ r vs h. units_within-content n r vs h)
   where
     by_rest : (u : LiteralUnit) (r : Text) (o : Option (List LiteralUnit))
-        → unit_at (c ∷ t) ≡ Some (u, r) → more u o ≡ Some us →
+        → unit_at (c ∷ t) ≡ Some (u, r) → more_units u o ≡ Some us →
         ((vs : List LiteralUnit) → o ≡ Some vs → IsContent r vs) → IsContent (c ∷ t) us
     by_rest u r None f e ih = absurd (none-some us e)
     by_rest u r (Some vs) f e ih =
@@ -92,7 +92,7 @@ pub units-complete : (t : Text) (us : List LiteralUnit) → IsContent t us → u
 units-complete t [] e = ap units e ∙ units-nil
 units-complete t (u ∷ us) (r, w, m, e, rest) =
     units-some t u r (ap unit_at e ∙ unit_at-complete u r w m)
-    ∙ ap (more u) (units-complete r us rest)
+    ∙ ap (more_units u) (units-complete r us rest)
 
 pub units-only : (t : Text) (us : List LiteralUnit) → units t ≡ Some us → IsOnlyContent t us
 units-only t us e = record {

@@ -11,7 +11,7 @@ use Rattle.std.proofs.lemmas.Slice.Eq.{bytes_eq-Decides}
 use Rattle.rustc_parse_format.specs.Characters.{Text, after_first, begins_with, byte_length}
 use Rattle.rustc_parse_format.specs.LiteralUnits.{LiteralUnit, Plain, spelling, value, meaning}
 use Rattle.rustc_parse_format.specs.LiteralUnits.{unit_at, at_most_one, is_plain}
-use Rattle.rustc_parse_format.specs.Literal.{units, more, content_value}
+use Rattle.rustc_parse_format.specs.Literal.{units, more_units, content_value}
 use Rattle.rustc_parse_format.specs.World.{content_places, last_stop}
 use Rattle.rustc_parse_format.specs.LiteralReading.{SameEnds, SharePlain, end_of, spelled_end}
 use Rattle.rustc_parse_format.proofs.Literals.Contents.{units-nil, units-some, units-none}
@@ -38,7 +38,7 @@ end-nothing at f e t r w h l =
   where
     by_rest : (u : LiteralUnit) → value u ≡ [] → at + byte_length (spelling u) ≡ f
         → (o : Option (List LiteralUnit)) →
-        end_of at e (more u o) w ≡ end_of f e o w
+        end_of at e (more_units u o) w ≡ end_of f e o w
     by_rest u v k None = refl
     by_rest u v k (Some us) = rw (v, k) refl
 
@@ -62,7 +62,8 @@ end-character at f e t r w c h l =
   where
     by_rest : (u : LiteralUnit) → value u ≡ c ∷ [] → at + byte_length (spelling u) ≡ f
         → (o : Option (List LiteralUnit)) (w : Text) →
-        end_of at e (more u o) w ≡ (if begins_with c w then end_of f f o (after_first w) else None)
+        end_of at e (more_units u o) w ≡ (if begins_with c w then end_of f f o
+        (after_first w) else None)
     by_rest u v k None w = if_same (begins_with c w) None
     by_rest u v k (Some us) [] = rw v refl
     by_rest u v k (Some us) (d ∷ w) =

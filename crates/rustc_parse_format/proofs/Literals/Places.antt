@@ -8,7 +8,8 @@ use Rattle.rustc_parse_format.specs.Characters.{Text, byte_length}
 use Rattle.rustc_parse_format.specs.World.{Place}
 use Rattle.rustc_parse_format.specs.LiteralUnits.{LiteralUnit, spelling, value, meaning, unit_at}
 use Rattle.rustc_parse_format.specs.LiteralUnits.{at_most_one}
-use Rattle.rustc_parse_format.specs.Literal.{IsContent, IsNoContent, IsOnlyContent, IsReadAs, more}
+use Rattle.rustc_parse_format.specs.Literal.{IsContent, IsNoContent, IsOnlyContent, IsReadAs}
+use Rattle.rustc_parse_format.specs.Literal.{more_units}
 use Rattle.rustc_parse_format.specs.Literal.{units, placed_characters}
 use Rattle.rustc_parse_format.specs.LiteralReading.{seen_characters, content_characters}
 use Rattle.rustc_parse_format.specs.Seen.{pair}
@@ -45,7 +46,7 @@ placed-nothing at end t r e l =
   where
     by_rest : (u : LiteralUnit) → value u ≡ [] → at + byte_length (spelling u) ≡ end
         → (o : Option (List LiteralUnit)) →
-        option_map (placed_characters at) (more u o) ≡ option_map (placed_characters end) o
+        option_map (placed_characters at) (more_units u o) ≡ option_map (placed_characters end) o
     by_rest u v k None = refl
     by_rest u v k (Some us) = rw (v, k) refl
 
@@ -60,7 +61,7 @@ placed-character at end t r c e l =
   where
     by_rest : (u : LiteralUnit) → value u ≡ c ∷ [] → at + byte_length (spelling u) ≡ end
         → (o : Option (List LiteralUnit)) →
-        option_map (placed_characters at) (more u o)
+        option_map (placed_characters at) (more_units u o)
         ≡ option_map (λ ps. ((at, end), c) ∷ ps) (option_map (placed_characters end) o)
     by_rest u v k None = refl
     by_rest u v k (Some us) = rw (v, k) refl

@@ -15,7 +15,8 @@ use Rattle.std.proofs.lemmas.Option.{same_Some, none-some}
 use Rattle.rustc_parse_format.specs.Characters.{Text, rest_after, front}
 use Rattle.rustc_parse_format.specs.LiteralUnits.{LiteralUnit, Plain, is_plain, meaning, unit_at}
 use Rattle.rustc_parse_format.specs.LiteralUnits.{value}
-use Rattle.rustc_parse_format.specs.Literal.{IsNoContent, IsOnlyContent, content_value, more, units}
+use Rattle.rustc_parse_format.specs.Literal.{IsNoContent, IsOnlyContent, content_value, more_units}
+use Rattle.rustc_parse_format.specs.Literal.{units}
 use Rattle.rustc_parse_format.proofs.Grammar.Fronts.{front-rest_after, list_all-front}
 use Rattle.rustc_parse_format.proofs.Literals.UnitLaws.{unit_at-complete}
 use Rattle.rustc_parse_format.proofs.Literals.Contents.{units-nil, units-some, units-none}
@@ -38,7 +39,7 @@ text-unit t v r e =
     ∙ by_rest m.unit m.has_value (units r)
   where
     by_rest : (u : LiteralUnit) → value u ≡ v → (o : Option (List LiteralUnit))
-        → option_map content_value (more u o)
+        → option_map content_value (more_units u o)
         ≡ option_map (λ w. v ++ w) (option_map content_value o)
     by_rest u h None = refl
     by_rest u h (Some us) = ap (λ x. Some (x ++ content_value us)) h

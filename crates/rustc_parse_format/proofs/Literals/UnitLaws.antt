@@ -13,7 +13,7 @@ use Rattle.rustc_parse_format.specs.LiteralUnits.{may_precede}
 use Rattle.rustc_parse_format.specs.LiteralUnits.{with_rest, at_brace, unicode_at, byte_at}
 use Rattle.rustc_parse_format.specs.LiteralUnits.{escape_at, unit_at, is_skipped, is_inside, is_hex}
 use Rattle.rustc_parse_format.specs.LiteralUnits.{is_underscore}
-use Rattle.rustc_parse_format.specs.LiteralUnits.{is_plain, is_unicode, escaped}
+use Rattle.rustc_parse_format.specs.LiteralUnits.{is_plain, is_unicode, escaped_character}
 use Rattle.rustc_parse_format.proofs.Grammar.Fronts.{front-rest_after, list_all-front}
 use Rattle.rustc_parse_format.proofs.Grammar.Fronts.{first_passes-rest_after, front-append}
 use Rattle.rustc_parse_format.proofs.Grammar.Fronts.{rest_after-append, list_all-weaker}
@@ -93,18 +93,18 @@ pub unit_at-nil : unit_at [] ≡ None
 unfolding unit_at
 unit_at-nil = refl
 
-simple_at-complete : (l : ℕ) (r : Text) → IsTrue (is_some (escaped l))
+simple_at-complete : (l : ℕ) (r : Text) → IsTrue (is_some (escaped_character l))
     → unit_at (92 ∷ l ∷ r) ≡ Some (SimpleEscape l, r)
 unfolding unit_at escape_at
 simple_at-complete l r w =
     cond-false (l == 10) _ _ (ne_eqb l 10 (other 10 refl))
     ∙ (cond-false (l == 120) _ _ (ne_eqb l 120 (other 120 refl))
     ∙ (cond-false (l == 117) _ _ (ne_eqb l 117 (other 117 refl))
-    ∙ cond-true (is_some (escaped l)) _ _ w))
+    ∙ cond-true (is_some (escaped_character l)) _ _ w))
   where
-    other : (n : ℕ) → is_some (escaped n) ≡ false → l ≡ n → ⊥
-    other n none e = let some : is_some (escaped n)
-        ≡ true = subst (λ k. is_some (escaped k) ≡ true) e w in both_ways _ none some
+    other : (n : ℕ) → is_some (escaped_character n) ≡ false → l ≡ n → ⊥
+    other n none e = let some : is_some (escaped_character n)
+        ≡ true = subst (λ k. is_some (escaped_character k) ≡ true) e w in both_ways _ none some
 
 inside_from_hex : (c : ℕ) → (is_hex c || is_underscore c) ≡ true → is_inside c ≡ true
 inside_from_hex c h = not_from_false _ (ne_eqb c 125

@@ -8,7 +8,7 @@ use Rattle.std.proofs.lemmas.Bool.{and_parts, cond_both, cond-true, cond-false, 
 use Rattle.std.proofs.lemmas.Bool.{false≢true, not-true}
 use Rattle.rustc_parse_format.specs.Characters.{Text, is_brace, after_white, after_first}
 use Rattle.rustc_parse_format.specs.Characters.{begins_with, first}
-use Rattle.rustc_parse_format.specs.Marks.{Span, Start, End, up_to, through, over_first}
+use Rattle.rustc_parse_format.specs.Marks.{Span, Start, End, up_to, span_through, over_first}
 use Rattle.rustc_parse_format.specs.Types.{Mode, Spec, Argument, NextArgument, map_spec}
 use Rattle.rustc_parse_format.specs.Types.{map_argument}
 use Rattle.rustc_parse_format.specs.Placeholder.{cut}
@@ -22,7 +22,7 @@ use Rattle.rustc_parse_format.specs.Call.{unclosed_call, unclosed_fault}
 use Rattle.rustc_parse_format.specs.Back.{Back}
 use Rattle.rustc_parse_format.specs.Midway.{FindsNothing, Midway, after_closing, closed_then}
 use Rattle.rustc_parse_format.specs.Midway.{opens_placeholder, read_call, read_texts, read_to}
-use Rattle.rustc_parse_format.specs.Midway.{read_tries, recovered}
+use Rattle.rustc_parse_format.specs.Midway.{read_tries, recovered_state}
 use Rattle.rustc_parse_format.specs.Lines.{closed_in}
 use Rattle.rustc_parse_format.specs.Tries.{spec_tries}
 use Rattle.rustc_parse_format.proofs.Grammar.Numbers.{number_after_field-le}
@@ -133,10 +133,10 @@ pub brace-closes : (s new : Midway) (mode : Mode) (opening : Place)
 brace-closes s new mode opening b e o a f =
     let at : opening.0 ≡ number_of s.world (Start (length o)) = ap (λ (p : Place). p.0) f in
     let here : (opening.0, number_of s.world (End (length s.rest)))
-    ≡ place_of s.world (through o s.rest) =
+    ≡ place_of s.world (span_through o s.rest) =
     ap (λ (n : ℕ). (n, number_of s.world (End (length s.rest)))) at in
     e ∙ (ap (λ (p : Option Place). record s { rest = after_first s.rest; closed_place = p })
-    (closed_where s.world.has_source s.closed_place (through o s.rest) s.world _ refl here)
+    (closed_where s.world.has_source s.closed_place (span_through o s.rest) s.world _ refl here)
     ∙ sym (cond-true (begins_with 125 s.rest) _ _ b))
 
 -- and where it is missing, its fault is noted, and the recovery is read.
@@ -153,7 +153,7 @@ missing-closes s x new mode opening seen b e h o a f g =
     let fault = unclosed_fault_in s.world o a.format s.rest seen.format
     (ap (λ (v : Argument Place). v.format) g) in
     k o a f g
-    ∙ (ap (λ (z : Fault Place). recovered (record s { faults = s.faults ++ z ∷ [] })
+    ∙ (ap (λ (z : Fault Place). recovered_state (record s { faults = s.faults ++ z ∷ [] })
     (recovery mode s.next o a s.rest))
     (ap (λ p. no_brace (brace_fill seen.format.fill seen.format.fill_span) (first s.rest)
     (place_of s.world (up_to s.rest s.rest)) p) f ∙ sym fault)
@@ -167,7 +167,7 @@ read_either s false x y k j e f = f
 unclosed_read : (s : Midway) (mode : Mode) (o t : Text) →
     (let f = unclosed_fault o (argument s.next (cut mode t)).format (ending mode t) in
     let c = number_after_field s.next (cut mode t).field in
-    recovered (read_to (after_argument s mode t) (ending mode t) c (f ∷ []))
+    recovered_state (read_to (after_argument s mode t) (ending mode t) c (f ∷ []))
     (recovery mode c o (argument s.next (cut mode t)) (ending mode t)))
     ≡ read_call s (unclosed_call mode s.next o (cut mode t) (ending mode t))
 unclosed_read s mode o t =

@@ -16,7 +16,8 @@ use Rattle.rustc_parse_format.specs.Identifiers.{is_identifier}
 use Rattle.rustc_parse_format.specs.Recovery.{Recovery, finds, sign_fault, sign, late_debug, field}
 use Rattle.rustc_parse_format.specs.Recovery.{recovery}
 use Rattle.rustc_parse_format.specs.World.{Place, number_of, place_of}
-use Rattle.rustc_parse_format.specs.Midway.{Midway, after_sign, read_texts, read_to, recovered}
+use Rattle.rustc_parse_format.specs.Midway.{Midway, after_sign, read_texts, read_to}
+use Rattle.rustc_parse_format.specs.Midway.{recovered_state}
 use Rattle.rustc_parse_format.proofs.Grammar.Identifiers.{identifier-map}
 use Rattle.rustc_parse_format.proofs.Grammar.Rests.{IsRest, IsRest-self, IsRest-trans, IsRest-le}
 use Rattle.rustc_parse_format.proofs.Grammar.Rests.{after_first_rest, after_word_rest, cut_rest}
@@ -28,7 +29,7 @@ pub read_no_texts : (s : Midway) → read_texts s [] ≡ s
 read_no_texts s = rw (lines_in-nil s.world s.line_start, append-nil s.lines) refl
 
 -- where nothing is found and nothing is read
-recovered-nothing : (s : Midway) → recovered s (finds s.next [] s.rest) ≡ s
+recovered-nothing : (s : Midway) → recovered_state s (finds s.next [] s.rest) ≡ s
 recovered-nothing s = read_no_texts (read_to s s.rest s.next [])
     ∙ ap (λ (fs : List (Fault Place)). record s { faults = fs }) (append-nil s.faults)
 
@@ -50,7 +51,7 @@ sign_fault-map g x y s o =
 
 sign-read : (s : Midway) (o : Option (Fault Span))
     → after_sign s (option_map (map_fault (place_of s.world)) o)
-    ≡ recovered s (sign s.next o s.rest)
+    ≡ recovered_state s (sign s.next o s.rest)
 sign-read s None = sym (recovered-nothing s)
 sign-read s (Some f) = sym (read_no_texts (read_to s (after_first s.rest) s.next (f ∷ [])))
 
@@ -66,7 +67,7 @@ field_decided g x b s a e f =
 pub sign-taken : (s : Midway) (x y : ℕ) (o : Text) (opening : Place)
     → opening ≡ place_of s.world (over_first o) →
     after_sign s (sign_fault x y (place_of s.world (over_first s.rest)) opening)
-    ≡ recovered s (sign s.next (sign_fault x y (over_first s.rest) (over_first o)) s.rest)
+    ≡ recovered_state s (sign s.next (sign_fault x y (over_first s.rest) (over_first o)) s.rest)
 sign-taken s x y o opening e =
     ap (λ p. after_sign s (sign_fault x y (place_of s.world (over_first s.rest)) p)) e
     ∙ (ap (after_sign s)
@@ -76,7 +77,7 @@ sign-taken s x y o opening e =
 -- With fewer than two characters left nothing is read.
 pub recovery-short : (s : Midway) (mode : Mode) (o t : Text) (a : Argument Span) → t ≡ s.rest
     → first (after_first t) ≡ None →
-    s ≡ recovered s (recovery mode s.next o a s.rest)
+    s ≡ recovered_state s (recovery mode s.next o a s.rest)
 unfolding recovery
 recovery-short s mode o [] a e f = rw (← e) (sym (recovered-nothing (record s { rest = [] })))
 recovery-short s mode o (x ∷ []) a e f =
@@ -123,7 +124,8 @@ nothing_left (c ∷ t) e = absurd cc
 abbrev pub Recovers : Midway → Mode → Place → Argument Place → Midway → Type 0
 Recovers s mode opening seen new = (o : Text) (a : Argument Span)
     → opening ≡ place_of s.world (over_first o) →
-    seen ≡ map_argument (place_of s.world) a → new ≡ recovered s (recovery mode s.next o a s.rest)
+    seen ≡ map_argument (place_of s.world) a
+    → new ≡ recovered_state s (recovery mode s.next o a s.rest)
 
 pub short-recovers : (s : Midway) (mode : Mode) (opening : Place) (seen : Argument Place)
     → first (after_first s.rest) ≡ None → Recovers s mode opening seen s
@@ -133,10 +135,10 @@ pub field-recovers : (s new : Midway) (mode : Mode) (opening : Place) (seen : Ar
     (x y : ℕ) → first s.rest ≡ Some x →
     first (after_first s.rest) ≡ Some y → true ≡ (x == 46 && is_identifier seen) →
     ((m : Mark) → seen.position_span.0 ≡ number_of s.world m → new
-    ≡ recovered s (field mode s.next m s.rest)) → Recovers s mode opening seen new
+    ≡ recovered_state s (field mode s.next m s.rest)) → Recovers s mode opening seen new
 field-recovers s new mode opening seen x y e f b k o a g h =
     k a.position_span.from (ap (λ (v : Argument Place). v.position_span.0) h)
-    ∙ ap (recovered s)
+    ∙ ap (recovered_state s)
     (sym (recovery-field mode s.next o s.rest a x y e f
     (field_decided (place_of s.world) x true seen a b h)))
 
@@ -144,9 +146,9 @@ pub late_debug-recovers : (s new : Midway) (mode : Mode) (opening : Place) (seen
     (x y : ℕ) → first s.rest ≡ Some x →
     first (after_first s.rest) ≡ Some y → false ≡ (x == 46 && is_identifier seen)
     → true ≡ (x == 63 && not (y == 125)) →
-    new ≡ recovered s (late_debug s.next s.rest) → Recovers s mode opening seen new
+    new ≡ recovered_state s (late_debug s.next s.rest) → Recovers s mode opening seen new
 late_debug-recovers s new mode opening seen x y e f b d k o a g h =
-    k ∙ ap (recovered s)
+    k ∙ ap (recovered_state s)
     (sym (recovery-late_debug mode s.next o s.rest a x y e f
     (field_decided (place_of s.world) x false seen a b h) (sym d)))
 
@@ -158,7 +160,7 @@ pub sign-recovers : (s new : Midway) (mode : Mode) (opening : Place) (seen : Arg
     → Recovers s mode opening seen new
 sign-recovers s new mode opening seen x y e f b d k o a g h =
     k ∙ (sign-taken s x y o opening g
-    ∙ ap (recovered s)
+    ∙ ap (recovered_state s)
     (sym (recovery-sign mode s.next o s.rest a x y e f
     (field_decided (place_of s.world) x false seen a b h) (sym d))))
 

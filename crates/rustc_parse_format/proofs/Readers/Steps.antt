@@ -100,8 +100,8 @@ unfolding after_digits
 after_digits-part t = rest_after-part is_ascii_digit t
 
 -- forward from t to u
-pub counted_on : (n t u : Text) (p q : Passed) → q.made + length u ≡ p.made + length t
-    → q.left ≡ p.left → after_part u ≤ after_part t → IsCounted n t p → IsCounted n u q
+pub counted_on : (n t u : Text) (p q : Passed) → q.pass_count + length u ≡ p.pass_count + length t
+    → q.left_count ≡ p.left_count → after_part u ≤ after_part t → IsCounted n t p → IsCounted n u q
 counted_on n t u p q made left le h = record {
   made = omega (arith, h.made, made);
   paid = record {
@@ -111,16 +111,16 @@ counted_on n t u p q made left le h = record {
 }
 
 -- and back, over a word
-pub counted_back : (n u t : Text) (p : Passed) → length t ≤ p.left → length u ≤ length t
+pub counted_back : (n u t : Text) (p : Passed) → length t ≤ p.left_count → length u ≤ length t
     → after_part t ≤ length u
-    → IsCounted n u p → IsCounted n t (record { made = p.made; left = length u })
+    → IsCounted n u p → IsCounted n t (record { pass_count = p.pass_count; left_count = length u })
 counted_back n u t p far earlier word h = record {
   made = omega (arith, h.made, earlier);
   paid = record { again = omega (arith, h.made, h.paid.again, far, earlier); word = word };
 }
 
 -- where nothing was passed
-pub counted_first : (n : Text) → IsCounted n n (record { made = 0; left = length n })
+pub counted_first : (n : Text) → IsCounted n n (record { pass_count = 0; left_count = length n })
 counted_first n = record {
   made = omega arith;
   paid = record { again = omega arith; word = part_le n };

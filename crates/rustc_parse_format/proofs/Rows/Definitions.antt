@@ -10,7 +10,7 @@ use Rattle.rustc_parse_format.specs.Specification.{format_text}
 use Rattle.rustc_parse_format.specs.Placeholder.{cut}
 use Rattle.rustc_parse_format.specs.Values.{number_after_field}
 use Rattle.rustc_parse_format.specs.Meaning.{format_of, argument}
-use Rattle.rustc_parse_format.specs.Written.{written}
+use Rattle.rustc_parse_format.specs.Written.{written_character}
 use Rattle.rustc_parse_format.specs.Faults.{Fault, message}
 use Rattle.rustc_parse_format.specs.PartFaults.{argument_faults, format_faults, cut_faults}
 use Rattle.rustc_parse_format.specs.Tries.{format_tries}
@@ -18,14 +18,15 @@ use Rattle.rustc_parse_format.specs.Identifiers.{is_default}
 use Rattle.rustc_parse_format.specs.Recovery.{recovery, late_debug, field}
 use Rattle.rustc_parse_format.specs.Call.{call, placeholder, walk, pieces_of, faults_of}
 use Rattle.rustc_parse_format.specs.World.{World, Place, world, place_at, pieces_in, faults_in}
-use Rattle.rustc_parse_format.specs.State.{State, fresh, calls, after_all}
+use Rattle.rustc_parse_format.specs.State.{State, fresh_state, calls, after_all}
 
 -- each definition that the rows compute
 unfoldable pub computing : Unit {0}
 unfolding unicode_ident word after_word digits after_digits after_white cut argument
     number_after_field argument_faults cut_faults call placeholder walk
     recovery late_debug field is_default
-    written message format_text format_of format_faults format_tries world place_at lib.Utf8.encode
+    written_character message format_text format_of format_faults format_tries world place_at
+    lib.Utf8.encode
 computing = tt
 
 -- an input with no snippet
@@ -41,7 +42,7 @@ faults t = faults_in (after_quote t) (faults_of (walk Format 0 t))
 
 -- a parser before its first call, and after all
 abbrev pub start : Text → State
-start t = fresh Format (after_quote t) t 1
+start t = fresh_state Format (after_quote t) t 1
 
 abbrev pub ended : Text → State
 ended t = after_all (start t) (calls (start t))

@@ -9,7 +9,7 @@ use Rattle.rustc_parse_format.specs.Faults.{RawIdentifier, LateFlag, message, No
 use Rattle.rustc_parse_format.specs.Faults.{RemoveRawIdent}
 use Rattle.rustc_parse_format.specs.Faults.{ReorderFormatParameter}
 use Rattle.rustc_parse_format.specs.World.{Place, piece_in}
-use Rattle.rustc_parse_format.specs.State.{next_call, after}
+use Rattle.rustc_parse_format.specs.State.{next_call, state_after}
 use Rattle.rustc_parse_format.proofs.Rows.Definitions.{computing, after_quote, pieces, faults}
 use Rattle.rustc_parse_format.proofs.Rows.Definitions.{start, ended, bare_at}
 
@@ -38,7 +38,7 @@ unmatched_brace-first_call = refl
 
 -- and the next call goes on after it
 unmatched_brace-second_call : let s = start (codes "}a") in
-    (next_call (after s (next_call s))).piece ≡ Some (Lit (codes "a"))
+    (next_call (state_after s (next_call s))).piece ≡ Some (Lit (codes "a"))
 unfolding computing
 unmatched_brace-second_call = refl
 

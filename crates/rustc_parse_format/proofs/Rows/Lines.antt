@@ -8,7 +8,8 @@ use Rattle.rustc_parse_format.specs.World.{World, world, place_at}
 use Rattle.rustc_parse_format.specs.Call.{call, walk}
 use Rattle.rustc_parse_format.specs.Marks.{run_texts}
 use Rattle.rustc_parse_format.specs.Lines.{texts_in, read_lines, with_last}
-use Rattle.rustc_parse_format.specs.State.{State, first_state, calls, after, after_all, next_call}
+use Rattle.rustc_parse_format.specs.State.{State, first_state, calls, state_after, after_all}
+use Rattle.rustc_parse_format.specs.State.{next_call}
 use Rattle.rustc_parse_format.proofs.Rows.Literals.{finding_units}
 
 -- each definition that the rows compute
@@ -78,7 +79,7 @@ continuation_alone-is_one_line = refl
 
 -- One more call at the end adds no line.
 one_more_call-adds_no_line :
-    (after (ended (codes "a\n") (Some 0) (codes "r\"a\"") true)
+    (state_after (ended (codes "a\n") (Some 0) (codes "r\"a\"") true)
     (next_call (ended (codes "a\n") (Some 0) (codes "r\"a\"") true))).line_spans
     ≡ (2, 3) ∷ (4, 3) ∷ []
 unfolding computing_lines

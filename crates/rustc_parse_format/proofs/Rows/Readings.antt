@@ -16,7 +16,7 @@ use Rattle.rustc_parse_format.specs.Syntax.{WordType, FormatText, Default, Forma
 use Rattle.rustc_parse_format.specs.Syntax.{PieceText, RunText, DoubledText, PlaceholderText}
 use Rattle.rustc_parse_format.specs.Syntax.{piece_part}
 use Rattle.rustc_parse_format.specs.Spelling.{IsPart}
-use Rattle.rustc_parse_format.specs.Grammar.{Reads, IsInGrammar, spelled, piece_values}
+use Rattle.rustc_parse_format.specs.Grammar.{Reads, IsInGrammar, spelled_pieces, piece_values}
 use Rattle.rustc_parse_format.specs.Faults.{Fault}
 use Rattle.rustc_parse_format.specs.Call.{Call, walk}
 use Rattle.rustc_parse_format.proofs.Walking.Progress.{walk-IsWalk}
@@ -374,7 +374,7 @@ written_pieces = DoubledText (code "{") (codes "a")
     ∷ RunText
     (codes "c") ∷ []
 
-pieces-are_spelled : spelled Format written_pieces ≡ codes "{{a{b }c"
+pieces-are_spelled : spelled_pieces Format written_pieces ≡ codes "{{a{b }c"
 pieces-are_spelled = refl
 
 pieces-have_these_values :

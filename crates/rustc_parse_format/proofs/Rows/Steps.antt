@@ -5,7 +5,7 @@ use Rattle.std.proofs.Common.{refl, codes, ◌∙◌}
 use Rattle.rustc_parse_format.specs.Characters.{Text, word, after_word}
 use Rattle.rustc_parse_format.specs.Back.{Back, given_back, nothing_back}
 use Rattle.rustc_parse_format.specs.Steps.{position, reach, steps}
-use Rattle.rustc_parse_format.specs.State.{State, after, after_all, calls, next_call}
+use Rattle.rustc_parse_format.specs.State.{State, state_after, after_all, calls, next_call}
 use Rattle.rustc_parse_format.specs.Tries.{back_after}
 use Rattle.rustc_parse_format.proofs.Grammar.Fronts.{word-rest_after}
 use Rattle.rustc_parse_format.proofs.Rows.Definitions.{computing, start}
@@ -26,7 +26,7 @@ tried-again b (t ∷ ts) =
 
 -- So a call takes a step for each character that it passes, and one for each of a word that it
 -- gives back.
-pub call-steps : (s : State) → (after s (next_call s)).back.again
+pub call-steps : (s : State) → (state_after s (next_call s)).back.again
     ≡ s.back.again + tried_length (next_call s).tries
 call-steps s = tried-again s.back (next_call s).tries
 

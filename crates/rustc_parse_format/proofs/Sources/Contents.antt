@@ -11,7 +11,8 @@ use Rattle.rustc_parse_format.specs.Characters.{Text, rest_after, after_first, b
 use Rattle.rustc_parse_format.specs.Characters.{byte_length}
 use Rattle.rustc_parse_format.specs.LiteralUnits.{LiteralUnit, Plain, SimpleEscape, ByteEscape}
 use Rattle.rustc_parse_format.specs.LiteralUnits.{UnicodeEscape, Continuation}
-use Rattle.rustc_parse_format.specs.LiteralUnits.{spelling, meaning, escaped, is_plain, is_skipped}
+use Rattle.rustc_parse_format.specs.LiteralUnits.{spelling, meaning, escaped_character, is_plain}
+use Rattle.rustc_parse_format.specs.LiteralUnits.{is_skipped}
 use Rattle.rustc_parse_format.specs.LiteralUnits.{is_unit, may_precede, unit_at}
 use Rattle.rustc_parse_format.specs.Literal.{IsContent}
 use Rattle.rustc_parse_format.specs.SeenSource.{after_continuations, begins_continuation}
@@ -85,11 +86,12 @@ pub record IsRestOf (t : Text) (us : List LiteralUnit) : Type 0 where
   pub is_content : IsContent content units
   pub same : after_continuations units ≡ after_continuations us
 
-letter-no_continuation : (l : ℕ) (r : Text) → IsTrue (is_some (escaped l))
+letter-no_continuation : (l : ℕ) (r : Text) → IsTrue (is_some (escaped_character l))
     → begins_continuation (92 ∷ l ∷ r) ≡ true → ⊥
 letter-no_continuation l r w h =
     let e : l ≡ 10 = eqb-true l 10 h in
-    let some : is_some (escaped 10) ≡ true = subst (λ k. is_some (escaped k) ≡ true) e w in
+    let some : is_some (escaped_character 10) ≡ true =
+    subst (λ k. is_some (escaped_character k) ≡ true) e w in
     false≢true some
 
 pub plain-no_continuation : (c : ℕ) (r : Text) → IsTrue (is_plain c)

@@ -9,7 +9,8 @@ use Rattle.std.proofs.lemmas.List.{append-nil}
 use Rattle.rustc_parse_format.specs.Characters.{Text}
 use Rattle.rustc_parse_format.specs.Literal.{IsLiteral, IsSource, ordinary_frame, raw_frame}
 use Rattle.rustc_parse_format.specs.Literal.{newline}
-use Rattle.rustc_parse_format.specs.Source.{unappended, between, spells, is_literal_of, is_source}
+use Rattle.rustc_parse_format.specs.Source.{unappended_input, text_between, spells, is_literal_of}
+use Rattle.rustc_parse_format.specs.Source.{is_source}
 use Rattle.rustc_parse_format.specs.Source.{HasSource}
 use Rattle.rustc_parse_format.proofs.Literals.Spelling.{spells-parts, spells-from}
 
@@ -28,13 +29,13 @@ test : (s t : Text) → s ≡ t → IsTrue (bytes_eq s t)
 test s t e = (bytes_eq-Decides s t).1 e
 
 -- a text in front of its newline
-pub unappended-append : (b : Bool) (t : Text) → unappended b (t ++ newline b) ≡ t
+pub unappended-append : (b : Bool) (t : Text) → unappended_input b (t ++ newline b) ≡ t
 unappended-append true t =
     let n : length (t ++ 10 ∷ []) - 1 ≡ length t = omega (arith, length-append t (10 ∷ [])) in
     ap (λ k. take k (t ++ 10 ∷ [])) n ∙ take-append_seam t (10 ∷ [])
 unappended-append false t = append-nil t
 
-pub between-frame : (t : Text) → between (ordinary_frame t) ≡ t
+pub between-frame : (t : Text) → text_between (ordinary_frame t) ≡ t
 between-frame t =
     let n : length (34 ∷ t ++ 34 ∷ []) - 2 ≡ length t = omega (arith, length-append t (34 ∷ [])) in
     ap (λ k. take k (t ++ 34 ∷ [])) n ∙ take-append_seam t (34 ∷ [])
@@ -42,12 +43,12 @@ between-frame t =
 literal_of : (style : Option ℕ) (snippet t : Text) → IsTrue (is_literal_of style snippet t)
     → IsLiteral style snippet t
 literal_of None snippet t h =
-    let k = both (bytes_eq (ordinary_frame (between snippet)) snippet)
-    (spells (between snippet) t) h in
-    let parts = spells-parts (between snippet) t k.1 in (
-      between snippet,
+    let k = both (bytes_eq (ordinary_frame (text_between snippet)) snippet)
+    (spells (text_between snippet) t) h in
+    let parts = spells-parts (text_between snippet) t k.1 in (
+      text_between snippet,
       parts.0,
-      sym (same (ordinary_frame (between snippet)) snippet k.0),
+      sym (same (ordinary_frame (text_between snippet)) snippet k.0),
       parts.1,
       parts.2,
     )
@@ -56,9 +57,10 @@ literal_of (Some n) snippet t h = sym (same (raw_frame n t) snippet h)
 of_literal : (style : Option ℕ) (snippet t : Text) → IsLiteral style snippet t
     → IsTrue (is_literal_of style snippet t)
 of_literal None snippet t (content, us, e, h, v) =
-    let b : between snippet ≡ content = ap between e ∙ between-frame content in
-    join (bytes_eq (ordinary_frame (between snippet)) snippet) (spells (between snippet) t)
-    (test (ordinary_frame (between snippet)) snippet (ap ordinary_frame b ∙ sym e))
+    let b : text_between snippet ≡ content = ap text_between e ∙ between-frame content in
+    join (bytes_eq (ordinary_frame (text_between snippet)) snippet)
+    (spells (text_between snippet) t)
+    (test (ordinary_frame (text_between snippet)) snippet (ap ordinary_frame b ∙ sym e))
     (ap (λ s. spells s t) b ∙ spells-from content t us h v)
 of_literal (Some n) snippet t e = test (raw_frame n t) snippet (sym e)
 
@@ -67,11 +69,11 @@ pub source-found : (input : Text) (style : Option ℕ) (snippet : Text) (b : Boo
     IsSource input style snippet b
 unfolding is_source
 source-found input style snippet b h =
-    let k = both (bytes_eq (unappended b input ++ newline b) input)
-    (is_literal_of style snippet (unappended b input)) h in (
-      unappended b input,
-      literal_of style snippet (unappended b input) k.1,
-      same (unappended b input ++ newline b) input k.0,
+    let k = both (bytes_eq (unappended_input b input ++ newline b) input)
+    (is_literal_of style snippet (unappended_input b input)) h in (
+      unappended_input b input,
+      literal_of style snippet (unappended_input b input) k.1,
+      same (unappended_input b input ++ newline b) input k.0,
     )
 
 pub found-source : (input : Text) (style : Option ℕ) (snippet : Text) (b : Bool)
@@ -79,10 +81,11 @@ pub found-source : (input : Text) (style : Option ℕ) (snippet : Text) (b : Boo
     IsTrue (is_source input style (Some snippet) b)
 unfolding is_source
 found-source input style snippet b (t, l, e) =
-    let u : unappended b input ≡ t = ap (unappended b) (sym e) ∙ unappended-append b t in
-    join (bytes_eq (unappended b input ++ newline b) input)
-    (is_literal_of style snippet (unappended b input))
-    (test (unappended b input ++ newline b) input (ap (λ s. s ++ newline b) u ∙ e))
+    let u : unappended_input b input ≡ t =
+    ap (unappended_input b) (sym e) ∙ unappended-append b t in
+    join (bytes_eq (unappended_input b input ++ newline b) input)
+    (is_literal_of style snippet (unappended_input b input))
+    (test (unappended_input b input ++ newline b) input (ap (λ s. s ++ newline b) u ∙ e))
     (rw u (of_literal style snippet t l))
 
 -- whether or not a snippet was given

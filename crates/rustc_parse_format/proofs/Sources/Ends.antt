@@ -10,7 +10,7 @@ use Rattle.rustc_parse_format.specs.Characters.{Text, byte_length}
 use Rattle.rustc_parse_format.specs.LiteralUnits.{LiteralUnit}
 use Rattle.rustc_parse_format.specs.Literal.{IsContent, IsLiteral, units, ordinary_frame, raw_frame}
 use Rattle.rustc_parse_format.specs.Literal.{raw_closing, raw_opening}
-use Rattle.rustc_parse_format.specs.Source.{between}
+use Rattle.rustc_parse_format.specs.Source.{text_between}
 use Rattle.rustc_parse_format.specs.World.{ordinary_end}
 use Rattle.rustc_parse_format.specs.LiteralReading.{spelled_end}
 use Rattle.rustc_parse_format.specs.Source.{units_between}
@@ -23,7 +23,8 @@ use Rattle.rustc_parse_format.proofs.Sources.Decided.{between-frame}
 -- the units of what stands in quotes
 units_between-frame : (s q : Text) (us : List LiteralUnit) → s ≡ ordinary_frame q
     → units q ≡ Some us → units_between s ≡ us
-units_between-frame s q us f h = ap (λ t. unwrap_or (units t) []) (ap between f ∙ between-frame q)
+units_between-frame s q us f h = ap (λ t. unwrap_or (units t) []) (ap text_between f
+    ∙ between-frame q)
     ∙ ap (λ o. unwrap_or o []) h
 
 pub frame-units : (s q : Text) (us : List LiteralUnit) → s ≡ ordinary_frame q → IsContent q us

@@ -13,7 +13,7 @@ use Rattle.rustc_parse_format.specs.declared.source.Source.{Source}
 use Rattle.rustc_parse_format.specs.Characters.{Text, first}
 use Rattle.rustc_parse_format.specs.LiteralUnits.{LiteralUnit}
 use Rattle.rustc_parse_format.specs.Literal.{units, content_value, newline}
-use Rattle.rustc_parse_format.specs.Source.{between}
+use Rattle.rustc_parse_format.specs.Source.{text_between}
 use Rattle.rustc_parse_format.specs.Bytes.{IsLeft}
 use Rattle.rustc_parse_format.specs.SeenSource.{IsAnchorIn, IsAnchored, IsHere, is_appended}
 use Rattle.rustc_parse_format.specs.SeenSource.{seen_world}
@@ -66,7 +66,8 @@ kept_here : (kept : Option (String Global)) (s : Source) (rest : List ℕ) (a : 
 kept_here None s rest a l m h = plain_here s rest l
 kept_here (Some snippet) s rest a l m h =
     let k = left a.rest.now rest m in
-    let us : List LiteralUnit = unwrap_or (units (between (chars (string_bytes snippet)))) [] in
+    let us : List LiteralUnit = unwrap_or
+    (units (text_between (chars (string_bytes snippet)))) [] in
     record {
       from = 1;
       in_order = ordinary-in_order us

@@ -11,7 +11,8 @@ use Rattle.rustc_parse_format.specs.Characters.{Text, byte_length}
 use Rattle.rustc_parse_format.specs.LiteralUnits.{LiteralUnit, Plain, SimpleEscape, ByteEscape}
 use Rattle.rustc_parse_format.specs.LiteralUnits.{UnicodeEscape, Continuation, spelling, value}
 use Rattle.rustc_parse_format.specs.LiteralUnits.{is_unit}
-use Rattle.rustc_parse_format.specs.LiteralUnits.{is_unicode, unicode_value, at_most_one, escaped}
+use Rattle.rustc_parse_format.specs.LiteralUnits.{is_unicode, unicode_value, at_most_one}
+use Rattle.rustc_parse_format.specs.LiteralUnits.{escaped_character}
 use Rattle.rustc_parse_format.specs.LiteralUnits.{byte_value}
 use Rattle.rustc_parse_format.specs.Literal.{IsContent, content_value, newline}
 use Rattle.rustc_parse_format.specs.World.{Place, plain_places, content_places, last_stop}
@@ -28,7 +29,7 @@ width-one : (c : ℕ) → byte_length (c ∷ []) ≡ len_utf8 c
 width-one c = omega (arith, width-cons c [])
 
 -- the character that a letter stands for takes no more bytes than the letter
-width-escaped : (l : ℕ) → byte_length (at_most_one (escaped l)) ≤ len_utf8 l
+width-escaped : (l : ℕ) → byte_length (at_most_one (escaped_character l)) ≤ len_utf8 l
 width-escaped l =
     cond_both {A = Option ℕ} (l == 110) _ _ (λ o. byte_length (at_most_one o) ≤ len_utf8 l)
     (λ e. omega (arith, (len_utf8_bounds l).0))

@@ -136,7 +136,7 @@ abbrev pub Moved : Anchor → List ℕ → ℕ
 Moved a rest = length a.rest.now - length rest
 
 passed : (s : List ℕ) (w : World) (a : Anchor) (rest : List ℕ) → IsAnchor s w a
-    → IsLeft a.rest.now rest → Moved a rest ≤ a.unescaped →
+    → IsLeft a.rest.now rest → Moved a rest ≤ a.unescaped_len →
     Passed s a.rest.now rest a.offset (Moved a rest)
 passed s w a rest (h, b) l fewer =
     let k = left a.rest.now rest l in
@@ -154,7 +154,7 @@ passed s w a rest (h, b) l fewer =
     ) in
     let spelled : bytes ≡ encodes h.content ++ encodes (34 ∷ []) = sym (encodes-chars bytes u)
     ∙ (ap encodes h.left ∙ encodes-append h.content (34 ∷ [])) in
-    let all = fewer_unescaped (byte_length k.pre) a.unescaped bytes
+    let all = fewer_unescaped (byte_length k.pre) a.unescaped_len bytes
     (omega (arith, k.bytes)) b.unescaped in
     let f = unescaped_content k.pre (chars rest) h.content
     (encodes (34 ∷ [])) h.units h.appended h.is_content (sym k.whole ∙ h.rest_is) shorter
@@ -176,7 +176,7 @@ passed s w a rest (h, b) l fewer =
 
 -- where it ends in the snippet
 pub unescaped_boundary : (s : List ℕ) (w : World) (a : Anchor) (rest : List ℕ) → IsAnchor s w a
-    → IsLeft a.rest.now rest → Moved a rest ≤ a.unescaped →
+    → IsLeft a.rest.now rest → Moved a rest ≤ a.unescaped_len →
     IsCharBoundary s (a.offset + Moved a rest)
 unescaped_boundary s w a rest h l fewer =
     let p = passed s w a rest h l fewer in
@@ -199,7 +199,7 @@ unescaped_still s w a rest h l none =
 -- and else after what was passed and the continuations there,
 pub unescaped_ahead : (s : List ℕ) (w : World) (a : Anchor) (rest : List ℕ) (g : ℕ) → IsAnchor s w a
     → IsLeft a.rest.now rest →
-    Moved a rest ≤ a.unescaped → Moved a rest ≢ 0 → Gaps s (a.offset + Moved a rest) g
+    Moved a rest ≤ a.unescaped_len → Moved a rest ≢ 0 → Gaps s (a.offset + Moved a rest) g
     → IsHere s w (chars rest) ((a.offset + Moved a rest) + g)
 unescaped_ahead s w a rest g h l fewer some gaps =
     let p = passed s w a rest h l fewer in
@@ -247,7 +247,7 @@ no_continuation x b y u e other = false_if _ (λ is. by_chars (chars x) refl is)
         false≢true (sym (ap is_unescaped same) ∙ other)
 
 pub unescaped_inside : (s : List ℕ) (w : World) (a : Anchor) (rest : List ℕ) → IsAnchor s w a
-    → IsLeft a.rest.now rest → Moved a rest < a.unescaped →
+    → IsLeft a.rest.now rest → Moved a rest < a.unescaped_len →
     IsHere s w (chars rest) (a.offset + Moved a rest)
 unescaped_inside s w a rest h l more = of_moved (cases_eq (Moved a rest) 0)
   where
@@ -265,7 +265,7 @@ unescaped_inside s w a rest h l more = of_moved (cases_eq (Moved a rest) 0)
     none : Gaps s (a.offset + m) 0
     none q us k e = sym (gap-none (chars (drop (a.offset + m) s)) q us k e
         (no_continuation (drop (a.offset + m) s) (get_or (drop a.offset s) m 0) _ p.valid bytes
-        (unescaped_byte s a.offset m a.unescaped h.1 more)))
+        (unescaped_byte s a.offset m a.unescaped_len h.1 more)))
 
     of_moved : (m ≡ 0) ⊎ (m ≢ 0) → IsHere s w (chars rest) (a.offset + m)
     of_moved (inl still) = unescaped_still s w a rest h l still
@@ -276,7 +276,7 @@ unescaped_inside s w a rest h l more = of_moved (cases_eq (Moved a rest) 0)
 
 pub unescaped_here : (s : List ℕ) (w : World) (a : Anchor) (rest : List ℕ) → IsAnchor s w a
     → IsLeft a.rest.now rest →
-    (Moved a rest ≡ 0) ⊎ ((Moved a rest ≢ 0) × (Moved a rest < a.unescaped))
+    (Moved a rest ≡ 0) ⊎ ((Moved a rest ≢ 0) × (Moved a rest < a.unescaped_len))
     → IsHere s w (chars rest) (a.offset + Moved a rest)
 unescaped_here s w a rest h l (inl still) = unescaped_still s w a rest h l still
 unescaped_here s w a rest h l (inr (some, more)) = unescaped_inside s w a rest h l more
@@ -287,7 +287,7 @@ pub unescaped_stop : (s : List ℕ) (w : World) (a : Anchor) (rest rest_after : 
     → IsAnchor s w a
     → IsLeft a.rest.now rest → IsLeft a.rest.now rest_after →
     chars rest_after ≡ after_first (chars rest) → (length rest ≡ 0 → ⊥)
-    → Moved a rest_after ≤ a.unescaped →
+    → Moved a rest_after ≤ a.unescaped_len →
     a.offset + Moved a rest_after ≡ (place_at w (length (chars rest))).1
 unescaped_stop s w a rest rest_after h l k e some more =
     let u = IsUtf8-from_is_utf8 rest l.valid_rest in

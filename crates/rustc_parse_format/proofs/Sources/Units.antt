@@ -9,7 +9,8 @@ use Rattle.std.proofs.lemmas.List.{nil_from_length}
 use Rattle.rustc_parse_format.specs.Characters.{Text, byte_length}
 use Rattle.rustc_parse_format.specs.LiteralUnits.{LiteralUnit, Plain, SimpleEscape, ByteEscape}
 use Rattle.rustc_parse_format.specs.LiteralUnits.{UnicodeEscape, Continuation}
-use Rattle.rustc_parse_format.specs.LiteralUnits.{spelling, value, meaning, escaped, at_most_one}
+use Rattle.rustc_parse_format.specs.LiteralUnits.{spelling, value, meaning, escaped_character}
+use Rattle.rustc_parse_format.specs.LiteralUnits.{at_most_one}
 use Rattle.rustc_parse_format.specs.LiteralUnits.{unit_at, byte_value, unicode_value}
 use Rattle.rustc_parse_format.specs.Literal.{IsContent, content_value, placed_characters}
 use Rattle.rustc_parse_format.specs.SeenSource.{IsAhead, after_continuations, character_width}
@@ -163,11 +164,12 @@ abbrev pub StartsIfSome : List LiteralUnit → Type 0
 StartsIfSome [] = Unit {0}
 StartsIfSome (v ∷ vs) = Starts (v ∷ vs)
 
-letter-starts : (l : ℕ) (us : List LiteralUnit) → IsTrue (is_some (escaped l))
+letter-starts : (l : ℕ) (us : List LiteralUnit) → IsTrue (is_some (escaped_character l))
     → Starts (SimpleEscape l ∷ us)
-letter-starts l us w = of_letter (escaped l) refl w
+letter-starts l us w = of_letter (escaped_character l) refl w
   where
-    of_letter : (o : Option ℕ) → escaped l ≡ o → is_some o ≡ true → Starts (SimpleEscape l ∷ us)
+    of_letter : (o : Option ℕ) → escaped_character l ≡ o → is_some o ≡ true
+        → Starts (SimpleEscape l ∷ us)
     of_letter None e w = absurd (false≢true w)
     of_letter (Some c) e w = record {
       unit = SimpleEscape l;

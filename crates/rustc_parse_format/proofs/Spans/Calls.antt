@@ -22,7 +22,7 @@ use Rattle.rustc_parse_format.specs.World.{world, place_of}
 use Rattle.rustc_parse_format.specs.Call.{Call, call, placeholder, closed_call, unclosed_call}
 use Rattle.rustc_parse_format.specs.Call.{text_call, unclosed_fault}
 use Rattle.rustc_parse_format.specs.ReadBack.{AllSpans, IsStart, left_at, IsForward, IsInside}
-use Rattle.rustc_parse_format.specs.ReadBack.{ReadsBack, optional, piece_spans, spans_of_spec}
+use Rattle.rustc_parse_format.specs.ReadBack.{ReadsBack, optional_list, piece_spans, spans_of_spec}
 use Rattle.rustc_parse_format.specs.ReadBack.{spans_of_fault}
 use Rattle.rustc_parse_format.proofs.Grammar.Rests.{IsRest, IsRest-le, IsRest-trans, cut_rest}
 use Rattle.rustc_parse_format.proofs.Grammar.Rests.{after_first_rest, after_white_rest}
@@ -34,13 +34,14 @@ use Rattle.rustc_parse_format.proofs.Spans.Forward.{cut_faults-forward}
 use Rattle.rustc_parse_format.proofs.Spans.ReadBack.{forward-reads_back, forward-inside}
 
 -- The spans of the fault where no brace closes a placeholder.
-brace-forward : (n : ℕ) (fill : Option ℕ) (s : Option Span) → AreForward n (optional s)
-    → AreForward n (optional (brace_fill fill s))
+brace-forward : (n : ℕ) (fill : Option ℕ) (s : Option Span) → AreForward n (optional_list s)
+    → AreForward n (optional_list (brace_fill fill s))
 brace-forward n None s h = tt
 brace-forward n (Some c) s h = cond_both {A = Option Span} (c == code "}") s None
-    (λ o. AreForward n (optional o)) (λ yes. h) (λ no. tt)
+    (λ o. AreForward n (optional_list o)) (λ yes. h) (λ no. tt)
 
-no_brace-forward : (n : ℕ) (f : Option Span) (c : Option ℕ) (s o : Span) → AreForward n (optional f)
+no_brace-forward : (n : ℕ) (f : Option Span) (c : Option ℕ) (s o : Span)
+    → AreForward n (optional_list f)
     → IsForward n s → IsForward n o →
     AreForward n (spans_of_fault (no_brace f c s o))
 no_brace-forward n None c s o h k l = (k, (l, tt))
@@ -57,7 +58,7 @@ unclosed-forward : (n : ℕ) (opening : Text) (f : Spec Span) (r : Text)
     AreForward n (spans_of_fault (unclosed_fault opening f r))
 unclosed-forward n opening f r h k l =
     no_brace-forward n (brace_fill f.fill f.fill_span) (first r) (up_to r r) (over_first opening)
-    (brace-forward n f.fill f.fill_span (first-part n (optional f.fill_span) _ _ _ _ _ h))
+    (brace-forward n f.fill f.fill_span (first-part n (optional_list f.fill_span) _ _ _ _ _ h))
     (up_to-forward n r r (omega arith) k)
     (through-forward n opening opening (omega arith) l)
 
@@ -196,7 +197,7 @@ pub all_spans-weaker : (P Q : Span → Type 0) (k : Call) → ((s : Span) → P 
     → AllSpans Q k
 all_spans-weaker P Q k f h = record {
   piece = all-weaker P Q (piece_spans k.piece) f h.piece;
-  closes = all-weaker P Q (optional k.closes) f h.closes;
+  closes = all-weaker P Q (optional_list k.closes) f h.closes;
   faults = all-weaker (λ x. AllByRecursion P (spans_of_fault x))
       (λ x. AllByRecursion Q (spans_of_fault x)) k.faults
       (λ x. all-weaker P Q (spans_of_fault x) f) h.faults;

@@ -9,7 +9,7 @@ use Rattle.std.proofs.lemmas.Bool.{false≢true}
 use Rattle.rustc_parse_format.specs.Characters.{Text, word, after_word, digits, after_digits}
 use Rattle.rustc_parse_format.specs.Characters.{first, after_first, after_prefix, after_white}
 use Rattle.rustc_parse_format.specs.Characters.{is_over}
-use Rattle.rustc_parse_format.specs.Spelling.{IsPart, fixed, optional_identifier}
+use Rattle.rustc_parse_format.specs.Spelling.{IsPart, fixed_part, optional_identifier}
 use Rattle.rustc_parse_format.specs.Types.{Mode, Format, InlineAsm, Diagnostic, DiagnosticNamed}
 use Rattle.rustc_parse_format.specs.Types.{wants_names, Position, NextArgument}
 use Rattle.rustc_parse_format.specs.Syntax.{CountText, NumberCount, IndexCount, NameCount, NoCount}
@@ -23,7 +23,7 @@ use Rattle.rustc_parse_format.specs.Syntax.{align_part, sign_part, alternate_par
 use Rattle.rustc_parse_format.specs.Syntax.{Digits, Word, RawWord}
 use Rattle.rustc_parse_format.specs.Syntax.{NoPosition}
 use Rattle.rustc_parse_format.specs.Placeholder.{cut, position}
-use Rattle.rustc_parse_format.specs.Marks.{Span, Start, up_to, through, over_first}
+use Rattle.rustc_parse_format.specs.Marks.{Span, Start, up_to, span_through, over_first}
 use Rattle.rustc_parse_format.specs.Meaning.{count_of, count_span, width_of, width_span}
 use Rattle.rustc_parse_format.specs.Meaning.{precision_of, precision_span, word_span, type_span}
 use Rattle.rustc_parse_format.specs.Meaning.{fill_span}
@@ -39,7 +39,8 @@ use Rattle.rustc_parse_format.specs.PartFaults.{text_faults}
 use Rattle.rustc_parse_format.specs.PartFaults.{spec_faults, cut_faults, is_debug_flag, late_flag}
 use Rattle.rustc_parse_format.specs.PartFaults.{flag_faults}
 use Rattle.rustc_parse_format.specs.Values.{given_position, is_name}
-use Rattle.rustc_parse_format.specs.ReadBack.{IsForward, optional, spans_of_count, spans_of_spec}
+use Rattle.rustc_parse_format.specs.ReadBack.{IsForward, optional_list, spans_of_count}
+use Rattle.rustc_parse_format.specs.ReadBack.{spans_of_spec}
 use Rattle.rustc_parse_format.specs.ReadBack.{spans_of, spans_of_fault}
 use Rattle.rustc_parse_format.proofs.Grammar.PartLaws.{IsRow, opened, only, two-split}
 use Rattle.rustc_parse_format.proofs.Grammar.PartSpecs.{spec-finds}
@@ -70,7 +71,7 @@ pub up_to-forward : (n : ℕ) (t r : Text) → length r ≤ length t → length 
 up_to-forward n t r h k = record { from_start = tt; in_order = h; within = k }
 
 pub through-forward : (n : ℕ) (t r : Text) → length r ≤ length t → length t ≤ n
-    → IsForward n (through t r)
+    → IsForward n (span_through t r)
 through-forward n t r h k = record { from_start = tt; in_order = h; within = k }
 
 after_first-length : (t : Text) → length (after_first t) ≡ length t - 1
@@ -92,7 +93,7 @@ count_of-forward n t NoCount r h l = tt
 
 count_span-forward : (n : ℕ) (t : Text) (k : CountText) (r : Text)
     → Fits t (count_part k).spelling r → length t ≤ n →
-    AreForward n (optional (count_span t k r))
+    AreForward n (optional_list (count_span t k r))
 count_span-forward n t (NumberCount ds) r h l = (up_to-forward n t r (omega (arith, h)) l, tt)
 count_span-forward n t (IndexCount ds) r h l = (up_to-forward n t r (omega (arith, h)) l, tt)
 count_span-forward n t (NameCount w) r h l = (up_to-forward n t r (omega (arith, h)) l, tt)
@@ -122,7 +123,7 @@ width_of-forward n t (PlainWidth k) r h l = count_of-forward n t k r (plain-fits
 
 width_span-forward : (n : ℕ) (t : Text) (w : WidthText) (r : Text)
     → Fits t (width_part w).spelling r → length t ≤ n →
-    AreForward n (optional (width_span t w r))
+    AreForward n (optional_list (width_span t w r))
 width_span-forward n t (PaddedWidth k) r h l =
     count_span-forward n (after_first t) k r (padded-fits t k r h)
     (omega (arith, l, after_first-length t))
@@ -142,24 +143,24 @@ precision_of-forward n c t (DotPrecision k) r h l =
 
 precision_span-forward : (n : ℕ) (t : Text) (p : PrecisionText) (r : Text)
     → Fits t (precision_part p).spelling r → length t ≤ n →
-    AreForward n (optional (precision_span t p r))
+    AreForward n (optional_list (precision_span t p r))
 precision_span-forward n t NoPrecision r h l = tt
 precision_span-forward n t StarPrecision r h l = (up_to-forward n t r (omega (arith, h)) l, tt)
 precision_span-forward n t (DotPrecision k) r h l = (up_to-forward n t r (omega (arith, h)) l, tt)
 
 word_span-forward : (n : ℕ) (t w r : Text) → length r ≤ length t → length t ≤ n
-    → AreForward n (optional (word_span t w r))
+    → AreForward n (optional_list (word_span t w r))
 word_span-forward n t [] r h l = tt
 word_span-forward n t (c ∷ w) r h l = (up_to-forward n t r h l, tt)
 
 type_span-forward : (n : ℕ) (t : Text) (y : TypeText) (r : Text) → length r ≤ length t
-    → length t ≤ n → AreForward n (optional (type_span t y r))
+    → length t ≤ n → AreForward n (optional_list (type_span t y r))
 type_span-forward n t (DebugHexType h) r k l = tt
 type_span-forward n t (CharacterType c) r k l = tt
 type_span-forward n t (WordType w) r k l = word_span-forward n t w r k l
 
 fill_span-forward : (n : ℕ) (t : Text) (f : Option ℕ) → length t ≤ n
-    → AreForward n (optional (fill_span t f))
+    → AreForward n (optional_list (fill_span t f))
 fill_span-forward n t None l = tt
 fill_span-forward n t (Some c) l = (through-forward n t t (omega arith) l, tt)
 
@@ -236,12 +237,12 @@ spec_of-forward : (n c : ℕ) (mode : Mode) (t : Text) (s : SpecText) (r : Text)
     AreForward n (spans_of_spec (spec_of c t s r))
 spec_of-forward n c mode t Default r h l = tt
 spec_of-forward n c Format t (Formatting p) r h l =
-    let s = two-split t (fixed (codes ":")) (format_part p) r h in
+    let s = two-split t (fixed_part (codes ":")) (format_part p) r h in
     let seam : after_first t ≡ s.seam = ap after_first s.first.whole in
     let here : IsPart (after_first t) (format_part p) r = rw seam s.second in
     format_of-forward n c (after_first t) p r here (omega (arith, l, after_first-length t))
 spec_of-forward n c InlineAsm t (Modifier w) r h l =
-    let s = two-split t (fixed (codes ":")) (optional_identifier w) r h in
+    let s = two-split t (fixed_part (codes ":")) (optional_identifier w) r h in
     let seam : after_first t ≡ s.seam = ap after_first s.first.whole in
     let rest : length r ≤ length (after_first t) =
     omega (
@@ -314,7 +315,7 @@ word_faults-forward n t l =
 
 number_faults-forward : (n : ℕ) (t : Text) → length t ≤ n → AreFaultsForward n (number_faults t)
 number_faults-forward n t l =
-    fault_either n (is_over (digits t)) (TooLarge (digits t) (through t (after_digits t)))
+    fault_either n (is_over (digits t)) (TooLarge (digits t) (span_through t (after_digits t)))
     (through-forward n t (after_digits t) (IsRest-le (after_digits_rest t)) l, tt)
 
 argument_faults-forward : (n : ℕ) (t : Text) → length t ≤ n → AreFaultsForward n (argument_faults t)
@@ -357,10 +358,10 @@ precision_faults-forward n t (DotPrecision k) l =
     argument_faults-forward n (after_first t) (omega (arith, l, after_first-length t))
 
 late_flag-forward : (n : ℕ) (t u : Text) → length u ≤ length t → length t ≤ n
-    → AreFaultsForward n (late_flag (first u) (over_first u) (through t u))
+    → AreFaultsForward n (late_flag (first u) (over_first u) (span_through t u))
 late_flag-forward n t [] h l = tt
 late_flag-forward n t (c ∷ u) h l =
-    fault_either n (is_debug_flag c) (LateFlag c (over_first (c ∷ u)) (through t (c ∷ u))) (
+    fault_either n (is_debug_flag c) (LateFlag c (over_first (c ∷ u)) (span_through t (c ∷ u))) (
       through-forward n (c ∷ u) (c ∷ u) (omega arith) (omega (arith, h, l)),
       (through-forward n t (c ∷ u) h l, tt),
     )
@@ -402,7 +403,7 @@ spec_faults-forward : (n : ℕ) (mode : Mode) (t : Text) (s : SpecText) (r : Tex
     AreFaultsForward n (spec_faults mode t s r)
 spec_faults-forward n mode t Default r h l = tt
 spec_faults-forward n Format t (Formatting p) r h l =
-    let s = two-split t (fixed (codes ":")) (format_part p) r h in
+    let s = two-split t (fixed_part (codes ":")) (format_part p) r h in
     format_faults-forward n s.seam p r s.second
     (omega (arith, l, part-length t (codes ":") s.seam s.first.whole))
 spec_faults-forward n InlineAsm t (Modifier w) r h l =

@@ -11,7 +11,7 @@ use Rattle.std.proofs.lemmas.Bool.{and_parts, and_from}
 use Rattle.rustc_parse_format.specs.Characters.{Text, byte_length}
 use Rattle.rustc_parse_format.specs.LiteralUnits.{LiteralUnit, Plain, SimpleEscape, ByteEscape}
 use Rattle.rustc_parse_format.specs.LiteralUnits.{UnicodeEscape, Continuation}
-use Rattle.rustc_parse_format.specs.LiteralUnits.{spelling, value, escaped, at_most_one}
+use Rattle.rustc_parse_format.specs.LiteralUnits.{spelling, value, escaped_character, at_most_one}
 use Rattle.rustc_parse_format.specs.Literal.{placed_characters, content_value, newline}
 use Rattle.rustc_parse_format.specs.World.{World, Place, plain_places, content_places, last_stop}
 use Rattle.rustc_parse_format.specs.World.{newline_places, ordinary_world}
@@ -40,7 +40,7 @@ option-one (Some c) = inr (c, refl)
 
 pub one_or_none : (u : LiteralUnit) → IsOneOrNone (value u)
 one_or_none (Plain c) = inr (c, refl)
-one_or_none (SimpleEscape l) = option-one (escaped l)
+one_or_none (SimpleEscape l) = option-one (escaped_character l)
 one_or_none (ByteEscape h l) = inr (_, refl)
 one_or_none (UnicodeEscape w) = inr (_, refl)
 one_or_none (Continuation w) = inl refl

@@ -10,7 +10,8 @@ use Rattle.rustc_parse_format.specs.Literal.{content_value, newline, IsSource}
 use Rattle.rustc_parse_format.specs.Marks.{Mark, Start, End, Span}
 use Rattle.rustc_parse_format.specs.World.{Place, world, quote_offset, content_places, last_stop}
 use Rattle.rustc_parse_format.specs.World.{newline_places, place_at, number_of, place_of}
-use Rattle.rustc_parse_format.specs.ReadBack.{before, inside, count_before, left_at, IsStart}
+use Rattle.rustc_parse_format.specs.ReadBack.{text_before, text_inside, count_before, left_at}
+use Rattle.rustc_parse_format.specs.ReadBack.{IsStart}
 use Rattle.rustc_parse_format.specs.ReadBack.{IsForward, IsInside, ReadsBack, source_units}
 use Rattle.rustc_parse_format.proofs.Spans.PlaceOrder.{length-content_places, length-newline}
 use Rattle.rustc_parse_format.proofs.Spans.Units.{start, stop, content-ordered, start-stop}
@@ -84,7 +85,8 @@ stop-number q us b n k h =
 
 -- Before a mark stand the characters in front of it.
 before-stopped : (q : ℕ) (us : List LiteralUnit) (a s : ℕ)
-    → IsStop (content_places q us) (ends q us) a s → before s q us ≡ take (suc a) (content_value us)
+    → IsStop (content_places q us) (ends q us) a s
+    → text_before s q us ≡ take (suc a) (content_value us)
 before-stopped q us a s (inl h) = before-edge true q q us (ends q us) a s
     (content-ordered q q us (omega arith)) h
 before-stopped q us a s (inr (h, k)) =
@@ -95,7 +97,7 @@ before-stopped q us a s (inr (h, k)) =
 -- A mark of a text of n characters: none more are left from it on.
 before-mark : (q : ℕ) (us : List LiteralUnit) (b : Bool) (n : ℕ) (m : Mark)
     → n ≡ length (content_value us ++ newline b) → left_at m ≤ n →
-    before (number_of (unit_world q us b) m) q us ≡ take (count_before n m) (content_value us)
+    text_before (number_of (unit_world q us b) m) q us ≡ take (count_before n m) (content_value us)
 before-mark q us b n (Start k) h l =
     before-edge false q q us (ends q us) (n - k) (number_of (unit_world q us b) (Start k))
     (content-ordered q q us (omega arith)) (start-number q us b n k h)
@@ -168,7 +170,7 @@ after-take (suc a) (suc b) (c ∷ t) z h e = let f : take a t ++ z ≡ take b t 
 -- the characters between the start of one and a later mark
 inside-marks : (q : ℕ) (us : List LiteralUnit) (b : Bool) (n i : ℕ) (m : Mark)
     → n ≡ length (content_value us ++ newline b) → left_at m ≤ i → i ≤ n →
-    inside (number_of (unit_world q us b) (Start i), number_of (unit_world q us b) m) q us
+    text_inside (number_of (unit_world q us b) (Start i), number_of (unit_world q us b) m) q us
     ≡ drop (count_before n (Start i)) (take (count_before n m) (content_value us))
 inside-marks q us b n i m h l k =
     let s = number_of (unit_world q us b) (Start i) in
@@ -180,8 +182,8 @@ inside-marks q us b n i m h l k =
     let all = before-inside s r q us (mark-order q us b n i m h l) apart in
     let front = before-mark q us b n (Start i) h k in
     let whole = before-mark q us b n m h (omega arith) in
-    after-take (n - i) (count_before n m) (content_value us) (inside (s, r) q us) (fewer m l)
-    (ap (λ t. t ++ inside (s, r) q us) (sym front) ∙ (all ∙ whole))
+    after-take (n - i) (count_before n m) (content_value us) (text_inside (s, r) q us) (fewer m l)
+    (ap (λ t. t ++ text_inside (s, r) q us) (sym front) ∙ (all ∙ whole))
   where
     fewer : (m : Mark) → left_at m ≤ i → n - i ≤ count_before n m
     fewer (Start j) l = omega arith
@@ -201,12 +203,12 @@ marks-read_back input style snippet b (Start i) r k st l h =
     let us = source_units input style snippet b in
     record {
       before =
-          ap (λ w. before (number_of w (Start i)) q us) k.world_is
-          ∙ (ap (λ vs. before (number_of (unit_world q k.units b) (Start i)) q vs) k.units_are
+          ap (λ w. text_before (number_of w (Start i)) q us) k.world_is
+          ∙ (ap (λ vs. text_before (number_of (unit_world q k.units b) (Start i)) q vs) k.units_are
           ∙ (before-mark q k.units b n (Start i) size h ∙ ap (take (n - i)) (sym k.text_is)));
       inside =
-          ap (λ w. inside (number_of w (Start i), number_of w r) q us) k.world_is
-          ∙ (ap (λ vs. inside (
+          ap (λ w. text_inside (number_of w (Start i), number_of w r) q us) k.world_is
+          ∙ (ap (λ vs. text_inside (
             number_of (unit_world q k.units b) (Start i),
             number_of (unit_world q k.units b) r,
           ) q vs) k.units_are

@@ -11,8 +11,9 @@ use Rattle.rustc_parse_format.specs.Marks.{Mark, Start, Span}
 use Rattle.rustc_parse_format.specs.Types.{Mode, Format, InlineAsm, Diagnostic, DiagnosticNamed}
 use Rattle.rustc_parse_format.specs.Types.{Position, Implicit, Index, Named, Count, Is, Name, Param}
 use Rattle.rustc_parse_format.specs.Types.{Star, Implied, Spec, Argument, Piece, Lit, NextArgument}
-use Rattle.rustc_parse_format.specs.Spelling.{Part, IsPart, absent, fixed, identifier, is_word}
-use Rattle.rustc_parse_format.specs.Spelling.{optional_identifier, run, unless}
+use Rattle.rustc_parse_format.specs.Spelling.{Part, IsPart, absent_part, fixed_part, identifier}
+use Rattle.rustc_parse_format.specs.Spelling.{is_word}
+use Rattle.rustc_parse_format.specs.Spelling.{optional_identifier, run, part_unless}
 use Rattle.rustc_parse_format.specs.Syntax.{PositionText, Digits, Word, RawWord, NoPosition}
 use Rattle.rustc_parse_format.specs.Syntax.{position_part, CountText, NumberCount, IndexCount}
 use Rattle.rustc_parse_format.specs.Syntax.{NameCount}
@@ -152,7 +153,7 @@ position_stands : (t r : Text) (n : ℕ) (p : PositionText) → IsPart t (positi
 unfolding at_front
 position_stands t r n (Digits ds) h = tt
 position_stands t r n (Word w) h =
-    let s = two-split t (absent begins_raw) (identifier w) r h in
+    let s = two-split t (absent_part begins_raw) (identifier w) r h in
     let e : t ≡ w ++ r = absent-same t begins_raw s.seam s.first ∙ s.second.whole in
     inl (record {
       formed = s.second.formed;
@@ -160,7 +161,7 @@ position_stands t r n (Word w) h =
       no_raw = ap begins_raw (sym s.second.whole) ∙ not-true _ s.first.ends;
     })
 position_stands t r n (RawWord w) h =
-    let s = two-split t (fixed (codes "r#")) (identifier w) r h in
+    let s = two-split t (fixed_part (codes "r#")) (identifier w) r h in
     inr (record {
       some = is_some w s.second.formed;
       stands = at_front t (codes "r#" ++ w) r (λ f. cc f) (s.first.whole
@@ -196,13 +197,13 @@ count_stands : (t : Text) (k : CountText) (r : Text) → IsPart t (count_part k)
 count_stands t (NumberCount ds) r h = tt
 count_stands t (IndexCount ds) r h = tt
 count_stands t (NameCount w) r h =
-    let s = two-split t (name_part w) (fixed (codes "$")) r h in
+    let s = two-split t (name_part w) (fixed_part (codes "$")) r h in
     at_front t w s.seam (is_some w s.first.formed) s.first.whole
 count_stands t NoCount r h = tt
 
 -- with a character in front of it
 count_after : (t : Text) (p : Text → Bool) (c : ℕ) (k : CountText) (r s : Text)
-    → IsPart t (unless (c ∷ []) p) s → IsPart s (count_part k) r
+    → IsPart t (part_unless (c ∷ []) p) s → IsPart s (count_part k) r
     → CountStands t (count_of (after_first t) k r)
 count_after t p c k r s h i =
     subst (λ u. CountStands t (count_of u k r)) (sym (ap after_first h.whole))
@@ -211,11 +212,11 @@ count_after t p c k r s h i =
 width_stands : (t : Text) (x : WidthText) (r : Text) → IsPart t (width_part x) r
     → CountStands t (width_of t x r)
 width_stands t (PaddedWidth k) r h =
-    let s = two-split t (unless (codes "0") (begins_with (code "$"))) (count_part k) r h in
+    let s = two-split t (part_unless (codes "0") (begins_with (code "$"))) (count_part k) r h in
     count_after t (begins_with (code "$")) (code "0") k r s.seam s.first s.second
 width_stands t ZeroIndexWidth r h = tt
 width_stands t (PlainWidth k) r h =
-    let s = two-split t (absent (begins_with (code "0"))) (count_part k) r h in
+    let s = two-split t (absent_part (begins_with (code "0"))) (count_part k) r h in
     let e : t ≡ s.seam = absent-same t (begins_with (code "0")) s.seam s.first in
     subst (λ u. CountStands u (count_of u k r)) (sym e) (count_stands s.seam k r s.second)
 
@@ -224,7 +225,7 @@ precision_stands : (n : ℕ) (t : Text) (x : PrecisionText) (r : Text) → IsPar
 precision_stands n t NoPrecision r h = tt
 precision_stands n t StarPrecision r h = tt
 precision_stands n t (DotPrecision k) r h =
-    let s = two-split t (unless (codes ".") (begins_with (code "*"))) (count_part k) r h in
+    let s = two-split t (part_unless (codes ".") (begins_with (code "*"))) (count_part k) r h in
     count_after t (begins_with (code "*")) (code ".") k r s.seam s.first s.second
 
 -- Types.
@@ -261,7 +262,8 @@ type_stands : (t : Text) (y : TypeText) (r : Text) → IsPart t (type_part y) r
 type_stands t (DebugHexType d) r h = inr (inr (inr refl))
 type_stands t (CharacterType c) r h = short_type c h.formed
 type_stands t (WordType w) r h =
-    let s = two-split t (absent (first_passes is_type_character)) (optional_identifier w) r h in
+    let s = two-split t (absent_part (first_passes is_type_character))
+    (optional_identifier w) r h in
     word_stands t w r (absent-same t _ s.seam s.first ∙ optional_whole s.seam w r s.second)
 
 -- Specifications.
@@ -318,7 +320,7 @@ format_stands n o t p r h =
 modifier_stands : (n : ℕ) (t w r : Text) → IsPart t (spec_part InlineAsm (Modifier w)) r
     → SpecStands InlineAsm t (spec_of n t (Modifier w) r)
 modifier_stands n t w r h =
-    let s = two-split t (fixed (codes ":")) (optional_identifier w) r h in
+    let s = two-split t (fixed_part (codes ":")) (optional_identifier w) r h in
     let ty : TypeStands InlineAsm t w (word_span s.seam w r) =
     earlier_type InlineAsm t s.seam w (word_span s.seam w r) (rest_of s.first)
     (word_stands s.seam w r (optional_whole s.seam w r s.second)) in
@@ -332,14 +334,14 @@ modifier_stands n t w r h =
 text_stands : (t u r : Text) → IsPart t (spec_part Diagnostic (DiagnosticText u)) r
     → StandsAt t (Start (length t)) (code ":" ∷ u)
 text_stands t u r h =
-    let s = two-split t (fixed (codes ":")) (run is_no_brace u) r h in
+    let s = two-split t (fixed_part (codes ":")) (run is_no_brace u) r h in
     at_front t (code ":" ∷ u) r (λ f. cc f) (s.first.whole ∙ ap (λ v. code ":" ∷ v) s.second.whole)
 
 spec_stands : (mode : Mode) (n : ℕ) (t : Text) (s : SpecText) (r : Text)
     → IsPart t (spec_part mode s) r → SpecStands mode t (spec_of n t s r)
 spec_stands mode n t Default r h = record { width = tt; precision = tt; ty = inl refl }
 spec_stands Format n t (Formatting p) r h =
-    let s = two-split t (fixed (codes ":")) (format_part p) r h in
+    let s = two-split t (fixed_part (codes ":")) (format_part p) r h in
     earlier_spec Format t s.seam (format_of n (after_first t) p r) (rest_of s.first)
     (format_stands n (after_first t) s.seam p r s.second)
 spec_stands InlineAsm n t (Modifier w) r h = modifier_stands n t w r h

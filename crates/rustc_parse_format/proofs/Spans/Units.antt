@@ -9,7 +9,7 @@ use Rattle.rustc_parse_format.specs.Characters.{Text, byte_length}
 use Rattle.rustc_parse_format.specs.LiteralUnits.{LiteralUnit, spelling, value}
 use Rattle.rustc_parse_format.specs.Literal.{content_value}
 use Rattle.rustc_parse_format.specs.World.{Place, content_places, last_stop}
-use Rattle.rustc_parse_format.specs.ReadBack.{before, inside}
+use Rattle.rustc_parse_format.specs.ReadBack.{text_before, text_inside}
 use Rattle.rustc_parse_format.proofs.Spans.PlaceOrder.{InOrder, content-in_order, in_order-earlier}
 use Rattle.rustc_parse_format.proofs.Spans.PlaceOrder.{one_or_none, unit_bytes}
 
@@ -90,16 +90,17 @@ nothing_either false t = refl
 
 -- A unit that stands for nothing, and one in front of s that stands for a character.
 before-nothing : (s at : ℕ) (u : LiteralUnit) (us : List LiteralUnit) → value u ≡ []
-    → before s at (u ∷ us) ≡ before s (past at u) us
-before-nothing s at u us z = rw z (nothing_either (nat_le (past at u) s) (before s (past at u) us))
+    → text_before s at (u ∷ us) ≡ text_before s (past at u) us
+before-nothing s at u us z = rw z (nothing_either (nat_le (past at u) s)
+    (text_before s (past at u) us))
 
 before-character : (s at c : ℕ) (u : LiteralUnit) (us : List LiteralUnit) → value u ≡ c ∷ []
     → past at u ≤ s →
-    before s at (u ∷ us) ≡ c ∷ before s (past at u) us
+    text_before s at (u ∷ us) ≡ c ∷ text_before s (past at u) us
 before-character s at c u us z l = rw (z, le-leb (past at u) s l) refl
 
 -- No unit that starts at s or later ends by s.
-pub before-none : (s at : ℕ) (us : List LiteralUnit) → s ≤ at → before s at us ≡ []
+pub before-none : (s at : ℕ) (us : List LiteralUnit) → s ≤ at → text_before s at us ≡ []
 before-none s at [] h = refl
 before-none s at (u ∷ us) h =
     let late : s < past at u = omega (arith, past-lt at u) in
@@ -107,7 +108,7 @@ before-none s at (u ∷ us) h =
 
 -- After the end stand all characters.
 pub before-all : (lo at : ℕ) (us : List LiteralUnit) (e s : ℕ)
-    → IsOrdered lo (content_places at us) e → e ≤ s → before s at us ≡ content_value us
+    → IsOrdered lo (content_places at us) e → e ≤ s → text_before s at us ≡ content_value us
 before-all lo at [] e s o h = refl
 before-all lo at (u ∷ us) e s o h =
     elim (one_or_none u) [
@@ -150,7 +151,7 @@ none_left true a = refl
 -- Before the start of a character stand those in front of it, and before its end it too.
 pub before-edge : (b : Bool) (lo at : ℕ) (us : List LiteralUnit) (e a s : ℕ)
     → IsOrdered lo (content_places at us) e →
-    s ≡ edge b (get_or (content_places at us) a (e, e)) → before s at us
+    s ≡ edge b (get_or (content_places at us) a (e, e)) → text_before s at us
     ≡ take (count_to b a) (content_value us)
 before-edge b lo at [] e a s o p = none_left b a
 before-edge b lo at (u ∷ us) e a s o p =
@@ -172,8 +173,8 @@ before-edge b lo at (u ∷ us) e a s o p =
         IsOrdered (past at u) (content_places (past at u) us) e →
         s ≡ edge b (get_or ((at, past at u) ∷ content_places (past at u) us) a (e, e)) →
         ((i : ℕ) → s ≡ edge b (get_or (content_places (past at u) us) i (e, e))
-        → before s (past at u) us ≡ take (count_to b i) (content_value us)) →
-        before s at (u ∷ us) ≡ take (count_to b a) (c ∷ content_value us)
+        → text_before s (past at u) us ≡ take (count_to b i) (content_value us)) →
+        text_before s at (u ∷ us) ≡ take (count_to b a) (c ∷ content_value us)
     at_character false s at c u us e zero z o p ih = before-none s at (u ∷ us) (omega (arith, p))
     at_character true s at c u us e zero z o p ih =
         before-character s at c u us z (omega (arith, p))
@@ -202,15 +203,15 @@ start-apart lo (p ∷ ps) e zero o = (inr (omega arith), apart-later p.0 p.1 ps 
 start-apart lo (p ∷ ps) e (suc a) o = (inl (start-after p.1 ps e a o.2), start-apart p.1 ps e a o.2)
 
 inside-nothing : (p : Place) (at : ℕ) (u : LiteralUnit) (us : List LiteralUnit) → value u ≡ []
-    → inside p at (u ∷ us) ≡ inside p (past at u) us
+    → text_inside p at (u ∷ us) ≡ text_inside p (past at u) us
 inside-nothing p at u us z =
-    rw z (nothing_either (nat_le p.0 at && nat_le (past at u) p.1) (inside p (past at u) us))
+    rw z (nothing_either (nat_le p.0 at && nat_le (past at u) p.1) (text_inside p (past at u) us))
 
 -- Where s lies inside no place, the text before a later byte is that before s and then that in the
 -- range.
 pub before-inside : (s r at : ℕ) (us : List LiteralUnit) → s ≤ r
     → IsApart s (content_places at us) →
-    before s at us ++ inside (s, r) at us ≡ before r at us
+    text_before s at us ++ text_inside (s, r) at us ≡ text_before r at us
 before-inside s r at [] h c = refl
 before-inside s r at (u ∷ us) h c =
     elim (one_or_none u) [
@@ -228,14 +229,15 @@ before-inside s r at (u ∷ us) h c =
   where
     at_character : (s r at d : ℕ) (u : LiteralUnit) (us : List LiteralUnit) → s ≤ r
         → value u ≡ d ∷ [] → (past at u ≤ s) ⊎ (s ≤ at) →
-        before s (past at u) us ++ inside (s, r) (past at u) us ≡ before r (past at u) us →
-        before s at (u ∷ us) ++ inside (s, r) at (u ∷ us) ≡ before r at (u ∷ us)
+        text_before s (past at u) us ++ text_inside (s, r) (past at u) us
+        ≡ text_before r (past at u) us →
+        text_before s at (u ∷ us) ++ text_inside (s, r) at (u ∷ us) ≡ text_before r at (u ∷ us)
     at_character s r at d u us h z (inl l) ih =
         let late : at < s = omega (arith, past-lt at u) in
         rw (z, le-leb (past at u) s l, le-leb (past at u) r (omega arith), lt-leb s at late)
         (ap (λ t. d ∷ t) ih)
     at_character s r at d u us h z (inr l) ih =
-        let same : inside (s, r) (past at u) us ≡ before r (past at u) us
-        = ap (λ t. t ++ inside (s, r) (past at u) us)
+        let same : text_inside (s, r) (past at u) us ≡ text_before r (past at u) us
+        = ap (λ t. t ++ text_inside (s, r) (past at u) us)
         (sym (before-none s (past at u) us (omega (arith, past-lt at u)))) ∙ ih in
         rw (before-none s at (u ∷ us) l, le-leb s at l, same) refl

@@ -10,7 +10,7 @@ use Rattle.rustc_parse_format.specs.Characters.{Text, byte_length}
 use Rattle.rustc_parse_format.specs.LiteralUnits.{LiteralUnit, Plain, spelling}
 use Rattle.rustc_parse_format.specs.Literal.{IsContent, content_value, ordinary_frame, raw_frame}
 use Rattle.rustc_parse_format.specs.Literal.{raw_opening, raw_closing, newline, IsSource}
-use Rattle.rustc_parse_format.specs.Source.{units_between, unappended, is_source}
+use Rattle.rustc_parse_format.specs.Source.{units_between, unappended_input, is_source}
 use Rattle.rustc_parse_format.specs.World.{World, world, plain_world, plain_places, quote_offset}
 use Rattle.rustc_parse_format.specs.World.{content_places, last_stop, newline_places, raw_end}
 use Rattle.rustc_parse_format.specs.World.{ordinary_world, literal_world}
@@ -129,7 +129,7 @@ pub record Known (input : Text) (style : Option ℕ) (snippet : Text) (b : Bool)
   pub units : List LiteralUnit
   pub world_is : world input style (Some snippet) b ≡ unit_world (quote_offset style) units b
   pub units_are : source_units input style snippet b ≡ units
-  pub text_is : unappended b input ≡ content_value units
+  pub text_is : unappended_input b input ≡ content_value units
   pub whole : input ≡ content_value units ++ newline b
   pub inside : last_stop (quote_offset style) (content_places (quote_offset style) units)
       < byte_length snippet
@@ -150,7 +150,7 @@ known input None snippet b (t, (content, us, e, c, v), whole) =
       world_is = world-literal input None snippet b (t, (content, us, e, c, v), whole)
           ∙ ap (λ vs. ordinary_world vs b) same;
       units_are = same;
-      text_is = ap (unappended b) (sym whole) ∙ (unappended-append b t ∙ sym v);
+      text_is = ap (unappended_input b) (sym whole) ∙ (unappended-append b t ∙ sym v);
       whole = sym whole ∙ ap (λ s. s ++ newline b) (sym v);
       inside = omega (
         arith,
@@ -160,7 +160,8 @@ known input None snippet b (t, (content, us, e, c, v), whole) =
       );
     }
 known input (Some n) snippet b (t, e, whole) =
-    let text : unappended b input ≡ t = ap (unappended b) (sym whole) ∙ unappended-append b t in
+    let text : unappended_input b input ≡ t =
+    ap (unappended_input b) (sym whole) ∙ unappended-append b t in
     let last : last_stop (n + 2) (content_places (n + 2) (map Plain t)) ≡ (n + 2) + byte_length t
     = ap (last_stop (n + 2)) (plain_content (n + 2) t) ∙ plain_last (n + 2) t in
     record {

@@ -4,19 +4,19 @@ use Rattle.std.specs.Prelude.{option_map}
 use Rattle.rustc_parse_format.specs.Agreement.{Agree}
 use Rattle.rustc_parse_format.specs.Call.{Call}
 use Rattle.rustc_parse_format.specs.Faults.{add_errors, bare_fault, bare_message}
-use Rattle.rustc_parse_format.specs.State.{State, after, next_call}
-use Rattle.rustc_parse_format.specs.Types.{bare}
+use Rattle.rustc_parse_format.specs.State.{State, state_after, next_call}
+use Rattle.rustc_parse_format.specs.Types.{bare_piece}
 use Rattle.rustc_parse_format.proofs.Walking.ParserLaws.{after_errors}
 
 same_call : (s t : State) → Agree s t → ◌≡◌ {A = Call} (next_call s) (next_call t)
 same_call s t h = rw (h.mode, h.next, h.rest) refl
 
 pub next_agrees : (s t : State) → Agree s t →
-    (option_map bare (next_call s).piece ≡ option_map bare (next_call t).piece)
-    × Agree (after s (next_call s)) (after t (next_call t))
+    (option_map bare_piece (next_call s).piece ≡ option_map bare_piece (next_call t).piece)
+    × Agree (state_after s (next_call s)) (state_after t (next_call t))
 next_agrees s t h =
     let e = same_call s t h in (
-      ap (λ (k : Call). option_map bare k.piece) e,
+      ap (λ (k : Call). option_map bare_piece k.piece) e,
       record {
         mode = h.mode;
         input = h.input;

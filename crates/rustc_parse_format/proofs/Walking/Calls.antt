@@ -16,8 +16,8 @@ use Rattle.rustc_parse_format.specs.Characters.{
 use Rattle.rustc_parse_format.specs.Characters.{after_word, digits, after_digits, after_white}
 use Rattle.rustc_parse_format.specs.Characters.{after_first, begins_with, first_passes}
 use Rattle.rustc_parse_format.specs.Marks.{Span}
-use Rattle.rustc_parse_format.specs.Types.{Mode, Piece, Lit, NextArgument, bare}
-use Rattle.rustc_parse_format.specs.Spelling.{IsPart, run, doubled}
+use Rattle.rustc_parse_format.specs.Types.{Mode, Piece, Lit, NextArgument, bare_piece}
+use Rattle.rustc_parse_format.specs.Spelling.{IsPart, run, doubled_part}
 use Rattle.rustc_parse_format.specs.Syntax.{PieceText, RunText, DoubledText, PlaceholderText}
 use Rattle.rustc_parse_format.specs.Syntax.{piece_part}
 use Rattle.rustc_parse_format.specs.Placeholder.{cut}
@@ -40,7 +40,7 @@ use Rattle.rustc_parse_format.proofs.Grammar.PlaceholderCuts.{from_cut, by_cut}
 pub record Steps (mode : Mode) (c : ℕ) (t : Text) (k : Call) : Type 0 where
   pub piece : Piece Span
   pub given : k.piece ≡ Some piece
-  pub begins : Begins mode c t (bare piece) k.rest k.next
+  pub begins : Begins mode c t (bare_piece piece) k.rest k.next
 
 abbrev Good : Mode → ℕ → Text → Call → Type 0
 Good mode c t k = k.faults ≡ [] → Steps mode c t k
@@ -63,7 +63,7 @@ doubled_steps : (mode : Mode) (c b : ℕ) (t : Text) → is_brace b ≡ true →
     → Steps mode c (b ∷ t) (text_call c (b ∷ []) (after_first t))
 doubled_steps mode c b [] e h = cc h
 doubled_steps mode c b (d ∷ t) e h =
-    let two : IsPart (b ∷ d ∷ t) (doubled is_brace b) t =
+    let two : IsPart (b ∷ d ∷ t) (doubled_part is_brace b) t =
     record { whole = ap (λ x. b ∷ x ∷ t) (eqb-true d b h); formed = e; ends = refl } in
     record {
       piece = Lit (b ∷ front is_no_brace t);
@@ -125,13 +125,13 @@ pub call_faults : (mode : Mode) (c : ℕ) (t : Text) → t ≢ []
     (call mode c t).faults ≢ []
 call_faults mode c t h none f =
     let s = call_begins mode c t h f in
-    none (bare s.piece) (call mode c t).rest (call mode c t).next s.begins
+    none (bare_piece s.piece) (call mode c t).rest (call mode c t).next s.begins
 
 -- the call gives the piece p, takes the text up to r and has no fault
 pub record Gives (p : Piece (Unit {0})) (r : Text) (n : ℕ) (k : Call) : Type 0 where
   pub piece : Piece Span
   pub given : k.piece ≡ Some piece
-  pub same : bare piece ≡ p
+  pub same : bare_piece piece ≡ p
   pub faultless : k.faults ≡ []
   pub rest : k.rest ≡ r
   pub next : k.next ≡ n
@@ -230,7 +230,7 @@ part_call mode c t (RunText u) r w h =
     let k = some_run-complete is_no_brace t u r w in
     given_as (call_run mode c t k.begins) (ap Lit k.read) k.rest_after refl
 part_call mode c t (DoubledText b u) r w h =
-    let s = two-split t (doubled is_brace b) (run is_no_brace u) r w in
+    let s = two-split t (doubled_part is_brace b) (run is_no_brace u) r w in
     let e = (run-finds is_no_brace).complete s.seam u r s.second in
     moved mode c t (b ∷ b ∷ s.seam) _ r _ s.first.whole
     (given_as (call_doubled mode c b s.seam s.first.formed) (ap (λ x. Lit (b ∷ x.0)) e)

@@ -4,7 +4,7 @@ use Rattle.std.proofs.Common.{length-append, append_assoc, refl, sym, inl, inr, 
 use Rattle.std.proofs.Common.{arith, Some}
 use Rattle.rustc_parse_format.specs.Characters.{Text}
 use Rattle.rustc_parse_format.specs.Marks.{Span}
-use Rattle.rustc_parse_format.specs.Types.{Mode, Piece, bare}
+use Rattle.rustc_parse_format.specs.Types.{Mode, Piece, bare_piece}
 use Rattle.rustc_parse_format.specs.Syntax.{piece_part}
 use Rattle.rustc_parse_format.specs.Values.{piece_value, number_after}
 use Rattle.rustc_parse_format.specs.Grammar.{Begins, Reads, StopsInside}
@@ -105,7 +105,7 @@ stops_later mode c t p r n ps b s =
 
 given_first : (mode : Mode) (c : ℕ) (t : Text) (k : Call) (ks : List Call) (p : Piece Span)
     → k.piece ≡ Some p →
-    Stops mode c t (bare p ∷ bare_pieces ks) → Stops mode c t (bare_pieces (k ∷ ks))
+    Stops mode c t (bare_piece p ∷ bare_pieces ks) → Stops mode c t (bare_pieces (k ∷ ks))
 given_first mode c t k ks p e s = rw e s
 
 none_or_some : {A : Type 0} (xs : List A) → (xs ≡ []) ⊎ (xs ≢ [])
@@ -123,7 +123,7 @@ one_call mode c [] k ks w f (inl h) later = absurd (f (ended mode c [] k ks w re
 one_call mode c (b ∷ t) k ks w f (inl h) later =
     let s = call_same mode c (b ∷ t) k w.0 h (λ e. cc e) in
     given_first mode c (b ∷ t) k ks s.piece s.given
-    (stops_later mode c (b ∷ t) (bare s.piece) k.rest k.next (bare_pieces ks) s.begins
+    (stops_later mode c (b ∷ t) (bare_piece s.piece) k.rest k.next (bare_pieces ks) s.begins
     (later (goes_on k s.piece ks _ s.given w.1) (λ g. f (h, g))))
 
 walk_stops : (mode : Mode) (c : ℕ) (t : Text) (ks : List Call) → IsWalk mode c t ks

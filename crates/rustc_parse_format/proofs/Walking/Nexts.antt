@@ -5,14 +5,14 @@ use Rattle.std.proofs.Common.{◌∷◌, false, refl, ap, ◌∙◌, codes, arit
 use Rattle.std.specs.Prelude.{Result, Ok, Err, IfOk, OnErr, OnOk, option_map}
 use Rattle.rustc_parse_format.specs.Characters.{Text, begins_with}
 use Rattle.rustc_parse_format.specs.Grammar.{Begins}
-use Rattle.rustc_parse_format.specs.Types.{Mode, Piece, NextArgument, bare}
+use Rattle.rustc_parse_format.specs.Types.{Mode, Piece, NextArgument, bare_piece}
 use Rattle.rustc_parse_format.specs.Faults.{Keeps}
 use Rattle.rustc_parse_format.specs.Call.{call}
-use Rattle.rustc_parse_format.specs.State.{IsPutBack, State, GivesPiece, after, last_lines}
+use Rattle.rustc_parse_format.specs.State.{IsPutBack, State, GivesPiece, state_after, last_lines}
 use Rattle.rustc_parse_format.specs.State.{next_call}
 use Rattle.rustc_parse_format.specs.World.{Place, faults_in, piece_in}
 use Rattle.std.proofs.lemmas.Bool.{not-true}
-use Rattle.rustc_parse_format.specs.Spelling.{IsPart, unless}
+use Rattle.rustc_parse_format.specs.Spelling.{IsPart, part_unless}
 use Rattle.rustc_parse_format.specs.Syntax.{FieldText, field_part, opened_part}
 use Rattle.rustc_parse_format.specs.Placeholder.{cut, cut_of}
 use Rattle.rustc_parse_format.specs.Meaning.{argument}
@@ -46,31 +46,32 @@ pub cut_given : (s : State) (a : FieldText) (r : Text) → IsPart s.rest (opened
     option_map (piece_in s.world) (next_call s).piece
     ≡ Some (piece_in s.world (NextArgument (argument s.next (cut_of s.mode a r))))
 cut_given s a r h =
-    let o = two-split s.rest (unless (codes "{") (begins_with 123)) (field_part s.mode a) r h in
+    let o = two-split s.rest (part_unless (codes "{") (begins_with 123))
+    (field_part s.mode a) r h in
     ap (λ t. option_map (piece_in s.world) (call s.mode s.next t).piece) o.first.whole
     ∙ ap (option_map (piece_in s.world)) (opened_call s.mode s.next o.seam (not-true _ o.first.ends)
     ∙ ap (λ x. Some (NextArgument (argument s.next x))) (cut-placed s.mode o.seam a r o.second))
 
 pub next_reads : (s new : State) (o : Option (Piece Place)) (q : Piece (Unit {0})) (r : Text)
     (n : ℕ) → o ≡ option_map (piece_in s.world) (next_call s).piece →
-    new ≡ after s (next_call s) → Begins s.mode s.next s.rest q r n → GivesPiece o q r n s new
+    new ≡ state_after s (next_call s) → Begins s.mode s.next s.rest q r n → GivesPiece o q r n s new
 next_reads s new o q r n e f b =
     let g = begins_call s.mode s.next s.rest q r n b in
     record {
-      piece = ap (option_map bare) (e ∙ ap (option_map (piece_in s.world)) g.given)
+      piece = ap (option_map bare_piece) (e ∙ ap (option_map (piece_in s.world)) g.given)
           ∙ ap Some (bare-piece_in s.world g.piece ∙ g.same);
       rest = ap (λ (x : State). x.rest) f ∙ g.rest;
       next = ap (λ (x : State). x.next) f ∙ g.next;
       errors = ap (λ (x : State). x.errors) f ∙ after-same s (next_call s) g.faultless;
     }
 
-pub next_faulty : (s new : State) → new ≡ after s (next_call s) → s.rest ≢ [] →
+pub next_faulty : (s new : State) → new ≡ state_after s (next_call s) → s.rest ≢ [] →
     ((q : Piece (Unit {0})) (r : Text) (n : ℕ) → ¬ (Begins s.mode s.next s.rest q r n))
     → length s.errors < length new.errors
 next_faulty s new f some none =
     rw f (after-more s (next_call s) (call_faults s.mode s.next s.rest some none))
 
-pub next_moves : (s new : State) → new ≡ after s (next_call s) → s.rest ≢ []
+pub next_moves : (s new : State) → new ≡ state_after s (next_call s) → s.rest ≢ []
     → length new.rest < length s.rest
 next_moves s new f some = rw f (call-lt s.mode s.next s.rest some)
 
@@ -81,12 +82,12 @@ call_short mode c (b ∷ t) =
     omega (arith, call-lt mode c (b ∷ t) (λ (e : b ∷ t ≡ []). absurd (cc e)))
 
 pub next_short : {A E : Type 0} (r : Result A E) (s new : State)
-    → OnOk r (new ≡ after s (next_call s)) → OnErr r (IsPutBack s new) →
+    → OnOk r (new ≡ state_after s (next_call s)) → OnErr r (IsPutBack s new) →
     length new.rest ≤ length s.rest
 next_short (Ok a) s new f g = rw f (call_short s.mode s.next s.rest)
 next_short (Err e) s new f g = rw g (omega arith)
 
-pub next_numbers : (s new : State) → new ≡ after s (next_call s)
+pub next_numbers : (s new : State) → new ≡ state_after s (next_call s)
     → new.next + length new.rest ≤ s.next + length s.rest
 next_numbers s new f = rw f (call_next-le s.mode s.next s.rest)
 
@@ -96,7 +97,7 @@ none_given f (Some a) e = cc e
 
 pub next_ends : {A : Type 0} (f : A → Piece Place) (s new : State) (o : Option A)
     → option_map f o ≡ option_map (piece_in s.world) (next_call s).piece →
-    new ≡ after s (next_call s) → s.rest ≡ [] → IsNone o
+    new ≡ state_after s (next_call s) → s.rest ≡ [] → IsNone o
     × (new ≡ record s { line_spans = last_lines s s.line_spans })
 next_ends f s new o e h end =
     let both = at_end s end in
@@ -105,10 +106,10 @@ next_ends f s new o e h end =
 -- a call that gives a piece moves on
 pub piece_moves : {A : Type 0} (f : A → Piece Place) (s new : State) (a : A)
     → Some (f a) ≡ option_map (piece_in s.world) (next_call s).piece →
-    new ≡ after s (next_call s) → length new.rest < length s.rest
+    new ≡ state_after s (next_call s) → length new.rest < length s.rest
 piece_moves f s new a e h =
     next_moves s new h (λ end. let no : IsNone (Some a) = (next_ends f s new (Some a) e h end).0 in
     cc no)
 
-pub next_keeps : (s new : State) → new ≡ after s (next_call s) → Keeps s.errors new.errors
+pub next_keeps : (s new : State) → new ≡ state_after s (next_call s) → Keeps s.errors new.errors
 next_keeps s new e = rw e (add_errors-keeps s.errors (faults_in s.world (next_call s).faults))

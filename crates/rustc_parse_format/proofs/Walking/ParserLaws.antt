@@ -13,7 +13,7 @@ use Rattle.rustc_parse_format.specs.Characters.{is_brace, is_no_brace, begins_wi
 use Rattle.rustc_parse_format.specs.Characters.{after_white}
 use Rattle.rustc_parse_format.specs.Characters.{Text}
 use Rattle.rustc_parse_format.specs.Marks.{Span}
-use Rattle.rustc_parse_format.specs.Types.{Mode, Piece, bare}
+use Rattle.rustc_parse_format.specs.Types.{Mode, Piece, bare_piece}
 use Rattle.rustc_parse_format.specs.Faults.{Fault, UnmatchedBrace, MissingBrace, FillBrace}
 use Rattle.rustc_parse_format.specs.Faults.{Underscore}
 use Rattle.rustc_parse_format.specs.Faults.{TooLarge, Unnamed, TextAfterColon, RawIdentifier}
@@ -31,7 +31,8 @@ use Rattle.rustc_parse_format.specs.Lines.{IsLines, lines_in, place_list, texts_
 use Rattle.rustc_parse_format.specs.Lines.{closed_places, with_last}
 use Rattle.rustc_parse_format.specs.Literal.{IsSource}
 use Rattle.rustc_parse_format.specs.ReadBack.{AllSpans, IsInside, ReadsBack}
-use Rattle.rustc_parse_format.specs.State.{State, AreLines, ComesFrom, after, after_all, calls}
+use Rattle.rustc_parse_format.specs.State.{State, AreLines, ComesFrom, state_after, after_all}
+use Rattle.rustc_parse_format.specs.State.{calls}
 use Rattle.rustc_parse_format.specs.State.{closed_of, first_state, next_call, reach_end, texts_of}
 use Rattle.rustc_parse_format.specs.World.{World, Place, literal_world, literal_end, text_end}
 use Rattle.rustc_parse_format.specs.World.{place_at, faults_in, piece_in, pieces_in, place_of}
@@ -154,7 +155,7 @@ bare_errors es (f ∷ fs) =
     ∙ ap (λ ms. add_errors ms (map bare_fault fs))
     (rw ((bare-report f).1, ← (bare-report f).0) (bare-added (is_front f) es (message f)))
 
-pub after_errors : (s : State) (k : Call) → map bare_message (after s k).errors
+pub after_errors : (s : State) (k : Call) → map bare_message (state_after s k).errors
     ≡ add_errors (map bare_message s.errors) (map bare_fault k.faults)
 after_errors s k = bare_errors s.errors (faults_in s.world k.faults)
     ∙ ap (add_errors (map bare_message s.errors)) (bare_faults-in s.world k.faults)
@@ -178,8 +179,9 @@ count_of_fronts w (f ∷ fs) =
     (one_in_front (is_front f) (map_fault (place_of w) f) f (filter is_front (faults_in w fs))
     (filter is_front fs) (count_of_fronts w fs))
 
-pub bare_given : (w : World) (o : Option (Piece Span)) → option_map bare (option_map (piece_in w) o)
-    ≡ option_map bare o
+pub bare_given : (w : World) (o : Option (Piece Span))
+    → option_map bare_piece (option_map (piece_in w) o)
+    ≡ option_map bare_piece o
 bare_given w None = refl
 bare_given w (Some p) = ap Some (bare-piece_in w p)
 
@@ -193,7 +195,7 @@ pub after_all-errors : (s : State) (ks : List Call) → map bare_message (after_
     ≡ add_errors (map bare_message s.errors) (map bare_fault (faults_of ks))
 after_all-errors s [] = refl
 after_all-errors s (k ∷ ks) =
-    after_all-errors (after s k) ks
+    after_all-errors (state_after s k) ks
     ∙ (ap (λ es. add_errors es (map bare_fault (faults_of ks))) (after_errors s k)
     ∙ (sym (add_errors-append (map bare_message s.errors) (map bare_fault k.faults)
     (map bare_fault (faults_of ks)))
@@ -207,9 +209,9 @@ closed_in-source w o h = rw h refl
 
 -- The lines that a call before the end adds.
 pub call_lines : (s : State) → s.rest ≢ [] → s.world.has_source ≡ true → (lines : List Place)
-    × ((after s (next_call s)).line_spans ≡ s.line_spans ++ lines)
+    × ((state_after s (next_call s)).line_spans ≡ s.line_spans ++ lines)
     × IsLines s.line_start (texts_in s.world (next_call s).texts) lines
-    (after s (next_call s)).line_start
+    (state_after s (next_call s)).line_start
 call_lines s some h =
     let k = next_call s in
     let r = lines_in s.world s.line_start k.texts in
@@ -220,19 +222,19 @@ call_lines s some h =
     )
 
 pub call_places : (s : State) → s.world.has_source ≡ true →
-    (after s (next_call s)).arg_places ≡ s.arg_places
+    (state_after s (next_call s)).arg_places ≡ s.arg_places
     ++ place_list (option_map (place_of s.world) (next_call s).closes)
 call_places s h = ap (λ o. s.arg_places ++ place_list o)
     (closed_in-source s.world (next_call s).closes h)
 
 -- Without a source literal there is neither a line nor a place,
 after-sourceless : (s : State) (k : Call) → s.world.has_source ≡ false →
-    ((after s k).arg_places ≡ s.arg_places) × ((after s k).line_spans ≡ s.line_spans)
+    ((state_after s k).arg_places ≡ s.arg_places) × ((state_after s k).line_spans ≡ s.line_spans)
 after-sourceless s k h = rw (h, append-nil s.arg_places, append-nil s.line_spans) (refl, refl)
 
 pub call_sourceless : (s : State) → s.world.has_source ≡ false →
-    ((after s (next_call s)).arg_places ≡ s.arg_places)
-    × ((after s (next_call s)).line_spans ≡ s.line_spans)
+    ((state_after s (next_call s)).arg_places ≡ s.arg_places)
+    × ((state_after s (next_call s)).line_spans ≡ s.line_spans)
 call_sourceless s h = after-sourceless s (next_call s) h
 
 -- after all calls too.
@@ -241,14 +243,14 @@ pub after_all-sourceless : (s : State) (ks : List Call) → s.world.has_source �
 after_all-sourceless s [] h = (refl, refl)
 after_all-sourceless s (k ∷ ks) h =
     let one = after-sourceless s k h in
-    let more = after_all-sourceless (after s k) ks h in (more.0 ∙ one.0, more.1 ∙ one.1)
+    let more = after_all-sourceless (state_after s k) ks h in (more.0 ∙ one.0, more.1 ∙ one.1)
 
 -- The same of a walk.
 pub after_all-places : (s : State) (ks : List Call) → (after_all s ks).arg_places
     ≡ s.arg_places ++ closed_of s.world ks
 after_all-places s [] = sym (append-nil s.arg_places)
 after_all-places s (k ∷ ks) =
-    after_all-places (after s k) ks
+    after_all-places (state_after s k) ks
     ∙ append_assoc s.arg_places (closed_places s.world k.closes) (closed_of s.world ks)
 
 -- where the line starts, and the lines, after calls that were all before the end
@@ -257,9 +259,9 @@ walked s ks = lines_in s.world s.line_start (texts_of ks)
 
 walked-next : (s : State) (k : Call) (ks : List Call) →
     walked s (k ∷ ks) ≡ (
-      (walked (after s k) ks).0,
+      (walked (state_after s k) ks).0,
       (lines_in s.world s.line_start k.texts).1
-          ++ (walked (after s k) ks).1,
+          ++ (walked (state_after s k) ks).1,
     )
 walked-next s k ks = lines_in-append s.world s.line_start k.texts (texts_of ks)
 
@@ -277,7 +279,7 @@ only_call : (s : State) (k : Call) → walked s (k ∷ []) ≡ lines_in s.world 
 only_call s k = ap (lines_in s.world s.line_start) (append-nil k.texts)
 
 end_walked : (s : State) → s.rest ≡ [] → s.world.has_source ≡ true
-    → Walked s (next_call s ∷ []) (after s (next_call s))
+    → Walked s (next_call s ∷ []) (state_after s (next_call s))
 unfolding call
 end_walked s e h =
     rw (e, h, append-nil s.line_spans)
@@ -287,7 +289,7 @@ end_walked s e h =
     })
 
 last_call : (s : State) (t : Text) → s.rest ≡ t → s.world.has_source ≡ true
-    → (next_call s).piece ≡ None → Walked s (next_call s ∷ []) (after s (next_call s))
+    → (next_call s).piece ≡ None → Walked s (next_call s ∷ []) (state_after s (next_call s))
 last_call s [] e h none = end_walked s e h
 last_call s (b ∷ t) e h none =
     let k = next_call s in
@@ -297,7 +299,7 @@ last_call s (b ∷ t) e h none =
       lines = not_last s s.rest (s.line_spans
           ++ (lines_in s.world s.line_start k.texts).1) refl some
           ∙ (ap (λ (r : ℕ × List Place). s.line_spans ++ r.1) (sym (only_call s k))
-          ∙ ap (λ (u : Text). ended (reach_end u (k ∷ [])) (after s k).line_start s.world.end
+          ∙ ap (λ (u : Text). ended (reach_end u (k ∷ [])) (state_after s k).line_start s.world.end
           (s.line_spans ++ (walked s (k ∷ [])).1)) (sym e));
     }
   where
@@ -305,14 +307,14 @@ last_call s (b ∷ t) e h none =
     some_text c u e = cc e
 
 -- a call with a piece, and the calls after it
-more_calls : (s new : State) (k : Call) (ks : List Call) → (after s k).line_spans
+more_calls : (s new : State) (k : Call) (ks : List Call) → (state_after s k).line_spans
     ≡ s.line_spans ++ (lines_in s.world s.line_start k.texts).1 →
-    IsWalk s.mode k.next k.rest ks → Walked (after s k) ks new → Walked s (k ∷ ks) new
+    IsWalk s.mode k.next k.rest ks → Walked (state_after s k) ks new → Walked s (k ∷ ks) new
 more_calls s new k [] e v w = absurd v
 more_calls s new k (l ∷ ks) e v w =
     let first = (lines_in s.world s.line_start k.texts).1 in
-    let later = (walked (after s k) (l ∷ ks)).1 in
-    let all : (after s k).line_spans ++ later ≡ s.line_spans ++ (walked s (k ∷ l ∷ ks)).1 =
+    let later = (walked (state_after s k) (l ∷ ks)).1 in
+    let all : (state_after s k).line_spans ++ later ≡ s.line_spans ++ (walked s (k ∷ l ∷ ks)).1 =
     ap (λ ls. ls ++ later) e
     ∙ (append_assoc s.line_spans first later
     ∙ ap (λ (r : ℕ × List Place). s.line_spans ++ r.1) (sym (walked-next s k (l ∷ ks)))) in
@@ -329,18 +331,19 @@ piece_some s p e f = let none : (next_call s).piece ≡ None = rw f refl in
 walk_lines : (s : State) (ks : List Call) → s.world.has_source ≡ true
     → IsWalk s.mode s.next s.rest ks → Walked s ks (after_all s ks)
 walk_lines s [] h w = absurd w
-walk_lines s (k ∷ ks) h w = by_piece k.piece refl w.1 (λ v. walk_lines (after s k) ks h v)
+walk_lines s (k ∷ ks) h w = by_piece k.piece refl w.1 (λ v. walk_lines (state_after s k) ks h v)
   where
     by_piece : (o : Option (Piece Span)) → k.piece ≡ o
         → GoesOn o ks (IsWalk s.mode k.next k.rest ks) →
-        (IsWalk s.mode k.next k.rest ks → Walked (after s k) ks (after_all (after s k) ks))
-        → Walked s (k ∷ ks) (after_all (after s k) ks)
+        (IsWalk s.mode k.next k.rest ks → Walked (state_after s k) ks
+        (after_all (state_after s k) ks))
+        → Walked s (k ∷ ks) (after_all (state_after s k) ks)
     by_piece None e g f =
         let same : k ≡ next_call s = w.0 in
         rw (g, same) (last_call s s.rest refl h (ap (λ (x : Call). x.piece) (sym same) ∙ e))
     by_piece (Some p) e g f =
         let some : s.rest ≢ [] = piece_some s p (ap (λ (x : Call). x.piece) (sym w.0) ∙ e) in
-        more_calls s (after_all (after s k) ks) k ks
+        more_calls s (after_all (state_after s k) ks) k ks
         (not_last s s.rest (s.line_spans ++ (lines_in s.world s.line_start k.texts).1) refl some) g
         (f g)
 
@@ -381,7 +384,7 @@ walk_reads_back s (k ∷ ks) style snippet appended r f w = (
       (call_reads_back s style snippet appended r f),
   later (λ x. AllSpans (λ m. ReadsBack s.input style snippet appended m (place_of s.world m)) x) s k
       ks w.1
-      (λ v. walk_reads_back (after s k) ks style snippet appended (rest_after_call s k r w.0)
+      (λ v. walk_reads_back (state_after s k) ks style snippet appended (rest_after_call s k r w.0)
       (record { is_source = f.is_source; world_is = f.world_is }) v),
 )
 
@@ -394,7 +397,7 @@ walk_inside s (k ∷ ks) style snippet appended r f w = (
   subst (AllSpans (λ m. IsInside snippet (place_of s.world m))) (sym w.0)
       (call_inside s style snippet appended r f),
   later (λ x. AllSpans (λ m. IsInside snippet (place_of s.world m)) x) s k ks w.1
-      (λ v. walk_inside (after s k) ks style snippet appended (rest_after_call s k r w.0)
+      (λ v. walk_inside (state_after s k) ks style snippet appended (rest_after_call s k r w.0)
       (record { is_source = f.is_source; world_is = f.world_is }) v),
 )
 
@@ -445,11 +448,11 @@ fresh_inside mode input style snippet source appended e h =
 
 pub fresh_worlds : (s p new : State) (ps : List (Piece Place)) → p ≡ s
     → ps ≡ pieces_in p.world (pieces_of (calls p)) → new ≡ after_all p (calls p) →
-    s.errors ≡ [] → (map bare ps ≡ map bare (pieces_of (calls s)))
+    s.errors ≡ [] → (map bare_piece ps ≡ map bare_piece (pieces_of (calls s)))
     × (map bare_message new.errors ≡ add_errors [] (map bare_fault (faults_of (calls s))))
 fresh_worlds s p new ps e f g none = (
-  subst (λ (x : State). map bare ps ≡ map bare (pieces_of (calls x))) e
-      (ap (map bare) f ∙ bare-pieces_in p.world (pieces_of (calls p))),
+  subst (λ (x : State). map bare_piece ps ≡ map bare_piece (pieces_of (calls x))) e
+      (ap (map bare_piece) f ∙ bare-pieces_in p.world (pieces_of (calls p))),
   subst (λ (x : State). map bare_message new.errors
       ≡ add_errors (map bare_message x.errors) (map bare_fault (faults_of (calls x)))) e
       (ap (λ (x : State). map bare_message x.errors) g ∙ after_all-errors p (calls p))

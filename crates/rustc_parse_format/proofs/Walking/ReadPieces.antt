@@ -7,9 +7,10 @@ use Rattle.std.proofs.lemmas.List.{append-nil}
 use Rattle.rustc_parse_format.specs.Characters.{Text}
 use Rattle.rustc_parse_format.specs.Grammar.{IsInGrammar, Reads, StopsInside}
 use Rattle.rustc_parse_format.specs.Marks.{Span}
-use Rattle.rustc_parse_format.specs.Types.{Mode, Piece, bare}
+use Rattle.rustc_parse_format.specs.Types.{Mode, Piece, bare_piece}
 use Rattle.rustc_parse_format.specs.Call.{call, pieces_of}
-use Rattle.rustc_parse_format.specs.State.{State, NeedsNoMemory, Walks, fresh, after, after_all}
+use Rattle.rustc_parse_format.specs.State.{State, NeedsNoMemory, Walks, fresh_state, state_after}
+use Rattle.rustc_parse_format.specs.State.{after_all}
 use Rattle.rustc_parse_format.specs.State.{calls, next_call}
 use Rattle.rustc_parse_format.specs.World.{World, Place, piece_in, pieces_in}
 use Rattle.rustc_parse_format.proofs.Grammar.BarePieces.{bare-pieces_in}
@@ -35,7 +36,7 @@ none_given w (Some p) e = cc e
 
 pub pieces_more : (s new : State) (w : World) (x : Piece Place) (done all : List (Piece Place))
     → s.world ≡ w →
-    Some x ≡ option_map (piece_in s.world) (next_call s).piece → new ≡ after s (next_call s) →
+    Some x ≡ option_map (piece_in s.world) (next_call s).piece → new ≡ state_after s (next_call s) →
     done ++ pieces_in w (pieces_of (calls s)) ≡ all → (done ++ x ∷ [])
     ++ pieces_in w (pieces_of (calls new)) ≡ all
 pieces_more s new w x done all h e f d =
@@ -45,7 +46,7 @@ pieces_more s new w x done all h e f d =
     (ap (λ ps. done ++ pieces_in w ps) (sym (pieces_of-some s g.piece g.is_some)) ∙ d)
 
 pub state_more : (s new : State) (x : Piece Place) → Some x
-    ≡ option_map (piece_in s.world) (next_call s).piece → new ≡ after s (next_call s) →
+    ≡ option_map (piece_in s.world) (next_call s).piece → new ≡ state_after s (next_call s) →
     after_all new (calls new) ≡ after_all s (calls s)
 state_more s new x e f =
     let g = given s.world (next_call s).piece x e in
@@ -60,7 +61,7 @@ pieces_end s w done all e d = sym (append-nil done)
     ∙ d)
 
 pub state_end : (s new last : State) → None ≡ option_map (piece_in s.world) (next_call s).piece
-    → new ≡ after s (next_call s) →
+    → new ≡ state_after s (next_call s) →
     after_all s (calls s) ≡ last → new ≡ last
 state_end s new last e f d = f
     ∙ (sym (after_all-none s (none_given s.world (next_call s).piece e)) ∙ d)
@@ -78,29 +79,32 @@ walks_of s p new ps e f g =
     subst (λ u. Walks u ps new) e walked
 
 -- A fresh parser p, and the parser new after its last call.
-pub clean_in : (mode : Mode) (w : World) (t : Text) (at : ℕ) (p new : State) → p ≡ fresh mode w t at
+pub clean_in : (mode : Mode) (w : World) (t : Text) (at : ℕ) (p new : State)
+    → p ≡ fresh_state mode w t at
     → new ≡ after_all p (calls p) →
     new.errors ≡ [] → IsInGrammar mode t
 clean_in mode w t at p new e f h =
     (_, walk_reads mode w t at (sym (ap (λ (s : State). s.errors) (rw e at f)) ∙ h))
 
-pub in_clean : (mode : Mode) (w : World) (t : Text) (at : ℕ) (p new : State) → p ≡ fresh mode w t at
+pub in_clean : (mode : Mode) (w : World) (t : Text) (at : ℕ) (p new : State)
+    → p ≡ fresh_state mode w t at
     → new ≡ after_all p (calls p) →
     IsInGrammar mode t → new.errors ≡ []
 in_clean mode w t at p new e f r = ap (λ (s : State). s.errors) (rw e at f)
     ∙ (reads_walk mode w t at r.0 r.1).0
 
 pub reading_of : (mode : Mode) (w : World) (t : Text) (at : ℕ) (p new : State)
-    (ps : List (Piece Place)) → p ≡ fresh mode w t at → new ≡ after_all p (calls p) →
-    ps ≡ pieces_in p.world (pieces_of (calls p)) → new.errors ≡ [] → Reads mode 0 t (map bare ps)
+    (ps : List (Piece Place)) → p ≡ fresh_state mode w t at → new ≡ after_all p (calls p) →
+    ps ≡ pieces_in p.world (pieces_of (calls p)) → new.errors ≡ []
+    → Reads mode 0 t (map bare_piece ps)
 reading_of mode w t at p new ps e f g h =
     let r = walk_reads mode w t at (sym (ap (λ (s : State). s.errors) (rw e at f)) ∙ h) in
     rw (g, bare-pieces_in p.world (pieces_of (calls p)), e) r
 
 pub stops_of : (mode : Mode) (w : World) (t : Text) (at : ℕ) (p new : State)
-    (ps : List (Piece Place)) → p ≡ fresh mode w t at → new ≡ after_all p (calls p) →
+    (ps : List (Piece Place)) → p ≡ fresh_state mode w t at → new ≡ after_all p (calls p) →
     ps ≡ pieces_in p.world (pieces_of (calls p)) → new.errors ≢ []
-    → StopsInside mode 0 t (map bare ps)
+    → StopsInside mode 0 t (map bare_piece ps)
 stops_of mode w t at p new ps e f g h =
     let r = errors_stop mode w t at (λ k. h (ap (λ (s : State). s.errors) (rw e at f) ∙ k)) in
     rw (g, bare-pieces_in p.world (pieces_of (calls p)), e) r

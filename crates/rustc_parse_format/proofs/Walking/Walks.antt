@@ -3,7 +3,7 @@ use Rattle.std.proofs.Common.{◌≡◌, ◌≢◌, ℕ, List, [], ◌∷◌, ma
 use Rattle.std.specs.List.{AllByRecursion}
 use Rattle.rustc_parse_format.specs.Characters.{Text}
 use Rattle.rustc_parse_format.specs.Marks.{Span}
-use Rattle.rustc_parse_format.specs.Types.{Mode, Piece, bare}
+use Rattle.rustc_parse_format.specs.Types.{Mode, Piece, bare_piece}
 use Rattle.rustc_parse_format.specs.Grammar.{Reads}
 use Rattle.rustc_parse_format.specs.Call.{Call, call, end_call, IsWalk, GoesOn, with_piece}
 use Rattle.rustc_parse_format.specs.Call.{pieces_of}
@@ -14,11 +14,11 @@ abbrev pub Faultless : List Call → Type 0
 Faultless ks = AllByRecursion (λ k. k.faults ≡ []) ks
 
 abbrev pub bare_pieces : List Call → List (Piece (Unit {0}))
-bare_pieces ks = map bare (pieces_of ks)
+bare_pieces ks = map bare_piece (pieces_of ks)
 
 reads_more : (mode : Mode) (c : ℕ) (t : Text) (k : Call) (ks : List Call) → Steps mode c t k
     → Reads mode k.next k.rest (bare_pieces ks) →
-    Reads mode c t (map bare (with_piece k.piece (pieces_of ks)))
+    Reads mode c t (map bare_piece (with_piece k.piece (pieces_of ks)))
 reads_more mode c t k ks s later = rw s.given (k.rest, k.next, s.begins, later)
 
 pub goes_on : (k : Call) (p : Piece Span) (ks : List Call) (L : Type 0) → k.piece ≡ Some p
@@ -30,7 +30,7 @@ pub call_same : (mode : Mode) (c : ℕ) (t : Text) (k : Call) → k ≡ call mod
 call_same mode c t k e f h = rw e (call_begins mode c t h (sym (ap (λ x. x.faults) e) ∙ f))
 
 nothing_read : (mode : Mode) (c : ℕ) (ps : List (Piece Span))
-    → Reads mode c [] (map bare (with_piece (call mode c []).piece ps))
+    → Reads mode c [] (map bare_piece (with_piece (call mode c []).piece ps))
 unfolding call
 nothing_read mode c ps = refl
 
@@ -44,9 +44,9 @@ ended mode c t k ks w e =
     (((ap (λ x. x.faults) last), rw over tt), rw none refl)
 
 pub one_more : (k : Call) (ks : List Call) (q : Piece Span) (p : Piece (Unit {0}))
-    (ps : List (Piece (Unit {0}))) → k.piece ≡ Some q → bare q ≡ p →
+    (ps : List (Piece (Unit {0}))) → k.piece ≡ Some q → bare_piece q ≡ p →
     bare_pieces ks ≡ ps →
-    map bare (with_piece k.piece (pieces_of ks)) ≡ p ∷ ps
+    map bare_piece (with_piece k.piece (pieces_of ks)) ≡ p ∷ ps
 one_more k ks q p ps e f g = rw e cc
 
 -- A walk with no fault reads its text.

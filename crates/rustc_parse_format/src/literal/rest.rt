@@ -204,13 +204,13 @@ fn is_plain(byte: u8) -> bool
 pub fn plain_width(bytes: &[u8], others: &[u8]) -> usize
     ensures { IsSharedFront is_plain bytes.now others.now result }
 {
-    let most = bytes.len().min(others.len());
-    for i in plain_front(bytes, others)..most {
+    let limit = bytes.len().min(others.len());
+    for i in plain_front(bytes, others)..limit {
         if bytes[i] != others[i] || !is_plain(bytes[i]) {
             return i;
         }
     }
-    most
+    limit
 }
 
 /// Returns whether both begin with the same byte, which is no backslash: one escape often comes
@@ -232,7 +232,7 @@ fn after_plain<'a, 'b>(text: &'a str, other: &'b str) -> (&'a str, &'b str)
     if !begin_alike(bytes, others) {
         return (text, other);
     }
-    let same = plain_width(bytes, others);
-    let width = text.floor_char_boundary(same);
+    let same_width = plain_width(bytes, others);
+    let width = text.floor_char_boundary(same_width);
     (&text[width..], &other[width..])
 }

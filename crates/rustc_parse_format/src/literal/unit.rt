@@ -4,7 +4,8 @@ ghost use Rattle.std.specs.Prelude.{◌≡◌, ◌∷◌, ◌<◌, [], IfSome, I
 ghost use Rattle.std.specs.Prelude.{if◌then◌else◌, option_map};
 ghost use Rattle.std.specs.Char.{digit_value};
 ghost use Rattle.rustc_parse_format.specs.Characters.{Text, after_first};
-ghost use Rattle.rustc_parse_format.specs.LiteralUnits.{at_most_one, byte_at, escape_at, escaped};
+ghost use Rattle.rustc_parse_format.specs.LiteralUnits.{at_most_one, byte_at, escape_at};
+ghost use Rattle.rustc_parse_format.specs.LiteralUnits.{escaped_character};
 ghost use Rattle.rustc_parse_format.specs.LiteralUnits.{is_hex, is_octal, meaning, unicode_at};
 ghost use Rattle.rustc_parse_format.specs.LiteralUnits.{unit_at};
 
@@ -121,7 +122,7 @@ fn read_unicode(rest: &mut Rest<'_>) -> Option<char>
 /// none.
 #[inline(always)]
 fn simple_escape(letter: char) -> Option<char>
-    ensures { result ≡ escaped letter }
+    ensures { result ≡ escaped_character letter }
 {
     match letter {
         'n' => Some('\n'),

@@ -11,9 +11,9 @@ impl<'input> Parser<'input> {
     ghost use Rattle.std.specs.List.{filter};
     ghost use Rattle.rustc_parse_format.specs.Faults.{is_front};
     ghost use Rattle.rustc_parse_format.specs.Midway.{opens_placeholder};
-    ghost use Rattle.rustc_parse_format.specs.Seen.{seen, seen_argument, seen_spec};
+    ghost use Rattle.rustc_parse_format.specs.Seen.{seen_piece, seen_argument, seen_spec};
     ghost use Rattle.rustc_parse_format.specs.State.{AddsNothing, IsPutBack, NeedsNoMemory};
-    ghost use Rattle.rustc_parse_format.specs.State.{after, last_lines, next_call};
+    ghost use Rattle.rustc_parse_format.specs.State.{state_after, last_lines, next_call};
     ghost use Rattle.rustc_parse_format.specs.Steps.{AreFew};
     ghost use Rattle.rustc_parse_format.specs.Types.{Lit, NextArgument, default_spec};
     ghost use Rattle.rustc_parse_format.specs.World.{piece_in};
@@ -21,9 +21,9 @@ impl<'input> Parser<'input> {
     /// Makes one call, and returns its piece. Returns `Err` if an allocation fails, and the parser
     /// is then unchanged.
     pub(super) fn step(&mut self) -> Result<Option<Piece<'input>>, AllocError>
-        ensures piece { IfOk result (λ p. option_map seen p
+        ensures piece { IfOk result (λ p. option_map seen_piece p
             ≡ option_map (piece_in self.old.world) (next_call self.old).piece) }
-        ensures state { OnOk result (self.new ≡ after self.old (next_call self.old)) }
+        ensures state { OnOk result (self.new ≡ state_after self.old (next_call self.old)) }
         ensures err { OnErr result (IsPutBack self.old self.new) }
         ensures spare { NeedsNoMemory self.old (next_call self.old) → IsOk result }
         ensures few { AreFew self.new.input self.new.rest self.new.back }

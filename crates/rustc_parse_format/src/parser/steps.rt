@@ -5,14 +5,14 @@ ghost use Rattle.std.specs.Prelude.{◌≡◌, ℕ, ◌+◌, ◌++◌, chars, le
 ghost use Rattle.rustc_parse_format.specs.Characters.{Text, after_first};
 ghost use Rattle.std.specs.Borrow.{ftrue};
 
-use crate::characters::{before, first};
+use crate::characters::{first, text_before};
 use std::marker::Model;
 
 /// A number that only contracts see. It has no size at run time, and only the two functions below
 /// create one.
 #[derive(Drop)]
 pub struct Steps {
-    pub ghost made: { ℕ },
+    pub ghost number: { ℕ },
 }
 
 impl Model for Steps {
@@ -22,14 +22,14 @@ impl Model for Steps {
 impl Steps {
     /// Returns the number 0.
     pub(super) fn start() -> Steps
-        ensures { result.made ≡ 0 }
+        ensures { result.number ≡ 0 }
     {
         Steps {}
     }
 
     /// Returns the sum of the two numbers.
-    pub(super) fn more(_before: &Steps, _count: &u64) -> Steps
-        ensures { result.made ≡ _before.now.made + _count.now }
+    pub(super) fn sum(_earlier: &Steps, _count: &u64) -> Steps
+        ensures { result.number ≡ _earlier.now.number + _count.now }
     {
         Steps {}
     }
@@ -39,8 +39,8 @@ impl Steps {
 /// went back.
 #[derive(Drop)]
 pub struct Tally {
-    made: Steps,
-    left: Steps,
+    pass_count: Steps,
+    left_count: Steps,
 }
 
 impl Model for Tally {
@@ -48,45 +48,48 @@ impl Model for Tally {
 
     ghost Value = { Passed };
 
-    ghost view = { λ t. record { made = t.made.made; left = t.left.made } };
+    ghost view = { λ t. record {
+      pass_count = t.pass_count.number;
+      left_count = t.left_count.number;
+    } };
 }
 
 impl Tally {
     /// Returns the tally of a cursor at the start of `text` that has passed no characters.
     #[inline(always)]
     pub(super) fn new(text: &str) -> Tally
-        ensures { result ≡ record { made = 0; left = length (chars text.now) } }
+        ensures { result ≡ record { pass_count = 0; left_count = length (chars text.now) } }
     {
         Tally {
-            made: Steps::start(),
-            left: Steps::more(&Steps::start(), &character_count(text)),
+            pass_count: Steps::start(),
+            left_count: Steps::sum(&Steps::start(), &character_count(text)),
         }
     }
 
     /// Counts `count` more characters as passed.
     #[inline(always)]
     pub(super) fn pass(&mut self, count: u64)
-        ensures { self.new ≡ record self.old { made = self.old.made + count } }
+        ensures { self.new ≡ record self.old { pass_count = self.old.pass_count + count } }
     {
-        self.made = Steps::more(&self.made, &count);
+        self.pass_count = Steps::sum(&self.pass_count, &count);
     }
 
-    /// Records that the cursor goes back from the position at which `from` is left.
+    /// Records that the cursor goes back from the position at which `rest` is left.
     #[inline(always)]
-    pub(super) fn rewind(&mut self, from: &str)
-        ensures { self.new ≡ record self.old { left = length (chars from.now) } }
+    pub(super) fn rewind(&mut self, rest: &str)
+        ensures { self.new ≡ record self.old { left_count = length (chars rest.now) } }
     {
-        self.left = Steps::more(&Steps::start(), &character_count(from));
+        self.left_count = Steps::sum(&Steps::start(), &character_count(rest));
     }
 
     /// Returns a copy of the tally.
     #[inline(always)]
-    pub(super) fn same(&self) -> Tally
+    pub(super) fn copy(&self) -> Tally
         ensures { result ≡ self.now }
     {
         Tally {
-            made: Steps::more(&self.made, &0),
-            left: Steps::more(&self.left, &0),
+            pass_count: Steps::sum(&self.pass_count, &0),
+            left_count: Steps::sum(&self.left_count, &0),
         }
     }
 }
@@ -113,7 +116,7 @@ pub(super) fn count_before(text: &str, rest: &str) -> u64
     requires { (u : Text) × (chars text.now ≡ u ++ chars rest.now) }
     ensures { result + length (chars rest.now) ≡ length (chars text.now) }
 {
-    character_count(before(text, rest))
+    character_count(text_before(text, rest))
 }
 
 /// Returns the number of characters that a move past the next one passes: 1, or 0 if there is none.

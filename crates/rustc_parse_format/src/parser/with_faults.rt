@@ -9,7 +9,8 @@ impl<'input> Parser<'input> {
     ghost use Rattle.std.specs.Prelude.{◌≡◌, ◌++◌, IfOk, IsOk, OnErr, OnOk, map, option_map};
     ghost use Rattle.rustc_parse_format.specs.Seen.{seen_taken};
     ghost use Rattle.rustc_parse_format.specs.SeenFaults.{seen_fault};
-    ghost use Rattle.rustc_parse_format.specs.State.{AddsNothing, IsPutBack, after, next_call};
+    ghost use Rattle.rustc_parse_format.specs.State.{AddsNothing, IsPutBack, state_after};
+    ghost use Rattle.rustc_parse_format.specs.State.{next_call};
     ghost use Rattle.rustc_parse_format.specs.Steps.{AreFew};
     ghost use Rattle.rustc_parse_format.specs.World.{faults_in, piece_in};
 
@@ -32,7 +33,7 @@ impl<'input> Parser<'input> {
         ensures faults { OnOk result (map seen_fault faults.new.items ≡ map seen_fault
             faults.old.items ++ faults_in self.old.world (next_call self.old).faults) }
         ensures state { OnOk result (self.new
-            ≡ record (after self.old (next_call self.old)) { errors = self.old.errors }) }
+            ≡ record (state_after self.old (next_call self.old)) { errors = self.old.errors }) }
         ensures err { OnErr result (IsPutBack self.old self.new) }
         ensures kept { OnErr result (faults.new.items ≡ faults.old.items) }
         ensures spare { AddsNothing self.old (next_call self.old) → IsOk result }

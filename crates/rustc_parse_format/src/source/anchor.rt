@@ -37,7 +37,7 @@ pub struct Anchor<'input> {
     /// The byte offset of that position in the snippet, at which `rest` starts.
     pub offset: usize,
     /// The number of bytes from there on that stand for themselves.
-    pub unescaped: usize,
+    pub unescaped_len: usize,
 }
 
 /// Returns the length in bytes of the first unit of `text`, or 0 if that does not stand for a
@@ -158,7 +158,7 @@ impl<'input> Anchor<'input> {
         Anchor {
             rest,
             offset,
-            unescaped: unescaped_width(snippet, offset),
+            unescaped_len: unescaped_width(snippet, offset),
         }
     }
 
@@ -172,10 +172,10 @@ impl<'input> Anchor<'input> {
         ensures here { (w : World) → IsAnchor snippet.now w self.now
             → IsHere snippet.now w (chars result.0.now) result.1 }
     {
-        let rest_after = after_bytes(self.rest, self.unescaped, rest);
-        let moved = self.rest.len() - rest_after.len();
-        let offset = self.offset + moved;
-        if moved == 0 || moved < self.unescaped {
+        let rest_after = after_bytes(self.rest, self.unescaped_len, rest);
+        let distance = self.rest.len() - rest_after.len();
+        let offset = self.offset + distance;
+        if distance == 0 || distance < self.unescaped_len {
             return (rest_after, offset);
         }
         (rest_after, offset + continuations_width(&snippet[offset..]))
@@ -205,9 +205,9 @@ impl<'input> Anchor<'input> {
         ensures { (w : World) → IsAnchor snippet.now w self.now
             → IsHere snippet.now w (chars rest.now) result }
     {
-        let moved = self.rest.len() - rest.len();
-        if moved == 0 || moved < self.unescaped {
-            return self.offset + moved;
+        let distance = self.rest.len() - rest.len();
+        if distance == 0 || distance < self.unescaped_len {
+            return self.offset + distance;
         }
         self.offset_by_look(snippet, rest)
     }
@@ -232,8 +232,8 @@ impl<'input> Anchor<'input> {
         ensures here { (w : World) → IsAnchor snippet.now w self.old
             → IsAnchor snippet.now w self.new }
     {
-        let moved = self.rest.len() - rest.len();
-        if moved > 0 && moved >= self.unescaped {
+        let distance = self.rest.len() - rest.len();
+        if distance > 0 && distance >= self.unescaped_len {
             *self = Anchor::new(snippet, rest, self.offset_by_look(snippet, rest));
         }
     }
@@ -276,10 +276,10 @@ impl<'input> Anchor<'input> {
             → IsAnchor snippet.now w self.new }
     {
         let rest_after = after_first(rest);
-        let moved = self.rest.len() - rest_after.len();
-        if moved <= self.unescaped {
+        let distance = self.rest.len() - rest_after.len();
+        if distance <= self.unescaped_len {
             let start = self.offset + (self.rest.len() - rest.len());
-            return (start..self.offset + moved, rest_after);
+            return (start..self.offset + distance, rest_after);
         }
         let (place, anchor) = self.pass_by_look(snippet, rest, rest_after);
         *self = anchor;

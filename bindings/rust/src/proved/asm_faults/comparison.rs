@@ -45,13 +45,13 @@ fn is_settled(marks: &[bool], index: usize, slot: &Operand<'_>) -> bool {
 /// Adds the index of an operand, unless it is marked or has a register of its own.
 #[inline]
 fn push_unmarked(
-    unused: &mut Vec<usize>,
+    unused_indices: &mut Vec<usize>,
     marks: &[bool],
     index: usize,
     slot: &Operand<'_>,
 ) -> Result<(), AllocError> {
     if !is_settled(marks, index, slot) {
-        unused.try_push(index)?;
+        unused_indices.try_push(index)?;
     }
     Ok(())
 }
@@ -112,9 +112,12 @@ pub(crate) fn look_up<'a>(
 
 /// Adds the fault of unused operands, if there are any.
 #[inline]
-fn push_unused(faults: &mut Vec<AsmFault<'_>>, unused: Vec<usize>) -> Result<(), AllocError> {
-    if !unused.is_empty() {
-        faults.try_push(AsmFault::UnusedOperands(unused))?;
+fn push_unused(
+    faults: &mut Vec<AsmFault<'_>>,
+    unused_indices: Vec<usize>,
+) -> Result<(), AllocError> {
+    if !unused_indices.is_empty() {
+        faults.try_push(AsmFault::UnusedOperands(unused_indices))?;
     }
     Ok(())
 }
@@ -127,7 +130,7 @@ pub(crate) fn check_unused<'a>(
     lookups: &[Lookup<'a>],
 ) -> Result<(), AllocError> {
     let marks = marks(operands, lookups)?;
-    let unused = unmarked_operands(&operands.slots, &marks)?;
-    push_unused(faults, unused)?;
+    let unused_indices = unmarked_operands(&operands.slots, &marks)?;
+    push_unused(faults, unused_indices)?;
     Ok(())
 }

@@ -34,14 +34,14 @@ pub enum AsmFault<'a> {
         operand: usize,
         /// The first sixteen operands in front of it that have a name, and then the first sixteen
         /// that have a register of their own.
-        others: Vec<usize>,
+        earlier_operands: Vec<usize>,
     },
     /// An operand has the name of an earlier one. Placeholders mean it by its index alone.
     RepeatedName {
         /// The operand.
         operand: usize,
         /// The first operand with the name.
-        first: usize,
+        first_operand: usize,
     },
     /// An operand with a register of its own has a name.
     RegisterName {

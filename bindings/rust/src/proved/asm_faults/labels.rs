@@ -91,10 +91,10 @@ fn push_late(
     labels: &mut Vec<AsmLabel>,
     operands: &[Operand<'_>],
     index: usize,
-    others: &[usize],
+    earlier_operands: &[usize],
 ) -> Result<(), AllocError> {
     push_label(labels, AsmSpot::Operand(index), true, "positional argument")?;
-    push_kinds(labels, operands, others)?;
+    push_kinds(labels, operands, earlier_operands)?;
     Ok(())
 }
 
@@ -163,9 +163,9 @@ fn push_text(
 fn push_unused(
     labels: &mut Vec<AsmLabel>,
     operands: &[Operand<'_>],
-    unused: &[usize],
+    unused_indices: &[usize],
 ) -> Result<(), AllocError> {
-    let mut rest = unused;
+    let mut rest = unused_indices;
     while let Some((index, others)) = rest.split_first() {
         let text = never_used(operands, *index);
         push_label(labels, AsmSpot::Operand(*index), true, text)?;
@@ -180,13 +180,19 @@ impl<'a> AsmCall<'a> {
     pub(crate) fn labels(&self, fault: &AsmFault<'a>) -> Result<Vec<AsmLabel>, AllocError> {
         let mut labels = Vec::new();
         match fault {
-            AsmFault::PositionalAfter { operand, others } => {
-                push_late(&mut labels, &self.operands, *operand, others)?;
+            AsmFault::PositionalAfter {
+                operand,
+                earlier_operands,
+            } => {
+                push_late(&mut labels, &self.operands, *operand, earlier_operands)?;
             }
-            AsmFault::RepeatedName { operand, first } => {
+            AsmFault::RepeatedName {
+                operand,
+                first_operand,
+            } => {
                 let spot = AsmSpot::Operand(*operand);
                 push_label(&mut labels, spot, true, "duplicate argument")?;
-                let spot = AsmSpot::Operand(*first);
+                let spot = AsmSpot::Operand(*first_operand);
                 push_label(&mut labels, spot, false, "previously here")?;
             }
             AsmFault::RegisterName { operand } => {
@@ -201,8 +207,8 @@ impl<'a> AsmCall<'a> {
             AsmFault::Text { template, fault } => {
                 push_text(&mut labels, *template, fault)?;
             }
-            AsmFault::UnusedOperands(unused) => {
-                push_unused(&mut labels, &self.operands, unused)?;
+            AsmFault::UnusedOperands(unused_indices) => {
+                push_unused(&mut labels, &self.operands, unused_indices)?;
             }
         }
         Ok(labels)

@@ -171,9 +171,9 @@ pub(crate) fn push_pieces<'a>(
 ) -> Result<(), AllocError> {
     let mut places = places;
     for piece in pieces {
-        let after = places_after(places, piece);
+        let rest_places = places_after(places, piece);
         push_piece(walk, template, places, piece)?;
-        places = after;
+        places = rest_places;
     }
     Ok(())
 }

@@ -115,8 +115,8 @@ fn push_wrong(
 fn wrong_help(operands: &[Operand<'_>], index: usize) -> Result<Option<AsmNote>, AllocError> {
     match operands.get(index) {
         Some(Operand::Register { .. }) => {
-            let says = "use the register name directly in the assembly code";
-            let text = String::made_from(says)?;
+            let message = "use the register name directly in the assembly code";
+            let text = String::made_from(message)?;
             let spot = Some(AsmSpot::Operand(index));
             Ok(Some(AsmNote { text, spot }))
         }
@@ -179,9 +179,9 @@ fn unused_start(count: usize) -> &'static str {
 
 /// Returns the help of operands that are not used.
 #[inline]
-fn unused_help(operands: &[Operand<'_>], unused: &[usize]) -> Result<AsmNote, AllocError> {
-    let mut text = String::made_from(unused_start(unused.len()))?;
-    put_placeholders(&mut text, operands, unused)?;
+fn unused_help(operands: &[Operand<'_>], unused_indices: &[usize]) -> Result<AsmNote, AllocError> {
+    let mut text = String::made_from(unused_start(unused_indices.len()))?;
+    put_placeholders(&mut text, operands, unused_indices)?;
     text.try_push_str(" */\"`")?;
     Ok(AsmNote { text, spot: None })
 }
@@ -216,8 +216,8 @@ impl<'a> AsmCall<'a> {
     pub(crate) fn help(&self, fault: &AsmFault<'a>) -> Result<Option<AsmNote>, AllocError> {
         match fault {
             AsmFault::WrongIndex { index, .. } => wrong_help(&self.operands, *index),
-            AsmFault::UnusedOperands(unused) => {
-                let help = unused_help(&self.operands, unused)?;
+            AsmFault::UnusedOperands(unused_indices) => {
+                let help = unused_help(&self.operands, unused_indices)?;
                 Ok(Some(help))
             }
             AsmFault::PositionalAfter { .. }

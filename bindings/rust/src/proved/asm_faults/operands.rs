@@ -76,10 +76,10 @@ fn first_of(indices: &[usize]) -> &[usize] {
 /// register of their own.
 #[inline]
 fn others_of(operands: &Operands<'_>) -> Result<Vec<usize>, AllocError> {
-    let mut others = Vec::new();
-    others.try_extend_from_slice(first_of(&operands.named_operands))?;
-    others.try_extend_from_slice(first_of(&operands.registers))?;
-    Ok(others)
+    let mut earlier_operands = Vec::new();
+    earlier_operands.try_extend_from_slice(first_of(&operands.named_operands))?;
+    earlier_operands.try_extend_from_slice(first_of(&operands.registers))?;
+    Ok(earlier_operands)
 }
 
 /// Adds the fault of an operand without a name and without a register of its own, if these others
@@ -88,10 +88,13 @@ fn others_of(operands: &Operands<'_>) -> Result<Vec<usize>, AllocError> {
 fn push_late(
     faults: &mut Vec<AsmFault<'_>>,
     operand: usize,
-    others: Vec<usize>,
+    earlier_operands: Vec<usize>,
 ) -> Result<(), AllocError> {
-    if !others.is_empty() {
-        faults.try_push(AsmFault::PositionalAfter { operand, others })?;
+    if !earlier_operands.is_empty() {
+        faults.try_push(AsmFault::PositionalAfter {
+            operand,
+            earlier_operands,
+        })?;
     }
     Ok(())
 }
@@ -104,8 +107,8 @@ fn add_unnamed<'a>(
     faults: &mut Vec<AsmFault<'a>>,
     index: usize,
 ) -> Result<(), AllocError> {
-    let others = others_of(operands)?;
-    push_late(faults, index, others)?;
+    let earlier_operands = others_of(operands)?;
+    push_late(faults, index, earlier_operands)?;
     operands.slots.try_push(Operand::Unnamed)?;
     Ok(())
 }
@@ -120,10 +123,10 @@ fn add_named<'a>(
     name: &'a str,
 ) -> Result<(), AllocError> {
     match index_of(&operands.names, name) {
-        Some(first) => {
+        Some(first_operand) => {
             faults.try_push(AsmFault::RepeatedName {
                 operand: index,
-                first,
+                first_operand,
             })?;
             operands.slots.try_push(Operand::Unnamed)?;
         }

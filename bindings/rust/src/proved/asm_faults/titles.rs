@@ -77,8 +77,8 @@ pub(crate) fn never_used(operands: &[Operand<'_>], index: usize) -> &'static str
 
 /// Returns the title of operands that are not used.
 #[inline]
-fn unused_title(operands: &[Operand<'_>], unused: &[usize]) -> &'static str {
-    match unused {
+fn unused_title(operands: &[Operand<'_>], unused_indices: &[usize]) -> &'static str {
+    match unused_indices {
         [index] => never_used(operands, *index),
         _ => "multiple unused asm arguments",
     }
@@ -117,10 +117,10 @@ impl<'a> AsmCall<'a> {
                 )?;
                 Ok(())
             }
-            AsmFault::RepeatedName { first, .. } => put_named(
+            AsmFault::RepeatedName { first_operand, .. } => put_named(
                 out,
                 "duplicate argument named ",
-                name_of(&self.operands, *first),
+                name_of(&self.operands, *first_operand),
             ),
             AsmFault::RegisterName { .. } => {
                 out.try_push_str("explicit register arguments cannot have names")?;
@@ -136,8 +136,8 @@ impl<'a> AsmCall<'a> {
                 Ok(())
             }
             AsmFault::Text { fault, .. } => put_text_title(out, fault),
-            AsmFault::UnusedOperands(unused) => {
-                out.try_push_str(unused_title(&self.operands, unused))?;
+            AsmFault::UnusedOperands(unused_indices) => {
+                out.try_push_str(unused_title(&self.operands, unused_indices))?;
                 Ok(())
             }
         }

@@ -16,7 +16,7 @@ use crate::shim::prelude::*;
 use core::ops::Range;
 
 /// A template of a call.
-pub struct Read<'a> {
+pub struct ReadTemplate<'a> {
     /// Its literal.
     pub token: Token<'a>,
     /// The CRs of the literal that stand before LF, as `dropped_crs` returns them.
@@ -33,7 +33,7 @@ pub struct AsmSite<'s, 'a> {
     /// The tokens of the part of the file that has the call.
     pub tokens: &'s [Token<'a>],
     /// Its templates.
-    pub templates: &'s [Read<'a>],
+    pub templates: &'s [ReadTemplate<'a>],
     /// The arguments that are its operands.
     pub operands: &'s [Argument],
 }

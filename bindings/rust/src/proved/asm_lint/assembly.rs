@@ -4,7 +4,7 @@
 // That source has the contracts, and is proved. That this text means the same is only tested.
 
 use crate::proved::asm_faults::{asm_faults, Operand, Template};
-use crate::proved::asm_lint::asm_findings::{put_findings, AsmSite, Read};
+use crate::proved::asm_lint::asm_findings::{put_findings, AsmSite, ReadTemplate};
 use crate::proved::asm_lint::literals::{dropped_crs, read_literal};
 use crate::proved::asm_lint::names::name_of;
 use crate::proved::format_calls::{
@@ -96,13 +96,13 @@ fn first_token<'a>(tokens: &[Token<'a>], argument: &Argument) -> Token<'a> {
 fn read_template<'a>(
     tokens: &[Token<'a>],
     argument: &Argument,
-) -> Result<Option<Read<'a>>, AllocError> {
+) -> Result<Option<ReadTemplate<'a>>, AllocError> {
     let token = first_token(tokens, argument);
     let Some(literal) = read_literal(token.text, false)? else {
         return Ok(None);
     };
     let crs = dropped_crs(token.text)?;
-    Ok(Some(Read {
+    Ok(Some(ReadTemplate {
         token,
         crs,
         literal,
@@ -115,7 +115,7 @@ fn read_template<'a>(
 fn read_templates<'a>(
     tokens: &[Token<'a>],
     arguments: &[Argument],
-) -> Result<Option<Vec<Read<'a>>>, AllocError> {
+) -> Result<Option<Vec<ReadTemplate<'a>>>, AllocError> {
     let mut templates = Vec::new();
     for argument in arguments {
         match read_template(tokens, argument)? {
@@ -128,9 +128,11 @@ fn read_templates<'a>(
 
 /// Returns templates as placeholders are read in them.
 #[inline]
-fn templates_of<'c>(read: &'c [Read<'_>]) -> Result<Vec<Template<'c>>, AllocError> {
+fn templates_of<'c>(
+    template_list: &'c [ReadTemplate<'_>],
+) -> Result<Vec<Template<'c>>, AllocError> {
     let mut templates = Vec::new();
-    for template in read {
+    for template in template_list {
         templates.try_push(Template {
             text: template.literal.text.as_str(),
             style: template.literal.style,
@@ -156,11 +158,14 @@ fn check_call<'c>(
 
 /// Returns the templates whose placeholders count: none with `options(raw)`.
 #[inline]
-fn read_unless<'c>(read: &'c [Read<'_>], are_raw: bool) -> Result<Vec<Template<'c>>, AllocError> {
+fn read_unless<'c>(
+    template_list: &'c [ReadTemplate<'_>],
+    are_raw: bool,
+) -> Result<Vec<Template<'c>>, AllocError> {
     if are_raw {
         return Ok(Vec::new());
     }
-    templates_of(read)
+    templates_of(template_list)
 }
 
 /// Reads a call whose templates are arguments, with the other arguments after them, and adds its
@@ -174,16 +179,16 @@ fn read_literals<'s, 'a>(
     operands: &'s Operands<'a>,
     is_whole: bool,
 ) -> Result<CallReading, AllocError> {
-    let Some(read) = read_templates(tokens, templates)? else {
+    let Some(template_list) = read_templates(tokens, templates)? else {
         return Ok(CallReading::Malformed);
     };
     let site = AsmSite {
         text,
         tokens,
-        templates: &read,
+        templates: &template_list,
         operands: &operands.arguments,
     };
-    let list = read_unless(&read, operands.are_raw)?;
+    let list = read_unless(&template_list, operands.are_raw)?;
     check_call(findings, site, &list, &operands.list, is_whole)?;
     Ok(reading_of(is_whole))
 }

@@ -16,7 +16,7 @@ use crate::shim::prelude::*;
 
 /// Returns whether the token of an index is this word.
 #[inline]
-fn is_word_there(tokens: &[Token<'_>], index: usize, word: &str) -> bool {
+fn has_word_at(tokens: &[Token<'_>], index: usize, word: &str) -> bool {
     match token_at(tokens, index) {
         Some(token) => is_text(&token, word),
         None => false,
@@ -28,10 +28,10 @@ fn is_word_there(tokens: &[Token<'_>], index: usize, word: &str) -> bool {
 fn begins_attribute(tokens: &[Token<'_>], index: usize) -> bool {
     is_mark(tokens, index, b'#')
         && is_mark(tokens, index + 1, b'[')
-        && is_word_there(tokens, index + 2, "diagnostic")
+        && has_word_at(tokens, index + 2, "diagnostic")
         && is_mark(tokens, index + 3, b':')
         && is_mark(tokens, index + 4, b':')
-        && is_word_there(tokens, index + 5, "on_unimplemented")
+        && has_word_at(tokens, index + 5, "on_unimplemented")
         && is_mark(tokens, index + 6, b'(')
 }
 
@@ -50,16 +50,16 @@ fn attribute_at(source: &Source<'_>, index: usize) -> Option<usize> {
 #[inline]
 fn opens_front(tokens: &[Token<'_>], index: usize) -> bool {
     is_mark(tokens, index, b'#') && is_mark(tokens, index + 1, b'[')
-        || is_word_there(tokens, index, "pub") && is_mark(tokens, index + 1, b'(')
+        || has_word_at(tokens, index, "pub") && is_mark(tokens, index + 1, b'(')
 }
 
 /// Returns whether a token is a word of the front of an item.
 #[inline]
 fn is_modifier(tokens: &[Token<'_>], index: usize) -> bool {
-    is_word_there(tokens, index, "pub")
-        || is_word_there(tokens, index, "unsafe")
-        || is_word_there(tokens, index, "auto")
-        || is_word_there(tokens, index, "const")
+    has_word_at(tokens, index, "pub")
+        || has_word_at(tokens, index, "unsafe")
+        || has_word_at(tokens, index, "auto")
+        || has_word_at(tokens, index, "const")
 }
 
 /// Returns the token after the part of the front of an item that stands at a token, or `None` if no
@@ -92,17 +92,17 @@ struct Front {
 fn front_at(source: &Source<'_>, start: usize) -> Result<Front, AllocError> {
     let mut starts = Vec::new();
     let mut end = start;
-    while let Some(after) = after_front(source, end) {
+    while let Some(next_end) = after_front(source, end) {
         starts.try_push(end)?;
-        end = after;
+        end = next_end;
     }
     Ok(Front { starts, end })
 }
 
 /// Returns whether an option sets this word.
 #[inline]
-fn sets(tokens: &[Token<'_>], option: &Argument, word: &str) -> bool {
-    option.is_named && is_word_there(tokens, option.start, word)
+fn sets_word(tokens: &[Token<'_>], option: &Argument, word: &str) -> bool {
+    option.is_named && has_word_at(tokens, option.start, word)
 }
 
 /// Returns the literal that an option sets, or `None` if it sets none.
@@ -116,10 +116,15 @@ fn literal_of<'a>(tokens: &[Token<'a>], option: &Argument) -> Option<Token<'a>> 
 
 /// Returns whether an option counts, where a message and a label have been there or not.
 #[inline]
-fn counts(tokens: &[Token<'_>], has_message: bool, has_label: bool, option: &Argument) -> bool {
-    sets(tokens, option, "message") && !has_message
-        || sets(tokens, option, "label") && !has_label
-        || sets(tokens, option, "note")
+fn is_effective(
+    tokens: &[Token<'_>],
+    has_message: bool,
+    has_label: bool,
+    option: &Argument,
+) -> bool {
+    sets_word(tokens, option, "message") && !has_message
+        || sets_word(tokens, option, "label") && !has_label
+        || sets_word(tokens, option, "note")
 }
 
 /// Adds the literal that an option sets, if it counts.
@@ -132,7 +137,7 @@ fn put_literal<'a>(
     option: &Argument,
 ) -> Result<(), AllocError> {
     if let Some(literal) = literal_of(tokens, option) {
-        if counts(tokens, has_message, has_label, option) {
+        if is_effective(tokens, has_message, has_label, option) {
             literals.try_push(literal)?;
         }
     }
@@ -161,8 +166,8 @@ fn literals<'a>(tokens: &[Token<'a>], options: &[Argument]) -> Result<Vec<Token<
     let mut has_label = false;
     for option in options {
         put_literal(&mut literals, tokens, has_message, has_label, option)?;
-        has_message = has_message || sets(tokens, option, "message");
-        has_label = has_label || sets(tokens, option, "label");
+        has_message = has_message || sets_word(tokens, option, "message");
+        has_label = has_label || sets_word(tokens, option, "label");
     }
     Ok(literals)
 }
@@ -221,7 +226,7 @@ fn read_item<'a>(
     front: &Front,
 ) -> Result<(), AllocError> {
     let tokens = source.tokens();
-    if !is_word_there(tokens, front.end, "trait") {
+    if !has_word_at(tokens, front.end, "trait") {
         return Ok(());
     }
     let parameters = parameters(tokens, front.end + 2)?;

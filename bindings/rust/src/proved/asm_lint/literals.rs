@@ -93,8 +93,8 @@ pub fn dropped_crs(token: &str) -> Result<Vec<usize>, AllocError> {
     let mut rest = token;
     while let Some((c, more)) = split_first(rest) {
         if is_dropped(c, more) {
-            let passed = token.len().saturating_sub(rest.len());
-            offsets.try_push(passed.saturating_sub(offsets.len()))?;
+            let front_len = token.len().saturating_sub(rest.len());
+            offsets.try_push(front_len.saturating_sub(offsets.len()))?;
         }
         rest = more;
     }

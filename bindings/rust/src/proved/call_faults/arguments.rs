@@ -96,7 +96,7 @@ fn add<'a>(
     argument: FormatArgument<'a>,
 ) -> Result<(), AllocError> {
     match first_of(arguments, &argument) {
-        Some(first) => faults.try_push(CallFault::RepeatedName { index, first })?,
+        Some(first_index) => faults.try_push(CallFault::RepeatedName { index, first_index })?,
         None => keep(arguments, index, argument)?,
     }
     Ok(())
@@ -111,13 +111,13 @@ fn is_late<'a>(arguments: &Arguments<'a>, argument: &FormatArgument<'a>) -> bool
 /// Returns the indices of those of arguments that have a name.
 #[inline]
 fn named_of(list: &[Entry<'_>]) -> Result<Vec<usize>, AllocError> {
-    let mut named = Vec::new();
+    let mut named_arguments = Vec::new();
     for entry in list {
         if entry.argument.name.is_some() {
-            named.try_push(entry.index)?;
+            named_arguments.try_push(entry.index)?;
         }
     }
-    Ok(named)
+    Ok(named_arguments)
 }
 
 /// Returns the arguments that count, or `None` if the first one without a name after one with a
@@ -130,8 +130,11 @@ pub(crate) fn arguments_of<'a>(
     let mut arguments = no_arguments();
     for (index, argument) in call_arguments.iter().enumerate() {
         if is_late(&arguments, argument) {
-            let named = named_of(&arguments.list)?;
-            faults.try_push(CallFault::PositionalAfterNamed { index, named })?;
+            let named_arguments = named_of(&arguments.list)?;
+            faults.try_push(CallFault::PositionalAfterNamed {
+                index,
+                named_arguments,
+            })?;
             return Ok(None);
         }
         add(&mut arguments, faults, index, *argument)?;

@@ -27,7 +27,7 @@ pub struct FormatString<'a> {
     pub appended_newline: bool,
     /// Whether a name that no argument has is a variable, as it is where the literal stands in the
     /// call itself.
-    pub captures: bool,
+    pub captures_variables: bool,
 }
 
 /// A call that was checked.
@@ -95,7 +95,7 @@ fn faults_of<'a>(
     let lookups = lookups_of(pieces)?;
     compare(
         &mut faults,
-        string.captures,
+        string.captures_variables,
         &mut arguments,
         call_arguments.len(),
         &lookups,

@@ -5,7 +5,7 @@
 
 use crate::proved::call_faults::arguments::{index_of, insert, Arguments, Entry};
 use crate::proved::call_faults::faults::{CallFault, InvalidReference, Part};
-use crate::proved::call_faults::lookups::{Lookup, Wanted};
+use crate::proved::call_faults::lookups::{ArgRef, Lookup};
 use crate::shim::alloc::AllocError;
 use crate::shim::prelude::*;
 use alloc::collections::BTreeMap;
@@ -14,8 +14,8 @@ use alloc::collections::BTreeMap;
 #[inline]
 fn meant<'a>(arguments: &Arguments<'a>, lookup: &Lookup<'a>) -> Option<usize> {
     match *lookup {
-        Lookup::Refer(_, Wanted::Index(n)) => arguments.list.get(n).map(|entry| entry.index),
-        Lookup::Refer(_, Wanted::Name(name)) => index_of(&arguments.indices, name),
+        Lookup::Refer(_, ArgRef::Index(n)) => arguments.list.get(n).map(|entry| entry.index),
+        Lookup::Refer(_, ArgRef::Name(name)) => index_of(&arguments.indices, name),
         Lookup::NoTrait(..) => None,
     }
 }
@@ -42,7 +42,7 @@ fn marks<'a>(
 #[inline]
 fn reference_beyond(count: usize, lookup: &Lookup<'_>) -> Option<InvalidReference> {
     match *lookup {
-        Lookup::Refer(reference, Wanted::Index(index)) if index >= count => {
+        Lookup::Refer(reference, ArgRef::Index(index)) if index >= count => {
             Some(InvalidReference { reference, index })
         }
         _ => None,
@@ -55,13 +55,13 @@ fn references_from(
     count: usize,
     lookups: &[Lookup<'_>],
 ) -> Result<Vec<InvalidReference>, AllocError> {
-    let mut missing = Vec::new();
+    let mut references = Vec::new();
     for lookup in lookups {
         if let Some(reference) = reference_beyond(count, lookup) {
-            missing.try_push(reference)?;
+            references.try_push(reference)?;
         }
     }
-    Ok(missing)
+    Ok(references)
 }
 
 /// Returns the arguments that are not marked.
@@ -85,18 +85,18 @@ fn unmarked_arguments<'a>(
 fn look_up_one<'a>(
     faults: &mut Vec<CallFault<'a>>,
     indices: &mut BTreeMap<&'a str, usize>,
-    captures: bool,
+    captures_variables: bool,
     lookup: &Lookup<'a>,
 ) -> Result<(), AllocError> {
     match *lookup {
         Lookup::NoTrait(piece, ty) => faults.try_push(CallFault::UnknownTrait { piece, ty })?,
-        Lookup::Refer(reference, Wanted::Name(name)) => {
-            if !captures && index_of(indices, name).is_none() {
+        Lookup::Refer(reference, ArgRef::Name(name)) => {
+            if !captures_variables && index_of(indices, name).is_none() {
                 insert(indices, name, 0)?;
                 faults.try_push(CallFault::MissingName { reference, name })?;
             }
         }
-        Lookup::Refer(_, Wanted::Index(_)) => {}
+        Lookup::Refer(_, ArgRef::Index(_)) => {}
     }
     Ok(())
 }
@@ -106,11 +106,11 @@ fn look_up_one<'a>(
 fn look_up<'a>(
     faults: &mut Vec<CallFault<'a>>,
     indices: &mut BTreeMap<&'a str, usize>,
-    captures: bool,
+    captures_variables: bool,
     lookups: &[Lookup<'a>],
 ) -> Result<(), AllocError> {
     for lookup in lookups {
-        look_up_one(faults, indices, captures, lookup)?;
+        look_up_one(faults, indices, captures_variables, lookup)?;
     }
     Ok(())
 }
@@ -131,7 +131,7 @@ fn misses_name(faults: &[CallFault<'_>]) -> bool {
 fn positions_of<'a>(lookups: &[Lookup<'a>]) -> Result<BTreeMap<&'a str, usize>, AllocError> {
     let mut names = BTreeMap::new();
     for lookup in lookups {
-        if let Lookup::Refer(reference, Wanted::Name(name)) = lookup {
+        if let Lookup::Refer(reference, ArgRef::Name(name)) = lookup {
             if matches!(reference.part, Part::Position) {
                 insert(&mut names, name, 0)?;
             }
@@ -152,20 +152,20 @@ fn is_redundant<'a>(positions: &BTreeMap<&'a str, usize>, entry: &Entry<'a>) -> 
 /// Returns the indices of the redundant ones of arguments that no lookup means.
 #[inline]
 fn redundant_of<'a>(
-    unused: &[Entry<'a>],
+    unused_entries: &[Entry<'a>],
     lookups: &[Lookup<'a>],
 ) -> Result<Vec<usize>, AllocError> {
-    let mut redundant = Vec::new();
-    if unused.is_empty() {
-        return Ok(redundant);
+    let mut redundant_indices = Vec::new();
+    if unused_entries.is_empty() {
+        return Ok(redundant_indices);
     }
     let positions = positions_of(lookups)?;
-    for entry in unused {
+    for entry in unused_entries {
         if is_redundant(&positions, entry) {
-            redundant.try_push(entry.index)?;
+            redundant_indices.try_push(entry.index)?;
         }
     }
-    Ok(redundant)
+    Ok(redundant_indices)
 }
 
 /// Returns the indices of arguments.
@@ -180,19 +180,19 @@ pub(crate) fn indices_of(arguments: &[Entry<'_>]) -> Result<Vec<usize>, AllocErr
 
 /// Adds the fault of arguments that no lookup means: of the redundant ones, or else of all.
 #[inline]
-fn tell_unused<'a>(
+fn push_unused_faults<'a>(
     faults: &mut Vec<CallFault<'a>>,
-    unused: &[Entry<'a>],
+    unused_entries: &[Entry<'a>],
     lookups: &[Lookup<'a>],
 ) -> Result<(), AllocError> {
-    let redundant = redundant_of(unused, lookups)?;
-    if !redundant.is_empty() {
-        faults.try_push(CallFault::RedundantArguments(redundant))?;
+    let redundant_indices = redundant_of(unused_entries, lookups)?;
+    if !redundant_indices.is_empty() {
+        faults.try_push(CallFault::RedundantArguments(redundant_indices))?;
         return Ok(());
     }
-    let unused = indices_of(unused)?;
-    if !unused.is_empty() {
-        faults.try_push(CallFault::UnusedArguments(unused))?;
+    let unused_indices = indices_of(unused_entries)?;
+    if !unused_indices.is_empty() {
+        faults.try_push(CallFault::UnusedArguments(unused_indices))?;
     }
     Ok(())
 }
@@ -201,7 +201,7 @@ fn tell_unused<'a>(
 #[inline]
 fn by_index<'a>(arguments: &[Entry<'a>], lookup: &Lookup<'a>) -> Option<CallFault<'a>> {
     match *lookup {
-        Lookup::Refer(reference, Wanted::Index(n)) => match arguments.get(n) {
+        Lookup::Refer(reference, ArgRef::Index(n)) => match arguments.get(n) {
             Some(entry) if entry.argument.name.is_some() => Some(CallFault::NameUsedByIndex {
                 reference,
                 index: entry.index,
@@ -214,7 +214,7 @@ fn by_index<'a>(arguments: &[Entry<'a>], lookup: &Lookup<'a>) -> Option<CallFaul
 
 /// Adds the faults of lookups that mean an argument with a name by its index.
 #[inline]
-fn tell_by_index<'a>(
+fn push_index_faults<'a>(
     faults: &mut Vec<CallFault<'a>>,
     arguments: &[Entry<'a>],
     lookups: &[Lookup<'a>],
@@ -229,12 +229,12 @@ fn tell_by_index<'a>(
 
 /// Adds the fault of references by an index that is too large, if there are any.
 #[inline]
-fn tell_missing(
+fn push_missing_fault(
     faults: &mut Vec<CallFault<'_>>,
-    missing: Vec<InvalidReference>,
+    references: Vec<InvalidReference>,
 ) -> Result<(), AllocError> {
-    if !missing.is_empty() {
-        faults.try_push(CallFault::MissingArguments(missing))?;
+    if !references.is_empty() {
+        faults.try_push(CallFault::MissingArguments(references))?;
     }
     Ok(())
 }
@@ -243,10 +243,10 @@ fn tell_missing(
 #[inline]
 fn is_settled(
     faults: &[CallFault<'_>],
-    missing: &[InvalidReference],
-    unused: &[Entry<'_>],
+    references: &[InvalidReference],
+    entries: &[Entry<'_>],
 ) -> bool {
-    !misses_name(faults) && missing.is_empty() && unused.is_empty()
+    !misses_name(faults) && references.is_empty() && entries.is_empty()
 }
 
 /// Adds what is wrong between the arguments that count, whose indices are below `count`, and
@@ -254,23 +254,28 @@ fn is_settled(
 #[inline]
 pub(crate) fn compare<'a>(
     faults: &mut Vec<CallFault<'a>>,
-    captures: bool,
+    captures_variables: bool,
     arguments: &mut Arguments<'a>,
     count: usize,
     lookups: &[Lookup<'a>],
 ) -> Result<(), AllocError> {
     let marks = marks(arguments, count, lookups)?;
     let rest = unmarked_arguments(&arguments.list, &marks)?;
-    let missing = references_from(arguments.list.len(), lookups)?;
+    let references = references_from(arguments.list.len(), lookups)?;
     let mut list = Vec::new();
-    look_up(&mut list, &mut arguments.indices, captures, lookups)?;
-    let is_settled = is_settled(&list, &missing, &rest);
+    look_up(
+        &mut list,
+        &mut arguments.indices,
+        captures_variables,
+        lookups,
+    )?;
+    let is_settled = is_settled(&list, &references, &rest);
     faults.try_append(&mut list)?;
-    tell_missing(faults, missing)?;
-    tell_unused(faults, &rest, lookups)?;
+    push_missing_fault(faults, references)?;
+    push_unused_faults(faults, &rest, lookups)?;
     if !is_settled {
         return Ok(());
     }
-    tell_by_index(faults, &arguments.list, lookups)?;
+    push_index_faults(faults, &arguments.list, lookups)?;
     Ok(())
 }

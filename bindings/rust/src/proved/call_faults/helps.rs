@@ -52,8 +52,8 @@ fn unused_help(call: &CallReport<'_>, count: usize) -> Result<Option<CallHelp>, 
     if are_missing(&call.faults) || count != call.indices.len() {
         return Ok(None);
     }
-    let says = "format specifiers use curly braces, consider adding ";
-    let mut text = String::made_from(says)?;
+    let message = "format specifiers use curly braces, consider adding ";
+    let mut text = String::made_from(message)?;
     put_specifiers(&mut text, count)?;
     let mut new = String::new();
     put_placeholders(&mut new, count)?;
@@ -92,13 +92,13 @@ fn push_removals(
 #[inline]
 fn redundant_help(
     arguments: &[FormatArgument<'_>],
-    redundant: &[usize],
+    redundant_indices: &[usize],
 ) -> Result<Option<CallHelp>, AllocError> {
-    if redundant.len() <= 1 || have_names(arguments) {
+    if redundant_indices.len() <= 1 || have_names(arguments) {
         return Ok(None);
     }
     let mut edits = Vec::new();
-    push_removals(&mut edits, arguments, redundant)?;
+    push_removals(&mut edits, arguments, redundant_indices)?;
     let text = String::made_from("this can be removed")?;
     Ok(Some(CallHelp { text, edits }))
 }
@@ -127,8 +127,8 @@ fn by_index_help(
     reference: Reference,
     index: usize,
 ) -> Result<CallHelp, AllocError> {
-    let says = "use the named argument by name to avoid ambiguity";
-    let text = String::made_from(says)?;
+    let message = "use the named argument by name to avoid ambiguity";
+    let text = String::made_from(message)?;
     let new = name_in(reference.part, name_of(call.arguments, index))?;
     let spot = index_spot(&call.pieces, reference);
     single(text, spot, new)
@@ -184,8 +184,8 @@ fn positional_help(
         copied_spot: Some(spot),
         rest: "",
     })?;
-    let says = "consider using a positional formatting argument instead";
-    let text = String::made_from(says)?;
+    let message = "consider using a positional formatting argument instead";
+    let text = String::made_from(message)?;
     Ok(CallHelp { text, edits })
 }
 
@@ -239,8 +239,10 @@ impl<'a> CallReport<'a> {
             | CallFault::UnknownTrait { .. }
             | CallFault::MissingArguments(_) => Ok(None),
             CallFault::Text(fault) => text_help(self, fault),
-            CallFault::UnusedArguments(unused) => unused_help(self, unused.len()),
-            CallFault::RedundantArguments(redundant) => redundant_help(self.arguments, redundant),
+            CallFault::UnusedArguments(unused_indices) => unused_help(self, unused_indices.len()),
+            CallFault::RedundantArguments(redundant_indices) => {
+                redundant_help(self.arguments, redundant_indices)
+            }
             CallFault::NameUsedByIndex { reference, index } => {
                 let help = by_index_help(self, *reference, *index)?;
                 Ok(Some(help))

@@ -26,8 +26,8 @@ fn named_text() -> &'static str {
 
 /// Adds the labels of arguments that have a name.
 #[inline]
-fn push_named(labels: &mut Vec<CallLabel>, named: &[usize]) -> Result<(), AllocError> {
-    let mut rest = named;
+fn push_named(labels: &mut Vec<CallLabel>, named_arguments: &[usize]) -> Result<(), AllocError> {
+    let mut rest = named_arguments;
     while let Some((index, others)) = rest.split_first() {
         push_secondary(labels, Spot::Argument(*index), named_text())?;
         rest = others;
@@ -96,9 +96,9 @@ fn push_text(labels: &mut Vec<CallLabel>, fault: &Fault<'_>) -> Result<(), Alloc
 fn push_unused(
     labels: &mut Vec<CallLabel>,
     arguments: &[FormatArgument<'_>],
-    unused: &[usize],
+    unused_indices: &[usize],
 ) -> Result<(), AllocError> {
-    let mut rest = unused;
+    let mut rest = unused_indices;
     while let Some((index, others)) = rest.split_first() {
         push_primary(labels, Spot::Value(*index), never_used(arguments, *index))?;
         rest = others;
@@ -135,10 +135,10 @@ fn several_text() -> &'static str {
 fn push_many_unused(
     labels: &mut Vec<CallLabel>,
     arguments: &[FormatArgument<'_>],
-    unused: &[usize],
+    unused_indices: &[usize],
 ) -> Result<(), AllocError> {
     push_secondary(labels, Spot::Literal, several_text())?;
-    push_unused(labels, arguments, unused)?;
+    push_unused(labels, arguments, unused_indices)?;
     Ok(())
 }
 
@@ -147,11 +147,11 @@ fn push_many_unused(
 fn push_unused_and_literal(
     labels: &mut Vec<CallLabel>,
     arguments: &[FormatArgument<'_>],
-    unused: &[usize],
+    unused_indices: &[usize],
 ) -> Result<(), AllocError> {
-    match unused {
+    match unused_indices {
         [index] => push_one_unused(labels, arguments, *index)?,
-        _ => push_many_unused(labels, arguments, unused)?,
+        _ => push_many_unused(labels, arguments, unused_indices)?,
     }
     Ok(())
 }
@@ -218,14 +218,14 @@ fn push_bare(labels: &mut Vec<CallLabel>, indices: &[usize]) -> Result<(), Alloc
 fn push_redundant(
     labels: &mut Vec<CallLabel>,
     arguments: &[FormatArgument<'_>],
-    redundant: &[usize],
+    redundant_indices: &[usize],
 ) -> Result<(), AllocError> {
-    if let [index] = redundant {
+    if let [index] = redundant_indices {
         if !have_names(arguments) {
             return push_removal(labels, arguments, *index);
         }
     }
-    push_bare(labels, redundant)
+    push_bare(labels, redundant_indices)
 }
 
 /// Returns the label of an argument with a name that is used by its index.
@@ -238,8 +238,8 @@ fn by_index_text() -> &'static str {
 #[inline]
 fn use_text(name: &str) -> Result<String, AllocError> {
     let mut text = String::new();
-    let before = "this formatting argument uses named argument ";
-    put_name_between(&mut text, before, name, " by position")?;
+    let front = "this formatting argument uses named argument ";
+    put_name_between(&mut text, front, name, " by position")?;
     Ok(text)
 }
 
@@ -267,13 +267,16 @@ impl<'a> CallReport<'a> {
     pub(crate) fn labels(&self, fault: &CallFault<'a>) -> Result<Vec<CallLabel>, AllocError> {
         let mut labels = Vec::new();
         match fault {
-            CallFault::PositionalAfterNamed { index, named } => {
+            CallFault::PositionalAfterNamed {
+                index,
+                named_arguments,
+            } => {
                 let text = "positional arguments must be before named arguments";
                 push_primary(&mut labels, Spot::Argument(*index), text)?;
-                push_named(&mut labels, named)?;
+                push_named(&mut labels, named_arguments)?;
             }
-            CallFault::RepeatedName { index, first } => {
-                push_secondary(&mut labels, Spot::Name(*first), "previously here")?;
+            CallFault::RepeatedName { index, first_index } => {
+                push_secondary(&mut labels, Spot::Name(*first_index), "previously here")?;
                 push_primary(&mut labels, Spot::Name(*index), "duplicate argument")?;
             }
             CallFault::Text(fault) => push_text(&mut labels, fault)?,
@@ -283,17 +286,17 @@ impl<'a> CallReport<'a> {
             CallFault::UnknownTrait { piece, .. } => {
                 push_plain(&mut labels, type_spot(&self.pieces, *piece))?;
             }
-            CallFault::MissingArguments(missing) => {
+            CallFault::MissingArguments(references) => {
                 if !have_numbers(&self.pieces) {
                     return few_labels(self);
                 }
-                push_missing(&mut labels, &self.pieces, missing)?;
+                push_missing(&mut labels, &self.pieces, references)?;
             }
-            CallFault::UnusedArguments(unused) => {
-                push_unused_and_literal(&mut labels, self.arguments, unused)?;
+            CallFault::UnusedArguments(unused_indices) => {
+                push_unused_and_literal(&mut labels, self.arguments, unused_indices)?;
             }
-            CallFault::RedundantArguments(redundant) => {
-                push_redundant(&mut labels, self.arguments, redundant)?;
+            CallFault::RedundantArguments(redundant_indices) => {
+                push_redundant(&mut labels, self.arguments, redundant_indices)?;
             }
             CallFault::NameUsedByIndex { reference, index } => {
                 push_by_index(&mut labels, self, *reference, *index)?;

@@ -10,7 +10,7 @@ use crate::shim::prelude::*;
 
 /// The argument that a reference wants.
 #[derive(Clone, Copy)]
-pub(crate) enum Wanted<'a> {
+pub(crate) enum ArgRef<'a> {
     /// The one of this index.
     Index(usize),
     /// The one with this name.
@@ -21,17 +21,17 @@ pub(crate) enum Wanted<'a> {
 #[derive(Clone, Copy)]
 pub(crate) enum Lookup<'a> {
     /// An argument.
-    Refer(Reference, Wanted<'a>),
+    Refer(Reference, ArgRef<'a>),
     /// A trait that does not exist, for the placeholder of this index with this type.
     NoTrait(usize, &'a str),
 }
 
 /// Returns the argument that a position wants.
 #[inline]
-fn wanted_by<'a>(position: &Position<'a>) -> Wanted<'a> {
+fn arg_ref_of<'a>(position: &Position<'a>) -> ArgRef<'a> {
     match position {
-        Position::ArgumentImplicitlyIs(n) | Position::ArgumentIs(n) => Wanted::Index(*n),
-        Position::ArgumentNamed(name) => Wanted::Name(name),
+        Position::ArgumentImplicitlyIs(n) | Position::ArgumentIs(n) => ArgRef::Index(*n),
+        Position::ArgumentNamed(name) => ArgRef::Name(name),
     }
 }
 
@@ -44,10 +44,10 @@ fn push_count<'a>(
 ) -> Result<(), AllocError> {
     match count {
         Count::CountIsParam(n) | Count::CountIsStar(n) => {
-            list.try_push(Lookup::Refer(reference, Wanted::Index(*n)))?;
+            list.try_push(Lookup::Refer(reference, ArgRef::Index(*n)))?;
         }
         Count::CountIsName(name, _) => {
-            list.try_push(Lookup::Refer(reference, Wanted::Name(name)))?;
+            list.try_push(Lookup::Refer(reference, ArgRef::Name(name)))?;
         }
         Count::CountIs(_) | Count::CountImplied => {}
     }
@@ -80,7 +80,7 @@ fn push_argument<'a>(
     let part = Part::Position;
     list.try_push(Lookup::Refer(
         Reference { piece, part },
-        wanted_by(&argument.position),
+        arg_ref_of(&argument.position),
     ))?;
     let ty = argument.format.ty;
     if !is_known(ty) {

@@ -21,9 +21,9 @@ use core::ops::Range;
 pub(crate) fn push_missing(
     labels: &mut Vec<CallLabel>,
     pieces: &[Piece<'_>],
-    missing: &[InvalidReference],
+    references: &[InvalidReference],
 ) -> Result<(), AllocError> {
-    let mut rest = missing;
+    let mut rest = references;
     while let Some((first, others)) = rest.split_first() {
         push_plain(labels, reference_spot(pieces, first.reference))?;
         rest = others;

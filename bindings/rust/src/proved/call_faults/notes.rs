@@ -27,8 +27,8 @@ fn push_plain(notes: &mut Vec<CallNote>, text: &str) -> Result<(), AllocError> {
 
 /// Adds a note that shows no place, if a test holds.
 #[inline]
-fn push_if(notes: &mut Vec<CallNote>, holds: bool, text: &str) -> Result<(), AllocError> {
-    if holds {
+fn push_if(notes: &mut Vec<CallNote>, has_note: bool, text: &str) -> Result<(), AllocError> {
+    if has_note {
         push_plain(notes, text)?;
     }
     Ok(())
@@ -48,8 +48,8 @@ fn push_text(notes: &mut Vec<CallNote>, fault: &Fault<'_>) -> Result<(), AllocEr
 #[inline]
 fn capture_text(name: &str) -> Result<String, AllocError> {
     let mut text = String::new();
-    let before = "did you intend to capture a variable ";
-    put_name_between(&mut text, before, name, " from the surrounding scope?")?;
+    let front = "did you intend to capture a variable ";
+    put_name_between(&mut text, front, name, " from the surrounding scope?")?;
     Ok(text)
 }
 
@@ -280,11 +280,11 @@ fn redundant_text(count: usize) -> &'static str {
 fn push_redundant<'a>(
     notes: &mut Vec<CallNote>,
     call: &CallReport<'a>,
-    redundant: &[usize],
+    redundant_indices: &[usize],
 ) -> Result<(), AllocError> {
-    let names = variables_of(call.arguments, redundant)?;
+    let names = variables_of(call.arguments, redundant_indices)?;
     let spots = named_positions(&names, &call.pieces)?;
-    let text = String::made_from(redundant_text(redundant.len()))?;
+    let text = String::made_from(redundant_text(redundant_indices.len()))?;
     notes.try_push(CallNote { text, spots })?;
     Ok(())
 }
@@ -303,9 +303,11 @@ impl<'a> CallReport<'a> {
             CallFault::MissingName { name, .. } => push_name(&mut notes, name)?,
             CallFault::UnknownTrait { .. } => push_plain(&mut notes, traits_text())?,
             CallFault::MissingArguments(_) => push_missing(&mut notes, &self.pieces)?,
-            CallFault::UnusedArguments(unused) => push_unused(&mut notes, self, unused.len())?,
-            CallFault::RedundantArguments(redundant) => {
-                push_redundant(&mut notes, self, redundant)?;
+            CallFault::UnusedArguments(unused_indices) => {
+                push_unused(&mut notes, self, unused_indices.len())?
+            }
+            CallFault::RedundantArguments(redundant_indices) => {
+                push_redundant(&mut notes, self, redundant_indices)?;
             }
         }
         Ok(notes)

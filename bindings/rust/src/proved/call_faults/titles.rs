@@ -212,8 +212,8 @@ pub(crate) fn never_used(arguments: &[FormatArgument<'_>], index: usize) -> &'st
 
 /// Returns the title of arguments that are not used.
 #[inline]
-fn unused_title(arguments: &[FormatArgument<'_>], unused: &[usize]) -> &'static str {
-    match unused {
+fn unused_title(arguments: &[FormatArgument<'_>], unused_indices: &[usize]) -> &'static str {
+    match unused_indices {
         [index] => never_used(arguments, *index),
         _ => "multiple unused formatting arguments",
     }
@@ -272,12 +272,12 @@ impl<'a> CallReport<'a> {
                 put_missing(out, self)?;
                 Ok(())
             }
-            CallFault::UnusedArguments(unused) => {
-                out.try_push_str(unused_title(self.arguments, unused))?;
+            CallFault::UnusedArguments(unused_indices) => {
+                out.try_push_str(unused_title(self.arguments, unused_indices))?;
                 Ok(())
             }
-            CallFault::RedundantArguments(redundant) => {
-                put_noun(out, "redundant argument", redundant.len())
+            CallFault::RedundantArguments(redundant_indices) => {
+                put_noun(out, "redundant argument", redundant_indices.len())
             }
             CallFault::NameUsedByIndex { index, .. } => put_name_between(
                 out,

@@ -89,6 +89,6 @@ fn expected_by(
 pub fn expected_at(tokens: &[Token<'_>], index: usize) -> ExpectedTokens {
     let last = token_at(tokens, index.saturating_sub(1));
     let second = token_at(tokens, index.saturating_sub(2));
-    let before = token_at(tokens, index.saturating_sub(3));
-    expected_by(before, second, last)
+    let previous = token_at(tokens, index.saturating_sub(3));
+    expected_by(previous, second, last)
 }

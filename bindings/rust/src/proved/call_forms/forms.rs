@@ -20,7 +20,7 @@ pub enum Form<'a> {
     /// The format string is no string literal.
     NoLiteral {
         /// How many arguments stand after it.
-        others: usize,
+        other_count: usize,
         /// Whether it is a byte string literal.
         is_bytes: bool,
     },
@@ -54,13 +54,13 @@ fn is_bytes(tokens: &[Token<'_>]) -> bool {
 /// Returns what is wrong with an argument that should be the format string, where so many others
 /// stand after it, or `None` if nothing is known to be.
 #[inline]
-fn literal_form<'a>(tokens: &[Token<'a>], others: usize) -> Option<Form<'a>> {
+fn literal_form<'a>(tokens: &[Token<'a>], other_count: usize) -> Option<Form<'a>> {
     let Some(first) = tokens.first() else {
         return None;
     };
     if !matches!(first.kind, Kind::Str | Kind::RawStr) && is_operand(first) && are_path(tokens) {
         return Some(Form::NoLiteral {
-            others,
+            other_count,
             is_bytes: is_bytes(tokens),
         });
     }
@@ -166,29 +166,35 @@ fn is_last(arguments: &[Argument], index: usize, close: usize) -> bool {
     }
 }
 
-/// Returns what is wrong with arguments of which the one with the index `bad` is no expression, and
-/// the one with the index `string` should be the format string. `is_last` is whether the end of the
-/// call follows the one that is no expression.
+/// Returns what is wrong with arguments of which the one with the index `bad_index` is no
+/// expression, and the one with the index `string_index` should be the format string. `is_last` is
+/// whether the end of the call follows the one that is no expression.
 #[inline]
 fn form_at<'a>(
     part: &Part<'a>,
     arguments: &[Argument],
-    string: usize,
-    bad: usize,
+    string_index: usize,
+    bad_index: usize,
     is_last: bool,
 ) -> Option<Form<'a>> {
-    match arguments.get(bad) {
-        Some(argument) if bad >= string => bad_form(part, argument, bad, bad == string, is_last),
+    match arguments.get(bad_index) {
+        Some(argument) if bad_index >= string_index => bad_form(
+            part,
+            argument,
+            bad_index,
+            bad_index == string_index,
+            is_last,
+        ),
         _ => None,
     }
 }
 
 /// Returns whether all arguments before the one with an index are expressions, where the one with
-/// the index `bad`, if any, is the first that is none.
+/// the index `bad_index`, if any, is the first that is none.
 #[inline]
-fn starts_well(bad: Option<usize>, index: usize) -> bool {
-    match bad {
-        Some(bad) => bad >= index,
+fn starts_well(bad_index: Option<usize>, index: usize) -> bool {
+    match bad_index {
+        Some(bad_index) => bad_index >= index,
         None => true,
     }
 }
@@ -223,14 +229,20 @@ fn form_of<'a>(
     if have_variables(part, arguments) {
         return None;
     }
-    let bad = first_bad(part, arguments);
+    let bad_index = first_bad(part, arguments);
     if let Some(string) = part_at(part.tokens(), arguments, index) {
-        if starts_well(bad, index) && has_more(string) {
+        if starts_well(bad_index, index) && has_more(string) {
             return comma_form(string);
         }
     }
-    match bad {
-        Some(bad) => form_at(part, arguments, index, bad, is_last(arguments, bad, close)),
+    match bad_index {
+        Some(bad_index) => form_at(
+            part,
+            arguments,
+            index,
+            bad_index,
+            is_last(arguments, bad_index, close),
+        ),
         None => match part_at(part.tokens(), arguments, index) {
             Some(string) => literal_form(string, others_after(arguments, index)),
             None => {

@@ -14,7 +14,7 @@ pub struct Place {
     /// How many angles are open.
     pub angles: usize,
     /// How many delimiters are open.
-    pub opens: usize,
+    pub open_delimiters: usize,
     /// Whether a parameter may begin.
     pub is_first: bool,
     /// Whether `-` stands before it.
@@ -24,7 +24,7 @@ pub struct Place {
 /// Returns whether a token is the name of a parameter, where one may stand.
 #[inline]
 fn names(place: Place, token: &Token<'_>) -> bool {
-    place.opens == 0 && place.is_first && is_word(token) && !is_text(token, "const")
+    place.open_delimiters == 0 && place.is_first && is_word(token) && !is_text(token, "const")
 }
 
 /// Returns how many angles are open after a token outside of delimiters.
@@ -50,7 +50,7 @@ fn first_after(place: Place, token: &Token<'_>) -> bool {
 fn plain_after(place: Place, token: &Token<'_>) -> Place {
     Place {
         angles: angles_after(place, token),
-        opens: 0,
+        open_delimiters: 0,
         is_first: first_after(place, token),
         is_arrow: is_mark_of(token, b'-'),
     }
@@ -58,10 +58,10 @@ fn plain_after(place: Place, token: &Token<'_>) -> Place {
 
 /// Returns a place with this many open delimiters.
 #[inline]
-fn with_opens(place: Place, opens: usize) -> Place {
+fn with_delimiters(place: Place, open_delimiters: usize) -> Place {
     Place {
         angles: place.angles,
-        opens,
+        open_delimiters,
         is_first: place.is_first,
         is_arrow: false,
     }
@@ -72,7 +72,7 @@ fn with_opens(place: Place, opens: usize) -> Place {
 fn end_place() -> Place {
     Place {
         angles: 0,
-        opens: 0,
+        open_delimiters: 0,
         is_first: false,
         is_arrow: false,
     }
@@ -85,18 +85,18 @@ fn place_after(place: Place, token: &Token<'_>) -> Place {
         return end_place();
     }
     if is_opening(token.side()) {
-        return with_opens(place, place.opens + 1);
+        return with_delimiters(place, place.open_delimiters + 1);
     }
     if matches!(token.side(), Side::Closes(_)) {
-        if place.opens == 0 {
+        if place.open_delimiters == 0 {
             return end_place();
         }
-        return with_opens(place, place.opens - 1);
+        return with_delimiters(place, place.open_delimiters - 1);
     }
-    if place.opens == 0 {
+    if place.open_delimiters == 0 {
         plain_after(place, token)
     } else {
-        with_opens(place, place.opens)
+        with_delimiters(place, place.open_delimiters)
     }
 }
 
@@ -123,7 +123,7 @@ pub fn parameters<'a>(tokens: &[Token<'a>], index: usize) -> Result<Vec<&'a str>
     }
     let mut place = Place {
         angles: 1,
-        opens: 0,
+        open_delimiters: 0,
         is_first: true,
         is_arrow: false,
     };

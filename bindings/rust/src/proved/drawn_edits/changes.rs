@@ -103,12 +103,12 @@ fn put_changed_rows(
     number: usize,
     lines: &[Line<'_>],
 ) -> Result<(), AllocError> {
-    let mut from = 0;
+    let mut first_index = 0;
     for (index, line) in lines.iter().enumerate() {
         if have_addition(&line.parts) {
-            put_kept_lines(out, frame, number + from, &lines[from..index])?;
+            put_kept_lines(out, frame, number + first_index, &lines[first_index..index])?;
             put_changed_row(out, frame, number + index, &line.parts)?;
-            from = index + 1;
+            first_index = index + 1;
         }
     }
     Ok(())
@@ -132,7 +132,7 @@ fn put_new_row(
 
 /// Adds the rows of old lines and of a new one.
 #[inline]
-fn put_replaced(
+fn put_replaced_rows(
     out: &mut String,
     frame: &Frame<'_>,
     number: usize,
@@ -179,21 +179,21 @@ fn put_pluses(
     gap: usize,
     text: &str,
 ) -> Result<usize, AllocError> {
-    let back = text.trim_start();
+    let trimmed_text = text.trim_start();
     let columns = columns_of(text)?;
-    let from_text = columns_of(back)?;
-    if back.is_empty() {
+    let trimmed_columns = columns_of(trimmed_text)?;
+    if trimmed_text.is_empty() {
         put_run(out, ' ', gap)?;
         put_painted_run(out, palette, Style::Addition, '+', columns)?;
         return Ok(0);
     }
-    let Some(before) = gap.checked_add(columns.saturating_sub(from_text)) else {
+    let Some(space_count) = gap.checked_add(columns.saturating_sub(trimmed_columns)) else {
         return crate::shim::alloc::refuse();
     };
-    let signs = columns_of(back.trim_end())?;
-    put_run(out, ' ', before)?;
+    let signs = columns_of(trimmed_text.trim_end())?;
+    put_run(out, ' ', space_count)?;
     put_painted_run(out, palette, Style::Addition, '+', signs)?;
-    Ok(from_text.saturating_sub(signs))
+    Ok(trimmed_columns.saturating_sub(signs))
 }
 
 /// Adds the signs under the additions of a line.
@@ -238,7 +238,7 @@ fn is_whole(parts: &[Part<'_>]) -> bool {
 
 /// Adds the rows of a line in which something is added.
 #[inline]
-fn put_inserted(
+fn put_inserted_rows(
     out: &mut String,
     frame: &Frame<'_>,
     number: usize,
@@ -267,13 +267,13 @@ fn put_line_rows(
     new: &[Line<'_>],
 ) -> Result<(), AllocError> {
     if !do_remove(parts) {
-        return Ok(put_inserted(out, frame, number, new)?);
+        return Ok(put_inserted_rows(out, frame, number, new)?);
     }
     let old = old_lines(parts)?;
     if old.len() >= 1 << (usize::BITS - 5) {
         return crate::shim::alloc::refuse();
     }
-    put_replaced(out, frame, number, &old, new)?;
+    put_replaced_rows(out, frame, number, &old, new)?;
     put_parting(out, frame)?;
     Ok(())
 }
@@ -312,7 +312,7 @@ fn edited_parts<'a>(
 
 /// Adds the rows of edits from a line on.
 #[inline]
-fn put_from(
+fn put_rows_from(
     out: &mut String,
     frame: &Frame<'_>,
     number: usize,
@@ -330,7 +330,7 @@ fn put_from(
 pub fn put_rows(out: &mut String, frame: &Frame<'_>, edits: &[Edit<'_>]) -> Result<(), AllocError> {
     match edits {
         [] => {}
-        [first, ..] => put_from(out, frame, first.extent.start.line, edits)?,
+        [first, ..] => put_rows_from(out, frame, first.extent.start.line, edits)?,
     }
     Ok(())
 }

@@ -6,14 +6,14 @@
 use crate::proved::drawn_edits::edited::{Line, Part};
 use crate::proved::drawn_lines::{
     draws_nothing, has_colours, put_glyphs, put_glyphs_after, put_line_number, put_number_bar,
-    put_painted, put_reset, put_sign, Frame, Palette, Style,
+    put_painted_text, put_reset, put_sign, Frame, Palette, Style,
 };
 use crate::shim::alloc::AllocError;
 use crate::shim::prelude::*;
 
 /// Adds parts of a line without their colours.
 #[inline]
-fn put_plain(out: &mut String, parts: &[Part<'_>]) -> Result<(), AllocError> {
+fn put_plain_parts(out: &mut String, parts: &[Part<'_>]) -> Result<(), AllocError> {
     for part in parts {
         put_glyphs(out, part.text, 0)?;
     }
@@ -22,7 +22,7 @@ fn put_plain(out: &mut String, parts: &[Part<'_>]) -> Result<(), AllocError> {
 
 /// Adds parts of a line in colours, after a sign of this style.
 #[inline]
-fn put_coloured(
+fn put_coloured_parts(
     out: &mut String,
     palette: Palette,
     style: Style,
@@ -48,10 +48,10 @@ fn put_parts(
     parts: &[Part<'_>],
 ) -> Result<(), AllocError> {
     if has_colours(palette) {
-        return Ok(put_coloured(out, palette, style, sign, parts)?);
+        return Ok(put_coloured_parts(out, palette, style, sign, parts)?);
     }
     out.try_push_str(sign)?;
-    put_plain(out, parts)?;
+    put_plain_parts(out, parts)?;
     Ok(())
 }
 
@@ -101,10 +101,10 @@ fn draw_nothing(parts: &[Part<'_>]) -> bool {
 
 /// Adds the text after the bar of a line.
 #[inline]
-fn put_spaced(out: &mut String, parts: &[Part<'_>]) -> Result<(), AllocError> {
+fn put_spaced_text(out: &mut String, parts: &[Part<'_>]) -> Result<(), AllocError> {
     if !draw_nothing(parts) {
         out.try_push_str(" ")?;
-        put_plain(out, parts)?;
+        put_plain_parts(out, parts)?;
     }
     Ok(())
 }
@@ -118,7 +118,7 @@ pub fn put_kept_row(
     parts: &[Part<'_>],
 ) -> Result<(), AllocError> {
     put_number_bar(out, frame, number)?;
-    put_spaced(out, parts)?;
+    put_spaced_text(out, parts)?;
     out.try_push_str("\n")?;
     Ok(())
 }
@@ -148,7 +148,7 @@ fn put_kept_ends(
     last: &[Line<'_>],
 ) -> Result<(), AllocError> {
     put_kept_rows(out, frame, n, first)?;
-    put_painted(out, frame.gutter.palette, Style::Secondary, "...")?;
+    put_painted_text(out, frame.gutter.palette, Style::Secondary, "...")?;
     out.try_push_str("\n")?;
     put_kept_rows(out, frame, m, last)?;
     Ok(())

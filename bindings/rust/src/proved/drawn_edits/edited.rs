@@ -82,15 +82,15 @@ pub fn parts_of<'a>(
     for edit in edits {
         let from = edit.start.max(at);
         let to = edit.end.max(from);
-        let (before, rest_after) = split_within(rest, from - at);
-        let (removed, rest_after) = split_within(rest_after, to - from);
+        let (front_text, rest_after) = split_within(rest, from - at);
+        let (removed_text, rest_after) = split_within(rest_after, to - from);
         list.try_push(Part {
             style: Style::Plain,
-            text: before,
+            text: front_text,
         })?;
         list.try_push(Part {
             style: Style::Removal,
-            text: removed,
+            text: removed_text,
         })?;
         list.try_push(Part {
             style: Style::Addition,
@@ -185,7 +185,7 @@ fn count_to_text(lines: &[Line<'_>]) -> usize {
 /// Adds the lines of parts without what they remove. Leaves out what is after the last edit if the
 /// text of that edit ends a line.
 #[inline]
-fn push_new<'a>(
+fn push_new_part<'a>(
     lines: &mut Vec<Line<'a>>,
     row: &mut Vec<Part<'a>>,
     parts: &[Part<'a>],
@@ -204,7 +204,7 @@ fn push_new<'a>(
 pub fn new_lines<'a>(parts: &[Part<'a>]) -> Result<Vec<Line<'a>>, AllocError> {
     let mut lines = Vec::new();
     let mut row = Vec::new();
-    push_new(&mut lines, &mut row, parts)?;
+    push_new_part(&mut lines, &mut row, parts)?;
     lines.try_push(Line { parts: row })?;
     let count = count_to_text(&lines);
     lines.truncate(count);
@@ -286,8 +286,8 @@ pub fn is_same_end(old: &[Line<'_>], new: &[Line<'_>]) -> Result<bool, AllocErro
         return Ok(false);
     };
     let (_, last) = old.split_at(old.len().saturating_sub(1));
-    let before = text_of(last)?;
-    let mut after = String::new();
-    put_text(&mut after, &line.parts)?;
-    Ok(before.as_str() == after.as_str())
+    let old_text = text_of(last)?;
+    let mut new_text = String::new();
+    put_text(&mut new_text, &line.parts)?;
+    Ok(old_text.as_str() == new_text.as_str())
 }

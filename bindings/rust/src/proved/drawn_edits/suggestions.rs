@@ -6,14 +6,14 @@
 
 use crate::proved::drawn_edits::changes::put_rows;
 use crate::proved::drawn_edits::edited::Edit;
-use crate::proved::drawn_lines::{put_glyphs, put_painted, Frame, Palette, Style};
+use crate::proved::drawn_lines::{put_glyphs, put_painted_text, Frame, Palette, Style};
 use crate::shim::alloc::AllocError;
 use crate::shim::prelude::*;
 
 /// Adds the word that a help begins with.
 #[inline]
 pub fn put_help_word(out: &mut String, palette: Palette) -> Result<(), AllocError> {
-    put_painted(out, palette, Style::Help, "help")?;
+    put_painted_text(out, palette, Style::Help, "help")?;
     out.try_push_str(": ")?;
     Ok(())
 }

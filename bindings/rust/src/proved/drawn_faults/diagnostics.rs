@@ -6,7 +6,9 @@
 
 use crate::proved::drawn_faults::helps::{last_help_line, put_helps, SourceHelp};
 use crate::proved::drawn_faults::marked::{frame_of, last_label_line};
-use crate::proved::drawn_faults::notes::{last_note_line, put_notes, put_titled, SourceNote};
+use crate::proved::drawn_faults::notes::{
+    last_note_line, put_notes, put_titled_labels, SourceNote,
+};
 use crate::proved::drawn_labels::Label;
 use crate::proved::drawn_lines::{
     digits, extent_of, palette_of, put_parting, Frame, Gutter, Palette, Picture,
@@ -122,13 +124,13 @@ fn level_of(level: Level) -> Palette {
 
 /// Adds the drawing of a diagnostic with these labels in a layout.
 #[inline]
-fn put_drawn(
+fn put_drawn_diagnostic(
     out: &mut String,
     frame: &Frame<'_>,
     diagnostic: &Diagnostic<'_>,
     labels: &[Label<'_>],
 ) -> Result<(), AllocError> {
-    put_titled(
+    put_titled_labels(
         out,
         frame,
         frame.gutter.palette,
@@ -153,7 +155,7 @@ fn put_diagnostic(
     let labels = labels_of(picture, diagnostic.labels)?;
     let gutter = gutter_of(picture, diagnostic, &labels)?;
     let frame = frame_of(picture, gutter, &labels);
-    put_drawn(out, &frame, diagnostic, &labels)?;
+    put_drawn_diagnostic(out, &frame, diagnostic, &labels)?;
     Ok(())
 }
 

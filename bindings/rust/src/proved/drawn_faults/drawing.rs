@@ -5,11 +5,13 @@
 // That source has the contracts, and is proved. That this text means the same is only tested.
 
 use crate::proved::drawn_edits::{put_edit, Edit};
-use crate::proved::drawn_faults::labels::{edit_of, frame_for, second, text_name};
-use crate::proved::drawn_labels::{mark_in, put_labelled, put_long, put_two_labels, Label};
+use crate::proved::drawn_faults::labels::{edit_of, frame_for, second_label, text_name};
+use crate::proved::drawn_labels::{
+    mark_in, put_labelled_line, put_long_label, put_two_labels, Label,
+};
 use crate::proved::drawn_lines::{
     extent_of, has_colours, put_closing, put_decimal, put_glyphs, put_note_sign, put_opening,
-    put_painted, put_parting, put_run, Frame, Gutter, Palette, Picture, Spot, Style,
+    put_painted_text, put_parting, put_run, Frame, Gutter, Palette, Picture, Spot, Style,
 };
 use crate::proved::rustc_parse_format::{ParseError, ParseMode};
 use crate::shim::alloc::AllocError;
@@ -21,7 +23,7 @@ fn put_title_start(out: &mut String, palette: Palette) -> Result<(), AllocError>
     if !has_colours(palette) {
         return Ok(out.try_push_str("error: invalid ")?);
     }
-    put_painted(out, palette, Style::Primary, "error")?;
+    put_painted_text(out, palette, Style::Primary, "error")?;
     put_opening(out, palette, Style::Bold)?;
     out.try_push_str(": invalid ")?;
     Ok(())
@@ -50,7 +52,7 @@ pub fn put_arrow(out: &mut String, frame: &Frame<'_>, at: Spot) -> Result<(), Al
     let line = frame.picture.line_start as usize + at.line;
     let column = at.chars + 1;
     put_run(out, ' ', frame.gutter.columns)?;
-    put_painted(out, frame.gutter.palette, Style::Secondary, "--> ")?;
+    put_painted_text(out, frame.gutter.palette, Style::Secondary, "--> ")?;
     put_glyphs(out, frame.picture.path, 0)?;
     out.try_push_str(":")?;
     put_decimal(out, line)?;
@@ -79,9 +81,9 @@ fn put_head(
 #[inline]
 fn put_label(out: &mut String, frame: &Frame<'_>, label: &Label<'_>) -> Result<(), AllocError> {
     if label.extent.start.line == label.extent.end.line {
-        put_labelled(out, frame, &mark_in(frame, label))?;
+        put_labelled_line(out, frame, &mark_in(frame, label))?;
     } else {
-        put_long(out, frame, label)?;
+        put_long_label(out, frame, label)?;
     }
     Ok(())
 }
@@ -152,7 +154,7 @@ fn put_help(
 
 /// Adds the rows below the labels.
 #[inline]
-fn put_below(
+fn put_rows_below_labels(
     out: &mut String,
     frame: &Frame<'_>,
     note: &Option<String>,
@@ -173,13 +175,13 @@ fn put_with_label(
     error: &ParseError,
     label: &Label<'_>,
 ) -> Result<(), AllocError> {
-    let second = second(mode, picture, error);
+    let second = second_label(mode, picture, error);
     let edit = edit_of(mode, picture, &error.suggestion);
     let frame = frame_for(picture, label, &second, &edit);
     let description = error.description.as_str();
     put_head(out, mode, &frame, description, label.extent.start)?;
     put_labels(out, &frame, label, &second)?;
-    put_below(out, &frame, &error.note, &edit)?;
+    put_rows_below_labels(out, &frame, &error.note, &edit)?;
     out.try_push_str("\n")?;
     Ok(())
 }

@@ -5,8 +5,10 @@
 
 use crate::proved::drawn_edits::{placed_edit, put_edits, put_help_word, Edit};
 use crate::proved::drawn_faults::marked::last_edit_line;
-use crate::proved::drawn_faults::notes::put_indented;
-use crate::proved::drawn_lines::{put_glyphs, put_painted, put_run, Frame, Gutter, Picture, Style};
+use crate::proved::drawn_faults::notes::put_indented_text;
+use crate::proved::drawn_lines::{
+    put_glyphs, put_painted_text, put_run, Frame, Gutter, Picture, Style,
+};
 use crate::proved::fault_fixes::Edit as SourceEdit;
 use crate::shim::alloc::AllocError;
 use crate::shim::prelude::*;
@@ -53,8 +55,8 @@ pub fn last_help_line(
 fn put_help_row_word(out: &mut String, gutter: Gutter) -> Result<(), AllocError> {
     put_run(out, ' ', gutter.columns)?;
     out.try_push_str(" ")?;
-    put_painted(out, gutter.palette, Style::Secondary, "= ")?;
-    put_painted(out, gutter.palette, Style::Bold, "help")?;
+    put_painted_text(out, gutter.palette, Style::Secondary, "= ")?;
+    put_painted_text(out, gutter.palette, Style::Bold, "help")?;
     out.try_push_str(": ")?;
     Ok(())
 }
@@ -63,7 +65,7 @@ fn put_help_row_word(out: &mut String, gutter: Gutter) -> Result<(), AllocError>
 #[inline]
 fn put_help_row(out: &mut String, gutter: Gutter, text: &str) -> Result<(), AllocError> {
     put_help_row_word(out, gutter)?;
-    put_indented(out, gutter, text)?;
+    put_indented_text(out, gutter, text)?;
     out.try_push_str("\n")?;
     Ok(())
 }

@@ -41,7 +41,7 @@ fn second_text(mode: ParseMode, error: &ParseError) -> Option<(&str, &Range<usiz
 
 /// Returns the second label, or `None` if there is none.
 #[inline]
-pub fn second<'a>(
+pub fn second_label<'a>(
     mode: ParseMode,
     picture: &Picture<'_>,
     error: &'a ParseError,
@@ -100,7 +100,7 @@ fn other_line(label: &Label<'_>, second: &Option<Label<'_>>) -> usize {
 
 /// Returns the least indent, where a blank line has none.
 #[inline]
-fn least(m: Option<usize>, n: Option<usize>) -> usize {
+fn lesser_indent(m: Option<usize>, n: Option<usize>) -> usize {
     match (m, n) {
         (None, None) => 0,
         (None, Some(n)) => n,
@@ -121,9 +121,9 @@ fn least(m: Option<usize>, n: Option<usize>) -> usize {
 fn least_indent(picture: &Picture<'_>, number: usize, other: usize) -> usize {
     let indent = line_indent(picture, number);
     if other == number {
-        return least(indent, indent);
+        return lesser_indent(indent, indent);
     }
-    least(indent, line_indent(picture, other))
+    lesser_indent(indent, line_indent(picture, other))
 }
 
 /// Returns the layout for labels and an edit.

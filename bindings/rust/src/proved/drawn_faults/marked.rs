@@ -6,7 +6,7 @@
 
 use crate::proved::drawn_edits::Edit;
 use crate::proved::drawn_labels::{
-    from_right, mark_in, put_long, put_mark_rows, window_of, Label, Mark,
+    mark_in, marks_from_right, put_long_label, put_mark_rows, window_of, Label, Mark,
 };
 use crate::proved::drawn_lines::{
     line_indent, put_code, put_gap, Frame, Gutter, Picture, Spot, ORIGIN,
@@ -36,7 +36,7 @@ pub fn last_edit_line(last: usize, edits: &[Edit<'_>]) -> usize {
 
 /// Returns the lower of two indents, of which a blank line has none.
 #[inline]
-fn lower(m: Option<usize>, n: Option<usize>) -> Option<usize> {
+fn lower_indent(m: Option<usize>, n: Option<usize>) -> Option<usize> {
     match (m, n) {
         (None, n) => n,
         (Some(m), None) => Some(m),
@@ -47,12 +47,12 @@ fn lower(m: Option<usize>, n: Option<usize>) -> Option<usize> {
 /// Returns the lowest indent of the lines in which labels begin and end, or `None` if these are
 /// blank.
 #[inline]
-fn lowest(picture: &Picture<'_>, labels: &[Label<'_>]) -> Option<usize> {
+fn lowest_of_labels(picture: &Picture<'_>, labels: &[Label<'_>]) -> Option<usize> {
     let mut least = None;
     for label in labels {
         let first = line_indent(picture, label.extent.start.line);
         let last = line_indent(picture, label.extent.end.line);
-        least = lower(lower(least, first), last);
+        least = lower_indent(lower_indent(least, first), last);
     }
     least
 }
@@ -60,7 +60,7 @@ fn lowest(picture: &Picture<'_>, labels: &[Label<'_>]) -> Option<usize> {
 /// Returns the lowest indent of the lines in which labels begin and end, or 0 if these are blank.
 #[inline]
 fn lowest_indent(picture: &Picture<'_>, labels: &[Label<'_>]) -> usize {
-    match lowest(picture, labels) {
+    match lowest_of_labels(picture, labels) {
         None => 0,
         Some(indent) => indent,
     }
@@ -94,7 +94,7 @@ fn is_first(first: Option<Spot>, start: Spot) -> bool {
 /// Returns where a label begins, if it is primary and that is in front of `first`, and else
 /// `first`.
 #[inline]
-fn earlier(first: Option<Spot>, label: &Label<'_>) -> Option<Spot> {
+fn earlier_spot(first: Option<Spot>, label: &Label<'_>) -> Option<Spot> {
     if label.sign == '^' && is_first(first, label.extent.start) {
         Some(label.extent.start)
     } else {
@@ -108,7 +108,7 @@ fn earlier(first: Option<Spot>, label: &Label<'_>) -> Option<Spot> {
 pub fn first_spot(labels: &[Label<'_>]) -> Spot {
     let mut spot = None;
     for label in labels {
-        spot = earlier(spot, label);
+        spot = earlier_spot(spot, label);
     }
     spot.unwrap_or(ORIGIN)
 }
@@ -120,7 +120,7 @@ fn marks_of<'a>(frame: &Frame<'_>, labels: &[Label<'a>]) -> Result<Vec<Mark<'a>>
     for label in labels {
         list.try_push(mark_in(frame, label))?;
     }
-    from_right(&list)
+    marks_from_right(&list)
 }
 
 /// Returns those of labels that begin in a line.
@@ -196,10 +196,10 @@ fn put_marked_lines(
     frame: &Frame<'_>,
     marks: &[Mark<'_>],
 ) -> Result<(), AllocError> {
-    let mut before = None;
+    let mut previous_line = None;
     for (index, mark) in marks.iter().enumerate() {
-        put_next_line(out, frame, before, mark.line, &marks[index..])?;
-        before = Some(mark.line);
+        put_next_line(out, frame, previous_line, mark.line, &marks[index..])?;
+        previous_line = Some(mark.line);
     }
     Ok(())
 }
@@ -218,11 +218,15 @@ fn put_each_in_line(
 
 /// Adds the lines of a label that is alone.
 #[inline]
-fn put_single(out: &mut String, frame: &Frame<'_>, label: &Label<'_>) -> Result<(), AllocError> {
+fn put_single_label(
+    out: &mut String,
+    frame: &Frame<'_>,
+    label: &Label<'_>,
+) -> Result<(), AllocError> {
     if label.extent.start.line == label.extent.end.line {
         put_each_in_line(out, frame, &[*label])?;
     } else {
-        put_long(out, frame, label)?;
+        put_long_label(out, frame, label)?;
     }
     Ok(())
 }
@@ -235,7 +239,7 @@ pub fn put_labels_rows(
     labels: &[Label<'_>],
 ) -> Result<(), AllocError> {
     match labels {
-        [label] => put_single(out, frame, label)?,
+        [label] => put_single_label(out, frame, label)?,
         _ => put_each_in_line(out, frame, labels)?,
     }
     Ok(())

@@ -8,8 +8,8 @@ use crate::proved::drawn_faults::drawing::{put_arrow, put_note_word};
 use crate::proved::drawn_faults::marked::{first_spot, frame_of, last_label_line, put_labels_rows};
 use crate::proved::drawn_labels::Label;
 use crate::proved::drawn_lines::{
-    extent_of, glyph, glyph_count, palette_of, put_closing, put_glyphs, put_opening, put_painted,
-    put_parting, put_run, split_first, Frame, Gutter, Palette, Picture, Style,
+    extent_of, glyph, glyph_count, palette_of, put_closing, put_glyphs, put_opening,
+    put_painted_text, put_parting, put_run, split_first, Frame, Gutter, Palette, Picture, Style,
 };
 use crate::shim::alloc::AllocError;
 use crate::shim::prelude::*;
@@ -58,7 +58,7 @@ pub fn last_note_line(
 
 /// Adds a title, in these colours, after a word, and labels under it.
 #[inline]
-pub fn put_titled(
+pub fn put_titled_labels(
     out: &mut String,
     frame: &Frame<'_>,
     palette: Palette,
@@ -66,7 +66,7 @@ pub fn put_titled(
     title: &str,
     labels: &[Label<'_>],
 ) -> Result<(), AllocError> {
-    put_painted(out, frame.gutter.palette, Style::Primary, word)?;
+    put_painted_text(out, frame.gutter.palette, Style::Primary, word)?;
     put_opening(out, palette, Style::Bold)?;
     out.try_push_str(": ")?;
     put_glyphs(out, title, 0)?;
@@ -90,7 +90,7 @@ fn put_margin(out: &mut String, gutter: Gutter, c: char) -> Result<(), AllocErro
 
 /// Adds a text whose lines but the first one begin with a margin.
 #[inline]
-pub fn put_indented(out: &mut String, gutter: Gutter, text: &str) -> Result<(), AllocError> {
+pub fn put_indented_text(out: &mut String, gutter: Gutter, text: &str) -> Result<(), AllocError> {
     let mut rest = text;
     while let Some((c, tail)) = split_first(rest) {
         put_run(out, glyph(c), glyph_count(c))?;
@@ -104,7 +104,7 @@ pub fn put_indented(out: &mut String, gutter: Gutter, text: &str) -> Result<(), 
 #[inline]
 fn put_plain_note(out: &mut String, gutter: Gutter, text: &str) -> Result<(), AllocError> {
     put_note_word(out, gutter)?;
-    put_indented(out, gutter, text)?;
+    put_indented_text(out, gutter, text)?;
     out.try_push_str("\n")?;
     Ok(())
 }
@@ -124,7 +124,7 @@ fn put_shown_note(
             let columns = gutter.columns;
             let palette = palette_of(picture.colours, Palette::Note);
             let frame = frame_of(picture, Gutter { columns, palette }, labels);
-            put_titled(out, &frame, Palette::Colourless, "note", text, labels)?;
+            put_titled_labels(out, &frame, Palette::Colourless, "note", text, labels)?;
         }
     }
     Ok(())

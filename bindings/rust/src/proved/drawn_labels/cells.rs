@@ -49,7 +49,7 @@ pub fn space() -> Cell {
 
 /// Puts a cell into a column of a row.
 #[inline]
-pub fn put_at(row: &mut Vec<Cell>, column: usize, cell: Cell) -> Result<(), AllocError> {
+pub fn put_cell_at(row: &mut Vec<Cell>, column: usize, cell: Cell) -> Result<(), AllocError> {
     while row.len() < column {
         row.try_push(space())?;
     }
@@ -72,7 +72,7 @@ pub fn put_run_at(
     let mut column = start;
     let mut countdown = count;
     while countdown > 0 {
-        put_at(row, column, cell)?;
+        put_cell_at(row, column, cell)?;
         column += 1;
         countdown -= 1;
     }
@@ -81,20 +81,20 @@ pub fn put_run_at(
 
 /// Puts a space and then a text, as it is drawn, into a row from a column on.
 #[inline]
-pub fn put_after(
+pub fn put_spaced_text(
     row: &mut Vec<Cell>,
     start: usize,
     style: Style,
     text: &str,
 ) -> Result<(), AllocError> {
     let column = put_run_at(row, start, 1, space())?;
-    put_from(row, column, style, text)?;
+    put_text_from(row, column, style, text)?;
     Ok(())
 }
 
 /// Puts a text, as it is drawn, into a row from a column on.
 #[inline]
-pub fn put_from(
+pub fn put_text_from(
     row: &mut Vec<Cell>,
     start: usize,
     style: Style,
@@ -112,7 +112,7 @@ pub fn put_from(
 
 /// Adds the characters of cells in their styles.
 #[inline]
-fn put_in_styles(out: &mut String, palette: Palette, cells: &[Cell]) -> Result<(), AllocError> {
+fn put_styled_cells(out: &mut String, palette: Palette, cells: &[Cell]) -> Result<(), AllocError> {
     let mut style = Style::Plain;
     for cell in cells {
         put_change(out, palette, style, cell.style)?;
@@ -125,9 +125,13 @@ fn put_in_styles(out: &mut String, palette: Palette, cells: &[Cell]) -> Result<(
 
 /// Adds the characters of cells, in their styles if there are colours.
 #[inline]
-pub fn put_written(out: &mut String, palette: Palette, cells: &[Cell]) -> Result<(), AllocError> {
+pub fn put_written_cells(
+    out: &mut String,
+    palette: Palette,
+    cells: &[Cell],
+) -> Result<(), AllocError> {
     if has_colours(palette) {
-        return Ok(put_in_styles(out, palette, cells)?);
+        return Ok(put_styled_cells(out, palette, cells)?);
     }
     for cell in cells {
         out.try_push(cell.character)?;

@@ -12,7 +12,7 @@ use crate::shim::prelude::*;
 #[derive(Clone, Copy)]
 pub struct HungLabel<'a> {
     pub mark: Mark<'a>,
-    pub down: usize,
+    pub depth: usize,
 }
 
 /// Returns whether a label has a text.
@@ -59,62 +59,62 @@ fn is_reaching(n: &Mark<'_>, m: &Mark<'_>) -> bool {
 }
 
 /// Returns whether the texts of labels hang a row below that of a label right of them, which hangs
-/// `down` rows below the signs.
+/// `least_depth` rows below the signs.
 #[inline]
-fn is_lowering(down: usize, mark: &Mark<'_>, others: &[Mark<'_>]) -> bool {
+fn is_lowering(least_depth: usize, mark: &Mark<'_>, others: &[Mark<'_>]) -> bool {
     for other in others {
-        if is_reaching(other, mark) && (has_text(mark) || (other.end <= mark.end && down == 0)) {
+        if is_reaching(other, mark)
+            && (has_text(mark) || (other.end <= mark.end && least_depth == 0))
+        {
             return true;
         }
     }
     false
 }
 
-/// Returns how far down the text of a label hangs, where those right of it hang `down` rows down.
+/// Returns how far down the text of a label hangs, where those right of it hang `least_depth` rows
+/// down.
 #[inline]
-fn depth_of(down: usize, mark: &Mark<'_>, others: &[Mark<'_>]) -> usize {
-    if down == 0 && is_crossed(mark, others) {
+fn depth_of(least_depth: usize, mark: &Mark<'_>, others: &[Mark<'_>]) -> usize {
+    if least_depth == 0 && is_crossed(mark, others) {
         1
     } else {
-        down
+        least_depth
     }
 }
 
 /// Returns how far down the texts of labels left of a label hang at least.
 #[inline]
-fn depth_after(down: usize, mark: &Mark<'_>, others: &[Mark<'_>]) -> usize {
-    if is_lowering(down, mark, others) {
-        down + 1
+fn depth_after(least_depth: usize, mark: &Mark<'_>, others: &[Mark<'_>]) -> usize {
+    if is_lowering(least_depth, mark, others) {
+        least_depth + 1
     } else {
-        down
+        least_depth
     }
 }
 
 /// Returns the labels of a line, from right to left, with how far down they hang.
 #[inline]
-pub fn hang<'a>(marks: &[Mark<'a>]) -> Result<Vec<HungLabel<'a>>, AllocError> {
+pub fn hung_labels<'a>(marks: &[Mark<'a>]) -> Result<Vec<HungLabel<'a>>, AllocError> {
     if marks.len() >= 1 << (usize::BITS - 5) {
         return crate::shim::alloc::refuse();
     }
     let mut list = Vec::new();
-    let mut down = 0;
+    let mut least_depth = 0;
     for mark in marks {
         let others = &marks[list.len() + 1..];
-        let depth = depth_of(down, mark, others);
-        down = depth_after(depth, mark, others);
-        list.try_push(HungLabel {
-            mark: *mark,
-            down: depth,
-        })?;
+        let depth = depth_of(least_depth, mark, others);
+        least_depth = depth_after(depth, mark, others);
+        list.try_push(HungLabel { mark: *mark, depth })?;
     }
     Ok(list)
 }
 
 /// Returns how far down the text of a label hangs.
 #[inline]
-fn text_depth(hung: &HungLabel<'_>) -> usize {
-    if has_text(&hung.mark) {
-        hung.down
+fn text_depth(label: &HungLabel<'_>) -> usize {
+    if has_text(&label.mark) {
+        label.depth
     } else {
         0
     }
@@ -122,10 +122,10 @@ fn text_depth(hung: &HungLabel<'_>) -> usize {
 
 /// Returns how far down the texts of labels hang at most.
 #[inline]
-pub fn depth(hung: &[HungLabel<'_>]) -> usize {
-    let mut most = 0;
-    for first in hung {
-        most = text_depth(first).max(most);
+pub fn depth(labels: &[HungLabel<'_>]) -> usize {
+    let mut max_depth = 0;
+    for first in labels {
+        max_depth = text_depth(first).max(max_depth);
     }
-    most
+    max_depth
 }

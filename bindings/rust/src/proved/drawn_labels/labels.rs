@@ -5,7 +5,7 @@
 // That source has the contracts, and is proved. That this text means the same is only tested.
 
 use crate::proved::drawn_labels::mark::Mark;
-use crate::proved::drawn_labels::rows::{put_both, put_one};
+use crate::proved::drawn_labels::rows::{put_both_rows, put_lone_row};
 use crate::proved::drawn_lines::{put_code, put_gap, shift, Extent, Frame};
 use crate::shim::alloc::AllocError;
 use crate::shim::prelude::*;
@@ -49,27 +49,27 @@ pub fn mark_in<'a>(frame: &Frame<'_>, label: &Label<'a>) -> Mark<'a> {
 
 /// Adds a line of the source with a label.
 #[inline]
-pub fn put_labelled(
+pub fn put_labelled_line(
     out: &mut String,
     frame: &Frame<'_>,
     mark: &Mark<'_>,
 ) -> Result<(), AllocError> {
     put_code(out, frame, mark.line)?;
-    put_one(out, frame.gutter, mark)?;
+    put_lone_row(out, frame.gutter, mark)?;
     Ok(())
 }
 
 /// Adds two lines with labels, of which `m` is the first one.
 #[inline]
-fn put_apart(
+fn put_lines_apart(
     out: &mut String,
     frame: &Frame<'_>,
     m: &Mark<'_>,
     n: &Mark<'_>,
 ) -> Result<(), AllocError> {
-    put_labelled(out, frame, m)?;
+    put_labelled_line(out, frame, m)?;
     put_gap(out, frame, m.line, n.line)?;
-    put_labelled(out, frame, n)?;
+    put_labelled_line(out, frame, n)?;
     Ok(())
 }
 
@@ -83,11 +83,11 @@ pub fn put_two_labels(
 ) -> Result<(), AllocError> {
     if m.line == n.line {
         put_code(out, frame, m.line)?;
-        put_both(out, frame.gutter, m, n)?;
+        put_both_rows(out, frame.gutter, m, n)?;
     } else if m.line < n.line {
-        put_apart(out, frame, m, n)?;
+        put_lines_apart(out, frame, m, n)?;
     } else {
-        put_apart(out, frame, n, m)?;
+        put_lines_apart(out, frame, n, m)?;
     }
     Ok(())
 }

@@ -5,8 +5,9 @@
 
 use crate::proved::drawn_labels::labels::Label;
 use crate::proved::drawn_lines::{
-    line, put_closing, put_gutter, put_number_bar, put_opening, put_painted, put_painted_glyphs,
-    put_run, put_source, put_source_line, shift, split_first, Frame, Gutter, Palette, Style,
+    line, put_closing, put_gutter, put_number_bar, put_opening, put_painted_glyphs,
+    put_painted_text, put_run, put_source, put_source_line, shift, split_first, Frame, Gutter,
+    Palette, Style,
 };
 use crate::shim::alloc::AllocError;
 use crate::shim::prelude::*;
@@ -90,7 +91,7 @@ fn put_signed_row(
 ) -> Result<(), AllocError> {
     put_number_bar(out, frame, number)?;
     out.try_push_str(" ")?;
-    put_painted(out, frame.gutter.palette, Style::Primary, sign)?;
+    put_painted_text(out, frame.gutter.palette, Style::Primary, sign)?;
     put_source_line(out, frame, " ", number)?;
     Ok(())
 }
@@ -127,9 +128,9 @@ fn put_bar_gap(
     if last == first + 2 {
         put_bar_row(out, frame, first + 1)?;
     } else if last > first + 2 {
-        put_painted(out, frame.gutter.palette, Style::Secondary, "...")?;
+        put_painted_text(out, frame.gutter.palette, Style::Secondary, "...")?;
         put_run(out, ' ', frame.gutter.columns)?;
-        put_painted(out, frame.gutter.palette, Style::Primary, "|")?;
+        put_painted_text(out, frame.gutter.palette, Style::Primary, "|")?;
         out.try_push_str("\n")?;
     }
     Ok(())
@@ -211,7 +212,7 @@ fn put_last_rows(out: &mut String, frame: &Frame<'_>, label: &Label<'_>) -> Resu
 
 /// Adds the rows between the first and the last line of a label.
 #[inline]
-fn put_between(
+fn put_rows_between(
     out: &mut String,
     frame: &Frame<'_>,
     first: usize,
@@ -231,9 +232,13 @@ fn put_between(
 
 /// Adds the lines of a label over several lines.
 #[inline]
-pub fn put_long(out: &mut String, frame: &Frame<'_>, label: &Label<'_>) -> Result<(), AllocError> {
+pub fn put_long_label(
+    out: &mut String,
+    frame: &Frame<'_>,
+    label: &Label<'_>,
+) -> Result<(), AllocError> {
     put_first_rows(out, frame, label)?;
-    put_between(out, frame, label.extent.start.line, label.extent.end.line)?;
+    put_rows_between(out, frame, label.extent.start.line, label.extent.end.line)?;
     put_last_rows(out, frame, label)?;
     Ok(())
 }

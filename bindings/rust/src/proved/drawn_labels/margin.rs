@@ -21,7 +21,7 @@ pub struct Reach {
 }
 
 /// The most columns that the text of a label is counted for.
-const MOST: usize = 1 << (usize::BITS - 4);
+const MAX_TEXT_LEN: usize = 1 << (usize::BITS - 4);
 
 /// Returns how many columns the text of a label is counted for, with the space in front of it.
 #[inline]
@@ -29,7 +29,7 @@ fn text_columns(text: &str) -> usize {
     if text.is_empty() {
         0
     } else {
-        1 + text.len().min(MOST)
+        1 + text.len().min(MAX_TEXT_LEN)
     }
 }
 
@@ -41,26 +41,26 @@ fn line_columns(source: &str, number: usize) -> usize {
 
 /// A line of the source, and how many columns it has.
 #[derive(Clone, Copy)]
-struct Measured {
+struct MeasuredLine {
     line: usize,
     columns: usize,
 }
 
 /// Returns the line in which a label begins, and its columns.
 #[inline]
-fn start_line(source: &str, label: &Label<'_>) -> Measured {
+fn start_line(source: &str, label: &Label<'_>) -> MeasuredLine {
     let line = label.extent.start.line;
-    Measured {
+    MeasuredLine {
         line,
         columns: line_columns(source, line),
     }
 }
 
-/// Returns how many columns a line of the source has. Most often it is the line `known`.
+/// Returns how many columns a line of the source has. Most often it is the line `known_line`.
 #[inline]
-fn columns_of(source: &str, number: usize, known: Measured) -> usize {
-    if number == known.line {
-        known.columns
+fn columns_of(source: &str, number: usize, known_line: MeasuredLine) -> usize {
+    if number == known_line.line {
+        known_line.columns
     } else {
         line_columns(source, number)
     }
@@ -68,12 +68,12 @@ fn columns_of(source: &str, number: usize, known: Measured) -> usize {
 
 /// Returns the reach of a label in one line.
 #[inline]
-fn mark_reach(source: &str, known: Measured, mark: &Mark<'_>) -> Reach {
+fn mark_reach(source: &str, known_line: MeasuredLine, mark: &Mark<'_>) -> Reach {
     Reach {
         start: mark.start,
         end: mark.end,
         text_end: mark.end + text_columns(mark.text),
-        longest: columns_of(source, mark.line, known),
+        longest: columns_of(source, mark.line, known_line),
     }
 }
 
@@ -115,16 +115,16 @@ fn long_reach(source: &str, label: &Label<'_>) -> Reach {
 
 /// Returns the reach of a label in the line in which it begins.
 #[inline]
-fn short_reach(source: &str, known: Measured, label: &Label<'_>) -> Reach {
-    mark_reach(source, known, &mark_of(label, 0))
+fn short_reach(source: &str, known_line: MeasuredLine, label: &Label<'_>) -> Reach {
+    mark_reach(source, known_line, &mark_of(label, 0))
 }
 
 /// Returns the reach of labels, each in the line in which it begins, and of `first`.
 #[inline]
-fn reach_on(source: &str, known: Measured, first: Reach, labels: &[Label<'_>]) -> Reach {
+fn reach_on(source: &str, known_line: MeasuredLine, first: Reach, labels: &[Label<'_>]) -> Reach {
     let mut reach = first;
     for label in labels {
-        reach = join_reaches(reach, short_reach(source, known, label));
+        reach = join_reaches(reach, short_reach(source, known_line, label));
     }
     reach
 }
@@ -147,8 +147,13 @@ fn reach_of(source: &str, labels: &[Label<'_>]) -> Reach {
             }
         }
         [label, rest @ ..] => {
-            let known = start_line(source, label);
-            reach_on(source, known, short_reach(source, known, label), rest)
+            let known_line = start_line(source, label);
+            reach_on(
+                source,
+                known_line,
+                short_reach(source, known_line, label),
+                rest,
+            )
         }
     }
 }
@@ -188,9 +193,9 @@ fn window_around(room: usize, indent: usize, reach: Reach) -> Window {
     let start = reach.start.saturating_sub(6);
     let texts = (reach.text_end + 6).saturating_sub(start);
     let labels = (reach.end + 6).saturating_sub(start);
-    let lead = indent.saturating_sub(6);
-    if (reach.text_end + 6).saturating_sub(lead) <= room {
-        window_at(lead, room)
+    let indent_start = indent.saturating_sub(6);
+    if (reach.text_end + 6).saturating_sub(indent_start) <= room {
+        window_at(indent_start, room)
     } else if texts <= room {
         window_at(start.saturating_sub((room - texts) / 2), room)
     } else if labels <= room {

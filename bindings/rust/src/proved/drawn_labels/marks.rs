@@ -5,9 +5,10 @@
 // That source has the contracts, and is proved. That this text means the same is only tested.
 
 use crate::proved::drawn_labels::cells::{
-    put_after, put_at, put_from, put_run_at, put_written, style_of, text_style, Cell,
+    put_cell_at, put_run_at, put_spaced_text, put_text_from, put_written_cells, style_of,
+    text_style, Cell,
 };
-use crate::proved::drawn_labels::hanging::{depth, hang, has_text, HungLabel};
+use crate::proved::drawn_labels::hanging::{depth, has_text, hung_labels, HungLabel};
 use crate::proved::drawn_labels::mark::Mark;
 use crate::proved::drawn_labels::order::covered_first;
 use crate::proved::drawn_lines::{put_gutter, Gutter};
@@ -16,18 +17,18 @@ use crate::shim::prelude::*;
 
 /// Puts the text of a label that stands right of its signs into a row.
 #[inline]
-fn put_side_text(row: &mut Vec<Cell>, hung: &HungLabel<'_>) -> Result<(), AllocError> {
-    let mark = &hung.mark;
-    if has_text(mark) && hung.down == 0 {
-        put_after(row, mark.end, text_style(mark), mark.text)?;
+fn put_side_text(row: &mut Vec<Cell>, label: &HungLabel<'_>) -> Result<(), AllocError> {
+    let mark = &label.mark;
+    if has_text(mark) && label.depth == 0 {
+        put_spaced_text(row, mark.end, text_style(mark), mark.text)?;
     }
     Ok(())
 }
 
 /// Puts the texts of labels that stand right of their signs into a row.
 #[inline]
-fn put_side_texts(row: &mut Vec<Cell>, hung: &[HungLabel<'_>]) -> Result<(), AllocError> {
-    for first in hung {
+fn put_side_texts(row: &mut Vec<Cell>, labels: &[HungLabel<'_>]) -> Result<(), AllocError> {
+    for first in labels {
         put_side_text(row, first)?;
     }
     Ok(())
@@ -54,29 +55,29 @@ fn put_signs(row: &mut Vec<Cell>, marks: &[Mark<'_>]) -> Result<(), AllocError> 
 
 /// Returns the row of signs of labels, with the texts right of them.
 #[inline]
-fn sign_row(marks: &[Mark<'_>], hung: &[HungLabel<'_>]) -> Result<Vec<Cell>, AllocError> {
+fn sign_row(marks: &[Mark<'_>], labels: &[HungLabel<'_>]) -> Result<Vec<Cell>, AllocError> {
     let mut row = Vec::new();
-    put_side_texts(&mut row, hung)?;
-    let covered = covered_first(marks)?;
-    put_signs(&mut row, &covered)?;
+    put_side_texts(&mut row, labels)?;
+    let covered_marks = covered_first(marks)?;
+    put_signs(&mut row, &covered_marks)?;
     Ok(row)
 }
 
 /// Puts the bar of a label that hangs more than `n` rows down into a row.
 #[inline]
-fn put_bar(row: &mut Vec<Cell>, n: usize, hung: &HungLabel<'_>) -> Result<(), AllocError> {
-    if has_text(&hung.mark) && n < hung.down {
-        let style = style_of(&hung.mark);
+fn put_bar(row: &mut Vec<Cell>, n: usize, label: &HungLabel<'_>) -> Result<(), AllocError> {
+    if has_text(&label.mark) && n < label.depth {
+        let style = style_of(&label.mark);
         let character = '|';
-        put_at(row, hung.mark.start, Cell { character, style })?;
+        put_cell_at(row, label.mark.start, Cell { character, style })?;
     }
     Ok(())
 }
 
 /// Puts the bars of labels into the row with `n` rows between it and the signs.
 #[inline]
-fn put_bars(row: &mut Vec<Cell>, n: usize, hung: &[HungLabel<'_>]) -> Result<(), AllocError> {
-    for first in hung {
+fn put_bars(row: &mut Vec<Cell>, n: usize, labels: &[HungLabel<'_>]) -> Result<(), AllocError> {
+    for first in labels {
         put_bar(row, n, first)?;
     }
     Ok(())
@@ -84,18 +85,22 @@ fn put_bars(row: &mut Vec<Cell>, n: usize, hung: &[HungLabel<'_>]) -> Result<(),
 
 /// Puts the text of a label that hangs `n` rows down into a row.
 #[inline]
-fn put_hung_text(row: &mut Vec<Cell>, n: usize, hung: &HungLabel<'_>) -> Result<(), AllocError> {
-    let mark = &hung.mark;
-    if has_text(mark) && hung.down > 0 && n == hung.down {
-        put_from(row, mark.start, text_style(mark), mark.text)?;
+fn put_hung_text(row: &mut Vec<Cell>, n: usize, label: &HungLabel<'_>) -> Result<(), AllocError> {
+    let mark = &label.mark;
+    if has_text(mark) && label.depth > 0 && n == label.depth {
+        put_text_from(row, mark.start, text_style(mark), mark.text)?;
     }
     Ok(())
 }
 
 /// Puts the texts of labels that hang `n` rows down into a row.
 #[inline]
-fn put_hung_texts(row: &mut Vec<Cell>, n: usize, hung: &[HungLabel<'_>]) -> Result<(), AllocError> {
-    for first in hung {
+fn put_hung_texts(
+    row: &mut Vec<Cell>,
+    n: usize,
+    labels: &[HungLabel<'_>],
+) -> Result<(), AllocError> {
+    for first in labels {
         put_hung_text(row, n, first)?;
     }
     Ok(())
@@ -103,10 +108,10 @@ fn put_hung_texts(row: &mut Vec<Cell>, n: usize, hung: &[HungLabel<'_>]) -> Resu
 
 /// Returns the row with `n` rows between it and the signs.
 #[inline]
-fn hung_row(n: usize, hung: &[HungLabel<'_>]) -> Result<Vec<Cell>, AllocError> {
+fn hung_row(n: usize, labels: &[HungLabel<'_>]) -> Result<Vec<Cell>, AllocError> {
     let mut row = Vec::new();
-    put_bars(&mut row, n, hung)?;
-    put_hung_texts(&mut row, n, hung)?;
+    put_bars(&mut row, n, labels)?;
+    put_hung_texts(&mut row, n, labels)?;
     Ok(row)
 }
 
@@ -114,7 +119,7 @@ fn hung_row(n: usize, hung: &[HungLabel<'_>]) -> Result<Vec<Cell>, AllocError> {
 #[inline]
 fn put_row(out: &mut String, gutter: Gutter, row: &[Cell]) -> Result<(), AllocError> {
     put_gutter(out, gutter)?;
-    put_written(out, gutter.palette, row)?;
+    put_written_cells(out, gutter.palette, row)?;
     out.try_push_str("\n")?;
     Ok(())
 }
@@ -125,28 +130,28 @@ fn put_hung_rows(
     out: &mut String,
     gutter: Gutter,
     count: usize,
-    hung: &[HungLabel<'_>],
+    labels: &[HungLabel<'_>],
 ) -> Result<(), AllocError> {
-    for above in 0..count {
-        let row = hung_row(above, hung)?;
+    for row_number in 0..count {
+        let row = hung_row(row_number, labels)?;
         put_row(out, gutter, &row)?;
     }
     Ok(())
 }
 
-/// Adds the rows below the signs, of labels that hang as far down as `most`.
+/// Adds the rows below the signs, of labels that hang as far down as `max_depth`.
 #[inline]
 fn put_rows_below(
     out: &mut String,
     gutter: Gutter,
-    most: usize,
-    hung: &[HungLabel<'_>],
+    max_depth: usize,
+    labels: &[HungLabel<'_>],
 ) -> Result<(), AllocError> {
-    if most == 0 {
+    if max_depth == 0 {
         return Ok(());
     }
-    put_hung_rows(out, gutter, most, hung)?;
-    let row = hung_row(most, hung)?;
+    put_hung_rows(out, gutter, max_depth, labels)?;
+    let row = hung_row(max_depth, labels)?;
     put_row(out, gutter, &row)?;
     Ok(())
 }
@@ -157,11 +162,11 @@ fn put_rows_of(
     out: &mut String,
     gutter: Gutter,
     marks: &[Mark<'_>],
-    hung: &[HungLabel<'_>],
+    labels: &[HungLabel<'_>],
 ) -> Result<(), AllocError> {
-    let row = sign_row(marks, hung)?;
+    let row = sign_row(marks, labels)?;
     put_row(out, gutter, &row)?;
-    put_rows_below(out, gutter, depth(hung), hung)?;
+    put_rows_below(out, gutter, depth(labels), labels)?;
     Ok(())
 }
 
@@ -172,7 +177,7 @@ pub fn put_mark_rows(
     gutter: Gutter,
     marks: &[Mark<'_>],
 ) -> Result<(), AllocError> {
-    let hung = hang(marks)?;
-    put_rows_of(out, gutter, marks, &hung)?;
+    let labels = hung_labels(marks)?;
+    put_rows_of(out, gutter, marks, &labels)?;
     Ok(())
 }

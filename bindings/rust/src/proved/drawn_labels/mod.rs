@@ -17,12 +17,12 @@ pub(crate) mod marks;
 pub(crate) mod order;
 pub(crate) mod rows;
 
-pub use labels::{mark_in, put_labelled, put_two_labels, Label};
-pub use long::put_long;
+pub use labels::{mark_in, put_labelled_line, put_two_labels, Label};
+pub use long::put_long_label;
 pub use margin::window_of;
 #[cfg(feature = "std")]
 pub use mark::Mark;
 #[cfg(feature = "std")]
 pub use marks::put_mark_rows;
 #[cfg(feature = "std")]
-pub use order::from_right;
+pub use order::marks_from_right;

@@ -3,11 +3,11 @@
 // Extracted from crates/drawn_labels/src/rows.rt by tools/extract: not to be edited.
 // That source has the contracts, and is proved. That this text means the same is only tested.
 
-use crate::proved::drawn_labels::cells::{put_written, space, style_of, text_style, Cell};
+use crate::proved::drawn_labels::cells::{put_written_cells, space, style_of, text_style, Cell};
 use crate::proved::drawn_labels::mark::Mark;
 use crate::proved::drawn_lines::{
-    has_colours, put_gutter, put_painted, put_painted_glyphs, put_painted_run, put_run, Gutter,
-    Palette, Style,
+    has_colours, put_gutter, put_painted_glyphs, put_painted_run, put_painted_text, put_run,
+    Gutter, Palette, Style,
 };
 use crate::shim::alloc::AllocError;
 use crate::shim::prelude::*;
@@ -39,7 +39,7 @@ fn put_coloured_signs(
     for column in 0..columns {
         row.try_push(sign_at(m, n, column))?;
     }
-    put_written(out, palette, &row)?;
+    put_written_cells(out, palette, &row)?;
     Ok(())
 }
 
@@ -55,9 +55,9 @@ fn put_signs(
     if has_colours(palette) {
         return Ok(put_coloured_signs(out, palette, m, n, columns)?);
     }
-    let lead = m.start.min(n.start).min(columns);
-    put_run(out, ' ', lead)?;
-    for column in lead..columns {
+    let indent = m.start.min(n.start).min(columns);
+    put_run(out, ' ', indent)?;
+    for column in indent..columns {
         out.try_push(sign_at(m, n, column).character)?;
     }
     Ok(())
@@ -73,7 +73,7 @@ fn put_bars(
 ) -> Result<(), AllocError> {
     if m.start < columns {
         put_run(out, ' ', m.start)?;
-        put_painted(out, palette, style_of(m), "|")?;
+        put_painted_text(out, palette, style_of(m), "|")?;
         put_run(out, ' ', columns - m.start - 1)?;
     } else {
         put_run(out, ' ', columns)?;
@@ -90,7 +90,7 @@ fn put_label_text(out: &mut String, palette: Palette, m: &Mark<'_>) -> Result<()
 
 /// Adds the signs of a label and its text after them.
 #[inline]
-fn put_pointed(out: &mut String, palette: Palette, m: &Mark<'_>) -> Result<(), AllocError> {
+fn put_pointed_text(out: &mut String, palette: Palette, m: &Mark<'_>) -> Result<(), AllocError> {
     let columns = m.end.saturating_sub(m.start);
     put_painted_run(out, palette, style_of(m), m.sign, columns)?;
     out.try_push_str(" ")?;
@@ -100,17 +100,17 @@ fn put_pointed(out: &mut String, palette: Palette, m: &Mark<'_>) -> Result<(), A
 
 /// Adds a label that is alone, from the first column on.
 #[inline]
-fn put_alone(out: &mut String, palette: Palette, m: &Mark<'_>) -> Result<(), AllocError> {
+fn put_lone_mark(out: &mut String, palette: Palette, m: &Mark<'_>) -> Result<(), AllocError> {
     put_run(out, ' ', m.start)?;
-    put_pointed(out, palette, m)?;
+    put_pointed_text(out, palette, m)?;
     Ok(())
 }
 
 /// Adds the row of a label that is alone in its line.
 #[inline]
-pub fn put_one(out: &mut String, gutter: Gutter, m: &Mark<'_>) -> Result<(), AllocError> {
+pub fn put_lone_row(out: &mut String, gutter: Gutter, m: &Mark<'_>) -> Result<(), AllocError> {
     put_gutter(out, gutter)?;
-    put_alone(out, gutter.palette, m)?;
+    put_lone_mark(out, gutter.palette, m)?;
     out.try_push_str("\n")?;
     Ok(())
 }
@@ -120,7 +120,7 @@ pub fn put_one(out: &mut String, gutter: Gutter, m: &Mark<'_>) -> Result<(), All
 fn put_bar_alone(out: &mut String, gutter: Gutter, m: &Mark<'_>) -> Result<(), AllocError> {
     put_gutter(out, gutter)?;
     put_run(out, ' ', m.start)?;
-    put_painted(out, gutter.palette, style_of(m), "|")?;
+    put_painted_text(out, gutter.palette, style_of(m), "|")?;
     out.try_push_str("\n")?;
     Ok(())
 }
@@ -155,7 +155,7 @@ fn put_two_bars(
 ) -> Result<(), AllocError> {
     put_gutter(out, gutter)?;
     put_bars(out, gutter.palette, l, r.start)?;
-    put_painted(out, gutter.palette, bar_style(l, r), "|")?;
+    put_painted_text(out, gutter.palette, bar_style(l, r), "|")?;
     out.try_push_str("\n")?;
     Ok(())
 }
@@ -178,13 +178,13 @@ fn put_bar_and_text(
 /// Returns whether the label `m` is covered by the label `n`.
 #[inline]
 pub fn is_covered(m: &Mark<'_>, n: &Mark<'_>) -> bool {
-    let (long, short) = (m.end.saturating_sub(m.start), n.end.saturating_sub(n.start));
-    short < long || (short == long && m.sign < n.sign)
+    let (covered_width, width) = (m.end.saturating_sub(m.start), n.end.saturating_sub(n.start));
+    width < covered_width || (width == covered_width && m.sign < n.sign)
 }
 
 /// Adds the signs of two labels that overlap, of which `l` begins first.
 #[inline]
-fn put_covering(
+fn put_covering_signs(
     out: &mut String,
     palette: Palette,
     l: &Mark<'_>,
@@ -208,14 +208,14 @@ fn put_covering_row(
     r: &Mark<'_>,
 ) -> Result<(), AllocError> {
     put_gutter(out, gutter)?;
-    put_covering(out, gutter.palette, l, r)?;
+    put_covering_signs(out, gutter.palette, l, r)?;
     out.try_push_str("\n")?;
     Ok(())
 }
 
 /// Adds the rows of two labels that overlap, of which `l` begins first.
 #[inline]
-fn put_overlapping(
+fn put_overlapping_rows(
     out: &mut String,
     gutter: Gutter,
     l: &Mark<'_>,
@@ -246,7 +246,7 @@ fn put_signs_and_text(
 
 /// Adds the rows of two labels, of which the text of the first one, `l`, hangs.
 #[inline]
-fn put_hanging(
+fn put_hanging_rows(
     out: &mut String,
     gutter: Gutter,
     l: &Mark<'_>,
@@ -267,16 +267,16 @@ fn columns_between(l: &Mark<'_>, r: &Mark<'_>) -> usize {
 
 /// Adds the row of two labels beside each other, of which `l` is the first one.
 #[inline]
-fn put_beside(
+fn put_rows_beside(
     out: &mut String,
     gutter: Gutter,
     l: &Mark<'_>,
     r: &Mark<'_>,
 ) -> Result<(), AllocError> {
     put_gutter(out, gutter)?;
-    put_alone(out, gutter.palette, l)?;
+    put_lone_mark(out, gutter.palette, l)?;
     put_run(out, ' ', columns_between(l, r))?;
-    put_pointed(out, gutter.palette, r)?;
+    put_pointed_text(out, gutter.palette, r)?;
     out.try_push_str("\n")?;
     Ok(())
 }
@@ -290,18 +290,18 @@ fn put_pair(
     r: &Mark<'_>,
 ) -> Result<(), AllocError> {
     if r.start < l.end {
-        put_overlapping(out, gutter, l, r)?;
+        put_overlapping_rows(out, gutter, l, r)?;
     } else if (r.start - l.end).saturating_sub(1) <= l.text.len() {
-        put_hanging(out, gutter, l, r)?;
+        put_hanging_rows(out, gutter, l, r)?;
     } else {
-        put_beside(out, gutter, l, r)?;
+        put_rows_beside(out, gutter, l, r)?;
     }
     Ok(())
 }
 
 /// Adds the rows of two labels in a line.
 #[inline]
-pub fn put_both(
+pub fn put_both_rows(
     out: &mut String,
     gutter: Gutter,
     m: &Mark<'_>,

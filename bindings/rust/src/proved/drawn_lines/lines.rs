@@ -6,10 +6,10 @@
 use crate::proved::drawn_lines::frame::{digits, Frame};
 use crate::proved::drawn_lines::glyphs::{draws_nothing, put_run};
 use crate::proved::drawn_lines::paint::{
-    put_closing, put_gutter_bar, put_opening, put_painted, Gutter, Palette, Style,
+    put_closing, put_gutter_bar, put_opening, put_painted_text, Gutter, Palette, Style,
 };
 use crate::proved::drawn_lines::places::line;
-use crate::proved::drawn_lines::window::{put_shown, Window};
+use crate::proved::drawn_lines::window::{put_shown_line, Window};
 use crate::shim::alloc::AllocError;
 use crate::shim::itoa::Buffer;
 use crate::shim::prelude::*;
@@ -80,7 +80,7 @@ fn put_after_bar(
 ) -> Result<(), AllocError> {
     if window.start > 0 || !draws_nothing(text) {
         out.try_push_str(front)?;
-        put_shown(out, palette, window, text)?;
+        put_shown_line(out, palette, window, text)?;
     }
     Ok(())
 }
@@ -130,7 +130,7 @@ pub fn put_gap(
     if last == first + 2 {
         put_code(out, frame, first + 1)?;
     } else if last > first + 2 {
-        put_painted(out, frame.gutter.palette, Style::Secondary, "...")?;
+        put_painted_text(out, frame.gutter.palette, Style::Secondary, "...")?;
         out.try_push_str("\n")?;
     }
     Ok(())

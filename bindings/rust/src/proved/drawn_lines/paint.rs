@@ -165,7 +165,7 @@ pub fn put_closing(out: &mut String, palette: Palette) -> Result<(), AllocError>
 
 /// Adds a text in a style.
 #[inline]
-pub fn put_painted(
+pub fn put_painted_text(
     out: &mut String,
     palette: Palette,
     style: Style,

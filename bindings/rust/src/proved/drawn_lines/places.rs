@@ -39,7 +39,7 @@ pub const ORIGIN: Spot = Spot {
 
 /// Returns the place after a character.
 #[inline]
-fn past(spot: Spot, c: char) -> Spot {
+fn spot_past(spot: Spot, c: char) -> Spot {
     if c == '\n' {
         return Spot {
             line: spot.line + 1,
@@ -80,10 +80,10 @@ struct Rest<'a> {
 
 /// Passes the printable characters at the start of a text that end within `width` bytes.
 #[inline]
-fn pass_printable(from: Spot, text: &str, width: usize) -> Rest<'_> {
+fn pass_printable(start: Spot, text: &str, width: usize) -> Rest<'_> {
     let (front, rest) = split_printable(text, width);
     Rest {
-        spot: past_printable(from, front),
+        spot: past_printable(start, front),
         text: rest,
         width: width - front.len(),
     }
@@ -91,8 +91,8 @@ fn pass_printable(from: Spot, text: &str, width: usize) -> Rest<'_> {
 
 /// Passes the characters of a text that end within `width` bytes.
 #[inline]
-fn pass(from: Spot, text: &str, width: usize) -> Rest<'_> {
-    let mut at = from;
+fn pass(start: Spot, text: &str, width: usize) -> Rest<'_> {
+    let mut at = start;
     let mut rest = text;
     let mut countdown = width;
     while let Some((c, tail)) = split_first(rest) {
@@ -100,7 +100,7 @@ fn pass(from: Spot, text: &str, width: usize) -> Rest<'_> {
             break;
         }
         countdown -= c.len_utf8();
-        at = past(at, c);
+        at = spot_past(at, c);
         rest = tail;
         if !at.is_indent {
             let next = pass_printable(at, rest, countdown);
@@ -161,10 +161,14 @@ pub fn offsets(picture: &Picture<'_>, range: &Range<usize>) -> (usize, usize) {
 #[inline]
 pub fn extent_of(picture: &Picture<'_>, range: &Range<usize>) -> Extent {
     let (from, to) = offsets(picture, range);
-    let before = pass(ORIGIN, picture.source, from);
-    let after = pass(before.spot, before.text, before.width + (to - from));
+    let start_rest = pass(ORIGIN, picture.source, from);
+    let end_rest = pass(
+        start_rest.spot,
+        start_rest.text,
+        start_rest.width + (to - from),
+    );
     Extent {
-        start: before.spot,
-        end: after.spot,
+        start: start_rest.spot,
+        end: end_rest.spot,
     }
 }

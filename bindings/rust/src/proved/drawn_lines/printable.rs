@@ -47,12 +47,12 @@ const PRINTABLE: Stops = Stops {
     fourth: 127,
 };
 
-/// Returns the longest prefix of at most `most` characters that are printable, and what is after
+/// Returns the longest prefix of at most `limit` characters that are printable, and what is after
 /// it.
 #[inline]
-pub fn split_printable(text: &str, most: usize) -> (&str, &str) {
+pub fn split_printable(text: &str, limit: usize) -> (&str, &str) {
     let bytes = text.as_bytes();
-    let width = front_width(&bytes[..bytes.len().min(most)], PRINTABLE);
+    let width = front_width(&bytes[..bytes.len().min(limit)], PRINTABLE);
     text.split_at(width)
 }
 
@@ -75,6 +75,6 @@ pub fn is_drawn_as_is(text: &str) -> bool {
 /// Returns `true` only if each part of a text without ASCII is drawn as it is. For some texts of
 /// which that holds it returns `false`.
 #[inline]
-pub fn is_drawn_as_it_is(text: &str) -> bool {
+pub fn is_non_ascii_drawn_as_is(text: &str) -> bool {
     front_width(text.as_bytes(), BEYOND_ASCII) == text.len()
 }

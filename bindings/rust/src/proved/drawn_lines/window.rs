@@ -8,7 +8,7 @@ use crate::proved::drawn_lines::frame::Frame;
 use crate::proved::drawn_lines::glyphs::{
     glyph, glyph_count, put_glyphs, put_run, split_first, width,
 };
-use crate::proved::drawn_lines::paint::{put_painted, Palette, Style};
+use crate::proved::drawn_lines::paint::{put_painted_text, Palette, Style};
 use crate::proved::drawn_lines::places::line;
 use crate::proved::drawn_lines::printable::split_printable;
 use crate::shim::alloc::AllocError;
@@ -94,7 +94,7 @@ fn left_out_of_run(count: usize, times: usize, character: char) -> Countdown {
 /// Returns how many columns are left out if the first `count` columns of a text, as it is drawn,
 /// are.
 #[inline]
-fn left_out(text: &str, count: usize) -> usize {
+fn left_out_columns(text: &str, count: usize) -> usize {
     let mut rest = text;
     let mut countdown = count;
     let mut columns = 0;
@@ -116,12 +116,12 @@ pub fn shift(frame: &Frame<'_>, number: usize) -> usize {
     if frame.window.start == 0 {
         return 0;
     }
-    left_out(line(frame.picture.source, number), frame.window.start)
+    left_out_columns(line(frame.picture.source, number), frame.window.start)
 }
 
 /// Adds the first characters of a text, as many as end within `count` columns.
 #[inline]
-fn put_within(out: &mut String, text: &str, count: usize) -> Result<(), AllocError> {
+fn put_front_columns(out: &mut String, text: &str, count: usize) -> Result<(), AllocError> {
     let mut rest = text;
     let mut countdown = count;
     while let Some((c, tail)) = split_first(rest) {
@@ -145,7 +145,7 @@ fn put_in_window(
 ) -> Result<(), AllocError> {
     let Cut { rest, .. } = past_columns(row, window.start);
     if is_wide {
-        put_within(out, rest, window.limit)?;
+        put_front_columns(out, rest, window.limit)?;
     } else {
         out.try_push_str(rest)?;
     }
@@ -165,7 +165,7 @@ fn put_dots_before<'a>(
         return Ok(part);
     }
     let Cut { rest, columns } = past_columns(part, 3);
-    put_painted(out, palette, Style::Secondary, "...")?;
+    put_painted_text(out, palette, Style::Secondary, "...")?;
     put_run(out, ' ', columns.saturating_sub(3))?;
     Ok(rest)
 }
@@ -181,14 +181,14 @@ fn put_up_to_dots(
     if !is_wide {
         return Ok(out.try_push_str(rest)?);
     }
-    put_within(out, rest, columns(rest).saturating_sub(3))?;
-    put_painted(out, palette, Style::Secondary, "...")?;
+    put_front_columns(out, rest, columns(rest).saturating_sub(3))?;
+    put_painted_text(out, palette, Style::Secondary, "...")?;
     Ok(())
 }
 
 /// Adds a part of a line.
 #[inline]
-fn put_dotted(
+fn put_dotted_part(
     out: &mut String,
     palette: Palette,
     window: Window,
@@ -217,13 +217,13 @@ fn put_cut(
     if part.len() >= 1 << (usize::BITS - 5) {
         return crate::shim::alloc::refuse();
     }
-    put_dotted(out, palette, window, is_wide, part.as_str())?;
+    put_dotted_part(out, palette, window, is_wide, part.as_str())?;
     Ok(())
 }
 
 /// Adds a line as it is drawn.
 #[inline]
-pub fn put_shown(
+pub fn put_shown_line(
     out: &mut String,
     palette: Palette,
     window: Window,

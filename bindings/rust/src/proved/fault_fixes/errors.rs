@@ -11,9 +11,9 @@ use crate::shim::prelude::*;
 /// Errors in the order of a parser. None is moved where one is put before the others.
 struct Errors {
     /// The errors that were put before all others: the last one is the first of all.
-    fronts: Vec<ParseError>,
+    front_errors: Vec<ParseError>,
     /// The errors after these.
-    backs: Vec<ParseError>,
+    back_errors: Vec<ParseError>,
 }
 
 /// Adds the errors of faults.
@@ -22,9 +22,9 @@ fn add_each(errors: &mut Errors, faults: &[Fault<'_>]) -> Result<(), AllocError>
     for fault in faults {
         let error = fault.error()?;
         if fault.is_front() {
-            errors.fronts.try_push(error)?;
+            errors.front_errors.try_push(error)?;
         } else {
-            errors.backs.try_push(error)?;
+            errors.back_errors.try_push(error)?;
         }
     }
     Ok(())
@@ -48,10 +48,10 @@ fn add_next<'a>(
 /// Returns errors as one list.
 #[inline]
 fn into_list(errors: Errors) -> Result<Vec<ParseError>, AllocError> {
-    let mut list = errors.fronts;
-    let mut backs = errors.backs;
+    let mut list = errors.front_errors;
+    let mut back_errors = errors.back_errors;
     list.reverse();
-    list.try_append(&mut backs)?;
+    list.try_append(&mut back_errors)?;
     Ok(list)
 }
 
@@ -73,8 +73,8 @@ pub fn errors_of(
     let mut argument = Argument::default();
     let mut faults = Vec::new();
     let mut errors = Errors {
-        fronts: Vec::new(),
-        backs: Vec::new(),
+        front_errors: Vec::new(),
+        back_errors: Vec::new(),
     };
     while !parser.is_at_end() {
         add_next(&mut errors, &mut parser, &mut argument, &mut faults)?;

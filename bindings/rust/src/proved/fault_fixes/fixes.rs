@@ -22,7 +22,7 @@ pub struct Edit<'e> {
 
 /// A literal with edits applied.
 #[derive(Debug, Eq, PartialEq, Clone)]
-pub struct Fixed {
+pub struct FixedLiteral {
     /// The literal, as it is to be in the source.
     pub snippet: String,
     /// The text that it stands for, with the newline that was appended to the input, if one was.
@@ -108,7 +108,7 @@ fn rest_after(bytes: &[u8], n: usize) -> &[u8] {
 }
 
 /// A text in the middle of its edits.
-struct Edited<'t> {
+struct EditProgress<'t> {
     /// The part of the text with its edits that is written.
     bytes: Vec<u8>,
     /// The rest of the text.
@@ -123,20 +123,23 @@ struct Edited<'t> {
 /// one.
 #[inline]
 fn make(
-    edited: &mut Edited<'_>,
+    progress: &mut EditProgress<'_>,
     mode: ParseMode,
     suggestion: &Suggestion,
 ) -> Result<(), AllocError> {
     let Some(edit) = offered_edit(mode, suggestion) else {
         return Ok(());
     };
-    if edited.end < edit.span.start && edit.span.start <= edit.span.end {
-        let source = front(edited.rest, edit.span.start.saturating_sub(edited.start));
-        edited.bytes.try_extend_from_slice(source)?;
-        edited.bytes.try_extend_from_slice(edit.text.as_bytes())?;
-        edited.rest = rest_after(edited.rest, edit.span.end.saturating_sub(edited.start));
-        edited.start = edit.span.end;
-        edited.end = edit.span.end;
+    if progress.end < edit.span.start && edit.span.start <= edit.span.end {
+        let source = front(
+            progress.rest,
+            edit.span.start.saturating_sub(progress.start),
+        );
+        progress.bytes.try_extend_from_slice(source)?;
+        progress.bytes.try_extend_from_slice(edit.text.as_bytes())?;
+        progress.rest = rest_after(progress.rest, edit.span.end.saturating_sub(progress.start));
+        progress.start = edit.span.end;
+        progress.end = edit.span.end;
     }
     Ok(())
 }
@@ -144,13 +147,13 @@ fn make(
 /// Makes the edits of faults in a mode, the first one first.
 #[inline]
 fn make_each(
-    edited: &mut Edited<'_>,
+    progress: &mut EditProgress<'_>,
     mode: ParseMode,
     faults: &[Fault<'_>],
 ) -> Result<(), AllocError> {
     for fault in faults {
         let suggestion = fault.suggestion()?;
-        make(edited, mode, &suggestion)?;
+        make(progress, mode, &suggestion)?;
     }
     Ok(())
 }
@@ -159,14 +162,14 @@ fn make_each(
 /// after the call.
 #[inline]
 fn make_next<'a>(
-    edited: &mut Edited<'_>,
+    progress: &mut EditProgress<'_>,
     mode: ParseMode,
     parser: &mut Parser<'a>,
     argument: &mut Argument<'a>,
     faults: &mut Vec<Fault<'a>>,
 ) -> Result<(), AllocError> {
     parser.next_with_faults(argument, faults)?;
-    make_each(edited, mode, faults.as_slice())?;
+    make_each(progress, mode, faults.as_slice())?;
     faults.clear();
     Ok(())
 }
@@ -190,20 +193,20 @@ fn edit_all(
 ) -> Result<AllEdits, AllocError> {
     let mut argument = Argument::default();
     let mut faults = Vec::new();
-    let mut edited = Edited {
+    let mut progress = EditProgress {
         bytes: Vec::new(),
         rest: text.as_bytes(),
         start: at,
         end: 0,
     };
     while !parser.is_at_end() {
-        make_next(&mut edited, mode, parser, &mut argument, &mut faults)?;
+        make_next(&mut progress, mode, parser, &mut argument, &mut faults)?;
     }
-    let rest = edited.rest;
-    edited.bytes.try_extend_from_slice(rest)?;
+    let rest = progress.rest;
+    progress.bytes.try_extend_from_slice(rest)?;
     Ok(AllEdits {
-        bytes: edited.bytes,
-        has_edits: edited.end > 0,
+        bytes: progress.bytes,
+        has_edits: progress.end > 0,
     })
 }
 
@@ -223,8 +226,8 @@ fn edited_literal(
     appended_newline: bool,
     mode: ParseMode,
 ) -> Result<Option<String>, AllocError> {
-    let owned = String::made_from(snippet)?;
-    let mut parser = Parser::new(input, style, Some(owned), appended_newline, mode)?;
+    let snippet_copy = String::made_from(snippet)?;
+    let mut parser = Parser::new(input, style, Some(snippet_copy), appended_newline, mode)?;
     let AllEdits { bytes, has_edits } = edit_all(mode, &mut parser, snippet, 0)?;
     if !has_edits {
         return Ok(None);
@@ -253,7 +256,7 @@ pub fn round(
     snippet: &str,
     appended_newline: bool,
     mode: ParseMode,
-) -> Result<Option<Fixed>, AllocError> {
+) -> Result<Option<FixedLiteral>, AllocError> {
     if !is_source_literal(input, style, snippet, appended_newline) {
         return Ok(None);
     }
@@ -264,7 +267,7 @@ pub fn round(
         return Ok(None);
     };
     if is_source_literal(&text, style, &snippet, appended_newline) {
-        Ok(Some(Fixed { snippet, text }))
+        Ok(Some(FixedLiteral { snippet, text }))
     } else {
         Ok(None)
     }

@@ -9,5 +9,5 @@ pub(crate) mod fixes;
 pub(crate) mod rounds;
 
 pub use errors::errors_of;
-pub use fixes::{edits, is_offered, Edit, Fixed};
+pub use fixes::{edits, is_offered, Edit, FixedLiteral};
 pub use rounds::fix;

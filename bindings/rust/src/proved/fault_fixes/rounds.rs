@@ -3,7 +3,7 @@
 // Extracted from crates/fault_fixes/src/rounds.rt by tools/extract: not to be edited.
 // That source has the contracts, and is proved. That this text means the same is only tested.
 
-use crate::proved::fault_fixes::fixes::{round, Fixed};
+use crate::proved::fault_fixes::fixes::{round, FixedLiteral};
 use crate::proved::rustc_parse_format::{Argument, Fault, ParseMode};
 use crate::shim::alloc::AllocError;
 use crate::shim::parser::Parser;
@@ -43,9 +43,9 @@ fn faults_of(text: &str, mode: ParseMode) -> Result<Faults<'_>, AllocError> {
 
 /// Returns whether faults are some of others, in their order, by their kinds alone.
 #[inline]
-fn is_part(part: &[Fault<'_>], whole: &[Fault<'_>]) -> bool {
+fn is_part(part: &[Fault<'_>], all_faults: &[Fault<'_>]) -> bool {
     let mut count = 0;
-    for fault in whole {
+    for fault in all_faults {
         if count == part.len() {
             return true;
         }
@@ -71,7 +71,7 @@ fn count_left(old: &[Fault<'_>], text: &str, mode: ParseMode) -> Result<Option<u
 /// The best literal so far.
 struct Best {
     /// The literal, or `None` if none is better than that of the start.
-    literal: Option<Fixed>,
+    literal: Option<FixedLiteral>,
     /// How many of its calls find a fault, or of those at the start.
     calls: usize,
 }
@@ -79,7 +79,7 @@ struct Best {
 /// Keeps a literal if it is better. `calls` is how many of its calls find a fault, or `None` if
 /// there is a new one.
 #[inline]
-fn offer(best: &mut Best, literal: Fixed, calls: Option<usize>) {
+fn offer(best: &mut Best, literal: FixedLiteral, calls: Option<usize>) {
     if let Some(calls) = calls {
         if calls < best.calls {
             best.literal = Some(literal);
@@ -92,13 +92,13 @@ fn offer(best: &mut Best, literal: Fixed, calls: Option<usize>) {
 /// `Err` if an allocation fails, or if the literal or its text has 2^59 bytes or more.
 #[inline]
 fn next_round(
-    reached: &Fixed,
+    literal: &FixedLiteral,
     style: Option<usize>,
     appended_newline: bool,
     mode: ParseMode,
-) -> Result<Option<Fixed>, AllocError> {
-    let text = reached.text.as_str();
-    let snippet = reached.snippet.as_str();
+) -> Result<Option<FixedLiteral>, AllocError> {
+    let text = literal.text.as_str();
+    let snippet = literal.snippet.as_str();
     if text.len() >= 1 << (usize::BITS - 5) {
         return crate::shim::alloc::refuse();
     }
@@ -129,8 +129,8 @@ pub fn fix(
     snippet: &str,
     appended_newline: bool,
     mode: ParseMode,
-) -> Result<Option<Fixed>, AllocError> {
-    let Some(first) = round(input, style, snippet, appended_newline, mode)? else {
+) -> Result<Option<FixedLiteral>, AllocError> {
+    let Some(first_literal) = round(input, style, snippet, appended_newline, mode)? else {
         return Ok(None);
     };
     let old = faults_of(input, mode)?;
@@ -138,19 +138,19 @@ pub fn fix(
         literal: None,
         calls: old.calls,
     };
-    let mut reached = Some(first);
+    let mut next_literal = Some(first_literal);
     let mut rounds = 0;
     while rounds < MOST_ROUNDS {
-        let Some(fixed) = reached else {
+        let Some(literal) = next_literal else {
             return Ok(best.literal);
         };
-        let calls = count_left(old.list.as_slice(), fixed.text.as_str(), mode)?;
+        let calls = count_left(old.list.as_slice(), literal.text.as_str(), mode)?;
         if let Some(0) = calls {
-            offer(&mut best, fixed, calls);
+            offer(&mut best, literal, calls);
             return Ok(best.literal);
         }
-        reached = next_round(&fixed, style, appended_newline, mode)?;
-        offer(&mut best, fixed, calls);
+        next_literal = next_round(&literal, style, appended_newline, mode)?;
+        offer(&mut best, literal, calls);
         rounds += 1;
     }
     Ok(best.literal)

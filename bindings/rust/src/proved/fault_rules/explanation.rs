@@ -9,9 +9,9 @@ use crate::shim::prelude::*;
 
 /// Appends a line that says which example follows, and the example.
 #[inline]
-fn put_example(out: &mut String, says: &str, example: &str) -> Result<(), AllocError> {
+fn put_example(out: &mut String, heading: &str, example: &str) -> Result<(), AllocError> {
     out.try_push_str("\n")?;
-    out.try_push_str(says)?;
+    out.try_push_str(heading)?;
     out.try_push_str(":\n\n    ")?;
     out.try_push_str(example)?;
     out.try_push_str("\n")?;

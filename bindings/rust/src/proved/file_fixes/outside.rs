@@ -66,31 +66,31 @@ fn ends_by(at: usize, end: usize, part: EditedPart) -> bool {
 
 /// Returns the place after the place `from` and after all parts that end by the offset `at`.
 #[inline]
-fn ahead_of(at: usize, from: PartsAhead, parts: &[EditedPart]) -> PartsAhead {
-    let mut ahead = from;
-    while let Some(part) = parts.get(ahead.index) {
-        if !ends_by(at, ahead.end, *part) {
-            return ahead;
+fn place_after(at: usize, from: PartsAhead, parts: &[EditedPart]) -> PartsAhead {
+    let mut place = from;
+    while let Some(part) = parts.get(place.index) {
+        if !ends_by(at, place.end, *part) {
+            return place;
         }
-        ahead.end += part.gap + part.width;
-        ahead.width += part.width;
-        ahead.index += 1;
+        place.end += part.gap + part.width;
+        place.width += part.width;
+        place.index += 1;
     }
-    ahead
+    place
 }
 
 /// Returns whether no part that is ahead starts before the offset `at`.
 #[inline]
-fn is_before(at: usize, ahead: PartsAhead, parts: &[EditedPart]) -> bool {
-    match parts.get(ahead.index) {
-        Some(part) => at.saturating_sub(ahead.end) <= part.gap,
+fn is_before(at: usize, place: PartsAhead, parts: &[EditedPart]) -> bool {
+    match parts.get(place.index) {
+        Some(part) => at.saturating_sub(place.end) <= part.gap,
         None => true,
     }
 }
 
 /// Returns a token, moved n bytes towards the start of the text.
 #[inline]
-fn moved_up(n: usize, token: &Token) -> Token {
+fn moved_token(n: usize, token: &Token) -> Token {
     Token {
         kind: token.kind,
         span: token.span.start.saturating_sub(n)..token.span.end.saturating_sub(n),
@@ -102,17 +102,17 @@ fn moved_up(n: usize, token: &Token) -> Token {
 /// Returns those tokens of a text that no part touches, at the places that they have in the text
 /// without the parts.
 #[inline]
-fn outside(parts: &[EditedPart], tokens: &[Token]) -> Result<Vec<Token>, AllocError> {
+fn untouched_tokens(parts: &[EditedPart], tokens: &[Token]) -> Result<Vec<Token>, AllocError> {
     let mut others = Vec::new();
-    let mut ahead = PartsAhead {
+    let mut place = PartsAhead {
         end: 0,
         width: 0,
         index: 0,
     };
     for token in tokens {
-        ahead = ahead_of(token.span.start, ahead, parts);
-        if is_before(token.span.end, ahead, parts) {
-            others.try_push(moved_up(ahead.width, token))?;
+        place = place_after(token.span.start, place, parts);
+        if is_before(token.span.end, place, parts) {
+            others.try_push(moved_token(place.width, token))?;
         }
     }
     Ok(others)
@@ -129,7 +129,7 @@ fn are_same(old: &[Token], new: &[Token]) -> bool {
 pub(crate) fn keeps_tokens(old: &str, edits: &[Edit<'_>], new: &str) -> Result<bool, AllocError> {
     let old_tokens = tokens(old)?;
     let new_tokens = tokens(new)?;
-    let old_others = outside(old_parts(edits)?.as_slice(), old_tokens.as_slice())?;
-    let new_others = outside(new_parts(edits)?.as_slice(), new_tokens.as_slice())?;
+    let old_others = untouched_tokens(old_parts(edits)?.as_slice(), old_tokens.as_slice())?;
+    let new_others = untouched_tokens(new_parts(edits)?.as_slice(), new_tokens.as_slice())?;
     Ok(are_same(old_others.as_slice(), new_others.as_slice()))
 }

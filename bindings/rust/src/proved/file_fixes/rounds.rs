@@ -65,38 +65,38 @@ fn keeps_others(old: &str, report: &Report, new: &str) -> Result<bool, AllocErro
 #[inline]
 fn next_round(
     text: &str,
-    fixed: &FileFixes,
+    file_fixes: &FileFixes,
     options: &Options<'_>,
 ) -> Result<Option<Round>, AllocError> {
-    let source = match &fixed.text {
+    let source = match &file_fixes.text {
         None => text,
-        Some(fixed) => fixed.as_str(),
+        Some(fixed_text) => fixed_text.as_str(),
     };
-    let edited = mend_each(source, fixed.report.findings.as_slice())?;
-    if edited.ids.is_empty() {
+    let edited_text = mend_each(source, file_fixes.report.findings.as_slice())?;
+    if edited_text.ids.is_empty() {
         return Ok(None);
     }
-    let Some(text) = String::from_utf8(edited.bytes).ok() else {
+    let Some(text) = String::from_utf8(edited_text.bytes).ok() else {
         return Ok(None);
     };
     let report = file_faults(text.as_str(), options)?;
-    if !keeps_faults(&fixed.report, &report)? {
+    if !keeps_faults(&file_fixes.report, &report)? {
         return Ok(None);
     }
-    if !keeps_others(source, &fixed.report, text.as_str())? {
+    if !keeps_others(source, &file_fixes.report, text.as_str())? {
         return Ok(None);
     }
     Ok(Some(Round {
         text,
-        ids: edited.ids,
+        ids: edited_text.ids,
         report,
     }))
 }
 
 /// Returns fixes with those of one more round.
 #[inline]
-fn with_round(fixed: FileFixes, round: Round) -> Result<FileFixes, AllocError> {
-    let mut ids = fixed.ids;
+fn with_round(file_fixes: FileFixes, round: Round) -> Result<FileFixes, AllocError> {
+    let mut ids = file_fixes.ids;
     ids.try_extend_from_slice(round.ids.as_slice())?;
     Ok(FileFixes {
         text: Some(round.text),
@@ -117,18 +117,18 @@ fn with_round(fixed: FileFixes, round: Round) -> Result<FileFixes, AllocError> {
 /// fixed in a file that breaks.
 #[inline]
 pub fn fixes(text: &str, options: &Options<'_>) -> Result<FileFixes, AllocError> {
-    let mut fixed = FileFixes {
+    let mut file_fixes = FileFixes {
         text: None,
         ids: Vec::new(),
         report: file_faults(text, options)?,
     };
     let mut rounds = 0;
     while rounds < MOST_ROUNDS {
-        let Some(round) = next_round(text, &fixed, options)? else {
-            return Ok(fixed);
+        let Some(round) = next_round(text, &file_fixes, options)? else {
+            return Ok(file_fixes);
         };
-        fixed = with_round(fixed, round)?;
+        file_fixes = with_round(file_fixes, round)?;
         rounds += 1;
     }
-    Ok(fixed)
+    Ok(file_fixes)
 }

@@ -13,7 +13,8 @@ use crate::proved::format_calls::{
 use crate::proved::inlined_arguments::{inline_arguments, Call as FormatCall, Edit, Obstacle};
 use crate::proved::rust_trees::Token;
 use crate::proved::source_lint::{
-    argument_at, arguments_before, captures, ends_early, index_or, name_at, other_macro, File,
+    argument_at, arguments_before, captures_variables, ends_early, index_or, name_at, other_macro,
+    File,
 };
 use crate::proved::source_report::CallReading;
 use crate::shim::alloc::AllocError;
@@ -69,7 +70,7 @@ fn has_const_form(rule: Rule) -> bool {
 
 /// A call whose format string was found.
 #[derive(Clone, Copy)]
-struct Found<'s, 'a> {
+struct LiteralSite<'s, 'a> {
     /// The text of the file.
     text: &'a str,
     /// The tokens of the file.
@@ -82,8 +83,8 @@ struct Found<'s, 'a> {
 
 /// Returns what inlining makes of this call, which `site` is in its file.
 #[inline]
-fn inlined_as(
-    site: Found<'_, '_>,
+fn inline_format_call(
+    site: LiteralSite<'_, '_>,
     call: FormatCall<'_>,
     allows_mixed: bool,
 ) -> Result<InlinedCall, AllocError> {
@@ -121,8 +122,8 @@ fn unchanged_call(reason: CallInlining) -> InlinedCall {
 /// Returns what inlining makes of a call of a macro with this rule and this name, whose arguments
 /// are all or not.
 #[inline]
-fn inline_found(
-    site: Found<'_, '_>,
+fn inline_site(
+    site: LiteralSite<'_, '_>,
     rule: Rule,
     name: &[u8],
     is_counted: bool,
@@ -142,7 +143,7 @@ fn inline_found(
         style: literal.style,
         snippet: Some(snippet),
         appended_newline,
-        captures: captures(rule, name, is_from_2021),
+        captures_variables: captures_variables(rule, name, is_from_2021),
     };
     let call = FormatCall {
         string,
@@ -151,7 +152,7 @@ fn inline_found(
         is_format_alone: is_format_alone(rule, name, is_from_2021),
         has_const_form: has_const_form(rule),
     };
-    let inlined_call = inlined_as(site, call, allows_mixed)?;
+    let inlined_call = inline_format_call(site, call, allows_mixed)?;
     Ok(inlined_call)
 }
 
@@ -165,13 +166,13 @@ fn inline_at(
     index: usize,
     allows_mixed: bool,
 ) -> Result<InlinedCall, AllocError> {
-    let unread = CallInlining::Unread(CallReading::Malformed);
+    let unread_call = CallInlining::Unread(CallReading::Malformed);
     let Some(string) = argument_at(arguments, index) else {
-        return Ok(unchanged_call(unread));
+        return Ok(unchanged_call(unread_call));
     };
     let tokens = part.tokens();
     let Some(literal) = token_at(tokens, string.start) else {
-        return Ok(unchanged_call(unread));
+        return Ok(unchanged_call(unread_call));
     };
     let extent = extent_of(
         part.source(),
@@ -180,14 +181,14 @@ fn inline_at(
         string.start + 1,
         call.close,
     );
-    let before = arguments_before(&arguments[index + 1..], extent.end)?;
-    let site = Found {
+    let kept_arguments = arguments_before(&arguments[index + 1..], extent.end)?;
+    let site = LiteralSite {
         text: file.text,
         tokens,
         literal,
-        arguments: &before,
+        arguments: &kept_arguments,
     };
-    let inlined_call = inline_found(
+    let inlined_call = inline_site(
         site,
         call.rule,
         name_at(tokens, call.name),

@@ -15,7 +15,7 @@ use crate::shim::prelude::*;
 /// Returns the edits of a literal with lines that end with LF as edits of its token, which has
 /// these CRs more.
 #[inline]
-fn in_token(crs: &[usize], edits: &[Edit]) -> Result<Vec<Edit>, AllocError> {
+fn token_edits(crs: &[usize], edits: &[Edit]) -> Result<Vec<Edit>, AllocError> {
     let mut list = Vec::new();
     for edit in edits {
         list.try_push(Edit {
@@ -89,14 +89,14 @@ fn literal_edits(
     inlining: &InlinedCall,
 ) -> Result<Option<Vec<Edit>>, AllocError> {
     let crs = dropped_crs(literal.text)?;
-    let inside = in_token(&crs, inlining.edits.as_slice())?;
-    let Some(new) = apply_edits(literal.text, &inside)? else {
+    let inside_edits = token_edits(&crs, inlining.edits.as_slice())?;
+    let Some(new) = apply_edits(literal.text, &inside_edits)? else {
         return Ok(None);
     };
     if !is_literal(new.as_str(), inlining.literal.as_str())? {
         return Ok(None);
     }
-    move_edits(inside.as_slice(), literal.start)
+    move_edits(inside_edits.as_slice(), literal.start)
 }
 
 /// Returns the edits that inline a call, with this token as its literal and these arguments after

@@ -73,7 +73,7 @@ fn extent(finding: &Finding) -> Range<usize> {
 fn line_start(text: &str, offset: usize) -> usize {
     let (front, _) = text.split_at(text.boundary_at_most(offset));
     match front.rsplit_once('\n') {
-        Some((before, _)) => before.len() + 1,
+        Some((head, _)) => head.len() + 1,
         None => text.len() - text.strip_prefix('\u{feff}').unwrap_or(text).len(),
     }
 }
@@ -82,11 +82,11 @@ fn line_start(text: &str, offset: usize) -> usize {
 /// that is too far.
 #[inline]
 fn line_end(text: &str, offset: usize) -> Option<usize> {
-    let (_, back) = text.split_at(text.boundary_at_most(offset));
-    let (near, far) = back.split_at(back.boundary_at_most(MOST + 2));
-    let length = match near.split_once('\n') {
+    let (_, rest) = text.split_at(text.boundary_at_most(offset));
+    let (window, remainder) = rest.split_at(rest.boundary_at_most(MOST + 2));
+    let length = match window.split_once('\n') {
         Some((line, _)) => line.strip_suffix('\r').unwrap_or(line).len(),
-        None if far.is_empty() => near.len(),
+        None if remainder.is_empty() => window.len(),
         None => return None,
     };
     Some(offset.saturating_add(length))
@@ -98,12 +98,12 @@ fn excerpt_of<'a>(
     file: &File<'a>,
     range: &Range<usize>,
 ) -> Result<Option<Excerpt<'a>>, AllocError> {
-    let from = file.text.boundary_at_most(range.start);
-    let place = file.places.place_of(from);
+    let offset = file.text.boundary_at_most(range.start);
+    let place = file.places.place_of(offset);
     if range.end.saturating_sub(range.start) > MOST || place.column > MOST {
         return Ok(None);
     }
-    let start = line_start(file.text, from);
+    let start = line_start(file.text, offset);
     let Some(end) = line_end(file.text, range.end) else {
         return Ok(None);
     };

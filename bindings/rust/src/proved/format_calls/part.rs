@@ -21,8 +21,8 @@ pub enum Target {
 
 /// Returns whether arguments are searched for this token.
 #[inline]
-fn is_wanted(wanted: Target, token: &Token<'_>) -> bool {
-    match wanted {
+fn is_wanted(target: Target, token: &Token<'_>) -> bool {
+    match target {
         Target::Variable => is_mark_of(token, b'$') || is_mark_of(token, b'#'),
         Target::Raw => is_text(token, "raw"),
     }
@@ -30,9 +30,9 @@ fn is_wanted(wanted: Target, token: &Token<'_>) -> bool {
 
 /// Returns whether one of these tokens is wanted.
 #[inline]
-fn is_one_wanted(tokens: &[Token<'_>], wanted: Target) -> bool {
+fn is_one_wanted(tokens: &[Token<'_>], target: Target) -> bool {
     for token in tokens {
-        if is_wanted(wanted, token) {
+        if is_wanted(target, token) {
             return true;
         }
     }
@@ -42,15 +42,15 @@ fn is_one_wanted(tokens: &[Token<'_>], wanted: Target) -> bool {
 /// Returns for each number of tokens from the first one on how many of them end with the last one
 /// that is wanted, or nothing if none is.
 #[inline]
-fn last_ones(tokens: &[Token<'_>], wanted: Target) -> Result<Vec<usize>, AllocError> {
+fn last_ones(tokens: &[Token<'_>], target: Target) -> Result<Vec<usize>, AllocError> {
     let mut counts = Vec::new();
-    if !is_one_wanted(tokens, wanted) {
+    if !is_one_wanted(tokens, target) {
         return Ok(counts);
     }
     let mut last = 0;
     counts.try_push(last)?;
     for (index, token) in tokens.iter().enumerate() {
-        if is_wanted(wanted, token) {
+        if is_wanted(target, token) {
             last = index + 1;
         }
         counts.try_push(last)?;

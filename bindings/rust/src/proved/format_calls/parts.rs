@@ -13,10 +13,10 @@ use crate::shim::alloc::AllocError;
 pub fn opens_call(
     rows: &[Row<'_>],
     name: &Token<'_>,
-    mark: &Token<'_>,
+    bang: &Token<'_>,
     opening: &Token<'_>,
 ) -> bool {
-    is_mark_of(mark, b'!')
+    is_mark_of(bang, b'!')
         && is_opening(opening.side())
         && is_word(name)
         && rule_of(rows, word(name)).is_some()
@@ -30,14 +30,14 @@ pub struct Window<'a> {
     /// The first one.
     pub name: Option<Token<'a>>,
     /// The second one.
-    pub mark: Option<Token<'a>>,
+    pub bang: Option<Token<'a>>,
 }
 
 /// The first three tokens of a call: a word, `!` and an opening delimiter.
 #[derive(Clone, Copy)]
 pub struct Front<'a> {
     pub name: Token<'a>,
-    pub mark: Token<'a>,
+    pub bang: Token<'a>,
     pub opening: Token<'a>,
 }
 
@@ -51,13 +51,13 @@ fn front_of<'a>(rows: &[Row<'_>], last: Window<'a>, opening: Token<'a>) -> Optio
     let Some(name) = last.name else {
         return None;
     };
-    let Some(mark) = last.mark else {
+    let Some(bang) = last.bang else {
         return None;
     };
-    if opens_call(rows, &name, &mark, &opening) {
+    if opens_call(rows, &name, &bang, &opening) {
         Some(Front {
             name,
-            mark,
+            bang,
             opening,
         })
     } else {
@@ -67,15 +67,15 @@ fn front_of<'a>(rows: &[Row<'_>], last: Window<'a>, opening: Token<'a>) -> Optio
 
 /// Returns the last two tokens with one more.
 #[inline]
-fn moved_on<'a>(last: Window<'a>, token: Token<'a>) -> Window<'a> {
+fn next_window<'a>(last: Window<'a>, token: Token<'a>) -> Window<'a> {
     let is_after = match last.name {
         Some(name) => is_mark_of(&name, b'$'),
         None => last.is_after,
     };
     Window {
         is_after,
-        name: last.mark,
-        mark: Some(token),
+        name: last.bang,
+        bang: Some(token),
     }
 }
 
@@ -103,17 +103,17 @@ pub fn next_part<'a>(
     let mut last = Window {
         is_after: false,
         name: None,
-        mark: None,
+        bang: None,
     };
     while let Some(token) = rest.next() {
         balance.add(&token)?;
         if let Some(front) = front_of(&table.rows, last, token) {
-            let tokens = [front.name, front.mark, front.opening];
+            let tokens = [front.name, front.bang, front.opening];
             let part = Source::read_group(&tokens, rest)?;
             add_after_front(balance, &part)?;
             return Ok(Some(part));
         }
-        last = moved_on(last, token);
+        last = next_window(last, token);
     }
     Ok(None)
 }

@@ -191,8 +191,8 @@ const CRATES: [Row<'static>; 13] = [
 
 /// Adds rows to the end of a list.
 #[inline]
-fn push_rows<'a>(rows: &mut Vec<Row<'a>>, more: &[Row<'static>]) -> Result<(), AllocError> {
-    for row in more {
+fn push_rows<'a>(rows: &mut Vec<Row<'a>>, new_rows: &[Row<'static>]) -> Result<(), AllocError> {
+    for row in new_rows {
         rows.try_push(*row)?;
     }
     Ok(())
@@ -209,7 +209,7 @@ impl<'a> Table<'a> {
 
     /// Returns macros of the crates log, tracing, slog, anyhow and eyre.
     #[inline]
-    pub(crate) fn with_crates() -> Result<Self, AllocError> {
+    pub(crate) fn with_crate_macros() -> Result<Self, AllocError> {
         let mut rows = Vec::new();
         push_rows(&mut rows, CRATES.as_slice())?;
         Ok(Table { rows })

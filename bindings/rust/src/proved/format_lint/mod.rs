@@ -6,7 +6,7 @@
 
 pub(crate) mod faults;
 pub(crate) mod findings;
+pub(crate) mod outputs;
 pub mod run;
-pub(crate) mod shown;
 pub mod task;
 pub(crate) mod tokens;

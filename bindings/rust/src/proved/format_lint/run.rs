@@ -3,7 +3,7 @@
 // Extracted from crates/format_lint/src/run.rt by tools/extract: not to be edited.
 // That source has the contracts, and is proved. That this text means the same is only tested.
 
-use super::shown::shown_of_input;
+use super::outputs::outputs_of_input;
 use super::task::Task;
 use crate::proved::piece_listing::run::{read_input, write_whole};
 use crate::proved::piece_listing::verdict::RunFault;
@@ -29,8 +29,8 @@ pub fn run<R: Read, W: Write, E: Write>(
     let Ok(text) = core::str::from_utf8(input.as_slice()) else {
         return Err(RunFault::NotText);
     };
-    let shown = shown_of_input(text, task)?;
-    write_whole(writer, shown.output.as_bytes())?;
-    write_whole(error_writer, shown.error_output.as_bytes())?;
-    Ok(shown.mistakes)
+    let outputs = outputs_of_input(text, task)?;
+    write_whole(writer, outputs.output.as_bytes())?;
+    write_whole(error_writer, outputs.error_output.as_bytes())?;
+    Ok(outputs.mistake_count)
 }

@@ -7,7 +7,7 @@ use crate::proved::rustc_parse_format::ParseMode;
 
 /// The output that is wanted for an input.
 #[derive(Copy, Clone, Debug, Eq, PartialEq)]
-pub enum Show {
+pub enum OutputKind {
     /// The fault that the compiler shows, drawn under its source.
     Fault,
     /// All its faults, each with its id and whether it follows from an earlier one.
@@ -28,7 +28,7 @@ pub struct Task<'a> {
     pub is_literal: bool,
     /// The path that is shown for the input.
     pub path: &'a str,
-    pub show: Show,
+    pub output_kind: OutputKind,
     /// How many columns a row of a drawing has.
     pub width: usize,
     /// Whether the output has colours, for a terminal.

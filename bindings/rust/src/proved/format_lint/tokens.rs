@@ -4,7 +4,7 @@
 // Extracted from crates/format_lint/src/tokens.rt by tools/extract: not to be edited.
 // That source has the contracts, and is proved. That this text means the same is only tested.
 
-use crate::proved::drawn_lines::{is_drawn_as_is, is_drawn_as_it_is, put_glyphs};
+use crate::proved::drawn_lines::{is_drawn_as_is, is_non_ascii_drawn_as_is, put_glyphs};
 use crate::proved::format_tokens::{Kind, Token};
 use crate::proved::piece_listing::{put_quoted, put_span};
 use crate::shim::alloc::AllocError;
@@ -15,16 +15,16 @@ use crate::shim::prelude::*;
 fn kind_name(kind: Kind) -> &'static str {
     match kind {
         Kind::Text => "text",
-        Kind::Escape => "escape",
-        Kind::Open => "open",
-        Kind::Close => "close",
+        Kind::EscapedBrace => "escape",
+        Kind::OpenBrace => "open",
+        Kind::CloseBrace => "close",
         Kind::Integer => "integer",
         Kind::Identifier => "identifier",
         Kind::RawPrefix => "raw-prefix",
         Kind::Whitespace => "whitespace",
         Kind::Colon => "colon",
         Kind::Fill => "fill",
-        Kind::Align => "align",
+        Kind::Alignment => "align",
         Kind::Sign => "sign",
         Kind::NumberSign => "number-sign",
         Kind::Zero => "zero",
@@ -46,79 +46,88 @@ fn kind_name(kind: Kind) -> &'static str {
 fn colour_escape(kind: Kind) -> Option<&'static str> {
     match kind {
         Kind::Text | Kind::Whitespace | Kind::DiagnosticText | Kind::Quote => None,
-        Kind::Escape => Some("\u{1b}[34m"),
-        Kind::Open | Kind::Close | Kind::Colon | Kind::DollarSign | Kind::Dot => Some("\u{1b}[35m"),
+        Kind::EscapedBrace => Some("\u{1b}[34m"),
+        Kind::OpenBrace | Kind::CloseBrace | Kind::Colon | Kind::DollarSign | Kind::Dot => {
+            Some("\u{1b}[35m")
+        }
         Kind::Integer | Kind::Identifier | Kind::RawPrefix | Kind::Asterisk => Some("\u{1b}[36m"),
-        Kind::Fill | Kind::Align | Kind::Sign | Kind::NumberSign | Kind::Zero => Some("\u{1b}[33m"),
+        Kind::Fill | Kind::Alignment | Kind::Sign | Kind::NumberSign | Kind::Zero => {
+            Some("\u{1b}[33m")
+        }
         Kind::Type | Kind::Modifier => Some("\u{1b}[32m"),
         Kind::Unexpected => Some("\u{1b}[31m"),
         Kind::EscapeSequence => Some("\u{1b}[94m"),
     }
 }
 
-/// Adds a text as it is drawn. If `as_is`, each of its characters is drawn as it is.
+/// Adds a text as it is drawn. If `is_plain`, each of its characters is drawn as it is.
 #[inline]
-fn put_drawn(out: &mut String, as_is: bool, text: &str) -> Result<(), AllocError> {
-    if as_is {
+fn put_drawn_text(out: &mut String, is_plain: bool, text: &str) -> Result<(), AllocError> {
+    if is_plain {
         return Ok(out.try_push_str(text)?);
     }
     put_glyphs(out, text, 0)?;
     Ok(())
 }
 
-/// Adds a text in the colour of a kind, if that has one. If `as_is`, each of its characters is
+/// Adds a text in the colour of a kind, if that has one. If `is_plain`, each of its characters is
 /// drawn as it is.
 #[inline]
-fn put_in_colour(out: &mut String, as_is: bool, kind: Kind, text: &str) -> Result<(), AllocError> {
+fn put_coloured_text(
+    out: &mut String,
+    is_plain: bool,
+    kind: Kind,
+    text: &str,
+) -> Result<(), AllocError> {
     match colour_escape(kind) {
         Some(escape) => {
             out.try_push_str(escape)?;
-            put_drawn(out, as_is, text)?;
+            put_drawn_text(out, is_plain, text)?;
             out.try_push_str("\u{1b}[0m")?;
         }
-        None => put_drawn(out, as_is, text)?,
+        None => put_drawn_text(out, is_plain, text)?,
     }
     Ok(())
 }
 
-/// Adds a text in quotes as that is drawn. If `as_is`, each of its characters beyond ASCII is drawn
-/// as it is.
+/// Adds a text in quotes as that is drawn. If `is_plain`, each of its characters beyond ASCII is
+/// drawn as it is.
 #[inline]
-fn put_drawn_quoted(out: &mut String, as_is: bool, text: &str) -> Result<(), AllocError> {
-    if as_is {
+fn put_quoted_text(out: &mut String, is_plain: bool, text: &str) -> Result<(), AllocError> {
+    if is_plain {
         return put_quoted(out, text);
     }
-    let mut quoted = String::new();
-    put_quoted(&mut quoted, text)?;
-    put_glyphs(out, quoted.as_str(), 0)?;
+    let mut quoted_string = String::new();
+    put_quoted(&mut quoted_string, text)?;
+    put_glyphs(out, quoted_string.as_str(), 0)?;
     Ok(())
 }
 
-/// Adds a line with the kind, the byte range and the text of a token. If `as_is`, each character of
-/// that beyond ASCII is drawn as it is.
+/// Adds a line with the kind, the byte range and the text of a token. If `is_plain`, each character
+/// of that beyond ASCII is drawn as it is.
 #[inline]
-fn put_line(out: &mut String, as_is: bool, token: &Token, text: &str) -> Result<(), AllocError> {
+fn put_line(out: &mut String, is_plain: bool, token: &Token, text: &str) -> Result<(), AllocError> {
     out.try_push_str(kind_name(token.kind))?;
     put_span(out, ' ', &token.span)?;
     out.try_push(' ')?;
-    put_drawn_quoted(out, as_is, text)?;
+    put_quoted_text(out, is_plain, text)?;
     out.try_push('\n')?;
     Ok(())
 }
 
-/// Adds a token with this text. If `as_is`, the text is shown as it is, or quoted as it is.
+/// Adds a token with this text. If `is_plain`, the text is shown as it is, or quoted as it is.
 #[inline]
 fn put_token(
     out: &mut String,
     colours: bool,
-    as_is: bool,
+    is_plain: bool,
     token: &Token,
     text: &str,
 ) -> Result<(), AllocError> {
     if colours {
-        put_in_colour(out, as_is, token.kind, text)?;
+        put_coloured_text(out, is_plain, token.kind, text)?;
     } else {
-        put_line(out, as_is, token, text)?;
+        put_line(out, is_plain, token, text)?;
     }
     Ok(())
 }
@@ -132,11 +141,11 @@ fn split_within(text: &str, width: usize) -> (&str, &str) {
 
 /// Returns `true` only if each part of a text is shown as it is, or quoted as it is.
 #[inline]
-fn stays(colours: bool, text: &str) -> bool {
+fn stays_as_is(colours: bool, text: &str) -> bool {
     if colours {
         is_drawn_as_is(text)
     } else {
-        is_drawn_as_it_is(text)
+        is_non_ascii_drawn_as_is(text)
     }
 }
 
@@ -154,15 +163,18 @@ pub fn put_tokens(
     text: &str,
     tokens: &[Token],
 ) -> Result<(), AllocError> {
-    let each = if colours { ESCAPES_WIDTH } else { LINE_WIDTH };
+    let token_width = if colours { ESCAPES_WIDTH } else { LINE_WIDTH };
     // most often enough for all of them, so that what was written is not moved again and again
-    out.try_reserve_more(text.len().saturating_add(tokens.len().saturating_mul(each)))?;
-    let as_is = stays(colours, text);
+    out.try_reserve_more(
+        text.len()
+            .saturating_add(tokens.len().saturating_mul(token_width)),
+    )?;
+    let is_plain = stays_as_is(colours, text);
     let mut rest = text;
     for token in tokens {
         let width = token.span.end.saturating_sub(token.span.start);
         let (text, rest_after) = split_within(rest, width);
-        put_token(out, colours, as_is, token, text)?;
+        put_token(out, colours, is_plain, token, text)?;
         rest = rest_after;
     }
     Ok(())

@@ -12,11 +12,11 @@ pub enum Kind {
     /// Literal text without braces.
     Text,
     /// A doubled brace, `{{` or `}}`.
-    Escape,
+    EscapedBrace,
     /// The `{` of a placeholder.
-    Open,
+    OpenBrace,
     /// The `}` that closes a placeholder.
-    Close,
+    CloseBrace,
     /// The digits of a position, a width or a precision.
     Integer,
     /// The name of an argument.
@@ -30,7 +30,7 @@ pub enum Kind {
     /// The fill character.
     Fill,
     /// The alignment: `<`, `^` or `>`.
-    Align,
+    Alignment,
     /// The sign flag: `+` or `-`.
     Sign,
     /// The flag `#`.

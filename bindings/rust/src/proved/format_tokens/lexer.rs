@@ -67,7 +67,7 @@ fn place_whole(
     style: Option<usize>,
     literal: &str,
     appended_newline: bool,
-    names: bool,
+    needs_names: bool,
     labels: &[Label],
 ) -> Result<Vec<Token>, AllocError> {
     let count = length_of(input).saturating_sub(usize::from(appended_newline));
@@ -78,7 +78,7 @@ fn place_whole(
         kind: Kind::Quote,
         span: 0..starts[0],
     })?;
-    place(&mut tokens, names, labels, starts, count)?;
+    place(&mut tokens, needs_names, labels, starts, count)?;
     tokens.try_push(Token {
         kind: Kind::Quote,
         span: starts[starts.len() - 1]..width_of(literal),
@@ -97,15 +97,15 @@ pub fn place_labels(
     mode: ParseMode,
     labels: &[Label],
 ) -> Result<Vec<Token>, AllocError> {
-    let names = wants_names(mode);
+    let needs_names = wants_names(mode);
     let Some(literal) = source_of(input, style, snippet, appended_newline) else {
         let count = length_of(input).saturating_sub(usize::from(appended_newline));
         let starts = plain_starts(0, input, width_of(input))?;
         let mut tokens = Vec::made_for(labels.len())?;
-        place(&mut tokens, names, labels, starts.as_slice(), count)?;
+        place(&mut tokens, needs_names, labels, starts.as_slice(), count)?;
         return Ok(tokens);
     };
-    let tokens = place_whole(input, style, literal, appended_newline, names, labels)?;
+    let tokens = place_whole(input, style, literal, appended_newline, needs_names, labels)?;
     match style {
         Some(_) => Ok(tokens),
         None => {

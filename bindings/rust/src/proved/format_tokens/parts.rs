@@ -293,7 +293,7 @@ fn format<'a>(
     text: &'a str,
 ) -> Result<&'a str, AllocError> {
     let align = take(labels, Kind::Fill, fill_width(format.fill), text)?;
-    let sign = take(labels, Kind::Align, align_width(format.align), align)?;
+    let sign = take(labels, Kind::Alignment, align_width(format.align), align)?;
     let alternate = take(labels, Kind::Sign, sign_width(format.sign), sign)?;
     let number = take(
         labels,

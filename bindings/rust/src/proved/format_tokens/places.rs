@@ -49,30 +49,30 @@ pub fn ordinary_starts(snippet: &str, appended_newline: bool) -> Result<Vec<usiz
 }
 
 /// Adds the tokens of the first `count` characters, with those marked that are out of place.
-/// `names` says whether only names are accepted, `starts` where the characters start.
+/// `needs_names` says whether only names are accepted, `starts` where the characters start.
 #[inline]
 pub fn place(
     tokens: &mut Vec<Token>,
-    names: bool,
+    needs_names: bool,
     labels: &[Label],
     starts: &[usize],
     count: usize,
 ) -> Result<(), AllocError> {
     let mut at = 0;
-    let mut inside = false;
+    let mut is_inside = false;
     let mut rest = labels;
     while let Some((label, others)) = rest.split_first() {
         let role = role_of(label.kind);
-        let fits = fits(names, inside, role, others);
+        let is_in_place = fits(needs_names, is_inside, role, others);
         let to = at + label.width.min(count - at);
         if at < to {
             tokens.try_push(Token {
-                kind: marked_kind(label.kind, fits),
+                kind: marked_kind(label.kind, is_in_place),
                 span: starts[at]..starts[to],
             })?;
         }
         at = to;
-        inside = inside_after(inside, fits, role);
+        is_inside = inside_after(is_inside, is_in_place, role);
         rest = others;
     }
     Ok(())

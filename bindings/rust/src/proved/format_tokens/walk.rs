@@ -33,7 +33,7 @@ fn is_closed(bytes: usize, text: &str) -> bool {
 fn skip<'a>(labels: &mut Vec<Label>, bytes: usize, text: &'a str) -> Result<&'a str, AllocError> {
     let brace = usize::from(is_closed(bytes, text));
     let close = take(labels, Kind::Unexpected, bytes.saturating_sub(brace), text)?;
-    let rest = take(labels, Kind::Close, brace, close)?;
+    let rest = take(labels, Kind::CloseBrace, brace, close)?;
     Ok(rest)
 }
 
@@ -47,7 +47,7 @@ fn placeholder<'a>(
     rest_len: usize,
     text: &'a str,
 ) -> Result<&'a str, AllocError> {
-    let field = take(labels, Kind::Open, 1, text)?;
+    let field = take(labels, Kind::OpenBrace, 1, text)?;
     let space = position(labels, &argument.position, field)?;
     let spec = take(
         labels,
@@ -62,9 +62,9 @@ fn placeholder<'a>(
         run_width(last, Run::Whitespace),
         last,
     )?;
-    let rest = take(labels, Kind::Close, usize::from(begins(end, '}')), end)?;
-    let after = skip(labels, width_of(rest).saturating_sub(rest_len), rest)?;
-    Ok(after)
+    let rest = take(labels, Kind::CloseBrace, usize::from(begins(end, '}')), end)?;
+    let rest_after = skip(labels, width_of(rest).saturating_sub(rest_len), rest)?;
+    Ok(rest_after)
 }
 
 /// Returns the byte length of the doubled brace at the start of a piece of literal text, or 0 if it
@@ -86,14 +86,14 @@ fn literal<'a>(
     rest_len: usize,
     text: &'a str,
 ) -> Result<&'a str, AllocError> {
-    let rest = take(labels, Kind::Escape, escape_width(text), text)?;
-    let after = take(
+    let rest = take(labels, Kind::EscapedBrace, escape_width(text), text)?;
+    let rest_after = take(
         labels,
         Kind::Text,
         width_of(rest).saturating_sub(rest_len),
         rest,
     )?;
-    Ok(after)
+    Ok(rest_after)
 }
 
 /// Adds the labels of a call at the start of a text, and returns the rest of the text after it:
@@ -109,22 +109,22 @@ pub fn label<'a>(
     text: &'a str,
 ) -> Result<&'a str, AllocError> {
     let Some(piece) = piece else {
-        let after = take(
+        let rest_after = take(
             labels,
-            Kind::Close,
+            Kind::CloseBrace,
             width_of(text).saturating_sub(rest_len),
             text,
         )?;
-        return Ok(after);
+        return Ok(rest_after);
     };
     match piece {
         PieceKind::Lit(_) => {
-            let after = literal(labels, rest_len, text)?;
-            Ok(after)
+            let rest_after = literal(labels, rest_len, text)?;
+            Ok(rest_after)
         }
         PieceKind::NextArgument => {
-            let after = placeholder(labels, mode, argument, rest_len, text)?;
-            Ok(after)
+            let rest_after = placeholder(labels, mode, argument, rest_len, text)?;
+            Ok(rest_after)
         }
     }
 }

@@ -8,7 +8,7 @@ use crate::proved::formatlint::rewrites::{apply_rewrite, Rewrite};
 use crate::proved::formatlint::totals::Totals;
 use crate::proved::formatlint::walk::Walk;
 use crate::proved::lint_program::{
-    is_option, replace, tell_of_terminal, Change, Editions, Failure, Recorder,
+    is_option, print_hint, replace, Change, Editions, Failure, Recorder,
 };
 use crate::proved::lint_words::Form;
 use crate::proved::piece_listing::run::write_whole;
@@ -65,9 +65,9 @@ struct Run<'a> {
 #[inline]
 fn break_words(kind: BreakKind) -> &'static str {
     match kind {
-        BreakKind::Unclosed => "this delimiter is not closed",
-        BreakKind::Unexpected => "unexpected closing delimiter",
-        BreakKind::Unended => "this literal or comment has no end",
+        BreakKind::UnclosedDelimiter => "this delimiter is not closed",
+        BreakKind::UnexpectedDelimiter => "unexpected closing delimiter",
+        BreakKind::UnterminatedToken => "this literal or comment has no end",
     }
 }
 
@@ -147,8 +147,8 @@ struct FileText<'a> {
 #[inline]
 fn text_of(bytes: &[u8]) -> FileText<'_> {
     let is_cut = bytes.len() > MOST;
-    let read = bytes.get(..MOST).unwrap_or(bytes);
-    match core::str::from_utf8(read) {
+    let front = bytes.get(..MOST).unwrap_or(bytes);
+    match core::str::from_utf8(front) {
         Ok(text) if is_cut => FileText {
             text,
             extent: Extent::Front,
@@ -158,8 +158,8 @@ fn text_of(bytes: &[u8]) -> FileText<'_> {
             extent: Extent::Whole,
         },
         Err(error) => {
-            let front = read.get(..error.valid_up_to()).unwrap_or(&[]);
-            let text = core::str::from_utf8(front).unwrap_or("");
+            let valid_front = front.get(..error.valid_up_to()).unwrap_or(&[]);
+            let text = core::str::from_utf8(valid_front).unwrap_or("");
             let extent = if is_cut && error.error_len().is_none() {
                 Extent::Front
             } else {
@@ -172,7 +172,7 @@ fn text_of(bytes: &[u8]) -> FileText<'_> {
 
 /// Adds a failure to the totals if a file was not read to its end.
 #[inline]
-fn tell_end(
+fn add_break(
     rt: &crate::shim::host::HostRuntime,
     totals: &mut Totals,
     file: &File<'_>,
@@ -231,7 +231,7 @@ impl<'a> Run<'a> {
             self.put_findings(rt, &file, report)?;
             self.flush(rt)?;
         }
-        tell_end(rt, &mut self.totals, &file, extent, report);
+        add_break(rt, &mut self.totals, &file, extent, report);
         Ok(())
     }
 
@@ -322,8 +322,8 @@ impl<'a> Run<'a> {
     ) -> Result<(), Failure> {
         let FileText { text, extent } = text_of(bytes);
         self.options.is_from_2021 = match self.editions.is_from_2021(rt, path) {
-            Ok(known) => known,
-            Err(error) => return Err(Failure::of(error)),
+            Ok(is_from_2021) => is_from_2021,
+            Err(error) => return Err(Failure::new(error)),
         };
         let Some(change) = self.request.change else {
             return self.report(rt, path, text, extent);
@@ -341,7 +341,7 @@ impl<'a> Run<'a> {
     /// Reads standard input.
     #[inline]
     fn lint_stdin(&mut self, rt: &crate::shim::host::HostRuntime) -> Result<(), Failure> {
-        tell_of_terminal(rt);
+        print_hint(rt);
         let path = self.request.stdin_path.unwrap_or("<stdin>");
         match read_all(rt, rt.stdin()) {
             Ok(bytes) => self.lint(rt, path, bytes.as_slice(), Origin::Stdin),
@@ -359,11 +359,11 @@ impl<'a> Run<'a> {
         rt: &crate::shim::host::HostRuntime,
         path: &str,
     ) -> Result<(), Failure> {
-        let read = match fs::open(rt, path) {
+        let result = match fs::open(rt, path) {
             Ok(file) => read_all(rt, file),
             Err(error) => Err(error),
         };
-        match read {
+        match result {
             Ok(bytes) => self.lint(rt, path, bytes.as_slice(), Origin::File),
             Err(error) => {
                 self.totals.fail(rt, path, &error);

@@ -11,36 +11,36 @@ use crate::proved::inlined_arguments::Obstacle;
 #[derive(Clone, Copy)]
 pub struct Inlinings {
     /// The number of calls that are inlined.
-    pub inlined: usize,
-    uncounted: usize,
-    no_variable: usize,
-    mixed: usize,
-    captures_none: usize,
-    alone: usize,
+    pub inlined_calls: usize,
+    uncounted_calls: usize,
+    calls_without_variable: usize,
+    mixed_calls: usize,
+    captureless_calls: usize,
+    lone_strings: usize,
     const_form: usize,
     comment: usize,
-    faulty: usize,
-    no_literal: usize,
+    faulty_calls: usize,
+    calls_without_literal: usize,
     other_meaning: usize,
     assembly: usize,
-    spoiled: usize,
+    spoiled_calls: usize,
 }
 
 /// The numbers before the first call.
 pub const NO_CALLS: Inlinings = Inlinings {
-    inlined: 0,
-    uncounted: 0,
-    no_variable: 0,
-    mixed: 0,
-    captures_none: 0,
-    alone: 0,
+    inlined_calls: 0,
+    uncounted_calls: 0,
+    calls_without_variable: 0,
+    mixed_calls: 0,
+    captureless_calls: 0,
+    lone_strings: 0,
     const_form: 0,
     comment: 0,
-    faulty: 0,
-    no_literal: 0,
+    faulty_calls: 0,
+    calls_without_literal: 0,
     other_meaning: 0,
     assembly: 0,
-    spoiled: 0,
+    spoiled_calls: 0,
 };
 
 /// Adds one.
@@ -54,15 +54,15 @@ impl Inlinings {
     #[inline]
     fn add_obstacle(&mut self, reason: Obstacle) {
         match reason {
-            Obstacle::Uncounted => count(&mut self.uncounted),
-            Obstacle::NoVariable => count(&mut self.no_variable),
-            Obstacle::Mixed => count(&mut self.mixed),
-            Obstacle::CapturesNone => count(&mut self.captures_none),
-            Obstacle::Alone => count(&mut self.alone),
+            Obstacle::Uncounted => count(&mut self.uncounted_calls),
+            Obstacle::NoVariable => count(&mut self.calls_without_variable),
+            Obstacle::Mixed => count(&mut self.mixed_calls),
+            Obstacle::CapturesNone => count(&mut self.captureless_calls),
+            Obstacle::Alone => count(&mut self.lone_strings),
             Obstacle::ConstForm => count(&mut self.const_form),
             Obstacle::Comment => count(&mut self.comment),
-            Obstacle::Faulty => count(&mut self.faulty),
-            Obstacle::NoLiteral => count(&mut self.no_literal),
+            Obstacle::Faulty => count(&mut self.faulty_calls),
+            Obstacle::NoLiteral => count(&mut self.calls_without_literal),
             Obstacle::OtherMeaning => count(&mut self.other_meaning),
         }
     }
@@ -72,8 +72,8 @@ impl Inlinings {
     pub fn add(&mut self, file: &RewrittenFile) {
         for call in &file.calls {
             match *call {
-                CallInlining::Inlined if file.has_inlines => count(&mut self.inlined),
-                CallInlining::Inlined => count(&mut self.spoiled),
+                CallInlining::Inlined if file.has_inlines => count(&mut self.inlined_calls),
+                CallInlining::Inlined => count(&mut self.spoiled_calls),
                 CallInlining::Unchanged(reason) => self.add_obstacle(reason),
                 CallInlining::Assembly => count(&mut self.assembly),
                 CallInlining::Unread(_) => {}
@@ -85,22 +85,25 @@ impl Inlinings {
     #[inline]
     pub fn rows(&self) -> [(usize, &'static str); 12] {
         [
-            (self.no_variable, "no argument is a variable"),
-            (self.mixed, "another argument is no variable"),
-            (self.uncounted, "the number of arguments is not known"),
-            (self.captures_none, "the macro captures no variables"),
-            (self.alone, "the string alone may be no format string"),
+            (self.calls_without_variable, "no argument is a variable"),
+            (self.mixed_calls, "another argument is no variable"),
+            (self.uncounted_calls, "the number of arguments is not known"),
+            (self.captureless_calls, "the macro captures no variables"),
+            (
+                self.lone_strings,
+                "the string alone may be no format string",
+            ),
             (
                 self.const_form,
                 "a const fn may make the call only as it is",
             ),
             (self.comment, "a comment would go with an argument"),
-            (self.faulty, "the call is not clean"),
-            (self.no_literal, "the literal is not known"),
+            (self.faulty_calls, "the call is not clean"),
+            (self.calls_without_literal, "the literal is not known"),
             (self.other_meaning, "it would mean something else"),
             (self.assembly, "a template of assembly"),
             (
-                self.spoiled,
+                self.spoiled_calls,
                 "the file has other faults with them, or breaks",
             ),
         ]

@@ -13,8 +13,8 @@ pub(crate) mod walk;
 use crate::proved::drawn_lines::WIDTH;
 use crate::proved::fault_rules::{put_explanation, rule_of, RULES};
 use crate::proved::lint_program::{
-    change_of, command, form_of, has_colours, literal_status, table_of, tell, width_of, Change,
-    VERSION,
+    change_of, command, form_of, has_colours, literal_status, print_failure, table_of, width_of,
+    Change, VERSION,
 };
 use crate::proved::lint_words::Form;
 use crate::proved::source_report::Options;
@@ -44,8 +44,8 @@ const NO_STDIN: &str = "--stdin-path names standard input, and no path is -";
 
 /// Returns the error that a value of the arguments is wrong, with the reason.
 #[inline]
-fn value_error(rt: &crate::shim::host::HostRuntime, why: &str) -> Result<u8, Error> {
-    Err(command()?.error(ErrorKind::ValueValidation, why)?)
+fn value_error(rt: &crate::shim::host::HostRuntime, reason: &str) -> Result<u8, Error> {
+    Err(command()?.error(ErrorKind::ValueValidation, reason)?)
 }
 
 /// Appends the ids of all kinds of faults, each in a line.
@@ -63,7 +63,7 @@ fn put_ids(out: &mut String) -> Result<(), AllocError> {
 fn print(rt: &crate::shim::host::HostRuntime, text: &str) -> u8 {
     match write(rt, text) {
         Ok(()) => 0,
-        Err(failure) => tell(rt, "<stdout>", &[], &failure),
+        Err(failure) => print_failure(rt, "<stdout>", &[], &failure),
     }
 }
 
@@ -71,12 +71,12 @@ fn print(rt: &crate::shim::host::HostRuntime, text: &str) -> u8 {
 /// several, or `None` if each wants more than a third of the word changed, as rustc does for names.
 #[inline]
 fn similar_id(word: &str) -> Result<Option<&'static str>, AllocError> {
-    let mut most = word.len().max(3) / 3;
+    let mut limit = word.len().max(3) / 3;
     let mut id = None;
     for rule in &RULES {
         let count = levenshtein(word, rule.id)?;
-        if count < most || count == most && id.is_none() {
-            most = count;
+        if count < limit || count == limit && id.is_none() {
+            limit = count;
             id = Some(rule.id);
         }
     }
@@ -86,15 +86,15 @@ fn similar_id(word: &str) -> Result<Option<&'static str>, AllocError> {
 /// Returns the error that no kind of fault has this id.
 #[inline]
 fn id_error(rt: &crate::shim::host::HostRuntime, id: &str) -> Result<u8, Error> {
-    let why = match similar_id(id)? {
-        Some(other) => crate::shim::try_format!(
-            "no kind of fault has the id '{id}'\n\n  tip: a similar id exists: '{other}'"
+    let reason = match similar_id(id)? {
+        Some(similar_id) => crate::shim::try_format!(
+            "no kind of fault has the id '{id}'\n\n  tip: a similar id exists: '{similar_id}'"
         )?,
         None => {
             crate::shim::try_format!("no kind of fault has the id '{id}': --list-ids lists all")?
         }
     };
-    value_error(rt, why.as_str())
+    value_error(rt, reason.as_str())
 }
 
 /// Writes the explanation of the kind of fault with this id. Returns the exit status, and `Err` if
@@ -135,7 +135,7 @@ fn is_preview(change: Option<Change>) -> bool {
 #[inline]
 fn status_of(totals: &Totals, change: Option<Change>) -> u8 {
     let is_found = if is_preview(change) {
-        totals.changed > 0
+        totals.changed_files > 0
     } else {
         totals.faults > 0
     };
@@ -158,7 +158,7 @@ fn read_files(
 ) -> u8 {
     let (totals, result) = lint(rt, request, options);
     if let Err(failure) = result {
-        return tell(rt, "<stdout>", &[], &failure);
+        return print_failure(rt, "<stdout>", &[], &failure);
     }
     if matches.get_flag("stats") {
         totals.show_counts(rt);
@@ -181,11 +181,11 @@ fn files_status(
     let table = match table_of(matches.get_strs("macro").unwrap_or(&[])) {
         Ok(table) => table,
         Err(Some(word)) => {
-            let why = crate::shim::try_format!(
+            let reason = crate::shim::try_format!(
                 "invalid value '{word}' for '--macro <NAME:INDEX>': \
                 it is the name of a macro and a number, as in say:0"
             )?;
-            return value_error(rt, why.as_str());
+            return value_error(rt, reason.as_str());
         }
         Err(None) => return Err(crate::shim::alloc::refused()),
     };
@@ -243,8 +243,8 @@ fn status(rt: &crate::shim::host::HostRuntime, words: &[String]) -> Result<u8, E
 
 /// Writes to standard error why the arguments cannot be read, and returns this exit status.
 #[inline]
-fn fail(rt: &crate::shim::host::HostRuntime, why: &str, status: u8) -> ExitCode {
-    let _ = crate::shim::eprintln_in!(rt; "formatlint: {why}");
+fn fail(rt: &crate::shim::host::HostRuntime, reason: &str, status: u8) -> ExitCode {
+    let _ = crate::shim::eprintln_in!(rt; "formatlint: {reason}");
     ExitCode::from(status)
 }
 

@@ -37,13 +37,13 @@ pub struct RewrittenFile {
 /// Returns a text with suggestions applied.
 #[inline]
 fn fix_text(text: &str, options: &Options<'_>) -> Result<RewrittenFile, AllocError> {
-    let fixed = fixes(text, options)?;
+    let file_fixes = fixes(text, options)?;
     Ok(RewrittenFile {
-        text: fixed.text,
-        fixes: fixed.ids.len(),
+        text: file_fixes.text,
+        fixes: file_fixes.ids.len(),
         calls: Vec::new(),
         has_inlines: false,
-        report: fixed.report,
+        report: file_fixes.report,
     })
 }
 
@@ -54,13 +54,13 @@ fn inline_text(
     options: &Options<'_>,
     rewrite: Rewrite,
 ) -> Result<RewrittenFile, AllocError> {
-    let inlined = inlines(text, options, rewrite.allows_mixed)?;
+    let file_inlines = inlines(text, options, rewrite.allows_mixed)?;
     Ok(RewrittenFile {
-        has_inlines: inlined.text.is_some(),
-        text: inlined.text,
+        has_inlines: file_inlines.text.is_some(),
+        text: file_inlines.text,
         fixes: 0,
-        calls: inlined.calls,
-        report: inlined.report,
+        calls: file_inlines.calls,
+        report: file_inlines.report,
     })
 }
 
@@ -75,17 +75,17 @@ pub fn apply_rewrite(
     if !rewrite.fixes {
         return inline_text(text, options, rewrite);
     }
-    let fixed = fix_text(text, options)?;
+    let fixed_file = fix_text(text, options)?;
     if !rewrite.inlines {
-        return Ok(fixed);
+        return Ok(fixed_file);
     }
-    let mut outcome = match &fixed.text {
+    let mut outcome = match &fixed_file.text {
         Some(text) => inline_text(text.as_str(), options, rewrite)?,
         None => inline_text(text, options, rewrite)?,
     };
-    outcome.fixes = fixed.fixes;
+    outcome.fixes = fixed_file.fixes;
     if outcome.text.is_none() {
-        outcome.text = fixed.text;
+        outcome.text = fixed_file.text;
     }
     Ok(outcome)
 }

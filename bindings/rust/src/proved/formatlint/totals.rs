@@ -16,18 +16,18 @@ use crate::shim::prelude::*;
 use std::io;
 
 /// The numbers of calls whose format string was not read, by the reason.
-struct Unread {
-    missing: usize,
+struct UnreadCalls {
+    missing_strings: usize,
     edition: usize,
     variable: usize,
     suffix: usize,
-    inner: usize,
+    inner_macros: usize,
     expression: usize,
-    empty: usize,
-    joined: usize,
-    redefined: usize,
-    foreign: usize,
-    malformed: usize,
+    empty_arguments: usize,
+    joined_arguments: usize,
+    redefined_macros: usize,
+    foreign_macros: usize,
+    malformed_literals: usize,
 }
 
 /// The numbers of files, calls, faults and failures of a run.
@@ -35,17 +35,17 @@ pub struct Totals {
     /// The number of files that were read, at least in part.
     pub files: usize,
     calls: usize,
-    whole: usize,
-    alone: usize,
-    unread: Unread,
+    whole_calls: usize,
+    lone_strings: usize,
+    unread_calls: UnreadCalls,
     /// The number of faults that were found.
     pub faults: usize,
     /// The number of warnings that were found.
     pub warnings: usize,
     /// The number of files that are changed.
-    pub changed: usize,
+    pub changed_files: usize,
     /// The number of faults and warnings that are fixed.
-    fixed: usize,
+    fixed_faults: usize,
     inlinings: Inlinings,
     /// The number of files and folders, or parts of them, that could not be read.
     pub failures: usize,
@@ -75,8 +75,8 @@ fn put_step(out: &mut String, path: &str, failure: &StepFailure) -> Result<(), A
     let reason = match &failure.error {
         Some(error) => {
             let words = crate::shim::try_format!("{error}")?;
-            let why = system_words(words.as_str());
-            crate::shim::try_format!("not written: {step}: {why}")?
+            let text = system_words(words.as_str());
+            crate::shim::try_format!("not written: {step}: {text}")?
         }
         None => crate::shim::try_format!("not written: {step}")?,
     };
@@ -93,16 +93,16 @@ fn show_rows(rt: &crate::shim::host::HostRuntime, rows: &[(usize, &'static str)]
     }
 }
 
-impl Unread {
+impl UnreadCalls {
     /// Counts a call.
     #[inline]
     fn add(&mut self, reason: Reason) {
         match reason {
-            Reason::NoArgument => count(&mut self.missing),
+            Reason::NoArgument => count(&mut self.missing_strings),
             Reason::Edition => count(&mut self.edition),
             Reason::Variable => count(&mut self.variable),
             Reason::Suffix => count(&mut self.suffix),
-            Reason::Macro => count(&mut self.inner),
+            Reason::Macro => count(&mut self.inner_macros),
             Reason::Expression => count(&mut self.expression),
         }
     }
@@ -111,17 +111,17 @@ impl Unread {
     #[inline]
     fn rows(&self) -> [(usize, &'static str); 11] {
         [
-            (self.missing, "no format string"),
+            (self.missing_strings, "no format string"),
             (self.edition, "a lone message, before the edition 2021"),
-            (self.redefined, "the file defines the macro"),
-            (self.foreign, "a path of another crate"),
+            (self.redefined_macros, "the file defines the macro"),
+            (self.foreign_macros, "a path of another crate"),
             (self.variable, "a variable of a macro"),
-            (self.inner, "a macro inside"),
+            (self.inner_macros, "a macro inside"),
             (self.expression, "another expression"),
             (self.suffix, "a literal with a suffix"),
-            (self.empty, "no expression before a comma"),
-            (self.joined, "no comma between two expressions"),
-            (self.malformed, "a literal with a wrong escape"),
+            (self.empty_arguments, "no expression before a comma"),
+            (self.joined_arguments, "no comma between two expressions"),
+            (self.malformed_literals, "a literal with a wrong escape"),
         ]
     }
 }
@@ -133,25 +133,25 @@ impl Totals {
         Totals {
             files: 0,
             calls: 0,
-            whole: 0,
-            alone: 0,
-            unread: Unread {
-                missing: 0,
+            whole_calls: 0,
+            lone_strings: 0,
+            unread_calls: UnreadCalls {
+                missing_strings: 0,
                 edition: 0,
                 variable: 0,
                 suffix: 0,
-                inner: 0,
+                inner_macros: 0,
                 expression: 0,
-                empty: 0,
-                joined: 0,
-                redefined: 0,
-                foreign: 0,
-                malformed: 0,
+                empty_arguments: 0,
+                joined_arguments: 0,
+                redefined_macros: 0,
+                foreign_macros: 0,
+                malformed_literals: 0,
             },
             faults: 0,
             warnings: 0,
-            changed: 0,
-            fixed: 0,
+            changed_files: 0,
+            fixed_faults: 0,
             inlinings: NO_CALLS,
             failures: 0,
             progress: Progress::new(rt),
@@ -175,14 +175,14 @@ impl Totals {
     fn add_call(&mut self, reading: CallReading) {
         count(&mut self.calls);
         match reading {
-            CallReading::Whole => count(&mut self.whole),
-            CallReading::StringAlone => count(&mut self.alone),
-            CallReading::RedefinedMacro => count(&mut self.unread.redefined),
-            CallReading::ForeignMacro => count(&mut self.unread.foreign),
-            CallReading::NoExpression => count(&mut self.unread.empty),
-            CallReading::NoComma => count(&mut self.unread.joined),
-            CallReading::Malformed => count(&mut self.unread.malformed),
-            CallReading::Unread(reason) => self.unread.add(reason),
+            CallReading::Whole => count(&mut self.whole_calls),
+            CallReading::StringAlone => count(&mut self.lone_strings),
+            CallReading::RedefinedMacro => count(&mut self.unread_calls.redefined_macros),
+            CallReading::ForeignMacro => count(&mut self.unread_calls.foreign_macros),
+            CallReading::NoExpression => count(&mut self.unread_calls.empty_arguments),
+            CallReading::NoComma => count(&mut self.unread_calls.joined_arguments),
+            CallReading::Malformed => count(&mut self.unread_calls.malformed_literals),
+            CallReading::Unread(reason) => self.unread_calls.add(reason),
         }
     }
 
@@ -211,8 +211,8 @@ impl Totals {
     /// Counts a changed file, and how many faults and warnings are fixed in it.
     #[inline]
     pub fn add_change(&mut self, fixes: usize) {
-        count(&mut self.changed);
-        self.fixed = self.fixed.saturating_add(fixes);
+        count(&mut self.changed_files);
+        self.fixed_faults = self.fixed_faults.saturating_add(fixes);
     }
 
     /// Counts a failure, and writes to standard error why the file with this path was not
@@ -240,14 +240,14 @@ impl Totals {
         count(&mut self.failures);
         self.progress.clear(rt);
         let mut out = String::new();
-        let put = match crate::shim::try_format!("{error}") {
+        let result = match crate::shim::try_format!("{error}") {
             Ok(words) => {
-                let why = system_words(words.as_str());
-                put_failure(&mut out, path, RunFault::Read, why)
+                let reason = system_words(words.as_str());
+                put_failure(&mut out, path, RunFault::Read, reason)
             }
             Err(error) => Err(error),
         };
-        let _ = match put {
+        let _ = match result {
             Ok(()) => rt.eprint(out.as_str()),
             Err(_) => rt.eprintln("formatlint: out of memory"),
         };
@@ -260,12 +260,12 @@ impl Totals {
         rt: &crate::shim::host::HostRuntime,
         path: &str,
         place: Place,
-        why: &str,
+        reason: &str,
     ) {
         count(&mut self.failures);
         self.progress.clear(rt);
         let mut out = String::new();
-        let _ = match put_place_failure(&mut out, path, place, why) {
+        let _ = match put_place_failure(&mut out, path, place, reason) {
             Ok(()) => rt.eprint(out.as_str()),
             Err(_) => rt.eprintln("formatlint: out of memory"),
         };
@@ -274,26 +274,30 @@ impl Totals {
     /// Returns how many format strings were read.
     #[inline]
     fn strings(&self) -> usize {
-        self.whole.saturating_add(self.alone)
+        self.whole_calls.saturating_add(self.lone_strings)
     }
 
     /// Writes how many faults are fixed and calls are inlined, and in how many files.
     #[inline]
     fn show_changes(&self, rt: &crate::shim::host::HostRuntime, is_preview: bool) {
-        let (fixed, inlined, changed) = (self.fixed, self.inlinings.inlined, self.changed);
+        let (faults, calls, files) = (
+            self.fixed_faults,
+            self.inlinings.inlined_calls,
+            self.changed_files,
+        );
         let mut sign = ",";
-        if fixed > 0 {
+        if faults > 0 {
             let word = if is_preview { "to fix" } else { "fixed" };
-            let _ = crate::shim::eprint_in!(rt; " left, {fixed} {word}");
+            let _ = crate::shim::eprint_in!(rt; " left, {faults} {word}");
             sign = " and";
         }
-        if inlined > 0 {
-            let of_calls = plural_ending(inlined);
+        if calls > 0 {
+            let call_ending = plural_ending(calls);
             let word = if is_preview { "to inline" } else { "inlined" };
-            let _ = crate::shim::eprint_in!(rt; "{sign} {inlined} call{of_calls} {word}");
+            let _ = crate::shim::eprint_in!(rt; "{sign} {calls} call{call_ending} {word}");
         }
-        let of_changed = plural_ending(changed);
-        let _ = crate::shim::eprint_in!(rt; " in {changed} file{of_changed}");
+        let file_ending = plural_ending(files);
+        let _ = crate::shim::eprint_in!(rt; " in {files} file{file_ending}");
     }
 
     /// Writes how many files and format strings were read, how many faults were found, and what is
@@ -301,16 +305,16 @@ impl Totals {
     #[inline]
     pub fn sum_up(&self, rt: &crate::shim::host::HostRuntime, is_preview: bool) {
         let (files, strings, faults) = (self.files, self.strings(), self.faults);
-        let (of_files, of_strings) = (plural_ending(files), plural_ending(strings));
-        let of_faults = plural_ending(faults);
-        let _ = crate::shim::eprint_in!(rt; "{files} file{of_files}, {strings} format string{of_strings}: ");
-        let _ = crate::shim::eprint_in!(rt; "{faults} fault{of_faults}");
+        let (file_ending, string_ending) = (plural_ending(files), plural_ending(strings));
+        let fault_ending = plural_ending(faults);
+        let _ = crate::shim::eprint_in!(rt; "{files} file{file_ending}, {strings} format string{string_ending}: ");
+        let _ = crate::shim::eprint_in!(rt; "{faults} fault{fault_ending}");
         if self.warnings > 0 {
             let warnings = self.warnings;
-            let of_warnings = plural_ending(warnings);
-            let _ = crate::shim::eprint_in!(rt; ", {warnings} warning{of_warnings}");
+            let warning_ending = plural_ending(warnings);
+            let _ = crate::shim::eprint_in!(rt; ", {warnings} warning{warning_ending}");
         }
-        if self.changed > 0 {
+        if self.changed_files > 0 {
             self.show_changes(rt, is_preview);
         }
         let _ = rt.eprintln("");
@@ -323,25 +327,25 @@ impl Totals {
         let _ = crate::shim::eprintln_in!(rt; "files: {files}");
         let _ = crate::shim::eprintln_in!(rt; "calls of known macros: {calls}");
         let _ = crate::shim::eprintln_in!(rt; "format strings that were read: {strings}");
-        if self.alone > 0 {
-            let alone = self.alone;
-            let _ = crate::shim::eprintln_in!(rt; "  without their arguments, whose number is not known: {alone}");
+        if self.lone_strings > 0 {
+            let count = self.lone_strings;
+            let _ = crate::shim::eprintln_in!(rt; "  without their arguments, whose number is not known: {count}");
         }
-        let unread = calls.saturating_sub(strings);
-        let _ = crate::shim::eprintln_in!(rt; "calls whose format string was not read: {unread}");
-        show_rows(rt, &self.unread.rows());
+        let count = calls.saturating_sub(strings);
+        let _ = crate::shim::eprintln_in!(rt; "calls whose format string was not read: {count}");
+        show_rows(rt, &self.unread_calls.rows());
     }
 
     /// Writes how many calls are inlined, and why the others that were read are left.
     #[inline]
     pub fn show_inlinings(&self, rt: &crate::shim::host::HostRuntime) {
-        let inlined = self.inlinings.inlined;
+        let count = self.inlinings.inlined_calls;
         let rows = self.inlinings.rows();
         let mut sum = 0usize;
         for (number, _) in rows {
             sum = sum.saturating_add(number);
         }
-        let _ = crate::shim::eprintln_in!(rt; "calls that are inlined: {inlined}");
+        let _ = crate::shim::eprintln_in!(rt; "calls that are inlined: {count}");
         let _ = crate::shim::eprintln_in!(rt; "calls that are left as they are: {sum}");
         show_rows(rt, &rows);
     }

@@ -72,7 +72,7 @@ fn is_bare(text: &str) -> bool {
 /// Returns the reason in its macro and its string why a call is left, or `None` if there is none.
 #[inline]
 fn string_condition(call: &Call<'_>) -> Option<Obstacle> {
-    if !call.string.captures {
+    if !call.string.captures_variables {
         return Some(Obstacle::CapturesNone);
     }
     if !call.is_format_alone && !has_other(call.arguments) {

@@ -4,7 +4,7 @@
 // That source has the contracts, and is proved. That this text means the same is only tested.
 
 use crate::proved::inlined_arguments::call::Edit;
-use crate::proved::inlined_arguments::meaning::Meant;
+use crate::proved::inlined_arguments::meaning::CallMeaning;
 use crate::proved::inlined_arguments::slots::Value;
 use crate::proved::inlined_arguments::values::{amount_of, position_value, Amount, Values};
 use crate::proved::rustc_parse_format::{Argument, Count, Piece, Position};
@@ -161,7 +161,7 @@ fn push_piece<'a>(
 /// Returns the edits of a literal whose text has these pieces: they put variables in the place of
 /// references to arguments that are these, and make the others those to the arguments that stay.
 #[inline]
-pub(crate) fn edits_of(call: Meant<'_, '_>) -> Result<Vec<Edit>, AllocError> {
+pub(crate) fn edits_of(call: CallMeaning<'_, '_>) -> Result<Vec<Edit>, AllocError> {
     let mut edits = Vec::new();
     for piece in call.pieces {
         push_piece(&mut edits, call.values, piece)?;

@@ -8,7 +8,7 @@ use crate::proved::inlined_arguments::call::{Call, InlinedCall, Obstacle};
 use crate::proved::inlined_arguments::conditions::condition;
 use crate::proved::inlined_arguments::edited::apply_edits;
 use crate::proved::inlined_arguments::edits::edits_of;
-use crate::proved::inlined_arguments::meaning::{means_same, Meant};
+use crate::proved::inlined_arguments::meaning::{means_same, CallMeaning};
 use crate::proved::inlined_arguments::reading::read;
 use crate::proved::inlined_arguments::slots::{expression_slots, givens, slots, Slot};
 use crate::proved::inlined_arguments::values::values_of;
@@ -19,8 +19,8 @@ use crate::shim::prelude::*;
 
 /// Adds the newline that a macro appends, if it does.
 #[inline]
-fn put_newline(text: &mut String, appended: bool) -> Result<(), AllocError> {
-    if appended {
+fn put_newline(text: &mut String, appends_newline: bool) -> Result<(), AllocError> {
+    if appends_newline {
         text.try_push('\n')?;
         return Ok(());
     }
@@ -41,7 +41,7 @@ fn is_same_style(left: Option<usize>, right: Option<usize>) -> bool {
 /// the old one does. The given arguments are those of the slots.
 #[inline]
 fn means_same_with<'c>(
-    old: Meant<'_, '_>,
+    old: CallMeaning<'_, '_>,
     string: FormatString<'c>,
     slots: &[Slot<'c>],
     arguments: &'c [FormatArgument<'c>],
@@ -50,7 +50,7 @@ fn means_same_with<'c>(
         return Ok(false);
     };
     let values = values_of(slots)?;
-    let new = Meant {
+    let new = CallMeaning {
         pieces: &pieces,
         values: &values,
     };
@@ -60,7 +60,11 @@ fn means_same_with<'c>(
 /// Returns whether a call with this literal in place of its own, and without the arguments that are
 /// variables, means what the old one does.
 #[inline]
-fn keeps_meaning(call: Call<'_>, old: Meant<'_, '_>, literal: &str) -> Result<bool, AllocError> {
+fn keeps_meaning(
+    call: Call<'_>,
+    old: CallMeaning<'_, '_>,
+    literal: &str,
+) -> Result<bool, AllocError> {
     let Some(LiteralText { mut text, style }) = literal_text(literal)? else {
         return Ok(false);
     };
@@ -73,7 +77,7 @@ fn keeps_meaning(call: Call<'_>, old: Meant<'_, '_>, literal: &str) -> Result<bo
         style,
         snippet: Some(literal),
         appended_newline: call.string.appended_newline,
-        captures: call.string.captures,
+        captures_variables: call.string.captures_variables,
     };
     let slots = expression_slots(old.values.slots)?;
     let arguments = givens(&slots)?;
@@ -96,7 +100,7 @@ fn inline_with<'c>(
         return Ok(Err(Obstacle::Faulty));
     };
     let values = values_of(slots)?;
-    let old = Meant {
+    let old = CallMeaning {
         pieces: &pieces,
         values: &values,
     };

@@ -87,7 +87,7 @@ fn are_same_flags(left: &FormatSpec<'_>, right: &FormatSpec<'_>) -> bool {
 
 /// A format string and the values that it refers to.
 #[derive(Clone, Copy)]
-pub(crate) struct Meant<'s, 'a> {
+pub(crate) struct CallMeaning<'s, 'a> {
     /// Its pieces.
     pub pieces: &'s [Piece<'a>],
     /// The values of its arguments.
@@ -133,7 +133,7 @@ fn are_same_parts<'a, 'b>(
 
 /// Returns whether two calls mean the same.
 #[inline]
-pub(crate) fn means_same<'a, 'b>(left: Meant<'_, 'a>, right: Meant<'_, 'b>) -> bool {
+pub(crate) fn means_same<'a, 'b>(left: CallMeaning<'_, 'a>, right: CallMeaning<'_, 'b>) -> bool {
     if left.pieces.len() != right.pieces.len() {
         return false;
     }

@@ -32,9 +32,9 @@ pub(crate) fn read<'a>(
     string: FormatString<'a>,
     arguments: &'a [FormatArgument<'a>],
 ) -> Result<Option<Vec<Piece<'a>>>, AllocError> {
-    let checked = call_faults(string, arguments)?;
-    if are_warnings(&checked.faults) {
-        Ok(Some(checked.pieces))
+    let report = call_faults(string, arguments)?;
+    if are_warnings(&report.faults) {
+        Ok(Some(report.pieces))
     } else {
         Ok(None)
     }

@@ -25,36 +25,39 @@ pub(crate) struct Values<'s, 'a> {
     /// The slots of these.
     pub slots: &'s [Slot<'a>],
     /// The value of the last one with each name.
-    pub named: BTreeMap<&'a str, Value<'a>>,
+    pub named_values: BTreeMap<&'a str, Value<'a>>,
 }
 
 /// Returns the value that a map has for a name, or `None` if it has none.
 #[inline]
-fn found_in<'a>(named: &BTreeMap<&'a str, Value<'a>>, name: &'a str) -> Option<Value<'a>> {
-    named.get(&name).copied()
+fn found_in<'a>(named_values: &BTreeMap<&'a str, Value<'a>>, name: &'a str) -> Option<Value<'a>> {
+    named_values.get(&name).copied()
 }
 
 /// Puts the value of a name into a map.
 #[inline]
 fn insert<'a>(
-    named: &mut BTreeMap<&'a str, Value<'a>>,
+    named_values: &mut BTreeMap<&'a str, Value<'a>>,
     name: &'a str,
     value: Value<'a>,
 ) -> Result<(), AllocError> {
-    named.insert_in(name, value)?;
+    named_values.insert_in(name, value)?;
     Ok(())
 }
 
 /// Returns the values of slots.
 #[inline]
 pub(crate) fn values_of<'s, 'a>(slots: &'s [Slot<'a>]) -> Result<Values<'s, 'a>, AllocError> {
-    let mut named = BTreeMap::new();
+    let mut named_values = BTreeMap::new();
     for slot in slots {
         if let Some(name) = slot.name {
-            insert(&mut named, name, slot.value)?;
+            insert(&mut named_values, name, slot.value)?;
         }
     }
-    Ok(Values { slots, named })
+    Ok(Values {
+        slots,
+        named_values,
+    })
 }
 
 /// Returns the value of an index, or `None` if no argument has it.
@@ -69,7 +72,7 @@ fn value_at<'a>(values: &Values<'_, 'a>, index: usize) -> Option<Value<'a>> {
 /// Returns the value of a name: that of the argument with this name, or else the variable.
 #[inline]
 fn value_named<'a>(values: &Values<'_, 'a>, name: &'a str) -> Value<'a> {
-    match found_in(&values.named, name) {
+    match found_in(&values.named_values, name) {
         Some(value) => value,
         None => Value::Variable(name),
     }

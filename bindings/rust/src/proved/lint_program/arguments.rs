@@ -5,7 +5,7 @@
 
 use crate::proved::drawn_lines::WIDTH;
 use crate::proved::format_calls::{Row, Rule, Table};
-use crate::proved::format_lint::task::{Show, Task};
+use crate::proved::format_lint::task::{OutputKind, Task};
 use crate::proved::lint_program::changes::Change;
 use crate::proved::lint_words::{wants_colours, ColourChoice, Form};
 use crate::proved::rust_tokens::{first_token, Kind};
@@ -47,10 +47,10 @@ fn when_of(matches: &ArgMatches<'_>) -> ColourChoice {
 /// to standard error where the output is tokens or a literal.
 #[inline]
 fn are_terminals(rt: &crate::shim::host::HostRuntime, matches: &ArgMatches<'_>) -> bool {
-    match show_of(matches) {
-        Show::Fix => rt.stderr().is_terminal(),
-        Show::Tokens => rt.stdout().is_terminal() && rt.stderr().is_terminal(),
-        Show::Fault | Show::All => rt.stdout().is_terminal(),
+    match output_kind_of(matches) {
+        OutputKind::Fix => rt.stderr().is_terminal(),
+        OutputKind::Tokens => rt.stdout().is_terminal() && rt.stderr().is_terminal(),
+        OutputKind::Fault | OutputKind::All => rt.stdout().is_terminal(),
     }
 }
 
@@ -128,15 +128,15 @@ pub fn file_of<'a>(matches: &ArgMatches<'a>) -> Option<&'a str> {
 
 /// Returns which answer is shown for one string.
 #[inline]
-fn show_of(matches: &ArgMatches<'_>) -> Show {
+fn output_kind_of(matches: &ArgMatches<'_>) -> OutputKind {
     if matches.get_flag("fix") {
-        Show::Fix
+        OutputKind::Fix
     } else if matches.get_flag("all") {
-        Show::All
+        OutputKind::All
     } else if matches.get_flag("tokens") {
-        Show::Tokens
+        OutputKind::Tokens
     } else {
-        Show::Fault
+        OutputKind::Fault
     }
 }
 
@@ -152,7 +152,7 @@ pub fn task_of<'a>(
         mode: mode_of(matches),
         is_literal: !matches.get_flag("text"),
         path,
-        show: show_of(matches),
+        output_kind: output_kind_of(matches),
         width,
         colours,
     }
@@ -200,10 +200,10 @@ pub fn table_of<'a>(words: &[&'a str]) -> Result<Table<'a>, Option<&'a str>> {
     let Ok(mut table) = Table::standard() else {
         return Err(None);
     };
-    let Ok(others) = Table::with_crates() else {
+    let Ok(crate_macros) = Table::with_crate_macros() else {
         return Err(None);
     };
-    for row in &others.rows {
+    for row in &crate_macros.rows {
         if table.rows.try_push(*row).is_err() {
             return Err(None);
         }

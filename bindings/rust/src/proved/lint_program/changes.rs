@@ -36,7 +36,7 @@ pub struct StepFailure {
 
 /// Returns the answer of a step, where a failure has its name.
 #[inline]
-fn at_step<T>(step: &'static str, answer: io::Result<T>) -> Result<T, StepFailure> {
+fn step_result<T>(step: &'static str, answer: io::Result<T>) -> Result<T, StepFailure> {
     match answer {
         Ok(value) => Ok(value),
         Err(error) => Err(StepFailure {
@@ -71,9 +71,14 @@ struct NewFile {
 #[inline]
 fn create_beside(rt: &crate::shim::host::HostRuntime, path: &str) -> io::Result<NewFile> {
     for number in 0..MOST_NAMES {
-        let beside = path_beside(rt, path, number)?;
-        match File::create_new(rt, beside.as_str()) {
-            Ok(file) => return Ok(NewFile { path: beside, file }),
+        let new_path = path_beside(rt, path, number)?;
+        match File::create_new(rt, new_path.as_str()) {
+            Ok(file) => {
+                return Ok(NewFile {
+                    path: new_path,
+                    file,
+                })
+            }
             Err(error) if error.kind() == ErrorKind::AlreadyExists => {}
             Err(error) => return Err(error),
         }
@@ -101,28 +106,28 @@ fn fill(
     rt: &crate::shim::host::HostRuntime,
     file: File,
     path: &str,
-    beside: &str,
+    new_path: &str,
     bytes: &[u8],
 ) -> Result<(), StepFailure> {
-    let data = at_step("its permissions", fs::metadata(rt, path))?;
+    let data = step_result("its permissions", fs::metadata(rt, path))?;
     let permissions = data.permissions();
-    at_step(
+    step_result(
         "its permissions",
-        fs::set_permissions(rt, beside, permissions),
+        fs::set_permissions(rt, new_path, permissions),
     )?;
     let (writer, answer) = write_bytes(file, bytes);
-    at_step("a new file beside it", answer)?;
-    at_step("a new file beside it", writer.stream.sync_all())
+    step_result("a new file beside it", answer)?;
+    step_result("a new file beside it", writer.stream.sync_all())
 }
 
 /// Returns whether a file has these bytes.
 #[inline]
 fn has_bytes(rt: &crate::shim::host::HostRuntime, path: &str, bytes: &[u8]) -> io::Result<bool> {
-    let mut now = Vec::made_for(bytes.len())?;
+    let mut buffer = Vec::made_for(bytes.len())?;
     let limit = (bytes.len() as u64).saturating_add(1);
     let file = fs::open(rt, path)?;
-    file.take(limit).read_to_end(&mut now)?;
-    Ok(now.as_slice() == bytes)
+    file.take(limit).read_to_end(&mut buffer)?;
+    Ok(buffer.as_slice() == bytes)
 }
 
 /// Puts a new file in the place of an old one, if that still has these bytes.
@@ -130,18 +135,18 @@ fn has_bytes(rt: &crate::shim::host::HostRuntime, path: &str, bytes: &[u8]) -> i
 fn put_in_place(
     rt: &crate::shim::host::HostRuntime,
     path: &str,
-    beside: &str,
+    new_path: &str,
     old: &[u8],
 ) -> Result<(), StepFailure> {
-    if !at_step("reading it again", has_bytes(rt, path, old))? {
+    if !step_result("reading it again", has_bytes(rt, path, old))? {
         return Err(StepFailure {
             step: "another program changed it",
             error: None,
         });
     }
-    at_step(
+    step_result(
         "renaming the new file beside it",
-        fs::rename(rt, beside, path),
+        fs::rename(rt, new_path, path),
     )
 }
 
@@ -170,14 +175,14 @@ pub fn replace(
     old: &[u8],
     new: &[u8],
 ) -> Result<(), StepFailure> {
-    let Some(target) = at_step("opening it", target_of(rt, path))? else {
+    let Some(target) = step_result("opening it", target_of(rt, path))? else {
         return Err(StepFailure {
             step: "it is a pipe or a device",
             error: None,
         });
     };
-    let beside = create_beside(rt, target.as_str());
-    let NewFile { path, file } = at_step("a new file beside it", beside)?;
+    let new_file = create_beside(rt, target.as_str());
+    let NewFile { path, file } = step_result("a new file beside it", new_file)?;
     let (from, to) = (path.as_str(), target.as_str());
     let answer = match fill(rt, file, to, from, new) {
         Ok(()) => put_in_place(rt, to, from, old),

@@ -91,7 +91,7 @@ fn edition_of(rt: &crate::shim::host::HostRuntime, folder: &str) -> bool {
             return is_from_2021;
         }
         match rest.rsplit_once('/') {
-            Some((above, _)) => rest = above,
+            Some((parent, _)) => rest = parent,
             None => break,
         }
     }
@@ -128,7 +128,7 @@ impl<'a> Editions<'a> {
             }
         }
         let answer = match fs::canonicalize(rt, folder) {
-            Ok(whole) => edition_of(rt, whole.as_str()),
+            Ok(path) => edition_of(rt, path.as_str()),
             Err(_) => true,
         };
         self.folder = String::made_from(folder)?;

@@ -32,7 +32,7 @@ impl From<AllocError> for Failure {
 impl Failure {
     /// Returns the failure of a read with this error.
     #[inline]
-    pub fn of(error: io::Error) -> Failure {
+    pub fn new(error: io::Error) -> Failure {
         Failure {
             fault: RunFault::Read,
             error: Some(error),
@@ -41,7 +41,7 @@ impl Failure {
 
     /// Returns whether the system's error is of this kind.
     #[inline]
-    pub fn is_of(&self, kind: io::ErrorKind) -> bool {
+    pub fn has_kind(&self, kind: io::ErrorKind) -> bool {
         match &self.error {
             Some(error) => error.kind() == kind,
             None => false,

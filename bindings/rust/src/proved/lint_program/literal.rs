@@ -37,12 +37,12 @@ fn read<R: Read>(rt: &crate::shim::host::HostRuntime, stream: R) -> Result<Vec<u
 #[inline]
 fn read_file(rt: &crate::shim::host::HostRuntime, file: Option<&str>) -> Result<Vec<u8>, Failure> {
     let Some(path) = file else {
-        tell_of_terminal(rt);
+        print_hint(rt);
         return read(rt, rt.stdin());
     };
     match fs::open(rt, path) {
         Ok(file) => read(rt, file),
-        Err(error) => Err(Failure::of(error)),
+        Err(error) => Err(Failure::new(error)),
     }
 }
 
@@ -64,7 +64,7 @@ fn without_returns(matches: &ArgMatches<'_>, file: Vec<u8>) -> Result<Vec<u8>, A
 
 /// Writes to standard error that standard input is read, if it is a terminal.
 #[inline]
-pub fn tell_of_terminal(rt: &crate::shim::host::HostRuntime) {
+pub fn print_hint(rt: &crate::shim::host::HostRuntime) {
     if rt.stdin().is_terminal() {
         let _ = rt.eprintln("formatlint: reads what is typed here, up to Ctrl-D; --help says more");
     }
@@ -122,9 +122,9 @@ fn answer_listing<W: Write>(
     let listing = listing_of(matches, input)?;
     match core::str::from_utf8(listing.bytes.as_slice()) {
         Ok(text) if rt.stdout().is_terminal() => {
-            let mut drawn = String::new();
-            put_glyphs(&mut drawn, text, 0)?;
-            write_whole(writer, drawn.as_bytes())?;
+            let mut drawing = String::new();
+            put_glyphs(&mut drawing, text, 0)?;
+            write_whole(writer, drawing.as_bytes())?;
         }
         _ => write_whole(writer, listing.bytes.as_slice())?,
     }
@@ -161,7 +161,7 @@ fn answer(
 
 /// Appends the lines with the reason why there is no answer.
 #[inline]
-fn put_why(
+fn put_reason(
     out: &mut String,
     path: &str,
     input: &[u8],
@@ -190,17 +190,17 @@ const NO_PATH: &str = "  = help: without a PATH the string is read from standard
 
 /// Writes to standard error why there is no answer, and returns the exit status.
 #[inline]
-pub fn tell(
+pub fn print_failure(
     rt: &crate::shim::host::HostRuntime,
     path: &str,
     input: &[u8],
     failure: &Failure,
 ) -> u8 {
-    if failure.is_of(ErrorKind::BrokenPipe) {
+    if failure.has_kind(ErrorKind::BrokenPipe) {
         return GONE;
     }
     let mut out = String::new();
-    let _ = match put_why(&mut out, path, input, failure) {
+    let _ = match put_reason(&mut out, path, input, failure) {
         Ok(()) => rt.eprint(out.as_str()),
         Err(_) => rt.eprintln("formatlint: out of memory"),
     };
@@ -214,10 +214,11 @@ pub fn tell(
 /// Writes to standard error how many mistakes there are besides the first, where only that is
 /// drawn.
 #[inline]
-fn tell_others(rt: &crate::shim::host::HostRuntime, matches: &ArgMatches<'_>, count: usize) {
+fn print_other_count(rt: &crate::shim::host::HostRuntime, matches: &ArgMatches<'_>, count: usize) {
     if count > 1 && !matches.get_flag("all") {
-        let others = count - 1;
-        let _ = crate::shim::eprintln_in!(rt; "formatlint: and {others} more, which --all draws");
+        let other_count = count - 1;
+        let _ =
+            crate::shim::eprintln_in!(rt; "formatlint: and {other_count} more, which --all draws");
     }
 }
 
@@ -233,8 +234,8 @@ pub fn literal_status(rt: &crate::shim::host::HostRuntime, matches: &ArgMatches<
     let bytes = match input(rt, matches, file) {
         Ok(bytes) => bytes,
         Err(failure) => {
-            let status = tell(rt, path, &[], &failure);
-            if failure.is_of(ErrorKind::NotFound) {
+            let status = print_failure(rt, path, &[], &failure);
+            if failure.has_kind(ErrorKind::NotFound) {
                 let _ = rt.eprintln(NO_PATH);
             }
             return Some(status);
@@ -242,10 +243,10 @@ pub fn literal_status(rt: &crate::shim::host::HostRuntime, matches: &ArgMatches<
     };
     match answer(rt, matches, path, bytes.as_slice()) {
         Ok(count) => {
-            tell_others(rt, matches, count);
+            print_other_count(rt, matches, count);
             Some(u8::from(count > 0))
         }
         Err(failure) if failure.fault == RunFault::Words => None,
-        Err(failure) => Some(tell(rt, path, bytes.as_slice(), &failure)),
+        Err(failure) => Some(print_failure(rt, path, bytes.as_slice(), &failure)),
     }
 }

@@ -12,7 +12,7 @@ const DELAY: u128 = 500;
 /// The line on the terminal that is standard error.
 pub struct Progress {
     /// The time when the run or the last line began, or `None` if no line is written.
-    since: Option<Instant>,
+    start: Option<Instant>,
     /// Whether the line is on the terminal.
     is_shown: bool,
 }
@@ -22,13 +22,13 @@ impl Progress {
     /// terminal.
     #[inline]
     pub fn new(rt: &crate::shim::host::HostRuntime) -> Progress {
-        let since = if rt.stderr().is_terminal() {
+        let start = if rt.stderr().is_terminal() {
             Instant::now(rt).ok()
         } else {
             None
         };
         Progress {
-            since,
+            start,
             is_shown: false,
         }
     }
@@ -36,8 +36,8 @@ impl Progress {
     /// Returns whether the line is to be written.
     #[inline]
     fn is_due(&self, rt: &crate::shim::host::HostRuntime) -> bool {
-        match &self.since {
-            Some(since) => match since.elapsed(rt) {
+        match &self.start {
+            Some(start) => match start.elapsed(rt) {
                 Ok(time) => time.as_millis() > DELAY,
                 Err(_) => false,
             },
@@ -52,7 +52,7 @@ impl Progress {
         if self.is_due(rt) {
             let _ = crate::shim::eprint_in!(rt; "\rformatlint: files read: {files}");
             self.is_shown = true;
-            self.since = Instant::now(rt).ok();
+            self.start = Instant::now(rt).ok();
         }
     }
 

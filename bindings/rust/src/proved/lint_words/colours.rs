@@ -19,12 +19,12 @@ pub enum ColourChoice {
 /// unset or empty, and `TERM` is set and not `dumb`.
 #[inline]
 pub fn wants_colours(
-    when: ColourChoice,
+    choice: ColourChoice,
     is_terminal: bool,
     no_color: Option<&str>,
     term: Option<&str>,
 ) -> bool {
-    match when {
+    match choice {
         ColourChoice::Always => true,
         ColourChoice::Never => false,
         ColourChoice::Auto => {

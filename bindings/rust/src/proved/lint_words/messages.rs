@@ -30,14 +30,14 @@ fn put_opening(out: &mut String, path: &str) -> Result<(), AllocError> {
     Ok(())
 }
 
-/// Returns the reason why there is no answer. For a read or a write that failed, `why` has the
+/// Returns the reason why there is no answer. For a read or a write that failed, `words` has the
 /// words of the system, if it has any.
 #[inline]
-fn reason<'a>(fault: RunFault, why: &'a str) -> &'a str {
+fn reason<'a>(fault: RunFault, words: &'a str) -> &'a str {
     match fault {
-        RunFault::Read if why.is_empty() => "reading failed",
-        RunFault::Write if why.is_empty() => "writing failed",
-        RunFault::Read | RunFault::Write => why,
+        RunFault::Read if words.is_empty() => "reading failed",
+        RunFault::Write if words.is_empty() => "writing failed",
+        RunFault::Read | RunFault::Write => words,
         RunFault::Words => "invalid arguments",
         RunFault::TooLong => "longer than 1048576 bytes",
         RunFault::NotText => "not UTF-8",
@@ -47,17 +47,17 @@ fn reason<'a>(fault: RunFault, why: &'a str) -> &'a str {
 }
 
 /// Appends the line that says why there is no answer for the input with this path. For a read or a
-/// write that failed `why` has the words of the system, if it has any.
+/// write that failed `words` has the words of the system, if it has any.
 #[inline]
 pub fn put_failure(
     out: &mut String,
     path: &str,
     fault: RunFault,
-    why: &str,
+    words: &str,
 ) -> Result<(), AllocError> {
     put_opening(out, path)?;
     out.try_push_str(" ")?;
-    out.try_push_str(reason(fault, why))?;
+    out.try_push_str(reason(fault, words))?;
     out.try_push_str("\n")?;
     Ok(())
 }
@@ -102,12 +102,12 @@ pub fn put_place_failure(
     out: &mut String,
     path: &str,
     place: Place,
-    why: &str,
+    words: &str,
 ) -> Result<(), AllocError> {
     put_opening(out, path)?;
     put_place(out, place)?;
     out.try_push_str(": ")?;
-    out.try_push_str(why)?;
+    out.try_push_str(words)?;
     out.try_push_str("\n")?;
     Ok(())
 }

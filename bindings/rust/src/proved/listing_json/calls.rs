@@ -42,7 +42,7 @@ fn put_piece_line(
 
 /// Appends the line of a piece, if there is one.
 #[inline]
-fn put_given(
+fn put_maybe_piece(
     out: &mut Vec<u8>,
     piece: &Option<PieceKind<'_>>,
     argument: &Argument<'_>,
@@ -81,7 +81,7 @@ fn put_call<'a>(
     faults: &mut Vec<Fault<'a>>,
 ) -> Result<bool, AllocError> {
     let piece = parser.next_with_faults(argument, faults)?;
-    put_given(out, &piece, argument)?;
+    put_maybe_piece(out, &piece, argument)?;
     put_faults(out, faults.as_slice())?;
     Ok(piece.is_some())
 }
@@ -93,9 +93,9 @@ pub fn put_calls<'a>(out: &mut Vec<u8>, parser: &mut Parser<'a>) -> Result<bool,
     let mut argument = Argument::default();
     let mut faults = Vec::new();
     let mut has_faults = false;
-    let mut goes_on = true;
-    while goes_on {
-        goes_on = put_call(out, parser, &mut argument, &mut faults)?;
+    let mut has_piece = true;
+    while has_piece {
+        has_piece = put_call(out, parser, &mut argument, &mut faults)?;
         has_faults |= !faults.is_empty();
         faults.clear();
     }

@@ -35,7 +35,7 @@ fn snippet_of(literal: Option<&str>) -> Result<Option<String>, AllocError> {
 
 /// Returns the arguments that the placeholders of a text use, if the task has a list of arguments.
 #[inline]
-fn used_by<'a>(
+fn uses_in<'a>(
     text: &'a str,
     style: Option<usize>,
     snippet: Option<String>,
@@ -57,7 +57,7 @@ fn report_of<'a>(
     snippet: Option<String>,
     task: Task<'a>,
 ) -> Result<Report<'a>, AllocError> {
-    let uses = used_by(text, style, snippet, task)?;
+    let uses = uses_in(text, style, snippet, task)?;
     report_for(&uses, task.arguments)
 }
 

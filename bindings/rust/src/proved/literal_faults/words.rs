@@ -67,7 +67,7 @@ fn named_character(kind: FaultKind) -> Option<char> {
 
 /// Appends a character: printable ASCII as it is, and any other as an escape.
 #[inline]
-fn put_shown(out: &mut String, c: char) -> Result<(), AllocError> {
+fn put_shown_character(out: &mut String, c: char) -> Result<(), AllocError> {
     match c {
         ' '..='~' => out.try_push(c)?,
         '\t' => out.try_push_str("\\t")?,
@@ -90,7 +90,7 @@ impl FaultKind {
         out.try_push_str(title(*self))?;
         if let Some(c) = named_character(*self) {
             out.try_push_str(": `")?;
-            put_shown(out, c)?;
+            put_shown_character(out, c)?;
             out.try_push_str("`")?;
         }
         Ok(())

@@ -47,20 +47,20 @@ fn length_of(text: &str) -> usize {
     text.chars().count()
 }
 
-/// Adds the lines of a span that begins and ends at these columns, where `more` lines come after
-/// the first one.
+/// Adds the lines of a span that begins and ends at these columns, where `line_count` lines come
+/// after the first one.
 #[inline]
 fn put_lines(
     out: &mut String,
     lines: &str,
     from: usize,
     to: usize,
-    more: usize,
+    line_count: usize,
 ) -> Result<(), AllocError> {
     out.try_push_str("[")?;
     let mut rest = lines;
     let mut start = from;
-    let mut countdown = more;
+    let mut countdown = line_count;
     while countdown > 0 {
         let (line, tail) = split_line(rest);
         put_line(out, line, start, length_of(line) + 1)?;
@@ -112,8 +112,14 @@ fn applicability(suggestion: &Option<Suggestion<'_>>) -> Option<&'static str> {
 fn put_details(out: &mut String, span: &Span<'_>) -> Result<(), AllocError> {
     put_truth(out, true, "is_primary", span.is_primary)?;
     put_key(out, true, "text")?;
-    let more = span.end.line.saturating_sub(span.start.line);
-    put_lines(out, span.lines, span.start.column, span.end.column, more)?;
+    let line_count = span.end.line.saturating_sub(span.start.line);
+    put_lines(
+        out,
+        span.lines,
+        span.start.column,
+        span.end.column,
+        line_count,
+    )?;
     put_text_or_null(out, "label", span.label)?;
     let text = replacement(&span.suggestion);
     put_text_or_null(out, "suggested_replacement", text)?;

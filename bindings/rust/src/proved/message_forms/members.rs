@@ -61,8 +61,8 @@ fn put_digits(out: &mut String, number: usize) -> Result<(), AllocError> {
 
 /// Adds a truth value.
 #[inline]
-fn put_bool(out: &mut String, is_so: bool) -> Result<(), AllocError> {
-    out.try_push_str(if is_so { "true" } else { "false" })?;
+fn put_bool(out: &mut String, value: bool) -> Result<(), AllocError> {
+    out.try_push_str(if value { "true" } else { "false" })?;
     Ok(())
 }
 
@@ -101,10 +101,10 @@ pub fn put_truth(
     out: &mut String,
     is_later: bool,
     key: &str,
-    is_so: bool,
+    value: bool,
 ) -> Result<(), AllocError> {
     put_key(out, is_later, key)?;
-    put_bool(out, is_so)?;
+    put_bool(out, value)?;
     Ok(())
 }
 

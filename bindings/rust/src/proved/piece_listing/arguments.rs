@@ -41,18 +41,18 @@ fn number(text: &str) -> Option<usize> {
 #[inline]
 fn are_names(text: &str) -> bool {
     let mut rest = text;
-    while let Some((name, more)) = around_comma(rest) {
+    while let Some((name, rest_after)) = around_comma(rest) {
         if name.is_empty() {
             return false;
         }
-        rest = more;
+        rest = rest_after;
     }
     !rest.is_empty()
 }
 
 /// Returns the list of arguments that a word is, or `None` if it is none.
 #[inline]
-pub fn given_by(word: &str) -> Option<GivenArguments<'_>> {
+pub fn given_arguments(word: &str) -> Option<GivenArguments<'_>> {
     let Some((digits, names)) = around_comma(word) else {
         let positional = number(word)?;
         return Some(GivenArguments {
@@ -75,9 +75,9 @@ pub fn given_by(word: &str) -> Option<GivenArguments<'_>> {
 fn between_commas<'a>(text: &'a str) -> Result<Vec<&'a str>, AllocError> {
     let mut names = Vec::new();
     let mut rest = text;
-    while let Some((name, more)) = around_comma(rest) {
+    while let Some((name, rest_after)) = around_comma(rest) {
         names.try_push(name)?;
-        rest = more;
+        rest = rest_after;
     }
     names.try_push(rest)?;
     Ok(names)

@@ -26,7 +26,7 @@ fn next_piece<'a>(
 
 /// Appends the line of a piece.
 #[inline]
-fn put_taken(
+fn put_piece_kind(
     out: &mut String,
     piece: &PieceKind<'_>,
     argument: &Argument<'_>,
@@ -42,23 +42,23 @@ fn put_taken(
 #[inline]
 fn add_uses<'a>(
     uses: &mut Uses<'a>,
-    compares: bool,
+    compares_arguments: bool,
     piece: &PieceKind<'a>,
     argument: &Argument<'a>,
 ) -> Result<(), AllocError> {
-    if compares && matches!(piece, PieceKind::NextArgument) {
+    if compares_arguments && matches!(piece, PieceKind::NextArgument) {
         uses.add(argument)?;
     }
     Ok(())
 }
 
 /// Appends the lines of the pieces of a parser up to the first call that returns `None`, and adds
-/// the arguments that they use to `all_uses` if `compares` is set.
+/// the arguments that they use to `all_uses` if `compares_arguments` is set.
 #[inline]
 pub fn put_calls<'a>(
     out: &mut String,
     all_uses: &mut Uses<'a>,
-    compares: bool,
+    compares_arguments: bool,
     parser: &mut Parser<'a>,
 ) -> Result<(), AllocError> {
     let mut argument = Argument {
@@ -67,8 +67,8 @@ pub fn put_calls<'a>(
         format: FormatSpec::default(),
     };
     while let Some(piece) = next_piece(parser, &mut argument)? {
-        put_taken(out, &piece, &argument)?;
-        add_uses(all_uses, compares, &piece, &argument)?;
+        put_piece_kind(out, &piece, &argument)?;
+        add_uses(all_uses, compares_arguments, &piece, &argument)?;
     }
     Ok(())
 }

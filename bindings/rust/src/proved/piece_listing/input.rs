@@ -61,8 +61,8 @@ fn list_source(
     task: Task<'_>,
 ) -> Result<Listing, AllocError> {
     let mut parser = Parser::new(text, style, snippet, false, task.mode)?;
-    let listed = list_calls(&mut parser, task.arguments)?;
-    Ok(listed)
+    let listing = list_calls(&mut parser, task.arguments)?;
+    Ok(listing)
 }
 
 /// Returns the listing of the text that a literal stands for.

@@ -41,7 +41,7 @@ fn put_name(out: &mut String, label: &str, name: &str) -> Result<(), AllocError>
 
 /// Adds the span of the part before it, if that has one.
 #[inline]
-fn put_at(out: &mut String, span: &Option<Range<usize>>) -> Result<(), AllocError> {
+fn put_span_at(out: &mut String, span: &Option<Range<usize>>) -> Result<(), AllocError> {
     if let Some(span) = span {
         put_span(out, '@', span)?;
     }
@@ -70,7 +70,7 @@ fn put_fill(
         out.try_push_str(" fill=\"")?;
         put_written(out, c)?;
         out.try_push('"')?;
-        put_at(out, span)?;
+        put_span_at(out, span)?;
     }
     Ok(())
 }
@@ -144,7 +144,7 @@ fn put_named_count(
 ) -> Result<(), AllocError> {
     out.try_push_str(name)?;
     put_count(out, count)?;
-    put_at(out, span)?;
+    put_span_at(out, span)?;
     Ok(())
 }
 
@@ -194,7 +194,7 @@ fn put_type(out: &mut String, ty: &str, span: &Option<Range<usize>>) -> Result<(
     }
     out.try_push_str(" ty=")?;
     put_quoted(out, ty)?;
-    put_at(out, span)?;
+    put_span_at(out, span)?;
     Ok(())
 }
 

@@ -33,8 +33,8 @@ fn without_first(text: &str, c: char) -> Option<&str> {
 fn leading_hashes(text: &str) -> (usize, &str) {
     let mut count = 0;
     let mut rest = text;
-    while let Some(more) = without_first(rest, '#') {
-        rest = more;
+    while let Some(rest_after) = without_first(rest, '#') {
+        rest = rest_after;
         count += 1;
     }
     (count, rest)

@@ -3,7 +3,7 @@
 // Extracted from crates/piece_listing/src/task.rt by tools/extract: not to be edited.
 // That source has the contracts, and is proved. That this text means the same is only tested.
 
-use super::arguments::{given_by, GivenArguments};
+use super::arguments::{given_arguments, GivenArguments};
 use crate::proved::rustc_parse_format::ParseMode;
 use crate::shim::prelude::*;
 
@@ -52,7 +52,7 @@ fn task_in<'a>(
 /// if `word` names no mode or `list` is not a list of arguments.
 #[inline]
 fn task_with<'a>(word: &str, is_literal: bool, list: &'a str) -> Option<Task<'a>> {
-    let arguments = given_by(list)?;
+    let arguments = given_arguments(list)?;
     task_in(word, is_literal, Some(arguments))
 }
 

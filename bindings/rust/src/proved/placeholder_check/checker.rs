@@ -3,8 +3,8 @@
 // Extracted from crates/placeholder_check/src/checker.rt by tools/extract: not to be edited.
 // That source has the contracts, and is proved. That this text means the same is only tested.
 
-use crate::proved::placeholder_check::indices::{lacked_below, members_from};
-use crate::proved::placeholder_check::names::{lacked_by, later_names, unused_names};
+use crate::proved::placeholder_check::indices::{members_from, missing_indices};
+use crate::proved::placeholder_check::names::{later_names, missing_names, unused_names};
 use crate::proved::placeholder_check::uses::{uses_of, Uses};
 use crate::proved::rustc_parse_format::Piece;
 use crate::shim::alloc::AllocError;
@@ -32,11 +32,11 @@ pub fn check_uses<'a>(
     names: &[&'a str],
 ) -> Result<Report<'a>, AllocError> {
     let missing_index = members_from(&uses.indices, positional)?;
-    let used_below = uses.indices.count.saturating_sub(missing_index.len());
-    let room = positional.saturating_sub(used_below);
-    let unused_index = lacked_below(&uses.indices, positional, room)?;
-    let later = later_names(names)?;
-    let missing_name = lacked_by(&uses.names.list, names, &later)?;
+    let used_count = uses.indices.count.saturating_sub(missing_index.len());
+    let room = positional.saturating_sub(used_count);
+    let unused_index = missing_indices(&uses.indices, positional, room)?;
+    let later_set = later_names(names)?;
+    let missing_name = missing_names(&uses.names.list, names, &later_set)?;
     let unused_name = unused_names(names, &uses.names)?;
     Ok(Report {
         missing_index,
@@ -59,6 +59,5 @@ pub fn check<'a>(
     names: &[&'a str],
 ) -> Result<Report<'a>, AllocError> {
     let uses = uses_of(pieces)?;
-    let report = check_uses(&uses, positional, names)?;
-    Ok(report)
+    Ok(check_uses(&uses, positional, names)?)
 }

@@ -108,12 +108,12 @@ pub fn members_from(set: &Indices, first: usize) -> Result<Vec<usize>, AllocErro
 /// `room` indices first, since `end` may be the greatest `usize`, and filling the memory before the
 /// failure would take minutes.
 #[inline]
-pub fn lacked_below(set: &Indices, end: usize, room: usize) -> Result<Vec<usize>, AllocError> {
-    let mut lacked = Vec::made_for(room)?;
+pub fn missing_indices(set: &Indices, end: usize, room: usize) -> Result<Vec<usize>, AllocError> {
+    let mut missing_indices = Vec::made_for(room)?;
     for n in 0..end {
         if !has_index(set, n) {
-            lacked.try_push(n)?;
+            missing_indices.try_push(n)?;
         }
     }
-    Ok(lacked)
+    Ok(missing_indices)
 }

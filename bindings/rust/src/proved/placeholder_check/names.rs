@@ -9,14 +9,14 @@ use crate::shim::prelude::*;
 use alloc::collections::BTreeSet;
 
 /// The number of names that are compared one after the other.
-const FEW: usize = 16;
+const SCAN_LIMIT: usize = 16;
 
 /// Names, each once, in the order in which they were first added.
 pub struct Names<'a> {
     /// The names.
     pub list: Vec<&'a str>,
-    /// The names after the first [`FEW`].
-    pub later: BTreeSet<&'a str>,
+    /// The names after the first [`SCAN_LIMIT`].
+    pub later_set: BTreeSet<&'a str>,
 }
 
 /// Returns the empty set. Allocates nothing.
@@ -24,7 +24,7 @@ pub struct Names<'a> {
 pub fn no_names<'a>() -> Names<'a> {
     Names {
         list: Vec::new(),
-        later: BTreeSet::new(),
+        later_set: BTreeSet::new(),
     }
 }
 
@@ -34,10 +34,10 @@ fn is_same(a: &str, b: &str) -> bool {
     a == b
 }
 
-/// Returns whether a name is among the first [`FEW`] of a list.
+/// Returns whether a name is among the first [`SCAN_LIMIT`] of a list.
 #[inline]
 fn is_early(names: &[&str], name: &str) -> bool {
-    for i in 0..names.len().min(FEW) {
+    for i in 0..names.len().min(SCAN_LIMIT) {
         if is_same(name, names[i]) {
             return true;
         }
@@ -47,14 +47,15 @@ fn is_early(names: &[&str], name: &str) -> bool {
 
 /// Returns whether a name is in a set of names.
 #[inline]
-fn is_later<'a>(later: &BTreeSet<&'a str>, name: &'a str) -> bool {
-    later.contains(&name)
+fn is_later<'a>(later_set: &BTreeSet<&'a str>, name: &'a str) -> bool {
+    later_set.contains(&name)
 }
 
-/// Returns whether a name is among others, of which `later` has those after the first [`FEW`].
+/// Returns whether a name is among others, of which `later_set` has those after the first
+/// [`SCAN_LIMIT`].
 #[inline]
-fn has_name<'a>(names: &[&'a str], later: &BTreeSet<&'a str>, name: &'a str) -> bool {
-    is_early(names, name) || is_later(later, name)
+fn has_name<'a>(names: &[&'a str], later_set: &BTreeSet<&'a str>, name: &'a str) -> bool {
+    is_early(names, name) || is_later(later_set, name)
 }
 
 /// Inserts a name into a set.
@@ -67,53 +68,53 @@ fn insert_later<'a>(set: &mut BTreeSet<&'a str>, name: &'a str) -> Result<(), Al
 /// Adds a name to others, if it is not yet there.
 #[inline(never)]
 pub fn insert_name<'a>(names: &mut Names<'a>, name: &'a str) -> Result<(), AllocError> {
-    if has_name(&names.list, &names.later, name) {
+    if has_name(&names.list, &names.later_set, name) {
         return Ok(());
     }
-    if names.list.len() >= FEW {
-        insert_later(&mut names.later, name)?;
+    if names.list.len() >= SCAN_LIMIT {
+        insert_later(&mut names.later_set, name)?;
     }
     names.list.try_push(name)?;
     Ok(())
 }
 
-/// Returns the names of a list after the first [`FEW`].
+/// Returns the names of a list after the first [`SCAN_LIMIT`].
 #[inline]
 pub fn later_names<'a>(names: &[&'a str]) -> Result<BTreeSet<&'a str>, AllocError> {
-    let mut later = BTreeSet::new();
-    for i in FEW..names.len() {
-        insert_later(&mut later, names[i])?;
+    let mut later_set = BTreeSet::new();
+    for i in SCAN_LIMIT..names.len() {
+        insert_later(&mut later_set, names[i])?;
     }
-    Ok(later)
+    Ok(later_set)
 }
 
-/// Returns the names of a list that are not among others, in their order; `later` has those of the
-/// others after the first [`FEW`].
+/// Returns the names of a list that are not among others, in their order; `later_set` has those of
+/// the others after the first [`SCAN_LIMIT`].
 #[inline]
-pub fn lacked_by<'a>(
+pub fn missing_names<'a>(
     names: &[&'a str],
     others: &[&'a str],
-    later: &BTreeSet<&'a str>,
+    later_set: &BTreeSet<&'a str>,
 ) -> Result<Vec<&'a str>, AllocError> {
-    let mut lacked = Vec::new();
+    let mut missing_names = Vec::new();
     for name in names {
-        if !has_name(others, later, name) {
-            lacked.try_push(*name)?;
+        if !has_name(others, later_set, name) {
+            missing_names.try_push(*name)?;
         }
     }
-    Ok(lacked)
+    Ok(missing_names)
 }
 
 /// Returns the names of a list that are not in a set, each once, in the order of their first
 /// entries.
 #[inline]
 pub fn unused_names<'a>(names: &[&'a str], uses: &Names<'a>) -> Result<Vec<&'a str>, AllocError> {
-    let mut unused = no_names();
+    let mut unused_set = no_names();
     for name in names {
-        if !has_name(&uses.list, &uses.later, name) {
-            insert_name(&mut unused, name)?;
+        if !has_name(&uses.list, &uses.later_set, name) {
+            insert_name(&mut unused_set, name)?;
         }
     }
-    let Names { list, later: _ } = unused;
+    let Names { list, later_set: _ } = unused_set;
     Ok(list)
 }

@@ -154,9 +154,9 @@ fn add_unless_empty(
 /// Returns the tokens of a file.
 #[inline]
 pub fn tokens(text: &str) -> Result<Vec<Token>, AllocError> {
-    let unmarked = after_mark(text);
-    let mark_end = text.len() - unmarked.len();
-    let mut rest = after_shebang(unmarked);
+    let unmarked_text = after_mark(text);
+    let mark_end = text.len() - unmarked_text.len();
+    let mut rest = after_shebang(unmarked_text);
     let mut list = Vec::new();
     add_unless_empty(&mut list, Kind::ByteOrderMark, 0, mark_end)?;
     add_unless_empty(&mut list, Kind::Shebang, mark_end, text.len() - rest.len())?;

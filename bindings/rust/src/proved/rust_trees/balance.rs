@@ -13,11 +13,11 @@ use crate::shim::prelude::*;
 #[derive(Clone, Copy, Debug, Eq, PartialEq)]
 pub enum BreakKind {
     /// A delimiter is not closed: the last of these.
-    Unclosed,
+    UnclosedDelimiter,
     /// A closing delimiter stands where nothing is to be closed, or another kind of delimiter.
-    Unexpected,
+    UnexpectedDelimiter,
     /// A token lacks its end.
-    Unended,
+    UnterminatedToken,
 }
 
 /// Where tokens break.
@@ -56,7 +56,7 @@ impl Balance {
             }
         }
         self.first_break = Some(FileBreak {
-            kind: BreakKind::Unexpected,
+            kind: BreakKind::UnexpectedDelimiter,
             start,
         });
     }
@@ -69,7 +69,7 @@ impl Balance {
         }
         if !token.is_ended {
             self.first_break = Some(FileBreak {
-                kind: BreakKind::Unended,
+                kind: BreakKind::UnterminatedToken,
                 start: token.start,
             });
             return Ok(());
@@ -102,7 +102,7 @@ impl Balance {
         }
         match self.openings.pop() {
             Some(opening) => Some(FileBreak {
-                kind: BreakKind::Unclosed,
+                kind: BreakKind::UnclosedDelimiter,
                 start: opening.position,
             }),
             None => None,

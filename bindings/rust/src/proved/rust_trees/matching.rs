@@ -33,7 +33,7 @@ pub struct Matching {
     /// The delimiters that may still be closed.
     pub openings: Vec<Opening>,
     /// The first closing delimiter that nothing allows.
-    pub unexpected: Option<usize>,
+    pub unexpected_index: Option<usize>,
 }
 
 /// Adds a closing delimiter.
@@ -48,7 +48,7 @@ fn close(matching: &mut Matching, delimiter: Delimiter) -> Result<(), AllocError
         }
     }
     matching.openings.clear();
-    matching.unexpected = matching.unexpected.or(Some(index));
+    matching.unexpected_index = matching.unexpected_index.or(Some(index));
     matching.partners.try_push(None)?;
     Ok(())
 }
@@ -83,7 +83,7 @@ pub fn match_delimiters(tokens: &[Token<'_>]) -> Result<Matching, AllocError> {
     let mut matching = Matching {
         partners: Vec::new(),
         openings: Vec::new(),
-        unexpected: None,
+        unexpected_index: None,
     };
     for token in tokens {
         add(&mut matching, token)?;
@@ -93,8 +93,11 @@ pub fn match_delimiters(tokens: &[Token<'_>]) -> Result<Matching, AllocError> {
 
 /// Returns where the tokens break, or `None` if they are a forest.
 #[inline]
-pub fn break_of(unexpected: Option<usize>, mut openings: Vec<Opening>) -> Option<DelimiterBreak> {
-    match unexpected {
+pub fn break_of(
+    unexpected_index: Option<usize>,
+    mut openings: Vec<Opening>,
+) -> Option<DelimiterBreak> {
+    match unexpected_index {
         Some(index) => Some(DelimiterBreak::Unexpected(index)),
         None => match openings.pop() {
             Some(opening) => Some(DelimiterBreak::Unclosed(opening.position)),

@@ -50,13 +50,13 @@ fn after_char(place: Place, c: char, is_before_lf: bool) -> Place {
 /// Returns the place after a text at this place, where another text follows.
 #[inline]
 pub fn place_after(place: Place, front: &str, back: &str) -> Place {
-    let mut reached = place;
+    let mut current_place = place;
     let mut rest = front;
     while let Some((c, more)) = split_first(rest) {
-        reached = after_char(reached, c, is_lf_next(more, back));
+        current_place = after_char(current_place, c, is_lf_next(more, back));
         rest = more;
     }
-    reached
+    current_place
 }
 
 /// Returns the text without the byte order mark at its start.
@@ -87,10 +87,10 @@ pub struct KnownPlace {
 
 /// Returns the place of a byte offset, from the last place before it of those that are known.
 #[inline]
-fn place_from(text: &str, known: &[KnownPlace], offset: usize) -> Place {
-    let count = known.len().min(offset / STEP);
+fn place_from(text: &str, known_places: &[KnownPlace], offset: usize) -> Place {
+    let count = known_places.len().min(offset / STEP);
     if count > 0 {
-        let last = known[count - 1];
+        let last = known_places[count - 1];
         if last.offset <= offset {
             return place_after(last.place, &text[last.offset..offset], &text[offset..]);
         }
@@ -100,12 +100,16 @@ fn place_from(text: &str, known: &[KnownPlace], offset: usize) -> Place {
 
 /// Adds a byte offset with its place to those that are known, unless it is 0.
 #[inline]
-fn add_known(known: &mut Vec<KnownPlace>, text: &str, offset: usize) -> Result<(), AllocError> {
+fn add_known(
+    known_places: &mut Vec<KnownPlace>,
+    text: &str,
+    offset: usize,
+) -> Result<(), AllocError> {
     if offset == 0 {
         return Ok(());
     }
-    let place = place_from(text, known, offset);
-    known.try_push(KnownPlace { offset, place })?;
+    let place = place_from(text, known_places, offset);
+    known_places.try_push(KnownPlace { offset, place })?;
     Ok(())
 }
 

@@ -21,7 +21,7 @@ pub struct Source<'a> {
 /// Returns tokens with the pairs that were found among them.
 #[inline]
 fn source_of<'a>(tokens: Vec<Token<'a>>, matching: Matching) -> Source<'a> {
-    let first_break = break_of(matching.unexpected, matching.openings);
+    let first_break = break_of(matching.unexpected_index, matching.openings);
     Source {
         tokens,
         partners: matching.partners,

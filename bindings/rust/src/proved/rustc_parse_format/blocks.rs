@@ -113,19 +113,19 @@ pub fn front_width(bytes: &[u8], stops: Stops) -> usize {
 /// bytes differ.
 #[inline(always)]
 pub fn plain_front(bytes: &[u8], others: &[u8]) -> usize {
-    let most = bytes.len().min(others.len());
-    if most < 16 || bytes[0] != others[0] {
+    let limit = bytes.len().min(others.len());
+    if limit < 16 || bytes[0] != others[0] {
         return 0;
     }
-    let last = most - 16;
+    let last = limit - 16;
     let mut at = 0;
     while at < last {
-        let plain = plain_lanes(
+        let count = plain_lanes(
             u8x16::from_slice(&bytes[at..]),
             u8x16::from_slice(&others[at..]),
         );
-        if plain < 16 {
-            return at + plain;
+        if count < 16 {
+            return at + count;
         }
         at += 16;
     }

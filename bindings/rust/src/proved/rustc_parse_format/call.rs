@@ -57,18 +57,18 @@ impl<'input> Reader<'input> {
         self.recover(mode, argument, opening)
     }
 
-    /// Reads a placeholder, with its opening brace, into `into`, whose position is still implicit
-    /// and whose format is the default.
+    /// Reads a placeholder, with its opening brace, into `slot`, whose position is still
+    /// implicit and whose format is the default.
     #[inline]
     pub(crate) fn placeholder(
         &mut self,
         mode: ParseMode,
-        into: &mut Argument<'input>,
+        slot: &mut Argument<'input>,
     ) -> Result<(), AllocError> {
         let opening = self.cursor.consume_place();
-        self.argument(mode, into)?;
+        self.argument(mode, slot)?;
         self.cursor.ws();
-        self.closing_brace(mode, into, opening)?;
+        self.closing_brace(mode, slot, opening)?;
         Ok(())
     }
 

@@ -14,8 +14,8 @@ impl<'input> Reader<'input> {
     /// above 65535 is a fault, whose span includes the character after the digits.
     #[inline(always)]
     pub(crate) fn integer(&mut self) -> Result<u16, AllocError> {
-        let (number, over) = self.cursor.number();
-        if let Some((digits, span)) = over {
+        let (number, overflow) = self.cursor.number();
+        if let Some((digits, span)) = overflow {
             self.note(Fault::TooLarge(digits, span))?;
         }
         Ok(number)
@@ -31,37 +31,37 @@ impl<'input> Reader<'input> {
         Ok(word)
     }
 
-    /// Reads a name and the `$` after it into `into`, which is still `CountImplied`. If there is no
+    /// Reads a name and the `$` after it into `slot`, which is still `CountImplied`. If there is no
     /// `$`, goes back to the start of the word, but keeps its fault.
     #[inline(always)]
-    fn named_count(&mut self, into: &mut Count<'input>) -> Result<(), AllocError> {
+    fn named_count(&mut self, slot: &mut Count<'input>) -> Result<(), AllocError> {
         let front = self.cursor.checkpoint();
         let start = self.cursor.start();
         let name = self.word()?;
         let span = start..self.cursor.start();
         if self.cursor.consume('$') {
-            *into = Count::CountIsName(name, span);
+            *slot = Count::CountIsName(name, span);
             return Ok(());
         }
         self.cursor.rewind(front);
         Ok(())
     }
 
-    /// Reads a count, as in the grammar of `std::fmt`, into `into`, which is still `CountImplied`:
+    /// Reads a count, as in the grammar of `std::fmt`, into `slot`, which is still `CountImplied`:
     /// a number, the index or the name of an argument and a `$`, or nothing.
     #[inline(always)]
-    pub(crate) fn count(&mut self, into: &mut Count<'input>) -> Result<(), AllocError> {
+    pub(crate) fn count(&mut self, slot: &mut Count<'input>) -> Result<(), AllocError> {
         if self.cursor.is_digit_next() {
             let number = self.integer()?;
             if self.cursor.consume('$') {
-                *into = Count::CountIsParam(usize::from(number));
+                *slot = Count::CountIsParam(usize::from(number));
                 return Ok(());
             }
-            *into = Count::CountIs(number);
+            *slot = Count::CountIs(number);
             return Ok(());
         }
         if self.cursor.is_word_next() {
-            return self.named_count(into);
+            return self.named_count(slot);
         }
         Ok(())
     }

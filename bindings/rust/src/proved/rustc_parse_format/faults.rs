@@ -83,7 +83,7 @@ impl Fault<'_> {
 pub struct Faults<'input> {
     first: Option<Fault<'input>>,
     second: Option<Fault<'input>>,
-    more: Vec<Fault<'input>>,
+    rest: Vec<Fault<'input>>,
 }
 
 impl<'input> Faults<'input> {
@@ -93,7 +93,7 @@ impl<'input> Faults<'input> {
         Faults {
             first: None,
             second: None,
-            more: Vec::new(),
+            rest: Vec::new(),
         }
     }
 
@@ -112,7 +112,7 @@ impl<'input> Faults<'input> {
         } else if self.second.is_none() {
             self.second = Some(fault);
         } else {
-            self.more.try_push(fault)?;
+            self.rest.try_push(fault)?;
         }
         Ok(())
     }
@@ -126,7 +126,7 @@ impl<'input> Faults<'input> {
         if index == 1 {
             return self.second.as_ref();
         }
-        self.more.get(index - 2)
+        self.rest.get(index - 2)
     }
 
     /// Moves all faults to the end of `list`. Returns `Err` if an allocation fails: some of the
@@ -143,7 +143,7 @@ impl<'input> Faults<'input> {
         if let Some(second) = faults.second.take() {
             list.try_push(second)?;
         }
-        list.try_append(&mut faults.more)?;
+        list.try_append(&mut faults.rest)?;
         Ok(())
     }
 
@@ -152,6 +152,6 @@ impl<'input> Faults<'input> {
     pub fn clear(&mut self) {
         self.first = None;
         self.second = None;
-        self.more.clear();
+        self.rest.clear();
     }
 }

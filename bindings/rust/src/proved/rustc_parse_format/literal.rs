@@ -86,9 +86,9 @@ pub fn read_content(content: &str) -> Result<Option<Vec<ContentCharacter>>, Allo
 /// Appends the plain characters that come next to a text.
 #[inline(always)]
 fn put_plain(text: &mut String, rest: &mut Rest<'_>) -> Result<(), AllocError> {
-    let plain = rest.take_run(Class::Plain);
-    if !plain.is_empty() {
-        text.try_push_str(plain)?;
+    let run = rest.take_run(Class::Plain);
+    if !run.is_empty() {
+        text.try_push_str(run)?;
     }
     Ok(())
 }
@@ -167,9 +167,9 @@ pub fn quoted_content(snippet: &str) -> Option<&str> {
 /// Skips the `\x` escapes at the start of a content and, in a text, the characters that they stand
 /// for, up to the first escape with which the text does not go on.
 #[inline(always)]
-fn skip_byte_escapes(rest: &mut Rest<'_>, wanted: &mut Rest<'_>) {
+fn skip_byte_escapes(rest: &mut Rest<'_>, expected: &mut Rest<'_>) {
     while let Some((byte, rest_after)) = byte_escape(rest.text()) {
-        if !wanted.consume_ascii(byte) {
+        if !expected.consume_ascii(byte) {
             return;
         }
         *rest = Rest::new(rest_after);
@@ -179,9 +179,9 @@ fn skip_byte_escapes(rest: &mut Rest<'_>, wanted: &mut Rest<'_>) {
 /// Skips the plain characters with which a content and a text both begin, and the `\x` escapes
 /// after them.
 #[inline(always)]
-fn skip_alike(rest: &mut Rest<'_>, wanted: &mut Rest<'_>) {
-    rest.skip_plain(wanted);
-    skip_byte_escapes(rest, wanted);
+fn skip_alike(rest: &mut Rest<'_>, expected: &mut Rest<'_>) {
+    rest.skip_plain(expected);
+    skip_byte_escapes(rest, expected);
 }
 
 /// Returns where the text ends that the content stands for, as a byte offset that counts the quote
@@ -190,22 +190,22 @@ fn skip_alike(rest: &mut Rest<'_>, wanted: &mut Rest<'_>) {
 fn spelled_end(content: &str, text: &str) -> Option<usize> {
     let total = content.len() + 1;
     let mut rest = Rest::new(content);
-    let mut wanted = Rest::new(text);
-    skip_alike(&mut rest, &mut wanted);
+    let mut expected = Rest::new(text);
+    skip_alike(&mut rest, &mut expected);
     let mut end = total - rest.len();
     while !rest.is_empty() {
         let Some(value) = read_unit(&mut rest) else {
             return None;
         };
         if let Some(c) = value {
-            if !wanted.next_eq(c) {
+            if !expected.next_eq(c) {
                 return None;
             }
-            skip_alike(&mut rest, &mut wanted);
+            skip_alike(&mut rest, &mut expected);
             end = total - rest.len();
         }
     }
-    if wanted.is_empty() {
+    if expected.is_empty() {
         Some(end)
     } else {
         None
@@ -251,8 +251,8 @@ fn consume_opening(rest: &mut Rest<'_>, hashes: usize) -> bool {
 /// Consumes this text, and returns whether it was there.
 #[inline]
 fn consume_text(rest: &mut Rest<'_>, text: &str) -> bool {
-    let mut wanted = Rest::new(text);
-    while let Some(c) = wanted.next() {
+    let mut expected = Rest::new(text);
+    while let Some(c) = expected.next() {
         if !rest.next_eq(c) {
             return false;
         }

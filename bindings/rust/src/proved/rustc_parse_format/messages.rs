@@ -70,55 +70,56 @@ fn align_after(sign: char) -> Result<String, AllocError> {
 /// Sets the description, the label and the span of an error.
 #[inline(always)]
 fn set_texts(
-    into: &mut ParseError,
+    parse_error: &mut ParseError,
     description: String,
     label: &str,
     span: &Range<usize>,
 ) -> Result<(), AllocError> {
-    into.description = description;
-    into.label = String::made_from(label)?;
-    into.span = span.start..span.end;
+    parse_error.description = description;
+    parse_error.label = String::made_from(label)?;
+    parse_error.span = span.start..span.end;
     Ok(())
 }
 
 /// Sets the description, the note, the label and the span of an error.
 #[inline(always)]
 fn set_texts_with_note(
-    into: &mut ParseError,
+    parse_error: &mut ParseError,
     description: &str,
     note: &str,
     label: &str,
     span: &Range<usize>,
 ) -> Result<(), AllocError> {
     let description = String::made_from(description)?;
-    into.note = Some(String::made_from(note)?);
-    set_texts(into, description, label, span)
+    parse_error.note = Some(String::made_from(note)?);
+    set_texts(parse_error, description, label, span)
 }
 
 /// Sets the description, the note, the span and the secondary label of an error whose label is that
 /// of a missing closing brace.
 #[inline]
 fn set_brace_error(
-    into: &mut ParseError,
+    parse_error: &mut ParseError,
     description: String,
     note: &str,
     span: &Range<usize>,
     second: (&str, &Range<usize>),
 ) -> Result<(), AllocError> {
-    into.note = Some(String::made_from(note)?);
-    into.secondary_label = Some((String::made_from(second.0)?, second.1.start..second.1.end));
-    set_texts(into, description, "expected `}`", span)
+    parse_error.note = Some(String::made_from(note)?);
+    parse_error.secondary_label =
+        Some((String::made_from(second.0)?, second.1.start..second.1.end));
+    set_texts(parse_error, description, "expected `}`", span)
 }
 
 /// Sets the texts and the span of the error of a field access.
 #[inline]
 fn set_field_error(
-    into: &mut ParseError,
+    parse_error: &mut ParseError,
     description: &str,
     span: &Range<usize>,
 ) -> Result<(), AllocError> {
     set_texts_with_note(
-        into,
+        parse_error,
         description,
         "consider moving this expression to a local variable and then using the local here instead",
         "not supported",
@@ -146,24 +147,24 @@ impl Fault<'_> {
 
 /// Sets an error, which is still empty, to that of a fault.
 #[inline]
-pub fn set_error(into: &mut ParseError, fault: &Fault<'_>) -> Result<(), AllocError> {
+pub fn set_error(parse_error: &mut ParseError, fault: &Fault<'_>) -> Result<(), AllocError> {
     match fault {
         Fault::UnmatchedBrace(span) => set_texts_with_note(
-            into,
+            parse_error,
             "unmatched `}` found",
             "if you intended to print `}`, you can escape it using `}}`",
             "unmatched `}`",
             span,
         ),
         Fault::MissingBrace(character, span, opening) => set_brace_error(
-            into,
+            parse_error,
             expected_brace(*character)?,
             "if you intended to print `{`, you can escape it using `{{`",
             span,
             ("because of this opening brace", opening),
         ),
         Fault::FillBrace(character, span, fill) => set_brace_error(
-            into,
+            parse_error,
             expected_brace(*character)?,
             "the character `}` is interpreted as a fill character because of the `:` that precedes it",
             span,
@@ -173,35 +174,35 @@ pub fn set_error(into: &mut ParseError, fault: &Fault<'_>) -> Result<(), AllocEr
             ),
         ),
         Fault::Underscore(span) => set_texts_with_note(
-            into,
+            parse_error,
             "invalid argument name `_`",
             "argument name cannot be a single underscore",
             "invalid argument name",
             span,
         ),
         Fault::TooLarge(digits, span) => set_texts(
-            into,
+            parse_error,
             out_of_range(digits)?,
             "integer out of range for `u16`",
             span,
         ),
         Fault::Unnamed(span) => set_texts_with_note(
-            into,
+            parse_error,
             "expected a named argument",
             "only named arguments are allowed here",
             "expected a name",
             span,
         ),
         Fault::TextAfterColon(span) => set_texts(
-            into,
+            parse_error,
             String::made_from("format specifiers are not allowed")?,
             "remove this text",
             span,
         ),
         Fault::RawIdentifier(span, _) => {
-            into.suggestion = fault.suggestion()?;
+            parse_error.suggestion = fault.suggestion()?;
             set_texts_with_note(
-                into,
+                parse_error,
                 "raw identifiers are not supported",
                 "identifiers in format strings can be keywords and don't need to be prefixed with `r#`",
                 "raw identifier used here",
@@ -209,14 +210,14 @@ pub fn set_error(into: &mut ParseError, fault: &Fault<'_>) -> Result<(), AllocEr
             )
         }
         Fault::LateFlag(flag, span, _) => {
-            into.suggestion = fault.suggestion()?;
+            parse_error.suggestion = fault.suggestion()?;
             let description = expected_brace(Some(*flag))?;
-            set_texts(into, description, "expected `'}'`", span)
+            set_texts(parse_error, description, "expected `'}'`", span)
         }
         Fault::MissingColon(span) => {
-            into.suggestion = fault.suggestion()?;
+            parse_error.suggestion = fault.suggestion()?;
             set_texts_with_note(
-                into,
+                parse_error,
                 "expected `}`, found `?`",
                 "to print `{`, you can escape it using `{{`",
                 "expected `:` before `?` to format with `Debug`",
@@ -224,24 +225,24 @@ pub fn set_error(into: &mut ParseError, fault: &Fault<'_>) -> Result<(), AllocEr
             )
         }
         Fault::LateDebug(word, span) => {
-            into.note = Some(debug_after(word)?);
+            parse_error.note = Some(debug_after(word)?);
             set_texts(
-                into,
+                parse_error,
                 String::made_from("expected format parameter to occur after `:`")?,
                 "expected `?` to occur after `:`",
                 span,
             )
         }
         Fault::LateAlign(sign, span) => {
-            into.label = align_after(*sign)?;
-            into.span = span.start..span.end;
-            into.description = String::made_from(
+            parse_error.label = align_after(*sign)?;
+            parse_error.span = span.start..span.end;
+            parse_error.description = String::made_from(
                 "expected alignment specifier after `:` in format string; example: `{:>?}`",
             )?;
             Ok(())
         }
         Fault::Grouping(span, opening) => set_brace_error(
-            into,
+            parse_error,
             String::made_from(
                 "python's numeric grouping `,` is not supported in rust format strings",
             )?,
@@ -250,9 +251,9 @@ pub fn set_error(into: &mut ParseError, fault: &Fault<'_>) -> Result<(), AllocEr
             ("because of this opening brace", opening),
         ),
         Fault::DebugPrint(span, opening) => {
-            into.suggestion = fault.suggestion()?;
+            parse_error.suggestion = fault.suggestion()?;
             set_brace_error(
-                into,
+                parse_error,
                 String::made_from(
                     "python's f-string debug `=` is not supported in rust, use `dbg(x)` instead",
                 )?,
@@ -262,19 +263,23 @@ pub fn set_error(into: &mut ParseError, fault: &Fault<'_>) -> Result<(), AllocEr
             )
         }
         Fault::LateSign(span) => set_texts_with_note(
-            into,
+            parse_error,
             "the `+` sign flag must appear after `:` in a format string",
             "`+` comes after `:`, try `{:+}` instead of `{+}`",
             "expected `:` before `+` sign flag",
             span,
         ),
         Fault::FieldAccess(span) => {
-            into.suggestion = fault.suggestion()?;
-            set_field_error(into, "field access isn't supported", span)
+            parse_error.suggestion = fault.suggestion()?;
+            set_field_error(parse_error, "field access isn't supported", span)
         }
         Fault::TupleIndex(span) => {
-            into.suggestion = fault.suggestion()?;
-            set_field_error(into, "tuple index access isn't supported", span)
+            parse_error.suggestion = fault.suggestion()?;
+            set_field_error(
+                parse_error,
+                "tuple index access isn't supported",
+                span,
+            )
         }
     }
 }

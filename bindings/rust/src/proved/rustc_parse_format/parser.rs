@@ -3,4 +3,4 @@
 // Extracted from crates/rustc_parse_format/src/parser.rt by tools/extract: not to be edited.
 // That source has the contracts, and is proved. That this text means the same is only tested.
 
-pub mod ahead;
+pub mod lookahead;

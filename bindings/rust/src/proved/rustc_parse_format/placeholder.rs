@@ -17,7 +17,7 @@ impl<'input> Reader<'input> {
         let front = self.cursor.checkpoint();
         self.cursor.skip_char();
         if !self.cursor.is_word_ahead() {
-            return Ok(self.cursor.since(&front));
+            return Ok(self.cursor.text_since(&front));
         }
         let prefix = from..self.cursor.stop();
         self.cursor.skip_char();
@@ -27,19 +27,19 @@ impl<'input> Reader<'input> {
         Ok(word)
     }
 
-    /// Reads the position, an integer or else a word, which may be raw, into `into`, which is still
+    /// Reads the position, an integer or else a word, which may be raw, into `slot`, which is still
     /// implicit. Reads nothing if there is neither.
     #[inline(always)]
-    fn position(&mut self, into: &mut Position<'input>) -> Result<(), AllocError> {
+    fn position(&mut self, slot: &mut Position<'input>) -> Result<(), AllocError> {
         if self.cursor.is_digit_next() {
             let number = self.integer()?;
-            *into = Position::ArgumentIs(usize::from(number));
+            *slot = Position::ArgumentIs(usize::from(number));
         } else if self.cursor.is_raw_prefix_next() {
             let name = self.prefixed_word()?;
-            *into = Position::ArgumentNamed(name);
+            *slot = Position::ArgumentNamed(name);
         } else if self.cursor.is_word_next() {
             let name = self.word()?;
-            *into = Position::ArgumentNamed(name);
+            *slot = Position::ArgumentNamed(name);
         }
         Ok(())
     }
@@ -50,24 +50,24 @@ impl<'input> Reader<'input> {
         matches!(self.cursor.peek(), Some('}' | ':'))
     }
 
-    /// Reads the position and the white space after it into `into`, whose position is still
+    /// Reads the position and the white space after it into `argument`, whose position is still
     /// implicit, and sets their byte range. Returns `Err` if an allocation fails. In a mode that
     /// allows only names, anything but a name is a fault.
     #[inline(always)]
     fn spaced_position(
         &mut self,
         mode: ParseMode,
-        into: &mut Argument<'input>,
+        argument: &mut Argument<'input>,
     ) -> Result<(), AllocError> {
         let start = self.cursor.start();
         let mut end = start;
         if !self.has_no_position() {
-            self.position(&mut into.position)?;
+            self.position(&mut argument.position)?;
             self.cursor.ws();
             end = self.cursor.start();
         }
-        into.position_span = start..end;
-        if wants_names(mode) && !matches!(into.position, Position::ArgumentNamed(_)) {
+        argument.position_span = start..end;
+        if wants_names(mode) && !matches!(argument.position, Position::ArgumentNamed(_)) {
             self.note(Fault::Unnamed(start..end))?;
         }
         Ok(())
@@ -81,17 +81,17 @@ impl<'input> Reader<'input> {
         }
     }
 
-    /// Reads a position, white space and a specification into `into`, whose position is still
+    /// Reads a position, white space and a specification into `slot`, whose position is still
     /// implicit and whose format is the default.
     #[inline(always)]
     pub(crate) fn argument(
         &mut self,
         mode: ParseMode,
-        into: &mut Argument<'input>,
+        slot: &mut Argument<'input>,
     ) -> Result<(), AllocError> {
-        self.spaced_position(mode, into)?;
-        self.specification(mode, &mut into.format)?;
-        self.resolve(&mut into.position);
+        self.spaced_position(mode, slot)?;
+        self.specification(mode, &mut slot.format)?;
+        self.resolve(&mut slot.position);
         Ok(())
     }
 }

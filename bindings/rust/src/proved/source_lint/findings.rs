@@ -52,16 +52,16 @@ fn counted_help(help: Option<CallHelp>, is_whole: bool) -> Option<CallHelp> {
 #[inline]
 fn finding<'c>(
     site: Site<'_, '_>,
-    checked: &CallReport<'c>,
+    report: &CallReport<'c>,
     fault: &CallFault<'c>,
     is_whole: bool,
 ) -> Result<Finding, AllocError> {
     let mut title = String::new();
-    checked.put_title(&mut title, fault)?;
-    let labels = labels(site, checked.labels(fault)?)?;
+    report.put_title(&mut title, fault)?;
+    let labels = labels(site, report.labels(fault)?)?;
     let span = primary_span(site, &labels);
-    let notes = notes(site, checked.notes(fault)?)?;
-    let call_help = counted_help(checked.help(fault)?, is_whole);
+    let notes = notes(site, report.notes(fault)?)?;
+    let call_help = counted_help(report.help(fault)?, is_whole);
     let help = help(site, call_help)?;
     Ok(Finding {
         is_warning: is_warning(fault),
@@ -79,12 +79,12 @@ fn finding<'c>(
 fn put_finding<'c>(
     findings: &mut Vec<Finding>,
     site: Site<'_, '_>,
-    checked: &CallReport<'c>,
+    report: &CallReport<'c>,
     fault: &CallFault<'c>,
     is_whole: bool,
 ) -> Result<(), AllocError> {
     if is_whole || is_text_fault(fault) {
-        findings.try_push(finding(site, checked, fault, is_whole)?)?;
+        findings.try_push(finding(site, report, fault, is_whole)?)?;
     }
     Ok(())
 }
@@ -94,11 +94,11 @@ fn put_finding<'c>(
 pub fn put_findings<'c>(
     findings: &mut Vec<Finding>,
     site: Site<'_, '_>,
-    checked: &CallReport<'c>,
+    report: &CallReport<'c>,
     is_whole: bool,
 ) -> Result<(), AllocError> {
-    for fault in &checked.faults {
-        put_finding(findings, site, checked, fault, is_whole)?;
+    for fault in &report.faults {
+        put_finding(findings, site, report, fault, is_whole)?;
     }
     Ok(())
 }

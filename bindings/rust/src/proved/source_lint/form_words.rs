@@ -158,8 +158,11 @@ fn form_range(
 ) -> Range<usize> {
     let range = match form {
         Form::NoString => call_range(text, tokens, call.name, call.close),
-        Form::NoLiteral { others, .. } => {
-            let index = arguments.len().saturating_sub(others).saturating_sub(1);
+        Form::NoLiteral { other_count, .. } => {
+            let index = arguments
+                .len()
+                .saturating_sub(other_count)
+                .saturating_sub(1);
             argument_range(tokens, arguments, index)
         }
         Form::NoComma { operator, .. } => found_range(operator),
@@ -189,11 +192,14 @@ fn has_bytes(form: Form<'_>) -> bool {
 #[inline]
 fn lacks_literal(form: Form<'_>) -> Option<usize> {
     match form {
-        Form::NoLiteral { others, is_bytes } => {
+        Form::NoLiteral {
+            other_count,
+            is_bytes,
+        } => {
             if is_bytes {
                 None
             } else {
-                Some(others)
+                Some(other_count)
             }
         }
         _ => None,
@@ -242,9 +248,9 @@ fn put_more(out: &mut String, count: usize) -> Result<(), AllocError> {
 
 /// Returns the format string for an argument and so many others, with the comma after it.
 #[inline]
-fn literal_for(others: usize) -> Result<String, AllocError> {
+fn literal_for(other_count: usize) -> Result<String, AllocError> {
     let mut text = String::made_from("\"{}")?;
-    put_more(&mut text, others)?;
+    put_more(&mut text, other_count)?;
     text.try_push_str("\", ")?;
     Ok(text)
 }
@@ -252,12 +258,12 @@ fn literal_for(others: usize) -> Result<String, AllocError> {
 /// Returns the help, or `None` if there is none that is no label.
 #[inline]
 fn form_help(text: &str, span: &Range<usize>, form: Form<'_>) -> Result<Option<Help>, AllocError> {
-    let Some(others) = lacks_literal(form) else {
+    let Some(other_count) = lacks_literal(form) else {
         return Ok(None);
     };
-    let says = "you might be missing a string literal to format with";
-    let words = String::made_from(says)?;
-    let literal = literal_for(others)?;
+    let message = "you might be missing a string literal to format with";
+    let words = String::made_from(message)?;
+    let literal = literal_for(other_count)?;
     let mut edits = Vec::new();
     edits.try_push(Edit {
         range: range_in(text, span.start, span.start),

@@ -31,9 +31,9 @@ fn is_macro_rules(token: &Token<'_>) -> bool {
 
 /// Returns whether two tokens, one after the other, are `macro_rules` and `!`.
 #[inline]
-fn begins_definition(word: Option<Token<'_>>, mark: Option<Token<'_>>) -> bool {
-    match (word, mark) {
-        (Some(word), Some(mark)) => is_macro_rules(&word) && is_mark_of(&mark, b'!'),
+fn begins_definition(word: Option<Token<'_>>, bang: Option<Token<'_>>) -> bool {
+    match (word, bang) {
+        (Some(word), Some(bang)) => is_macro_rules(&word) && is_mark_of(&bang, b'!'),
         _ => false,
     }
 }
@@ -60,11 +60,11 @@ pub fn macro_names<'a>(text: &'a str) -> Result<BTreeSet<&'a [u8]>, AllocError> 
         return Ok(names);
     }
     let mut rest = Tokens::new(text);
-    let mut before = None;
+    let mut previous = None;
     let mut last = None;
     while let Some(token) = rest.next() {
-        put_definition(&mut names, before, last, &token)?;
-        before = last;
+        put_definition(&mut names, previous, last, &token)?;
+        previous = last;
         last = Some(token);
     }
     Ok(names)

@@ -15,4 +15,4 @@ pub(crate) mod readings;
 pub use changed::changed_file_faults;
 pub use lint::{file_faults, read_calls, report_on, Readings};
 pub use macros::{macro_names, name_at, other_macro, File};
-pub use readings::{argument_at, arguments_before, captures, ends_early, index_or};
+pub use readings::{argument_at, arguments_before, captures_variables, ends_early, index_or};

@@ -42,8 +42,8 @@ fn check_string<'c>(
     arguments: &'c [FormatArgument<'c>],
     is_counted: bool,
 ) -> Result<(), AllocError> {
-    let checked = call_faults(string, arguments)?;
-    put_findings(findings, site, &checked, is_counted)?;
+    let report = call_faults(string, arguments)?;
+    put_findings(findings, site, &report, is_counted)?;
     Ok(())
 }
 
@@ -54,7 +54,7 @@ fn read_string(
     findings: &mut Vec<Finding>,
     site: Site<'_, '_>,
     appended_newline: bool,
-    captures: bool,
+    captures_variables: bool,
     is_counted: bool,
 ) -> Result<CallReading, AllocError> {
     let Some(literal) = read_literal(site.literal.text, appended_newline)? else {
@@ -69,7 +69,7 @@ fn read_string(
         style: literal.style,
         snippet: Some(snippet),
         appended_newline,
-        captures,
+        captures_variables,
     };
     check_string(findings, site, string, list, is_counted)?;
     Ok(reading_of(is_counted))
@@ -78,7 +78,7 @@ fn read_string(
 /// Returns whether the format string of a macro captures variables. `unreachable!` of the standard
 /// library puts it into another text before the edition 2021, where it captures none.
 #[inline]
-pub fn captures(rule: Rule, name: &[u8], is_from_2021: bool) -> bool {
+pub fn captures_variables(rule: Rule, name: &[u8], is_from_2021: bool) -> bool {
     match rule {
         Rule::IndexByEdition(_) => is_from_2021 || name != b"unreachable".as_slice(),
         Rule::Index(_) | Rule::FirstLiteral | Rule::Templates => true,
@@ -144,8 +144,14 @@ fn read_with(
     };
     let name = name_at(tokens, call.name);
     let appended_newline = appends_newline(name);
-    let captures = captures(call.rule, name, file.is_from_2021);
-    let reading = read_string(findings, site, appended_newline, captures, is_counted)?;
+    let captures_variables = captures_variables(call.rule, name, file.is_from_2021);
+    let reading = read_string(
+        findings,
+        site,
+        appended_newline,
+        captures_variables,
+        is_counted,
+    )?;
     Ok(reading)
 }
 
@@ -178,8 +184,16 @@ fn read_at(
         let reading = read_with(findings, file, part, call, literal, others, is_counted)?;
         return Ok(reading);
     }
-    let before = arguments_before(others, extent.end)?;
-    let reading = read_with(findings, file, part, call, literal, &before, is_counted)?;
+    let kept_arguments = arguments_before(others, extent.end)?;
+    let reading = read_with(
+        findings,
+        file,
+        part,
+        call,
+        literal,
+        &kept_arguments,
+        is_counted,
+    )?;
     Ok(reading)
 }
 

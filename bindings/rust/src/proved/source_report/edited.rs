@@ -35,31 +35,39 @@ fn rest_after(bytes: &[u8], n: usize) -> &[u8] {
 
 /// Makes an edit.
 #[inline]
-fn make(edited: &mut EditedText<'_>, edit: &Edit<'_>) -> Result<(), AllocError> {
-    let source = front(edited.rest, edit.span.start.saturating_sub(edited.end));
-    edited.bytes.try_extend_from_slice(source)?;
-    edited.bytes.try_extend_from_slice(edit.text.as_bytes())?;
-    edited.rest = rest_after(edited.rest, edit.span.end.saturating_sub(edited.end));
-    edited.end = edit.span.end;
+fn apply_edit(edited_text: &mut EditedText<'_>, edit: &Edit<'_>) -> Result<(), AllocError> {
+    let source = front(
+        edited_text.rest,
+        edit.span.start.saturating_sub(edited_text.end),
+    );
+    edited_text.bytes.try_extend_from_slice(source)?;
+    edited_text
+        .bytes
+        .try_extend_from_slice(edit.text.as_bytes())?;
+    edited_text.rest = rest_after(
+        edited_text.rest,
+        edit.span.end.saturating_sub(edited_text.end),
+    );
+    edited_text.end = edit.span.end;
     Ok(())
 }
 
 /// Makes edits, the first one first.
 #[inline]
-fn make_each(edited: &mut EditedText<'_>, edits: &[Edit<'_>]) -> Result<(), AllocError> {
+fn apply_edits(edited_text: &mut EditedText<'_>, edits: &[Edit<'_>]) -> Result<(), AllocError> {
     for edit in edits {
-        make(edited, edit)?;
+        apply_edit(edited_text, edit)?;
     }
     Ok(())
 }
 
 /// Mends a fault, if it has edits, and these follow the last one.
 #[inline]
-fn mend(edited: &mut EditedText<'_>, finding: &Finding) -> Result<(), AllocError> {
+fn mend(edited_text: &mut EditedText<'_>, finding: &Finding) -> Result<(), AllocError> {
     let edits = edits_of(finding)?;
-    if !edits.is_empty() && are_after(edited.end, edits.as_slice()) {
-        make_each(edited, edits.as_slice())?;
-        edited.ids.try_push(finding.id)?;
+    if !edits.is_empty() && are_after(edited_text.end, edits.as_slice()) {
+        apply_edits(edited_text, edits.as_slice())?;
+        edited_text.ids.try_push(finding.id)?;
     }
     Ok(())
 }
@@ -67,16 +75,16 @@ fn mend(edited: &mut EditedText<'_>, finding: &Finding) -> Result<(), AllocError
 /// Mends the faults of a text that can be mended in one round.
 #[inline]
 pub fn mend_each<'t>(text: &'t str, findings: &[Finding]) -> Result<EditedText<'t>, AllocError> {
-    let mut edited = EditedText {
+    let mut edited_text = EditedText {
         bytes: Vec::new(),
         rest: text.as_bytes(),
         end: 0,
         ids: Vec::new(),
     };
     for finding in findings {
-        mend(&mut edited, finding)?;
+        mend(&mut edited_text, finding)?;
     }
-    let rest = edited.rest;
-    edited.bytes.try_extend_from_slice(rest)?;
-    Ok(edited)
+    let rest = edited_text.rest;
+    edited_text.bytes.try_extend_from_slice(rest)?;
+    Ok(edited_text)
 }

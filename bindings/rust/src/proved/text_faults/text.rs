@@ -8,12 +8,12 @@ use crate::shim::alloc::AllocError;
 use crate::shim::parser::Parser;
 use crate::shim::prelude::*;
 
-/// Returns the fault that is shown of those of a call up to `fault`, where `shown` is that of those
-/// before it.
+/// Returns the fault that is shown of those of a call up to `fault`, where `choice` is that of
+/// those before it.
 #[inline]
-fn choose<'a>(shown: Option<Fault<'a>>, fault: Fault<'a>) -> Option<Fault<'a>> {
-    if shown.is_some() && !fault.is_front() {
-        shown
+fn choose<'a>(choice: Option<Fault<'a>>, fault: Fault<'a>) -> Option<Fault<'a>> {
+    if choice.is_some() && !fault.is_front() {
+        choice
     } else {
         Some(fault)
     }
@@ -23,11 +23,11 @@ fn choose<'a>(shown: Option<Fault<'a>>, fault: Fault<'a>) -> Option<Fault<'a>> {
 /// `None` if there is none.
 #[inline]
 fn shown_fault(faults: Vec<Fault<'_>>) -> Option<Fault<'_>> {
-    let mut shown = None;
+    let mut choice = None;
     for fault in faults {
-        shown = choose(shown, fault);
+        choice = choose(choice, fault);
     }
-    shown
+    choice
 }
 
 /// Returns the faults of the first call of a parser that finds any.

@@ -55,16 +55,16 @@ fn first_change(rows: &[Row<'_>]) -> Option<usize> {
 #[inline]
 fn hunk_len(rows: &[Row<'_>]) -> usize {
     let mut count = 0usize;
-    let mut changed = 0usize;
+    let mut change_end = 0usize;
     for row in rows {
         count = count.saturating_add(1);
         if !is_shared(row.side) {
-            changed = count;
-        } else if count.saturating_sub(changed) > 2 * CONTEXT {
+            change_end = count;
+        } else if count.saturating_sub(change_end) > 2 * CONTEXT {
             break;
         }
     }
-    changed.saturating_add(CONTEXT)
+    change_end.saturating_add(CONTEXT)
 }
 
 /// Appends a number in decimal digits.
@@ -126,11 +126,11 @@ fn put_rows(out: &mut String, rows: &[Row<'_>]) -> Result<(), AllocError> {
 /// Appends a hunk of rows, with these numbers of lines before it.
 #[inline]
 fn put_hunk(out: &mut String, numbers: Numbers, rows: &[Row<'_>]) -> Result<(), AllocError> {
-    let inside = count(rows);
+    let row_numbers = count(rows);
     out.try_push_str("@@ -")?;
-    put_extent(out, numbers.old, inside.old)?;
+    put_extent(out, numbers.old, row_numbers.old)?;
     out.try_push_str(" +")?;
-    put_extent(out, numbers.new, inside.new)?;
+    put_extent(out, numbers.new, row_numbers.new)?;
     out.try_push_str(" @@\n")?;
     put_rows(out, rows)
 }
@@ -138,10 +138,10 @@ fn put_hunk(out: &mut String, numbers: Numbers, rows: &[Row<'_>]) -> Result<(), 
 /// Returns the numbers of lines after rows.
 #[inline]
 fn numbers_after(numbers: Numbers, rows: &[Row<'_>]) -> Numbers {
-    let inside = count(rows);
+    let row_numbers = count(rows);
     Numbers {
-        old: numbers.old + inside.old,
-        new: numbers.new + inside.new,
+        old: numbers.old + row_numbers.old,
+        new: numbers.new + row_numbers.new,
     }
 }
 
@@ -149,15 +149,15 @@ fn numbers_after(numbers: Numbers, rows: &[Row<'_>]) -> Numbers {
 #[inline]
 fn put_hunks(out: &mut String, rows: &[Row<'_>]) -> Result<(), AllocError> {
     let mut rest = rows;
-    let mut before = Numbers { old: 0, new: 0 };
-    while let Some(shared) = first_change(rest) {
-        let left_out = shared.saturating_sub(CONTEXT);
-        let others = rest_after(rest, left_out);
+    let mut numbers = Numbers { old: 0, new: 0 };
+    while let Some(change) = first_change(rest) {
+        let gap = change.saturating_sub(CONTEXT);
+        let others = rest_after(rest, gap);
         let length = hunk_len(others);
         let hunk = front(others, length);
-        let start = numbers_after(before, front(rest, left_out));
+        let start = numbers_after(numbers, front(rest, gap));
         put_hunk(out, start, hunk)?;
-        before = numbers_after(start, hunk);
+        numbers = numbers_after(start, hunk);
         rest = rest_after(others, length);
     }
     Ok(())

@@ -144,15 +144,15 @@ fn push_middle<'a>(
     old: &[&'a str],
     new: &[&'a str],
 ) -> Result<(), AllocError> {
-    let mut olds = old;
-    let mut news = new;
-    while let Some(pair) = next_common(olds, news) {
-        push_pair(rows, olds, news, pair)?;
-        olds = rest_after(olds, pair.old);
-        news = rest_after(news, pair.new);
+    let mut old_lines = old;
+    let mut new_lines = new;
+    while let Some(pair) = next_common(old_lines, new_lines) {
+        push_pair(rows, old_lines, new_lines, pair)?;
+        old_lines = rest_after(old_lines, pair.old);
+        new_lines = rest_after(new_lines, pair.new);
     }
-    push_lines(rows, Side::Old, olds)?;
-    push_lines(rows, Side::New, news)?;
+    push_lines(rows, Side::Old, old_lines)?;
+    push_lines(rows, Side::New, new_lines)?;
     Ok(())
 }
 
@@ -160,14 +160,14 @@ fn push_middle<'a>(
 /// the old text, and those that are not in the old one alone the new text.
 #[inline]
 pub fn rows_of<'a>(old: &'a str, new: &'a str) -> Result<Vec<Row<'a>>, AllocError> {
-    let olds = lines_of(old)?;
-    let news = lines_of(new)?;
-    let lines = olds.as_slice();
-    let others = news.as_slice();
+    let old_lines = lines_of(old)?;
+    let new_lines = lines_of(new)?;
+    let lines = old_lines.as_slice();
+    let others = new_lines.as_slice();
     let end = common_end(lines, others);
     let mut rows = Vec::new();
-    let (fewer, more) = (lines.len() - end, others.len() - end);
-    push_middle(&mut rows, front(lines, fewer), front(others, more))?;
-    push_lines(&mut rows, Side::Both, rest_after(lines, fewer))?;
+    let (old_len, new_len) = (lines.len() - end, others.len() - end);
+    push_middle(&mut rows, front(lines, old_len), front(others, new_len))?;
+    push_lines(&mut rows, Side::Both, rest_after(lines, old_len))?;
     Ok(rows)
 }

@@ -15,7 +15,7 @@ returns c = λ ss h.
     = ap (map seen_operand) c.deref.ensures.value ∙ h.slots in
     c.in_ok-push_unused.ensures
     ∙ ap (λ (is : List ℕ). map seen_fault c.args.faults.now.items ++ unused_faults is)
-    (c.in_ok-unused.ensures
+    (c.in_ok-unused_indices.ensures
     ∙ unused-same (λ i. get_or c.deref-2.result.now i false) (λ i. list_any (means ss i) ls) marked
     0 (map seen_operand c.deref.result.now)
     ∙ ap (unused_from (λ i. list_any (means ss i) ls) 0) slots)

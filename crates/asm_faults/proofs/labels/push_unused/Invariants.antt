@@ -7,7 +7,8 @@ use Rattle.asm_faults.proofs.labels.push_unused.Given as goal
 abbrev pub invariant-loop-index : goal.invariant-loop-index
 invariant-loop-index l = map seen_label l.labels.items
     ++ unused_labels (map seen_operand l.operands) l.rest
-    ≡ map seen_label l.fn.labels.items ++ unused_labels (map seen_operand l.operands) l.unused
+    ≡ map seen_label l.fn.labels.items
+    ++ unused_labels (map seen_operand l.operands) l.unused_indices
 
 abbrev pub decreases-loop-index : goal.decreases-loop-index
 decreases-loop-index l = length l.rest

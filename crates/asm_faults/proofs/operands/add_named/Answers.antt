@@ -7,7 +7,7 @@ use Rattle.asm_faults.proofs.operands.add_named.Goals as goal
 
 pub returns-in_ok-push-in-Some-2-clause-held : goal.returns-in_ok-push-in-Some-2-clause-held
 returns-in_ok-push-in-Some-2-clause-held c = λ ss h k.
-    let known : index_of ss (chars c.args.name.now) ≡ Some c.in-Some.first
+    let known : index_of ss (chars c.args.name.now) ≡ Some c.in-Some.first_operand
     = sym (h.names (chars c.args.name.now)) ∙ sym c.index_of.ensures ∙ c.in-Some.is in
     rw known (Holds-nameless ss c.args.operands.now _ UnnamedIn h (λ t. refl) refl
     c.in_ok-push-in-Some-2.ensures.items refl refl

@@ -12,7 +12,7 @@ returns-clause-read c =
     let t = c.in_ok-check_call.ensures.outcome in
     let whole = c.args.is_whole in
     let raw = c.args.operands.now.are_raw in
-    let ts = map seen_read c.in-Some.read.items in
+    let ts = map seen_read c.in-Some.template_list.items in
     let given = map seen_operand c.deref-5.result.now in
     let list : map seen_template c.deref-4.result.now ≡ read_templates raw ts =
     ap (map seen_template) c.deref-4.ensures.value ∙ (c.in_ok-list.ensures.seen
@@ -23,7 +23,7 @@ returns-clause-read c =
       t.1,
       inr (
         ts,
-        rw c.in-Some.is at c.in_ok-read.ensures.read,
+        rw c.in-Some.is at c.in_ok-template_list.ensures.read,
         (
           c.reading_of.ensures,
           subst (λ (os : List Operand). TellAllAsm (slots_after [] os)

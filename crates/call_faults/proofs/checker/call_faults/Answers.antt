@@ -1,7 +1,7 @@
 use Rattle.std.proofs.Common.{◌≡◌, ◌==◌, ◌∙◌, [], ap, chars, map, refl, sym}
 use Rattle.std.specs.Prelude.{is_none}
 use Rattle.rustc_parse_format.specs.Call.{pieces_of}
-use Rattle.rustc_parse_format.specs.Seen.{seen, seen_error}
+use Rattle.rustc_parse_format.specs.Seen.{seen_piece, seen_error}
 use Rattle.rustc_parse_format.specs.State.{State, after_all, calls, first_state}
 use Rattle.rustc_parse_format.specs.Types.{Format}
 use Rattle.rustc_parse_format.specs.World.{pieces_in}
@@ -20,7 +20,7 @@ returns c =
     c.args.string.appended_newline ≡ s
     = ap (λ t. first_state Format (chars c.args.string.text.now) c.args.string.style t
     c.args.string.appended_newline) c.in_ok-snippet.ensures in
-    let pieces : map seen c.in_ok-pieces.field-0.pieces.items
+    let pieces : map seen_piece c.in_ok-pieces.field-0.pieces.items
     ≡ pieces_in s.world (pieces_of (calls s))
     = c.in_ok-pieces.ensures.walk.0
     ∙ ap (λ (p : State). pieces_in p.world (pieces_of (calls p))) at_start in
@@ -33,19 +33,20 @@ returns c =
     = read-is s c.errors.result.now seen_error refl
     (λ e. sym errors ∙ ap (map seen_error) e)
     (λ e. map-nil seen_error c.errors.result.now (errors ∙ e)) ∙ sym c.is_empty-is_read.ensures in
-    let faults : map seen_fault c.in_ok-faults.faults.items ≡ call_faults c.args.string.captures
+    let faults : map seen_fault c.in_ok-faults.faults.items
+    ≡ call_faults c.args.string.captures_variables
     (map seen_given c.args.arguments.now) (text_fault s)
-    (map seen c.in_ok-pieces.field-0.pieces.items)
+    (map seen_piece c.in_ok-pieces.field-0.pieces.items)
     = rw c.deref.ensures.value at (c.in_ok-faults.ensures.faults read) in
     record {
       walk = (pieces, parser);
       arguments = refl;
       kept = c.in_ok-faults.ensures.kept c.new-indices.ensures.items;
       counts = c.in_ok-counts.ensures
-          ∙ ap (counts_before 0) (ap (map seen) c.deref-2.ensures.value);
+          ∙ ap (counts_before 0) (ap (map seen_piece) c.deref-2.ensures.value);
       faults = faults;
-      clean = clean-is c.args.string.captures (map seen_given c.args.arguments.now)
-          (chars c.args.string.text.now) s (map seen c.in_ok-pieces.field-0.pieces.items)
+      clean = clean-is c.args.string.captures_variables (map seen_given c.args.arguments.now)
+          (chars c.args.string.text.now) s (map seen_piece c.in_ok-pieces.field-0.pieces.items)
           (map seen_fault c.in_ok-faults.faults.items) c.in_ok-pieces.field-0.parser refl parser
           c.in_ok-pieces.ensures.clean c.in_ok-pieces.ensures.reading
           c.in_ok-pieces.ensures.one_reading faults;

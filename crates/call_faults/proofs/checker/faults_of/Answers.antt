@@ -2,7 +2,7 @@ use Rattle.std.proofs.Common.{◌≡◌, ◌++◌, ◌<◌, ◌∙◌, [], ap, a
 use Rattle.std.proofs.Common.{ℕ, ◌+◌}
 use Rattle.std.specs.List.{AllByRecursion, list_any}
 use Rattle.std.proofs.lemmas.List.{length-map}
-use Rattle.rustc_parse_format.specs.Seen.{seen}
+use Rattle.rustc_parse_format.specs.Seen.{seen_piece}
 use Rattle.call_faults.specs.Arguments.{kept_after, list_faults}
 use Rattle.call_faults.specs.Calls.{is_last}
 use Rattle.call_faults.specs.CallFaults.{CallFault}
@@ -27,12 +27,13 @@ returns-clause-faults c = λ e.
     = subst (λ (n : ℕ). AllByRecursion (λ k. k.index < n) ks) count (kept-below [] 0 gs tt) in
     let outcome : map seen_fault c.arguments_of.new.faults.items ≡ list_faults [] 0 gs
     = rw c.new-faults.ensures.items at c.in_ok-arguments.ensures.outcome in
-    let looked : map seen_lookup c.deref-2.result.now ≡ lookups_from 0 (map seen c.args.pieces.now)
+    let looked : map seen_lookup c.deref-2.result.now
+    ≡ lookups_from 0 (map seen_piece c.args.pieces.now)
     = rw c.deref-2.ensures.value c.in_ok-lookups.ensures in
-    read-total c.args.string.captures gs (text_fault (start c.args.string))
-    (map seen c.args.pieces.now) (map seen_fault c.compare.new.faults.items)
+    read-total c.args.string.captures_variables gs (text_fault (start c.args.string))
+    (map seen_piece c.args.pieces.now) (map seen_fault c.compare.new.faults.items)
     (e ∙ c.if-not-is_read.false) goes_on
     (c.in_ok-compare.ensures ks holds below
     ∙ ap (λ (xs : List CallFault). xs
-    ++ compared c.args.string.captures ks (map seen_lookup c.deref-2.result.now)) outcome
-    ∙ ap (λ ls. list_faults [] 0 gs ++ compared c.args.string.captures ks ls) looked)
+    ++ compared c.args.string.captures_variables ks (map seen_lookup c.deref-2.result.now)) outcome
+    ∙ ap (λ ls. list_faults [] 0 gs ++ compared c.args.string.captures_variables ks ls) looked)

@@ -13,21 +13,22 @@ returns-then-not-is_settled c = λ ks h a.
     let left : map seen_entry c.in_ok-rest.rest.items ≡ unused ks ls = c.in_ok-rest.ensures
     ∙ (rw (c.deref-2.ensures.value, c.deref.ensures.value, h.list)
     (left-is c.in_ok-marks.marks.items ks ls (c.in_ok-marks.ensures ks h a))) in
-    let lacked : c.in_ok-missing.missing.items ≡ missing ks ls = c.in_ok-missing.ensures
+    let lacked : c.in_ok-references.references.items ≡ missing ks ls = c.in_ok-references.ensures
     ∙ ap (λ n. filter_map (beyond n) ls)
     (count ∙ sym (length-map c.args.arguments.now.list.items seen_entry) ∙ ap length h.list) in
     let found : map seen_fault c.look_up.new.faults.items
-    ≡ lookup_faults c.args.captures (names ks) ls = rw c.new-list.ensures.items
+    ≡ lookup_faults c.args.captures_variables (names ks) ls = rw c.new-list.ensures.items
     at (c.in_ok-look_up.ensures (names ks) (holds-knows ks c.args.arguments.now h)) in
     joined (map seen_fault c.args.faults.now.items) (map seen_fault c.append.new.self.items)
-    (map seen_fault c.tell_missing.new.faults.items)
-    (map seen_fault c.tell_unused.new.faults.items) _
+    (map seen_fault c.push_missing_fault.new.faults.items)
+    (map seen_fault c.push_unused_faults.new.faults.items) _
     (map seen_fault c.look_up.new.faults.items) _ _ [] _
     (ap (map seen_fault) c.in_ok-append.ensures.items
     ∙ map-append seen_fault c.args.faults.now.items c.look_up.new.faults.items)
-    c.in_ok-tell_missing.ensures (rw c.deref-6.ensures.value at c.in_ok-tell_unused.ensures)
-    (sym (append-nil (map seen_fault c.tell_unused.new.faults.items)))
-    (compared-parts c.args.captures ks ls _ _ _ _ found lacked left
+    c.in_ok-push_missing_fault.ensures
+    (rw c.deref-6.ensures.value at c.in_ok-push_unused_faults.ensures)
+    (sym (append-nil (map seen_fault c.push_unused_faults.new.faults.items)))
+    (compared-parts c.args.captures_variables ks ls _ _ _ _ found lacked left
     (sym (rw (c.deref-3.ensures.value, c.deref-4.ensures.value, c.deref-5.ensures.value)
     at c.is_settled-is_settled.ensures) ∙ c.if-not-is_settled.true))
 
@@ -38,20 +39,22 @@ returns c = λ ks h a.
     let left : map seen_entry c.in_ok-rest.rest.items ≡ unused ks ls = c.in_ok-rest.ensures
     ∙ (rw (c.deref-2.ensures.value, c.deref.ensures.value, h.list)
     (left-is c.in_ok-marks.marks.items ks ls (c.in_ok-marks.ensures ks h a))) in
-    let lacked : c.in_ok-missing.missing.items ≡ missing ks ls = c.in_ok-missing.ensures
+    let lacked : c.in_ok-references.references.items ≡ missing ks ls = c.in_ok-references.ensures
     ∙ ap (λ n. filter_map (beyond n) ls)
     (count ∙ sym (length-map c.args.arguments.now.list.items seen_entry) ∙ ap length h.list) in
     let found : map seen_fault c.look_up.new.faults.items
-    ≡ lookup_faults c.args.captures (names ks) ls = rw c.new-list.ensures.items
+    ≡ lookup_faults c.args.captures_variables (names ks) ls = rw c.new-list.ensures.items
     at (c.in_ok-look_up.ensures (names ks) (holds-knows ks c.args.arguments.now h)) in
     joined (map seen_fault c.args.faults.now.items) (map seen_fault c.append.new.self.items)
-    (map seen_fault c.tell_missing.new.faults.items) (map seen_fault c.tell_unused.new.faults.items)
-    (map seen_fault c.tell_by_index.new.faults.items)
+    (map seen_fault c.push_missing_fault.new.faults.items)
+    (map seen_fault c.push_unused_faults.new.faults.items)
+    (map seen_fault c.push_index_faults.new.faults.items)
     (map seen_fault c.look_up.new.faults.items) _ _ _ _
     (ap (map seen_fault) c.in_ok-append.ensures.items
     ∙ map-append seen_fault c.args.faults.now.items c.look_up.new.faults.items)
-    c.in_ok-tell_missing.ensures (rw c.deref-6.ensures.value at c.in_ok-tell_unused.ensures)
-    (rw (c.deref-7.ensures.value, h.list) at c.in_ok-tell_by_index.ensures)
-    (compared-parts c.args.captures ks ls _ _ _ _ found lacked left
+    c.in_ok-push_missing_fault.ensures
+    (rw c.deref-6.ensures.value at c.in_ok-push_unused_faults.ensures)
+    (rw (c.deref-7.ensures.value, h.list) at c.in_ok-push_index_faults.ensures)
+    (compared-parts c.args.captures_variables ks ls _ _ _ _ found lacked left
     (sym (rw (c.deref-3.ensures.value, c.deref-4.ensures.value, c.deref-5.ensures.value)
     at c.is_settled-is_settled.ensures) ∙ c.if-not-is_settled.false))

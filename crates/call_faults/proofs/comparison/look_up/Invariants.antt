@@ -10,6 +10,6 @@ abbrev pub invariant-loop-lookup : goal.invariant-loop-lookup
 invariant-loop-lookup l = (known : List Text) → KnowsNames known l.fn.indices
     → (now : List Text) × KnowsNames now l.indices
     × (map seen_fault l.faults.items
-    ++ lookup_faults l.captures now (map seen_lookup (drop l.lookup-index l.lookups))
+    ++ lookup_faults l.captures_variables now (map seen_lookup (drop l.lookup-index l.lookups))
     ≡ map seen_fault l.fn.faults.items
-    ++ lookup_faults l.captures known (map seen_lookup l.lookups))
+    ++ lookup_faults l.captures_variables known (map seen_lookup l.lookups))

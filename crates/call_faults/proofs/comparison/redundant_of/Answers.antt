@@ -11,15 +11,16 @@ use Rattle.call_faults.proofs.comparison.redundant_of.Goals as goal
 pub loop-entry-preserved : goal.loop-entry-preserved
 loop-entry-preserved c =
     let ls = map seen_lookup c.args.lookups.now in
-    kept-next seen_entry (is_redundant ls) c.args.unused.now c.loop-entry.entry-index _
-    c.loop-entry.redundant.items c.if-is_redundant.redundant.items c.is_redundant.result
+    kept-next seen_entry (is_redundant ls) c.args.unused_entries.now c.loop-entry.entry-index _
+    c.loop-entry.redundant_indices.items c.if-is_redundant.redundant_indices.items
+    c.is_redundant.result
     c.loop-entry-test.true c.loop-entry.invariant
     (c.is_redundant.ensures ∙ redundant-is ls _ _ (λ w. is_some (found_in
     c.in_ok-positions.positions w))
     c.in_ok-positions.ensures)
     (elim c.if-is_redundant.branch [
-      | then-is_redundant+in_ok-push w ↦ rw (w.redundant-is, w.if-is_redundant.true)
+      | then-is_redundant+in_ok-push w ↦ rw (w.redundant_indices-is, w.if-is_redundant.true)
           w.in_ok-push.ensures.items
-      | else-is_redundant w ↦ rw (w.redundant-is, w.if-is_redundant.false) (sym (append-nil
-          c.loop-entry.redundant.items))
+      | else-is_redundant w ↦ rw (w.redundant_indices-is, w.if-is_redundant.false) (sym (append-nil
+          c.loop-entry.redundant_indices.items))
     ])

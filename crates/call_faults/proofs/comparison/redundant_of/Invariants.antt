@@ -4,6 +4,6 @@ use Rattle.call_faults.specs.Seen.{seen_entry, seen_lookup}
 use Rattle.call_faults.proofs.comparison.redundant_of.Given as goal
 
 abbrev pub invariant-loop-entry : goal.invariant-loop-entry
-invariant-loop-entry l = l.redundant.items ≡ indices
+invariant-loop-entry l = l.redundant_indices.items ≡ indices
     (filter (is_redundant (map seen_lookup l.lookups)) (map seen_entry (take l.entry-index
-    l.unused)))
+    l.unused_entries)))

@@ -8,10 +8,11 @@ use Rattle.call_faults.proofs.comparison.references_from.Goals as goal
 
 pub loop-lookup-preserved : goal.loop-lookup-preserved
 loop-lookup-preserved c = gathered seen_lookup (beyond c.args.count) c.args.lookups.now
-    c.loop-lookup.lookup-index _ c.loop-lookup.missing.items c.match-reference_beyond.missing.items
+    c.loop-lookup.lookup-index _ c.loop-lookup.references.items
+    c.match-reference_beyond.references.items
     c.reference_beyond.result c.loop-lookup-test.true c.loop-lookup.invariant
     c.reference_beyond.ensures (elim c.match-reference_beyond.branch [
-      | in-Some+in_ok-push w ↦ rw (w.missing-is, w.in-Some.is) w.in_ok-push.ensures.items
-      | in_default w ↦ rw (w.missing-is, w.in_default.is) (sym (append-nil
-          c.loop-lookup.missing.items))
+      | in-Some+in_ok-push w ↦ rw (w.references-is, w.in-Some.is) w.in_ok-push.ensures.items
+      | in_default w ↦ rw (w.references-is, w.in_default.is) (sym (append-nil
+          c.loop-lookup.references.items))
     ])

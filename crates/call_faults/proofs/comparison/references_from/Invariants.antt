@@ -5,5 +5,5 @@ use Rattle.call_faults.specs.Seen.{seen_lookup}
 use Rattle.call_faults.proofs.comparison.references_from.Given as goal
 
 abbrev pub invariant-loop-lookup : goal.invariant-loop-lookup
-invariant-loop-lookup l = l.missing.items
+invariant-loop-lookup l = l.references.items
     ≡ filter_map (beyond l.count) (map seen_lookup (take l.lookup-index l.lookups))

@@ -10,7 +10,7 @@ abbrev pub invariant-loop-index : goal.invariant-loop-index
 invariant-loop-index l = map seen_label l.labels.items
     ++ map (λ n. secondary (WholeArgument n) named_text) l.rest
     ≡ map seen_label l.fn.labels.items
-    ++ map (λ n. secondary (WholeArgument n) named_text) l.named
+    ++ map (λ n. secondary (WholeArgument n) named_text) l.named_arguments
 
 abbrev pub decreases-loop-index : goal.decreases-loop-index
 decreases-loop-index l = length l.rest

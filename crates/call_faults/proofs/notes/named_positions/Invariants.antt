@@ -1,5 +1,5 @@
 use Rattle.std.proofs.Common.{◌≡◌, ◌++◌, drop, is_some, map}
-use Rattle.rustc_parse_format.specs.Seen.{seen}
+use Rattle.rustc_parse_format.specs.Seen.{seen_piece}
 use Rattle.call_faults.specs.Notes.{named_positions}
 use Rattle.call_faults.specs.Seen.{found_in}
 use Rattle.call_faults.proofs.notes.named_positions.Given as goal
@@ -7,5 +7,6 @@ use Rattle.call_faults.proofs.notes.named_positions.Given as goal
 -- What is added, and then the places of what is left, is all.
 abbrev pub invariant-loop-piece : goal.invariant-loop-piece
 invariant-loop-piece l = l.spots.items
-    ++ named_positions (λ w. is_some (found_in l.names w)) (map seen (drop l.piece-index l.pieces))
-    ≡ named_positions (λ w. is_some (found_in l.names w)) (map seen l.pieces)
+    ++ named_positions (λ w. is_some (found_in l.names w))
+    (map seen_piece (drop l.piece-index l.pieces))
+    ≡ named_positions (λ w. is_some (found_in l.names w)) (map seen_piece l.pieces)

@@ -1,5 +1,5 @@
 use Rattle.std.proofs.Common.{◌≡◌, ◌≤◌, ◌++◌, drop, map}
-use Rattle.rustc_parse_format.specs.Seen.{seen}
+use Rattle.rustc_parse_format.specs.Seen.{seen_piece}
 use Rattle.call_faults.specs.Spots.{counts_before}
 use Rattle.call_faults.proofs.spots.counts_before.Given as goal
 
@@ -7,7 +7,7 @@ use Rattle.call_faults.proofs.spots.counts_before.Given as goal
 -- pieces.
 abbrev pub invariant-loop-piece : goal.invariant-loop-piece
 invariant-loop-piece l = record {
-  all : l.counts.items ++ counts_before l.count (map seen (drop l.piece-index l.pieces))
-      ≡ counts_before 0 (map seen l.pieces);
+  all : l.counts.items ++ counts_before l.count (map seen_piece (drop l.piece-index l.pieces))
+      ≡ counts_before 0 (map seen_piece l.pieces);
   small : l.count ≤ l.piece-index;
 }

@@ -17,7 +17,7 @@ loop-index-preserved c =
     let x = c.index-lines-index.result in
     elim c.if-have_addition.branch [
       | then-have_addition+in_ok-put_kept_lines+in_ok-put_changed_row w ↦
-          rw (w.from-is, w.out-is) record {
+          rw (w.first_index-is, w.out-is) record {
             before = omega arith;
             same = ap (λ t. t ++ changed_rows f (n + (l.index + 1))
                 (map seen_line (slice_range ls (l.index + 1) (l.index + 1)))
@@ -30,17 +30,17 @@ loop-index-preserved c =
                 ∙ ap (λ t. t ++ changed_row f (n + l.index) (seen_line x)
                 (lone_sign (seen_line x) (lone_addition (seen_line x))))
                 w.in_ok-put_kept_lines.ensures)
-                ∙ changed-new f seen_line ls n l.from l.index x (string_bytes l.out)
+                ∙ changed-new f seen_line ls n l.first_index l.index x (string_bytes l.out)
                 l.invariant.before c.loop-index-test.true c.index-lines-index.is
                 (ap (λ ys. list_any is_added (map seen_part ys)) (sym c.deref.ensures.value)
                 ∙ sym c.have_addition.ensures ∙ w.if-have_addition.true)
                 ∙ l.invariant.same;
           }
       | else-have_addition w ↦
-          rw (w.from-is, w.out-is) record {
+          rw (w.first_index-is, w.out-is) record {
             before = omega (arith, l.invariant.before);
             same = ap (λ t. string_bytes l.out ++ t)
-                (changed-kept f seen_line ls (n + l.from) l.from l.index x
+                (changed-kept f seen_line ls (n + l.first_index) l.first_index l.index x
                 l.invariant.before c.loop-index-test.true c.index-lines-index.is
                 (ap (λ ys. list_any is_added (map seen_part ys)) (sym c.deref.ensures.value)
                 ∙ sym c.have_addition.ensures ∙ w.if-have_addition.false))

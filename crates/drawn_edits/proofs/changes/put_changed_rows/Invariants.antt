@@ -8,9 +8,10 @@ use Rattle.drawn_edits.proofs.changes.put_changed_rows.Given as goal
 -- The text added, and then the rest of it, is all.
 abbrev pub invariant-loop-index : goal.invariant-loop-index
 invariant-loop-index l = record {
-  before : l.from ≤ l.index;
-  same : string_bytes l.out ++ changed_rows (seen_frame l.frame) (l.number + l.from)
-      (map seen_line (slice_range l.lines l.from l.index)) (map seen_line (drop l.index l.lines))
+  before : l.first_index ≤ l.index;
+  same : string_bytes l.out ++ changed_rows (seen_frame l.frame) (l.number + l.first_index)
+      (map seen_line (slice_range l.lines l.first_index l.index))
+      (map seen_line (drop l.index l.lines))
       ≡ string_bytes l.fn.out
       ++ changed_rows (seen_frame l.frame) l.number [] (map seen_line l.lines);
 }

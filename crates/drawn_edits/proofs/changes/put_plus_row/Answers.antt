@@ -1,5 +1,5 @@
 use Rattle.std.proofs.Common.{◌++◌, ◌∙◌, ap, append_assoc, codes, map, string_bytes}
-use Rattle.drawn_lines.specs.Lines.{blank}
+use Rattle.drawn_lines.specs.Lines.{blank_gutter}
 use Rattle.drawn_edits.specs.Edited.{seen_part}
 use Rattle.drawn_edits.specs.Helps.{plus_signs}
 use Rattle.drawn_edits.proofs.PlusLaws.{signs-add}
@@ -16,6 +16,6 @@ returns-clause-signs c =
     (c.in_ok-push_str.ensures.bytes
     ∙ ap (λ t. t ++ z) (c.in_ok-put_plus_signs.ensures
     ∙ ap (λ t. t ++ s) c.in_ok-put_gutter.ensures)
-    ∙ append_assoc (o ++ (blank g ++ codes " ")) s z
-    ∙ append_assoc o (blank g ++ codes " ") (s ++ z)
-    ∙ ap (λ t. o ++ t) (append_assoc (blank g) (codes " ") (s ++ z)))
+    ∙ append_assoc (o ++ (blank_gutter g ++ codes " ")) s z
+    ∙ append_assoc o (blank_gutter g ++ codes " ") (s ++ z)
+    ∙ ap (λ t. o ++ t) (append_assoc (blank_gutter g) (codes " ") (s ++ z)))

@@ -10,8 +10,8 @@ returns c =
     let page = new_page (map seen_part c.args.parts.now) in
     let lines : map seen_line c.push.new.self.items ≡ all_lines page =
     ap (map seen_line) c.in_ok-push.ensures.items
-    ∙ map-append seen_line c.push_new.new.lines.items _
-    ∙ ap all_lines c.in_ok-push_new.ensures in
+    ∙ map-append seen_line c.push_new_part.new.lines.items _
+    ∙ ap all_lines c.in_ok-push_new_part.ensures in
     ap (map seen_line) c.truncate.ensures.items
     ∙ sym (take-map seen_line c.count_to_text-count.result c.push.new.self.items)
     ∙ ap (λ n. take n (map seen_line c.push.new.self.items)) (c.count_to_text-count.ensures

@@ -1,7 +1,7 @@
 use Rattle.std.proofs.Common.{◌+◌, codes, decimal, string_bytes}
 use Rattle.drawn_faults.specs.Drawing.{arrow}
 use Rattle.drawn_lines.specs.Glyphs.{run, glyph_bytes}
-use Rattle.drawn_lines.specs.Painting.{painted}
+use Rattle.drawn_lines.specs.Painting.{painted_text}
 use Rattle.drawn_lines.specs.declared.paint.Style.TheVariants.{Secondary}
 use Rattle.drawn_lines.proofs.Joining.{join8}
 use Rattle.drawn_faults.proofs.drawing.put_arrow.Goals as goal
@@ -17,10 +17,10 @@ returns c =
       c.in_ok-put_decimal.ensures,
       c.in_ok-push_str.ensures.bytes,
       c.in_ok-put_glyphs.ensures.drawn,
-      c.in_ok-put_painted.ensures,
+      c.in_ok-put_painted_text.ensures,
       c.in_ok-put_run.ensures,
     )
     (join8 (string_bytes c.args.out.now) (run f.gutter.columns 32)
-    (painted f.gutter.palette Secondary (codes "--> ")) (glyph_bytes f.picture.now.path.now)
+    (painted_text f.gutter.palette Secondary (codes "--> ")) (glyph_bytes f.picture.now.path.now)
     (codes ":") (decimal (f.picture.now.line_start + c.args.at.line)) (codes ":")
     (decimal (c.args.at.chars + 1)) (codes "\n"))

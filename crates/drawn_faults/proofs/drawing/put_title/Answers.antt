@@ -2,7 +2,7 @@ use Rattle.std.proofs.Common.{◌++◌, ◌∙◌, ap, append_assoc, codes, stri
 use Rattle.rustc_parse_format.specs.Seen.{seen_mode}
 use Rattle.drawn_lines.specs.Glyphs.{glyph_bytes}
 use Rattle.drawn_faults.specs.Labels.{text_name}
-use Rattle.drawn_lines.specs.Painting.{closing, opening, painted}
+use Rattle.drawn_lines.specs.Painting.{closing, opening, painted_text}
 use Rattle.drawn_lines.specs.declared.paint.Style.TheVariants.{Bold, Primary}
 use Rattle.drawn_lines.proofs.Joining.{join3, join4, some-painted}
 use Rattle.drawn_faults.proofs.drawing.put_title.Goals as goal
@@ -11,7 +11,7 @@ pub returns : goal.returns
 returns c =
     let p = c.args.palette in
     let o = string_bytes c.args.out.now in
-    let e = painted p Primary (codes "error") in
+    let e = painted_text p Primary (codes "error") in
     let a = opening p Bold in
     let i = codes ": invalid " in
     let n = text_name (seen_mode c.args.mode) in

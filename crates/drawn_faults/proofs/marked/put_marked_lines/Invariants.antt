@@ -8,7 +8,7 @@ use Rattle.drawn_faults.proofs.marked.put_marked_lines.Given as goal
 abbrev pub invariant-loop-index : goal.invariant-loop-index
 invariant-loop-index l = record {
   same : string_bytes l.out
-      ++ marked_lines (seen_frame l.frame) l.before (map seen_mark (drop l.index l.marks))
+      ++ marked_lines (seen_frame l.frame) l.previous_line (map seen_mark (drop l.index l.marks))
       ≡ string_bytes l.fn.out ++ marked_lines (seen_frame l.frame) None (map seen_mark l.marks);
-  small : IfSome l.before (λ n. n < 2 ^ 59);
+  small : IfSome l.previous_line (λ n. n < 2 ^ 59);
 }

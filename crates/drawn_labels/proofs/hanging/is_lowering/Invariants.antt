@@ -6,5 +6,5 @@ use Rattle.drawn_labels.proofs.hanging.is_lowering.Given as goal
 -- The answer for the rest is the answer for all.
 abbrev pub invariant-loop-other : goal.invariant-loop-other
 invariant-loop-other l =
-    is_lowering l.down (seen_mark l.mark) (map seen_mark (drop l.other-index l.others))
-    ≡ is_lowering l.down (seen_mark l.mark) (map seen_mark l.others)
+    is_lowering l.least_depth (seen_mark l.mark) (map seen_mark (drop l.other-index l.others))
+    ≡ is_lowering l.least_depth (seen_mark l.mark) (map seen_mark l.others)

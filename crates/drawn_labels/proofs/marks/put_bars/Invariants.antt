@@ -4,5 +4,5 @@ use Rattle.drawn_labels.proofs.marks.put_bars.Given as goal
 
 -- The cells put into the row, and then those that are left, are all.
 abbrev pub invariant-loop-first : goal.invariant-loop-first
-invariant-loop-first l = bars l.n (map seen_hung (drop l.first-index l.hung)) l.row.items
-    ≡ bars l.n (map seen_hung l.hung) l.fn.row.items
+invariant-loop-first l = bars l.n (map seen_hung (drop l.first-index l.labels)) l.row.items
+    ≡ bars l.n (map seen_hung l.labels) l.fn.row.items

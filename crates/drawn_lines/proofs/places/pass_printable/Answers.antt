@@ -7,7 +7,7 @@ returns-clause-value c =
     let front = c.split_printable.result.0.now in
     let split = c.split_printable.ensures in
     rw (split.parts, c.past_printable.ensures.value)
-    (sym (pass-printable front c.args.width (chars c.split_printable.result.1.now) c.args.from
+    (sym (pass-printable front c.args.width (chars c.split_printable.result.1.now) c.args.start
     split.pass split.within))
 
 pub returns-clause-on : goal.returns-clause-on
@@ -18,5 +18,5 @@ returns-clause-on c more =
     let left : (c.args.width - length front) + more ≡ (c.args.width + more) - length front =
     omega arith in
     rw (split.parts, c.past_printable.ensures.value, left)
-    (pass-printable front (c.args.width + more) (chars c.split_printable.result.1.now) c.args.from
+    (pass-printable front (c.args.width + more) (chars c.split_printable.result.1.now) c.args.start
     split.pass (omega arith))

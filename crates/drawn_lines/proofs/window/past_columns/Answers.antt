@@ -10,7 +10,8 @@ returns-clause-bytes c =
     let rest = chars c.loop-c.rest.now in
     let done : past_columns c.loop-c.countdown rest ≡ rest =
     elim c.match-split_first.branch [
-      | in-Some+then-countdown-eq0 w ↦ past-none c.loop-c.countdown rest w.if-countdown-eq0.true
+      | in-Some+then-countdown-eq0 w ↦ past-none c.loop-c.countdown rest
+          w.if-countdown-eq0.true
       | in_default w ↦ past-nil c.loop-c.countdown rest w.in_default.ensures.parts
     ] in
     sym (encodes-chars c.loop-c.rest.now c.loop-c.invariant.is_text)

@@ -6,9 +6,9 @@ use Rattle.fault_fixes.proofs.errors.into_list.Goals as goal
 
 pub returns : goal.returns
 returns c =
-    let fronts = c.args.errors.fronts.items in
-    let backs = c.args.errors.backs.items in
+    let front_errors = c.args.errors.front_errors.items in
+    let back_errors = c.args.errors.back_errors.items in
     ap (map seen_error) (c.in_ok-append.ensures.items
-    ∙ ap (λ es. es ++ backs) c.reverse.ensures.items)
-    ∙ map-append seen_error (reverse fronts) backs
-    ∙ ap (λ es. es ++ map seen_error backs) (map-reverse seen_error fronts)
+    ∙ ap (λ es. es ++ back_errors) c.reverse.ensures.items)
+    ∙ map-append seen_error (reverse front_errors) back_errors
+    ∙ ap (λ es. es ++ map seen_error back_errors) (map-reverse seen_error front_errors)

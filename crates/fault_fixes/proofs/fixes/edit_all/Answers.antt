@@ -21,7 +21,7 @@ loop-argument-preserved c =
       made = c.in_ok-make_next.ensures.made;
       same = c.in_ok-make_next.ensures.edits
           (left_edits (seen_mode c.args.mode) c.make_next.new.parser)
-          ∙ ap (with_edits l.edited)
+          ∙ ap (with_edits l.progress)
           (left_edits-step (seen_mode c.args.mode) l.parser c.make_next.new.parser e h)
           ∙ l.invariant.same;
     }
@@ -32,13 +32,14 @@ returns-clause-bytes c =
     let h : is_nil l.parser.rest ≡ true = cc in
     c.in_ok-extend_from_slice.ensures.items
     ∙ (edited-end (seen_mode c.args.mode) c.args.parser.now l.parser
-    l.edited.bytes.items l.edited.start l.edited.end l.edited.rest.now c.args.at c.args.text.now
+    l.progress.bytes.items l.progress.start l.progress.end l.progress.rest.now c.args.at
+    c.args.text.now
     c.requires h l.invariant.same).0
 
 pub returns-clause-some : goal.returns-clause-some
 returns-clause-some c =
     let l = c.loop-argument in
     let h : is_nil l.parser.rest ≡ true = cc in
-    (edited-end (seen_mode c.args.mode) c.args.parser.now l.parser l.edited.bytes.items
-    l.edited.start l.edited.end
-    l.edited.rest.now c.args.at c.args.text.now c.requires h l.invariant.same).1
+    (edited-end (seen_mode c.args.mode) c.args.parser.now l.parser l.progress.bytes.items
+    l.progress.start l.progress.end
+    l.progress.rest.now c.args.at c.args.text.now c.requires h l.invariant.same).1

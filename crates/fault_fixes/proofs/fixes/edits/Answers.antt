@@ -4,7 +4,7 @@ use Rattle.std.proofs.lemmas.Grind.{common_steps}
 use Rattle.rustc_parse_format.specs.Seen.{seen_error, seen_mode}
 use Rattle.rustc_parse_format.specs.Faults.{Message}
 use Rattle.rustc_parse_format.specs.World.{Place}
-use Rattle.fault_fixes.specs.Edits.{AreInOrder, Edit, edits, edit_of, is_after, made}
+use Rattle.fault_fixes.specs.Edits.{AreInOrder, Edit, edits, edit_of, is_after, made_edits}
 use Rattle.fault_fixes.specs.SeenEdits.{seen_edit}
 use Rattle.fault_fixes.proofs.EditLaws.{made-order, some-made}
 use Rattle.fault_fixes.proofs.fixes.edits.Goals as goal
@@ -27,7 +27,8 @@ returns-in_err-push-clause-spare c = λ none.
     let rest : List (Message Place) = reverse (map seen_error l.error-iterator.iter.rest.now) in
     let left : List (Message Place) =
     reverse (map seen_error c.next.new.self.iter.rest.now) in
-    let h : map seen_edit l.edits.items ++ made l.end (filter_map (edit_of (seen_mode c.args.mode))
+    let h : map seen_edit l.edits.items ++ made_edits l.end
+    (filter_map (edit_of (seen_mode c.args.mode))
     rest)
     ≡ edits (seen_mode c.args.mode) (map seen_error c.args.errors.now) = l.invariant in
     let r : rest ≡ m ∷ left = grind (arith, common_steps) in

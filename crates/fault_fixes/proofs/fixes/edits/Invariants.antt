@@ -1,7 +1,7 @@
 use Rattle.std.proofs.Common.{◌≡◌, ◌++◌, map, reverse}
 use Rattle.std.specs.List.{filter_map}
 use Rattle.rustc_parse_format.specs.Seen.{seen_error, seen_mode}
-use Rattle.fault_fixes.specs.Edits.{made, edits, edit_of}
+use Rattle.fault_fixes.specs.Edits.{made_edits, edits, edit_of}
 use Rattle.fault_fixes.specs.SeenEdits.{seen_edit}
 use Rattle.fault_fixes.proofs.fixes.edits.Given as goal
 
@@ -9,6 +9,6 @@ use Rattle.fault_fixes.proofs.fixes.edits.Given as goal
 abbrev pub invariant-loop-error : goal.invariant-loop-error
 invariant-loop-error l =
     map seen_edit l.edits.items
-    ++ made l.end (filter_map (edit_of (seen_mode l.mode)) (reverse (map seen_error
+    ++ made_edits l.end (filter_map (edit_of (seen_mode l.mode)) (reverse (map seen_error
     l.error-iterator.iter.rest.now)))
     ≡ edits (seen_mode l.mode) (map seen_error l.errors)

@@ -3,7 +3,7 @@ use Rattle.std.proofs.lemmas.List.{at_drop_more}
 use Rattle.std.specs.List.{cons_option}
 use Rattle.rustc_parse_format.specs.Seen.{seen_mode}
 use Rattle.rustc_parse_format.specs.SeenFaults.{seen_fault}
-use Rattle.fault_fixes.specs.Edits.{offered, suggested}
+use Rattle.fault_fixes.specs.Edits.{offered_suggestion, suggested_edit}
 use Rattle.fault_fixes.specs.Fixing.{fault_edits}
 use Rattle.fault_fixes.specs.SeenEdits.{with_edits}
 use Rattle.fault_fixes.proofs.FixLaws.{cons_option-more}
@@ -15,9 +15,10 @@ loop-fault-preserved c = λ es.
     let mode = seen_mode c.args.mode in
     let left = fault_edits mode (map seen_fault (drop (l.fault-index + 1) c.args.faults.now)) in
     c.in_ok-make.ensures (left ++ es)
-    ∙ ap (λ g. with_edits l.edited (cons_option (suggested (offered mode g)) (left ++ es)))
+    ∙ ap (λ g. with_edits l.progress (cons_option (suggested_edit (offered_suggestion mode g))
+    (left ++ es)))
     c.in_ok-suggestion.ensures
-    ∙ ap (with_edits l.edited) (sym (cons_option-more _ left es))
-    ∙ sym (at_drop_more (λ fs. with_edits l.edited (fault_edits mode (map seen_fault fs) ++ es))
+    ∙ ap (with_edits l.progress) (sym (cons_option-more _ left es))
+    ∙ sym (at_drop_more (λ fs. with_edits l.progress (fault_edits mode (map seen_fault fs) ++ es))
     c.args.faults.now l.fault-index _ c.loop-fault-test.true)
     ∙ l.invariant es

@@ -9,6 +9,6 @@ use Rattle.fault_fixes.proofs.fixes.make_each.Given as goal
 -- With the edits of the faults that are left, and any others, the text becomes what it does with
 -- those of all.
 abbrev pub invariant-loop-fault : goal.invariant-loop-fault
-invariant-loop-fault l = (es : List Edit) → with_edits l.edited
+invariant-loop-fault l = (es : List Edit) → with_edits l.progress
     (fault_edits (seen_mode l.mode) (map seen_fault (drop l.fault-index l.faults)) ++ es)
-    ≡ with_edits l.fn.edited (fault_edits (seen_mode l.mode) (map seen_fault l.faults) ++ es)
+    ≡ with_edits l.fn.progress (fault_edits (seen_mode l.mode) (map seen_fault l.faults) ++ es)

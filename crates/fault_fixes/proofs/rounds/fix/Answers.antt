@@ -1,7 +1,7 @@
 use Rattle.std.proofs.Common.{◌≡◌, ◌∙◌, ◌+◌, ◌≤◌, IfSome, Some, ap, arith, subst, sym}
 use Rattle.rustc_parse_format.specs.Seen.{seen_mode}
-use Rattle.fault_fixes.specs.Fixing.{Fixed}
-use Rattle.fault_fixes.specs.Rounds.{Best, IsFixed, count_left, ids, offered}
+use Rattle.fault_fixes.specs.Fixing.{FixedLiteral}
+use Rattle.fault_fixes.specs.Rounds.{Best, IsFixed, count_left, ids, best_with}
 use Rattle.fault_fixes.specs.SeenEdits.{seen_best, seen_fixed}
 use Rattle.fault_fixes.proofs.RoundLaws.{IsBest, best-is, best-none, best-offered, first-round}
 use Rattle.fault_fixes.proofs.RoundLaws.{none-left, none-seen, round-none, round-some, rounds-end}
@@ -12,14 +12,14 @@ pub returns-in_default-clause-none : goal.returns-in_default-clause-none
 returns-in_default-clause-none c = λ f fixed.
     let first = first-round (seen_mode c.args.mode) c.args.input.now c.args.style
     c.args.snippet.now c.args.appended_newline f fixed in
-    (rw c.in_default.is at c.in_ok-first.ensures.none) first.0 first.1
+    (rw c.in_default.is at c.in_ok-first_literal.ensures.none) first.0 first.1
 
-pub returns-in_default-reached-clause-some : goal.returns-in_default-reached-clause-some
-returns-in_default-reached-clause-some c =
+pub returns-in_default-next_literal-clause-some : goal.returns-in_default-next_literal-clause-some
+returns-in_default-next_literal-clause-some c =
     let l = c.loop-rounds in
     let mode = seen_mode c.args.mode in
-    let start : Fixed = record { snippet = c.args.snippet.now; text = c.args.input.now } in
-    let end = rw c.in_default-reached.is at l.invariant.none in
+    let start : FixedLiteral = record { snippet = c.args.snippet.now; text = c.args.input.now } in
+    let end = rw c.in_default-next_literal.is at l.invariant.none in
     some-seen l.best.literal (λ f. IsFixed mode c.args.input.now c.args.style
     c.args.snippet.now c.args.appended_newline f)
     (best-is mode c.args.input.now c.args.style c.args.snippet.now c.args.appended_newline
@@ -27,12 +27,12 @@ returns-in_default-reached-clause-some c =
     (rounds-end mode c.args.style c.args.appended_newline start l.rounds
     (seen_best l.best).literal l.best.calls l.invariant.best end))
 
-pub returns-in_default-reached-clause-none : goal.returns-in_default-reached-clause-none
-returns-in_default-reached-clause-none c =
+pub returns-in_default-next_literal-clause-none : goal.returns-in_default-next_literal-clause-none
+returns-in_default-next_literal-clause-none c =
     let l = c.loop-rounds in
     let mode = seen_mode c.args.mode in
-    let start : Fixed = record { snippet = c.args.snippet.now; text = c.args.input.now } in
-    let end = rw c.in_default-reached.is at l.invariant.none in
+    let start : FixedLiteral = record { snippet = c.args.snippet.now; text = c.args.input.now } in
+    let end = rw c.in_default-next_literal.is at l.invariant.none in
     none-seen l.best.literal _
     (best-none mode c.args.input.now c.args.style c.args.snippet.now c.args.appended_newline
     l.rounds (seen_best l.best).literal l.best.calls l.invariant.best
@@ -43,10 +43,10 @@ pub returns-in-Some-eq0-clause-some : goal.returns-in-Some-eq0-clause-some
 returns-in-Some-eq0-clause-some c =
     let l = c.loop-rounds in
     let mode = seen_mode c.args.mode in
-    let start : Fixed = record { snippet = c.args.snippet.now; text = c.args.input.now } in
-    let f = seen_fixed c.in-Some-reached.fixed in
-    let b = offered (seen_best l.best) f c.in_ok-calls.calls in
-    let reached = rw c.in-Some-reached.is at l.invariant.some in
+    let start : FixedLiteral = record { snippet = c.args.snippet.now; text = c.args.input.now } in
+    let f = seen_fixed c.in-Some-next_literal.literal in
+    let b = best_with (seen_best l.best) f c.in_ok-calls.calls in
+    let reached = rw c.in-Some-next_literal.is at l.invariant.some in
     let few : l.rounds + 1 ≤ 8 = omega (arith, c.loop-rounds-test.true) in
     let count : c.in_ok-calls.calls ≡ count_left (ids mode c.args.input.now) mode f.text =
     rw (c.as_slice.ensures.value, c.as_str.ensures.value, c.in_ok-old.ensures.ids)
@@ -67,9 +67,9 @@ pub loop-rounds-preserved : goal.loop-rounds-preserved
 loop-rounds-preserved c =
     let l = c.loop-rounds in
     let mode = seen_mode c.args.mode in
-    let start : Fixed = record { snippet = c.args.snippet.now; text = c.args.input.now } in
-    let f = seen_fixed c.in-Some-reached.fixed in
-    let reached = rw c.in-Some-reached.is at l.invariant.some in
+    let start : FixedLiteral = record { snippet = c.args.snippet.now; text = c.args.input.now } in
+    let f = seen_fixed c.in-Some-next_literal.literal in
+    let reached = rw c.in-Some-next_literal.is at l.invariant.some in
     let few : l.rounds + 1 ≤ 8 = omega (arith, c.loop-rounds-test.true) in
     let count : c.in_ok-calls.calls ≡ count_left (ids mode c.args.input.now) mode f.text =
     rw (c.as_slice.ensures.value, c.as_str.ensures.value, c.in_ok-old.ensures.ids)
@@ -77,9 +77,9 @@ loop-rounds-preserved c =
     record {
       few = few;
       some = round-some mode c.args.style c.args.appended_newline start f l.rounds
-          c.in_ok-reached.reached reached c.in_ok-reached.ensures.some;
+          c.in_ok-next_literal.next_literal reached c.in_ok-next_literal.ensures.some;
       none = round-none mode c.args.style c.args.appended_newline start f l.rounds
-          c.in_ok-reached.reached reached c.in_ok-reached.ensures.none;
+          c.in_ok-next_literal.next_literal reached c.in_ok-next_literal.ensures.none;
       best = subst (λ (b : Best). IsBest mode c.args.style c.args.appended_newline start
           (l.rounds + 1) b.literal b.calls) (sym c.offer-in-loop-rounds.ensures)
           (best-offered mode c.args.style c.args.appended_newline start f l.rounds
@@ -89,6 +89,6 @@ loop-rounds-preserved c =
 pub next_round-requires : goal.next_round-requires
 next_round-requires c =
     let l = c.loop-rounds in
-    let start : Fixed = record { snippet = c.args.snippet.now; text = c.args.input.now } in
+    let start : FixedLiteral = record { snippet = c.args.snippet.now; text = c.args.input.now } in
     rounds-hashes (seen_mode c.args.mode) c.args.style c.args.appended_newline l.rounds start
-    (seen_fixed c.in-Some-reached.fixed) (rw c.in-Some-reached.is at l.invariant.some)
+    (seen_fixed c.in-Some-next_literal.literal) (rw c.in-Some-next_literal.is at l.invariant.some)

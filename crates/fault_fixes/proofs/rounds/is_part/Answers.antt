@@ -14,12 +14,12 @@ loop-fault-preserved c =
     let l = c.loop-fault in
     let first : Fault = UnmatchedBrace (record { start = 0; end = 0 }) in
     let ps = map seen_fault c.args.part.now in
-    let ws = map seen_fault c.args.whole.now in
+    let ws = map seen_fault c.args.all_faults.now in
     let many = length-map c.args.part.now seen_fault in
-    let all = length-map c.args.whole.now seen_fault in
+    let all = length-map c.args.all_faults.now seen_fault in
     let n : l.count < length c.args.part.now =
     omega (arith, l.invariant.within, c.if-count-part.false) in
-    let i : l.fault-index < length c.args.whole.now = omega (arith, c.loop-fault-test.true) in
+    let i : l.fault-index < length c.args.all_faults.now = omega (arith, c.loop-fault-test.true) in
     let m : l.count < length ps = omega (arith, n, many) in
     let j : l.fault-index < length ws = omega (arith, i, all) in
     let p : get_or (map fault_id ps) l.count [] ≡ c.id.result.now =
@@ -28,7 +28,8 @@ loop-fault-preserved c =
     ∙ sym c.id.ensures.id in
     let w : get_or (map fault_id ws) l.fault-index [] ≡ c.id-in-loop-fault.result.now =
     get_or-map fault_id ws l.fault-index (seen_fault first) [] j
-    ∙ ap fault_id (get_or-map seen_fault c.args.whole.now l.fault-index first (seen_fault first) i)
+    ∙ ap fault_id (get_or-map seen_fault c.args.all_faults.now l.fault-index first
+    (seen_fault first) i)
     ∙ sym c.id-in-loop-fault.ensures.id in
     let same : bytes_eq (get_or (map fault_id ps) l.count [])
     (get_or (map fault_id ws) l.fault-index []) ≡ c.eq.result = rw (p, w) (sym c.eq.ensures) in
@@ -55,11 +56,11 @@ pub returns : goal.returns
 returns c =
     let l = c.loop-fault in
     let ps = map seen_fault c.args.part.now in
-    let ws = map seen_fault c.args.whole.now in
+    let ws = map seen_fault c.args.all_faults.now in
     let many : length c.args.part.now ≡ length (map fault_id ps) =
     sym (length-map ps fault_id ∙ length-map c.args.part.now seen_fault) in
-    let all : length c.args.whole.now ≡ length (map fault_id ws) =
-    sym (length-map ws fault_id ∙ length-map c.args.whole.now seen_fault) in
+    let all : length c.args.all_faults.now ≡ length (map fault_id ws) =
+    sym (length-map ws fault_id ∙ length-map c.args.all_faults.now seen_fault) in
     ap (nat_eq l.count) many
     ∙ part-end (map fault_id ps) (map fault_id ws) l.count l.fault-index
     (omega (arith, many, l.invariant.within)) (omega (arith, all, c.loop-fault-test.false))

@@ -8,8 +8,8 @@ use Rattle.fault_fixes.proofs.rounds.is_part.Given as goal
 abbrev pub invariant-loop-fault : goal.invariant-loop-fault
 invariant-loop-fault l = record {
   same : is_part (drop l.count (map fault_id (map seen_fault l.fn.part)))
-      (drop l.fault-index (map fault_id (map seen_fault l.fn.whole)))
+      (drop l.fault-index (map fault_id (map seen_fault l.fn.all_faults)))
       ≡ is_part (map fault_id (map seen_fault l.fn.part))
-      (map fault_id (map seen_fault l.fn.whole));
+      (map fault_id (map seen_fault l.fn.all_faults));
   within : l.count ≤ length l.fn.part;
 }

@@ -1,7 +1,7 @@
 use Rattle.std.proofs.Common.{◌≡◌, ◌∙◌, ap, map, sym}
 use Rattle.fault_fixes.specs.SeenEdits.{seen_edit}
 use Rattle.rust_tokens.specs.Placed.{placed}
-use Rattle.file_fixes.specs.Outside.{new_ranges, old_ranges, outside}
+use Rattle.file_fixes.specs.Outside.{new_ranges, old_ranges, untouched_tokens}
 use Rattle.file_fixes.specs.Walk.{from_start, new_parts, old_parts, walk}
 use Rattle.file_fixes.proofs.WalkLaws.{walk-new, walk-old}
 use Rattle.file_fixes.proofs.outside.keeps_tokens.Goals as goal
@@ -11,13 +11,13 @@ returns c =
     let xs = c.in_ok-old_tokens.ensures.reads in
     let ys = c.in_ok-new_tokens.ensures.reads in
     let es = map seen_edit c.args.edits.now in
-    let old : c.as_slice-5.result.now ≡ outside (old_ranges es) (placed 0 xs.0) =
+    let old : c.as_slice-5.result.now ≡ untouched_tokens (old_ranges es) (placed 0 xs.0) =
     c.as_slice-5.ensures.value ∙ (c.in_ok-old_others.ensures
     ∙ (ap (λ ps. walk (from_start ps) c.as_slice-2.result.now)
     (c.as_slice.ensures.value ∙ c.in_ok-old_parts.ensures)
     ∙ (ap (walk (from_start (old_parts 0 es))) (c.as_slice-2.ensures.value ∙ xs.2)
     ∙ walk-old es xs.0 c.requires))) in
-    let new : c.as_slice-6.result.now ≡ outside (new_ranges 0 0 es) (placed 0 ys.0) =
+    let new : c.as_slice-6.result.now ≡ untouched_tokens (new_ranges 0 0 es) (placed 0 ys.0) =
     c.as_slice-6.ensures.value ∙ (c.in_ok-new_others.ensures
     ∙ (ap (λ ps. walk (from_start ps) c.as_slice-4.result.now)
     (c.as_slice-3.ensures.value ∙ c.in_ok-new_parts.ensures)

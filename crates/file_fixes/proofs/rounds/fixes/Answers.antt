@@ -33,11 +33,11 @@ returns-in_default-clause-rounds c =
     let es = map entry c.args.options.now.table.rows.items in
     let new = c.args.options.now.is_from_2021 in
     let text = c.args.text.now in
-    let cs = bytes_or l.fixed.text text in (
+    let cs = bytes_or l.file_fixes.text text in (
       i.0,
       i.1,
-      subst (λ ws. AreRounds es new 16 text i.0 cs l.fixed.report ws) (append-nil _)
-          (i.2 cs l.fixed.report [] (stay es new (16 - l.rounds) cs l.fixed.report
+      subst (λ ws. AreRounds es new 16 text i.0 cs l.file_fixes.report ws) (append-nil _)
+          (i.2 cs l.file_fixes.report [] (stay es new (16 - l.rounds) cs l.file_fixes.report
           ((rw c.in_default.is at c.in_ok-round.ensures.last) refl))),
     )
 
@@ -46,33 +46,36 @@ loop-rounds-preserved c =
     let l = c.loop-rounds in
     let i = l.invariant.rounds in
     let x = c.in-Some.round in
-    let y = c.in_ok-fixed.fixed in
+    let y = c.in_ok-file_fixes.file_fixes in
     let es = map entry c.args.options.now.table.rows.items in
     let new = c.args.options.now.is_from_2021 in
     let text = c.args.text.now in
-    let round : IsRound es new (bytes_or l.fixed.text text) l.fixed.report (string_bytes x.text)
+    let round : IsRound es new (bytes_or l.file_fixes.text text) l.file_fixes.report
+    (string_bytes x.text)
     x.report (map (λ w. w.now) x.ids.items) = grind (arith, common_steps) in
-    let next : IsRound es new (bytes_or l.fixed.text text) l.fixed.report (bytes_or y.text text)
+    let next : IsRound es new (bytes_or l.file_fixes.text text) l.file_fixes.report
+    (bytes_or y.text text)
     y.report (map (λ w. w.now) x.ids.items) = grind (arith, common_steps, round) in
     let spans : All (HasSpans (string_bytes x.text)) x.report.findings.items =
     subst (λ o. IfSome o (λ z. All (HasSpans (string_bytes z.text)) z.report.findings.items))
     c.in-Some.is c.in_ok-round.ensures.spans in
     let e : map (λ w. w.now) y.ids.items
-    ≡ map (λ w. w.now) l.fixed.ids.items ++ map (λ w. w.now) x.ids.items =
-    ap (map (λ w. w.now)) c.in_ok-fixed.ensures.ids
-    ∙ map-append (λ w. w.now) l.fixed.ids.items x.ids.items in
+    ≡ map (λ w. w.now) l.file_fixes.ids.items ++ map (λ w. w.now) x.ids.items =
+    ap (map (λ w. w.now)) c.in_ok-file_fixes.ensures.ids
+    ∙ map-append (λ w. w.now) l.file_fixes.ids.items x.ids.items in
     record {
       few = omega (arith, c.loop-rounds-test.true);
       report = next.report;
       spans = subst (λ p. All (HasSpans (bytes_or y.text text)) p.findings.items)
-          (sym c.in_ok-fixed.ensures.report) (subst (λ t. All (HasSpans (bytes_or t text))
-          x.report.findings.items) (sym c.in_ok-fixed.ensures.text) spans);
+          (sym c.in_ok-file_fixes.ensures.report) (subst (λ t. All (HasSpans (bytes_or t text))
+          x.report.findings.items) (sym c.in_ok-file_fixes.ensures.text) spans);
       rounds = (
         i.0,
         i.1,
         λ cs q ws h. subst (λ us. AreRounds es new 16 text i.0 cs q (us ++ ws))
-            (sym e) (one-more es new l.rounds text (bytes_or l.fixed.text text)
-            (bytes_or y.text text) i.0 l.fixed.report y.report (map (λ w. w.now) l.fixed.ids.items)
+            (sym e) (one-more es new l.rounds text (bytes_or l.file_fixes.text text)
+            (bytes_or y.text text) i.0 l.file_fixes.report y.report
+            (map (λ w. w.now) l.file_fixes.ids.items)
             (map (λ w. w.now) x.ids.items) c.loop-rounds-test.true next i.2 cs q ws h),
       );
     }
@@ -84,10 +87,10 @@ returns-clause-rounds c =
     let es = map entry c.args.options.now.table.rows.items in
     let new = c.args.options.now.is_from_2021 in
     let text = c.args.text.now in
-    let cs = bytes_or l.fixed.text text in (
+    let cs = bytes_or l.file_fixes.text text in (
       i.0,
       i.1,
-      subst (λ ws. AreRounds es new 16 text i.0 cs l.fixed.report ws) (append-nil _)
-          (i.2 cs l.fixed.report [] (stop es new (16 - l.rounds) cs l.fixed.report
+      subst (λ ws. AreRounds es new 16 text i.0 cs l.file_fixes.report ws) (append-nil _)
+          (i.2 cs l.file_fixes.report [] (stop es new (16 - l.rounds) cs l.file_fixes.report
           (omega (arith, c.loop-rounds-test.false)))),
     )

@@ -12,15 +12,15 @@ abbrev pub invariant-loop-rounds : goal.invariant-loop-rounds
 invariant-loop-rounds l = record {
   few : l.rounds ≤ 16;
   report : IsReport (map entry l.options.table.rows.items) l.options.is_from_2021
-      (bytes_or l.fixed.text l.text) l.fixed.report;
-  spans : All (HasSpans (bytes_or l.fixed.text l.text)) l.fixed.report.findings.items;
+      (bytes_or l.file_fixes.text l.text) l.file_fixes.report;
+  spans : All (HasSpans (bytes_or l.file_fixes.text l.text)) l.file_fixes.report.findings.items;
   rounds : (r : Report)
       × IsReport (map entry l.options.table.rows.items) l.options.is_from_2021 l.text r
       × ((cs : List ℕ) (q : Report) (ws : List (List ℕ))
       → AreRounds (map entry l.options.table.rows.items) l.options.is_from_2021 (16 - l.rounds)
-      (bytes_or l.fixed.text l.text) l.fixed.report cs q ws
+      (bytes_or l.file_fixes.text l.text) l.file_fixes.report cs q ws
       → AreRounds (map entry l.options.table.rows.items) l.options.is_from_2021 16 l.text r cs q
-      (map (λ w. w.now) l.fixed.ids.items ++ ws));
+      (map (λ w. w.now) l.file_fixes.ids.items ++ ws));
 }
 
 abbrev pub decreases-loop-rounds : goal.decreases-loop-rounds

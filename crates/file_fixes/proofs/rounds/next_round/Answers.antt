@@ -6,7 +6,7 @@ use Rattle.file_fixes.proofs.rounds.next_round.Goals as goal
 
 pub returns-then-not-branch-clause-last : goal.returns-then-not-branch-clause-last
 returns-then-not-branch-clause-last c = λ _.
-    let old = c.args.fixed.now in
+    let old = c.args.file_fixes.now in
     let text : string_bytes c.in-Some-ok.text
     ≡ mended_bytes (bytes_or old.text c.args.text.now) old.report = search rules in
     inr (inr (inl (

@@ -36,7 +36,7 @@ returns c =
       end = c.extent_of-extent.result.end;
       are_up_to = rw c.ends_early.ensures at t.1;
       inlines = inlines-by _ _ _ _ _ _ _ _ _ _ _ _ _ _ _ (rw tokens at c.name_at.ensures) tokens
-          (c.deref.ensures.value ∙ (c.in_ok-before.ensures
+          (c.deref.ensures.value ∙ (c.in_ok-kept_arguments.ensures
           ∙ ap (arguments_before c.extent_of-extent.result.end) (after-one args c.args.index)))
           t.2 c.in_ok-inlined_call.ensures;
     }

@@ -7,6 +7,6 @@ near_texts-requires c = λ none.
     listed c.args.input.now (seen_mode c.args.mode) c.args.next c.args.start
     (seen_argument c.args.argument.now) c.requires.read none
 
-pub returns-in_ok-texts-in-None : goal.returns-in_ok-texts-in-None
-returns-in_ok-texts-in-None c =
-    c.in_ok-texts-in-None.ensures (seen_argument c.args.argument.now) c.requires.read
+pub returns-in_ok-texts_at-in-None : goal.returns-in_ok-texts_at-in-None
+returns-in_ok-texts_at-in-None c =
+    c.in_ok-texts_at-in-None.ensures (seen_argument c.args.argument.now) c.requires.read

@@ -12,7 +12,7 @@ returns-then-are_ended-clause-part c xs k left l =
     let es = map entry c.args.table.now.rows.items in
     let at = length c.args.rest.now.whole - length c.args.rest.now.rest in
     let n = leaf c.in-Some.name in
-    let m = leaf c.in-Some-next.mark in
+    let m = leaf c.in-Some-next.bang in
     let t = leaf c.in-Some-next-2.opening in
     let j = c.in_ok-part.ensures.joins in
     let opens : opens_call es n m t ≡ true =
@@ -20,7 +20,7 @@ returns-then-are_ended-clause-part c xs k left l =
     ∙ (sym c.opens_call.ensures ∙ c.if-not-opens_call.false) in
     let begins : BeginsCall es c.in_ok-part.part = record {
       name = n;
-      mark = m;
+      bang = m;
       opening = t;
       more = j.0;
       joins = j.1;

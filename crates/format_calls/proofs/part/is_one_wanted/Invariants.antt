@@ -7,5 +7,5 @@ use Rattle.format_calls.proofs.part.is_one_wanted.Given as goal
 -- The answer for what is left is the answer for all.
 abbrev pub invariant-loop-token : goal.invariant-loop-token
 invariant-loop-token l =
-    list_any (is_wanted l.wanted) (map leaf (drop l.token-index l.tokens))
-    ≡ list_any (is_wanted l.wanted) (map leaf l.tokens)
+    list_any (is_wanted l.target) (map leaf (drop l.token-index l.tokens))
+    ≡ list_any (is_wanted l.target) (map leaf l.tokens)

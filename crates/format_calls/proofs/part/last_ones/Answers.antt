@@ -22,18 +22,18 @@ loop-index-preserved c =
       | else-is_wanted w ↦ w.last-is
           ∙ sym (ap (λ b. if b then i + 1 else last) w.if-is_wanted.false)
     ] in
-    let more : IsLast c.args.wanted xs (i + 1) c.if-is_wanted.last =
-    last-more c.args.wanted xs i last c.if-is_wanted.last _ c.is_wanted.result
+    let more : IsLast c.args.target xs (i + 1) c.if-is_wanted.last =
+    last-more c.args.target xs i last c.if-is_wanted.last _ c.is_wanted.result
     (slice_get-map leaf c.args.tokens.now i
     ∙ ap (option_map leaf) (slice_get-get_or c.args.tokens.now i _ c.loop-index-test.true))
     c.is_wanted.ensures v.is_last v.within n in
     let l = length-append c.loop-index.counts.items (c.if-is_wanted.last ∷ []) in
     record {
-      each = subst (λ t. AreLastFrom c.args.wanted xs 0 t) (sym items)
-          (last-push c.args.wanted xs 0 c.if-is_wanted.last c.loop-index.counts.items v.each
+      each = subst (λ t. AreLastFrom c.args.target xs 0 t) (sym items)
+          (last-push c.args.target xs 0 c.if-is_wanted.last c.loop-index.counts.items v.each
           (let e = v.count in
           let k : i + 1 ≡ 0 + length c.loop-index.counts.items = omega (arith, e) in
-          subst (λ t. IsLast c.args.wanted xs t c.if-is_wanted.last) k more));
+          subst (λ t. IsLast c.args.target xs t c.if-is_wanted.last) k more));
       count = let e = v.count in ap length items ∙ omega (arith, l, e);
       is_last = more;
       within = last-bound i last c.if-is_wanted.last c.is_wanted.result v.within n;

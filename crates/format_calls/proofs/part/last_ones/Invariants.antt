@@ -5,8 +5,8 @@ use Rattle.format_calls.proofs.part.last_ones.Given as goal
 
 abbrev pub invariant-loop-index : goal.invariant-loop-index
 invariant-loop-index l = record {
-  each : AreLastFrom l.wanted (map leaf l.tokens) 0 l.counts.items;
+  each : AreLastFrom l.target (map leaf l.tokens) 0 l.counts.items;
   count : length l.counts.items ≡ l.index + 1;
-  is_last : IsLast l.wanted (map leaf l.tokens) l.index l.last;
+  is_last : IsLast l.target (map leaf l.tokens) l.index l.last;
   within : l.last ≤ l.index;
 }

@@ -4,7 +4,7 @@ use Rattle.std.proofs.lemmas.List.{append-nil}
 use Rattle.rust_trees.specs.Balances.{IsBalanced}
 use Rattle.rust_trees.specs.Leaves.{AreLeft, Leaf, leaf}
 use Rattle.format_calls.specs.Gaps.{LacksFronts}
-use Rattle.format_calls.specs.Parts.{front_of, moved_on, seen_front, seen_window}
+use Rattle.format_calls.specs.Parts.{front_of, next_window, seen_front, seen_window}
 use Rattle.format_calls.specs.Rows.{entry}
 use Rattle.format_calls.proofs.Parting.{IsGap, end-of, gap-end, gap-more, gap-none, gap-part}
 use Rattle.format_calls.proofs.Parting.{part-long, part-more, window, window-more}
@@ -35,17 +35,17 @@ loop-token-preserved c =
     ap (λ rs. front_of (map entry rs) (seen_window c.loop-token.last) (leaf c.in-Some.token))
     (sym c.deref.ensures.value) ∙ sym c.in_default-front_of.ensures in
     let m = gap-more _ g.0 (seen_window c.loop-token.last) (leaf c.in-Some.token) none g.1 in
-    let w : seen_window c.moved_on-last.result ≡ moved_on (seen_window c.loop-token.last)
-    (leaf c.in-Some.token) = c.moved_on-last.ensures in
+    let w : seen_window c.next_window-last.result ≡ next_window (seen_window c.loop-token.last)
+    (leaf c.in-Some.token) = c.next_window-last.ensures in
     record {
       file = search rules;
       fewer = search rules;
       gap = subst (λ v. (gap : List Leaf) × IsGap (map entry c.args.table.now.rows.items) gap v
           × ((left : List Leaf) → AreLeft c.next.new.self left → AreLeft c.args.rest.now
-          (gap ++ (window v.name v.mark ++ left)))
+          (gap ++ (window v.name v.bang ++ left)))
           × ((before : List Leaf) → IsBalanced before c.args.balance.now
-          → IsBalanced (before ++ (gap ++ window v.name v.mark)) c.add.new.self)
-          × LacksFronts (map entry c.args.table.now.rows.items) (gap ++ window v.name v.mark)
+          → IsBalanced (before ++ (gap ++ window v.name v.bang)) c.add.new.self)
+          × LacksFronts (map entry c.args.table.now.rows.items) (gap ++ window v.name v.bang)
           (unplaced_window v)) (sym w) (
             _,
             m.0,
@@ -79,7 +79,7 @@ returns-in-Some-front_of-clause-some c =
           let p = gap-part _ g.0 _ [] (seen_front c.in-Some-front_of.front) j.0 _ _ front g.1 j.1
           (inl refl) in
           let w = seen_window c.loop-token.last in
-          let front = (before ++ (g.0 ++ window w.name w.mark)) ++ leaf c.in-Some.token ∷ [] in
+          let front = (before ++ (g.0 ++ window w.name w.bang)) ++ leaf c.in-Some.token ∷ [] in
           subst (λ v. IsBalanced v c.add_after_front.new.balance)
           (ap (λ v. front ++ v) (ap (λ v. drop 3 v) j.1) ∙ part-more before _ _ _ _ _ _ p.0)
           (c.in_ok-add_after_front.ensures front (c.in_ok-add.ensures _ (g.3 before b))),
@@ -96,10 +96,10 @@ returns-clause-none c e =
       λ before b. subst (λ v. IsBalanced v c.loop-token.balance)
           (ap (λ v. before ++ (g.0 ++ v))
           (sym (append-nil (window (seen_window c.loop-token.last).name
-          (seen_window c.loop-token.last).mark)))) (g.3 before b),
+          (seen_window c.loop-token.last).bang)))) (g.3 before b),
       unplaced_window (seen_window c.loop-token.last),
       subst (λ v. LacksFronts (map entry c.args.table.now.rows.items) (g.0 ++ v)
           (unplaced_window (seen_window c.loop-token.last)))
           (sym (append-nil (window (seen_window c.loop-token.last).name
-          (seen_window c.loop-token.last).mark))) g.4,
+          (seen_window c.loop-token.last).bang))) g.4,
     )

@@ -14,11 +14,11 @@ invariant-loop-token l = record {
   fewer : length l.rest.rest ≤ length l.initial.rest.rest;
   gap : (gap : List Leaf) × IsGap (map entry l.table.rows.items) gap (seen_window l.last)
       × ((left : List Leaf) → AreLeft l.rest left → AreLeft l.initial.rest
-      (gap ++ (window (seen_window l.last).name (seen_window l.last).mark ++ left)))
+      (gap ++ (window (seen_window l.last).name (seen_window l.last).bang ++ left)))
       × ((w : List Leaf) → IsBalanced w l.initial.balance → IsBalanced
-      (w ++ (gap ++ window (seen_window l.last).name (seen_window l.last).mark)) l.balance)
+      (w ++ (gap ++ window (seen_window l.last).name (seen_window l.last).bang)) l.balance)
       × LacksFronts (map entry l.table.rows.items)
-      (gap ++ window (seen_window l.last).name (seen_window l.last).mark)
+      (gap ++ window (seen_window l.last).name (seen_window l.last).bang)
       (unplaced_window (seen_window l.last));
 }
 

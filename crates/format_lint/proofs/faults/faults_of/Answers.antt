@@ -11,7 +11,7 @@ pub loop-argument-init : goal.loop-argument-init
 loop-argument-init c = record {
   none_left = c.new-list.ensures.items;
   faults = found-start c.args.parser.now c.new-faults.result c.requires
-      c.new-faults.ensures.kept c.new-faults.ensures.waits;
+      c.new-faults.ensures.kept c.new-faults.ensures.is_waiting;
 }
 
 pub loop-argument-smaller : goal.loop-argument-smaller
@@ -32,7 +32,7 @@ loop-argument-preserved c =
           c.loop-argument.invariant.faults c.in_ok-next_with_faults.ensures.state h
           (c.in_ok-next_with_faults.ensures.faults
           ∙ ap (λ gs. map seen_fault gs ++ fs) c.loop-argument.invariant.none_left)
-          c.in_ok-add.ensures.kept c.in_ok-add.ensures.waits;
+          c.in_ok-add.ensures.kept c.in_ok-add.ensures.is_waiting;
     }
 
 pub returns : goal.returns

@@ -24,7 +24,8 @@ loop-text-init c =
           (ap (λ (s : State). s.rest) e) (ap (λ (s : State). s.next) e));
       none_left = c.new-list.ensures.items;
       faults = found-start c.args.parser.now c.new-faults.result
-          (ap (λ (s : State). s.errors) e) c.new-faults.ensures.kept c.new-faults.ensures.waits;
+          (ap (λ (s : State). s.errors) e) c.new-faults.ensures.kept
+          c.new-faults.ensures.is_waiting;
     }
 
 pub loop-text-smaller : goal.loop-text-smaller
@@ -57,7 +58,7 @@ loop-text-preserved c =
           (some-left _ (λ n. some (h.rest_is ∙ n)))
           (c.in_ok-piece.ensures.faults
           ∙ ap (λ gs. map seen_fault gs ++ fs) c.loop-text.invariant.none_left)
-          c.in_ok-add.ensures.kept c.in_ok-add.ensures.waits;
+          c.in_ok-add.ensures.kept c.in_ok-add.ensures.is_waiting;
     }
 
 pub returns-clause-labels : goal.returns-clause-labels

@@ -1,10 +1,10 @@
 use Rattle.std.proofs.Common.{◌≡◌, ◌++◌, ◌∙◌, ap, sym, chars, false, length, map, arith, refl, Some}
 use Rattle.rustc_parse_format.specs.Characters.{byte_length}
-use Rattle.rustc_parse_format.specs.Source.{unappended}
+use Rattle.rustc_parse_format.specs.Source.{unappended_input}
 use Rattle.rustc_parse_format.specs.World.{plain_world}
 use Rattle.rustc_parse_format.proofs.Sources.PlainPlaces.{length-plain_places}
 use Rattle.rustc_parse_format.specs.Seen.{seen_mode}
-use Rattle.format_tokens.specs.Culprits.{marked}
+use Rattle.format_tokens.specs.Culprits.{marked_tokens}
 use Rattle.format_tokens.specs.Escapes.{cut}
 use Rattle.format_tokens.specs.Placed.{cut_in, tokens, whole_tokens}
 use Rattle.format_tokens.proofs.Covering.{whole-cover}
@@ -27,7 +27,8 @@ pub returns-in_default : goal.returns-in_default
 returns-in_default c labels =
     let mode = seen_mode c.args.mode in
     let input = chars c.args.input.now in
-    let kept : c.saturating_sub-count.result ≡ length (unappended c.args.appended_newline input) =
+    let kept : c.saturating_sub-count.result
+    ≡ length (unappended_input c.args.appended_newline input) =
     rw (c.saturating_sub-count.ensures, c.length_of.ensures, c.from.ensures)
     (kept-is c.args.appended_newline input) in
     let w = plain_world false 0 input (byte_length input) in
@@ -38,9 +39,9 @@ returns-in_default c labels =
     c.saturating_sub-count.result _ kept c.in_default.ensures
     (c.in_ok-place.ensures w starts
     ∙ (ap (λ l. map seen_token l ++ placed_sizes w (length w.places) c.saturating_sub-count.result
-    (marked c.wants_names-names.result false (pairs c.args.labels.now)))
+    (marked_tokens c.wants_names-needs_names.result false (pairs c.args.labels.now)))
     c.in_ok-tokens.ensures.items
-    ∙ rw (c.wants_names-names.ensures, labels) refl))
+    ∙ rw (c.wants_names-needs_names.ensures, labels) refl))
 
 pub returns-in-Some-style : goal.returns-in-Some-style
 returns-in-Some-style c labels =
@@ -50,7 +51,7 @@ returns-in-Some-style c labels =
     let b = c.args.appended_newline in
     let source = c.in-Some.ensures in
     let ts = whole_tokens mode input c.args.style (Some literal) b in
-    let whole = c.in_ok-tokens-2.ensures mode labels c.wants_names-names.ensures in
+    let whole = c.in_ok-tokens-2.ensures mode labels c.wants_names-needs_names.ensures in
     whole ∙ (sym (ap (λ s. cut_in s literal ts) c.in-Some-style.is)
     ∙ (sym (source-cut mode input c.args.style literal b source.1)
     ∙ ap (λ s. tokens mode input c.args.style s b) (sym source.0)))
@@ -63,7 +64,7 @@ returns-in_ok-parts-in-None c labels =
     let b = c.args.appended_newline in
     let source = c.in-Some.ensures in
     let ts = whole_tokens mode input c.args.style (Some literal) b in
-    let whole = c.in_ok-tokens-2.ensures mode labels c.wants_names-names.ensures in
+    let whole = c.in_ok-tokens-2.ensures mode labels c.wants_names-needs_names.ensures in
     c.in_ok-parts-in-None.ensures 0 (byte_length literal)
     (rw whole (whole-cover mode input c.args.style literal b source.1))
     ∙ (ap (cut literal) whole

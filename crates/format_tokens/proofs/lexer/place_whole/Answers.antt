@@ -1,8 +1,8 @@
 use Rattle.std.proofs.Common.{◌≡◌, ◌++◌, ◌∙◌, ap, chars, false, length, map, arith, Some}
-use Rattle.rustc_parse_format.specs.Source.{unappended}
+use Rattle.rustc_parse_format.specs.Source.{unappended_input}
 use Rattle.rustc_parse_format.specs.Types.{wants_names}
 use Rattle.rustc_parse_format.specs.World.{world}
-use Rattle.format_tokens.specs.Culprits.{marked}
+use Rattle.format_tokens.specs.Culprits.{marked_tokens}
 use Rattle.format_tokens.specs.Seen.{seen_token}
 use Rattle.format_tokens.specs.Starts.{pairs, placed_sizes}
 use Rattle.format_tokens.proofs.Lexing.{assembled, kept-is, kept-small, literal-places}
@@ -22,7 +22,8 @@ place-requires c =
 pub returns : goal.returns
 returns c mode labels names =
     let input = chars c.args.input.now in
-    let kept : c.saturating_sub-count.result ≡ length (unappended c.args.appended_newline input) =
+    let kept : c.saturating_sub-count.result
+    ≡ length (unappended_input c.args.appended_newline input) =
     rw (c.saturating_sub-count.ensures, c.length_of.ensures, c.from.ensures)
     (kept-is c.args.appended_newline input) in
     let literal = chars c.args.literal.now in
@@ -31,8 +32,8 @@ returns c mode labels names =
     let placed = c.in_ok-place.ensures w starts
     ∙ ap (λ l. map seen_token c.push.new.self.items
     ++ placed_sizes w (length w.places) c.saturating_sub-count.result l)
-    (ap (λ b. marked b false (pairs c.args.labels.now)) names
-    ∙ ap (λ ls. marked (wants_names mode) false (pairs ls)) labels) in
+    (ap (λ b. marked_tokens b false (pairs c.args.labels.now)) names
+    ∙ ap (λ ls. marked_tokens (wants_names mode) false (pairs ls)) labels) in
     quoted-tokens mode input c.args.style literal c.args.appended_newline
     c.saturating_sub-count.result _ _ _ kept c.requires.source starts c.width_of.ensures
     (assembled _ _ _ _ _ _ _ c.in_ok-tokens.ensures.items

@@ -12,15 +12,17 @@ pub loop-label-preserved : goal.loop-label-preserved
 loop-label-preserved c =
     let label = c.in-Some.label.now in
     let others = pairs c.in-Some.others.now in
-    let inside = c.loop-label.inside in
-    let fit : c.fits-fits.result ≡ fits c.args.names inside others (role_of label.kind) =
-    c.fits-fits.ensures ∙ ap (fits c.args.names inside others) c.role_of-role.ensures in
-    let after : c.inside_after-inside.result
-    ≡ inside_after inside (fits c.args.names inside others (role_of label.kind))
+    let inside = c.loop-label.is_inside in
+    let fit : c.fits-is_in_place.result ≡ fits c.args.needs_names inside others
     (role_of label.kind) =
-    c.inside_after-inside.ensures
+    c.fits-is_in_place.ensures ∙ ap (fits c.args.needs_names inside others) c.role_of-role.ensures
+    in
+    let after : c.inside_after-is_inside.result
+    ≡ inside_after inside (fits c.args.needs_names inside others (role_of label.kind))
+    (role_of label.kind) =
+    c.inside_after-is_inside.ensures
     ∙ (ap (λ f. inside_after inside f c.role_of-role.result) fit
-    ∙ ap (inside_after inside (fits c.args.names inside others (role_of label.kind)))
+    ∙ ap (inside_after inside (fits c.args.needs_names inside others (role_of label.kind)))
     c.role_of-role.ensures) in
     elim c.if-at-to.branch [
       | then-at-to+in_ok-push v ↦ record {

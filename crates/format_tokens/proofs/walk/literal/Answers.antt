@@ -7,4 +7,4 @@ returns c mode n l given left =
     literal-took mode n _ l _ _ _ _ _ _ _ _ _ refl given c.escape_width.ensures
     c.in_ok-rest.ensures
     (c.saturating_sub.ensures ∙ ap (λ k. k - c.args.rest_len) c.width_of.ensures)
-    c.in_ok-after.ensures left
+    c.in_ok-rest_after.ensures left

@@ -39,5 +39,5 @@ returns c n t e v i =
     (then t1 (then (then t2 (then t3 t4)) t5)) (c.from.ensures ∙ ap from_bool c.begins.ensures)
     c.in_ok-rest.ensures
     (c.saturating_sub.ensures ∙ ap (λ k. k - c.args.rest_len) c.width_of.ensures)
-    c.in_ok-after.ensures
+    c.in_ok-rest_after.ensures
     i

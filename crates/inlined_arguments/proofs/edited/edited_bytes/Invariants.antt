@@ -1,5 +1,5 @@
 use Rattle.std.proofs.Common.{◌≡◌, ◌++◌, ◌↔◌, ◌≤◌, drop, length, map}
-use Rattle.inlined_arguments.specs.Edits.{AreApart, edited}
+use Rattle.inlined_arguments.specs.Edits.{AreApart, edited_text}
 use Rattle.inlined_arguments.specs.Seen.{seen_edit}
 use Rattle.inlined_arguments.proofs.edited.edited_bytes.Given as goal
 
@@ -10,6 +10,6 @@ invariant-loop-edit l = record {
   within : l.at ≤ length l.bytes;
   apart : AreApart l.at (map seen_edit (drop l.edit-index l.edits)) (length l.bytes)
       ↔ AreApart 0 (map seen_edit l.edits) (length l.bytes);
-  made : l.out.items ++ edited l.at (map seen_edit (drop l.edit-index l.edits)) l.bytes
-      ≡ edited 0 (map seen_edit l.edits) l.bytes;
+  made : l.out.items ++ edited_text l.at (map seen_edit (drop l.edit-index l.edits)) l.bytes
+      ≡ edited_text 0 (map seen_edit l.edits) l.bytes;
 }

@@ -1,10 +1,10 @@
 use Rattle.std.proofs.Common.{map, take}
-use Rattle.rustc_parse_format.specs.Seen.{seen}
+use Rattle.rustc_parse_format.specs.Seen.{seen_piece}
 use Rattle.inlined_arguments.specs.Edits.{AreAtReferences}
 use Rattle.inlined_arguments.specs.Seen.{seen_edit}
 use Rattle.inlined_arguments.proofs.edits.edits_of.Given as goal
 
 -- The edits so far are at references of the pieces so far.
 abbrev pub invariant-loop-piece : goal.invariant-loop-piece
-invariant-loop-piece l = AreAtReferences (map seen (take l.piece-index l.piece-items))
+invariant-loop-piece l = AreAtReferences (map seen_piece (take l.piece-index l.piece-items))
     (map seen_edit l.edits.items)

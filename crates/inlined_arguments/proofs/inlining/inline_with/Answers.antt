@@ -1,12 +1,12 @@
 use Rattle.std.proofs.Common.{◌∙◌, List, ap, chars, map, string_bytes, subst}
 use Rattle.std.specs.Prelude.{option_map}
-use Rattle.rustc_parse_format.specs.Seen.{seen}
-use Rattle.rustc_parse_format.specs.Types.{bare}
+use Rattle.rustc_parse_format.specs.Seen.{seen_piece}
+use Rattle.rustc_parse_format.specs.Types.{bare_piece}
 use Rattle.call_faults.specs.Arguments.{FormatArgument}
 use Rattle.inlined_arguments.specs.Edits.{AreAtReferences}
 use Rattle.inlined_arguments.specs.Inlining.{ReadsClean}
 use Rattle.inlined_arguments.specs.Seen.{seen_call, seen_edit}
-use Rattle.inlined_arguments.specs.Values.{given as given_of}
+use Rattle.inlined_arguments.specs.Values.{slot_argument}
 use Rattle.inlined_arguments.proofs.CleanPieces.{bare-same, same-snippet}
 use Rattle.inlined_arguments.proofs.inlining.inline_with.Goals as goal
 
@@ -14,9 +14,10 @@ pub returns-clause-inlined : goal.returns-clause-inlined
 returns-clause-inlined c = λ mixed none.
     let call = seen_call c.args.call in
     let read = rw c.in-Some-2.is at c.in_ok-pieces.ensures in
-    let are_read = subst (λ (gs : List FormatArgument). ReadsClean call.captures gs call.text
-    (map bare (map seen c.in-Some-2.pieces.items)))
-    (c.requires.given ∙ ap (λ ss. map given_of ss) c.requires.slots) read.1 in
+    let are_read = subst (λ (gs : List FormatArgument). ReadsClean call.captures_variables gs
+    call.text
+    (map bare_piece (map seen_piece c.in-Some-2.pieces.items)))
+    (c.requires.given ∙ ap (λ ss. map slot_argument ss) c.requires.slots) read.1 in
     let made = rw (c.in-Some-3.is, c.deref-2.ensures.value) at c.in_ok-literal.ensures.some in
     let same = rw (c.deref.ensures.value, c.deref-3.ensures)
     at (c.in_ok-keeps_meaning.ensures c.in_ok-values.ensures.knows
@@ -33,6 +34,6 @@ returns-clause-inlined c = λ mixed none.
           call.appended_newline)
           (rw c.deref.ensures.value at c.in_ok-edits.ensures);
       old = are_read.0;
-      means_same = bare-same call (map seen c.in-Some-2.pieces.items) are_read.0.pieces
+      means_same = bare-same call (map seen_piece c.in-Some-2.pieces.items) are_read.0.pieces
           (chars (string_bytes c.in-Some-3.literal)) are_read.1 same;
     }

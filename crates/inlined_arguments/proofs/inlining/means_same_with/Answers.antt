@@ -1,5 +1,5 @@
 use Rattle.std.proofs.Common.{chars, map}
-use Rattle.rustc_parse_format.specs.Seen.{seen}
+use Rattle.rustc_parse_format.specs.Seen.{seen_piece}
 use Rattle.call_faults.specs.Seen.{seen_given}
 use Rattle.inlined_arguments.specs.Seen.{seen_slot, seen_slots}
 use Rattle.inlined_arguments.proofs.CleanPieces.{clean-as}
@@ -8,9 +8,9 @@ use Rattle.inlined_arguments.proofs.inlining.means_same_with.Goals as goal
 pub returns : goal.returns
 returns c = λ knows given same.
     let read = rw c.in-Some.is at c.in_ok-pieces.ensures in
-    clean-as c.args.string.captures (seen_slots c.args.old.values.now)
+    clean-as c.args.string.captures_variables (seen_slots c.args.old.values.now)
     (map seen_slot c.args.slots.now) (map seen_given c.args.arguments.now)
-    (chars c.args.string.text.now) (map seen c.args.old.pieces.now)
-    (map seen c.in-Some.pieces.items) given read.1
+    (chars c.args.string.text.now) (map seen_piece c.args.old.pieces.now)
+    (map seen_piece c.in-Some.pieces.items) given read.1
     (rw (c.deref.ensures.value, c.in_ok-values.ensures.slots)
     at (c.means_same.ensures knows c.in_ok-values.ensures.knows same))

@@ -1,9 +1,9 @@
 use Rattle.std.proofs.Common.{◌≡◌, map, take}
 use Rattle.call_faults.specs.Seen.{seen_given}
 use Rattle.inlined_arguments.specs.Seen.{seen_slot}
-use Rattle.inlined_arguments.specs.Values.{given}
+use Rattle.inlined_arguments.specs.Values.{slot_argument}
 use Rattle.inlined_arguments.proofs.slots.givens.Given as goal
 
 abbrev pub invariant-loop-slot : goal.invariant-loop-slot
 invariant-loop-slot l = map seen_given l.arguments.items
-    ≡ map given (map seen_slot (take l.slot-index l.slots))
+    ≡ map slot_argument (map seen_slot (take l.slot-index l.slots))

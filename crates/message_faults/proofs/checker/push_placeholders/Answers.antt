@@ -1,6 +1,6 @@
 use Rattle.std.proofs.Common.{◌≡◌, ◌++◌, ◌∙◌, None, ap, chars, false, map}
 use Rattle.rustc_parse_format.specs.Call.{pieces_of}
-use Rattle.rustc_parse_format.specs.Seen.{seen}
+use Rattle.rustc_parse_format.specs.Seen.{seen_piece}
 use Rattle.rustc_parse_format.specs.State.{State, after_all, calls, first_state}
 use Rattle.rustc_parse_format.specs.Types.{Diagnostic}
 use Rattle.rustc_parse_format.specs.World.{World, pieces_in}
@@ -17,7 +17,7 @@ returns c =
     let at_start : first_state Diagnostic (chars c.args.message.text.now) None _ false ≡ s
     = ap (λ t. first_state Diagnostic (chars c.args.message.text.now) None t false)
     c.in_ok-snippet.ensures in
-    let read : map seen c.in_ok-pieces.field-0.pieces.items ≡ pieces s
+    let read : map seen_piece c.in_ok-pieces.field-0.pieces.items ≡ pieces s
     = c.in_ok-pieces.ensures.walk.0
     ∙ ap (λ (p : State). pieces_in p.world (pieces_of (calls p))) at_start in
     let parser : c.in_ok-pieces.field-0.parser ≡ after_all s (calls s) =
@@ -27,6 +27,6 @@ returns c =
     = c.is_source_literal-is_known.ensures ∙ ap (λ (p : State). p.world.has_source) parser
     ∙ ap (λ (w : World). w.has_source) (after_all-world s (calls s)) in
     c.in_ok-push_pieces.ensures
-    ∙ ap (λ b. old ++ faults_of ns b (map seen c.deref.result.now)) known
+    ∙ ap (λ b. old ++ faults_of ns b (map seen_piece c.deref.result.now)) known
     ∙ ap (λ qs. old ++ faults_of ns s.world.has_source qs)
-    (ap (map seen) c.deref.ensures.value ∙ read)
+    (ap (map seen_piece) c.deref.ensures.value ∙ read)

@@ -4,7 +4,7 @@ use Rattle.message_forms.proofs.json_lines.put_details.Goals as goal
 
 pub returns : goal.returns
 returns c = rw (
-  ← c.saturating_sub-more.ensures,
+  ← c.saturating_sub-line_count.ensures,
   ← c.replacement-text.ensures,
   ← c.applicability-word.ensures,
 ) (

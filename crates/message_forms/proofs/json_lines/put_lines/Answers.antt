@@ -7,7 +7,7 @@ use Rattle.message_forms.proofs.json_lines.put_lines.Goals as goal
 pub loop-countdown-init : goal.loop-countdown-init
 loop-countdown-init c = (
   c.utf8.lines,
-  array-begins _ _ (line_items c.args.more c.args.from c.args.to
+  array-begins _ _ (line_items c.args.line_count c.args.from c.args.to
       c.args.lines.now) c.in_ok-push_str.ensures.bytes,
 )
 

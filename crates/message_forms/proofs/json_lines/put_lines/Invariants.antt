@@ -11,7 +11,7 @@ use Rattle.message_forms.proofs.json_lines.put_lines.Given as goal
 abbrev pub invariant-loop-countdown : goal.invariant-loop-countdown
 invariant-loop-countdown l = shadow (Utf8 l.rest) × (string_bytes l.out
     ++ array_text false (line_items l.countdown l.start l.to l.rest)
-    ≡ string_bytes l.fn.out ++ json_text (array (line_items l.more l.from l.to l.lines)))
+    ≡ string_bytes l.fn.out ++ json_text (array (line_items l.line_count l.from l.to l.lines)))
 
 abbrev pub decreases-loop-countdown : goal.decreases-loop-countdown
 decreases-loop-countdown l = l.countdown

@@ -56,7 +56,7 @@ loop-piece-preserved c =
           ∙ c.loop-piece.invariant.world;
       pieces = pieces_more s new w x done _ c.loop-piece.invariant.world given
           c.in_ok-piece.ensures.state c.loop-piece.invariant.pieces;
-      lines = c.in_ok-put_taken.ensures
+      lines = c.in_ok-put_piece_kind.ensures
           ∙ ap (λ l. l ++ piece_line x) c.loop-piece.invariant.lines
           ∙ append_assoc (string_bytes c.args.out.now) (flat_map piece_line done) (piece_line x)
           ∙ ap (λ l. string_bytes c.args.out.now ++ l) (sym (one_more piece_line done x));
@@ -78,8 +78,8 @@ returns-in_err-piece-clause-empty c e h =
     absurd (false≢true (c.in_err-piece.ensures.spare
     (needs_adds s (at_end-spare s (c.loop-piece.invariant.empty e) none))))
 
-pub returns-in_err-put_taken-clause-empty : goal.returns-in_err-put_taken-clause-empty
-returns-in_err-put_taken-clause-empty c e h =
+pub returns-in_err-put_piece_kind-clause-empty : goal.returns-in_err-put_piece_kind-clause-empty
+returns-in_err-put_piece_kind-clause-empty c e h =
     let none =
     rw c.in-Some.is at (next_ends (seen_taken c.next_piece.new.argument) c.loop-piece.parser
     c.next_piece.new.parser _ c.in_ok-piece.ensures.piece c.in_ok-piece.ensures.state

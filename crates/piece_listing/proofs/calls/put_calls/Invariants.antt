@@ -17,7 +17,7 @@ invariant-loop-piece l = record {
   pieces : done ++ pieces_in l.fn.parser.world (pieces_of (calls l.parser))
       ≡ pieces_in l.fn.parser.world (pieces_of (calls l.fn.parser));
   lines : string_bytes l.out ≡ string_bytes l.fn.out ++ flat_map piece_line done;
-  held : IsTrue l.compares → (us : List Use) → Holds us l.fn.all_uses
+  held : IsTrue l.compares_arguments → (us : List Use) → Holds us l.fn.all_uses
       → Holds (us ++ uses done) l.all_uses;
   empty : l.fn.parser.rest ≡ [] → l.parser.rest ≡ [];
   state : after_all l.parser (calls l.parser) ≡ after_all l.fn.parser (calls l.fn.parser);

@@ -11,10 +11,10 @@ use Rattle.piece_listing.proofs.input.list_source.Goals as goal
 
 pub returns-clause-lines : goal.returns-clause-lines
 unfolding pieces errors
-returns-clause-lines c = rw c.in_ok-parser.ensures.start at c.in_ok-listed.ensures.lines
+returns-clause-lines c = rw c.in_ok-parser.ensures.start at c.in_ok-listing.ensures.lines
 
-pub returns-in_err-listed-clause-empty : goal.returns-in_err-listed-clause-empty
-returns-in_err-listed-clause-empty c e without bare =
+pub returns-in_err-listing-clause-empty : goal.returns-in_err-listing-clause-empty
+returns-in_err-listing-clause-empty c e without bare =
     let mode = seen_mode c.args.task.mode in
     let text = chars c.args.text.now in
     let w = world text c.args.style (seen_snippet c.args.snippet) false in
@@ -23,5 +23,5 @@ returns-in_err-listed-clause-empty c e without bare =
     let source = no_source _ _ c.in_ok-parser.ensures.source without in
     let none = ap (λ (s : State). (after_all s (calls s)).errors) start
     ∙ no_faults mode w (quote_offset c.args.style) c.args.text.now e in
-    absurd (false≢true (subst IsOk c.in_err-listed.was
+    absurd (false≢true (subst IsOk c.in_err-listing.was
     (c.list_calls.ensures.empty rest source none bare)))

@@ -9,5 +9,5 @@ use Rattle.placeholder_check.proofs.names.later_names.Given as goal
 -- The set has the names so far but for the first 16.
 abbrev pub invariant-loop-i : goal.invariant-loop-i
 invariant-loop-i l = (16 ≤ l.i) × ((t : Text)
-    → (list_any (bytes_eq t) (texts (take 16 l.names)) || has_text l.later t)
+    → (list_any (bytes_eq t) (texts (take 16 l.names)) || has_text l.later_set t)
     ≡ list_any (bytes_eq t) (texts (take l.i l.names)))

@@ -10,4 +10,4 @@ use Rattle.placeholder_check.proofs.names.unused_names.Given as goal
 abbrev pub invariant-loop-name : goal.invariant-loop-name
 invariant-loop-name l = (ys : List Text)
     → ((t : Text) → is_known l.uses t ≡ list_any (bytes_eq t) ys)
-    → Follows (texts (take l.name-index l.names)) ys l.unused
+    → Follows (texts (take l.name-index l.names)) ys l.unused_set

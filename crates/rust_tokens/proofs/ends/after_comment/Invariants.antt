@@ -4,8 +4,8 @@ use Rattle.rust_tokens.proofs.ends.after_comment.Given as goal
 
 abbrev pub invariant-loop-byte : goal.invariant-loop-byte
 invariant-loop-byte l = record {
-  same : after_comment l.above l.before l.rest ≡ after_comment 0 0 l.text;
-  few : l.above + length l.rest ≤ length l.text;
+  same : after_comment l.depth l.previous l.rest ≡ after_comment 0 0 l.text;
+  few : l.depth + length l.rest ≤ length l.text;
 }
 
 abbrev pub decreases-loop-byte : goal.decreases-loop-byte

@@ -30,7 +30,7 @@ loop-step-preserved c =
 
 pub loop-step-init : goal.loop-step-init
 loop-step-init c =
-    let m = c.after_mark-unmarked.ensures.marked in
+    let m = c.after_mark-unmarked_text.ensures.marked in
     let s = c.after_shebang-rest.ensures.shebanged in
     record {
       lexed = lexed-start _ _ _ _ m.0 s.0 m.1 m.2 m.3 s.1 s.2 c.after_shebang-rest.ensures.within

@@ -5,7 +5,8 @@ use Rattle.rust_trees.proofs.matching.break_of.Goals as goal
 
 pub returns-in-Some-pop : goal.returns-in-Some-pop
 returns-in-Some-pop c w h =
-    unclosed w _ _ _ (subst (λ os. HasOpen w os c.args.unexpected) c.in-Some-pop.ensures.items h)
+    unclosed w _ _ _ (subst (λ os. HasOpen w os c.args.unexpected_index) c.in-Some-pop.ensures.items
+    h)
     c.in-None.is
 
 pub returns : goal.returns

@@ -3,8 +3,8 @@ use Rattle.rustc_parse_format.specs.Characters.{word}
 use Rattle.rustc_parse_format.proofs.Bytes.WordBytes.{word-rest}
 use Rattle.rustc_parse_format.proofs.characters.split_wide_word.Goals as goal
 
-pub before-requires : goal.before-requires
-before-requires c = let t = chars c.args.text.now in (
+pub text_before-requires : goal.text_before-requires
+text_before-requires c = let t = chars c.args.text.now in (
   word t,
   rw (c.after_while-rest.ensures.rest, c.after_first.ensures.rest)
       (word-rest t c.requires),
@@ -12,5 +12,6 @@ before-requires c = let t = chars c.args.text.now in (
 
 pub returns-clause-word : goal.returns-clause-word
 returns-clause-word c = let t = chars c.args.text.now in
-    c.before-2.ensures (word t) (rw (c.after_while-rest.ensures.rest, c.after_first.ensures.rest)
+    c.text_before.ensures (word t)
+    (rw (c.after_while-rest.ensures.rest, c.after_first.ensures.rest)
     (word-rest t c.requires))

@@ -10,16 +10,17 @@ loop-fault-preserved c =
     record {
       added = added-more c.args.faults.now _ (drop (c.loop-fault.index + 1) c.args.faults.now)
           c.args.errors.now c.loop-fault.errors c.add_error.new.errors
-          (seen_fault c.in-Some.fault.now) c.loop-fault.fronts c.in-Ok.added
-          c.loop-fault.invariant.added c.in-Some.ensures c.in-Ok.ensures.ok c.in-Ok.ensures.fronts;
+          (seen_fault c.in-Some.fault.now) c.loop-fault.front_count c.in-Ok.number
+          c.loop-fault.invariant.added c.in-Some.ensures c.in-Ok.ensures.ok
+          c.in-Ok.ensures.front_count;
     }
 
-pub overflow_add-fronts : goal.overflow_add-fronts
-overflow_add-fronts c =
+pub overflow_add-front_count : goal.overflow_add-front_count
+overflow_add-front_count c =
     let more = added-more c.args.faults.now _ (drop (c.loop-fault.index + 1) c.args.faults.now)
     c.args.errors.now c.loop-fault.errors c.add_error.new.errors
-    (seen_fault c.in-Some.fault.now) c.loop-fault.fronts c.in-Ok.added
-    c.loop-fault.invariant.added c.in-Some.ensures c.in-Ok.ensures.ok c.in-Ok.ensures.fronts in
+    (seen_fault c.in-Some.fault.now) c.loop-fault.front_count c.in-Ok.number
+    c.loop-fault.invariant.added c.in-Some.ensures c.in-Ok.ensures.ok c.in-Ok.ensures.front_count in
     let few = added-few _ _ _ _ _ more in
     omega (arith, few, c.requires)
 

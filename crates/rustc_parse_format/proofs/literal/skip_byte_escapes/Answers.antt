@@ -12,10 +12,10 @@ loop-byte-smaller c =
 
 pub loop-byte-preserved : goal.loop-byte-preserved
 loop-byte-preserved c =
-    let wanted : c.loop-byte.wanted ≡ c.in-Some.byte ∷ c.consume_ascii.new.self =
+    let expected : c.loop-byte.expected ≡ c.in-Some.byte ∷ c.consume_ascii.new.self =
     c.consume_ascii.ensures.yes c.if-not-consume_ascii.false in
-    let agrees : begins_with c.in-Some.byte c.loop-byte.wanted
-    ≡ true = rw wanted (eq-eqb c.in-Some.byte c.in-Some.byte refl) in
-    rw (c.new.ensures, ← ap after_first wanted) (ends-after _ _ _ _ _ _ c.loop-byte.invariant
-    (ends-unit c.loop-byte.rest _ c.loop-byte.wanted c.in-Some.byte
+    let agrees : begins_with c.in-Some.byte c.loop-byte.expected
+    ≡ true = rw expected (eq-eqb c.in-Some.byte c.in-Some.byte refl) in
+    rw (c.new.ensures, ← ap after_first expected) (ends-after _ _ _ _ _ _ c.loop-byte.invariant
+    (ends-unit c.loop-byte.rest _ c.loop-byte.expected c.in-Some.byte
     (rw c.text.ensures at c.in-Some.ensures.meaning) agrees))

@@ -11,13 +11,13 @@ use Rattle.rustc_parse_format.proofs.literal.spelled_end.Goals as goal
 
 pub overflow_sub-end : goal.overflow_sub-end
 overflow_sub-end c =
-    let shared = rw (c.new-rest.ensures, c.new-wanted.ensures) at c.skip_alike.ensures in
+    let shared = rw (c.new-rest.ensures, c.new-expected.ensures) at c.skip_alike.ensures in
     omega (arith, c.len.ensures, shared.narrower, width-chars c.args.content.now c.utf8.content)
 
 pub loop-rest-init : goal.loop-rest-init
 loop-rest-init c =
     let total = length c.args.content.now + 1 in
-    let shared = rw (c.new-rest.ensures, c.new-wanted.ensures) at c.skip_alike.ensures in
+    let shared = rw (c.new-rest.ensures, c.new-expected.ensures) at c.skip_alike.ensures in
     let size = width-chars c.args.content.now c.utf8.content in
     let narrower : byte_length c.skip_alike.new.rest ≤ byte_length (chars c.args.content.now) =
     shared.narrower in
@@ -32,7 +32,7 @@ pub returns-in_default : goal.returns-in_default
 returns-in_default c =
     let some : c.loop-rest.rest
     ≢ [] = λ e. both_ways _ c.loop-rest-test.true (c.is_empty.ensures.1 e) in
-    sym (end-none _ c.loop-rest.end c.loop-rest.rest c.loop-rest.wanted some c.in_default.ensures)
+    sym (end-none _ c.loop-rest.end c.loop-rest.rest c.loop-rest.expected some c.in_default.ensures)
     ∙ c.loop-rest.invariant.answer
 
 pub returns-then-not-next_eq : goal.returns-then-not-next_eq
@@ -42,11 +42,11 @@ returns-then-not-next_eq c =
     let narrower : byte_length c.read_unit.new.rest ≤ byte_length c.loop-rest.rest =
     meaning-narrower c.loop-rest.rest
     (at_most_one c.in-Some.value) c.read_unit.new.rest c.in-Some.ensures in
-    let differs : begins_with c.in-Some-value.c c.loop-rest.wanted
+    let differs : begins_with c.in-Some-value.c c.loop-rest.expected
     ≡ false = sym c.next_eq.ensures.value ∙ c.if-not-next_eq.true in
     sym (end-differs (total - byte_length c.loop-rest.rest)
     (total - byte_length c.read_unit.new.rest) c.loop-rest.end
-    c.loop-rest.rest c.read_unit.new.rest c.loop-rest.wanted
+    c.loop-rest.rest c.read_unit.new.rest c.loop-rest.expected
     c.in-Some.value c.in-Some-value.c c.in-Some.ensures c.in-Some-value.is (omega arith) differs)
     ∙ c.loop-rest.invariant.answer
 
@@ -80,7 +80,7 @@ loop-rest-preserved-in-Some-value c =
     let narrower : byte_length c.read_unit.new.rest ≤ byte_length c.loop-rest.rest =
     meaning-narrower c.loop-rest.rest
     (at_most_one c.in-Some.value) c.read_unit.new.rest c.in-Some.ensures in
-    let agrees : begins_with c.in-Some-value.c c.loop-rest.wanted
+    let agrees : begins_with c.in-Some-value.c c.loop-rest.expected
     ≡ true = sym c.next_eq.ensures.value ∙ c.if-not-next_eq.false in
     let shared = rw (c.next_eq.ensures.rest) at c.skip_alike-in-Some-value.ensures in
     let less : byte_length c.skip_alike-in-Some-value.new.rest
@@ -88,7 +88,7 @@ loop-rest-preserved-in-Some-value c =
     record {
       answer = rw (c.len-in-Some-value.ensures)
           (sym (end-agrees at f c.loop-rest.end c.loop-rest.rest c.read_unit.new.rest
-          c.loop-rest.wanted
+          c.loop-rest.expected
           c.in-Some.value c.in-Some-value.c c.in-Some.ensures c.in-Some-value.is
           (omega arith) agrees
           ∙ shared.ends f n (omega arith))
@@ -110,7 +110,7 @@ loop-rest-preserved c =
       answer =
           sym (end-nothing (total - byte_length c.loop-rest.rest)
           (total - byte_length c.read_unit.new.rest) c.loop-rest.end c.loop-rest.rest
-          c.read_unit.new.rest c.loop-rest.wanted nothing (omega arith))
+          c.read_unit.new.rest c.loop-rest.expected nothing (omega arith))
           ∙ c.loop-rest.invariant.answer;
       within = omega arith;
     }
@@ -118,7 +118,7 @@ loop-rest-preserved c =
 pub returns-then-is_empty : goal.returns-then-is_empty
 returns-then-is_empty c =
     let over = end-over (length c.args.content.now + 1
-    - byte_length c.loop-rest.rest) c.loop-rest.end c.loop-rest.rest c.loop-rest.wanted
+    - byte_length c.loop-rest.rest) c.loop-rest.end c.loop-rest.rest c.loop-rest.expected
     c.is_empty-2.result
     (c.is_empty.ensures.0 c.loop-rest-test.false) c.is_empty-2.ensures in
     sym (over ∙ ap (λ b. if b then Some c.loop-rest.end else None) c.if-is_empty.true)
@@ -127,7 +127,7 @@ returns-then-is_empty c =
 pub returns-else-is_empty : goal.returns-else-is_empty
 returns-else-is_empty c =
     let over = end-over (length c.args.content.now + 1
-    - byte_length c.loop-rest.rest) c.loop-rest.end c.loop-rest.rest c.loop-rest.wanted
+    - byte_length c.loop-rest.rest) c.loop-rest.end c.loop-rest.rest c.loop-rest.expected
     c.is_empty-2.result
     (c.is_empty.ensures.0 c.loop-rest-test.false) c.is_empty-2.ensures in
     sym (over ∙ ap (λ b. if b then Some c.loop-rest.end else None) c.if-is_empty.false)

@@ -5,7 +5,7 @@ use Rattle.rustc_parse_format.proofs.literal.spelled_end.Given as goal
 
 abbrev pub invariant-loop-rest : goal.invariant-loop-rest
 invariant-loop-rest l = record {
-  answer : spelled_end (l.total - byte_length l.rest) l.end l.rest l.wanted
+  answer : spelled_end (l.total - byte_length l.rest) l.end l.rest l.expected
       ≡ spelled_end 1 1 (chars l.fn.content) (chars l.fn.text);
   within : byte_length l.rest ≤ l.total;
 }

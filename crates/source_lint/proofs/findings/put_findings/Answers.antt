@@ -22,7 +22,7 @@ loop-fault-preserved c =
 
 pub returns-clause-outcome : goal.returns-clause-outcome
 returns-clause-outcome c =
-    subst (λ v. Telling (seen_call c.args.checked.now) c.args.is_whole (map seen_fault v)
+    subst (λ v. Telling (seen_call c.args.report.now) c.args.is_whole (map seen_fault v)
     c.args.findings.now.items c.loop-fault.findings.items)
     (take_all c.loop-fault.fault-index c.deref-fault-items.result.now c.loop-fault-test.false
     ∙ c.deref-fault-items.ensures.value)

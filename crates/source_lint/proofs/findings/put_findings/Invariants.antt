@@ -7,7 +7,7 @@ use Rattle.source_lint.proofs.findings.put_findings.Given as goal
 
 abbrev pub invariant-loop-fault : goal.invariant-loop-fault
 invariant-loop-fault l = record {
-  outcome : Telling (seen_call l.checked) l.is_whole
+  outcome : Telling (seen_call l.report) l.is_whole
       (map seen_fault (take l.fault-index l.fault-items)) l.initial.findings.items
       l.findings.items;
   spans : All (HasSpans l.site.text.now) l.initial.findings.items

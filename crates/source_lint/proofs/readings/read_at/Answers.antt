@@ -69,7 +69,7 @@ returns-clause-read c =
         end = c.extent_of-extent.result.end;
         are_up_to = rw c.ends_early.ensures at t.1;
         reads = reads-by _ _ _ _ _ _ _ _ _ _ _ refl refl t.2
-            (ap (map (given xs)) (c.deref.ensures.value ∙ (c.in_ok-before.ensures
+            (ap (map (given xs)) (c.deref.ensures.value ∙ (c.in_ok-kept_arguments.ensures
             ∙ ap (arguments_before c.extent_of-extent.result.end)
             (after-one args c.args.index)))) r.2;
       },

@@ -42,9 +42,9 @@ returns-clause-read c =
         (
           c.reading_of.ensures,
           subst (λ (gs : List FormatArgument). AreFindings c.args.is_counted
-              (call_of c.args.captures start gs) t.0) given
+              (call_of c.args.captures_variables start gs) t.0) given
               (subst (λ q. AreFindings c.args.is_counted
-              (call_of c.args.captures q (map seen_given c.as_slice-list.result.now)) t.0)
+              (call_of c.args.captures_variables q (map seen_given c.as_slice-list.result.now)) t.0)
               same t.2),
         ),
       ),

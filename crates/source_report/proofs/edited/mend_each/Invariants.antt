@@ -1,5 +1,5 @@
 use Rattle.std.proofs.Common.{◌≡◌, drop, map}
-use Rattle.fault_fixes.specs.Edits.{applied}
+use Rattle.fault_fixes.specs.Edits.{edited_bytes}
 use Rattle.source_report.specs.SeenEdited.{with_faults, with_ids}
 use Rattle.source_report.specs.Suggestions.{all_edits, mended}
 use Rattle.source_report.proofs.edited.mend_each.Given as goal
@@ -7,8 +7,8 @@ use Rattle.source_report.proofs.edited.mend_each.Given as goal
 -- With the faults that are left, the text and the ids become what they do with all.
 abbrev pub invariant-loop-finding : goal.invariant-loop-finding
 invariant-loop-finding l = record {
-  text : with_faults l.edited (drop l.finding-index l.findings)
-      ≡ applied 0 (all_edits (mended 0 l.findings)) l.text;
-  ids : with_ids l.edited (drop l.finding-index l.findings)
+  text : with_faults l.edited_text (drop l.finding-index l.findings)
+      ≡ edited_bytes 0 (all_edits (mended 0 l.findings)) l.text;
+  ids : with_ids l.edited_text (drop l.finding-index l.findings)
       ≡ map (λ f. f.id.now) (mended 0 l.findings);
 }

@@ -5,4 +5,4 @@ use Rattle.text_faults.specs.Texts.{shown}
 use Rattle.text_faults.proofs.text.shown_fault.Given as goal
 
 abbrev pub invariant-loop-fault : goal.invariant-loop-fault
-invariant-loop-fault l = option_map seen_fault l.shown ≡ shown (map seen_fault l.yielded)
+invariant-loop-fault l = option_map seen_fault l.choice ≡ shown (map seen_fault l.yielded)

@@ -10,16 +10,16 @@ loop-pair-preserved c =
     record {
       old = rw (
         c.in_ok-push_pair.ensures.old,
-        c.rest_after-olds.ensures,
+        c.rest_after-old_lines.ensures,
         append_assoc (old_text it.rows.items) _ _,
-        joined-split pair.old it.olds.now,
+        joined-split pair.old it.old_lines.now,
       )
           it.invariant.old;
       new = rw (
         c.in_ok-push_pair.ensures.new,
-        c.rest_after-news.ensures,
+        c.rest_after-new_lines.ensures,
         append_assoc (new_text it.rows.items) _ _,
-        joined-split pair.new it.news.now,
+        joined-split pair.new it.new_lines.now,
       )
           it.invariant.new;
     }

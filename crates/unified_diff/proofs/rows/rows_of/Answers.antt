@@ -5,7 +5,7 @@ use Rattle.unified_diff.proofs.rows.rows_of.Goals as goal
 
 pub returns-clause-old : goal.returns-clause-old
 returns-clause-old c =
-    let olds = c.in_ok-olds.olds.items in
+    let old_lines = c.in_ok-old_lines.old_lines.items in
     let start = ap (λ rs. old_text rs) c.new-rows.ensures.items ∙ old_text-none in
     rw (
       c.in_ok-push_lines.ensures.old,
@@ -14,11 +14,11 @@ returns-clause-old c =
       c.front.ensures,
       c.rest_after.ensures,
       c.as_slice-lines.ensures.value,
-    ) (joined-split _ olds ∙ c.in_ok-olds.ensures)
+    ) (joined-split _ old_lines ∙ c.in_ok-old_lines.ensures)
 
 pub returns-clause-new : goal.returns-clause-new
 returns-clause-new c =
-    let news = c.in_ok-news.news.items in
+    let new_lines = c.in_ok-new_lines.new_lines.items in
     let start = ap (λ rs. new_text rs) c.new-rows.ensures.items ∙ new_text-none in
     rw (
       c.in_ok-push_lines.ensures.new,
@@ -28,4 +28,4 @@ returns-clause-new c =
       c.rest_after.ensures,
       c.common_end-end.ensures.same,
       c.as_slice-others.ensures.value,
-    ) (joined-split _ news ∙ c.in_ok-news.ensures)
+    ) (joined-split _ new_lines ∙ c.in_ok-new_lines.ensures)

@@ -11,13 +11,13 @@ impl<'input> Cursor<'input> {
     /// Moves past the longest prefix of characters in the class.
     #[inline(always)]
     pub fn skip_while(&mut self, class: Class) {
-        self.ahead.skip_while(class);
+        self.lookahead.skip_while(class);
     }
 
     /// Moves past the white space at the cursor. Most often there is none.
     #[inline(always)]
     pub fn ws(&mut self) {
-        if self.ahead.next().is_white() {
+        if self.lookahead.next().is_white() {
             self.skip_ws();
         }
     }
@@ -32,7 +32,7 @@ impl<'input> Cursor<'input> {
     /// source.
     #[inline(always)]
     pub fn word(&mut self) -> (&'input str, Option<Range<usize>>) {
-        self.ahead.word(&self.source, &self.anchor)
+        self.lookahead.word(&self.source, &self.anchor)
     }
 
     /// Reads the ASCII digits at the cursor, and returns their value modulo 65536. If that value
@@ -40,6 +40,6 @@ impl<'input> Cursor<'input> {
     /// the character after them.
     #[inline(always)]
     pub fn number(&mut self) -> (u16, Option<(&'input str, Range<usize>)>) {
-        self.ahead.number(&self.source, &self.anchor)
+        self.lookahead.number(&self.source, &self.anchor)
     }
 }

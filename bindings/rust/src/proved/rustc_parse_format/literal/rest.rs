@@ -143,13 +143,13 @@ fn is_plain(byte: u8) -> bool {
 /// Returns the length in bytes of the longest prefix that is the same in both and plain.
 #[inline(always)]
 pub fn plain_width(bytes: &[u8], others: &[u8]) -> usize {
-    let most = bytes.len().min(others.len());
-    for i in plain_front(bytes, others)..most {
+    let limit = bytes.len().min(others.len());
+    for i in plain_front(bytes, others)..limit {
         if bytes[i] != others[i] || !is_plain(bytes[i]) {
             return i;
         }
     }
-    most
+    limit
 }
 
 /// Returns whether both begin with the same byte, which is no backslash: one escape often comes
@@ -168,7 +168,7 @@ fn after_plain<'a, 'b>(text: &'a str, other: &'b str) -> (&'a str, &'b str) {
     if !begin_alike(bytes, others) {
         return (text, other);
     }
-    let same = plain_width(bytes, others);
-    let width = text.boundary_at_most(same);
+    let same_width = plain_width(bytes, others);
+    let width = text.boundary_at_most(same_width);
     (&text[width..], &other[width..])
 }

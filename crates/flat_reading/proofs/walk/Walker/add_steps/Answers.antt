@@ -1,6 +1,6 @@
 use Rattle.std.proofs.Common.{length, refl, sym, ap, ◌∙◌, arith}
 use Rattle.rustc_parse_format.specs.State.{State}
-use Rattle.flat_reading.specs.Events.{event, given, specs_in, states}
+use Rattle.flat_reading.specs.Events.{event, given_piece, specs_in, states}
 use Rattle.flat_reading.proofs.Widths.{none_left, some_left}
 use Rattle.flat_reading.proofs.Cuts.{is_none_of}
 use Rattle.flat_reading.proofs.Walking.{added_on, begin, goes_on, kept_put, one_more, states-more}
@@ -18,8 +18,8 @@ returns-then-is_empty c =
           (omega (arith, is_none_of _ (sym c.is_empty.ensures ∙ c.if-is_empty.true)));
       small = omega arith;
       up_to = rw c.requires.empty
-          (begin r.peeks r.input.now s w.finders c.args.steps.now c.args.specs.now.records.now
-          (ap (λ f. f.calls) c.requires.none) (ap (λ f. f.fronts) c.requires.none));
+          (begin r.wants_peeks r.input.now s w.finders c.args.steps.now c.args.specs.now.records.now
+          (ap (λ f. f.calls) c.requires.none) (ap (λ f. f.front_count) c.requires.none));
       specs = record {
         same = refl;
         room = refl;
@@ -30,8 +30,8 @@ returns-then-is_empty c =
       kept_steps = refl;
     }
 
-pub loop-read-init : goal.loop-read-init
-loop-read-init c =
+pub loop-offset-init : goal.loop-offset-init
+loop-offset-init c =
     let w = c.args.self.now in
     let r = c.args.reading.now in
     record {
@@ -39,9 +39,9 @@ loop-read-init c =
       read = rw c.requires.start (omega arith);
       room = omega arith;
       up_to = rw c.requires.empty
-          (begin r.peeks r.input.now w.parser w.finders c.args.steps.now
+          (begin r.wants_peeks r.input.now w.parser w.finders c.args.steps.now
           c.args.specs.now.records.now
-          (ap (λ f. f.calls) c.requires.none) (ap (λ f. f.fronts) c.requires.none));
+          (ap (λ f. f.calls) c.requires.none) (ap (λ f. f.front_count) c.requires.none));
       kept_steps = refl;
       specs = record {
         same = refl;
@@ -52,53 +52,56 @@ loop-read-init c =
       };
     }
 
-pub loop-read-smaller : goal.loop-read-smaller
-loop-read-smaller c =
-    let w = c.loop-read.self in
+pub loop-offset-smaller : goal.loop-offset-smaller
+loop-offset-smaller c =
+    let w = c.loop-offset.self in
     let r = c.args.reading.now in
     let more =
-    some_left r.input.now w.parser.input w.parser.rest c.loop-read.read
-    c.loop-read.invariant.ready.utf8 c.loop-read.invariant.ready.input
-    c.loop-read.invariant.read c.loop-read-test.true in
-    rw (ap (λ (s : State). length s.rest) c.in_ok-read.ensures.call.state) (goes_on w.parser more)
+    some_left r.input.now w.parser.input w.parser.rest c.loop-offset.offset
+    c.loop-offset.invariant.ready.utf8 c.loop-offset.invariant.ready.input
+    c.loop-offset.invariant.read c.loop-offset-test.true in
+    rw (ap (λ (s : State). length s.rest) c.in_ok-offset.ensures.call.state) (goes_on w.parser more)
 
-pub loop-read-preserved : goal.loop-read-preserved
-loop-read-preserved c =
+pub loop-offset-preserved : goal.loop-offset-preserved
+loop-offset-preserved c =
     let r = c.args.reading.now in
     let s0 = c.args.self.now.parser in
-    let w = c.loop-read.self in
+    let w = c.loop-offset.self in
     let s = w.parser in
     let new = c.add_step.new.self in
-    let invariant = c.loop-read.invariant in
-    let call = c.in_ok-read.ensures.call in
-    let adds = c.in_ok-read.ensures.adds in
+    let invariant = c.loop-offset.invariant in
+    let call = c.in_ok-offset.ensures.call in
+    let adds = c.in_ok-offset.ensures.adds in
     let more =
-    some_left r.input.now s.input s.rest c.loop-read.read invariant.ready.utf8
-    invariant.ready.input invariant.read c.loop-read-test.true in
+    some_left r.input.now s.input s.rest c.loop-offset.offset invariant.ready.utf8
+    invariant.ready.input invariant.read c.loop-offset-test.true in
     let fewer = goes_on s more in
-    let added = c.in_ok-read.ensures.added in
+    let added = c.in_ok-offset.ensures.added in
     record {
       ready = call.ready;
-      read = c.in_ok-read.ensures.read;
+      read = c.in_ok-offset.ensures.read;
       room = omega (arith, invariant.room, fewer, ap (λ (s : State). length s.rest) call.state);
-      up_to = one_more r.peeks r.input.now s0 s new.parser
-          (states new.parser) c.loop-read.count c.loop-read.specs.count c.add_step.new.specs.count
-          w.finders new.finders c.loop-read.steps c.add_step.new.steps c.loop-read.specs.records.now
+      up_to = one_more r.wants_peeks r.input.now s0 s new.parser
+          (states new.parser) c.loop-offset.count c.loop-offset.specs.count
+          c.add_step.new.specs.count
+          w.finders new.finders c.loop-offset.steps c.add_step.new.steps
+          c.loop-offset.specs.records.now
           c.add_step.new.specs.records.now
           (rw (states-more s new.parser more call.state) at invariant.up_to) call.state adds.used
-          call.finders call.fronts added adds.front adds.room;
+          call.finders call.front_count added adds.front adds.room;
       kept_steps =
-          kept_put r.input.now (event r.peeks s) c.loop-read.steps c.add_step.new.steps
+          kept_put r.input.now (event r.wants_peeks s) c.loop-offset.steps c.add_step.new.steps
           c.args.steps.now c.add_step.new.specs.records.now
-          c.loop-read.count c.add_step.new.specs.count added invariant.kept_steps;
-      specs = added_on (specs_in (given s)) c.args.specs.now c.loop-read.specs c.add_step.new.specs
+          c.loop-offset.count c.add_step.new.specs.count added invariant.kept_steps;
+      specs = added_on (specs_in (given_piece s)) c.args.specs.now c.loop-offset.specs
+          c.add_step.new.specs
           c.requires.empty invariant.specs adds;
     }
 
 pub returns-clause-end : goal.returns-clause-end
 returns-clause-end c =
-    let w = c.loop-read.self in
+    let w = c.loop-offset.self in
     let r = c.args.reading.now in
-    none_left r.input.now w.parser.input w.parser.rest c.loop-read.read
-    c.loop-read.invariant.ready.utf8 c.loop-read.invariant.ready.input
-    c.loop-read.invariant.ready.left c.loop-read.invariant.read c.loop-read-test.false
+    none_left r.input.now w.parser.input w.parser.rest c.loop-offset.offset
+    c.loop-offset.invariant.ready.utf8 c.loop-offset.invariant.ready.input
+    c.loop-offset.invariant.ready.left c.loop-offset.invariant.read c.loop-offset-test.false

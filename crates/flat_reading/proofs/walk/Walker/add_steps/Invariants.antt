@@ -3,13 +3,13 @@ use Rattle.flat_reading.specs.Events.{position, states}
 use Rattle.flat_reading.specs.Stand.{Adds, IsOnItsWay, IsUpTo}
 use Rattle.flat_reading.proofs.walk.Walker.add_steps.Given as goal
 
-abbrev pub invariant-loop-read : goal.invariant-loop-read
-invariant-loop-read l = record {
+abbrev pub invariant-loop-offset : goal.invariant-loop-offset
+invariant-loop-offset l = record {
   ready : IsOnItsWay l.reading l.self;
-  read : l.read ≡ position l.self.parser.input l.self.parser.rest;
+  read : l.offset ≡ position l.self.parser.input l.self.parser.rest;
   room : l.count + length l.self.parser.rest ≤ length l.fn.self.parser.rest;
   up_to : (
-      IsUpTo l.reading.peeks l.reading.input.now l.fn.self.parser
+      IsUpTo l.reading.wants_peeks l.reading.input.now l.fn.self.parser
       (states l.self.parser) l.self.parser l.count l.specs.count l.self.finders l.steps
       l.specs.records.now
       );
@@ -17,5 +17,5 @@ invariant-loop-read l = record {
   specs : Adds l.specs.count l.fn.specs l.specs;
 }
 
-abbrev pub decreases-loop-read : goal.decreases-loop-read
-decreases-loop-read l = length l.self.parser.rest
+abbrev pub decreases-loop-offset : goal.decreases-loop-offset
+decreases-loop-offset l = length l.self.parser.rest

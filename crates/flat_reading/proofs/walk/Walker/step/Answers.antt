@@ -10,8 +10,8 @@ use Rattle.flat_reading.proofs.Standing.{last, stands, still_ends}
 use Rattle.flat_reading.proofs.Finding.{add_finders-is, few_fronts, length-after}
 use Rattle.flat_reading.proofs.walk.Walker.step.Goals as goal
 
-pub put_given-requires-clause-last : goal.put_given-requires-clause-last
-put_given-requires-clause-last c =
+pub put_piece-requires-clause-last : goal.put_piece-requires-clause-last
+put_piece-requires-clause-last c =
     let read = c.put_state.ensures.offset
     ∙ ap (λ (s : State). position s.input s.rest) c.in_ok-piece.ensures.state in
     let w = c.args.self.now in
@@ -19,16 +19,16 @@ put_given-requires-clause-last c =
     let ready = c.requires.ready in
     last r.input.now w.parser _ _ ready.utf8 ready.input ready.left read c.in_ok-piece.ensures.piece
 
-pub put_given-requires-clause-stands : goal.put_given-requires-clause-stands
-put_given-requires-clause-stands c =
+pub put_piece-requires-clause-stands : goal.put_piece-requires-clause-stands
+put_piece-requires-clause-stands c =
     let w = c.args.self.now in
     let r = c.args.reading.now in
     let ready = c.requires.ready in
     stands r.input.now w.parser r.offset r.escapes _ ready.utf8 ready.input ready.left ready.plain
     c.in_ok-piece.ensures.piece
 
-pub put_given-requires-clause-read : goal.put_given-requires-clause-read
-put_given-requires-clause-read c =
+pub put_piece-requires-clause-read : goal.put_piece-requires-clause-read
+put_piece-requires-clause-read c =
     let w = c.args.self.now in
     let r = c.args.reading.now in
     let ready = c.requires.ready in
@@ -53,20 +53,22 @@ add-requires c =
     let grown = ap (λ (s : State). length s.errors) c.in_ok-piece.ensures.state
     ∙ length-after c.args.self.now.parser (next_call c.args.self.now.parser) in
     let few = few_fronts (next_call c.args.self.now.parser).faults in
-    let fronts : c.in_ok-piece.field-0.front_errors ≡ fronts_in (next_call c.args.self.now.parser) =
-    c.in_ok-piece.ensures.fronts in
-    omega (arith, before, rest_after, grown, few, fronts)
+    let front_count : c.in_ok-piece.field-0.front_errors
+    ≡ fronts_in (next_call c.args.self.now.parser) =
+    c.in_ok-piece.ensures.front_count in
+    omega (arith, before, rest_after, grown, few, front_count)
 
 pub returns-clause-described : goal.returns-clause-described
 returns-clause-described c = λ room.
     let r = c.args.reading.now in
     let s = c.args.self.now.parser in
     let state = c.in_ok-piece.ensures.state in
-    let kept = c.in_ok-put_given.ensures.others in
+    let kept = c.in_ok-put_piece.ensures.others in
     let place = rw state at c.closed_place-step.ensures in
     let t = c.next_into.new.self in
-    described r.peeks r.input.now c.put_given.new.specs.records.now c.put_given.new.step s t state
-    (c.in_ok-put_given.ensures.described room ∙ c.in_ok-piece.ensures.piece)
+    described r.wants_peeks r.input.now c.put_piece.new.specs.records.now c.put_piece.new.step s t
+    state
+    (c.in_ok-put_piece.ensures.described room ∙ c.in_ok-piece.ensures.piece)
     (ap maybe_place kept.0
     ∙ place s.arg_places (next_call s).closes (sym (length-map c.arg_places-places.result.now pair)
     ∙ ap length c.arg_places-places.ensures) refl)
@@ -86,8 +88,8 @@ returns-clause-call c =
     let grown = ap (λ (s : State). length s.errors) c.in_ok-piece.ensures.state
     ∙ length-after old.parser (next_call old.parser) in
     let fs = (next_call old.parser).faults in
-    let fronts : c.in_ok-piece.field-0.front_errors ≡ fronts_in (next_call old.parser) =
-    c.in_ok-piece.ensures.fronts in
+    let front_count : c.in_ok-piece.field-0.front_errors ≡ fronts_in (next_call old.parser) =
+    c.in_ok-piece.ensures.front_count in
     let found : length c.errors.result.now - length c.errors-faults.result.now
     ≡ length fs = omega (arith, before, rest_after, grown) in
     let t = c.next_into.new.self in
@@ -101,7 +103,8 @@ returns-clause-call c =
         plain = rw state ready.plain;
         mode = rw state ready.mode;
       };
-      finders = rw (found, fronts) at c.in_ok-add.ensures.calls
+      finders = rw (found, front_count) at c.in_ok-add.ensures.calls
           ∙ sym (add_finders-is c.args.number old.finders.calls fs);
-      fronts = c.in_ok-add.ensures.fronts ∙ ap (λ n. old.finders.fronts + n) fronts;
+      front_count = c.in_ok-add.ensures.front_count
+          ∙ ap (λ n. old.finders.front_count + n) front_count;
     }

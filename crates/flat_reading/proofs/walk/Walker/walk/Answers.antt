@@ -1,7 +1,7 @@
 use Rattle.std.proofs.Common.{◌≡◌, ◌+◌, [], take, refl, sym, ap, ◌∙◌, arith}
 use Rattle.std.proofs.lemmas.List.{append-nil, take-take}
 use Rattle.rustc_parse_format.specs.State.{next_call}
-use Rattle.flat_reading.specs.Events.{event, fronts_in, given, spec_count, specs_in}
+use Rattle.flat_reading.specs.Events.{event, fronts_in, given_piece, spec_count, specs_in}
 use Rattle.flat_reading.proofs.Walking.{end_finders, end_fronts, end_specs, kept_put, one_more}
 use Rattle.flat_reading.proofs.Walking.{same_meant, states-end}
 use Rattle.flat_reading.proofs.walk.Walker.walk.Goals as goal
@@ -19,12 +19,12 @@ returns c =
     let used = c.add_steps.new.specs.count in
     let specs = c.add_steps.new.specs.records.now in
     let found = w.finders in
-    let added = c.in_ok-add_end.ensures.added r.peeks r.input.now used specs in
-    let none : used ≡ used + specs_in (given s) = omega (arith, end_specs s end) in
-    let no_fronts : found.fronts ≡ found.fronts + fronts_in (next_call s) =
+    let added = c.in_ok-add_end.ensures.added r.wants_peeks r.input.now used specs in
+    let none : used ≡ used + specs_in (given_piece s) = omega (arith, end_specs s end) in
+    let no_fronts : found.front_count ≡ found.front_count + fronts_in (next_call s) =
     omega (arith, end_fronts s end) in
     let last =
-    one_more r.peeks r.input.now s0 s c.add_end.new.self.parser [] count used used found found
+    one_more r.wants_peeks r.input.now s0 s c.add_end.new.self.parser [] count used used found found
     c.add_steps.new.steps c.add_end.new.steps specs specs (rw (states-end s end) at all.up_to)
     state none (sym (end_finders count found.calls s end)) no_fronts added refl refl in
     let counted : used ≡ spec_count s0 = omega (arith, last.specs_counted) in
@@ -38,8 +38,13 @@ returns c =
           (omega (arith, all.specs.room, specs_room));
       state = last.state;
       finders = ap (λ f. f.calls) c.in_ok-add_end.ensures.finders ∙ last.finders;
-      fronts = omega (arith, last.fronts, ap (λ f. f.fronts) c.in_ok-add_end.ensures.finders);
+      front_count = omega (
+        arith,
+        last.front_count,
+        ap
+            (λ f. f.front_count) c.in_ok-add_end.ensures.finders,
+      );
       kept_steps =
-          kept_put r.input.now (event r.peeks s) c.add_steps.new.steps c.add_end.new.steps
+          kept_put r.input.now (event r.wants_peeks s) c.add_steps.new.steps c.add_end.new.steps
           c.args.steps.now specs count used added all.kept_steps;
     }

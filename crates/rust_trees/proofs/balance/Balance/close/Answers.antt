@@ -1,6 +1,6 @@
 use Rattle.std.proofs.Common.{◌≡◌, ◌∙◌, ap, refl, rules, subst, sym, ◌++◌, ◌∷◌, []}
 use Rattle.rust_trees.specs.declared.sides.Side.TheVariants.{Closes}
-use Rattle.rust_trees.specs.declared.balance.BreakKind.TheVariants.{Unexpected}
+use Rattle.rust_trees.specs.declared.balance.BreakKind.TheVariants.{UnexpectedDelimiter}
 use Rattle.rust_trees.specs.Balances.{BreaksIn, IsKnownTo}
 use Rattle.rust_trees.proofs.Balancing.{known-close, known-unexpected}
 use Rattle.rust_trees.proofs.Matches.{mismatch-last, mismatch-none}
@@ -17,7 +17,7 @@ returns-then-is_same c w x g n e s p =
 
 pub returns : goal.returns
 returns c w x g n e s p = λ ys.
-    subst (λ k. BreaksIn ((w ++ x ∷ []) ++ ys) Unexpected k) (sym p)
+    subst (λ k. BreaksIn ((w ++ x ∷ []) ++ ys) UnexpectedDelimiter k) (sym p)
     (known-unexpected w x c.args.self.now.openings.items _ g s (elim c.match-pop.branch [
       | in-Some+else-is_same v ↦ mismatch-last _ _ _ _ v.in-Some.ensures.items
           (sym v.if-is_same.ensures)

@@ -8,7 +8,7 @@ use Rattle.rustc_parse_format.proofs.cursor.Cursor.is_past_indent.Goals as goal
 pub returns-then-start-byte : goal.returns-then-start-byte
 returns-then-start-byte c _ e =
     let places = subst (λ (u : Unread). HasPlaces u.world (length u.rest)) c.self.view_is
-    (anchored-places c.self.inside.source c.self.inside.ahead.rest.text.now c.self.inside.anchor
+    (anchored-places c.self.inside.source c.self.inside.lookahead.rest.text.now c.self.inside.anchor
     c.self.invariant.0) in
     let start : c.start-start.result
     ≡ (place_at c.args.self.now.world (length c.args.self.now.rest)).0 =
@@ -21,7 +21,7 @@ returns-then-start-byte c _ e =
 pub returns-then-start-byte-2 : goal.returns-then-start-byte-2
 returns-then-start-byte-2 c no_white e =
     let places = subst (λ (u : Unread). HasPlaces u.world (length u.rest)) c.self.view_is
-    (anchored-places c.self.inside.source c.self.inside.ahead.rest.text.now c.self.inside.anchor
+    (anchored-places c.self.inside.source c.self.inside.lookahead.rest.text.now c.self.inside.anchor
     c.self.invariant.0) in
     let start : c.start-start.result
     ≡ (place_at c.args.self.now.world (length c.args.self.now.rest)).0 =

@@ -6,7 +6,8 @@ use Rattle.rustc_parse_format.proofs.cursor.Cursor.skip_while.Goals as goal
 pub invariant_of-self : goal.invariant_of-self
 invariant_of-self c =
     let m = c.skip_while.ensures.moves in
-    let part = rest_after-part (passes c.args.class) (chars c.self.inside.ahead.rest.text.now) in (
+    let part = rest_after-part (passes c.args.class)
+    (chars c.self.inside.lookahead.rest.text.now) in (
       search rules,
       rw m.rest (counted_on _ _ _ _ _ m.made m.left part c.self.invariant.1),
     )

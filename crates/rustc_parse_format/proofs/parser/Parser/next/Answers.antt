@@ -1,14 +1,14 @@
 use Rattle.std.proofs.Common.{◌∙◌, ap, map, sym, subst}
 use Rattle.std.specs.Prelude.{option_map}
 use Rattle.rustc_parse_format.specs.Faults.{bare_message}
-use Rattle.rustc_parse_format.specs.Types.{bare}
-use Rattle.rustc_parse_format.specs.State.{State, after, next_call}
+use Rattle.rustc_parse_format.specs.Types.{bare_piece}
+use Rattle.rustc_parse_format.specs.State.{State, state_after, next_call}
 use Rattle.rustc_parse_format.proofs.Walking.ParserLaws.{after_errors, bare_given, call_inside}
 use Rattle.rustc_parse_format.proofs.Walking.ParserLaws.{call_lines, call_places, call_reads_back}
 use Rattle.rustc_parse_format.proofs.Walking.ParserLaws.{call_sourceless}
 use Rattle.rustc_parse_format.proofs.Walking.Agreement.{next_agrees}
 use Rattle.rustc_parse_format.specs.Agreement.{Agree}
-use Rattle.rustc_parse_format.specs.Seen.{seen}
+use Rattle.rustc_parse_format.specs.Seen.{seen_piece}
 use Rattle.rustc_parse_format.specs.ReadBack.{LiesInside}
 use Rattle.rustc_parse_format.proofs.Lines.LinesInside.{call_lies_inside}
 use Rattle.rustc_parse_format.proofs.Grammar.Rests.{IsRest}
@@ -31,7 +31,7 @@ returns-clause-cut c = if_ok c.step.result c.step.ensures.piece c.step.ensures.s
 
 pub returns-clause-end : goal.returns-clause-end
 returns-clause-end c = if_ok c.step.result c.step.ensures.piece c.step.ensures.state
-    (λ p e f h. next_ends seen c.args.self.now c.step.new.self p e f h)
+    (λ p e f h. next_ends seen_piece c.args.self.now c.step.new.self p e f h)
 
 pub returns-clause-progress : goal.returns-clause-progress
 returns-clause-progress c = on_ok c.step.result c.step.ensures.state
@@ -52,7 +52,8 @@ returns-clause-keeps c = on_ok c.step.result c.step.ensures.state
 pub returns-clause-worlds : goal.returns-clause-worlds
 returns-clause-worlds c = if_ok c.step.result c.step.ensures.piece c.step.ensures.state
     (λ p e f. (
-      ap (option_map bare) e ∙ bare_given c.args.self.now.world (next_call c.args.self.now).piece,
+      ap (option_map bare_piece) e ∙ bare_given c.args.self.now.world
+          (next_call c.args.self.now).piece,
       ap (λ (s : State). map bare_message s.errors) f
           ∙ after_errors c.args.self.now (next_call c.args.self.now),
     ))
@@ -91,7 +92,7 @@ pub returns-clause-agrees : goal.returns-clause-agrees
 returns-clause-agrees c = if_ok c.step.result c.step.ensures.piece c.step.ensures.state
     (λ p e f other h.
     let both = next_agrees c.args.self.now other h in (
-      ap (option_map bare) e
+      ap (option_map bare_piece) e
           ∙ (bare_given c.args.self.now.world (next_call c.args.self.now).piece ∙ both.0),
-      subst (λ (s : State). Agree s (after other (next_call other))) (sym f) both.1,
+      subst (λ (s : State). Agree s (state_after other (next_call other))) (sym f) both.1,
     ))

@@ -27,14 +27,14 @@ returns-then-is_at_end-clause-state c =
     let end : s.rest ≡ [] = rw (← c.self.view_is) (c.is_at_end.ensures.0 c.if-is_at_end.true) in
     c.in_ok-end_line.ensures.state ∙ sym (at_end s end).1
 
-pub returns-then-is_at_end-clause-fronts : goal.returns-then-is_at_end-clause-fronts
-returns-then-is_at_end-clause-fronts c =
+pub returns-then-is_at_end-clause-front_count : goal.returns-then-is_at_end-clause-front_count
+returns-then-is_at_end-clause-front_count c =
     let s = c.args.self.now in
     let end : s.rest ≡ [] = rw (← c.self.view_is) (c.is_at_end.ensures.0 c.if-is_at_end.true) in
     rw (end_faults s end) refl
 
-pub returns-in-Ok-take_over-clause-fronts : goal.returns-in-Ok-take_over-clause-fronts
-returns-in-Ok-take_over-clause-fronts c =
+pub returns-in-Ok-take_over-clause-front_count : goal.returns-in-Ok-take_over-clause-front_count
+returns-in-Ok-take_over-clause-front_count c =
     let r = c.self.inside.reader in
     let s = c.args.self.now in
     let read : ◌≡◌ {A = Midway} c.piece_into.new.self (read_call r (next_call s)) =
@@ -45,7 +45,7 @@ returns-in-Ok-take_over-clause-fronts c =
     ∙ ap (λ (fs : List (Fault Place)). fs
     ++ faults_in r.world (next_call s).faults) c.self.invariant.1.0
     ∙ ap (λ (x : State). faults_in x.world (next_call s).faults) c.self.view_is in
-    c.in-Ok-take_over.ensures.fronts ∙ ap (λ fs. length (filter is_front fs)) found
+    c.in-Ok-take_over.ensures.front_count ∙ ap (λ fs. length (filter is_front fs)) found
     ∙ count_of_fronts s.world (next_call s).faults
 
 pub returns-clause-spare : goal.returns-clause-spare

@@ -4,6 +4,6 @@ use Rattle.rustc_parse_format.proofs.parser.steps.count_before.Goals as goal
 
 pub returns : goal.returns
 returns c =
-    let front = c.before-2.ensures c.requires.0 c.requires.1 in
+    let front = c.text_before.ensures c.requires.0 c.requires.1 in
     rw (c.character_count.ensures, front, c.requires.1)
     (sym (length-append c.requires.0 (chars c.args.rest.now)))

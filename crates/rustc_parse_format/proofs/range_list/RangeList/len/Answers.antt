@@ -5,5 +5,6 @@ use Rattle.rustc_parse_format.proofs.range_list.RangeList.len.Goals as goal
 pub returns : goal.returns
 returns c =
     let l = c.self.inside in
-    let fits : l.few_len ≤ length l.few = omega (arith, c.self.invariant.0, c.self.invariant.1) in
-    rw (← c.self.view_is, range_count l.few l.many.items l.few_len fits) (search rules)
+    let fits : l.array_len ≤ length l.array =
+    omega (arith, c.self.invariant.0, c.self.invariant.1) in
+    rw (← c.self.view_is, range_count l.array l.list.items l.array_len fits) (search rules)

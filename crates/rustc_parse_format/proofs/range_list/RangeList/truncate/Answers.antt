@@ -6,12 +6,14 @@ pub returns-then-count-self : goal.returns-then-count-self
 returns-then-count-self c =
     let l = c.self.inside in
     rw (← c.self.view_is)
-    (range_front l.few l.many.items l.few_len c.args.count c.self.invariant.2 c.if-count-self.true)
+    (range_front l.array l.list.items l.array_len c.args.count c.self.invariant.2
+    c.if-count-self.true)
 
 pub returns : goal.returns
 returns c =
     let l = c.self.inside in
-    let fits : l.few_len ≤ length l.few = omega (arith, c.self.invariant.0, c.self.invariant.1) in
+    let fits : l.array_len ≤ length l.array =
+    omega (arith, c.self.invariant.0, c.self.invariant.1) in
     rw (← c.self.view_is, c.truncate.ensures.items)
-    (range_fronts l.few l.many.items l.few_len c.args.count fits c.self.invariant.2
+    (range_fronts l.array l.list.items l.array_len c.args.count fits c.self.invariant.2
     c.if-count-self.false)

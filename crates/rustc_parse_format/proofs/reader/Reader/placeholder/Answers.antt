@@ -47,7 +47,7 @@ returns-clause-reads c =
           (placeholder_closed s _ c.closing_brace.new.self (seen_mode c.args.mode) u.rest
           (after_first u.rest)
           (pair c.consume_place-opening.result)
-          (seen_argument c.argument.new.into) e c.consume_place-opening.ensures.place given.value
+          (seen_argument c.argument.new.slot) e c.consume_place-opening.ensures.place given.value
           (rw c.ws.ensures.rest at c.in_ok-closing_brace.ensures.state));
       err = tt;
       spare = λ none. refl;

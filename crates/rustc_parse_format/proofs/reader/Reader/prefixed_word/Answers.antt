@@ -33,13 +33,13 @@ alone c = r-position c.args.self.now.rest c.requires
     (sym (c.if-not-is_word_ahead.ensures ∙ ap
     (λ (u : Text). first_passes is_id_start (after_first u)) (left c)))
 
-pub since-requires : goal.since-requires
-since-requires c = (114 ∷ [], whole c)
+pub text_since-requires : goal.text_since-requires
+text_since-requires c = (114 ∷ [], whole c)
 
 pub returns-then-not-is_word_ahead-clause-value :
     goal.returns-then-not-is_word_ahead-clause-value
 returns-then-not-is_word_ahead-clause-value c =
-    ap (λ w. Some (Named w)) (c.since.ensures _ (whole c.before.before))
+    ap (λ w. Some (Named w)) (c.text_since.ensures _ (whole c.before.before))
     ∙ ap (λ (x : PositionText × Text). given_position x.0) (sym (alone c.before.before))
 
 pub returns-then-not-is_word_ahead-clause-reads :

@@ -4,8 +4,8 @@ use Rattle.rustc_parse_format.specs.Midway.{Midway, Unread}
 use Rattle.rustc_parse_format.proofs.Grammar.Fronts.{front-rest_after}
 use Rattle.rustc_parse_format.proofs.reader.Reader.string.Goals as goal
 
-pub since-requires : goal.since-requires
-since-requires c =
+pub text_since-requires : goal.text_since-requires
+text_since-requires c =
     let t : Text = c.args.self.now.rest in
     let left : ◌≡◌ {A = Text} c.self-2.inside.cursor.rest (rest_after is_no_brace t) =
     ap (λ (s : Midway). s.rest) (c.self-2.view_is ∙ c.in_ok-skip_string.ensures.reads.state) in (
@@ -21,7 +21,7 @@ returns-clause-value c =
     let t : Text = c.args.self.now.rest in
     let left : ◌≡◌ {A = Text} c.self-2.inside.cursor.rest (rest_after is_no_brace t) =
     ap (λ (s : Midway). s.rest) (c.self-2.view_is ∙ c.in_ok-skip_string.ensures.reads.state) in
-    c.since.ensures (front is_no_brace t)
+    c.text_since.ensures (front is_no_brace t)
     (sym (ap (λ (u : Unread). u.rest) c.checkpoint-from.ensures.at)
     ∙ (ap (λ (s : Midway). s.rest) c.self.view_is
     ∙ (front-rest_after is_no_brace t ∙ ap (λ (u : Text). front is_no_brace t ++ u) (sym left))))

@@ -5,8 +5,8 @@ use Rattle.rustc_parse_format.specs.Midway.{Midway, Unread}
 use Rattle.rustc_parse_format.proofs.Grammar.Fronts.{first-rest_after}
 use Rattle.rustc_parse_format.proofs.reader.Reader.string_past_brace.Goals as goal
 
-pub since-requires : goal.since-requires
-since-requires c =
+pub text_since-requires : goal.text_since-requires
+text_since-requires c =
     let t : Text = c.args.self.now.rest in
     let read : Text = with_first t (front is_no_brace (after_first t)) in
     let left : ◌≡◌ {A = Text} c.self-2.inside.cursor.rest (rest_after is_no_brace (after_first t)) =
@@ -29,6 +29,6 @@ returns-clause-value c =
     ∙ ap (rest_after is_no_brace)
     (ap (λ (u : Unread). u.rest) c.skip_char.ensures.rest
     ∙ ap (λ (s : Midway). after_first s.rest) c.self.view_is)) in
-    c.since.ensures read (sym (ap (λ (u : Unread). u.rest) c.checkpoint-from.ensures.at)
+    c.text_since.ensures read (sym (ap (λ (u : Unread). u.rest) c.checkpoint-from.ensures.at)
     ∙ (ap (λ (s : Midway). s.rest) c.self.view_is
     ∙ (first-rest_after is_no_brace t ∙ ap (λ (u : Text). read ++ u) (sym left))))

@@ -24,7 +24,7 @@ use Rattle.rustc_parse_format.specs.contracts.parser.steps.Steps.start.Key.{name
 use Rattle.rustc_parse_format.specs.contracts.parser.steps.Steps.start as f
 use Rattle.rustc_parse_format.proofs.parser.steps.Steps.start.Statement as stated
 use Rattle.rustc_parse_format.proofs.parser.steps.Steps.start.Code as code
-use Rattle.rustc_parse_format.specs.contracts.parser.steps.Steps as made
+use Rattle.rustc_parse_format.specs.contracts.parser.steps.Steps as steps
 
 abbrev stayed : Stays (f.ended).signature.params (f.ended).kept
 stayed = tt
@@ -44,8 +44,8 @@ module _ {M : Type 1} {𝓤 : Ura M} (𝓛 : Logic 𝓤) (mem : Memory → SProp
       alloc_all ! (λ l. pass_all ! refl tt $ sets ! (agg ! (no_more !)) refl (tt, tt) $
       returns ! (look_at ! 0 refl) $ free_all ! refl $
       suffices ! _ (ends_at 𝓛 f.ended stayed (f.clauses 𝓛 mem run) bound (vstruct vnil)
-      (record { made = 0 }) tt tt) $
-      says ! refl $ pure_i ! (made.the_row.own_val (record { made = 0 }) (vstruct vnil ∷ []))
+      (record { number = 0 }) tt tt) $
+      says ! refl $ pure_i ! (steps.the_row.own_val (record { number = 0 }) (vstruct vnil ∷ []))
       ((λ vss. (tt, tt)), tt) ((tt, (refl, tt)), tt) $
       move ! (1 ∷ 2 ∷ 0 ∷ []) $ done !)
 

@@ -2,17 +2,17 @@ use Rattle.std.proofs.Common.{ap, ◌∙◌, chars, inl, inr}
 use Rattle.rustc_parse_format.proofs.Sources.Unescaped.{unescaped_ahead, unescaped_boundary}
 use Rattle.rustc_parse_format.proofs.Sources.Unescaped.{unescaped_here}
 use Rattle.rustc_parse_format.proofs.source.anchor.Anchor.after_unescaped.Goals as goal
-use Rattle.rustc_parse_format.proofs.source.anchor.Anchor.after_unescaped.Goals.{then-moved-eq0-via-then-moved-eq0}
-use Rattle.rustc_parse_format.proofs.source.anchor.Anchor.after_unescaped.Goals.{then-moved-eq0-via-else-moved-eq0+then-moved-self}
+use Rattle.rustc_parse_format.proofs.source.anchor.Anchor.after_unescaped.Goals.{then-distance-eq0-via-then-distance-eq0}
+use Rattle.rustc_parse_format.proofs.source.anchor.Anchor.after_unescaped.Goals.{then-distance-eq0-via-else-distance-eq0+then-distance-self}
 
-pub returns-then-moved-eq0-clause-here : goal.returns-then-moved-eq0-clause-here
-returns-then-moved-eq0-clause-here c w h =
+pub returns-then-distance-eq0-clause-here : goal.returns-then-distance-eq0-clause-here
+returns-then-distance-eq0-clause-here c w h =
     unescaped_here c.args.snippet.now w c.args.self.now c.after_bytes-rest_after.result.now h
     c.after_bytes-rest_after.ensures.after
-    (elim c.then-moved-eq0.branch [
-      | then-moved-eq0-via-then-moved-eq0 k ↦ inl k.if-moved-eq0.true
-      | then-moved-eq0-via-else-moved-eq0+then-moved-self k ↦ inr
-          (k.if-moved-eq0.false, k.if-moved-self.true)
+    (elim c.then-distance-eq0.branch [
+      | then-distance-eq0-via-then-distance-eq0 k ↦ inl k.if-distance-eq0.true
+      | then-distance-eq0-via-else-distance-eq0+then-distance-self k ↦ inr
+          (k.if-distance-eq0.false, k.if-distance-self.true)
     ])
 
 pub range_from-requires : goal.range_from-requires
@@ -26,6 +26,6 @@ returns-clause-here c w h =
     unescaped_ahead c.args.snippet.now w c.args.self.now c.after_bytes-rest_after.result.now
     c.continuations_width.result h
     c.after_bytes-rest_after.ensures.after c.after_bytes-rest_after.ensures.width
-    c.if-moved-eq0.false
+    c.if-distance-eq0.false
     (λ q us k m. c.continuations_width.ensures.width q us k (ap chars c.range_from.ensures.value
     ∙ m))

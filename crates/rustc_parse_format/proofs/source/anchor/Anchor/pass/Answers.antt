@@ -7,8 +7,8 @@ use Rattle.rustc_parse_format.proofs.Sources.Places.{place_by}
 use Rattle.rustc_parse_format.proofs.Sources.Steps.{here_start}
 use Rattle.rustc_parse_format.proofs.source.anchor.Anchor.pass.Goals as goal
 
-pub returns-then-moved-self-clause-place : goal.returns-then-moved-self-clause-place
-returns-then-moved-self-clause-place c w h =
+pub returns-then-distance-self-clause-place : goal.returns-then-distance-self-clause-place
+returns-then-distance-self-clause-place c w h =
     let rest = c.args.rest.now in
     let u = IsUtf8-from_is_utf8 rest c.requires.leads.after.valid_rest in
     let b = begun rest u c.requires.some in
@@ -18,7 +18,7 @@ returns-then-moved-self-clause-place c w h =
     c.after_first-rest_after.utf8 b.chars_are left in
     let within = c.requires.leads.after.within in
     let bytes = (len_utf8_bounds b.head).0 in
-    let more = c.if-moved-self.true in
+    let more = c.if-distance-self.true in
     let here = unescaped_inside c.args.snippet.now w c.args.self.now rest h c.requires.leads.after
     (omega arith) in
     place_by (place_at w (length (chars rest))) _ _

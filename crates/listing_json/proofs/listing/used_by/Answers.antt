@@ -1,7 +1,0 @@
-use Rattle.piece_listing.specs.Program.{pieces}
-use Rattle.listing_json.proofs.listing.used_by.Goals as goal
-
-pub returns : goal.returns
-unfolding pieces
-returns c = λ some. rw (← c.in_ok-pieces.ensures.walk.0, ← c.as_slice.ensures.value)
-    c.in_ok-uses.ensures.uses
