@@ -72,7 +72,8 @@ walk es (t ∷ ts) g w v k e =
         → window_after es (unplaced_window (next_window w t)) (map unplaced ts) ≡ Some v
         → Walked es (gap_next g w.name) (next_window w t) ts v)
         → (if b then None
-        else window_after es (next_window (unplaced_window w) (unplaced t)) (map unplaced ts)) ≡ Some v
+        else window_after es (next_window (unplaced_window w) (unplaced t)) (map unplaced ts))
+        ≡ Some v
         → Walked es g w (t ∷ ts) v
     by_test true q more f = absurd (none-some v f)
     by_test false q more f =

@@ -45,7 +45,8 @@ same-front es w t = by_window w.is_after w.name w.bang
     by_window false (Some n) (Some m) = test n m (opens_call es n m t)
 
 pub same-moved : (w : Window) (t : Leaf)
-    → ◌≡◌ {A = Window} (next_window (unplaced_window w) (unplaced t)) (unplaced_window (next_window w t))
+    → ◌≡◌ {A = Window} (next_window (unplaced_window w) (unplaced t))
+    (unplaced_window (next_window w t))
 same-moved w t = by_name w.name
   where
     by_name : (n : Option Leaf) → ◌≡◌ {A = Window} (record {
@@ -123,7 +124,8 @@ two-later es u v n m e =
     by_tests (is_some (front_of es u n)) (is_some (front_of es (next_window u n) m)) e
   where
     by_tests : (b d : Bool)
-        → (if b then None else (if d then None else Some (next_window (next_window u n) m))) ≡ Some v
+        → (if b then None else (if d then None else Some (next_window (next_window u n) m)))
+        ≡ Some v
         → after_next (after_next u.is_after u.name) u.bang ≡ v.is_after
     by_tests true d f = absurd (none-some v f)
     by_tests false true f = absurd (none-some v f)
