@@ -23,7 +23,8 @@ use Rattle.format_calls.specs.Rows.{Entry}
 use Rattle.format_calls.specs.declared.listing.Call.{Call}
 use Rattle.format_calls.proofs.ClearGaps.{clear-end, lacks-elsewhere}
 use Rattle.format_calls.specs.GapTexts.{AreGapTexts, AreGaps, GapsBefore, IsLastText}
-use Rattle.format_calls.specs.GapTexts.{leaves_of_all}
+use Rattle.format_calls.specs.GapTexts.{leaves_of_all, texts}
+use Rattle.format_calls.specs.declared.gap_texts.Gaps.{Gaps}
 
 -- The delimiters that are open do not depend on where tokens begin.
 pub scan-elsewhere : (a b : ℕ) (xs : List Lexeme) (o : Option (List Delimiter))
@@ -259,3 +260,9 @@ pub some-left : (u : Unread) → (left : List Leaf) × AreLeft u left
 some-left u =
     let x = reads-some (chars u.rest) in
     (leaves (length u.whole - length u.rest) x.0, (x.0, x.1, refl))
+
+-- The texts of gaps that are the same.
+pub same-gaps : (es : List Entry) (g h : Gaps) → h.before ≡ g.before
+    → AreGaps es (texts g) h.last.now → AreGaps es (texts h) h.last.now
+same-gaps es g h e a =
+    subst (λ v. AreGaps es (map (λ t. t.now) v.items) h.last.now) (sym e) a

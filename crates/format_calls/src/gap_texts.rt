@@ -83,6 +83,15 @@ impl<'a> Gaps<'a> {
         }
         Ok(())
     }
+
+    /// Says which text is after the last one.
+    pub fn set_last(&mut self, last: &'a str)
+        ensures before { self.new.before ≡ self.old.before }
+        ensures known { self.new.are_known ≡ self.old.are_known }
+        ensures last { self.new.last.now ≡ last.now }
+    {
+        self.last = last;
+    }
 }
 
 /// Returns whether each token has its end.
