@@ -67,6 +67,12 @@ impl<'a> Gaps<'a> {
         }
         Ok(())
     }
+
+    /// Says which text is after the last one.
+    #[inline]
+    pub fn set_last(&mut self, last: &'a str) {
+        self.last = last;
+    }
 }
 
 /// Returns whether each token has its end.
