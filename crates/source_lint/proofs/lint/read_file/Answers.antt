@@ -7,7 +7,8 @@ use Rattle.source_lint.proofs.lint.read_file.Goals as goal
 
 pub loop-readings-init : goal.loop-readings-init
 loop-readings-init c = record {
-  read = file-none _ _ _ _ _ _ c.new.ensures.items c.new-2.ensures.items (balanced-none c.args.balance.now);
+  read = file-none _ _ _ _ _ _ c.new.ensures.items c.new-2.ensures.items
+      (balanced-none c.args.balance.now);
   spans = search rules;
 }
 
