@@ -109,7 +109,7 @@ closing-no-word es x d h =
     ap (λ b. if b then rule_of es (word x) else None)
     (punct-no-word x.kind (closing-punct x d h))
 
-byte-is : (m : ℕ) (t : List ℕ) → is_byte m (slice_get t 0) ≡ true → slice_index t 0 ≡ m
+pub byte-is : (m : ℕ) (t : List ℕ) → is_byte m (slice_get t 0) ≡ true → slice_index t 0 ≡ m
 byte-is m [] h = absurd (false≢true h)
 byte-is m (c ∷ t) h = eqb-true c m h
 

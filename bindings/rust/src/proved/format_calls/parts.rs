@@ -10,7 +10,12 @@ use crate::shim::alloc::AllocError;
 
 /// Returns whether three tokens are a word of a table, `!` and an opening delimiter.
 #[inline]
-fn opens_call(rows: &[Row<'_>], name: &Token<'_>, bang: &Token<'_>, opening: &Token<'_>) -> bool {
+pub fn opens_call(
+    rows: &[Row<'_>],
+    name: &Token<'_>,
+    bang: &Token<'_>,
+    opening: &Token<'_>,
+) -> bool {
     is_mark_of(bang, b'!')
         && is_opening(opening.side())
         && is_word(name)
