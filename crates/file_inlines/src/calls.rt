@@ -13,7 +13,7 @@ ghost use Rattle.source_lint.specs.CallLists.{Gives};
 ghost use Rattle.source_lint.specs.Readings.{Reads, name_at, scope};
 ghost use Rattle.source_report.specs.declared.report.Finding.{Finding as FindingValue};
 ghost use Rattle.inlined_arguments.specs.Edits.{Edit as EditValue};
-ghost use Rattle.inlined_arguments.specs.Seen.{seen_call, seen_edit};
+ghost use Rattle.inlined_arguments.specs.Views.{seen_call, seen_edit};
 ghost use Rattle.file_inlines.specs.CallInlines.{AreEdits, Inlines, InlinesAt};
 ghost use Rattle.file_inlines.specs.CallInlines.{InlinesLiteral, InlinesOne, Makes};
 ghost use Rattle.file_inlines.specs.CallInlines.{has_const_form, is_format_alone, is_unread};

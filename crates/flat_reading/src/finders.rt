@@ -16,9 +16,9 @@ pub struct Finders {
 
 impl Model for Finders {
     ghost use Rattle.std.specs.Prelude.{◌++◌, length, reverse};
-    ghost use Rattle.flat_reading.specs.Held.{Found};
+    ghost use Rattle.flat_reading.specs.ErrorRecords.{FinderList};
 
-    ghost Value = { Found };
+    ghost Value = { FinderList };
 
     ghost view = { λ f. record {
       calls = reverse f.front_calls.items ++ f.back_calls.items;

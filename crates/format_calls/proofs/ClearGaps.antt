@@ -7,7 +7,7 @@ use Rattle.std.proofs.lemmas.Bool.{and_parts, false≢true}
 use Rattle.std.proofs.lemmas.List.{append_cancel_right, append-nil}
 use Rattle.std.proofs.lemmas.Option.{none-some, same_Some}
 use Rattle.rust_tokens.specs.Tokens.{Lexeme}
-use Rattle.rust_tokens.specs.Placed.{end_of}
+use Rattle.rust_tokens.specs.Spans.{end_of}
 use Rattle.rust_trees.specs.Forests.{IsGroup}
 use Rattle.rust_trees.specs.Leaves.{Leaf, is_leaf, leaf_at, leaves, side}
 use Rattle.rust_trees.specs.Sides.{is_opening, is_punct, side_of_mark}
@@ -90,7 +90,7 @@ walk es (t ∷ ts) g w v k e =
 -- A token that opens nothing ends no beginning of a call.
 no-opening : (es : List Entry) (w : Window) (t : Leaf) → is_opening (side t) ≡ false
     → front_of es w t ≡ None
-no-opening es w t e = by_window w.is_after w.name w.bang
+no-opening es w t e = by_window w.is_after_dollar w.name w.bang
   where
     none : (n m : Leaf) → (is_mark_of (code "!") (Some m)
         && (is_opening (side t) && is_some (rule_of_leaf es (Some n)))) ≡ false
@@ -162,10 +162,10 @@ clear-part es gap part left c b end =
     let g : List Leaf = gap_next (gap_next h u.name) u.bang in
     let same : g ≡ gap = append_cancel_right g gap (n ∷ m ∷ [])
     (sym (z.4 (n ∷ m ∷ []) ∙ (first.1 (m ∷ []) ∙ second.1 []))) in
-    let after : w.is_after ≡ false =
-    sym (ap (λ d. after_next d (option_map unplaced u.bang)) (same-after u.is_after u.name)
-    ∙ same-after (after_next u.is_after u.name) u.bang)
-    ∙ (ap (λ v. after_next (after_next v.is_after v.name) v.bang) z.3 ∙ c.fixed) in
+    let after : w.is_after_dollar ≡ false =
+    sym (ap (λ d. after_next d (option_map unplaced u.bang)) (same-after u.is_after_dollar u.name)
+    ∙ same-after (after_next u.is_after_dollar u.name) u.bang)
+    ∙ (ap (λ v. after_next (after_next v.is_after_dollar v.name) v.bang) z.3 ∙ c.fixed) in
     let front : front_of es w t ≡ Some (n ∷ m ∷ t ∷ []) =
     ap (λ d. front_of_tokens es d (Some n) (Some m) t) after
     ∙ ap (λ d. if d then Some (n ∷ m ∷ t ∷ []) else None) b.opens in

@@ -7,11 +7,11 @@ use Rattle.std.specs.List.{list_all}
 use Rattle.std.proofs.lemmas.Bool.{and_from, and_parts}
 use Rattle.std.proofs.lemmas.List.{append_assoc, append-nil, drop-map, drop_all, drop_more}
 use Rattle.rust_tokens.specs.Tokens.{Lexeme, Reads}
-use Rattle.rust_tokens.specs.Placed.{end_of}
+use Rattle.rust_tokens.specs.Spans.{end_of}
 use Rattle.rust_tokens.proofs.Readings.{reads-some}
 use Rattle.rust_trees.specs.Balances.{AreEnded}
 use Rattle.rust_trees.specs.Forests.{IsForest}
-use Rattle.rust_trees.specs.Leaves.{AreLeft, Leaf, Unread, is_leaf, leaf_at, leaves, side}
+use Rattle.rust_trees.specs.Leaves.{AreLeft, Leaf, Remainder, is_leaf, leaf_at, leaves, side}
 use Rattle.rust_trees.specs.Scans.{open_after, scan}
 use Rattle.rust_trees.specs.declared.sides.Delimiter.{Delimiter}
 use Rattle.rust_trees.proofs.Scanning.{forest-scan, over-forest, scan-append, scan-forest}
@@ -127,7 +127,7 @@ before-more es gs front gap part g ys a b k e f = record {
 }
 
 -- All texts of a file that is a forest.
-pub gaps-all : (es : List Entry) (gs : List (List ℕ)) (front left : List Leaf) (u : Unread)
+pub gaps-all : (es : List Entry) (gs : List (List ℕ)) (front left : List Leaf) (u : Remainder)
     (w : Window) → GapsBefore es gs front → AreLeft u left → LacksFronts es left w
     → IsForest (front ++ left) → AreEnded left → AreGaps es gs u.rest
 gaps-all es gs front left u w b l k f e =
@@ -208,15 +208,15 @@ next-gap es g gs hs last front e l =
     }
 
 -- The end of a file, where no call is left.
-abbrev pub NoPart : List Entry → Unread → Type 0
+abbrev pub NoPart : List Entry → Remainder → Type 0
 NoPart es u = (left : List Leaf) × AreLeft u left × ((c : Call) → IsCall es left c → ⊥)
 
 -- The last text ends a forest.
-abbrev pub Ends : List Entry → Unread → List Leaf → Type 0
+abbrev pub Ends : List Entry → Remainder → List Leaf → Type 0
 Ends es u front = (n : NoPart es u) × (IsForest (front ++ n.0) × AreEnded (front ++ n.0))
 
 pub last-gap : (es : List Entry) (hs : List (List ℕ)) (last : List ℕ) (front : List Leaf)
-    (u : Unread) → hs ≡ [] → u.rest ≡ last → GapsLeft es hs last front → Ends es u front
+    (u : Remainder) → hs ≡ [] → u.rest ≡ last → GapsLeft es hs last front → Ends es u front
 last-gap es hs last front u e f l =
     let at : ℕ = length u.whole - length u.rest in
     let xs : List Lexeme = l.rest in
@@ -256,7 +256,7 @@ text-end xs ys i e l =
     ∙ ap (λ v. map (λ t. t.now) v) (ap (λ v. drop i v) (sym e) ∙ drop_all i ys l)
 
 -- Some tokens are left.
-pub some-left : (u : Unread) → (left : List Leaf) × AreLeft u left
+pub some-left : (u : Remainder) → (left : List Leaf) × AreLeft u left
 some-left u =
     let x = reads-some (chars u.rest) in
     (leaves (length u.whole - length u.rest) x.0, (x.0, x.1, refl))

@@ -16,7 +16,7 @@ use Rattle.rust_tokens.specs.declared.kinds.Kind.TheVariants.{Shebang, ByteOrder
 use Rattle.rust_tokens.specs.Texts.{Text}
 use Rattle.rust_tokens.specs.Runs.{first_passes, is_id_start}
 use Rattle.rust_tokens.specs.Tokens.{Lexeme, ReadsTo, Stands}
-use Rattle.rust_tokens.specs.Placed.{byte_length, end_of, end_of_all}
+use Rattle.rust_tokens.specs.Spans.{byte_length, end_of, end_of_all}
 use Rattle.rust_tokens.specs.Fronts.{EndsWithBarrier, ReadsBeforeWords}
 use Rattle.rust_tokens.proofs.Classes.{starts-r}
 use Rattle.rust_tokens.proofs.Readings.{byte-length}

@@ -16,7 +16,7 @@ use Rattle.format_calls.proofs.Parting.{window}
 -- A window whose tokens have no places.
 abbrev pub unplaced_window : Window → Window
 unplaced_window w = record {
-  is_after = w.is_after;
+  is_after_dollar = w.is_after_dollar;
   name = option_map unplaced w.name;
   bang = option_map unplaced w.bang;
 }
@@ -24,7 +24,7 @@ unplaced_window w = record {
 -- Whether a call begins does not depend on places.
 pub same-front : (es : List Entry) (w : Window) (t : Leaf)
     → is_some (front_of es (unplaced_window w) (unplaced t)) ≡ is_some (front_of es w t)
-same-front es w t = by_window w.is_after w.name w.bang
+same-front es w t = by_window w.is_after_dollar w.name w.bang
   where
     test : (n m : Leaf) (q : Bool)
         → is_some (if q then Some (unplaced n ∷ unplaced m ∷ unplaced t ∷ []) else None)
@@ -50,11 +50,11 @@ pub same-moved : (w : Window) (t : Leaf)
 same-moved w t = by_name w.name
   where
     by_name : (n : Option Leaf) → ◌≡◌ {A = Window} (record {
-      is_after = after_next w.is_after (option_map unplaced n);
+      is_after_dollar = after_next w.is_after_dollar (option_map unplaced n);
       name = option_map unplaced w.bang;
       bang = Some (unplaced t);
     }) (record {
-      is_after = after_next w.is_after n;
+      is_after_dollar = after_next w.is_after_dollar n;
       name = option_map unplaced w.bang;
       bang = Some (unplaced t);
     })
@@ -119,27 +119,27 @@ lacks-more es xs ys w t e f h =
 -- The window two tokens later shows whether `$` stands before them.
 two-later : (es : List Entry) (u v : Window) (n m : Leaf)
     → window_after es u (n ∷ m ∷ []) ≡ Some v
-    → after_next (after_next u.is_after u.name) u.bang ≡ v.is_after
+    → after_next (after_next u.is_after_dollar u.name) u.bang ≡ v.is_after_dollar
 two-later es u v n m e =
     by_tests (is_some (front_of es u n)) (is_some (front_of es (next_window u n) m)) e
   where
     by_tests : (b d : Bool)
         → (if b then None else (if d then None else Some (next_window (next_window u n) m)))
         ≡ Some v
-        → after_next (after_next u.is_after u.name) u.bang ≡ v.is_after
+        → after_next (after_next u.is_after_dollar u.name) u.bang ≡ v.is_after_dollar
     by_tests true d f = absurd (none-some v f)
     by_tests false true f = absurd (none-some v f)
-    by_tests false false f = ap (λ w. w.is_after) (same_Some (next_window (next_window u n) m) v f)
+    by_tests false false f = ap (λ w. w.is_after_dollar) (same_Some (next_window (next_window u n) m) v f)
 
 -- A gap in front of the tokens that begin a call.
 pub clear-front : (es : List Entry) (gap f : List Leaf) (w : Window) (t : Leaf)
     → front_of es w t ≡ Some f
     → LacksFronts es (gap ++ window w.name w.bang) (unplaced_window w) → IsClear es gap
-clear-front es gap f w t s h = by_window w.is_after w.name w.bang s h
+clear-front es gap f w t s h = by_window w.is_after_dollar w.name w.bang s h
   where
     by_window : (b : Bool) (n m : Option Leaf) → front_of_tokens es b n m t ≡ Some f
         → LacksFronts es (gap ++ window n m)
-        (unplaced_window (record { is_after = b; name = n; bang = m })) → IsClear es gap
+        (unplaced_window (record { is_after_dollar = b; name = n; bang = m })) → IsClear es gap
     by_window true None None s h = absurd (none-some f s)
     by_window true None (Some m) s h = absurd (none-some f s)
     by_window true (Some n) None s h = absurd (none-some f s)
@@ -149,7 +149,7 @@ clear-front es gap f w t s h = by_window w.is_after w.name w.bang s h
     by_window false (Some n) None s h = absurd (none-some f s)
     by_window false (Some n) (Some m) s h =
         let v : Window = record {
-          is_after = false;
+          is_after_dollar = false;
           name = Some (unplaced n);
           bang = Some (unplaced m);
         } in
@@ -164,7 +164,7 @@ clear-front es gap f w t s h = by_window w.is_after w.name w.bang s h
 -- The part begins with them.
 pub begins-front : (es : List Entry) (f part more : List Leaf) (w : Window) (t : Leaf)
     → front_of es w t ≡ Some f → part ≡ f ++ more → BeginsCall es part
-begins-front es f part more w t s e = by_window w.is_after w.name w.bang s
+begins-front es f part more w t s e = by_window w.is_after_dollar w.name w.bang s
   where
     by_window : (b : Bool) (n m : Option Leaf) → front_of_tokens es b n m t ≡ Some f
         → BeginsCall es part

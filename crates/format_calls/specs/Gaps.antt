@@ -20,7 +20,7 @@ unplaced x = record {
 
 -- The window in front of the first token.
 abbrev pub first_window : Window
-first_window = record { is_after = false; name = None; bang = None }
+first_window = record { is_after_dollar = false; name = None; bang = None }
 
 -- The window after these tokens, read from a window on. None if three of them, one after the other,
 -- begin a call.
@@ -37,7 +37,7 @@ LacksFronts es xs w = window_after es first_window (map unplaced xs) ≡ Some w
 pub record IsClear (es : List Entry) (xs : List Leaf) : Type 0 where
   pub window : Window
   pub lacks : LacksFronts es xs window
-  pub fixed : IsFalse (after_next (after_next window.is_after window.name) window.bang)
+  pub fixed : IsFalse (after_next (after_next window.is_after_dollar window.name) window.bang)
 
 -- The tokens begin with those that begin a call: a word of the table, `!` and an opening delimiter.
 pub record BeginsCall (es : List Entry) (xs : List Leaf) : Type 0 where

@@ -32,7 +32,7 @@ pub fn opens_call(rows: &[Row<'_>], name: &Token<'_>, bang: &Token<'_>, opening:
 #[derive(Clone, Copy)]
 pub struct Window<'a> {
     /// Whether `$` stands before the first one.
-    pub is_after: bool,
+    pub is_after_dollar: bool,
     /// The first one.
     pub name: Option<Token<'a>>,
     /// The second one.
@@ -53,7 +53,7 @@ fn front_of<'a>(rows: &[Row<'_>], last: Window<'a>, opening: Token<'a>) -> Optio
     ensures { option_map seen_front result
         ≡ front_of (map entry rows.now) (seen_window last.entry) (leaf opening.entry) }
 {
-    if last.is_after {
+    if last.is_after_dollar {
         return None;
     }
     let Some(name) = last.name else {
@@ -77,12 +77,12 @@ fn front_of<'a>(rows: &[Row<'_>], last: Window<'a>, opening: Token<'a>) -> Optio
 fn next_window<'a>(last: Window<'a>, token: Token<'a>) -> Window<'a>
     ensures { seen_window result ≡ next_window (seen_window last.entry) (leaf token.entry) }
 {
-    let is_after = match last.name {
+    let is_after_dollar = match last.name {
         Some(name) => is_mark_of(&name, b'$'),
-        None => last.is_after,
+        None => last.is_after_dollar,
     };
     Window {
-        is_after,
+        is_after_dollar,
         name: last.bang,
         bang: Some(token),
     }
@@ -127,7 +127,7 @@ pub fn next_part<'a>(
         × (w : LeafWindow) × LacksFronts (map entry table.now.rows.items) left w) }
 {
     let mut last = Window {
-        is_after: false,
+        is_after_dollar: false,
         name: None,
         bang: None,
     };

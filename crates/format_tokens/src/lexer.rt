@@ -4,16 +4,16 @@ ghost use Rattle.std.specs.Prelude.{◌≡◌, ◌+◌, ◌<◌, ◌^◌, None, 
 ghost use Rattle.std.specs.Prelude.{List, length, map};
 ghost use Rattle.rustc_parse_format.specs.Characters.{Text, byte_length};
 ghost use Rattle.rustc_parse_format.specs.Literal.{IsSource};
-ghost use Rattle.rustc_parse_format.specs.Seen.{seen_mode, seen_snippet};
+ghost use Rattle.rustc_parse_format.specs.Views.{seen_mode, seen_snippet};
 ghost use Rattle.rustc_parse_format.specs.Source.{HasSource, unappended_input};
 ghost use Rattle.rustc_parse_format.specs.Types.{Mode, wants_names};
 ghost use Rattle.rustc_parse_format.specs.World.{hashes, world};
 ghost use Rattle.format_tokens.specs.Covers.{AreParts, IsCover, encoded_tokens, in_quotes};
 ghost use Rattle.format_tokens.specs.Covers.{ranges_of, read_back, slices};
-ghost use Rattle.format_tokens.specs.Midway.{sized_token};
-ghost use Rattle.format_tokens.specs.Placed.{cut_in, input_tokens, tokens, whole_tokens};
+ghost use Rattle.format_tokens.specs.Labels.{sized_token};
+ghost use Rattle.format_tokens.specs.Spans.{cut_in, input_tokens, tokens, whole_tokens};
 ghost use Rattle.format_tokens.specs.Escapes.{Placed};
-ghost use Rattle.format_tokens.specs.Seen.{seen_text, seen_token};
+ghost use Rattle.format_tokens.specs.Views.{seen_text, seen_token};
 ghost use Rattle.format_tokens.specs.Starts.{starts_of};
 ghost use Rattle.format_tokens.specs.Walk.{read_tokens};
 

@@ -8,7 +8,7 @@ use Rattle.std.proofs.lemmas.Str.{chars-append}
 use Rattle.rust_tokens.specs.Texts.{Text}
 use Rattle.rust_tokens.specs.Runs.{first_passes, is_id_start}
 use Rattle.rust_tokens.specs.Tokens.{Lexeme, ReadsTo}
-use Rattle.rust_tokens.specs.Placed.{byte_length, end_of, end_of_all}
+use Rattle.rust_tokens.specs.Spans.{byte_length, end_of, end_of_all}
 use Rattle.rust_tokens.specs.Fronts.{ReadsBeforeWords}
 use Rattle.rust_tokens.proofs.Readings.{bytes-join}
 use Rattle.rust_tokens.proofs.ReadFronts.{joined, reads-join}

@@ -90,9 +90,9 @@ pub struct Tokens<'a> {
 
 impl<'a> Model for Tokens<'a> {
     ghost use Rattle.std.specs.Prelude.{◌≤◌, length};
-    ghost use Rattle.rust_trees.specs.Leaves.{Unread};
+    ghost use Rattle.rust_trees.specs.Leaves.{Remainder};
 
-    ghost Value = { Unread };
+    ghost Value = { Remainder };
 
     ghost view = { λ t. record { whole = t.text.now; rest = t.rest.now } };
 

@@ -9,7 +9,7 @@ ghost use Rattle.rust_trees.specs.Leaves.{leaf};
 ghost use Rattle.format_calls.specs.Arguments.{AreArguments, tokens_of};
 ghost use Rattle.format_calls.specs.Strings.{is_string_by};
 ghost use Rattle.format_calls.specs.declared.split.Argument.{Argument as ArgumentValue};
-ghost use Rattle.call_faults.specs.Seen.{seen_given, start};
+ghost use Rattle.call_faults.specs.Views.{seen_given, start};
 ghost use Rattle.source_lint.specs.Findings.{AreFindings};
 ghost use Rattle.asm_lint.specs.Spans.{HasSpans};
 ghost use Rattle.source_lint.specs.Givens.{given_argument};

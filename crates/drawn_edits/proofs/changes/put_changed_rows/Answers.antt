@@ -1,6 +1,6 @@
 use Rattle.std.proofs.Common.{◌+◌, ◌++◌, ◌∙◌, ap, arith, drop, map, string_bytes, sym}
 use Rattle.std.specs.List.{list_any, slice_range}
-use Rattle.drawn_edits.specs.Edited.{is_added, seen_line, seen_part}
+use Rattle.drawn_edits.specs.EditedLines.{is_added, seen_line, seen_part}
 use Rattle.drawn_edits.specs.Helps.{changed_row, changed_rows, lone_addition, lone_sign}
 use Rattle.drawn_lines.specs.Frames.{seen_frame}
 use Rattle.drawn_edits.proofs.ChangedLines.{changed-kept, changed-new}

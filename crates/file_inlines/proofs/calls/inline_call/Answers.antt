@@ -1,6 +1,6 @@
 use Rattle.std.proofs.Common.{◌∙◌, ◌+◌, ap, map, refl, subst, sym}
 use Rattle.std.specs.Prelude.{slice_get}
-use Rattle.inlined_arguments.specs.Seen.{seen_edit}
+use Rattle.inlined_arguments.specs.Views.{seen_edit}
 use Rattle.source_lint.specs.Readings.{scope, skipped_reading}
 use Rattle.source_lint.proofs.Calling.{arguments-here}
 use Rattle.file_inlines.specs.CallInlines.{Inlines, InlinesUnless}

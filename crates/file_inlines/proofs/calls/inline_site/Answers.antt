@@ -4,7 +4,7 @@ use Rattle.std.proofs.lemmas.Str.{encodes-chars}
 use Rattle.rust_trees.specs.Leaves.{leaf}
 use Rattle.asm_lint.specs.Literals.{without_crs}
 use Rattle.inlined_arguments.specs.Conditions.{Call as FormatCall}
-use Rattle.inlined_arguments.specs.Seen.{seen_argument, seen_edit}
+use Rattle.inlined_arguments.specs.Views.{seen_argument, seen_edit}
 use Rattle.file_inlines.specs.CallInlines.{AreEdits, Makes}
 use Rattle.file_inlines.proofs.Calling.{call-same}
 use Rattle.file_inlines.proofs.calls.inline_site.Goals as goal

@@ -3,13 +3,13 @@ use Rattle.rustc_parse_format.specs.Characters.{byte_length}
 use Rattle.rustc_parse_format.specs.Source.{unappended_input}
 use Rattle.rustc_parse_format.specs.World.{plain_world}
 use Rattle.rustc_parse_format.proofs.Sources.PlainPlaces.{length-plain_places}
-use Rattle.rustc_parse_format.specs.Seen.{seen_mode}
+use Rattle.rustc_parse_format.specs.Views.{seen_mode}
 use Rattle.format_tokens.specs.Culprits.{marked_tokens}
 use Rattle.format_tokens.specs.Escapes.{cut}
-use Rattle.format_tokens.specs.Placed.{cut_in, tokens, whole_tokens}
+use Rattle.format_tokens.specs.Spans.{cut_in, tokens, whole_tokens}
 use Rattle.format_tokens.proofs.Covering.{whole-cover}
 use Rattle.format_tokens.proofs.CutCovering.{source-cut}
-use Rattle.format_tokens.specs.Seen.{seen_text, seen_token}
+use Rattle.format_tokens.specs.Views.{seen_text, seen_token}
 use Rattle.format_tokens.specs.Starts.{pairs, placed_sizes, starts_of}
 use Rattle.format_tokens.proofs.Lexing.{kept-is, kept-small}
 use Rattle.format_tokens.proofs.Lexing.{plain-tokens}

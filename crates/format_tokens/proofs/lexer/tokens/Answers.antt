@@ -1,7 +1,7 @@
 use Rattle.std.proofs.Common.{◌≡◌, ◌∙◌, ap, chars, refl, Some}
-use Rattle.rustc_parse_format.specs.Seen.{seen_mode, seen_snippet}
-use Rattle.format_tokens.specs.Placed.{tokens}
-use Rattle.format_tokens.specs.Seen.{seen_text}
+use Rattle.rustc_parse_format.specs.Views.{seen_mode, seen_snippet}
+use Rattle.format_tokens.specs.Spans.{tokens}
+use Rattle.format_tokens.specs.Views.{seen_text}
 use Rattle.format_tokens.proofs.InText.{text-of}
 use Rattle.format_tokens.proofs.ReadingBack.{cover-of, reads_back-of}
 use Rattle.format_tokens.proofs.lexer.tokens.Goals as goal

@@ -1,5 +1,5 @@
 use Rattle.std.proofs.Common.{sym, ap, ◌∙◌, codes, refl}
-use Rattle.rustc_parse_format.specs.Seen.{seen_count}
+use Rattle.rustc_parse_format.specs.Views.{seen_count}
 use Rattle.rustc_parse_format.specs.Types.{bare_count}
 use Rattle.format_tokens.proofs.Counts.{count-is, count-name, count-param}
 use Rattle.format_tokens.proofs.parts.count.Goals as goal

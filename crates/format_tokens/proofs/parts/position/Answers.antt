@@ -1,6 +1,6 @@
 use Rattle.std.proofs.Common.{◌≡◌, chars, sym, ap, ◌∙◌}
-use Rattle.rustc_parse_format.specs.Seen.{seen_position}
-use Rattle.format_tokens.specs.Midway.{names_raw}
+use Rattle.rustc_parse_format.specs.Views.{seen_position}
+use Rattle.format_tokens.specs.Labels.{names_raw}
 use Rattle.format_tokens.proofs.Positions.{position-is, position-named, prefix_width}
 use Rattle.format_tokens.proofs.parts.position.Goals as goal
 use Rattle.format_tokens.proofs.parts.position.Goals.{then-is_raw, else-is_raw}

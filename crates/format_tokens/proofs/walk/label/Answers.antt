@@ -2,7 +2,7 @@ use Rattle.std.proofs.Common.{◌-◌, ap, ◌∙◌, refl, sym, chars, Some}
 use Rattle.std.specs.Prelude.{option_map}
 use Rattle.rustc_parse_format.specs.Characters.{byte_length}
 use Rattle.rustc_parse_format.specs.Placeholder.{cut}
-use Rattle.rustc_parse_format.specs.Seen.{seen_argument, seen_mode, seen_taken}
+use Rattle.rustc_parse_format.specs.Views.{seen_argument, seen_mode, seen_taken}
 use Rattle.rustc_parse_format.specs.Types.{bare_argument}
 use Rattle.rustc_parse_format.proofs.Grammar.BareValues.{argument-bare}
 use Rattle.rustc_parse_format.proofs.Walking.ReadPieces.{none_given}

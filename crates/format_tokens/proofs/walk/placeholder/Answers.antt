@@ -3,7 +3,7 @@ use Rattle.std.specs.Char.{is_whitespace}
 use Rattle.std.specs.Int.{from_bool}
 use Rattle.rustc_parse_format.specs.Characters.{Text, after_white, byte_length, front}
 use Rattle.rustc_parse_format.specs.Placeholder.{cut}
-use Rattle.rustc_parse_format.specs.Seen.{seen_mode}
+use Rattle.rustc_parse_format.specs.Views.{seen_mode}
 use Rattle.rustc_parse_format.specs.Spelling.{run}
 use Rattle.rustc_parse_format.specs.Syntax.{position_part, spec_part}
 use Rattle.rustc_parse_format.specs.Types.{Argument}

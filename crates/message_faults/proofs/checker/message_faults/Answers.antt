@@ -1,6 +1,6 @@
 use Rattle.std.proofs.Common.{◌∙◌}
 use Rattle.text_faults.specs.Texts.{text_fault}
-use Rattle.message_faults.specs.Seen.{start}
+use Rattle.message_faults.specs.Views.{start}
 use Rattle.message_faults.proofs.Knowing.{same_faults}
 use Rattle.message_faults.proofs.checker.message_faults.Goals as goal
 

@@ -2,7 +2,7 @@ use Rattle.std.proofs.Common.{◌∙◌, ap, chars, false, subst}
 use Rattle.std.specs.Prelude.{IsOk}
 use Rattle.std.proofs.lemmas.Bool.{false≢true}
 use Rattle.rustc_parse_format.proofs.Walking.ReadPieces.{no_source}
-use Rattle.rustc_parse_format.specs.Seen.{seen_mode, seen_snippet}
+use Rattle.rustc_parse_format.specs.Views.{seen_mode, seen_snippet}
 use Rattle.rustc_parse_format.specs.State.{State, after_all, calls}
 use Rattle.rustc_parse_format.specs.World.{quote_offset, world}
 use Rattle.piece_listing.proofs.Empty.{chars-empty, no_faults}

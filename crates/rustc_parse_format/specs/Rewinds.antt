@@ -3,9 +3,9 @@
 use Rattle.std.specs.Prelude.{ℕ, ◌+◌, ◌-◌, ◌≤◌, ◌||◌, Bool, length}
 use Rattle.rustc_parse_format.specs.Characters.{Text, is_id_start, is_id_continue, rest_after}
 
-pub record Back : Type 0 where
+pub record Rewinds : Type 0 where
   -- The number of characters that the cursor went back over.
-  pub again : ℕ
+  pub reread_count : ℕ
   -- The number of characters that were left when it last went back. Before that, the number that
   -- the input has.
   pub left : ℕ
@@ -19,20 +19,20 @@ abbrev pub after_part : Text → ℕ
 after_part t = length (rest_after is_word_part t)
 
 -- The cursor, with t left, is at least as far as any point where it went back.
-abbrev pub IsFurthest : Text → Back → Type 0
+abbrev pub IsFurthest : Text → Rewinds → Type 0
 IsFurthest t b = length t ≤ b.left
 
 -- The characters that were given back are at most those before the point where it last went back.
 -- Between the current position and that point are only characters of a word.
-pub record IsPaid (input rest : Text) (b : Back) : Type 0 where
-  pub again : b.again + b.left ≤ length input
+pub record IsPaid (input rest : Text) (b : Rewinds) : Type 0 where
+  pub reread_count : b.reread_count + b.left ≤ length input
   pub word : after_part rest ≤ b.left
 
 -- Nothing was given back of this input.
-abbrev pub nothing_back : Text → Back
-nothing_back t = record { again = 0; left = length t }
+abbrev pub nothing_back : Text → Rewinds
+nothing_back t = record { reread_count = 0; left = length t }
 
 -- The characters that are given back after also going back from u to t, which are both suffixes of
 -- the input.
-abbrev pub given_back : Text → Text → Back → Back
-given_back u t b = record { again = b.again + (length t - length u); left = length u }
+abbrev pub given_back : Text → Text → Rewinds → Rewinds
+given_back u t b = record { reread_count = b.reread_count + (length t - length u); left = length u }

@@ -1,6 +1,6 @@
 use Rattle.std.proofs.Common.{◌≡◌, ◌++◌, string_bytes}
 use Rattle.source_lint.specs.FormWords.{more_placeholders}
-use Rattle.source_lint.proofs.form_words.put_more.Given as goal
+use Rattle.source_lint.proofs.form_words.put_placeholders.Given as goal
 
 -- The text so far, and then the rest of it, is all.
 abbrev pub invariant-loop-countdown : goal.invariant-loop-countdown

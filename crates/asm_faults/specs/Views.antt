@@ -6,8 +6,8 @@ use Rattle.std.specs.Ordering.{nat_cmp}
 use Rattle.std.specs.Str.{encode_utf8_all}
 use denote.Ref.{Bor}
 use Rattle.rustc_parse_format.specs.Characters.{Text}
-use Rattle.rustc_parse_format.specs.SeenFaults.{seen_fault as seen_text_fault}
-use Rattle.placeholder_check.specs.Seen.{text}
+use Rattle.rustc_parse_format.specs.FaultViews.{seen_fault as seen_text_fault}
+use Rattle.placeholder_check.specs.Views.{text}
 use Rattle.asm_faults.specs.declared.faults.AsmFault.{AsmFault as DeclaredFault}
 use Rattle.asm_faults.specs.declared.faults.AsmFault.TheVariants.{PositionalAfter as LateIn}
 use Rattle.asm_faults.specs.declared.faults.AsmFault.TheVariants.{RepeatedName as RepeatedIn}

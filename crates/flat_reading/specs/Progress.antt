@@ -10,7 +10,7 @@ use Rattle.rustc_parse_format.specs.Characters.{byte_length}
 use Rattle.rustc_parse_format.specs.Types.{Position, Implicit, Index, Named, Count, Is, Name, Param}
 use Rattle.rustc_parse_format.specs.Types.{Star, Implied, Spec, Argument, Piece, Lit, NextArgument}
 use Rattle.rustc_parse_format.specs.Types.{Mode}
-use Rattle.rustc_parse_format.specs.Seen.{seen_mode}
+use Rattle.rustc_parse_format.specs.Views.{seen_mode}
 use Rattle.rustc_parse_format.specs.Call.{call}
 use Rattle.rustc_parse_format.specs.World.{World, Place, piece_in, plain_world}
 use Rattle.rustc_parse_format.specs.State.{State, state_after, after_all, next_call}
@@ -24,23 +24,23 @@ use Rattle.flat_reading.specs.Events.{Event, add_finders, end_of, event, events,
 use Rattle.flat_reading.specs.Events.{finders_of, fronts_in, fronts_of, given_piece, spec_count}
 use Rattle.flat_reading.specs.Events.{specs_in}
 use Rattle.flat_reading.specs.Events.{states, step_meant}
-use Rattle.flat_reading.specs.Held.{Found}
-use Rattle.flat_reading.specs.Meant.{text_at, type_meant}
+use Rattle.flat_reading.specs.ErrorRecords.{FinderList}
+use Rattle.flat_reading.specs.Meaning.{text_at, type_meant}
 
--- The input has these bytes from the offset `from` on.
+-- The input has these bytes from the offset `start` on.
 abbrev pub HasBytes : List ℕ → ℕ → List ℕ → Type 0
 HasBytes input start bytes = (start + length bytes ≤ length input)
     × (slice_range input start (start + length bytes) ≡ bytes)
 
--- The input has the bytes of this text from the offset `from` on.
+-- The input has the bytes of this text from the offset `start` on.
 abbrev pub Stands : List ℕ → ℕ → Text → Type 0
 Stands input start t = HasBytes input start (encode_utf8_all t)
 
--- The input has the bytes of this text from the offset `from` on, unless the text is empty.
+-- The input has the bytes of this text from the offset `start` on, unless the text is empty.
 abbrev pub StandsAt : List ℕ → ℕ → Text → Type 0
 StandsAt input start t = t ≢ [] → Stands input start t
 
--- The text is in the input at the offset `from`, or these bytes and then the text are.
+-- The text is in the input at the offset `start`, or these bytes and then the text are.
 abbrev pub StandsAfter : List ℕ → List ℕ → ℕ → Text → Type 0
 StandsAfter input prefix start t = StandsAt input start t
     ⊎ HasBytes input start (prefix ++ encode_utf8_all t)
@@ -73,7 +73,7 @@ pub record SpecStands (input : List ℕ) (offset : ℕ) (s : Spec Place) : Type 
   pub precision : CountStands input offset s.precision
   pub ty : TypeStands input offset s.ty_span s.ty
 
--- The name of a position, if it has one, is in the input at the offset `from`, or after an `r#`
+-- The name of a position, if it has one, is in the input at the offset `start`, or after an `r#`
 -- there.
 abbrev pub PositionStands : List ℕ → ℕ → Position → Type 0
 PositionStands input start (Implicit n) = Unit {0}
@@ -198,7 +198,7 @@ AllFew k (r ∷ rs) = (r.spec ≤ k) × AllFew k rs
 -- So far so many steps and specifications are noted of the calls from the state s0 on, which came
 -- to s; the calls at the states `todo` are left.
 pub record IsUpTo (wants_peeks : Bool) (input : List ℕ) (s0 : State) (todo : List State) (s : State)
-    (count used : ℕ) (found : Found) (steps : List Step)
+    (count used : ℕ) (found : FinderList) (steps : List Step)
     (specs : List SpecRecord) : Type 0 where
   pub counted : count + length todo ≡ length (states s0)
   pub specs_counted : used + sum_by (λ (t : State). specs_in (given_piece t)) todo ≡ spec_count s0

@@ -4,7 +4,7 @@ use Rattle.std.specs.Prelude.{ℕ, List, Option, option_map, chars}
 use Rattle.rustc_parse_format.specs.Characters.{Text}
 use Rattle.format_tokens.specs.declared.kinds.Token.{Token}
 use Rattle.format_tokens.specs.Escapes.{Placed}
-use Rattle.rustc_parse_format.specs.Seen.{pair}
+use Rattle.rustc_parse_format.specs.Views.{pair}
 
 -- A token as a contract sees it.
 abbrev pub seen_token : Token → Placed

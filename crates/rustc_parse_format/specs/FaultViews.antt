@@ -24,7 +24,7 @@ use Rattle.rustc_parse_format.specs.Faults.{Fault, UnmatchedBrace, MissingBrace,
 use Rattle.rustc_parse_format.specs.Faults.{Underscore}
 use Rattle.rustc_parse_format.specs.Faults.{TooLarge, Unnamed, TextAfterColon, RawIdentifier}
 use Rattle.rustc_parse_format.specs.Faults.{LateFlag}
-use Rattle.rustc_parse_format.specs.Seen.{pair}
+use Rattle.rustc_parse_format.specs.Views.{pair}
 use Rattle.rustc_parse_format.specs.World.{Place}
 
 -- A fault as a contract sees it.

@@ -7,7 +7,7 @@ use Rattle.std.specs.Str.{is_utf8}
 use Rattle.rustc_parse_format.specs.Characters.{Text, after_first}
 use Rattle.rustc_parse_format.specs.Types.{Mode, Format, InlineAsm, Diagnostic, DiagnosticNamed}
 use Rattle.rustc_parse_format.specs.State.{State, first_state}
-use Rattle.rustc_parse_format.specs.Seen.{seen_mode}
+use Rattle.rustc_parse_format.specs.Views.{seen_mode}
 use Rattle.flat_reading.specs.declared.task.Task.{Task}
 use Rattle.flat_reading.specs.declared.records.Options.{Options}
 use Rattle.flat_reading.specs.declared.records.Answer.{Answer}
@@ -15,10 +15,10 @@ use Rattle.flat_reading.specs.declared.records.Step.{Step}
 use Rattle.flat_reading.specs.declared.records.Spec.{Spec as SpecRecord}
 use Rattle.flat_reading.specs.declared.records.Fault.{Fault}
 use Rattle.flat_reading.specs.declared.records.Extent.{Extent}
-use Rattle.flat_reading.specs.Meant.{is_set, maybe_place, place}
+use Rattle.flat_reading.specs.Meaning.{is_set, maybe_place, place}
 use Rattle.flat_reading.specs.Events.{end_of, events, finders_of, fronts_of, looked_for_place}
 use Rattle.flat_reading.specs.Events.{place_of_first, spec_count, states, step_meant}
-use Rattle.flat_reading.specs.Held.{HoldsErrors, texts_len}
+use Rattle.flat_reading.specs.ErrorRecords.{HoldsErrors, texts_len}
 
 -- The mode that a number stands for. None if it stands for no mode.
 abbrev pub mode_meant : ℕ → Option Mode

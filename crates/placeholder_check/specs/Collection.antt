@@ -13,7 +13,7 @@ use Rattle.placeholder_check.specs.declared.names.Names.{Names}
 use Rattle.placeholder_check.specs.declared.uses.Uses.{Uses}
 use Rattle.placeholder_check.specs.Entries.{AreFirsts}
 use Rattle.placeholder_check.specs.Uses.{Use, ByIndex, ByName, used_names}
-use Rattle.placeholder_check.specs.Seen.{texts}
+use Rattle.placeholder_check.specs.Views.{texts}
 
 -- The use is of this number.
 abbrev pub is_index : ℕ → Use → Bool

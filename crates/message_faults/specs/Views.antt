@@ -5,11 +5,11 @@ use Rattle.std.specs.List.{list_any}
 use Rattle.std.specs.Str.{bytes_eq}
 use denote.Ref.{Bor}
 use Rattle.rustc_parse_format.specs.Characters.{Text}
-use Rattle.rustc_parse_format.specs.SeenFaults.{seen_fault as seen_text_fault}
+use Rattle.rustc_parse_format.specs.FaultViews.{seen_fault as seen_text_fault}
 use Rattle.rustc_parse_format.specs.State.{State, first_state}
 use Rattle.rustc_parse_format.specs.Types.{Diagnostic}
-use Rattle.placeholder_check.specs.Noted.{has_text}
-use Rattle.placeholder_check.specs.Seen.{text}
+use Rattle.placeholder_check.specs.Collection.{has_text}
+use Rattle.placeholder_check.specs.Views.{text}
 use Rattle.message_faults.specs.declared.checker.Message.{Message}
 use Rattle.message_faults.specs.declared.faults.MessageFault.{MessageFault as DeclaredFault}
 use Rattle.message_faults.specs.declared.faults.MessageFault.TheVariants.{Text as TextIn}

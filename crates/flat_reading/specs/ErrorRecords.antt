@@ -8,7 +8,7 @@ use Rattle.rustc_parse_format.specs.World.{Place}
 use Rattle.flat_reading.specs.declared.records.Extent.{Extent}
 use Rattle.flat_reading.specs.declared.records.MaybeExtent.{MaybeExtent}
 use Rattle.flat_reading.specs.declared.records.Fault.{Fault}
-use Rattle.flat_reading.specs.Meant.{place}
+use Rattle.flat_reading.specs.Meaning.{place}
 
 -- The text is in the buffer, from the byte `start` to the byte `end`.
 pub record Holds (texts : List ℕ) (start end : ℕ) (text : List ℕ) : Type 0 where
@@ -56,7 +56,7 @@ HoldsErrors texts (f ∷ fs) (m ∷ ms) = HoldsError texts f m × HoldsErrors te
 
 -- The calls that found the errors, and the number of errors that were added at the start of the
 -- list.
-pub record Found : Type 0 where
+pub record FinderList : Type 0 where
   pub calls : List ℕ
   pub front_count : ℕ
 

@@ -6,8 +6,8 @@ use Rattle.std.specs.Ordering.{nat_cmp}
 use Rattle.std.specs.Str.{encode_utf8_all}
 use denote.Ref.{Bor}
 use Rattle.rustc_parse_format.specs.Characters.{Text}
-use Rattle.rustc_parse_format.specs.Seen.{pair}
-use Rattle.placeholder_check.specs.Seen.{text}
+use Rattle.rustc_parse_format.specs.Views.{pair}
+use Rattle.placeholder_check.specs.Views.{text}
 use Rattle.inlined_arguments.specs.declared.call.Argument.{Argument as DeclaredArgument}
 use Rattle.inlined_arguments.specs.declared.call.Call.{Call as DeclaredCall}
 use Rattle.inlined_arguments.specs.declared.call.Edit.{Edit as DeclaredEdit}

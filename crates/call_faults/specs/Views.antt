@@ -8,12 +8,12 @@ use Rattle.std.specs.Ordering.{nat_cmp}
 use Rattle.std.specs.Str.{bytes_eq, encode_utf8_all}
 use denote.Ref.{Bor}
 use Rattle.rustc_parse_format.specs.Characters.{Text}
-use Rattle.rustc_parse_format.specs.SeenFaults.{seen_fault as seen_text_fault}
-use Rattle.rustc_parse_format.specs.Seen.{seen_piece}
+use Rattle.rustc_parse_format.specs.FaultViews.{seen_fault as seen_text_fault}
+use Rattle.rustc_parse_format.specs.Views.{seen_piece}
 use Rattle.rustc_parse_format.specs.State.{State, first_state}
 use Rattle.rustc_parse_format.specs.World.{Place}
 use Rattle.rustc_parse_format.specs.Types.{Format}
-use Rattle.placeholder_check.specs.Seen.{text}
+use Rattle.placeholder_check.specs.Views.{text}
 use Rattle.placeholder_check.specs.Uses.{Use, ByIndex, ByName}
 use Rattle.call_faults.specs.declared.faults.CallFault.{CallFault as DeclaredFault}
 use Rattle.call_faults.specs.declared.faults.CallFault.TheVariants.{PositionalAfterNamed as LateIn}

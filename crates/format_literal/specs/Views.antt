@@ -3,11 +3,11 @@ use Rattle.std.specs.Prelude.{◌≡◌, ◌++◌, ℕ, true, false, not, List, 
 use Rattle.std.specs.Prelude.{string_bytes}
 use Rattle.rustc_parse_format.specs.Characters.{Text}
 use Rattle.rustc_parse_format.specs.Literal.{newline}
-use Rattle.rustc_parse_format.specs.Seen.{seen_mode}
+use Rattle.rustc_parse_format.specs.Views.{seen_mode}
 use Rattle.rustc_parse_format.specs.State.{State, first_state}
 use Rattle.rustc_parse_format.specs.Types.{Mode}
 use Rattle.format_literal.specs.declared.values.Literal.{Literal}
-use Rattle.format_literal.specs.Written.{IsWritten}
+use Rattle.format_literal.specs.Spelling.{IsWritten}
 
 -- The text of a literal.
 abbrev pub text_of : Literal → Text

@@ -1,7 +1,7 @@
 use Rattle.std.proofs.Common.{◌≡◌, ◌≤◌, ◌+◌, length, map}
 use Rattle.rust_trees.specs.Leaves.{leaf}
 use Rattle.format_calls.specs.Searches.{AreLastFrom, IsLast}
-use Rattle.format_calls.proofs.part.last_ones.Given as goal
+use Rattle.format_calls.proofs.part.last_targets.Given as goal
 
 abbrev pub invariant-loop-index : goal.invariant-loop-index
 invariant-loop-index l = record {
