@@ -5,7 +5,8 @@
 ghost use Rattle.std.specs.Prelude.{◌≡◌, ◌<◌, IfNone, IfSome, Some};
 ghost use Rattle.rustc_parse_format.specs.Types.{Mode};
 ghost use Rattle.flat_reading.specs.Meaning.{is_set};
-ghost use Rattle.flat_reading.specs.Interface.{Fits, IsCounted, IsKept, IsDescribed, first_state_of};
+ghost use Rattle.flat_reading.specs.Interface.{Fits, IsCounted, IsKept, IsDescribed};
+ghost use Rattle.flat_reading.specs.Interface.{first_state_of};
 ghost use Rattle.flat_reading.specs.Interface.{buffers};
 ghost use Rattle.flat_reading.specs.Interface.{mode_meant, refusal};
 

@@ -4,10 +4,14 @@
 ghost use Rattle.std.specs.Prelude.{◌≡◌, ◌++◌, ◌-◌, ◌<◌, ◌==◌, ◌^◌, IfOk, OnOk, length, map};
 ghost use Rattle.std.specs.Prelude.{[], ◌∷◌, IfSome, MatchOption, string_bytes};
 ghost use Rattle.std.specs.List.{list_any, slice_split};
-ghost use Rattle.drawn_edits.specs.EditedLines.{are_blank, rest_after, count_to_text, do_remove, front};
-ghost use Rattle.drawn_edits.specs.EditedLines.{have_no_text, is_added, new_lines, new_page, old_lines};
-ghost use Rattle.drawn_edits.specs.EditedLines.{parts, seen_line, seen_page, seen_part, is_same_end};
-ghost use Rattle.drawn_edits.specs.EditedLines.{text_of, with_line, with_parts, with_texts, seen_edit};
+ghost use Rattle.drawn_edits.specs.EditedLines.{are_blank, rest_after, count_to_text, do_remove};
+ghost use Rattle.drawn_edits.specs.EditedLines.{front};
+ghost use Rattle.drawn_edits.specs.EditedLines.{have_no_text, is_added, new_lines, new_page};
+ghost use Rattle.drawn_edits.specs.EditedLines.{old_lines};
+ghost use Rattle.drawn_edits.specs.EditedLines.{parts, seen_line, seen_page, seen_part};
+ghost use Rattle.drawn_edits.specs.EditedLines.{is_same_end};
+ghost use Rattle.drawn_edits.specs.EditedLines.{text_of, with_line, with_parts, with_texts};
+ghost use Rattle.drawn_edits.specs.EditedLines.{seen_edit};
 ghost use Rattle.drawn_edits.specs.EditedLines.{edit_in_literal};
 ghost use Rattle.drawn_lines.specs.Painting.{plain_text};
 ghost use Rattle.drawn_lines.specs.Places.{is_line_feed, seen_picture};

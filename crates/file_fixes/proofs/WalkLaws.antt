@@ -13,7 +13,8 @@ use Rattle.source_report.specs.Suggestions.{are_after}
 use Rattle.file_fixes.specs.declared.outside.EditedPart.{EditedPart}
 use Rattle.file_fixes.specs.Outside.{is_apart, moved_token, new_ranges, old_ranges}
 use Rattle.file_fixes.specs.Outside.{untouched_tokens, width_before}
-use Rattle.file_fixes.specs.Walk.{FollowingParts, place_after, from_start, is_before, new_parts, old_parts}
+use Rattle.file_fixes.specs.Walk.{FollowingParts, place_after, from_start, is_before, new_parts}
+use Rattle.file_fixes.specs.Walk.{old_parts}
 use Rattle.file_fixes.specs.Walk.{walk}
 
 -- The ranges of parts, where the last part before them ends at `end`.

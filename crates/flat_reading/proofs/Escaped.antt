@@ -13,6 +13,9 @@ use Rattle.rustc_parse_format.specs.declared.types.ParseMode.{ParseMode}
 use Rattle.rustc_parse_format.specs.declared.types.Argument.{Argument as DeclaredArgument}
 use Rattle.rustc_parse_format.specs.declared.types.PieceKind.{PieceKind}
 use Rattle.rustc_parse_format.specs.declared.types.PieceKind.TheVariants.{Lit as TextKind}
+use Rattle.rustc_parse_format.specs.declared.types.PieceKind.TheVariants.{}
+use Rattle.rustc_parse_format.specs.declared.types.PieceKind.TheVariants.{}
+use Rattle.rustc_parse_format.specs.declared.types.PieceKind.TheVariants.{}
 use Rattle.rustc_parse_format.specs.declared.types.PieceKind.TheVariants.{NextArgument as ArgumentKind}
 use Rattle.rustc_parse_format.specs.Views.{seen_argument, seen_mode, seen_taken}
 use Rattle.rustc_parse_format.specs.Call.{call}

@@ -8,8 +8,10 @@ ghost use Rattle.rustc_parse_format.specs.Types.{Argument as ReadArgument, NextA
 ghost use Rattle.rustc_parse_format.specs.World.{Place};
 ghost use Rattle.flat_reading.specs.declared.records.Extent.{Extent as ExtentRecord};
 ghost use Rattle.flat_reading.specs.Meaning.{run_at, text_at, type_meant};
-ghost use Rattle.flat_reading.specs.Progress.{ArgumentStands, CountAt, CountStands, HasBytes, IsLast};
-ghost use Rattle.flat_reading.specs.Progress.{IsListed, IsReadAt, PositionAt, PositionStands, SpecAt};
+ghost use Rattle.flat_reading.specs.Progress.{ArgumentStands, CountAt, CountStands, HasBytes};
+ghost use Rattle.flat_reading.specs.Progress.{IsLast};
+ghost use Rattle.flat_reading.specs.Progress.{IsListed, IsReadAt, PositionAt, PositionStands};
+ghost use Rattle.flat_reading.specs.Progress.{SpecAt};
 ghost use Rattle.flat_reading.specs.Progress.{StandsAt, StandsAfter, TypeStands, has_texts};
 
 use crate::flat::NOWHERE;

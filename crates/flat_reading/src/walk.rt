@@ -18,7 +18,8 @@ ghost use Rattle.flat_reading.specs.Events.{given_piece, is_default, looked_for_
 ghost use Rattle.flat_reading.specs.Events.{place_of_first};
 ghost use Rattle.flat_reading.specs.Events.{position, spec_count, specs_in, states, step_meant};
 ghost use Rattle.flat_reading.specs.Meaning.{maybe_place, piece_meant, spec_at};
-ghost use Rattle.flat_reading.specs.Progress.{Adds, IsAdded, IsOnItsWay, IsReadAt, IsUpTo, MakesCall};
+ghost use Rattle.flat_reading.specs.Progress.{Adds, IsAdded, IsOnItsWay, IsReadAt, IsUpTo};
+ghost use Rattle.flat_reading.specs.Progress.{MakesCall};
 ghost use Rattle.flat_reading.specs.Progress.{PlaceholderStands, RunStands, SameAfter};
 
 use crate::finders::Finders;

@@ -129,7 +129,8 @@ two-later es u v n m e =
         → after_next (after_next u.is_after_dollar u.name) u.bang ≡ v.is_after_dollar
     by_tests true d f = absurd (none-some v f)
     by_tests false true f = absurd (none-some v f)
-    by_tests false false f = ap (λ w. w.is_after_dollar) (same_Some (next_window (next_window u n) m) v f)
+    by_tests false false f = ap (λ w. w.is_after_dollar)
+        (same_Some (next_window (next_window u n) m) v f)
 
 -- A gap in front of the tokens that begin a call.
 pub clear-front : (es : List Entry) (gap f : List Leaf) (w : Window) (t : Leaf)

@@ -14,7 +14,7 @@ abbrev pub sized_token : Label → Sized
 sized_token l = record { kind = l.0; width = length l.1 }
 
 -- The tokens are added to a list, each with its length, and r is left of the text.
-pub record AddsLabels (ls : List Label) (r : Text) (old new : List Sized) (left : List ℕ) : Type 0 where
+pub record Adds (ls : List Label) (r : Text) (old new : List Sized) (left : List ℕ) : Type 0 where
   pub adds : new ≡ old ++ map sized_token ls
   pub leaves : chars left ≡ r
 

@@ -19,7 +19,7 @@ ghost use Rattle.rustc_parse_format.specs.Types.{Implied, Star, bare_count, bare
 ghost use Rattle.rustc_parse_format.specs.Values.{count_value, debug_hex_of, format_value};
 ghost use Rattle.rustc_parse_format.specs.Values.{is_padded, position_of, precision_value};
 ghost use Rattle.rustc_parse_format.specs.Values.{spec_value, type_of, width_value};
-ghost use Rattle.format_tokens.specs.Labels.{AddsLabels, names_raw, passes};
+ghost use Rattle.format_tokens.specs.Labels.{Adds, names_raw, passes};
 ghost use Rattle.format_tokens.specs.Tokens.{count_tokens, format_tokens, position_tokens};
 ghost use Rattle.format_tokens.specs.Tokens.{integer_kind, precision_tokens, spec_tokens, token};
 ghost use Rattle.format_tokens.specs.Tokens.{width_tokens, word_kind};
@@ -44,7 +44,7 @@ pub fn take<'a>(
     text: &'a str,
 ) -> Result<&'a str, AllocError>
     ensures { IfOk result (λ rest. (u r : Text) → chars text.now ≡ u ++ r → bytes ≡ byte_length u
-        → AddsLabels (token kind u) r labels.old.items labels.new.items rest.now) }
+        → Adds (token kind u) r labels.old.items labels.new.items rest.now) }
 {
     if bytes == 0 {
         return Ok(text);
@@ -196,7 +196,7 @@ pub fn position<'a>(
     ensures { IfOk result (λ rest. (p : PositionText) (n : ℕ) (r : Text)
         → IsPart (chars text.now) (position_part p) r
         → seen_position position.now ≡ position_of n p
-        → AddsLabels (position_tokens p) r labels.old.items labels.new.items rest.now) }
+        → Adds (position_tokens p) r labels.old.items labels.new.items rest.now) }
 {
     match position {
         Position::ArgumentImplicitlyIs(_) => Ok(text),
@@ -228,12 +228,12 @@ fn count<'a>(
     ensures count { IfOk result (λ rest. (k : CountText) (r : Text)
         → IsPart (chars text.now) (count_part k) r
         → bare_count (seen_count count.now) ≡ count_value k
-        → AddsLabels (count_tokens k) r labels.old.items labels.new.items rest.now) }
+        → Adds (count_tokens k) r labels.old.items labels.new.items rest.now) }
     ensures star { IfOk result (λ rest. (n : ℕ) (r : Text) → chars text.now ≡ codes "*" ++ r
         → bare_count (seen_count count.now) ≡ Star n
-        → AddsLabels (token Kind.Asterisk (codes "*")) r labels.old.items labels.new.items rest.now) }
+        → Adds (token Kind.Asterisk (codes "*")) r labels.old.items labels.new.items rest.now) }
     ensures none { IfOk result (λ rest. bare_count (seen_count count.now) ≡ Implied
-        → AddsLabels [] (chars text.now) labels.old.items labels.new.items rest.now) }
+        → Adds [] (chars text.now) labels.old.items labels.new.items rest.now) }
 {
     match count {
         Count::CountIs(_) => {
@@ -279,7 +279,7 @@ fn width<'a>(
     ensures { IfOk result (λ rest. (k : WidthText) (r : Text)
         → IsPart (chars text.now) (width_part k) r
         → zero_pad ≡ is_padded k → bare_count (seen_count width.now) ≡ width_value k
-        → AddsLabels (width_tokens k) r labels.old.items labels.new.items rest.now) }
+        → Adds (width_tokens k) r labels.old.items labels.new.items rest.now) }
 {
     let rest_after = take(labels, Kind::Zero, usize::from(zero_pad), text)?;
     let rest = count(labels, width, rest_after)?;
@@ -295,7 +295,7 @@ fn precision<'a>(
     ensures { IfOk result (λ rest. (k : PrecisionText) (n : ℕ) (r : Text)
         → IsPart (chars text.now) (precision_part k) r
         → bare_count (seen_count precision.now) ≡ precision_value n k
-        → AddsLabels (precision_tokens k) r labels.old.items labels.new.items rest.now) }
+        → Adds (precision_tokens k) r labels.old.items labels.new.items rest.now) }
 {
     let rest_after = take(labels, Kind::Dot, usize::from(begins(text, '.')), text)?;
     let rest = count(labels, precision, rest_after)?;
@@ -352,7 +352,7 @@ fn format<'a>(
     ensures { IfOk result (λ rest. (p : FormatText) (n : ℕ) (r : Text)
         → IsPart (chars text.now) (format_part p) r
         → bare_spec (seen_spec format.now) ≡ format_value n p
-        → AddsLabels (format_tokens p) r labels.old.items labels.new.items rest.now) }
+        → Adds (format_tokens p) r labels.old.items labels.new.items rest.now) }
 {
     let align = take(labels, Kind::Fill, fill_width(format.fill), text)?;
     let sign = take(labels, Kind::Alignment, align_width(format.align), align)?;
@@ -384,7 +384,7 @@ pub fn specification<'a>(
     ensures { IfOk result (λ rest. (k : SpecText) (n : ℕ) (r : Text)
         → IsPart (chars text.now) (spec_part (seen_mode mode) k) r
         → bare_spec (seen_spec spec.now) ≡ spec_value n k
-        → AddsLabels (spec_tokens k) r labels.old.items labels.new.items rest.now) }
+        → Adds (spec_tokens k) r labels.old.items labels.new.items rest.now) }
 {
     if !begins(text, ':') {
         return Ok(text);

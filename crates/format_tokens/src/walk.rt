@@ -11,7 +11,7 @@ ghost use Rattle.rustc_parse_format.specs.State.{first_state};
 ghost use Rattle.rustc_parse_format.specs.Types.{Lit as LitPiece, Mode, bare_argument};
 ghost use Rattle.rustc_parse_format.specs.Values.{argument_value};
 ghost use Rattle.rustc_parse_format.specs.World.{World, piece_in};
-ghost use Rattle.format_tokens.specs.Labels.{AddsLabels, sized_token};
+ghost use Rattle.format_tokens.specs.Labels.{Adds, sized_token};
 ghost use Rattle.format_tokens.specs.Walk.{call_tokens, is_closed, placeholder_tokens};
 ghost use Rattle.format_tokens.specs.Walk.{read_tokens, skipped_tokens};
 
@@ -44,7 +44,7 @@ fn is_closed(bytes: usize, text: &str) -> bool
 /// brace, and returns the rest of the text.
 fn skip<'a>(labels: &mut Vec<Label>, bytes: usize, text: &'a str) -> Result<&'a str, AllocError>
     ensures { IfOk result (λ rest. (u r : Text) → chars text.now ≡ u ++ r → bytes ≡ byte_length u
-        → AddsLabels (skipped_tokens u) r labels.old.items labels.new.items rest.now) }
+        → Adds (skipped_tokens u) r labels.old.items labels.new.items rest.now) }
 {
     let brace = usize::from(is_closed(bytes, text));
     let close = take(labels, Kind::Unexpected, bytes.saturating_sub(brace), text)?;
@@ -66,7 +66,7 @@ fn placeholder<'a>(
         ≡ argument_value n (cut (seen_mode mode) t).field
         → (let k = placeholder (seen_mode mode) n (chars text.now) t in
         rest_len ≡ byte_length k.rest
-        → AddsLabels (placeholder_tokens (seen_mode mode) t k.rest) k.rest
+        → Adds (placeholder_tokens (seen_mode mode) t k.rest) k.rest
         labels.old.items labels.new.items rest_after.now)) }
 {
     let field = take(labels, Kind::OpenBrace, 1, text)?;
@@ -111,7 +111,7 @@ fn literal<'a>(
     ensures { IfOk result (λ rest_after. (mode : Mode) (n : ℕ) (l : Text) →
         (let k = call mode n (chars text.now) in
         k.piece ≡ Some (LitPiece l) → rest_len ≡ byte_length k.rest
-        → AddsLabels (call_tokens mode (chars text.now) k.rest) k.rest
+        → Adds (call_tokens mode (chars text.now) k.rest) k.rest
         labels.old.items labels.new.items rest_after.now)) }
 {
     let rest = take(labels, Kind::EscapedBrace, escape_width(text), text)?;
@@ -140,7 +140,7 @@ pub fn label<'a>(
         (let k = call (seen_mode mode) n (chars text.now) in
         option_map (seen_taken argument.now) piece.entry ≡ option_map (piece_in w) k.piece
         → rest_len ≡ byte_length k.rest
-        → AddsLabels (call_tokens (seen_mode mode) (chars text.now) k.rest) k.rest
+        → Adds (call_tokens (seen_mode mode) (chars text.now) k.rest) k.rest
         labels.old.items labels.new.items rest_after.now)) }
 {
     let Some(piece) = piece else {

@@ -27,7 +27,7 @@ pub record StepCounts : Type 0 where
 -- The characters that were given back, where t is left of the input n, by the number of those that
 -- were read again.
 abbrev pub back_at : Text → Text → StepCounts → Rewinds
-back_at n t p = record { reread_count = (p.pass_count + length t) - length n; left = p.left_count }
+back_at n t p = record { count = (p.pass_count + length t) - length n; left = p.left_count }
 
 -- The count covers all characters that were read, and those that were given back are bounded as
 -- `IsPaid` says.

@@ -6,6 +6,9 @@ use Rattle.rustc_parse_format.specs.declared.faults.Fault.TheVariants.{MissingBr
 use Rattle.rustc_parse_format.specs.declared.faults.Fault.TheVariants.{FillBrace as BraceAsFill}
 use Rattle.rustc_parse_format.specs.declared.faults.Fault.TheVariants.{Underscore as LoneUnderscore}
 use Rattle.rustc_parse_format.specs.declared.faults.Fault.TheVariants.{TooLarge as LargeNumber}
+use Rattle.rustc_parse_format.specs.declared.faults.Fault.TheVariants.{}
+use Rattle.rustc_parse_format.specs.declared.faults.Fault.TheVariants.{}
+use Rattle.rustc_parse_format.specs.declared.faults.Fault.TheVariants.{}
 use Rattle.rustc_parse_format.specs.declared.faults.Fault.TheVariants.{RawIdentifier as PrefixedName}
 use Rattle.rustc_parse_format.specs.declared.faults.Fault.TheVariants.{Unnamed as NoName}
 use Rattle.rustc_parse_format.specs.declared.faults.Fault.TheVariants.{TextAfterColon as SomeText}

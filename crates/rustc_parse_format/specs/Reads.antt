@@ -8,8 +8,8 @@ use Rattle.rustc_parse_format.specs.CallStates.{CallState, read_to, read_tries}
 
 -- If the result is Ok, the state is `to`. If an allocation fails, the source is still the same and
 -- nothing else is known. If the function keeps nothing, it does not allocate and the result is Ok.
-pub record Reaches {A : Type 0} (old : CallState) (result : Result A AllocError) (new to : CallState)
-    (KeepsNothing : Type 0) : Type 0 where
+pub record Reaches {A : Type 0} (old : CallState) (result : Result A AllocError)
+    (new to : CallState) (KeepsNothing : Type 0) : Type 0 where
   pub state : OnOk result (new ≡ to)
   pub err : OnErr result (new.source ≡ old.source)
   pub spare : KeepsNothing → IsOk result

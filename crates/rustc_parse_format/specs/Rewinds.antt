@@ -5,7 +5,7 @@ use Rattle.rustc_parse_format.specs.Characters.{Text, is_id_start, is_id_continu
 
 pub record Rewinds : Type 0 where
   -- The number of characters that the cursor went back over.
-  pub reread_count : ℕ
+  pub count : ℕ
   -- The number of characters that were left when it last went back. Before that, the number that
   -- the input has.
   pub left : ℕ
@@ -25,14 +25,14 @@ IsFurthest t b = length t ≤ b.left
 -- The characters that were given back are at most those before the point where it last went back.
 -- Between the current position and that point are only characters of a word.
 pub record IsPaid (input rest : Text) (b : Rewinds) : Type 0 where
-  pub reread_count : b.reread_count + b.left ≤ length input
+  pub count : b.count + b.left ≤ length input
   pub word : after_part rest ≤ b.left
 
 -- Nothing was given back of this input.
 abbrev pub nothing_back : Text → Rewinds
-nothing_back t = record { reread_count = 0; left = length t }
+nothing_back t = record { count = 0; left = length t }
 
 -- The characters that are given back after also going back from u to t, which are both suffixes of
 -- the input.
 abbrev pub given_back : Text → Text → Rewinds → Rewinds
-given_back u t b = record { reread_count = b.reread_count + (length t - length u); left = length u }
+given_back u t b = record { count = b.count + (length t - length u); left = length u }

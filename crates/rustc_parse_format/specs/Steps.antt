@@ -12,7 +12,7 @@ position input rest = length input - length rest
 -- The number of steps that were taken: the characters that were read, and those that were given
 -- back.
 abbrev pub steps : Text → Text → Rewinds → ℕ
-steps input rest b = position input rest + b.reread_count
+steps input rest b = position input rest + b.count
 
 -- The furthest position that the cursor has reached: where it last went back, or where it is now if
 -- that is further.

@@ -6,14 +6,26 @@ use Rattle.std.specs.declared.alloc.Global.{Global}
 use Rattle.std.specs.declared.ops.Range.{Range}
 use Rattle.rustc_parse_format.specs.declared.types.ParseMode.{ParseMode as DeclaredMode}
 use Rattle.rustc_parse_format.specs.declared.types.ParseMode.TheVariants.{Format as FormatMode}
+use Rattle.rustc_parse_format.specs.declared.types.ParseMode.TheVariants.{}
+use Rattle.rustc_parse_format.specs.declared.types.ParseMode.TheVariants.{}
+use Rattle.rustc_parse_format.specs.declared.types.ParseMode.TheVariants.{}
 use Rattle.rustc_parse_format.specs.declared.types.ParseMode.TheVariants.{InlineAsm as InlineAsmMode}
+use Rattle.rustc_parse_format.specs.declared.types.ParseMode.TheVariants.{}
+use Rattle.rustc_parse_format.specs.declared.types.ParseMode.TheVariants.{}
+use Rattle.rustc_parse_format.specs.declared.types.ParseMode.TheVariants.{}
 use Rattle.rustc_parse_format.specs.declared.types.ParseMode.TheVariants.{Diagnostic as DiagnosticMode}
+use Rattle.rustc_parse_format.specs.declared.types.ParseMode.TheVariants.{}
+use Rattle.rustc_parse_format.specs.declared.types.ParseMode.TheVariants.{}
+use Rattle.rustc_parse_format.specs.declared.types.ParseMode.TheVariants.{}
 use Rattle.rustc_parse_format.specs.declared.types.ParseMode.TheVariants.{DiagnosticNamed as NamesMode}
 use Rattle.rustc_parse_format.specs.declared.types.Piece.{Piece as DeclaredPiece}
 use Rattle.rustc_parse_format.specs.declared.types.Piece.TheVariants.{Lit as LitPiece}
 use Rattle.rustc_parse_format.specs.declared.types.Piece.TheVariants.{NextArgument as ArgumentPiece}
 use Rattle.rustc_parse_format.specs.declared.types.PieceKind.{PieceKind as DeclaredTaken}
 use Rattle.rustc_parse_format.specs.declared.types.PieceKind.TheVariants.{Lit as TextKind}
+use Rattle.rustc_parse_format.specs.declared.types.PieceKind.TheVariants.{}
+use Rattle.rustc_parse_format.specs.declared.types.PieceKind.TheVariants.{}
+use Rattle.rustc_parse_format.specs.declared.types.PieceKind.TheVariants.{}
 use Rattle.rustc_parse_format.specs.declared.types.PieceKind.TheVariants.{NextArgument as ArgumentKind}
 use Rattle.rustc_parse_format.specs.declared.types.Argument.{Argument as DeclaredArgument}
 use Rattle.rustc_parse_format.specs.declared.types.FormatSpec.{FormatSpec}
@@ -36,10 +48,25 @@ use Rattle.rustc_parse_format.specs.declared.types.Count.TheVariants.{CountImpli
 use Rattle.rustc_parse_format.specs.declared.types.ParseError.{ParseError}
 use Rattle.rustc_parse_format.specs.declared.types.Suggestion.{Suggestion as DeclaredSuggestion}
 use Rattle.rustc_parse_format.specs.declared.types.Suggestion.TheVariants.{None as NoSuggestion}
+use Rattle.rustc_parse_format.specs.declared.types.Suggestion.TheVariants.{}
+use Rattle.rustc_parse_format.specs.declared.types.Suggestion.TheVariants.{}
+use Rattle.rustc_parse_format.specs.declared.types.Suggestion.TheVariants.{}
 use Rattle.rustc_parse_format.specs.declared.types.Suggestion.TheVariants.{UsePositional as Positional}
+use Rattle.rustc_parse_format.specs.declared.types.Suggestion.TheVariants.{}
+use Rattle.rustc_parse_format.specs.declared.types.Suggestion.TheVariants.{}
+use Rattle.rustc_parse_format.specs.declared.types.Suggestion.TheVariants.{}
 use Rattle.rustc_parse_format.specs.declared.types.Suggestion.TheVariants.{RemoveRawIdent as RemoveRaw}
+use Rattle.rustc_parse_format.specs.declared.types.Suggestion.TheVariants.{}
+use Rattle.rustc_parse_format.specs.declared.types.Suggestion.TheVariants.{}
+use Rattle.rustc_parse_format.specs.declared.types.Suggestion.TheVariants.{}
 use Rattle.rustc_parse_format.specs.declared.types.Suggestion.TheVariants.{ReorderFormatParameter as Reorder}
+use Rattle.rustc_parse_format.specs.declared.types.Suggestion.TheVariants.{}
+use Rattle.rustc_parse_format.specs.declared.types.Suggestion.TheVariants.{}
+use Rattle.rustc_parse_format.specs.declared.types.Suggestion.TheVariants.{}
 use Rattle.rustc_parse_format.specs.declared.types.Suggestion.TheVariants.{AddMissingColon as AddColon}
+use Rattle.rustc_parse_format.specs.declared.types.Suggestion.TheVariants.{}
+use Rattle.rustc_parse_format.specs.declared.types.Suggestion.TheVariants.{}
+use Rattle.rustc_parse_format.specs.declared.types.Suggestion.TheVariants.{}
 use Rattle.rustc_parse_format.specs.declared.types.Suggestion.TheVariants.{UseRustDebugPrintingMacro as UseDebugMacro}
 use Rattle.rustc_parse_format.specs.Characters.{Text}
 use Rattle.rustc_parse_format.specs.Types.{Mode, Format, InlineAsm, Diagnostic, DiagnosticNamed}

@@ -38,7 +38,8 @@ read_on s r q n m fs gs =
 -- three parts
 pub read_three : (s : CallState) (r q o : Text) (n m k : ℕ) (fs gs hs : List (Fault Span)) →
     read_to (read_to (read_to s r n fs) q m gs) o k hs ≡ read_to s o k (fs ++ gs ++ hs)
-read_three s r q o n m k fs gs hs = ap (λ (x : CallState). read_to x o k hs) (read_on s r q n m fs gs)
+read_three s r q o n m k fs gs hs =
+    ap (λ (x : CallState). read_to x o k hs) (read_on s r q n m fs gs)
     ∙ read_on s q o m k (fs ++ gs) hs
 
 -- words tried, and then others
@@ -53,7 +54,8 @@ pub read_three_tries : (s : CallState) (r q o : Text) (n m k : ℕ) (fs gs hs : 
     read_to (read_tries (read_to (read_tries (read_to s r n fs) ts) q m gs) us) o k hs
     ≡ read_tries (read_to s o k (fs ++ gs ++ hs)) (ts ++ us)
 read_three_tries s r q o n m k fs gs hs ts us =
-    ap (λ (b : Rewinds). record (read_to (read_to (read_to s r n fs) q m gs) o k hs) { rewinds = b })
+    ap (λ (b : Rewinds).
+    record (read_to (read_to (read_to s r n fs) q m gs) o k hs) { rewinds = b })
     (tried-append s.rewinds ts us)
     ∙ ap (λ (x : CallState). read_tries x (ts ++ us)) (read_three s r q o n m k fs gs hs)
 

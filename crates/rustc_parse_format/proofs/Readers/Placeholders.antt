@@ -179,13 +179,15 @@ unclosed_read s mode o t =
     let ts = spec_texts a.field.spec a.rest in
     let us = spec_tries a.field.spec a.rest in
     rw (closed_in-none s.world)
-    (ap (λ (x : CallState). read_texts (read_texts (read_tries (read_tries x us) k.tries) ts) k.texts)
+    (ap (λ (x : CallState).
+    read_texts (read_texts (read_tries (read_tries x us) k.tries) ts) k.texts)
     (read_three s r r k.rest c c k.next (cut_faults mode a) (f ∷ []) k.faults)
     ∙ (ap (λ fs. read_texts
     (read_texts (read_tries (read_tries (read_to s k.rest k.next fs) us) k.tries) ts) k.texts)
     (append_assoc (cut_faults mode a) (f ∷ []) k.faults)
     ∙ (ap (λ (b : Rewinds). read_texts
-    (read_texts (record (read_to s k.rest k.next (cut_faults mode a ++ f ∷ k.faults)) { rewinds = b })
+    (read_texts
+    (record (read_to s k.rest k.next (cut_faults mode a ++ f ∷ k.faults)) { rewinds = b })
     ts) k.texts)
     (tried-append s.rewinds us k.tries)
     ∙ sym (read_texts-append

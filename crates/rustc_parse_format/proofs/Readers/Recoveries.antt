@@ -142,8 +142,8 @@ field-recovers s new mode opening seen x y e f b k o a g h =
     (sym (recovery-field mode s.next o s.rest a x y e f
     (field_decided (place_of s.world) x true seen a b h)))
 
-pub late_debug-recovers : (s new : CallState) (mode : Mode) (opening : Place) (seen : Argument Place)
-    (x y : ℕ) → first s.rest ≡ Some x →
+pub late_debug-recovers : (s new : CallState) (mode : Mode) (opening : Place)
+    (seen : Argument Place) (x y : ℕ) → first s.rest ≡ Some x →
     first (after_first s.rest) ≡ Some y → false ≡ (x == 46 && is_identifier seen)
     → true ≡ (x == 63 && not (y == 125)) →
     new ≡ recovered_state s (late_debug s.next s.rest) → Recovers s mode opening seen new

@@ -9,7 +9,8 @@ use Rattle.rustc_parse_format.specs.Characters.{Text, front, rest_after, is_no_b
 use Rattle.rustc_parse_format.specs.World.{Place, place_at}
 use Rattle.rustc_parse_format.specs.Marks.{run_texts}
 use Rattle.rustc_parse_format.specs.Lines.{PlacedCharacter, read_lines}
-use Rattle.rustc_parse_format.specs.CallStates.{CallState, read_texts, read_run, noted_next, passed_next}
+use Rattle.rustc_parse_format.specs.CallStates.{CallState, read_texts, read_run, noted_next}
+use Rattle.rustc_parse_format.specs.CallStates.{passed_next}
 use Rattle.rustc_parse_format.specs.CallStates.{IsInOneLine}
 use Rattle.rustc_parse_format.proofs.Grammar.Fronts.{front-rest_after}
 use Rattle.rustc_parse_format.proofs.Lines.LineLaws.{Reading, lines_in-source, read_texts-append}
@@ -66,8 +67,8 @@ longer old line more e = omega (
   length-append old line,
 )
 
-pub one_line-no_newline : (s : CallState) (c : ℕ) → s.world.has_source ≡ true → first s.rest ≡ Some c
-    → is_no_brace c ≡ true →
+pub one_line-no_newline : (s : CallState) (c : ℕ) → s.world.has_source ≡ true
+    → first s.rest ≡ Some c → is_no_brace c ≡ true →
     IsInOneLine s → c ≢ code "\n"
 one_line-no_newline s c source e passes one is =
     let line : List Place =

@@ -12,7 +12,8 @@ use Rattle.rustc_parse_format.specs.Characters.{is_in_line, first}
 use Rattle.rustc_parse_format.specs.World.{World, StartAfter, place_at}
 use Rattle.rustc_parse_format.specs.Marks.{run_texts}
 use Rattle.rustc_parse_format.specs.Lines.{texts_in}
-use Rattle.rustc_parse_format.specs.CallStates.{CallState, read_texts, read_run, IsInOneLine, IsPastIndent}
+use Rattle.rustc_parse_format.specs.CallStates.{CallState, read_texts, read_run, IsInOneLine}
+use Rattle.rustc_parse_format.specs.CallStates.{IsPastIndent}
 use Rattle.rustc_parse_format.proofs.Grammar.Fronts.{
   front-rest_after,
   list_all-front,

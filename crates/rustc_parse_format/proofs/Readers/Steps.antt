@@ -100,12 +100,13 @@ unfolding after_digits
 after_digits-part t = rest_after-part is_ascii_digit t
 
 -- forward from t to u
-pub counted_on : (n t u : Text) (p q : StepCounts) → q.pass_count + length u ≡ p.pass_count + length t
+pub counted_on : (n t u : Text) (p q : StepCounts)
+    → q.pass_count + length u ≡ p.pass_count + length t
     → q.left_count ≡ p.left_count → after_part u ≤ after_part t → IsCounted n t p → IsCounted n u q
 counted_on n t u p q made left le h = record {
   made = omega (arith, h.made, made);
   paid = record {
-    reread_count = omega (arith, h.paid.reread_count, made, left);
+    count = omega (arith, h.paid.count, made, left);
     word = omega (arith, h.paid.word, le, left);
   };
 }
@@ -116,12 +117,12 @@ pub counted_back : (n u t : Text) (p : StepCounts) → length t ≤ p.left_count
     → IsCounted n u p → IsCounted n t (record { pass_count = p.pass_count; left_count = length u })
 counted_back n u t p far earlier word h = record {
   made = omega (arith, h.made, earlier);
-  paid = record { reread_count = omega (arith, h.made, h.paid.reread_count, far, earlier); word = word };
+  paid = record { count = omega (arith, h.made, h.paid.count, far, earlier); word = word };
 }
 
 -- where nothing was passed
 pub counted_first : (n : Text) → IsCounted n n (record { pass_count = 0; left_count = length n })
 counted_first n = record {
   made = omega arith;
-  paid = record { reread_count = omega arith; word = part_le n };
+  paid = record { count = omega arith; word = part_le n };
 }

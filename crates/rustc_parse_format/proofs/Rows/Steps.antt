@@ -16,18 +16,19 @@ tried_length [] = 0
 tried_length (t ∷ ts) = length (word t) + tried_length ts
 
 -- Each word that is given back is read once more.
-pub tried-again : (b : Rewinds) (ts : List Text) → (back_after b ts).reread_count ≡ b.reread_count + tried_length ts
+pub tried-again : (b : Rewinds) (ts : List Text)
+    → (back_after b ts).count ≡ b.count + tried_length ts
 tried-again b [] = omega arith
 tried-again b (t ∷ ts) =
-    let once : (b.reread_count + (length t - length (after_word t))) + tried_length ts
-    ≡ b.reread_count + (length (word t) + tried_length ts) =
+    let once : (b.count + (length t - length (after_word t))) + tried_length ts
+    ≡ b.count + (length (word t) + tried_length ts) =
     omega (arith, ap length (word-rest_after t), length-append (word t) (after_word t)) in
     tried-again (given_back (after_word t) t b) ts ∙ once
 
 -- So a call takes a step for each character that it passes, and one for each of a word that it
 -- gives back.
-pub call-steps : (s : State) → (state_after s (next_call s)).rewinds.reread_count
-    ≡ s.rewinds.reread_count + tried_length (next_call s).tries
+pub call-steps : (s : State) → (state_after s (next_call s)).rewinds.count
+    ≡ s.rewinds.count + tried_length (next_call s).tries
 call-steps s = tried-again s.rewinds (next_call s).tries
 
 -- the steps of all calls over an input

@@ -12,7 +12,13 @@ use Rattle.rustc_parse_format.proofs.Lines.StateLines.{at_end, end_faults, finds
 use Rattle.rustc_parse_format.proofs.Lines.StateLines.{nothing_found}
 use Rattle.rustc_parse_format.proofs.parser.Parser.next_with_faults.Goals as goal
 use Rattle.rustc_parse_format.proofs.parser.Parser.next_with_faults.Goals.{in_default}
+use Rattle.rustc_parse_format.proofs.parser.Parser.next_with_faults.Goals.{}
+use Rattle.rustc_parse_format.proofs.parser.Parser.next_with_faults.Goals.{}
+use Rattle.rustc_parse_format.proofs.parser.Parser.next_with_faults.Goals.{}
 use Rattle.rustc_parse_format.proofs.parser.Parser.next_with_faults.Goals.{in-Ok+in_default-move_faults}
+use Rattle.rustc_parse_format.proofs.parser.Parser.next_with_faults.Goals.{}
+use Rattle.rustc_parse_format.proofs.parser.Parser.next_with_faults.Goals.{}
+use Rattle.rustc_parse_format.proofs.parser.Parser.next_with_faults.Goals.{}
 use Rattle.rustc_parse_format.proofs.parser.Parser.next_with_faults.Goals.{in-Ok+in-Ok-move_faults+in_default-take_over}
 
 pub returns-then-is_at_end-clause-piece : goal.returns-then-is_at_end-clause-piece

@@ -1,6 +1,7 @@
 use Rattle.std.proofs.Common.{rules, ◌≡◌, ap, subst, sym, ◌∙◌, length, arith, map, refl, Some, true}
 use Rattle.rustc_parse_format.specs.Characters.{rest_after, first, is_no_brace, is_in_line}
-use Rattle.rustc_parse_format.specs.CallStates.{CallState, Remainder, IsInOneLine, IsPastIndent, call_state}
+use Rattle.rustc_parse_format.specs.CallStates.{CallState, Remainder, IsInOneLine, IsPastIndent}
+use Rattle.rustc_parse_format.specs.CallStates.{call_state}
 use Rattle.rustc_parse_format.specs.CallStates.{read_run}
 use Rattle.std.specs.Prelude.{option_map}
 use Rattle.rustc_parse_format.specs.Views.{pair}
