@@ -15,7 +15,7 @@ use Rattle.drawn_lines.specs.declared.paint.Palette.TheVariants.{Error}
 use Rattle.drawn_lines.specs.declared.paint.Style.TheVariants.{Secondary}
 use Rattle.drawn_labels.specs.Labels.{Label, mark_in}
 use Rattle.drawn_labels.specs.LongSigns.{AddsLong}
-use Rattle.drawn_labels.specs.Signs.{Adds, AddsTwo, IsNarrow}
+use Rattle.drawn_labels.specs.Signs.{AddsLabels, AddsTwo, IsNarrow}
 use Rattle.drawn_faults.specs.Drawing.{rows_below_labels, head, title}
 use Rattle.drawn_faults.specs.Labels.{edit_of, primary_label, second_label}
 
@@ -41,7 +41,7 @@ pub record PointsAt (mode : Mode) (p : Picture) (m : Message Place) (text : List
 -- label that ends in a later one.
 pub record AddsOne (f : Frame) (l : Label) (old new : List ℕ) : Type 0 where
   pub in_line : l.extent.start.line ≡ l.extent.end.line
-      → Adds f l.extent.start.line (mark_in f l ∷ []) old new
+      → AddsLabels f l.extent.start.line (mark_in f l ∷ []) old new
   pub in_lines : l.extent.start.line < l.extent.end.line → AddsLong f l old new
   pub in_order : l.extent.start.line ≤ l.extent.end.line
 

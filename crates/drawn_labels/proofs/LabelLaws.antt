@@ -24,7 +24,7 @@ use Rattle.drawn_labels.specs.Rows.{Mark, lone_row, cell, cell_pieces}
 use Rattle.drawn_labels.specs.Rows.{has_column, label_text}
 use Rattle.drawn_labels.specs.Rows.{pointed_text, space, style_of}
 use Rattle.drawn_labels.specs.Rows.{text_style, written_cells}
-use Rattle.drawn_labels.specs.Signs.{Adds, AddsRows, IsAmong, IsFree, IsInSigns}
+use Rattle.drawn_labels.specs.Signs.{AddsLabels, AddsRows, IsAmong, IsFree, IsInSigns}
 use Rattle.drawn_labels.specs.Signs.{cell_in}
 use Rattle.drawn_labels.specs.declared.cells.Cell.{Cell}
 use Rattle.drawn_labels.proofs.RowLemmas.{cells-append}
@@ -234,7 +234,7 @@ pub labelled-adds : (f : Frame) (m : Mark) (old mid new : List ℕ)
     → has_colours f.gutter.palette ≡ false → m.start ≤ m.end
     → mid ≡ old ++ source_row f (codes " ") m.line
     → new ≡ mid ++ row_under f.gutter (lone_row f.gutter.palette m)
-    → Adds f m.line (m ∷ []) old new
+    → AddsLabels f m.line (m ∷ []) old new
 labelled-adds f m old mid new h long e k = record {
   mid = mid;
   line = row-adds f (codes " ") m.line old mid e;

@@ -9,7 +9,7 @@ use Rattle.drawn_lines.specs.Painting.{has_colours}
 use Rattle.drawn_lines.proofs.PositionLaws.{row-adds}
 use Rattle.drawn_labels.specs.Labels.{lines_apart, labelled_line, two_labels}
 use Rattle.drawn_labels.specs.Rows.{Mark, lone_row, both_rows}
-use Rattle.drawn_labels.specs.Signs.{AddsApart, Adds, AddsTwo, IsNarrow}
+use Rattle.drawn_labels.specs.Signs.{AddsApart, AddsLabels, AddsTwo, IsNarrow}
 use Rattle.drawn_labels.proofs.LabelLaws.{labelled-adds}
 use Rattle.drawn_labels.proofs.PairLaws.{both-adds}
 
@@ -36,7 +36,7 @@ two-turn f m n l =
 
 -- The line of one label, and the rows under it.
 pub one-adds : (f : Frame) (m : Mark) (old : List ℕ) → has_colours f.gutter.palette ≡ false
-    → m.start ≤ m.end → Adds f m.line (m ∷ []) old (old ++ labelled_line f m)
+    → m.start ≤ m.end → AddsLabels f m.line (m ∷ []) old (old ++ labelled_line f m)
 unfolding labelled_line
 one-adds f m old h long =
     labelled-adds f m old (old ++ code_row f m.line) (old ++ labelled_line f m) h long refl

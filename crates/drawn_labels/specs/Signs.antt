@@ -71,7 +71,7 @@ pub record AddsRows (g : Gutter) (ms : List Mark) (old new : List ℕ) : Type 0 
   pub are_bars : AllByRecursion (λ row. (n : ℕ) → IsInBars ms n (cell_in n row)) others
 
 -- A line of the source and the rows under it, with these labels, are added to a text.
-pub record Adds (f : Frame) (n : ℕ) (ms : List Mark) (old new : List ℕ) : Type 0 where
+pub record AddsLabels (f : Frame) (n : ℕ) (ms : List Mark) (old new : List ℕ) : Type 0 where
   pub mid : List ℕ
   pub line : AddsLine f (codes " ") n old mid
   pub rows : AddsRows f.gutter ms mid new
@@ -84,12 +84,12 @@ IsNarrow t = length (glyphs (chars t)) ≡ length t
 pub record AddsApart (f : Frame) (m n : Mark) (old new : List ℕ) : Type 0 where
   pub mid : List ℕ
   pub low : List ℕ
-  pub first : Adds f m.line (m ∷ []) old mid
+  pub first : AddsLabels f m.line (m ∷ []) old mid
   pub between : low ≡ mid ++ gap f m.line n.line
-  pub second : Adds f n.line (n ∷ []) low new
+  pub second : AddsLabels f n.line (n ∷ []) low new
 
 -- The lines with two labels are added to a text: the line that both are in, or the line of each.
 pub record AddsTwo (f : Frame) (m n : Mark) (old new : List ℕ) : Type 0 where
-  pub in_one : m.line ≡ n.line → Adds f m.line (m ∷ n ∷ []) old new
+  pub in_one : m.line ≡ n.line → AddsLabels f m.line (m ∷ n ∷ []) old new
   pub in_order : m.line < n.line → AddsApart f m n old new
   pub in_turn : n.line < m.line → AddsApart f n m old new

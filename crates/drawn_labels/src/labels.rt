@@ -8,7 +8,7 @@ ghost use Rattle.drawn_lines.specs.Painting.{has_colours};
 ghost use Rattle.drawn_labels.specs.Labels.{lines_apart, labelled_line, mark, mark_in, seen_label};
 ghost use Rattle.drawn_labels.specs.Labels.{two_labels};
 ghost use Rattle.drawn_labels.specs.Rows.{seen_mark};
-ghost use Rattle.drawn_labels.specs.Signs.{Adds, AddsTwo, IsNarrow};
+ghost use Rattle.drawn_labels.specs.Signs.{AddsLabels, AddsTwo, IsNarrow};
 
 use crate::mark::Mark;
 use crate::rows::{put_both_rows, put_lone_row};
@@ -75,7 +75,7 @@ pub fn put_labelled_line(
     // columns, and no sign elsewhere.
     ensures signs { OnOk result (has_colours frame.now.gutter.palette ≡ false
         → mark.now.start ≤ mark.now.end
-        → Adds (seen_frame frame.now) mark.now.line (seen_mark mark.now ∷ [])
+        → AddsLabels (seen_frame frame.now) mark.now.line (seen_mark mark.now ∷ [])
         (string_bytes out.old) (string_bytes out.new)) }
 {
     put_code(out, frame, mark.line)?;
