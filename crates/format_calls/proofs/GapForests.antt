@@ -262,7 +262,7 @@ some-left u =
     (leaves (length u.whole - length u.rest) x.0, (x.0, x.1, refl))
 
 -- The texts of gaps that are the same.
-pub same-gaps : (es : List Entry) (g h : Gaps) → h.before ≡ g.before
+pub same-gaps : (es : List Entry) (g h : Gaps) → h.fronts ≡ g.fronts
     → AreGaps es (texts g) h.last.now → AreGaps es (texts h) h.last.now
 same-gaps es g h e a =
     subst (λ v. AreGaps es (map (λ t. t.now) v.items) h.last.now) (sym e) a

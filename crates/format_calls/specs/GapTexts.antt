@@ -13,7 +13,7 @@ use Rattle.format_calls.specs.declared.gap_texts.Gaps.{Gaps}
 
 -- The texts before the parts, in bytes.
 abbrev pub texts : Gaps → List (List ℕ)
-texts g = map (λ t. t.now) g.before.items
+texts g = map (λ t. t.now) g.fronts.items
 
 -- Before each word each text reads as these tokens, and they begin no call.
 abbrev pub AreGapTexts : List Entry → List (List ℕ) → List (List Lexeme) → Type 0

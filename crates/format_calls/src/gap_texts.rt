@@ -46,7 +46,7 @@ fn gap_before<'a>(rest: &'a str, offset: usize, part: &Source<'a>) -> Option<&'a
 #[derive(Drop)]
 pub struct Gaps<'a> {
     /// The text before each part.
-    pub before: Vec<&'a str>,
+    pub fronts: Vec<&'a str>,
     /// The text after the last one.
     pub last: &'a str,
     /// Whether all these texts are known to read as the same tokens wherever they stand.
@@ -59,7 +59,7 @@ impl<'a> Gaps<'a> {
         ensures { (es : List Entry) → AreKnown es result [] }
     {
         Gaps {
-            before: Vec::new(alloc),
+            fronts: Vec::new(alloc),
             last,
             are_known: true,
         }
@@ -78,7 +78,7 @@ impl<'a> Gaps<'a> {
             return Ok(());
         }
         match gap_before(rest, offset, part) {
-            Some(gap) => self.before.push(gap)?,
+            Some(gap) => self.fronts.push(gap)?,
             None => self.are_known = false,
         }
         Ok(())
@@ -86,7 +86,7 @@ impl<'a> Gaps<'a> {
 
     /// Says which text is after the last one.
     pub fn set_last(&mut self, last: &'a str)
-        ensures before { self.new.before ≡ self.old.before }
+        ensures fronts { self.new.fronts ≡ self.old.fronts }
         ensures known { self.new.are_known ≡ self.old.are_known }
         ensures last { self.new.last.now ≡ last.now }
     {

@@ -40,7 +40,7 @@ fn read_parts(
         findings: Vec::new(alloc),
     };
     let mut rest = Tokens::new(file.text);
-    for gap in &gaps.before {
+    for gap in &gaps.fronts {
         let Some(source) = next_known_part(alloc, &mut rest, table, gap)? else {
             return Ok(None);
         };

@@ -32,7 +32,7 @@ fn gap_before<'a>(rest: &'a str, offset: usize, part: &Source<'a>) -> Option<&'a
 /// The texts between the parts of a file that have calls.
 pub struct Gaps<'a> {
     /// The text before each part.
-    pub before: Vec<&'a str>,
+    pub fronts: Vec<&'a str>,
     /// The text after the last one.
     pub last: &'a str,
     /// Whether all these texts are known to read as the same tokens wherever they stand.
@@ -44,7 +44,7 @@ impl<'a> Gaps<'a> {
     #[inline]
     pub(crate) fn new(last: &'a str) -> Self {
         Gaps {
-            before: Vec::new(),
+            fronts: Vec::new(),
             last,
             are_known: true,
         }
@@ -62,7 +62,7 @@ impl<'a> Gaps<'a> {
             return Ok(());
         }
         match gap_before(rest, offset, part) {
-            Some(gap) => self.before.try_push(gap)?,
+            Some(gap) => self.fronts.try_push(gap)?,
             None => self.are_known = false,
         }
         Ok(())

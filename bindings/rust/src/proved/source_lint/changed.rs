@@ -24,7 +24,7 @@ fn read_parts(
         findings: Vec::new(),
     };
     let mut rest = Tokens::new(file.text);
-    for gap in &gaps.before {
+    for gap in &gaps.fronts {
         let Some(source) = next_known_part(&mut rest, table, gap)? else {
             return Ok(None);
         };

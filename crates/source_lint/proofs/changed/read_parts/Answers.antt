@@ -27,7 +27,7 @@ loop-gap-preserved c =
     let each = rw (c.source.ensures, c.in_ok-part.ensures) at c.in_ok-calls.ensures.each in
     let order = rw (c.source.ensures, c.in_ok-part.ensures) at c.in_ok-calls.ensures.in_order in
     let r = rw (c.in_ok-part.ensures, c.deref.ensures.value) at c.in_ok-read_calls.ensures.read in
-    let e = text-at c.args.gaps.now.before.items _ c.loop-gap.gap-index _
+    let e = text-at c.args.gaps.now.fronts.items _ c.loop-gap.gap-index _
     c.deref-gap-items.ensures.value c.loop-gap-test.true in
     let n = next-gap _ _ _ _ _ w.front e w.known in
     record {
@@ -39,7 +39,7 @@ loop-gap-preserved c =
 pub returns-then-eq-clause-read : goal.returns-then-eq-clause-read
 returns-then-eq-clause-read c =
     let w = c.loop-gap.invariant.read in
-    let e = text-end c.args.gaps.now.before.items _ c.loop-gap.gap-index
+    let e = text-end c.args.gaps.now.fronts.items _ c.loop-gap.gap-index
     c.deref-gap-items.ensures.value c.loop-gap-test.false in
     let t : c.loop-gap.rest.rest ≡ c.args.gaps.now.last.now = search rules in
     let n = last-gap _ _ _ w.front c.loop-gap.rest e t w.known in
