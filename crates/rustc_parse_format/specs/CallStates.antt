@@ -106,7 +106,7 @@ read_to s r n fs = record s { rest = r; next = n; faults = s.faults ++ faults_in
 
 -- The state after trying the words at these suffixes for a count.
 abbrev pub read_tries : CallState → List Text → CallState
-read_tries s ts = record s { back = back_after s.rewinds ts }
+read_tries s ts = record s { rewinds = back_after s.rewinds ts }
 
 -- The state after reading these characters as text.
 abbrev pub read_texts : CallState → List (ℕ × ℕ) → CallState

@@ -86,7 +86,7 @@ state_after s k =
     let lines = lines_in s.world s.line_start k.texts in
     record s {
       rest = k.rest;
-      back = back_after s.rewinds k.tries;
+      rewinds = back_after s.rewinds k.tries;
       next = k.next;
       errors = add_errors s.errors (faults_in s.world k.faults);
       arg_places = s.arg_places ++ closed_places s.world k.closes;

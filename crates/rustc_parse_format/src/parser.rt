@@ -40,7 +40,7 @@ impl<'input> Model for Parser<'input> {
       world = p.reader.world;
       input = p.reader.input;
       rest = p.reader.rest;
-      back = p.reader.rewinds;
+      rewinds = p.reader.rewinds;
       undo_count = p.reader.undo_count;
       next = p.reader.next;
       errors = p.lists.errors;
