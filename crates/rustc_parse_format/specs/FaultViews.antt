@@ -10,6 +10,7 @@ use Rattle.rustc_parse_format.specs.declared.faults.Fault.TheVariants.{}
 use Rattle.rustc_parse_format.specs.declared.faults.Fault.TheVariants.{}
 use Rattle.rustc_parse_format.specs.declared.faults.Fault.TheVariants.{}
 use Rattle.rustc_parse_format.specs.declared.faults.Fault.TheVariants.{}
+use Rattle.rustc_parse_format.specs.declared.faults.Fault.TheVariants.{}
 use Rattle.rustc_parse_format.specs.declared.faults.Fault.TheVariants.{RawIdentifier as PrefixedName}
 use Rattle.rustc_parse_format.specs.declared.faults.Fault.TheVariants.{Unnamed as NoName}
 use Rattle.rustc_parse_format.specs.declared.faults.Fault.TheVariants.{TextAfterColon as SomeText}

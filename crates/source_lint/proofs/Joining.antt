@@ -3,7 +3,7 @@ use Rattle.std.proofs.Common.{◌≡◌, ◌++◌, List, [], ◌∷◌, refl, ap
 use Rattle.std.specs.Prelude.{◌↔◌, Contains}
 use Rattle.std.proofs.lemmas.List.{append_assoc, append-nil}
 use Rattle.rust_trees.specs.Balances.{IsBalanced}
-use Rattle.rust_trees.specs.Leaves.{AreLeft, Leaf, Unread}
+use Rattle.rust_trees.specs.Leaves.{AreLeft, Leaf, Remainder}
 use Rattle.rust_trees.specs.declared.balance.Balance.{Balance}
 use Rattle.format_calls.specs.Calls.{IsCall, Rises}
 use Rattle.format_calls.specs.Parts.{IsPart}
@@ -85,7 +85,7 @@ of-calls P es xs cs rs ss fs gs e o h = (
 -- What came from the calls of a file so far, where the tokens of u are left. Those of the front
 -- were read, of which K is known.
 pub record FileGiving {R F : Type 0} (P : List Leaf → Call → R → List F → Type 0)
-    (es : List Entry) (start u : Unread) (rs : List R) (fs : List F) (K : List Leaf → Type 0)
+    (es : List Entry) (start u : Remainder) (rs : List R) (fs : List F) (K : List Leaf → Type 0)
     : Type 0 where
   pub front : List Leaf
   pub follows : (left : List Leaf) → AreLeft u left → AreLeft start (front ++ left)
@@ -95,7 +95,7 @@ pub record FileGiving {R F : Type 0} (P : List Leaf → Call → R → List F �
       × OfParts P es (front ++ left) qs (rs ++ more) (fs ++ others)
 
 pub file-none : {R F : Type 0} (P : List Leaf → Call → R → List F → Type 0) (es : List Entry)
-    (u : Unread) (rs : List R) (fs : List F) (K : List Leaf → Type 0) → rs ≡ [] → fs ≡ [] → K []
+    (u : Remainder) (rs : List R) (fs : List F) (K : List Leaf → Type 0) → rs ≡ [] → fs ≡ [] → K []
     → FileGiving P es u u rs fs K
 file-none P es u rs fs K e f k = record {
   front = [];
@@ -109,12 +109,12 @@ file-none P es u rs fs K e f k = record {
 }
 
 -- A part that was read after them, with the gap before it.
-abbrev pub NextPart : List Entry → Unread → Unread → List Leaf → Type 0
+abbrev pub NextPart : List Entry → Remainder → Remainder → List Leaf → Type 0
 NextPart es u next part = (gap : List Leaf) × ((left : List Leaf) → AreLeft next left
     → AreLeft u (gap ++ (part ++ left)) × IsPart es gap part left)
 
 pub file-more : {R F : Type 0} (P : List Leaf → Call → R → List F → Type 0) (es : List Entry)
-    (start u next : Unread) (part : List Leaf) (rs ss : List R) (fs gs : List F)
+    (start u next : Remainder) (part : List Leaf) (rs ss : List R) (fs gs : List F)
     (K L : List Leaf → Type 0) (w : FileGiving P es start u rs fs K) (p : NextPart es u next part)
     → L (w.front ++ (p.0 ++ part))
     → (us : List R) × (zs : List F) × (ss ≡ rs ++ us) × (gs ≡ fs ++ zs) × OfCalls P es part us zs
@@ -144,7 +144,7 @@ file-more P es start u next part rs ss fs gs K L w p k r = record {
         ∙ ap (λ v. w.front ++ v) (append_assoc p.0 part left)
 
 pub file-all : {R F : Type 0} (P : List Leaf → Call → R → List F → Type 0) (es : List Entry)
-    (start u : Unread) (rs : List R) (fs : List F) (K L : List Leaf → Type 0) → Moves P
+    (start u : Remainder) (rs : List R) (fs : List F) (K L : List Leaf → Type 0) → Moves P
     → (w : FileGiving P es start u rs fs K) (n : NoPart es u) → L (w.front ++ n.0)
     → (all : List Leaf) × AreLeft start all × OfCalls P es all rs fs × L all
 file-all P es start u rs fs K L m w n k =
