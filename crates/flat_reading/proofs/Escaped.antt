@@ -17,7 +17,6 @@ use Rattle.rustc_parse_format.specs.declared.types.PieceKind.TheVariants.{}
 use Rattle.rustc_parse_format.specs.declared.types.PieceKind.TheVariants.{}
 use Rattle.rustc_parse_format.specs.declared.types.PieceKind.TheVariants.{}
 use Rattle.rustc_parse_format.specs.declared.types.PieceKind.TheVariants.{}
-use Rattle.rustc_parse_format.specs.declared.types.PieceKind.TheVariants.{}
 use Rattle.rustc_parse_format.specs.declared.types.PieceKind.TheVariants.{NextArgument as ArgumentKind}
 use Rattle.rustc_parse_format.specs.Views.{seen_argument, seen_mode, seen_taken}
 use Rattle.rustc_parse_format.specs.Call.{call}

@@ -18,9 +18,7 @@ use Rattle.message_faults.specs.declared.faults.MessageFault.TheVariants.{}
 use Rattle.message_faults.specs.declared.faults.MessageFault.TheVariants.{}
 use Rattle.message_faults.specs.declared.faults.MessageFault.TheVariants.{}
 use Rattle.message_faults.specs.declared.faults.MessageFault.TheVariants.{}
-use Rattle.message_faults.specs.declared.faults.MessageFault.TheVariants.{}
 use Rattle.message_faults.specs.declared.faults.MessageFault.TheVariants.{Positional as PositionalIn}
-use Rattle.message_faults.specs.declared.faults.MessageFault.TheVariants.{}
 use Rattle.message_faults.specs.declared.faults.MessageFault.TheVariants.{}
 use Rattle.message_faults.specs.declared.faults.MessageFault.TheVariants.{}
 use Rattle.message_faults.specs.declared.faults.MessageFault.TheVariants.{}

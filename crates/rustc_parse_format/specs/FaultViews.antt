@@ -10,7 +10,6 @@ use Rattle.rustc_parse_format.specs.declared.faults.Fault.TheVariants.{}
 use Rattle.rustc_parse_format.specs.declared.faults.Fault.TheVariants.{}
 use Rattle.rustc_parse_format.specs.declared.faults.Fault.TheVariants.{}
 use Rattle.rustc_parse_format.specs.declared.faults.Fault.TheVariants.{}
-use Rattle.rustc_parse_format.specs.declared.faults.Fault.TheVariants.{}
 use Rattle.rustc_parse_format.specs.declared.faults.Fault.TheVariants.{RawIdentifier as PrefixedName}
 use Rattle.rustc_parse_format.specs.declared.faults.Fault.TheVariants.{Unnamed as NoName}
 use Rattle.rustc_parse_format.specs.declared.faults.Fault.TheVariants.{TextAfterColon as SomeText}

@@ -10,15 +10,12 @@ use Rattle.rustc_parse_format.specs.declared.types.ParseMode.TheVariants.{}
 use Rattle.rustc_parse_format.specs.declared.types.ParseMode.TheVariants.{}
 use Rattle.rustc_parse_format.specs.declared.types.ParseMode.TheVariants.{}
 use Rattle.rustc_parse_format.specs.declared.types.ParseMode.TheVariants.{}
-use Rattle.rustc_parse_format.specs.declared.types.ParseMode.TheVariants.{}
 use Rattle.rustc_parse_format.specs.declared.types.ParseMode.TheVariants.{InlineAsm as InlineAsmMode}
 use Rattle.rustc_parse_format.specs.declared.types.ParseMode.TheVariants.{}
 use Rattle.rustc_parse_format.specs.declared.types.ParseMode.TheVariants.{}
 use Rattle.rustc_parse_format.specs.declared.types.ParseMode.TheVariants.{}
 use Rattle.rustc_parse_format.specs.declared.types.ParseMode.TheVariants.{}
-use Rattle.rustc_parse_format.specs.declared.types.ParseMode.TheVariants.{}
 use Rattle.rustc_parse_format.specs.declared.types.ParseMode.TheVariants.{Diagnostic as DiagnosticMode}
-use Rattle.rustc_parse_format.specs.declared.types.ParseMode.TheVariants.{}
 use Rattle.rustc_parse_format.specs.declared.types.ParseMode.TheVariants.{}
 use Rattle.rustc_parse_format.specs.declared.types.ParseMode.TheVariants.{}
 use Rattle.rustc_parse_format.specs.declared.types.ParseMode.TheVariants.{}
@@ -29,7 +26,6 @@ use Rattle.rustc_parse_format.specs.declared.types.Piece.TheVariants.{Lit as Lit
 use Rattle.rustc_parse_format.specs.declared.types.Piece.TheVariants.{NextArgument as ArgumentPiece}
 use Rattle.rustc_parse_format.specs.declared.types.PieceKind.{PieceKind as DeclaredTaken}
 use Rattle.rustc_parse_format.specs.declared.types.PieceKind.TheVariants.{Lit as TextKind}
-use Rattle.rustc_parse_format.specs.declared.types.PieceKind.TheVariants.{}
 use Rattle.rustc_parse_format.specs.declared.types.PieceKind.TheVariants.{}
 use Rattle.rustc_parse_format.specs.declared.types.PieceKind.TheVariants.{}
 use Rattle.rustc_parse_format.specs.declared.types.PieceKind.TheVariants.{}
@@ -60,9 +56,7 @@ use Rattle.rustc_parse_format.specs.declared.types.Suggestion.TheVariants.{}
 use Rattle.rustc_parse_format.specs.declared.types.Suggestion.TheVariants.{}
 use Rattle.rustc_parse_format.specs.declared.types.Suggestion.TheVariants.{}
 use Rattle.rustc_parse_format.specs.declared.types.Suggestion.TheVariants.{}
-use Rattle.rustc_parse_format.specs.declared.types.Suggestion.TheVariants.{}
 use Rattle.rustc_parse_format.specs.declared.types.Suggestion.TheVariants.{UsePositional as Positional}
-use Rattle.rustc_parse_format.specs.declared.types.Suggestion.TheVariants.{}
 use Rattle.rustc_parse_format.specs.declared.types.Suggestion.TheVariants.{}
 use Rattle.rustc_parse_format.specs.declared.types.Suggestion.TheVariants.{}
 use Rattle.rustc_parse_format.specs.declared.types.Suggestion.TheVariants.{}
@@ -72,15 +66,12 @@ use Rattle.rustc_parse_format.specs.declared.types.Suggestion.TheVariants.{}
 use Rattle.rustc_parse_format.specs.declared.types.Suggestion.TheVariants.{}
 use Rattle.rustc_parse_format.specs.declared.types.Suggestion.TheVariants.{}
 use Rattle.rustc_parse_format.specs.declared.types.Suggestion.TheVariants.{}
-use Rattle.rustc_parse_format.specs.declared.types.Suggestion.TheVariants.{}
 use Rattle.rustc_parse_format.specs.declared.types.Suggestion.TheVariants.{ReorderFormatParameter as Reorder}
 use Rattle.rustc_parse_format.specs.declared.types.Suggestion.TheVariants.{}
 use Rattle.rustc_parse_format.specs.declared.types.Suggestion.TheVariants.{}
 use Rattle.rustc_parse_format.specs.declared.types.Suggestion.TheVariants.{}
 use Rattle.rustc_parse_format.specs.declared.types.Suggestion.TheVariants.{}
-use Rattle.rustc_parse_format.specs.declared.types.Suggestion.TheVariants.{}
 use Rattle.rustc_parse_format.specs.declared.types.Suggestion.TheVariants.{AddMissingColon as AddColon}
-use Rattle.rustc_parse_format.specs.declared.types.Suggestion.TheVariants.{}
 use Rattle.rustc_parse_format.specs.declared.types.Suggestion.TheVariants.{}
 use Rattle.rustc_parse_format.specs.declared.types.Suggestion.TheVariants.{}
 use Rattle.rustc_parse_format.specs.declared.types.Suggestion.TheVariants.{}

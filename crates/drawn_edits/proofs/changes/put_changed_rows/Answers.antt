@@ -8,7 +8,6 @@ use Rattle.drawn_edits.proofs.changes.put_changed_rows.Goals.{}
 use Rattle.drawn_edits.proofs.changes.put_changed_rows.Goals.{}
 use Rattle.drawn_edits.proofs.changes.put_changed_rows.Goals.{}
 use Rattle.drawn_edits.proofs.changes.put_changed_rows.Goals.{}
-use Rattle.drawn_edits.proofs.changes.put_changed_rows.Goals.{}
 use Rattle.drawn_edits.proofs.changes.put_changed_rows.Goals.{then-have_addition+in_ok-put_kept_lines+in_ok-put_changed_row}
 use Rattle.drawn_edits.proofs.changes.put_changed_rows.Goals.{else-have_addition}
 use Rattle.drawn_edits.proofs.changes.put_changed_rows.Goals as goal

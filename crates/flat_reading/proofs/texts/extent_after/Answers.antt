@@ -7,7 +7,6 @@ use Rattle.flat_reading.proofs.texts.extent_after.Goals.{}
 use Rattle.flat_reading.proofs.texts.extent_after.Goals.{}
 use Rattle.flat_reading.proofs.texts.extent_after.Goals.{}
 use Rattle.flat_reading.proofs.texts.extent_after.Goals.{}
-use Rattle.flat_reading.proofs.texts.extent_after.Goals.{}
 use Rattle.flat_reading.proofs.texts.extent_after.Goals.{else-has_bytes_at-via-then-has_bytes_at+else-has_bytes_at-2}
 use Rattle.flat_reading.proofs.texts.extent_after.Goals.{else-has_bytes_at-via-else-has_bytes_at}
 

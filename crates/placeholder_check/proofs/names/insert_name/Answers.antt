@@ -6,7 +6,6 @@ use Rattle.placeholder_check.proofs.names.insert_name.Goals.{}
 use Rattle.placeholder_check.proofs.names.insert_name.Goals.{}
 use Rattle.placeholder_check.proofs.names.insert_name.Goals.{}
 use Rattle.placeholder_check.proofs.names.insert_name.Goals.{}
-use Rattle.placeholder_check.proofs.names.insert_name.Goals.{}
 use Rattle.placeholder_check.proofs.names.insert_name.Goals.{then-len-ge-SCAN_LIMIT+in_ok-insert_later}
 use Rattle.placeholder_check.proofs.names.insert_name.Goals.{else-len-ge-SCAN_LIMIT}
 

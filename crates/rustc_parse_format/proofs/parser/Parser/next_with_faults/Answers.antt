@@ -16,9 +16,7 @@ use Rattle.rustc_parse_format.proofs.parser.Parser.next_with_faults.Goals.{}
 use Rattle.rustc_parse_format.proofs.parser.Parser.next_with_faults.Goals.{}
 use Rattle.rustc_parse_format.proofs.parser.Parser.next_with_faults.Goals.{}
 use Rattle.rustc_parse_format.proofs.parser.Parser.next_with_faults.Goals.{}
-use Rattle.rustc_parse_format.proofs.parser.Parser.next_with_faults.Goals.{}
 use Rattle.rustc_parse_format.proofs.parser.Parser.next_with_faults.Goals.{in-Ok+in_default-move_faults}
-use Rattle.rustc_parse_format.proofs.parser.Parser.next_with_faults.Goals.{}
 use Rattle.rustc_parse_format.proofs.parser.Parser.next_with_faults.Goals.{}
 use Rattle.rustc_parse_format.proofs.parser.Parser.next_with_faults.Goals.{}
 use Rattle.rustc_parse_format.proofs.parser.Parser.next_with_faults.Goals.{}
