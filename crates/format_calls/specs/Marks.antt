@@ -40,7 +40,7 @@ abbrev pub word : Leaf → List ℕ
 word x = if is_raw x.kind && nat_lt 2 (length x.text) then drop 2 x.text else x.text
 
 -- The token before the token i is this character of punctuation.
-abbrev pub is_after_dollar : ℕ → List Leaf → ℕ → Bool
+abbrev pub is_after : ℕ → List Leaf → ℕ → Bool
 is_after m xs zero = false
 is_after m xs (suc i) = is_mark m xs i
 
