@@ -9,6 +9,6 @@ returns-clause-front c =
 
 pub returns-clause-rest : goal.returns-clause-rest
 returns-clause-rest c =
-    rw (c.split_at.ensures.rewinds)
+    rw (c.split_at.ensures.back)
     (chars-rest_after _ c.requires _ _ c.utf8.text
     (rw (c.as_bytes.ensures.value) at c.run_width-width.ensures))
