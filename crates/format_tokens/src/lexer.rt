@@ -75,8 +75,7 @@ fn literal_starts(
         None => ordinary_starts(alloc, literal, appended_newline),
         Some(hashes) => {
             let end = width_of(literal).saturating_sub(hashes + 1);
-            let starts = plain_starts(alloc, hashes + 2, input, end)?;
-            Ok(starts)
+            plain_starts(alloc, hashes + 2, input, end)
         }
     }
 }
@@ -153,10 +152,7 @@ pub fn place_labels(
     )?;
     match style {
         Some(_) => Ok(tokens),
-        None => {
-            let parts = cut_escapes(alloc, literal, tokens)?;
-            Ok(parts)
-        }
+        None => cut_escapes(alloc, literal, tokens),
     }
 }
 
@@ -222,6 +218,5 @@ pub fn tokens(
         Some(literal) => Some(literal.as_str()),
     };
     let labels = labels(alloc, input, mode)?;
-    let tokens = place_labels(alloc, input, style, text, appended_newline, mode, &labels)?;
-    Ok(tokens)
+    place_labels(alloc, input, style, text, appended_newline, mode, &labels)
 }

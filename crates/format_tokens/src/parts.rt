@@ -200,21 +200,17 @@ pub fn position<'a>(
 {
     match position {
         Position::ArgumentImplicitlyIs(_) => Ok(text),
-        Position::ArgumentIs(_) => {
-            let rest = take(
-                labels,
-                integer_kind(text),
-                run_width(text, Run::Digits),
-                text,
-            )?;
-            Ok(rest)
-        }
+        Position::ArgumentIs(_) => take(
+            labels,
+            integer_kind(text),
+            run_width(text, Run::Digits),
+            text,
+        ),
         Position::ArgumentNamed(name) => {
             let prefix = if is_raw(text, name) { 2 } else { 0 };
             let word = take(labels, Kind::RawPrefix, prefix, text)?;
             let kind = word_kind(Kind::Identifier, name);
-            let rest = take(labels, kind, width_of(name), word)?;
-            Ok(rest)
+            take(labels, kind, width_of(name), word)
         }
     }
 }
@@ -236,15 +232,12 @@ fn count<'a>(
         → Adds [] (chars text.now) labels.old.items labels.new.items rest.now) }
 {
     match count {
-        Count::CountIs(_) => {
-            let rest = take(
-                labels,
-                integer_kind(text),
-                run_width(text, Run::Digits),
-                text,
-            )?;
-            Ok(rest)
-        }
+        Count::CountIs(_) => take(
+            labels,
+            integer_kind(text),
+            run_width(text, Run::Digits),
+            text,
+        ),
         Count::CountIsParam(_) => {
             let dollar = take(
                 labels,
@@ -252,19 +245,14 @@ fn count<'a>(
                 run_width(text, Run::Digits),
                 text,
             )?;
-            let rest = take(labels, Kind::DollarSign, 1, dollar)?;
-            Ok(rest)
+            take(labels, Kind::DollarSign, 1, dollar)
         }
         Count::CountIsName(name, _) => {
             let kind = word_kind(Kind::Identifier, name);
             let dollar = take(labels, kind, width_of(name), text)?;
-            let rest = take(labels, Kind::DollarSign, 1, dollar)?;
-            Ok(rest)
+            take(labels, Kind::DollarSign, 1, dollar)
         }
-        Count::CountIsStar(_) => {
-            let rest = take(labels, Kind::Asterisk, 1, text)?;
-            Ok(rest)
-        }
+        Count::CountIsStar(_) => take(labels, Kind::Asterisk, 1, text),
         Count::CountImplied => Ok(text),
     }
 }
@@ -282,8 +270,7 @@ fn width<'a>(
         → Adds (width_tokens k) r labels.old.items labels.new.items rest.now) }
 {
     let rest_after = take(labels, Kind::Zero, usize::from(zero_pad), text)?;
-    let rest = count(labels, width, rest_after)?;
-    Ok(rest)
+    count(labels, width, rest_after)
 }
 
 /// Adds the tokens of a precision, with the dot before it.
@@ -298,8 +285,7 @@ fn precision<'a>(
         → Adds (precision_tokens k) r labels.old.items labels.new.items rest.now) }
 {
     let rest_after = take(labels, Kind::Dot, usize::from(begins(text, '.')), text)?;
-    let rest = count(labels, precision, rest_after)?;
-    Ok(rest)
+    count(labels, precision, rest_after)
 }
 
 /// Returns the byte length of a fill.
@@ -365,13 +351,12 @@ fn format<'a>(
     )?;
     let dot = width(labels, format.zero_pad, &format.width, number)?;
     let ty = precision(labels, &format.precision, dot)?;
-    let rest = take(
+    take(
         labels,
         word_kind(Kind::Type, format.ty),
         type_width(format.debug_hex, format.ty),
         ty,
-    )?;
-    Ok(rest)
+    )
 }
 
 /// Adds the tokens of a specification, with the colon before it.
@@ -391,18 +376,16 @@ pub fn specification<'a>(
     }
     let rest_after = take(labels, Kind::Colon, 1, text)?;
     match mode {
-        ParseMode::Format => {
-            let rest = format(labels, spec, rest_after)?;
-            Ok(rest)
-        }
+        ParseMode::Format => format(labels, spec, rest_after),
         ParseMode::InlineAsm => {
             let kind = word_kind(Kind::Modifier, spec.ty);
-            let rest = take(labels, kind, width_of(spec.ty), rest_after)?;
-            Ok(rest)
+            take(labels, kind, width_of(spec.ty), rest_after)
         }
-        ParseMode::Diagnostic | ParseMode::DiagnosticNamed => {
-            let rest = take(labels, Kind::DiagnosticText, width_of(spec.ty), rest_after)?;
-            Ok(rest)
-        }
+        ParseMode::Diagnostic | ParseMode::DiagnosticNamed => take(
+            labels,
+            Kind::DiagnosticText,
+            width_of(spec.ty),
+            rest_after,
+        ),
     }
 }

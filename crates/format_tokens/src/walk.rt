@@ -48,8 +48,7 @@ fn skip<'a>(labels: &mut Vec<Label>, bytes: usize, text: &'a str) -> Result<&'a 
 {
     let brace = usize::from(is_closed(bytes, text));
     let close = take(labels, Kind::Unexpected, bytes.saturating_sub(brace), text)?;
-    let rest = take(labels, Kind::CloseBrace, brace, close)?;
-    Ok(rest)
+    take(labels, Kind::CloseBrace, brace, close)
 }
 
 /// Adds the tokens of a placeholder at the start of a text, and returns the rest of the text after
@@ -85,8 +84,7 @@ fn placeholder<'a>(
         last,
     )?;
     let rest = take(labels, Kind::CloseBrace, usize::from(begins(end, '}')), end)?;
-    let rest_after = skip(labels, width_of(rest).saturating_sub(rest_len), rest)?;
-    Ok(rest_after)
+    skip(labels, width_of(rest).saturating_sub(rest_len), rest)
 }
 
 /// Returns the byte length of the doubled brace at the start of a piece of literal text, or 0 if it
@@ -115,13 +113,12 @@ fn literal<'a>(
         labels.old.items labels.new.items rest_after.now)) }
 {
     let rest = take(labels, Kind::EscapedBrace, escape_width(text), text)?;
-    let rest_after = take(
+    take(
         labels,
         Kind::Text,
         width_of(rest).saturating_sub(rest_len),
         rest,
-    )?;
-    Ok(rest_after)
+    )
 }
 
 /// Adds the labels of a call at the start of a text, and returns the rest of the text after it:
@@ -144,23 +141,16 @@ pub fn label<'a>(
         labels.old.items labels.new.items rest_after.now)) }
 {
     let Some(piece) = piece else {
-        let rest_after = take(
+        return take(
             labels,
             Kind::CloseBrace,
             width_of(text).saturating_sub(rest_len),
             text,
-        )?;
-        return Ok(rest_after);
+        );
     };
     match piece {
-        PieceKind::Lit(_) => {
-            let rest_after = literal(labels, rest_len, text)?;
-            Ok(rest_after)
-        }
-        PieceKind::NextArgument => {
-            let rest_after = placeholder(labels, mode, argument, rest_len, text)?;
-            Ok(rest_after)
-        }
+        PieceKind::Lit(_) => literal(labels, rest_len, text),
+        PieceKind::NextArgument => placeholder(labels, mode, argument, rest_len, text),
     }
 }
 
