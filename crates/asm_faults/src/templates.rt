@@ -55,8 +55,7 @@ fn fault_of<'a>(alloc: Global, template: Template<'a>) -> Result<Option<Fault<'a
         false,
         ParseMode::InlineAsm,
     )?;
-    let fault = text_fault(alloc, &mut parser)?;
-    Ok(fault)
+    text_fault(alloc, &mut parser)
 }
 
 /// Adds the lookups for the placeholders of a template. Returns `Err` if an allocation fails.
