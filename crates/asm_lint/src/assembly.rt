@@ -318,7 +318,7 @@ pub fn read_asm<'a>(
         call.close,
     );
     let is_whole = are_known(operands.is_unknown, extent.is_counted);
-    let reading = read_literals(
+    read_literals(
         alloc,
         findings,
         text,
@@ -326,6 +326,5 @@ pub fn read_asm<'a>(
         &arguments[..count],
         &operands,
         is_whole,
-    )?;
-    Ok(reading)
+    )
 }

@@ -84,8 +84,7 @@ fn fault_of<'a>(alloc: Global, string: FormatString<'a>) -> Result<Option<Fault<
         string.appended_newline,
         ParseMode::Format,
     )?;
-    let fault = text_fault(alloc, &mut parser)?;
-    Ok(fault)
+    text_fault(alloc, &mut parser)
 }
 
 /// Returns the faults of a call whose format string has these pieces, and puts the indices of

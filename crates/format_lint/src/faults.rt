@@ -109,8 +109,7 @@ pub fn faults_in<'a>(
     ensures { IfOk result (λ f. Keeps f (findings (seen_mode mode) (seen_source source.entry))) }
 {
     let mut parser = parser_of(alloc, mode, source)?;
-    let faults = faults_of(alloc, &mut parser)?;
-    Ok(faults)
+    faults_of(alloc, &mut parser)
 }
 
 /// The tokens of a source, and its faults.

@@ -71,8 +71,7 @@ fn uses_in<'a>(
         return Ok(Uses::new(alloc));
     }
     let Reading { pieces, parser: _ } = read_all(alloc, text, style, snippet, false, task.mode)?;
-    let uses = uses_of(alloc, pieces.as_slice())?;
-    Ok(uses)
+    uses_of(alloc, pieces.as_slice())
 }
 
 /// Returns the report on the arguments that are missing or unused in a text. Returns `Err` if an

@@ -64,8 +64,7 @@ fn fault_of<'a>(
         false,
         ParseMode::Diagnostic,
     )?;
-    let fault = text_fault(alloc, &mut parser)?;
-    Ok(fault)
+    text_fault(alloc, &mut parser)
 }
 
 /// Puts a name into a set. Returns `Err` if an allocation fails.
@@ -262,6 +261,5 @@ pub fn message_faults<'a>(
         → HasParameters ps message.entry.parameters
         → map seen_fault v.items ≡ message_faults ps (start message.entry)) }
 {
-    let faults = faults_of(alloc, message)?;
-    Ok(faults)
+    faults_of(alloc, message)
 }

@@ -103,8 +103,7 @@ fn list_source(
         → task.entry.arguments ≡ None → IsOk result }
 {
     let mut parser = Parser::new(alloc, text, style, snippet, false, task.mode)?;
-    let listing = list_calls(alloc, &mut parser, task.arguments)?;
-    Ok(listing)
+    list_calls(alloc, &mut parser, task.arguments)
 }
 
 /// Returns the listing of the text that a literal stands for. Returns `Err` if an allocation fails.

@@ -146,8 +146,7 @@ pub fn report_on(
         → All (HasSpans text.now) r.findings.items) }
 {
     let first_break = balance.first_break();
-    let report = report_with(alloc, text, readings, first_break)?;
-    Ok(report)
+    report_with(alloc, text, readings, first_break)
 }
 
 /// Reads a source file, and returns the faults of its calls of macros that take a format string or
@@ -167,6 +166,5 @@ pub fn file_faults(alloc: Global, text: &str, options: &Options<'_>) -> Result<R
     };
     let mut balance = Balance::new(alloc);
     let readings = read_file(alloc, file, &options.table, &mut balance)?;
-    let report = report_on(alloc, text, readings, balance)?;
-    Ok(report)
+    report_on(alloc, text, readings, balance)
 }

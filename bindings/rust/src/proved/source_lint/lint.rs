@@ -91,8 +91,7 @@ pub(crate) fn report_with(
 #[inline]
 pub fn report_on(text: &str, readings: Readings, balance: Balance) -> Result<Report, AllocError> {
     let first_break = balance.first_break();
-    let report = report_with(text, readings, first_break)?;
-    Ok(report)
+    report_with(text, readings, first_break)
 }
 
 /// Reads a source file, and returns the faults of its calls of macros that take a format string or
@@ -108,6 +107,5 @@ pub fn file_faults(text: &str, options: &Options<'_>) -> Result<Report, AllocErr
     };
     let mut balance = Balance::new();
     let readings = read_file(file, &options.table, &mut balance)?;
-    let report = report_on(text, readings, balance)?;
-    Ok(report)
+    report_on(text, readings, balance)
 }
