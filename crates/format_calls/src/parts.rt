@@ -18,6 +18,7 @@ use rust_trees::{Balance, Source, Token, Tokens, is_opening};
 use std::alloc::{AllocError, Global};
 
 /// Returns whether three tokens are a word of a table, `!` and an opening delimiter.
+#[inline(always)]
 pub fn opens_call(rows: &[Row<'_>], name: &Token<'_>, bang: &Token<'_>, opening: &Token<'_>) -> bool
     ensures { result ≡ opens_call (map entry rows.now) (leaf name.now) (leaf bang.now)
         (leaf opening.now) }

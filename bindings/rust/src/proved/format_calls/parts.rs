@@ -9,7 +9,7 @@ use crate::proved::rust_trees::{is_opening, Balance, Source, Token, Tokens};
 use crate::shim::alloc::AllocError;
 
 /// Returns whether three tokens are a word of a table, `!` and an opening delimiter.
-#[inline]
+#[inline(always)]
 pub fn opens_call(
     rows: &[Row<'_>],
     name: &Token<'_>,
