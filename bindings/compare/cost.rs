@@ -11,15 +11,24 @@ mod library;
 use std::hint::black_box;
 use std::time::Instant;
 
+#[cfg(library)]
+use export::{buffers, Buffers};
+/// Only the export has buffers.
+#[cfg(not(library))]
+type Buffers = ();
+#[cfg(not(library))]
+fn buffers() -> Buffers {}
+
 /// How many pieces and how many errors there are up to the first None.
 type Counts = (usize, usize);
-type Walk = fn(&str, Option<&str>) -> Counts;
+/// A walk over a text, perhaps with its literal, and the buffers of the export.
+type Walk = fn(&str, Option<&str>, &mut Buffers) -> Counts;
 /// A text, perhaps with its literal.
 type Input = (String, Option<String>);
 
 macro_rules! walk {
     ($name:ident, $of:ident) => {
-        fn $name(input: &str, snippet: Option<&str>) -> Counts {
+        fn $name(input: &str, snippet: Option<&str>, _: &mut Buffers) -> Counts {
             let snippet = snippet.map(str::to_string);
             let mut parser = $of::Parser::new(input, None, snippet, false, $of::ParseMode::Format);
             let pieces = parser.by_ref().map(black_box).count();
@@ -33,7 +42,7 @@ walk!(the_original, original);
 
 /// The library's own walk.
 #[cfg(any(library, growth))]
-fn the_library(input: &str, snippet: Option<&str>) -> Counts {
+fn the_library(input: &str, snippet: Option<&str>, _: &mut Buffers) -> Counts {
     unsafe extern "C" {
         fn counted_walk(
             input: *const u8,
@@ -52,38 +61,48 @@ fn the_library(input: &str, snippet: Option<&str>) -> Counts {
 
 #[cfg(library)]
 mod export {
-    use super::library::{blank, records::*, Buffers};
+    pub use super::library::Buffers;
+    use super::library::{blank, records::*};
     use super::Counts;
-    use std::cell::RefCell;
 
-    thread_local! {
-        static KEPT: RefCell<Buffers> = RefCell::new(Buffers::with_room(Answer {
+    const WITHOUT: Options = Options {
+        mode: MODE_FORMAT,
+        is_raw: 0,
+        hashes: 0,
+        has_snippet: 0,
+        appended_newline: 0,
+        wants_peeks: 0,
+    };
+    const WITH: Options = Options { has_snippet: 1, ..WITHOUT };
+
+    /// Makes buffers in which each result of a row has room.
+    pub fn buffers() -> Buffers {
+        Buffers::with_room(Answer {
             steps: 1 << 16,
             specs: 1 << 14,
             faults: 1 << 14,
             texts: 1 << 22,
             lines: 1 << 14,
             ..blank()
-        }));
+        })
     }
 
     /// The export alone, which is what is timed: its records are there, and nobody looks at them.
-    pub fn alone(input: &str, snippet: Option<&str>) -> Counts {
-        let options = Options { has_snippet: snippet.is_some().into(), ..blank() };
-        KEPT.with_borrow_mut(|kept| {
-            assert_eq!(kept.read(input, snippet.unwrap_or(""), &options), DONE);
-            (kept.answer.steps, kept.answer.faults)
-        })
+    pub fn alone(input: &str, snippet: Option<&str>, buffers: &mut Buffers) -> Counts {
+        let code = match snippet {
+            Some(snippet) => buffers.read(input, snippet, &WITH),
+            None => buffers.read(input, "", &WITHOUT),
+        };
+        assert_eq!(code, DONE);
+        (buffers.answer.steps, buffers.answer.faults)
     }
 
     /// The counts in its records of the walk up to its first None.
-    pub fn counted(input: &str, snippet: Option<&str>) -> Counts {
-        let (steps, faults) = alone(input, snippet);
-        KEPT.with_borrow(|kept| {
-            let is_end = |step: &Step| step.kind == PIECE_NONE;
-            let end = kept.steps[..steps].iter().position(is_end).expect("an end");
-            (end, kept.faults[..faults].iter().filter(|fault| fault.step <= end).count())
-        })
+    pub fn counted(input: &str, snippet: Option<&str>, buffers: &mut Buffers) -> Counts {
+        let (steps, faults) = alone(input, snippet, buffers);
+        let is_end = |step: &Step| step.kind == PIECE_NONE;
+        let end = buffers.steps[..steps].iter().position(is_end).expect("an end");
+        (end, buffers.faults[..faults].iter().filter(|fault| fault.step <= end).count())
     }
 }
 
@@ -99,22 +118,26 @@ const WALKS: &[(Walk, Walk)] = &[
     (export::alone, export::counted),
 ];
 
-fn sum_of(walk: Walk, inputs: &[Input]) -> Counts {
-    let counts = inputs.iter().map(|(input, snippet)| walk(black_box(input), snippet.as_deref()));
-    counts.fold((0, 0), |sum, (pieces, errors)| (sum.0 + pieces, sum.1 + errors))
+fn sum_of(walk: Walk, inputs: &[Input], buffers: &mut Buffers) -> Counts {
+    inputs.iter().fold((0, 0), |sum, (input, snippet)| {
+        let (pieces, errors) = walk(black_box(input), snippet.as_deref(), buffers);
+        (sum.0 + pieces, sum.1 + errors)
+    })
 }
 
 /// The counts, and the shortest of the times of each walk, in microseconds; in turn, so that another
 /// load on the machine hits all of them.
 fn timed(name: &str, inputs: &[Input], times: usize) -> (Counts, Vec<f64>) {
-    let counts: Vec<_> = WALKS.iter().map(|(_, counting)| sum_of(*counting, inputs)).collect();
+    let mut buffers = buffers();
+    let mut counted = |walk: Walk| sum_of(walk, inputs, &mut buffers);
+    let counts: Vec<_> = WALKS.iter().map(|(_, counting)| counted(*counting)).collect();
     assert!(counts.iter().all(|it| *it == counts[0]), "{name}: the counts differ: {counts:?}");
     let mut best = vec![f64::MAX; WALKS.len()];
     for _ in 0..25 {
         for (best, (timed, _)) in best.iter_mut().zip(WALKS) {
             let start = Instant::now();
             for _ in 0..times {
-                black_box(sum_of(*timed, inputs));
+                black_box(counted(*timed));
             }
             *best = best.min(start.elapsed().as_secs_f64() * 1e6);
         }

@@ -17,7 +17,7 @@ use Rattle.asm_faults.specs.declared.operands.Operand.{Operand as DeclaredOperan
 use Rattle.asm_faults.specs.declared.operands.Operands.{Operands}
 use Rattle.asm_faults.specs.Operands.{Operand, Named, has_name, index_from, index_if, index_of}
 use Rattle.asm_faults.specs.Operands.{indices_from, is_named, is_register}
-use Rattle.asm_faults.specs.Seen.{Holds, found_in, seen_operand}
+use Rattle.asm_faults.specs.Views.{Holds, found_in, seen_operand}
 
 -- texts are the same exactly if their bytes are
 same_text : (t : Text) (bs : List ℕ) → IsUtf8 bs → bytes_eq bs (encode_utf8_all t)

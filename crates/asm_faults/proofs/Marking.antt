@@ -9,7 +9,7 @@ use Rattle.std.proofs.lemmas.Bool.{and_parts}
 use Rattle.rustc_parse_format.specs.Characters.{Text}
 use Rattle.text_faults.proofs.Collecting.{list_any-next}
 use Rattle.text_faults.proofs.Marks.{or-none}
-use Rattle.asm_faults.specs.Compared.{is_unnamed, means, unused_from, unused_one}
+use Rattle.asm_faults.specs.Comparison.{is_unnamed, means, unused_from, unused_one}
 use Rattle.asm_faults.specs.Lookups.{Lookup, ByIndex, ByName, Long}
 use Rattle.asm_faults.specs.Operands.{Operand, has_name, index_from}
 

@@ -2,7 +2,7 @@
 use Rattle.std.specs.Prelude.{ℕ, ◌++◌, List, [], ◌∷◌, Option, Some, None}
 use Rattle.std.specs.List.{filter_map}
 use Rattle.asm_faults.specs.AsmFaults.{AsmFault}
-use Rattle.asm_faults.specs.Compared.{fault_of, unused_operands, unused_faults}
+use Rattle.asm_faults.specs.Comparison.{fault_of, unused_operands, unused_faults}
 use Rattle.asm_faults.specs.Lookups.{Lookup}
 use Rattle.asm_faults.specs.Operands.{Operand, count_unnamed, faults_from, slots_after}
 use Rattle.asm_faults.specs.Templates.{Template, lookups_from, template_fault}

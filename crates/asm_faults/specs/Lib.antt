@@ -2,9 +2,9 @@ pub mod AsmFaults
 pub mod Operands
 pub mod Lookups
 pub mod Templates
-pub mod Compared
+pub mod Comparison
 pub mod Calls
 pub mod Words
 pub mod Labels
 pub mod Notes
-pub mod Seen
+pub mod Views

@@ -5,7 +5,7 @@ ghost use Rattle.std.specs.List.{AllByRecursion};
 ghost use Rattle.rustc_parse_format.specs.World.{hashes};
 ghost use Rattle.asm_faults.specs.Calls.{asm_faults, comparison_faults};
 ghost use Rattle.asm_faults.specs.Operands.{Operand as OperandValue, slots_after};
-ghost use Rattle.asm_faults.specs.Seen.{Holds, seen_fault, seen_operand, seen_template};
+ghost use Rattle.asm_faults.specs.Views.{Holds, seen_fault, seen_operand, seen_template};
 ghost use Rattle.asm_faults.specs.Templates.{lookups_from, template_fault};
 
 use crate::comparison::{check_unused, look_up};

@@ -5,10 +5,10 @@ ghost use Rattle.std.specs.Prelude.{map, option_map};
 ghost use Rattle.std.specs.Option.{option_map_or};
 ghost use Rattle.std.specs.List.{filter_map, list_any};
 ghost use Rattle.asm_faults.specs.Operands.{Operand as OperandValue, count_unnamed, is_register};
-ghost use Rattle.asm_faults.specs.Compared.{fault_of, means, unused_operands, unused_faults};
-ghost use Rattle.asm_faults.specs.Compared.{unused_from};
-ghost use Rattle.asm_faults.specs.Compared.{unused_one};
-ghost use Rattle.asm_faults.specs.Seen.{Holds, seen_fault, seen_lookup, seen_operand};
+ghost use Rattle.asm_faults.specs.Comparison.{fault_of, means, unused_operands, unused_faults};
+ghost use Rattle.asm_faults.specs.Comparison.{unused_from};
+ghost use Rattle.asm_faults.specs.Comparison.{unused_one};
+ghost use Rattle.asm_faults.specs.Views.{Holds, seen_fault, seen_lookup, seen_operand};
 
 use crate::faults::AsmFault;
 use crate::lookups::Lookup;

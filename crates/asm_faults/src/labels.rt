@@ -5,11 +5,11 @@ ghost use Rattle.std.specs.Prelude.{◌≡◌, ◌++◌, ◌∷◌, [], IfOk, On
 ghost use Rattle.std.specs.Prelude.{string_bytes};
 ghost use Rattle.std.specs.List.{slice_get};
 ghost use Rattle.rustc_parse_format.specs.Faults.{message};
-ghost use Rattle.rustc_parse_format.specs.Seen.{seen_error};
-ghost use Rattle.rustc_parse_format.specs.SeenFaults.{seen_fault as seen_text_fault};
+ghost use Rattle.rustc_parse_format.specs.Views.{seen_error};
+ghost use Rattle.rustc_parse_format.specs.FaultViews.{seen_fault as seen_text_fault};
 ghost use Rattle.asm_faults.specs.Labels.{kind_at, kind_label, kinds_at, label, late_labels};
 ghost use Rattle.asm_faults.specs.Labels.{second_labels, text_labels, unused_labels, wrong_labels};
-ghost use Rattle.asm_faults.specs.Seen.{seen_label, seen_operand};
+ghost use Rattle.asm_faults.specs.Views.{seen_label, seen_operand};
 
 use crate::checker::AsmCall;
 use crate::faults::{AsmFault, AsmSpot};
@@ -209,7 +209,7 @@ fn push_unused(
 impl<'a> AsmCall<'a> {
     ghost use Rattle.std.specs.Prelude.{◌≡◌, IfOk, map};
     ghost use Rattle.asm_faults.specs.Labels.{labels};
-    ghost use Rattle.asm_faults.specs.Seen.{seen_fault, seen_label, seen_operand};
+    ghost use Rattle.asm_faults.specs.Views.{seen_fault, seen_label, seen_operand};
 
     /// Returns the labels of one of the faults, in rustc's order. Returns `Err` if an allocation
     /// fails.

@@ -2,13 +2,13 @@
 
 ghost use Rattle.std.specs.Prelude.{◌≡◌, ◌≤◌, ◌∷◌, ◌++◌, [], OnOk, Some, chars, drop, length, map};
 ghost use Rattle.std.specs.Prelude.{option_map};
-ghost use Rattle.rustc_parse_format.specs.Seen.{pair, seen_piece, seen_argument, seen_position};
+ghost use Rattle.rustc_parse_format.specs.Views.{pair, seen_piece, seen_argument, seen_position};
 ghost use Rattle.asm_faults.specs.Lookups.{argument_lookups, first_spot, is_long, is_next};
 ghost use Rattle.asm_faults.specs.Lookups.{modifier_lookups, next_after};
 ghost use Rattle.asm_faults.specs.Lookups.{next_after_pieces, next_of};
 ghost use Rattle.asm_faults.specs.Lookups.{one_lookups, piece_lookups, places_after};
 ghost use Rattle.asm_faults.specs.Lookups.{position_lookup, spot_of};
-ghost use Rattle.asm_faults.specs.Seen.{seen_lookup};
+ghost use Rattle.asm_faults.specs.Views.{seen_lookup};
 
 use crate::faults::AsmSpot;
 use rustc_parse_format::{Argument, Piece, Position};

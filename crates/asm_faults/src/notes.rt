@@ -5,12 +5,12 @@ ghost use Rattle.std.specs.Prelude.{◌≡◌, ◌++◌, ◌∷◌, [], IfOk, On
 ghost use Rattle.std.specs.Prelude.{option_map, string_bytes};
 ghost use Rattle.std.specs.List.{slice_get};
 ghost use Rattle.rustc_parse_format.specs.Faults.{message};
-ghost use Rattle.rustc_parse_format.specs.SeenFaults.{seen_fault as seen_text_fault};
-ghost use Rattle.placeholder_check.specs.Seen.{text};
+ghost use Rattle.rustc_parse_format.specs.FaultViews.{seen_fault as seen_text_fault};
+ghost use Rattle.placeholder_check.specs.Views.{text};
 ghost use Rattle.asm_faults.specs.Notes.{count_text, kind_notes, note};
 ghost use Rattle.asm_faults.specs.Notes.{noun, placeholders, reference, text_notes, unused_help};
 ghost use Rattle.asm_faults.specs.Notes.{unused_start, wrong_help, wrong_notes};
-ghost use Rattle.asm_faults.specs.Seen.{seen_note, seen_operand};
+ghost use Rattle.asm_faults.specs.Views.{seen_note, seen_operand};
 
 use crate::checker::AsmCall;
 use crate::faults::{AsmFault, AsmSpot};
@@ -228,7 +228,7 @@ fn unused_help(
 impl<'a> AsmCall<'a> {
     ghost use Rattle.std.specs.Prelude.{◌≡◌, IfOk, map, option_map};
     ghost use Rattle.asm_faults.specs.Notes.{help, notes};
-    ghost use Rattle.asm_faults.specs.Seen.{seen_fault, seen_note, seen_operand};
+    ghost use Rattle.asm_faults.specs.Views.{seen_fault, seen_note, seen_operand};
 
     /// Returns the notes of one of the faults, in rustc's order. Returns `Err` if an allocation
     /// fails.

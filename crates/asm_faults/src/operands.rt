@@ -8,7 +8,7 @@ ghost use Rattle.rustc_parse_format.specs.Characters.{Text};
 ghost use Rattle.asm_faults.specs.Operands.{Named, Operand as OperandValue, Register, Unnamed};
 ghost use Rattle.asm_faults.specs.Operands.{count_unnamed, faults_from, faults_of, late_faults};
 ghost use Rattle.asm_faults.specs.Operands.{others_of, slot, slots_after};
-ghost use Rattle.asm_faults.specs.Seen.{Holds, found_in, seen_fault, seen_operand};
+ghost use Rattle.asm_faults.specs.Views.{Holds, found_in, seen_fault, seen_operand};
 
 use crate::faults::AsmFault;
 use std::alloc::{AllocError, Global};

@@ -3,12 +3,12 @@
 ghost use Rattle.std.specs.Prelude.{◌≡◌, ◌+◌, ◌<◌, ◌≤◌, ◌^◌, ◌++◌, IfOk, OnOk, length, map};
 ghost use Rattle.std.specs.Prelude.{option_map};
 ghost use Rattle.std.specs.List.{AllByRecursion};
-ghost use Rattle.rustc_parse_format.specs.Seen.{seen_snippet};
-ghost use Rattle.rustc_parse_format.specs.SeenFaults.{seen_fault as seen_text_fault};
+ghost use Rattle.rustc_parse_format.specs.Views.{seen_snippet};
+ghost use Rattle.rustc_parse_format.specs.FaultViews.{seen_fault as seen_text_fault};
 ghost use Rattle.rustc_parse_format.specs.World.{hashes};
-ghost use Rattle.placeholder_check.specs.Seen.{text as seen_text};
+ghost use Rattle.placeholder_check.specs.Views.{text as seen_text};
 ghost use Rattle.text_faults.specs.Texts.{text_fault};
-ghost use Rattle.asm_faults.specs.Seen.{seen_fault, seen_lookup, seen_template};
+ghost use Rattle.asm_faults.specs.Views.{seen_fault, seen_lookup, seen_template};
 ghost use Rattle.asm_faults.specs.Templates.{lookups_from, next_after_template, start};
 ghost use Rattle.asm_faults.specs.Templates.{template_fault, template_lookups};
 
@@ -55,8 +55,7 @@ fn fault_of<'a>(alloc: Global, template: Template<'a>) -> Result<Option<Fault<'a
         false,
         ParseMode::InlineAsm,
     )?;
-    let fault = text_fault(alloc, &mut parser)?;
-    Ok(fault)
+    text_fault(alloc, &mut parser)
 }
 
 /// Adds the lookups for the placeholders of a template. Returns `Err` if an allocation fails.

@@ -5,10 +5,10 @@ ghost use Rattle.std.specs.Prelude.{◌≡◌, ◌++◌, OnOk, chars, codes, dec
 ghost use Rattle.std.specs.Prelude.{string_bytes};
 ghost use Rattle.std.specs.List.{slice_get};
 ghost use Rattle.rustc_parse_format.specs.Faults.{message};
-ghost use Rattle.rustc_parse_format.specs.SeenFaults.{seen_fault as seen_text_fault};
+ghost use Rattle.rustc_parse_format.specs.FaultViews.{seen_fault as seen_text_fault};
 ghost use Rattle.text_faults.specs.Words.{quoted_name};
-ghost use Rattle.asm_faults.specs.Seen.{seen_fault, seen_operand};
-ghost use Rattle.placeholder_check.specs.Seen.{text};
+ghost use Rattle.asm_faults.specs.Views.{seen_fault, seen_operand};
+ghost use Rattle.placeholder_check.specs.Views.{text};
 ghost use Rattle.asm_faults.specs.Words.{asm_id, given_name, name_of, never_used, title};
 ghost use Rattle.asm_faults.specs.Words.{unused_title};
 
@@ -21,7 +21,7 @@ use std::alloc::{AllocError, Global};
 
 impl AsmFault<'_> {
     ghost use Rattle.std.specs.Prelude.{◌≡◌};
-    ghost use Rattle.asm_faults.specs.Seen.{seen_fault};
+    ghost use Rattle.asm_faults.specs.Views.{seen_fault};
     ghost use Rattle.asm_faults.specs.Words.{asm_id};
 
     /// Returns the id of the fault in kebab case, as `wrong-operand`: the same for all faults of a
@@ -129,7 +129,7 @@ fn put_index_title(out: &mut String, index: usize) -> Result<(), AllocError>
 
 impl<'a> AsmCall<'a> {
     ghost use Rattle.std.specs.Prelude.{◌≡◌, ◌++◌, OnOk, map, string_bytes};
-    ghost use Rattle.asm_faults.specs.Seen.{seen_fault, seen_operand};
+    ghost use Rattle.asm_faults.specs.Views.{seen_fault, seen_operand};
     ghost use Rattle.asm_faults.specs.Words.{title};
 
     /// Adds the title of one of the faults to the end of `out`, as rustc has it. Returns `Err` if

@@ -10,7 +10,7 @@ use Rattle.std.proofs.lemmas.List.Elements.{filter_map-append}
 use Rattle.std.proofs.lemmas.Option.{slice_get-get_or, slice_get-map}
 use Rattle.rust_trees.specs.Leaves.{Leaf}
 use Rattle.format_calls.specs.Assembly.{asm_part}
-use Rattle.format_calls.specs.Counted.{AreTrees, AreUpTo, is_stop}
+use Rattle.format_calls.specs.Extents.{AreTrees, AreUpTo, is_stop}
 use Rattle.format_calls.specs.declared.split.Argument.{Argument}
 use Rattle.asm_faults.specs.Operands.{Operand}
 use Rattle.asm_lint.specs.Assembly.{operand_of, operands}

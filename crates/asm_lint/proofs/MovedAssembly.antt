@@ -17,7 +17,7 @@ use Rattle.format_calls.specs.declared.assembly.AsmPart.TheVariants.{Register as
 use Rattle.format_calls.specs.declared.assembly.AsmPart.TheVariants.{Setting, Unknown}
 use Rattle.format_calls.specs.declared.listing.Call.{Call}
 use Rattle.format_calls.specs.Arguments.{AreArguments}
-use Rattle.format_calls.specs.Counted.{AreTrees, is_uncounted}
+use Rattle.format_calls.specs.Extents.{AreTrees, is_uncounted}
 use Rattle.format_calls.specs.Assembly.{asm_part, has_raw, part_of}
 use Rattle.format_calls.specs.Assembly.{template_count, token_in, value_start}
 use Rattle.format_calls.specs.Parts.{moved_call}

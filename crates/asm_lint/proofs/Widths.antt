@@ -4,7 +4,7 @@ use Rattle.std.proofs.Common.{ap, sym, ◌∙◌, arith, chars, length, length-a
 use Rattle.std.proofs.Common.{replicate}
 use Rattle.std.proofs.lemmas.List.{length-replicate}
 use Rattle.std.proofs.lemmas.Str.{encodes-chars, len_utf8_bounds}
-use Rattle.rust_tokens.specs.Placed.{byte_length}
+use Rattle.rust_tokens.specs.Spans.{byte_length}
 use Rattle.rust_tokens.proofs.Readings.{byte-length}
 use Rattle.rustc_parse_format.specs.Characters.{Text}
 use Rattle.rustc_parse_format.specs.Literal.{IsLiteral, raw_closing, raw_frame, raw_opening}

@@ -6,7 +6,7 @@ use Rattle.rustc_parse_format.specs.Characters.{Text}
 use Rattle.rustc_parse_format.specs.Literal.{IsLiteral}
 use Rattle.rust_trees.specs.Leaves.{Leaf}
 use Rattle.format_calls.specs.Assembly.{asm_part}
-use Rattle.format_calls.specs.Counted.{AreTrees, is_uncounted}
+use Rattle.format_calls.specs.Extents.{AreTrees, is_uncounted}
 use Rattle.format_calls.specs.declared.assembly.AsmPart.{AsmPart}
 use Rattle.format_calls.specs.declared.assembly.AsmPart.TheVariants.{Operand as OperandPart, Raw}
 use Rattle.format_calls.specs.declared.assembly.AsmPart.TheVariants.{Register as RegisterPart}

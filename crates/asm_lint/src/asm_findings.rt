@@ -4,7 +4,7 @@
 ghost use Rattle.std.specs.Prelude.{◌≡◌, ◌++◌, ◌∷◌, [], List, IfOk, IfSome, OnOk, length, map};
 ghost use Rattle.std.specs.Prelude.{option_map, string_bytes};
 ghost use Rattle.std.specs.List.{All};
-ghost use Rattle.asm_faults.specs.Seen.{seen_fault, seen_label, seen_note, seen_operand};
+ghost use Rattle.asm_faults.specs.Views.{seen_fault, seen_label, seen_note, seen_operand};
 ghost use Rattle.asm_lint.specs.AsmFindings.{TellAllAsm, TellsAsm, counted_asm};
 ghost use Rattle.asm_lint.specs.AsmFindings.{is_template_fault, shown_count};
 ghost use Rattle.asm_lint.specs.Spans.{HasSpans, IsSpan};

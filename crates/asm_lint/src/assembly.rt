@@ -12,7 +12,7 @@ ghost use Rattle.format_calls.specs.Arguments.{AreArguments};
 ghost use Rattle.format_calls.specs.Assembly.{asm_part, template_count};
 ghost use Rattle.asm_faults.specs.Calls.{asm_faults};
 ghost use Rattle.asm_faults.specs.Operands.{slots_after};
-ghost use Rattle.asm_faults.specs.Seen.{seen_operand, seen_template};
+ghost use Rattle.asm_faults.specs.Views.{seen_operand, seen_template};
 ghost use Rattle.asm_lint.specs.AsmFindings.{TellAllAsm, counted_asm};
 ghost use Rattle.asm_lint.specs.Assembly.{AreTemplates, HasNoText, HaveNoText, IsTemplate};
 ghost use Rattle.asm_lint.specs.Assembly.{ReadsLiterals, ReadsTemplates, are_raw};
@@ -318,7 +318,7 @@ pub fn read_asm<'a>(
         call.close,
     );
     let is_whole = are_known(operands.is_unknown, extent.is_counted);
-    let reading = read_literals(
+    read_literals(
         alloc,
         findings,
         text,
@@ -326,6 +326,5 @@ pub fn read_asm<'a>(
         &arguments[..count],
         &operands,
         is_whole,
-    )?;
-    Ok(reading)
+    )
 }

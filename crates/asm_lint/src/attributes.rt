@@ -4,7 +4,7 @@ ghost use Rattle.std.specs.Prelude.{◌≡◌, ◌+◌, ◌<◌, ◌≤◌, ◌+
 ghost use Rattle.std.specs.Prelude.{IsTrue, OnOk, chars, false, length, map, option_map};
 ghost use Rattle.std.specs.Prelude.{slice_get};
 ghost use Rattle.std.specs.List.{All, AllByRecursion};
-ghost use Rattle.message_faults.specs.Seen.{HasNames};
+ghost use Rattle.message_faults.specs.Views.{HasNames};
 ghost use Rattle.rust_trees.specs.Forests.{IsPair};
 ghost use Rattle.rust_trees.specs.Leaves.{leaf};
 ghost use Rattle.asm_lint.specs.Attributes.{IsAttribute, IsFront, IsItem, ReadsAt, ReadsFronts};

@@ -2,7 +2,7 @@
 
 ghost use Rattle.std.specs.Prelude.{◌≡◌, IfOk, map, string_bytes};
 ghost use Rattle.std.specs.List.{All};
-ghost use Rattle.text_faults.specs.Seen.{seen_label};
+ghost use Rattle.text_faults.specs.Views.{seen_label};
 ghost use Rattle.asm_lint.specs.Spans.{IsSpan};
 
 use crate::spans::{Site, range_in, spot_range};

@@ -5,7 +5,7 @@ ghost use Rattle.std.specs.Prelude.{◌≡◌, ◌++◌, ◌∷◌, [], List, So
 ghost use Rattle.std.specs.Prelude.{option_map, string_bytes};
 ghost use Rattle.std.specs.List.{All};
 ghost use Rattle.message_faults.specs.Messages.{message_faults};
-ghost use Rattle.message_faults.specs.Seen.{HasNames, seen_fault, start};
+ghost use Rattle.message_faults.specs.Views.{HasNames, seen_fault, start};
 ghost use Rattle.asm_lint.specs.Attributes.{ReadsText, TellMessages, TellsMessage};
 ghost use Rattle.asm_lint.specs.Spans.{HasSpans};
 ghost use Rattle.asm_lint.specs.Literals.{without_crs};

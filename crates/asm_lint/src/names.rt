@@ -1,7 +1,7 @@
 //! The names of arguments.
 
 ghost use Rattle.std.specs.Prelude.{◌≡◌, chars, map, option_map};
-ghost use Rattle.placeholder_check.specs.Seen.{text};
+ghost use Rattle.placeholder_check.specs.Views.{text};
 ghost use Rattle.rust_trees.specs.Leaves.{leaf};
 ghost use Rattle.asm_lint.specs.Names.{name_of, without_raw};
 

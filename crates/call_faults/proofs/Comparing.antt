@@ -18,7 +18,7 @@ use Rattle.placeholder_check.specs.Uses.{Use, ByIndex, ByName}
 use Rattle.call_faults.specs.declared.faults.InvalidReference.{InvalidReference}
 use Rattle.call_faults.specs.declared.faults.Reference.{Reference}
 use Rattle.call_faults.specs.declared.arguments.Arguments.{Arguments}
-use Rattle.call_faults.specs.Seen.{Holds, KnowsNames}
+use Rattle.call_faults.specs.Views.{Holds, KnowsNames}
 use Rattle.call_faults.specs.Arguments.{FormatArgument, Entry, first_of, has_name, index_of}
 use Rattle.call_faults.specs.Arguments.{kept_after}
 use Rattle.call_faults.specs.Arguments.{with_given}

@@ -17,11 +17,11 @@ use Rattle.std.proofs.lemmas.Map.Text.{btree_map_updates_str}
 use Rattle.std.proofs.lemmas.Slice.Eq.{bytes_eq-Decides}
 use Rattle.std.proofs.lemmas.Str.{chars_from_encodes, encodes-chars}
 use Rattle.rustc_parse_format.specs.Characters.{Text}
-use Rattle.placeholder_check.specs.Seen.{text}
+use Rattle.placeholder_check.specs.Views.{text}
 use Rattle.call_faults.specs.declared.arguments.Arguments.{Arguments}
 use Rattle.call_faults.specs.declared.arguments.Entry.{Entry as DeclaredKept}
 use Rattle.call_faults.specs.Arguments.{FormatArgument, Entry, first_of, has_name, index_of}
-use Rattle.call_faults.specs.Seen.{Holds, found_in, seen_given, seen_entry}
+use Rattle.call_faults.specs.Views.{Holds, found_in, seen_given, seen_entry}
 use Rattle.call_faults.proofs.Lists.{skipped}
 
 -- texts are the same exactly if their bytes are

@@ -8,4 +8,4 @@ pub mod Words
 pub mod Spots
 pub mod Labels
 pub mod Notes
-pub mod Seen
+pub mod Views

@@ -9,7 +9,7 @@ ghost use Rattle.call_faults.specs.Arguments.{Entry as EntryValue, first_of, is_
 ghost use Rattle.call_faults.specs.Arguments.{list_faults, named_of, repeated_name_faults};
 ghost use Rattle.call_faults.specs.Arguments.{with_given};
 ghost use Rattle.call_faults.specs.Calls.{is_last};
-ghost use Rattle.call_faults.specs.Seen.{Holds, found_in, seen_fault, seen_given, seen_entry};
+ghost use Rattle.call_faults.specs.Views.{Holds, found_in, seen_fault, seen_given, seen_entry};
 
 use crate::faults::CallFault;
 use std::alloc::{AllocError, Global};

@@ -4,15 +4,15 @@ ghost use Rattle.std.specs.Prelude.{◌≡◌, ◌+◌, ◌<◌, ◌^◌, ◌↔
 ghost use Rattle.std.specs.Prelude.{is_none, length, map, option_map};
 ghost use Rattle.std.specs.List.{All};
 ghost use Rattle.rustc_parse_format.specs.Call.{pieces_of};
-ghost use Rattle.rustc_parse_format.specs.Seen.{seen_piece, seen_snippet};
+ghost use Rattle.rustc_parse_format.specs.Views.{seen_piece, seen_snippet};
 ghost use Rattle.rustc_parse_format.specs.State.{after_all, calls};
 ghost use Rattle.rustc_parse_format.specs.World.{hashes, pieces_in};
 ghost use Rattle.call_faults.specs.CallFaults.{is_warning};
 ghost use Rattle.call_faults.specs.Calls.{call_faults, kept_indices};
 ghost use Rattle.call_faults.specs.Clean.{IsClean};
-ghost use Rattle.placeholder_check.specs.Seen.{text as seen_text};
-ghost use Rattle.rustc_parse_format.specs.SeenFaults.{seen_fault as seen_text_fault};
-ghost use Rattle.call_faults.specs.Seen.{seen_fault, seen_given, start};
+ghost use Rattle.placeholder_check.specs.Views.{text as seen_text};
+ghost use Rattle.rustc_parse_format.specs.FaultViews.{seen_fault as seen_text_fault};
+ghost use Rattle.call_faults.specs.Views.{seen_fault, seen_given, start};
 ghost use Rattle.call_faults.specs.Spots.{counts_before};
 ghost use Rattle.text_faults.specs.Texts.{text_fault};
 
@@ -84,8 +84,7 @@ fn fault_of<'a>(alloc: Global, string: FormatString<'a>) -> Result<Option<Fault<
         string.appended_newline,
         ParseMode::Format,
     )?;
-    let fault = text_fault(alloc, &mut parser)?;
-    Ok(fault)
+    text_fault(alloc, &mut parser)
 }
 
 /// Returns the faults of a call whose format string has these pieces, and puts the indices of

@@ -16,9 +16,9 @@ ghost use Rattle.call_faults.specs.Comparison.{is_missing_name, is_position, is_
 ghost use Rattle.call_faults.specs.Comparison.{left_faults};
 ghost use Rattle.call_faults.specs.Comparison.{is_settled, lookup_faults, means, missing_faults};
 ghost use Rattle.call_faults.specs.Lookups.{Lookup as LookupValue};
-ghost use Rattle.call_faults.specs.Seen.{Holds, KnowsNames, found_in, seen_fault, seen_entry};
-ghost use Rattle.call_faults.specs.Seen.{seen_lookup};
-ghost use Rattle.call_faults.specs.Seen.{seen_use};
+ghost use Rattle.call_faults.specs.Views.{Holds, KnowsNames, found_in, seen_fault, seen_entry};
+ghost use Rattle.call_faults.specs.Views.{seen_lookup};
+ghost use Rattle.call_faults.specs.Views.{seen_use};
 
 use crate::arguments::{Arguments, Entry, index_of, insert};
 use crate::faults::{CallFault, InvalidReference, Part};

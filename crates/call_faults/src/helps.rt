@@ -3,14 +3,14 @@
 ghost use Rattle.std.specs.Prelude.{◌≡◌, ◌++◌, ◌∷◌, [], IfOk, OnOk, chars, map, option_map};
 ghost use Rattle.std.specs.Prelude.{string_bytes};
 ghost use Rattle.rustc_parse_format.specs.Faults.{message};
-ghost use Rattle.rustc_parse_format.specs.Seen.{pair};
-ghost use Rattle.rustc_parse_format.specs.SeenFaults.{seen_fault as seen_text_fault};
+ghost use Rattle.rustc_parse_format.specs.Views.{pair};
+ghost use Rattle.rustc_parse_format.specs.FaultViews.{seen_fault as seen_text_fault};
 ghost use Rattle.call_faults.specs.Notes.{added_spot, after_name, by_index_help, debug_help};
 ghost use Rattle.call_faults.specs.Notes.{name_in, placeholders, positional_help};
 ghost use Rattle.call_faults.specs.Notes.{redundant_help, removal, removed_spot};
 ghost use Rattle.call_faults.specs.Notes.{replacement, text_help};
 ghost use Rattle.call_faults.specs.Notes.{unnamed_count, unused_help};
-ghost use Rattle.call_faults.specs.Seen.{seen_call, seen_edit, seen_given, seen_help};
+ghost use Rattle.call_faults.specs.Views.{seen_call, seen_edit, seen_given, seen_help};
 ghost use Rattle.call_faults.specs.Spots.{edit};
 
 use crate::arguments::FormatArgument;
@@ -283,7 +283,7 @@ fn text_help(
 impl<'a> CallReport<'a> {
     ghost use Rattle.std.specs.Prelude.{◌≡◌, IfOk, option_map};
     ghost use Rattle.call_faults.specs.Notes.{help};
-    ghost use Rattle.call_faults.specs.Seen.{seen_call, seen_fault, seen_help};
+    ghost use Rattle.call_faults.specs.Views.{seen_call, seen_fault, seen_help};
 
     /// Returns the suggestion of rustc for one of the faults, or `None` if there is none or it is
     /// in a label. The suggestions for the directives of other languages are left out. Returns

@@ -3,8 +3,8 @@
 
 ghost use Rattle.std.specs.Prelude.{◌≡◌, ◌++◌, ◌∷◌, [], IfOk, OnOk, chars, map, string_bytes};
 ghost use Rattle.rustc_parse_format.specs.Faults.{message};
-ghost use Rattle.rustc_parse_format.specs.Seen.{pair, seen_error};
-ghost use Rattle.rustc_parse_format.specs.SeenFaults.{seen_fault as seen_text_fault};
+ghost use Rattle.rustc_parse_format.specs.Views.{pair, seen_error};
+ghost use Rattle.rustc_parse_format.specs.FaultViews.{seen_fault as seen_text_fault};
 ghost use Rattle.call_faults.specs.Labels.{by_index_labels, by_index_text, have_names};
 ghost use Rattle.call_faults.specs.Labels.{inline_help, is_last, many_unused};
 ghost use Rattle.call_faults.specs.Labels.{named_text, one_unused};
@@ -13,8 +13,8 @@ ghost use Rattle.call_faults.specs.Labels.{removal_up_to_next, second_label, sec
 ghost use Rattle.call_faults.specs.Labels.{several_text, single_text, text_labels};
 ghost use Rattle.call_faults.specs.Labels.{unused_and_literal};
 ghost use Rattle.call_faults.specs.Labels.{unused_labels, use_text};
-ghost use Rattle.call_faults.specs.Seen.{seen_call, seen_given};
-ghost use Rattle.text_faults.specs.Seen.{seen_label};
+ghost use Rattle.call_faults.specs.Views.{seen_call, seen_given};
+ghost use Rattle.text_faults.specs.Views.{seen_label};
 ghost use Rattle.text_faults.specs.Spots.{primary, secondary};
 ghost use Rattle.text_faults.specs.declared.spots.Spot.TheVariants.{Argument as WholeArgument};
 ghost use Rattle.text_faults.specs.declared.spots.Spot.TheVariants.{Value};
@@ -330,8 +330,8 @@ fn push_by_index(
 impl<'a> CallReport<'a> {
     ghost use Rattle.std.specs.Prelude.{◌≡◌, IfOk, map};
     ghost use Rattle.call_faults.specs.Labels.{labels};
-    ghost use Rattle.call_faults.specs.Seen.{seen_call, seen_fault};
-    ghost use Rattle.text_faults.specs.Seen.{seen_label};
+    ghost use Rattle.call_faults.specs.Views.{seen_call, seen_fault};
+    ghost use Rattle.text_faults.specs.Views.{seen_label};
 
     /// Returns the labels of one of the faults, as rustc has them. The primary label that begins
     /// first in the source is where rustc says that the fault is. A fault of the string has the

@@ -2,12 +2,12 @@
 
 ghost use Rattle.std.specs.Prelude.{◌≡◌, ◌∷◌, ◌++◌, ◌==◌, [], IfOk, OnOk, chars, codes, map};
 ghost use Rattle.std.specs.List.{list_any};
-ghost use Rattle.rustc_parse_format.specs.Seen.{seen_piece, seen_argument, seen_count};
-ghost use Rattle.rustc_parse_format.specs.Seen.{seen_position};
+ghost use Rattle.rustc_parse_format.specs.Views.{seen_piece, seen_argument, seen_count};
+ghost use Rattle.rustc_parse_format.specs.Views.{seen_position};
 ghost use Rattle.placeholder_check.specs.Uses.{count_uses, position_use};
 ghost use Rattle.call_faults.specs.Lookups.{argument_lookups, is_known, lookups_from};
 ghost use Rattle.call_faults.specs.Lookups.{piece_lookups, refer};
-ghost use Rattle.call_faults.specs.Seen.{seen_lookup, seen_use};
+ghost use Rattle.call_faults.specs.Views.{seen_lookup, seen_use};
 
 use crate::faults::{Part, Reference};
 use rustc_parse_format::{Argument, Count, Piece, Position};

@@ -2,12 +2,12 @@
 //! `labels`, and returns `Err` if an allocation fails.
 
 ghost use Rattle.std.specs.Prelude.{◌≡◌, ◌++◌, [], IfOk, OnOk, map, string_bytes};
-ghost use Rattle.rustc_parse_format.specs.Seen.{pair, seen_piece, seen_count, seen_position};
+ghost use Rattle.rustc_parse_format.specs.Views.{pair, seen_piece, seen_count, seen_position};
 ghost use Rattle.call_faults.specs.Labels.{expected_count, few_labels, is_next, next_label};
 ghost use Rattle.call_faults.specs.Labels.{next_labels, star_label, star_labels, star_of};
 ghost use Rattle.call_faults.specs.Labels.{star_text};
-ghost use Rattle.call_faults.specs.Seen.{seen_call};
-ghost use Rattle.text_faults.specs.Seen.{seen_label};
+ghost use Rattle.call_faults.specs.Views.{seen_call};
+ghost use Rattle.text_faults.specs.Views.{seen_label};
 ghost use Rattle.text_faults.specs.Spots.{primary, secondary};
 ghost use Rattle.call_faults.specs.Spots.{reference_spot};
 ghost use Rattle.text_faults.specs.declared.spots.Spot.TheVariants.{Value};

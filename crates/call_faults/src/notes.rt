@@ -6,10 +6,10 @@ ghost use Rattle.std.specs.Prelude.{option_map, string_bytes};
 ghost use Rattle.std.specs.List.{list_any};
 ghost use Rattle.rustc_parse_format.specs.Characters.{Text};
 ghost use Rattle.rustc_parse_format.specs.Faults.{message};
-ghost use Rattle.rustc_parse_format.specs.Seen.{seen_piece, seen_alignment, seen_count};
-ghost use Rattle.rustc_parse_format.specs.Seen.{seen_position};
-ghost use Rattle.rustc_parse_format.specs.Seen.{seen_spec};
-ghost use Rattle.rustc_parse_format.specs.SeenFaults.{seen_fault as seen_text_fault};
+ghost use Rattle.rustc_parse_format.specs.Views.{seen_piece, seen_alignment, seen_count};
+ghost use Rattle.rustc_parse_format.specs.Views.{seen_position};
+ghost use Rattle.rustc_parse_format.specs.Views.{seen_spec};
+ghost use Rattle.rustc_parse_format.specs.FaultViews.{seen_fault as seen_text_fault};
 ghost use Rattle.call_faults.specs.Notes.{ambiguity_text, are_missing, capture_text, count_note};
 ghost use Rattle.call_faults.specs.Notes.{flags_note, has_flags};
 ghost use Rattle.call_faults.specs.Notes.{has_star, is_aligned, is_flagged, is_given, is_name};
@@ -17,8 +17,8 @@ ghost use Rattle.call_faults.specs.Notes.{is_variable, missing_notes, named_posi
 ghost use Rattle.call_faults.specs.Notes.{named_positions, note_if, redundant_note};
 ghost use Rattle.call_faults.specs.Notes.{redundant_text, specifiers, text_notes, traits_text};
 ghost use Rattle.call_faults.specs.Notes.{unused_notes, variable_of};
-ghost use Rattle.placeholder_check.specs.Seen.{text};
-ghost use Rattle.call_faults.specs.Seen.{found_in, seen_call, seen_fault, seen_given, seen_note};
+ghost use Rattle.placeholder_check.specs.Views.{text};
+ghost use Rattle.call_faults.specs.Views.{found_in, seen_call, seen_fault, seen_given, seen_note};
 ghost use Rattle.call_faults.specs.Spots.{plain_note};
 
 use crate::arguments::{FormatArgument, index_of, insert};
@@ -359,7 +359,7 @@ fn push_redundant<'a>(
 impl<'a> CallReport<'a> {
     ghost use Rattle.std.specs.Prelude.{◌≡◌, IfOk, map};
     ghost use Rattle.call_faults.specs.Notes.{notes};
-    ghost use Rattle.call_faults.specs.Seen.{seen_call, seen_fault, seen_note};
+    ghost use Rattle.call_faults.specs.Views.{seen_call, seen_fault, seen_note};
 
     /// Returns the notes of one of the faults, as rustc has them, but for the note of a warning
     /// which says that it is on by default. A fault of the string has the note of its error.

@@ -2,7 +2,7 @@
 
 ghost use Rattle.std.specs.Prelude.{◌≡◌, ◌+◌, ◌<◌, ◌^◌, ◌++◌, ◌∷◌, [], IfOk, OnOk, map, option_map};
 ghost use Rattle.std.specs.List.{slice_get};
-ghost use Rattle.rustc_parse_format.specs.Seen.{pair, seen_piece, seen_argument, seen_count};
+ghost use Rattle.rustc_parse_format.specs.Views.{pair, seen_piece, seen_argument, seen_count};
 ghost use Rattle.call_faults.specs.Spots.{rest_after, after_dot, count_spot, count_with};
 ghost use Rattle.text_faults.specs.Spots.{bytes_at};
 ghost use Rattle.call_faults.specs.Spots.{counts_before, index_spot};
@@ -10,7 +10,7 @@ ghost use Rattle.call_faults.specs.Spots.{name_spot, named_spot, part_spot, plac
 ghost use Rattle.call_faults.specs.Spots.{placeholder_at, reference_spot};
 ghost use Rattle.text_faults.specs.Spots.{primary, secondary};
 ghost use Rattle.call_faults.specs.Spots.{spot_of, type_spot, use_spot};
-ghost use Rattle.text_faults.specs.Seen.{seen_label};
+ghost use Rattle.text_faults.specs.Views.{seen_label};
 
 use crate::faults::{Part, Reference};
 use rustc_parse_format::{Argument, Count, Piece};

@@ -5,11 +5,11 @@ ghost use Rattle.std.specs.Prelude.{◌≡◌, ◌++◌, ◌∷◌, [], OnOk, ch
 ghost use Rattle.std.specs.Prelude.{if◌then◌else◌, string_bytes};
 ghost use Rattle.std.specs.List.{list_any, slice_get};
 ghost use Rattle.rustc_parse_format.specs.Faults.{message};
-ghost use Rattle.rustc_parse_format.specs.Seen.{seen_piece, seen_count, seen_position};
-ghost use Rattle.rustc_parse_format.specs.SeenFaults.{seen_fault as seen_text_fault};
+ghost use Rattle.rustc_parse_format.specs.Views.{seen_piece, seen_count, seen_position};
+ghost use Rattle.rustc_parse_format.specs.FaultViews.{seen_fault as seen_text_fault};
 ghost use Rattle.placeholder_check.specs.Report.{IsReport, Report};
 ghost use Rattle.placeholder_check.specs.Uses.{uses};
-ghost use Rattle.call_faults.specs.Seen.{seen_fault, seen_given, title_parts};
+ghost use Rattle.call_faults.specs.Views.{seen_fault, seen_given, title_parts};
 ghost use Rattle.call_faults.specs.Words.{call_id, count_text, few_title, has_number, is_counted};
 ghost use Rattle.call_faults.specs.Words.{is_named, is_number, number_list, name_of, never_used};
 ghost use Rattle.call_faults.specs.Words.{numbers_title, plural, separator};
@@ -26,7 +26,7 @@ use std::alloc::{AllocError, Global};
 
 impl CallFault<'_> {
     ghost use Rattle.std.specs.Prelude.{◌≡◌};
-    ghost use Rattle.call_faults.specs.Seen.{seen_fault};
+    ghost use Rattle.call_faults.specs.Views.{seen_fault};
     ghost use Rattle.call_faults.specs.Words.{call_id};
 
     /// Returns the id of the fault in kebab case, as `unused-argument`: the same for all faults of
@@ -290,10 +290,10 @@ fn put_missing(out: &mut String, call: &CallReport<'_>) -> Result<(), AllocError
 
 impl<'a> CallReport<'a> {
     ghost use Rattle.std.specs.Prelude.{◌≡◌, ◌++◌, [], OnOk, length, map, string_bytes};
-    ghost use Rattle.rustc_parse_format.specs.Seen.{seen_piece};
+    ghost use Rattle.rustc_parse_format.specs.Views.{seen_piece};
     ghost use Rattle.placeholder_check.specs.Report.{IsReport, Report};
     ghost use Rattle.placeholder_check.specs.Uses.{uses};
-    ghost use Rattle.call_faults.specs.Seen.{seen_fault, title_parts};
+    ghost use Rattle.call_faults.specs.Views.{seen_fault, title_parts};
     ghost use Rattle.call_faults.specs.Words.{title};
 
     /// Adds the title of one of the faults to the end of `out`, as rustc has it. Returns `Err` if

@@ -14,7 +14,7 @@ use Rattle.rust_trees.proofs.Growing.{pair-within}
 use Rattle.format_calls.specs.declared.split.Argument.{Argument}
 use Rattle.format_calls.specs.Arguments.{AreArguments, IsArgument, is_end, is_named}
 use Rattle.format_calls.specs.Arguments.{is_word_at}
-use Rattle.format_calls.specs.Counted.{AreTrees, AreUpTo, is_stop, is_uncounted, opens}
+use Rattle.format_calls.specs.Extents.{AreTrees, AreUpTo, is_stop, is_uncounted, opens}
 use Rattle.format_calls.specs.Marks.{is_mark, is_mark_of}
 use Rattle.format_calls.specs.Modes.{are_joint, is_followed}
 use Rattle.format_calls.proofs.Parting.{closing-no-mark, closing-punct, get-shift, punct-no-word}

@@ -4,10 +4,11 @@
 
 ghost use Rattle.std.specs.Prelude.{◌≡◌, ◌<◌, IfNone, IfSome, Some};
 ghost use Rattle.rustc_parse_format.specs.Types.{Mode};
-ghost use Rattle.flat_reading.specs.Meant.{is_set};
-ghost use Rattle.flat_reading.specs.Asked.{Fits, IsCounted, IsKept, IsDescribed, first_state_of};
-ghost use Rattle.flat_reading.specs.Asked.{buffers};
-ghost use Rattle.flat_reading.specs.Asked.{mode_meant, refusal};
+ghost use Rattle.flat_reading.specs.Meaning.{is_set};
+ghost use Rattle.flat_reading.specs.Interface.{Fits, IsCounted, IsKept, IsDescribed};
+ghost use Rattle.flat_reading.specs.Interface.{first_state_of};
+ghost use Rattle.flat_reading.specs.Interface.{buffers};
+ghost use Rattle.flat_reading.specs.Interface.{mode_meant, refusal};
 
 use flat_reading::read::read;
 use flat_reading::records::{Answer, DONE, Extent, Fault, NO_MEMORY, Options, SHORT, Spec, Step};

@@ -4,7 +4,7 @@ use Rattle.std.proofs.Common.{ap, arith, drop, false, get_or, length, map, refl,
 use Rattle.std.specs.List.{list_any, slice_range}
 use Rattle.std.proofs.lemmas.Grind.{common_steps}
 use Rattle.std.proofs.lemmas.List.{drop_more, get_or-drop, length-drop, map-append, take_more}
-use Rattle.drawn_edits.specs.Edited.{is_added}
+use Rattle.drawn_edits.specs.EditedLines.{is_added}
 use Rattle.drawn_edits.specs.Helps.{changed_row, changed_rows, kept_lines, lone_addition, lone_sign}
 use Rattle.drawn_lines.specs.Frames.{Frame}
 use Rattle.drawn_lines.specs.Painting.{Piece}

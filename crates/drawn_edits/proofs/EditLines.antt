@@ -11,7 +11,7 @@ use Rattle.std.proofs.lemmas.List.Splits.{length-slice_split, slice_split_first,
 use Rattle.std.proofs.lemmas.List.Sums.{fails_before_first}
 use Rattle.std.proofs.lemmas.Str.{IsCharBoundary-at_seam, encodes-append, encodes-chars}
 use Rattle.rustc_parse_format.specs.Characters.{Text}
-use Rattle.drawn_edits.specs.Edited.{Page, with_line, with_texts}
+use Rattle.drawn_edits.specs.EditedLines.{Page, with_line, with_texts}
 use Rattle.drawn_lines.specs.Places.{is_line_feed, front_within}
 use Rattle.drawn_lines.specs.declared.paint.Style.{Style}
 

@@ -6,8 +6,8 @@ use Rattle.std.specs.Prelude.{◌==◌}
 use Rattle.std.specs.List.{list_any}
 use Rattle.std.specs.Str.{drop_trailing_whitespace, skip_leading_whitespace}
 use Rattle.rustc_parse_format.specs.Characters.{Text}
-use Rattle.drawn_edits.specs.Edited.{are_blank, do_remove, is_added, is_same_end, new_lines}
-use Rattle.drawn_edits.specs.Edited.{old_lines, Edit}
+use Rattle.drawn_edits.specs.EditedLines.{are_blank, do_remove, is_added, is_same_end, new_lines}
+use Rattle.drawn_edits.specs.EditedLines.{old_lines, Edit}
 use Rattle.drawn_lines.specs.Glyphs.{IsHarmless, run}
 use Rattle.drawn_edits.specs.Helps.{after_pluses, changed_row, changed_rows, columns_of}
 use Rattle.drawn_edits.specs.Helps.{drawn_pieces}

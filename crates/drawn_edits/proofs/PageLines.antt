@@ -11,9 +11,9 @@ use Rattle.drawn_lines.specs.Painting.{Piece, piece, plain_text, rank}
 use Rattle.drawn_lines.specs.Places.{first_line, is_line_feed}
 use Rattle.drawn_lines.specs.declared.paint.Style.{Style}
 use Rattle.drawn_lines.specs.declared.paint.Style.TheVariants.{Plain}
-use Rattle.drawn_edits.specs.Edited.{Page, all_lines}
-use Rattle.drawn_edits.specs.Edited.{no_page}
-use Rattle.drawn_edits.specs.Edited.{with_line, with_parts, with_texts}
+use Rattle.drawn_edits.specs.EditedLines.{Page, all_lines}
+use Rattle.drawn_edits.specs.EditedLines.{no_page}
+use Rattle.drawn_edits.specs.EditedLines.{with_line, with_parts, with_texts}
 use Rattle.drawn_edits.specs.ShownLines.{lines_of}
 
 -- The lines of two texts, one after the other: the last of the first goes on with the first of the

@@ -15,7 +15,7 @@ use Rattle.drawn_lines.specs.declared.paint.Style.{Style}
 use Rattle.drawn_lines.specs.declared.paint.Style.TheVariants.{Addition, Plain, Primary}
 use Rattle.drawn_lines.specs.declared.paint.Style.TheVariants.{PrimaryText, Secondary}
 use Rattle.drawn_lines.specs.declared.paint.Style.TheVariants.{SecondaryText, Bold, Help, Removal}
-use Rattle.drawn_edits.specs.Edited.{Edit, do_remove, is_added, new_lines}
+use Rattle.drawn_edits.specs.EditedLines.{Edit, do_remove, is_added, new_lines}
 use Rattle.drawn_edits.specs.Helps.{after_pluses, columns_of, drawn_pieces, edited_parts}
 use Rattle.drawn_edits.specs.Helps.{edits_rows}
 use Rattle.drawn_edits.specs.Helps.{is_whole, new_rows, plus_signs, pluses, sign_row}

@@ -15,9 +15,9 @@ use Rattle.rustc_parse_format.specs.Characters.{Text}
 use Rattle.drawn_lines.specs.Painting.{Piece, piece, plain_text}
 use Rattle.drawn_lines.specs.Places.{first_line, front_within}
 use Rattle.drawn_lines.specs.declared.paint.Style.TheVariants.{Addition, Plain, Removal}
-use Rattle.drawn_edits.specs.Edited.{Edit, Page, all_lines, count_to_text, front, have_no_text}
-use Rattle.drawn_edits.specs.Edited.{is_ended, new_lines, no_page, old_lines, parts}
-use Rattle.drawn_edits.specs.Edited.{rest_after, with_parts}
+use Rattle.drawn_edits.specs.EditedLines.{Edit, Page, all_lines, count_to_text, front, have_no_text}
+use Rattle.drawn_edits.specs.EditedLines.{is_ended, new_lines, no_page, old_lines, parts}
+use Rattle.drawn_edits.specs.EditedLines.{rest_after, with_parts}
 use Rattle.drawn_edits.specs.ShownLines.{AreLines, after_edits, edited_source, lines_of}
 use Rattle.drawn_edits.proofs.PageLines.{Line, all-texts, glue, glue-last, kept, kept-last}
 use Rattle.drawn_edits.proofs.PageLines.{kept-one, line-in, lines-after, lines-append}

@@ -6,8 +6,8 @@ use Rattle.std.specs.Prelude.{nat_lt, take}
 use Rattle.std.specs.List.{list_any}
 use Rattle.std.specs.Str.{drop_trailing_whitespace, skip_leading_whitespace}
 use Rattle.rustc_parse_format.specs.Characters.{Text}
-use Rattle.drawn_edits.specs.Edited.{are_blank, do_remove, is_added, is_same_end, new_lines}
-use Rattle.drawn_edits.specs.Edited.{old_lines, parts, Edit}
+use Rattle.drawn_edits.specs.EditedLines.{are_blank, do_remove, is_added, is_same_end, new_lines}
+use Rattle.drawn_edits.specs.EditedLines.{old_lines, parts, Edit}
 use Rattle.drawn_lines.specs.Glyphs.{glyph_bytes, run, width}
 use Rattle.drawn_lines.specs.Frames.{Frame}
 use Rattle.drawn_lines.specs.Lines.{number_bar, numbered_gutter, parting, row_under}

@@ -1,4 +1,4 @@
-pub mod Edited
+pub mod EditedLines
 pub mod Helps
 pub mod PlusSigns
 pub mod Suggestions

@@ -13,7 +13,7 @@ use Rattle.drawn_lines.specs.Lines.{numbered_gutter, parting, row_under}
 use Rattle.drawn_lines.specs.Painting.{Piece, piece, plain_text}
 use Rattle.drawn_lines.specs.declared.paint.Gutter.{Gutter}
 use Rattle.drawn_lines.specs.declared.paint.Style.TheVariants.{Addition}
-use Rattle.drawn_edits.specs.Edited.{Edit, do_remove, new_lines}
+use Rattle.drawn_edits.specs.EditedLines.{Edit, do_remove, new_lines}
 use Rattle.drawn_edits.specs.Helps.{drawn_pieces, edited_parts, is_whole}
 
 -- How many columns a text takes.

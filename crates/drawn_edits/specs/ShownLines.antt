@@ -4,7 +4,7 @@ use Rattle.std.specs.Prelude.{◌≡◌, ℕ, ◌-◌, ◌++◌, ◌⊎◌, List
 use Rattle.std.specs.List.{AllByRecursion, slice_split}
 use Rattle.drawn_lines.specs.Painting.{Piece, plain_text}
 use Rattle.drawn_lines.specs.Places.{is_line_feed}
-use Rattle.drawn_edits.specs.Edited.{Edit, front, rest_after}
+use Rattle.drawn_edits.specs.EditedLines.{Edit, front, rest_after}
 
 -- The lines of a text.
 abbrev pub lines_of : List ℕ → List (List ℕ)

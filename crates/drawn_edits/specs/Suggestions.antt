@@ -2,7 +2,7 @@
 use Rattle.std.specs.Prelude.{ℕ, ◌++◌, List, [], ◌∷◌, Option, None, Some, codes}
 use Rattle.drawn_lines.specs.Glyphs.{glyph_bytes}
 use Rattle.drawn_edits.specs.Helps.{edits_rows, help_word}
-use Rattle.drawn_edits.specs.Edited.{Edit}
+use Rattle.drawn_edits.specs.EditedLines.{Edit}
 use Rattle.drawn_lines.specs.Frames.{Frame}
 use Rattle.drawn_lines.specs.declared.paint.Palette.{Palette}
 

@@ -3,7 +3,7 @@
 
 ghost use Rattle.std.specs.Prelude.{◌≡◌, ◌+◌, ◌++◌, ◌<◌, ◌^◌, [], IfOk, OnOk, chars, length, map};
 ghost use Rattle.std.specs.Prelude.{false, option_map, string_bytes};
-ghost use Rattle.drawn_edits.specs.Edited.{seen_line, seen_part, seen_edit};
+ghost use Rattle.drawn_edits.specs.EditedLines.{seen_line, seen_part, seen_edit};
 ghost use Rattle.drawn_edits.specs.Helps.{after_pluses, cells_of, changed_row, changed_rows};
 ghost use Rattle.drawn_edits.specs.Helps.{columns_of, edited_parts, edits_rows, have_bytes};
 ghost use Rattle.drawn_edits.specs.Helps.{inserted_rows, is_whole, line_rows, lone_addition};

@@ -3,7 +3,7 @@
 
 ghost use Rattle.std.specs.Prelude.{◌≡◌, ◌+◌, ◌++◌, ◌∷◌, ◌<◌, ◌^◌, ◌==◌, OnOk, false, length, map};
 ghost use Rattle.std.specs.Prelude.{string_bytes};
-ghost use Rattle.drawn_edits.specs.Edited.{seen_line, seen_part};
+ghost use Rattle.drawn_edits.specs.EditedLines.{seen_line, seen_part};
 ghost use Rattle.drawn_edits.specs.Helps.{drawn_pieces, kept_ends, kept_lines, kept_row, kept_rows};
 ghost use Rattle.drawn_edits.specs.Helps.{sign_row, sign_rows, spaced_text};
 ghost use Rattle.drawn_lines.specs.Frames.{seen_frame};

@@ -4,14 +4,18 @@
 ghost use Rattle.std.specs.Prelude.{◌≡◌, ◌++◌, ◌-◌, ◌<◌, ◌==◌, ◌^◌, IfOk, OnOk, length, map};
 ghost use Rattle.std.specs.Prelude.{[], ◌∷◌, IfSome, MatchOption, string_bytes};
 ghost use Rattle.std.specs.List.{list_any, slice_split};
-ghost use Rattle.drawn_edits.specs.Edited.{are_blank, rest_after, count_to_text, do_remove, front};
-ghost use Rattle.drawn_edits.specs.Edited.{have_no_text, is_added, new_lines, new_page, old_lines};
-ghost use Rattle.drawn_edits.specs.Edited.{parts, seen_line, seen_page, seen_part, is_same_end};
-ghost use Rattle.drawn_edits.specs.Edited.{text_of, with_line, with_parts, with_texts, seen_edit};
-ghost use Rattle.drawn_edits.specs.Edited.{edit_in_literal};
+ghost use Rattle.drawn_edits.specs.EditedLines.{are_blank, rest_after, count_to_text, do_remove};
+ghost use Rattle.drawn_edits.specs.EditedLines.{front};
+ghost use Rattle.drawn_edits.specs.EditedLines.{have_no_text, is_added, new_lines, new_page};
+ghost use Rattle.drawn_edits.specs.EditedLines.{old_lines};
+ghost use Rattle.drawn_edits.specs.EditedLines.{parts, seen_line, seen_page, seen_part};
+ghost use Rattle.drawn_edits.specs.EditedLines.{is_same_end};
+ghost use Rattle.drawn_edits.specs.EditedLines.{text_of, with_line, with_parts, with_texts};
+ghost use Rattle.drawn_edits.specs.EditedLines.{seen_edit};
+ghost use Rattle.drawn_edits.specs.EditedLines.{edit_in_literal};
 ghost use Rattle.drawn_lines.specs.Painting.{plain_text};
 ghost use Rattle.drawn_lines.specs.Places.{is_line_feed, seen_picture};
-ghost use Rattle.rustc_parse_format.specs.Seen.{pair};
+ghost use Rattle.rustc_parse_format.specs.Views.{pair};
 
 use drawn_lines::{Extent, Picture, Style, extent_of, offsets, rank, split_first, split_line};
 use std::alloc::{AllocError, Global};
@@ -238,7 +242,7 @@ fn push_new_part<'a>(
 }
 
 /// Returns the new lines of parts, without those at their end that have no text.
-#[tactic(auto, unfolding(crate::specs::Edited::new_lines))]
+#[tactic(auto, unfolding(crate::specs::EditedLines::new_lines))]
 pub fn new_lines<'a>(alloc: Global, parts: &[Part<'a>]) -> Result<Vec<Line<'a>>, AllocError>
     ensures { IfOk result (λ v. map seen_line v.items ≡ new_lines (map seen_part parts.now)) }
 {
@@ -252,7 +256,7 @@ pub fn new_lines<'a>(alloc: Global, parts: &[Part<'a>]) -> Result<Vec<Line<'a>>,
 }
 
 /// Returns the lines of parts without what they add.
-#[tactic(auto, unfolding(crate::specs::Edited::old_lines))]
+#[tactic(auto, unfolding(crate::specs::EditedLines::old_lines))]
 pub fn old_lines<'a>(alloc: Global, parts: &[Part<'a>]) -> Result<Vec<Line<'a>>, AllocError>
     ensures { IfOk result (λ v. map seen_line v.items ≡ old_lines (map seen_part parts.now)) }
 {

@@ -2,7 +2,7 @@
 
 ghost use Rattle.std.specs.Prelude.{ℕ, List};
 ghost use Rattle.std.specs.Str.{IsUtf8};
-ghost use Rattle.drawn_edits.specs.Edited.{Edit, new_lines, old_lines, parts};
+ghost use Rattle.drawn_edits.specs.EditedLines.{Edit, new_lines, old_lines, parts};
 ghost use Rattle.drawn_edits.specs.ShownLines.{AreLines};
 
 /// States which lines the rows of edits show, of a text that is the source from a line on: the old

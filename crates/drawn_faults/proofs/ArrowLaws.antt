@@ -20,7 +20,7 @@ use Rattle.drawn_lines.specs.declared.paint.Palette.TheVariants.{Error}
 use Rattle.drawn_lines.specs.declared.paint.Style.TheVariants.{Secondary}
 use Rattle.drawn_lines.proofs.PositionLaws.{spot-is}
 use Rattle.drawn_labels.specs.Labels.{Label, mark, mark_in, two_labels}
-use Rattle.drawn_edits.specs.Edited.{Edit}
+use Rattle.drawn_edits.specs.EditedLines.{Edit}
 use Rattle.drawn_labels.proofs.LongLaws.{long-adds}
 use Rattle.drawn_labels.proofs.TwoLaws.{one-adds, two-adds}
 use Rattle.drawn_faults.specs.Arrows.{AddsAll, PointsAt, ShowsLabels, spot_name}

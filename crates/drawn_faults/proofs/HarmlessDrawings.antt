@@ -13,7 +13,7 @@ use Rattle.drawn_faults.specs.Drawing.{laid_out_error}
 use Rattle.drawn_faults.specs.Drawing.{note_row, note_word, parting_before}
 use Rattle.fault_fixes.specs.Edits.{offered_suggestion}
 use Rattle.drawn_lines.specs.Glyphs.{IsHarmless, is_obeyed}
-use Rattle.drawn_edits.specs.Edited.{Edit}
+use Rattle.drawn_edits.specs.EditedLines.{Edit}
 use Rattle.drawn_lines.specs.Frames.{Frame}
 use Rattle.drawn_labels.specs.Labels.{Label, mark, mark_in}
 use Rattle.drawn_lines.specs.Windows.{shift}

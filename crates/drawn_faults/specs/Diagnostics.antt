@@ -9,7 +9,7 @@ use Rattle.rustc_parse_format.specs.World.{Place}
 use Rattle.drawn_faults.specs.Drawing.{arrow, note_word}
 use Rattle.drawn_lines.specs.Glyphs.{glyph, glyph_bytes, glyph_count, run}
 use Rattle.drawn_edits.specs.Helps.{edits_rows, help_word}
-use Rattle.drawn_edits.specs.Edited.{Edit, edit_in_literal}
+use Rattle.drawn_edits.specs.EditedLines.{Edit, edit_in_literal}
 use Rattle.drawn_lines.specs.Frames.{Frame, line_indent}
 use Rattle.drawn_labels.specs.Labels.{Label, mark_in}
 use Rattle.drawn_lines.specs.Lines.{code_row, gap, parting}

@@ -10,7 +10,7 @@ use Rattle.drawn_lines.specs.Glyphs.{glyph_bytes, run}
 use Rattle.drawn_lines.specs.Painting.{painted_text}
 use Rattle.drawn_lines.specs.Places.{Picture}
 use Rattle.drawn_labels.specs.Labels.{Label, mark_in, labelled_line, two_labels}
-use Rattle.drawn_edits.specs.Edited.{Edit}
+use Rattle.drawn_edits.specs.EditedLines.{Edit}
 use Rattle.drawn_lines.specs.Frames.{Frame}
 use Rattle.drawn_faults.specs.Labels.{primary_label, second_label, edit_of, frame, text_name}
 use Rattle.drawn_lines.specs.Lines.{parting}

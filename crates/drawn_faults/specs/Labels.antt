@@ -11,7 +11,7 @@ use Rattle.drawn_lines.specs.Painting.{palette_of}
 use Rattle.drawn_lines.specs.Places.{Picture, extent}
 use Rattle.drawn_lines.specs.declared.paint.Gutter.{Gutter}
 use Rattle.drawn_lines.specs.declared.paint.Palette.TheVariants.{Error}
-use Rattle.drawn_edits.specs.Edited.{Edit, edit_in_literal}
+use Rattle.drawn_edits.specs.EditedLines.{Edit, edit_in_literal}
 use Rattle.drawn_labels.specs.Labels.{Label}
 use Rattle.drawn_labels.specs.Margins.{window_of}
 use Rattle.drawn_lines.specs.Frames.{Frame, line_indent}

@@ -1,6 +1,6 @@
 -- Diagnostics as a contract sees them: texts as their bytes, ranges as pairs.
 use Rattle.std.specs.Prelude.{Bool, true, false, map}
-use Rattle.rustc_parse_format.specs.Seen.{pair}
+use Rattle.rustc_parse_format.specs.Views.{pair}
 use Rattle.drawn_faults.specs.Diagnostics.{Diagnostic, Help, Note, SourceEdit, SourceLabel}
 use Rattle.fault_fixes.specs.declared.fixes.Edit.{Edit as DeclaredEdit}
 use Rattle.drawn_faults.specs.declared.diagnostics.Level.{Level}

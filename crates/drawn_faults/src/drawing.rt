@@ -4,12 +4,12 @@
 ghost use Rattle.std.specs.Prelude.{◌≡◌, ◌++◌, ◌<◌, ◌^◌, false, IfOk, IfSome, None};
 ghost use Rattle.std.specs.Prelude.{OnOk, length, codes};
 ghost use Rattle.std.specs.Prelude.{option_map, string_bytes};
-ghost use Rattle.rustc_parse_format.specs.Seen.{seen_error, seen_mode};
+ghost use Rattle.rustc_parse_format.specs.Views.{seen_error, seen_mode};
 ghost use Rattle.drawn_lines.specs.Painting.{IsColourOf, IsHarmlessWith, opening, painted_text};
 ghost use Rattle.drawn_lines.specs.Places.{seen_picture, without_colours};
 ghost use Rattle.drawn_faults.specs.Arrows.{PointsAt, ShowsLabels};
 ghost use Rattle.drawn_faults.specs.Labels.{primary_label};
-ghost use Rattle.drawn_edits.specs.Edited.{seen_edit};
+ghost use Rattle.drawn_edits.specs.EditedLines.{seen_edit};
 ghost use Rattle.drawn_lines.specs.Frames.{seen_frame};
 ghost use Rattle.drawn_labels.specs.Labels.{seen_label};
 ghost use Rattle.drawn_faults.specs.Drawing.{arrow, rows_below_labels, drawing, head};

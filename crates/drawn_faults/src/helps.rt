@@ -6,7 +6,7 @@ ghost use Rattle.std.specs.Prelude.{map, string_bytes};
 ghost use Rattle.drawn_faults.specs.Diagnostics.{help_row_word, help_rows, helps_rows};
 ghost use Rattle.drawn_faults.specs.Diagnostics.{indented_text};
 ghost use Rattle.drawn_faults.specs.Diagnostics.{last_help_line, placed_edit};
-ghost use Rattle.drawn_edits.specs.Edited.{seen_edit};
+ghost use Rattle.drawn_edits.specs.EditedLines.{seen_edit};
 ghost use Rattle.drawn_lines.specs.Frames.{seen_frame};
 ghost use Rattle.drawn_lines.specs.Places.{seen_picture};
 ghost use Rattle.drawn_faults.specs.SeenDiagnostics.{seen_help, seen_source_edit};

@@ -1,12 +1,12 @@
 //! The labels and the edit of an error, with their places in the source.
 
 ghost use Rattle.std.specs.Prelude.{◌≡◌, ◌+◌, ◌<◌, ◌^◌, IfSome, length, option_map};
-ghost use Rattle.rustc_parse_format.specs.Seen.{pair, seen_error, seen_mode, seen_suggestion};
+ghost use Rattle.rustc_parse_format.specs.Views.{pair, seen_error, seen_mode, seen_suggestion};
 ghost use Rattle.fault_fixes.specs.Edits.{offered_suggestion};
 ghost use Rattle.drawn_lines.specs.Frames.{line_indent, seen_frame};
 ghost use Rattle.drawn_lines.specs.Places.{seen_picture};
 ghost use Rattle.drawn_labels.specs.Labels.{seen_label};
-ghost use Rattle.drawn_edits.specs.Edited.{seen_edit};
+ghost use Rattle.drawn_edits.specs.EditedLines.{seen_edit};
 ghost use Rattle.drawn_faults.specs.Labels.{edit_line, edit_of, frame, last_line, lesser_indent};
 ghost use Rattle.drawn_faults.specs.Labels.{other_line, second_label, second_text, text_name};
 

@@ -11,7 +11,7 @@ ghost use Rattle.drawn_faults.specs.Diagnostics.{lower_indent};
 ghost use Rattle.drawn_faults.specs.Diagnostics.{lowest_of_labels, marked_lines, next_line};
 ghost use Rattle.drawn_faults.specs.Diagnostics.{single_rows};
 ghost use Rattle.drawn_labels.specs.Labels.{mark_in, seen_label};
-ghost use Rattle.drawn_edits.specs.Edited.{seen_edit};
+ghost use Rattle.drawn_edits.specs.EditedLines.{seen_edit};
 ghost use Rattle.drawn_lines.specs.Frames.{seen_frame};
 ghost use Rattle.drawn_labels.specs.Marks.{is_right_of, sorted_marks};
 ghost use Rattle.drawn_lines.specs.Places.{seen_picture};

@@ -3,7 +3,7 @@
 
 ghost use Rattle.std.specs.Prelude.{◌≡◌, ◌++◌, ◌<◌, ◌^◌, IfOk, OnOk, chars, length, map};
 ghost use Rattle.std.specs.Prelude.{string_bytes};
-ghost use Rattle.rustc_parse_format.specs.Seen.{pair};
+ghost use Rattle.rustc_parse_format.specs.Views.{pair};
 ghost use Rattle.drawn_faults.specs.Diagnostics.{indented_text, last_note_line, margin, notes_rows};
 ghost use Rattle.drawn_faults.specs.Diagnostics.{plain_note, shown_label, shown_note};
 ghost use Rattle.drawn_faults.specs.Diagnostics.{titled_labels};

@@ -3,7 +3,7 @@
 ghost use Rattle.std.specs.Prelude.{◌≡◌, ◌+◌, ◌*◌, ◌<◌, ◌≤◌, ◌^◌, [], chars, length, ℕ, false};
 ghost use Rattle.std.specs.Prelude.{true, max};
 ghost use Rattle.std.specs.List.{fold, list_all};
-ghost use Rattle.rustc_parse_format.specs.Seen.{pair};
+ghost use Rattle.rustc_parse_format.specs.Views.{pair};
 ghost use Rattle.drawn_lines.specs.Glyphs.{is_printable};
 ghost use Rattle.drawn_lines.specs.Places.{offset, after_lines, extent, first_line, line};
 ghost use Rattle.drawn_lines.specs.Places.{spot_past};

@@ -1,7 +1,7 @@
 -- Edits, errors and a fixed literal as a contract sees them: texts as their bytes.
 use Rattle.std.specs.Prelude.{◌++◌, ℕ, Bool, List, map, option_map, reverse, string_bytes}
 use Rattle.rustc_parse_format.specs.Faults.{Message}
-use Rattle.rustc_parse_format.specs.Seen.{pair, seen_error}
+use Rattle.rustc_parse_format.specs.Views.{pair, seen_error}
 use Rattle.rustc_parse_format.specs.World.{Place}
 use Rattle.fault_fixes.specs.declared.errors.Errors.{Errors}
 use Rattle.fault_fixes.specs.declared.fixes.Edit.{Edit as DeclaredEdit}

@@ -2,8 +2,8 @@
 
 ghost use Rattle.std.specs.Prelude.{◌≡◌, ◌+◌, ◌<◌, ◌^◌, [], IfOk, IsOk, OnOk, chars, length, map};
 ghost use Rattle.rustc_parse_format.specs.Faults.{add_errors};
-ghost use Rattle.rustc_parse_format.specs.Seen.{seen_error, seen_mode, seen_snippet};
-ghost use Rattle.rustc_parse_format.specs.SeenFaults.{seen_fault};
+ghost use Rattle.rustc_parse_format.specs.Views.{seen_error, seen_mode, seen_snippet};
+ghost use Rattle.rustc_parse_format.specs.FaultViews.{seen_fault};
 ghost use Rattle.rustc_parse_format.specs.State.{state_after, first_state, next_call};
 ghost use Rattle.rustc_parse_format.specs.World.{faults_in, hashes};
 ghost use Rattle.fault_fixes.specs.Fixing.{all_errors};

@@ -7,9 +7,9 @@ ghost use Rattle.std.specs.Prelude.{List, if◌then◌else◌, ◌∷◌, ◌++�
 ghost use Rattle.std.specs.Prelude.{option_map, string_bytes, take};
 ghost use Rattle.std.specs.List.{cons_option};
 ghost use Rattle.rustc_parse_format.specs.Faults.{Nothing, message};
-ghost use Rattle.rustc_parse_format.specs.Seen.{seen_error, seen_mode, seen_snippet};
-ghost use Rattle.rustc_parse_format.specs.Seen.{seen_suggestion};
-ghost use Rattle.rustc_parse_format.specs.SeenFaults.{seen_fault};
+ghost use Rattle.rustc_parse_format.specs.Views.{seen_error, seen_mode, seen_snippet};
+ghost use Rattle.rustc_parse_format.specs.Views.{seen_suggestion};
+ghost use Rattle.rustc_parse_format.specs.FaultViews.{seen_fault};
 ghost use Rattle.rustc_parse_format.specs.State.{state_after, first_state, next_call};
 ghost use Rattle.rustc_parse_format.specs.World.{faults_in, hashes};
 ghost use Rattle.rustc_parse_format.specs.Literal.{IsSource};

@@ -4,8 +4,8 @@ ghost use Rattle.std.specs.Prelude.{◌≡◌, ◌≤◌, ◌+◌, ◌<◌, ◌^
 ghost use Rattle.std.specs.Prelude.{chars, length, map};
 ghost use Rattle.rustc_parse_format.specs.FaultIds.{fault_id};
 ghost use Rattle.rustc_parse_format.specs.Literal.{IsSource};
-ghost use Rattle.rustc_parse_format.specs.Seen.{seen_mode};
-ghost use Rattle.rustc_parse_format.specs.SeenFaults.{seen_fault};
+ghost use Rattle.rustc_parse_format.specs.Views.{seen_mode};
+ghost use Rattle.rustc_parse_format.specs.FaultViews.{seen_fault};
 ghost use Rattle.rustc_parse_format.specs.World.{hashes};
 ghost use Rattle.fault_fixes.specs.Fixing.{FixedLiteral as FixedValue, IsRound};
 ghost use Rattle.fault_fixes.specs.Rounds.{IsFixed, count_left, faulty_count, ids, is_part};

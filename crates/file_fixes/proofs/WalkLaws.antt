@@ -6,14 +6,15 @@ use Rattle.std.specs.List.{list_all}
 use Rattle.std.specs.declared.ops.Range.{Range}
 use Rattle.std.proofs.lemmas.Bool.{cond_both, le-leb, leb-false, leb-true, lt-leb}
 use Rattle.fault_fixes.specs.Edits.{Edit}
-use Rattle.rust_tokens.specs.Placed.{end_of, placed_tokens}
+use Rattle.rust_tokens.specs.Spans.{end_of, placed_tokens}
 use Rattle.rust_tokens.specs.Tokens.{Lexeme}
 use Rattle.rust_tokens.specs.declared.kinds.Token.{Token}
 use Rattle.source_report.specs.Suggestions.{are_after}
 use Rattle.file_fixes.specs.declared.outside.EditedPart.{EditedPart}
 use Rattle.file_fixes.specs.Outside.{is_apart, moved_token, new_ranges, old_ranges}
 use Rattle.file_fixes.specs.Outside.{untouched_tokens, width_before}
-use Rattle.file_fixes.specs.Walk.{Ahead, place_after, from_start, is_before, new_parts, old_parts}
+use Rattle.file_fixes.specs.Walk.{FollowingParts, place_after, from_start, is_before, new_parts}
+use Rattle.file_fixes.specs.Walk.{old_parts}
 use Rattle.file_fixes.specs.Walk.{walk}
 
 -- The ranges of parts, where the last part before them ends at `end`.
@@ -40,7 +41,7 @@ none-before at end (p ∷ ps) h =
 
 -- The ranges that are ahead on a walk say of each token that starts at the offset `at` or later
 -- what all ranges say.
-pub record SaysAll (at : ℕ) (a : Ahead) (rs : List (Range ℕ)) : Type 0 where
+pub record SaysAll (at : ℕ) (a : FollowingParts) (rs : List (Range ℕ)) : Type 0 where
   pub apart : (t : Token) → at ≤ t.span.start
       → list_all (is_apart t) rs ≡ list_all (is_apart t) (ranges_of a.end a.parts)
   pub width : (n : ℕ) → at ≤ n
@@ -75,7 +76,7 @@ further : (at end width : ℕ) (ps : List EditedPart) (rs : List (Range ℕ))
     → SaysAll at (place_after at end width ps) rs
 further at end width [] rs h = h
 further at end width (p ∷ ps) rs h =
-    cond_both {A = Ahead} (nat_le (end + p.gap + p.width) at) _ _ (λ a. SaysAll at a rs)
+    cond_both {A = FollowingParts} (nat_le (end + p.gap + p.width) at) _ _ (λ a. SaysAll at a rs)
     (λ yes. further at (end + p.gap + p.width) (width + p.width) ps rs
     (passed at end width p ps rs yes h)) (λ no. h)
 
@@ -86,7 +87,7 @@ first-decides : (t : Token) (end width : ℕ) (ps : List EditedPart)
     is_before t.span.end b.end b.parts ≡ list_all (is_apart t) (ranges_of b.end b.parts)
 first-decides t end width [] = refl
 first-decides t end width (p ∷ ps) =
-    cond_both {A = Ahead} (nat_le (end + p.gap + p.width) t.span.start) _ _
+    cond_both {A = FollowingParts} (nat_le (end + p.gap + p.width) t.span.start) _ _
     (λ b. is_before t.span.end b.end b.parts ≡ list_all (is_apart t) (ranges_of b.end b.parts))
     (λ yes. first-decides t (end + p.gap + p.width) (width + p.width) ps)
     (λ no. first (nat_le t.span.end (end + p.gap)) _ _ no
@@ -100,7 +101,7 @@ no-width : (at end width : ℕ) (ps : List EditedPart)
     → let b = place_after at end width ps in width_before at (ranges_of b.end b.parts) ≡ 0
 no-width at end width [] = refl
 no-width at end width (p ∷ ps) =
-    cond_both {A = Ahead} (nat_le (end + p.gap + p.width) at) _ _
+    cond_both {A = FollowingParts} (nat_le (end + p.gap + p.width) at) _ _
     (λ b. width_before at (ranges_of b.end b.parts) ≡ 0)
     (λ yes. no-width at (end + p.gap + p.width) (width + p.width) ps)
     (λ no. rw no (none-before at (end + p.gap + p.width) ps (leb-false _ _ no)))
@@ -117,7 +118,7 @@ one-more f p x xs y ys true e g h = rw (sym e, g, h) refl
 one-more f p x xs y ys false e g h = rw (sym e, h) refl
 
 -- The walk finds the tokens that are apart from each range,
-walk-finds : (at : ℕ) (a : Ahead) (rs : List (Range ℕ)) (ts : List Token) → StartFrom at ts
+walk-finds : (at : ℕ) (a : FollowingParts) (rs : List (Range ℕ)) (ts : List Token) → StartFrom at ts
     → SaysAll at a rs → walk a ts ≡ untouched_tokens rs ts
 walk-finds at a rs [] s h = refl
 walk-finds at a rs (t ∷ ts) s h =

@@ -6,7 +6,7 @@ use Rattle.std.specs.declared.string.String.{String}
 use Rattle.fault_fixes.specs.Edits.{Edit, edited_bytes}
 use Rattle.fault_fixes.specs.Losing.{IsMerged}
 use Rattle.rust_tokens.specs.Files.{ReadsFile}
-use Rattle.rust_tokens.specs.Placed.{placed_tokens}
+use Rattle.rust_tokens.specs.Spans.{placed_tokens}
 use Rattle.rust_tokens.specs.Tokens.{Lexeme}
 use Rattle.format_calls.specs.Rows.{Entry}
 use Rattle.source_lint.specs.Reports.{IsReport}

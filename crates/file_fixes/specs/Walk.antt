@@ -23,21 +23,21 @@ new_parts at (e ∷ es) =
 
 -- The parts that follow on a place, the end of the part before them, and how many bytes are in all
 -- parts up to there.
-pub record Ahead : Type 0 where
+pub record FollowingParts : Type 0 where
   pub end : ℕ
   pub width : ℕ
   pub parts : List EditedPart
 
 -- All parts of a text.
-abbrev pub from_start : List EditedPart → Ahead
+abbrev pub from_start : List EditedPart → FollowingParts
 from_start ps = record { end = 0; width = 0; parts = ps }
 
 -- The parts from an index on.
-abbrev pub seen_ahead : List EditedPart → PartsAhead → Ahead
+abbrev pub seen_ahead : List EditedPart → PartsAhead → FollowingParts
 seen_ahead ps a = record { end = a.end; width = a.width; parts = drop a.index ps }
 
 -- These parts from the first one on that ends after the offset `at`.
-abbrev pub place_after : ℕ → ℕ → ℕ → List EditedPart → Ahead
+abbrev pub place_after : ℕ → ℕ → ℕ → List EditedPart → FollowingParts
 place_after at end width [] = record { end = end; width = width; parts = [] }
 place_after at end width (p ∷ ps) = if nat_le (end + p.gap + p.width) at
     then place_after at (end + p.gap + p.width) (width + p.width) ps
@@ -50,7 +50,7 @@ is_before at end (p ∷ ps) = nat_le at (end + p.gap)
 
 -- Of the tokens of a text those that no part touches, at the places that they have in the text
 -- without the parts.
-abbrev pub walk : Ahead → List Token → List Token
+abbrev pub walk : FollowingParts → List Token → List Token
 walk a [] = []
 walk a (t ∷ ts) = let b = place_after t.span.start a.end a.width a.parts in
     (if is_before t.span.end b.end b.parts then moved_token b.width t ∷ [] else []) ++ walk b ts

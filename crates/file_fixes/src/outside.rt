@@ -4,7 +4,7 @@ ghost use Rattle.std.specs.Prelude.{◌≡◌, ◌≤◌, ◌+◌, ◌↔◌, If
 ghost use Rattle.std.specs.Prelude.{nat_le};
 ghost use Rattle.fault_fixes.specs.SeenEdits.{seen_edit};
 ghost use Rattle.rust_tokens.specs.Files.{ReadsFile};
-ghost use Rattle.rust_tokens.specs.Placed.{placed_tokens};
+ghost use Rattle.rust_tokens.specs.Spans.{placed_tokens};
 ghost use Rattle.rust_tokens.specs.Tokens.{Lexeme};
 ghost use Rattle.source_report.specs.Suggestions.{are_after};
 ghost use Rattle.file_fixes.specs.Outside.{KeepsTokens, moved_token};

@@ -2,4 +2,5 @@ pub mod Calling
 pub mod MovedCalls
 pub mod Naming
 pub mod Sorting
+pub mod Unbroken
 pub mod UnreadCalls

@@ -7,7 +7,7 @@ use Rattle.rustc_parse_format.specs.Characters.{Text}
 use Rattle.rustc_parse_format.specs.Literal.{IsLiteral, newline}
 use Rattle.rust_trees.specs.Leaves.{Leaf}
 use Rattle.format_calls.specs.Arguments.{AreArguments}
-use Rattle.format_calls.specs.Counted.{AreUpTo, is_uncounted}
+use Rattle.format_calls.specs.Extents.{AreUpTo, is_uncounted}
 use Rattle.format_calls.specs.Rows.{rule_of}
 use Rattle.format_calls.specs.Standard.{standard}
 use Rattle.format_calls.specs.declared.listing.Call.{Call}

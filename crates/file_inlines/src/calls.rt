@@ -13,7 +13,7 @@ ghost use Rattle.source_lint.specs.CallLists.{Gives};
 ghost use Rattle.source_lint.specs.Readings.{Reads, name_at, scope};
 ghost use Rattle.source_report.specs.declared.report.Finding.{Finding as FindingValue};
 ghost use Rattle.inlined_arguments.specs.Edits.{Edit as EditValue};
-ghost use Rattle.inlined_arguments.specs.Seen.{seen_call, seen_edit};
+ghost use Rattle.inlined_arguments.specs.Views.{seen_call, seen_edit};
 ghost use Rattle.file_inlines.specs.CallInlines.{AreEdits, Inlines, InlinesAt};
 ghost use Rattle.file_inlines.specs.CallInlines.{InlinesLiteral, InlinesOne, Makes};
 ghost use Rattle.file_inlines.specs.CallInlines.{has_const_form, is_format_alone, is_unread};
@@ -180,8 +180,7 @@ fn inline_site(
         is_format_alone: is_format_alone(rule, name, is_from_2021),
         has_const_form: has_const_form(rule),
     };
-    let inlined_call = inline_format_call(alloc, site, call, allows_mixed)?;
-    Ok(inlined_call)
+    inline_format_call(alloc, site, call, allows_mixed)
 }
 
 /// Returns what inlining makes of a call whose format string begins the argument of this index.
@@ -224,7 +223,7 @@ fn inline_at(
         literal,
         arguments: &kept_arguments,
     };
-    let inlined_call = inline_site(
+    inline_site(
         alloc,
         site,
         call.rule,
@@ -232,8 +231,7 @@ fn inline_at(
         extent.is_counted,
         file.is_from_2021,
         allows_mixed,
-    )?;
-    Ok(inlined_call)
+    )
 }
 
 /// Returns what inlining makes of a call whose format string is the argument of this index, or
@@ -302,10 +300,7 @@ fn inline_call<'a>(
     };
     let list = arguments.as_slice();
     match index_or(file, part, call, list) {
-        Ok(index) => {
-            let inlined_call = inline_one(alloc, file, part, call, list, index, allows_mixed)?;
-            Ok(inlined_call)
-        }
+        Ok(index) => inline_one(alloc, file, part, call, list, index, allows_mixed),
         Err(reading) => Ok(unchanged_call(alloc, CallInlining::Unread(reading))),
     }
 }

@@ -5,7 +5,7 @@ ghost use Rattle.std.specs.Prelude.{slice_get};
 ghost use Rattle.std.specs.List.{filter_map};
 ghost use Rattle.rust_trees.specs.Leaves.{leaf};
 ghost use Rattle.asm_lint.specs.Literals.{without_crs};
-ghost use Rattle.inlined_arguments.specs.Seen.{seen_edit, seen_inlined};
+ghost use Rattle.inlined_arguments.specs.Views.{seen_edit, seen_inlined};
 ghost use Rattle.file_inlines.specs.CallInlines.{AreEdits, AreLiteralEdits, moved_edit, removal};
 
 use crate::sources::removal_range;

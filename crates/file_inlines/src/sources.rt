@@ -1,9 +1,9 @@
 //! The arguments of a call in a file, each with the source that goes with it.
 
 ghost use Rattle.std.specs.Prelude.{◌≡◌, ◌-◌, IfOk, drop, map, option_map, take};
-ghost use Rattle.rustc_parse_format.specs.Seen.{pair};
+ghost use Rattle.rustc_parse_format.specs.Views.{pair};
 ghost use Rattle.rust_trees.specs.Leaves.{leaf};
-ghost use Rattle.inlined_arguments.specs.Seen.{seen_argument};
+ghost use Rattle.inlined_arguments.specs.Views.{seen_argument};
 ghost use Rattle.file_inlines.specs.Sources.{end_at, removed_place, with_source, word_of};
 
 use asm_lint::name_of;

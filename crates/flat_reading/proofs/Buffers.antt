@@ -13,8 +13,9 @@ use Rattle.flat_reading.specs.declared.records.Extent.{Extent}
 use Rattle.flat_reading.specs.declared.records.MaybeExtent.{MaybeExtent}
 use Rattle.flat_reading.specs.declared.records.Fault.{Fault}
 use Rattle.flat_reading.proofs.Lists.{still_after}
-use Rattle.flat_reading.specs.Held.{Extends, Grows, Holds, HoldsError, HoldsErrors, HoldsMaybe}
-use Rattle.flat_reading.specs.Held.{HoldsSecond, HoldsSuggestion}
+use Rattle.flat_reading.specs.ErrorRecords.{Extends, Grows, Holds, HoldsError, HoldsErrors}
+use Rattle.flat_reading.specs.ErrorRecords.{HoldsMaybe}
+use Rattle.flat_reading.specs.ErrorRecords.{HoldsSecond, HoldsSuggestion}
 
 pub Extends-trans : (xs ys zs : List ℕ) → Extends xs ys → Extends ys zs → Extends xs zs
 Extends-trans xs ys zs h k = (h.0 ++ k.0, k.1 ∙ ap (λ l. l ++ k.0) h.1 ∙ append_assoc xs h.0 k.0)

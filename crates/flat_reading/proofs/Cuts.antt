@@ -14,8 +14,8 @@ use Rattle.std.proofs.lemmas.Str.{IsUtf8-take, IsUtf8-append, IsCharBoundary-sta
 use Rattle.std.proofs.lemmas.Str.{IsCharBoundary-from_take, chars-nil, encodes-chars}
 use Rattle.rustc_parse_format.specs.Characters.{Text, byte_length, is_nil}
 use Rattle.rustc_parse_format.proofs.Sources.PlainPlaces.{width_chars}
-use Rattle.flat_reading.specs.Stand.{HasBytes, StandsAt}
-use Rattle.flat_reading.specs.Meant.{is_boundary, text_at}
+use Rattle.flat_reading.specs.Progress.{HasBytes, StandsAt}
+use Rattle.flat_reading.specs.Meaning.{is_boundary, text_at}
 
 pub is_none_of : (n : ℕ) → n == 0 ≡ true → n ≡ 0
 is_none_of n e = eqb-true n 0 e

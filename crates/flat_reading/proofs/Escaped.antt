@@ -13,8 +13,12 @@ use Rattle.rustc_parse_format.specs.declared.types.ParseMode.{ParseMode}
 use Rattle.rustc_parse_format.specs.declared.types.Argument.{Argument as DeclaredArgument}
 use Rattle.rustc_parse_format.specs.declared.types.PieceKind.{PieceKind}
 use Rattle.rustc_parse_format.specs.declared.types.PieceKind.TheVariants.{Lit as TextKind}
+use Rattle.rustc_parse_format.specs.declared.types.PieceKind.TheVariants.{}
+use Rattle.rustc_parse_format.specs.declared.types.PieceKind.TheVariants.{}
+use Rattle.rustc_parse_format.specs.declared.types.PieceKind.TheVariants.{}
+use Rattle.rustc_parse_format.specs.declared.types.PieceKind.TheVariants.{}
 use Rattle.rustc_parse_format.specs.declared.types.PieceKind.TheVariants.{NextArgument as ArgumentKind}
-use Rattle.rustc_parse_format.specs.Seen.{seen_argument, seen_mode, seen_taken}
+use Rattle.rustc_parse_format.specs.Views.{seen_argument, seen_mode, seen_taken}
 use Rattle.rustc_parse_format.specs.Call.{call}
 use Rattle.rustc_parse_format.specs.Characters.{Text, byte_length}
 use Rattle.rustc_parse_format.specs.Marks.{Span}
@@ -33,10 +37,10 @@ use Rattle.rustc_parse_format.proofs.Spans.TextPlaces.{PieceStands as TextPieceS
 use Rattle.rustc_parse_format.proofs.Spans.TextPlaces.{call_stands as call_texts}
 use Rattle.flat_reading.specs.declared.texts.Texts.{Texts}
 use Rattle.flat_reading.specs.Events.{position}
-use Rattle.flat_reading.specs.Meant.{text_at}
-use Rattle.flat_reading.specs.Stand.{ArgumentStands, CountAt, EndsWith, IsReadAt}
-use Rattle.flat_reading.specs.Stand.{PositionAt, SpecAt}
-use Rattle.flat_reading.specs.Stand.{IsListed}
+use Rattle.flat_reading.specs.Meaning.{text_at}
+use Rattle.flat_reading.specs.Progress.{ArgumentStands, CountAt, EndsWith, IsReadAt}
+use Rattle.flat_reading.specs.Progress.{PositionAt, SpecAt}
+use Rattle.flat_reading.specs.Progress.{IsListed}
 use Rattle.flat_reading.proofs.Standing.{argument_stands, scalars-right}
 
 listed_type : (f : Span → Place) (P : Span → Text → Type 0) (mode : Mode) (ty : Text)

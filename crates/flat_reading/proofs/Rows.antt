@@ -7,8 +7,8 @@ use Rattle.rustc_parse_format.specs.Faults.{UnmatchedBrace, RawIdentifier}
 use Rattle.rustc_parse_format.specs.World.{Place}
 use Rattle.rustc_parse_format.specs.State.{State, first_state}
 use Rattle.rustc_parse_format.proofs.Rows.Definitions.{computing}
-use Rattle.flat_reading.specs.Meant.{spec_at, text_at}
-use Rattle.flat_reading.specs.Asked.{refusal}
+use Rattle.flat_reading.specs.Meaning.{spec_at, text_at}
+use Rattle.flat_reading.specs.Interface.{refusal}
 use Rattle.flat_reading.specs.Events.{Event, add_finders, events, finders_of, fronts_of, is_default}
 use Rattle.flat_reading.specs.Events.{states}
 

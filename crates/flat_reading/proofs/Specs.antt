@@ -7,7 +7,7 @@ use Rattle.rustc_parse_format.specs.Types.{Spec, Alignment, Left, Right, Center,
 use Rattle.rustc_parse_format.specs.Types.{Name, Param, Star, Implied, default_spec}
 use Rattle.rustc_parse_format.specs.Characters.{Text, is_nil}
 use Rattle.flat_reading.specs.declared.records.Spec.{Spec as SpecRecord}
-use Rattle.flat_reading.specs.Meant.{no_spec, spec_at, spec_meant}
+use Rattle.flat_reading.specs.Meaning.{no_spec, spec_at, spec_meant}
 use Rattle.flat_reading.specs.Events.{is_default, is_implied, is_unknown}
 
 pub both : {a b : Bool} → (a && b) ≡ true → (a ≡ true) × (b ≡ true)

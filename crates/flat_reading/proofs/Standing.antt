@@ -24,9 +24,9 @@ use Rattle.rustc_parse_format.proofs.Spans.TextPlaces.{call_stands as call_texts
 use Rattle.rustc_parse_format.proofs.Spans.TextBytes.{HasLast, HasName, HasText, piece_has}
 use Rattle.rustc_parse_format.proofs.Spans.TextBytes.{text-bytes}
 use Rattle.flat_reading.specs.Events.{position}
-use Rattle.flat_reading.specs.Stand.{ArgumentStands, CountStands, EndsWith, IsLast, IsPlain}
-use Rattle.flat_reading.specs.Stand.{PlaceholderStands, PositionStands, RunStands, StandsAfter}
-use Rattle.flat_reading.specs.Stand.{TypeStands}
+use Rattle.flat_reading.specs.Progress.{ArgumentStands, CountStands, EndsWith, IsLast, IsPlain}
+use Rattle.flat_reading.specs.Progress.{PlaceholderStands, PositionStands, RunStands, StandsAfter}
+use Rattle.flat_reading.specs.Progress.{TypeStands}
 
 -- Evidence for a name, N, and for another text, P, gives evidence for an argument.
 count_stands : (bytes : List ℕ) (at : ℕ) (P : Place → Text → Type 0)

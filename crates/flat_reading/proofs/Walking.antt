@@ -18,15 +18,15 @@ use Rattle.flat_reading.specs.declared.flat.SpecBuffer.{SpecBuffer}
 use Rattle.flat_reading.specs.declared.records.Step.{Step}
 use Rattle.flat_reading.specs.declared.records.Spec.{Spec as SpecRecord}
 use Rattle.rustc_parse_format.specs.Lines.{closed_in, with_last}
-use Rattle.flat_reading.specs.Meant.{maybe_place, piece_meant, spec_at}
+use Rattle.flat_reading.specs.Meaning.{maybe_place, piece_meant, spec_at}
 use Rattle.flat_reading.specs.Events.{Event, add_finders, event, finders_from, fronts_in}
 use Rattle.flat_reading.specs.Events.{given_piece}
 use Rattle.flat_reading.specs.Events.{place_of_first, position}
 use Rattle.flat_reading.specs.Events.{looked_for_place}
 use Rattle.flat_reading.specs.Events.{specs_in, is_default, states, states_for}
 use Rattle.flat_reading.specs.Events.{step_meant}
-use Rattle.flat_reading.specs.Held.{Found}
-use Rattle.flat_reading.specs.Stand.{Adds, AllFew, IsAdded, IsUpTo}
+use Rattle.flat_reading.specs.ErrorRecords.{FinderList}
+use Rattle.flat_reading.specs.Progress.{Adds, AllFew, IsAdded, IsUpTo}
 use Rattle.flat_reading.proofs.Finding.{length-add_finders, length-after}
 use Rattle.flat_reading.proofs.Lists.{keep_more, keep_put, still_after}
 use Rattle.flat_reading.proofs.Specs.{spec_at-front}
@@ -128,7 +128,7 @@ put_length count old new r put = by_room (cases_lt count (length old))
     by_room (inr full) = ap length (put.1 full)
 
 pub one_more : (peeks : Bool) (input : List ℕ) (s0 s new : State) (todo : List State)
-    (count used used' : ℕ) (found found' : Found) (steps steps' : List Step)
+    (count used used' : ℕ) (found found' : FinderList) (steps steps' : List Step)
     (specs specs' : List SpecRecord) →
     IsUpTo peeks input s0 (s ∷ todo) s count used found steps specs
     → new ≡ state_after s (next_call s)
@@ -277,7 +277,7 @@ length-finders n old s (k ∷ ks) e =
     length-finders (suc n) (add_finders n old k.faults) (state_after s k) ks
     (omega (arith, length-add_finders n old k.faults, length-after s k, e))
 
-pub begin : (peeks : Bool) (input : List ℕ) (s : State) (found : Found) (steps : List Step)
+pub begin : (peeks : Bool) (input : List ℕ) (s : State) (found : FinderList) (steps : List Step)
     (specs : List SpecRecord) → found.calls ≡ [] → found.front_count ≡ 0 →
     IsUpTo peeks input s (states s) s 0 0 found steps specs
 begin peeks input s found steps specs e f = record {

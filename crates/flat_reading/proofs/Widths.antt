@@ -5,7 +5,7 @@ use Rattle.std.specs.Str.{IsUtf8}
 use Rattle.std.proofs.lemmas.Str.{len_utf8_bounds}
 use Rattle.rustc_parse_format.specs.Characters.{Text, byte_length}
 use Rattle.rustc_parse_format.proofs.Literals.Widths.{width-append, width-cons}
-use Rattle.flat_reading.specs.Stand.{EndsWith}
+use Rattle.flat_reading.specs.Progress.{EndsWith}
 use Rattle.rustc_parse_format.proofs.Sources.PlainPlaces.{width_chars}
 use Rattle.flat_reading.specs.Events.{position}
 

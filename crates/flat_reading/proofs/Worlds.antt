@@ -15,7 +15,7 @@ use Rattle.rustc_parse_format.specs.World.{World, foreign_end, input_end, ordina
 use Rattle.rustc_parse_format.specs.World.{ordinary_world, plain_world, quote_offset, world}
 use Rattle.rustc_parse_format.specs.State.{first_state}
 use Rattle.rustc_parse_format.proofs.Spans.TextBytes.{no_source-plain, raw-plain}
-use Rattle.flat_reading.specs.Stand.{IsPlain}
+use Rattle.flat_reading.specs.Progress.{IsPlain}
 
 pub sourceless_plain : (mode : Mode) (input : Text) (style : Option ℕ) (snippet : Option Text)
     (appended : Bool) (at : ℕ) → at ≡ quote_offset style →

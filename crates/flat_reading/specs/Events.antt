@@ -14,7 +14,7 @@ use Rattle.rustc_parse_format.specs.World.{World, Place, piece_in}
 use Rattle.rustc_parse_format.specs.State.{State, first_of, next_call, state_after, after_all}
 use Rattle.flat_reading.specs.declared.records.Step.{Step}
 use Rattle.flat_reading.specs.declared.records.Spec.{Spec as SpecRecord}
-use Rattle.flat_reading.specs.Meant.{maybe_place, piece_meant, spec_at}
+use Rattle.flat_reading.specs.Meaning.{maybe_place, piece_meant, spec_at}
 
 -- A call and the state after it, as a step describes them.
 pub record Event : Type 0 where

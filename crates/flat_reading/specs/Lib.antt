@@ -1,5 +1,5 @@
-pub mod Meant
+pub mod Meaning
 pub mod Events
-pub mod Stand
-pub mod Held
-pub mod Asked
+pub mod Progress
+pub mod ErrorRecords
+pub mod Interface

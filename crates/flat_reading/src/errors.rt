@@ -2,12 +2,14 @@
 
 ghost use Rattle.std.specs.Prelude.{◌≡◌, ◌+◌, ◌≤◌, ◌++◌, drop, length, map, min, option_map};
 ghost use Rattle.std.specs.Prelude.{string_bytes, take};
-ghost use Rattle.rustc_parse_format.specs.Seen.{pair, seen_error, seen_suggestion};
+ghost use Rattle.rustc_parse_format.specs.Views.{pair, seen_error, seen_suggestion};
 ghost use Rattle.flat_reading.specs.declared.records.Fault.{Fault as FaultRecord};
-ghost use Rattle.flat_reading.specs.Held.{Grows, Holds, HoldsError, HoldsErrors, HoldsMaybe};
-ghost use Rattle.flat_reading.specs.Held.{HoldsSecond};
-ghost use Rattle.flat_reading.specs.Held.{HoldsSuggestion, maybe_len, message_len, second_len};
-ghost use Rattle.flat_reading.specs.Held.{suggestion_len, texts_len};
+ghost use Rattle.flat_reading.specs.ErrorRecords.{Grows, Holds, HoldsError, HoldsErrors};
+ghost use Rattle.flat_reading.specs.ErrorRecords.{HoldsMaybe};
+ghost use Rattle.flat_reading.specs.ErrorRecords.{HoldsSecond};
+ghost use Rattle.flat_reading.specs.ErrorRecords.{HoldsSuggestion, maybe_len, message_len};
+ghost use Rattle.flat_reading.specs.ErrorRecords.{second_len};
+ghost use Rattle.flat_reading.specs.ErrorRecords.{suggestion_len, texts_len};
 
 use crate::finders::Finders;
 use crate::flat::{NO_EXTENT, NOWHERE, extent};

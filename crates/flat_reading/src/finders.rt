@@ -5,30 +5,93 @@ ghost use Rattle.std.specs.Prelude.{◌≡◌, ◌++◌, OnOk, replicate};
 use std::alloc::{AllocError, Global};
 use std::marker::Model;
 
+/// A list of numbers. Most inputs with an error have one, so the first number takes no allocation.
+#[derive(Drop)]
+struct Numbers {
+    first: Option<usize>,
+    others: Vec<usize>,
+}
+
+impl Model for Numbers {
+    ghost use Rattle.std.specs.Prelude.{◌≡◌, ◌∷◌, [], ℕ, List, None, option_map, unwrap_or};
+
+    ghost Value = { List ℕ };
+
+    ghost view = { λ l. unwrap_or (option_map (λ n. n ∷ l.others.items) l.first) [] };
+
+    ghost invariant = { λ l. l.first ≡ None → l.others.items ≡ [] };
+}
+
+impl Numbers {
+    ghost use Rattle.std.specs.Prelude.{◌≡◌, ◌<◌, ◌∷◌, ◌++◌, [], OnOk, length, slice_index};
+
+    /// Creates an empty list. Does not allocate.
+    fn new(alloc: Global) -> Numbers
+        ensures { result ≡ [] }
+    {
+        Numbers {
+            first: None,
+            others: Vec::new(alloc),
+        }
+    }
+
+    /// Appends a number. Returns `Err` if an allocation fails.
+    fn push(&mut self, number: usize) -> Result<(), AllocError>
+        ensures { OnOk result (self.new ≡ self.old ++ number ∷ []) }
+    {
+        if self.first.is_none() {
+            self.first = Some(number);
+            return Ok(());
+        }
+        Ok(self.others.push(number)?)
+    }
+
+    /// Returns how many numbers there are.
+    fn len(&self) -> usize
+        ensures { result ≡ length self.now }
+    {
+        match self.first {
+            None => 0,
+            Some(_) => self.others.len() + 1,
+        }
+    }
+
+    /// Returns the number with this index.
+    fn get(&self, index: usize) -> usize
+        requires { index < length self.now }
+        ensures { result ≡ slice_index self.now index }
+    {
+        match self.first {
+            Some(number) if index == 0 => number,
+            _ => self.others[index - 1],
+        }
+    }
+}
+
 /// The numbers of the calls that found the errors, in the order of the list of errors.
 #[derive(Drop)]
 pub struct Finders {
     /// The numbers for the errors that were put at the front of the list, in reverse order.
-    front_calls: Vec<usize>,
+    front_calls: Numbers,
     /// The numbers for the errors after them.
-    back_calls: Vec<usize>,
+    back_calls: Numbers,
 }
 
 impl Model for Finders {
     ghost use Rattle.std.specs.Prelude.{◌++◌, length, reverse};
-    ghost use Rattle.flat_reading.specs.Held.{Found};
+    ghost use Rattle.flat_reading.specs.ErrorRecords.{FinderList};
 
-    ghost Value = { Found };
+    ghost Value = { FinderList };
 
     ghost view = { λ f. record {
-      calls = reverse f.front_calls.items ++ f.back_calls.items;
-      front_count = length f.front_calls.items;
+      calls = reverse f.front_calls ++ f.back_calls;
+      front_count = length f.front_calls;
     } };
 }
 
 /// Appends a number to a list, `times` times. Returns `Err` if an allocation fails.
-fn repeat(list: &mut Vec<usize>, number: usize, times: usize) -> Result<(), AllocError>
-    ensures { OnOk result (list.new.items ≡ list.old.items ++ replicate times number) }
+fn repeat(list: &mut Numbers, number: usize, times: usize) -> Result<(), AllocError>
+    ensures { OnOk result (list.new ≡ list.old ++ replicate times number) }
 {
     for _ in 0..times {
         list.push(number)?;
@@ -45,13 +108,34 @@ impl Finders {
         ensures { result ≡ record { calls = []; front_count = 0 } }
     {
         Finders {
-            front_calls: Vec::new(alloc),
-            back_calls: Vec::new(alloc),
+            front_calls: Numbers::new(alloc),
+            back_calls: Numbers::new(alloc),
         }
+    }
+
+    /// Adds the call `number`, which found `front_count` errors that were put at the front of the
+    /// list and `back_count` others. Returns `Err` if an allocation fails.
+    #[cold]
+    #[inline(never)]
+    fn add_some(
+        &mut self,
+        number: usize,
+        front_count: usize,
+        back_count: usize,
+    ) -> Result<(), AllocError>
+        ensures calls { OnOk result (self.new.calls ≡ replicate front_count number
+            ++ (self.old.calls ++ replicate back_count number)) }
+        ensures front_count { OnOk result (self.new.front_count
+            ≡ self.old.front_count + front_count) }
+    {
+        repeat(&mut self.front_calls, number, front_count)?;
+        repeat(&mut self.back_calls, number, back_count)?;
+        Ok(())
     }
 
     /// Adds the call `number`, which found `count` errors, of which `front_count` were put at the
     /// front of the list. Returns `Err` if an allocation fails.
+    #[inline(always)]
     pub fn add(&mut self, number: usize, front_count: usize, count: usize) -> Result<(), AllocError>
         requires { front_count ≤ count }
         ensures calls { OnOk result (self.new.calls ≡ replicate front_count number
@@ -60,8 +144,7 @@ impl Finders {
             ≡ self.old.front_count + front_count) }
     {
         if count > 0 {
-            repeat(&mut self.front_calls, number, front_count)?;
-            repeat(&mut self.back_calls, number, count - front_count)?;
+            self.add_some(number, front_count, count - front_count)?;
         }
         Ok(())
     }
@@ -80,9 +163,9 @@ impl Finders {
     {
         let front_count = self.front_calls.len();
         if index < front_count {
-            self.front_calls[front_count - 1 - index]
+            self.front_calls.get(front_count - 1 - index)
         } else {
-            self.back_calls[index - front_count]
+            self.back_calls.get(index - front_count)
         }
     }
 }

@@ -2,20 +2,21 @@
 
 ghost use Rattle.std.specs.Prelude.{◌≡◌, ℕ, ◌+◌, ◌<◌, ◌≤◌, if◌then◌else◌, List, Some, chars, drop};
 ghost use Rattle.std.specs.Prelude.{length, option_map, take, true};
-ghost use Rattle.rustc_parse_format.specs.Seen.{pair, seen_alignment, seen_argument, seen_count};
-ghost use Rattle.rustc_parse_format.specs.Seen.{seen_debug_hex, seen_position, seen_sign};
-ghost use Rattle.rustc_parse_format.specs.Seen.{seen_spec};
+ghost use Rattle.rustc_parse_format.specs.Views.{pair, seen_alignment, seen_argument, seen_count};
+ghost use Rattle.rustc_parse_format.specs.Views.{seen_debug_hex, seen_position, seen_sign};
+ghost use Rattle.rustc_parse_format.specs.Views.{seen_spec};
 ghost use Rattle.rustc_parse_format.specs.Characters.{is_nil};
 ghost use Rattle.rustc_parse_format.specs.Types.{NextArgument};
 ghost use Rattle.flat_reading.specs.declared.records.Extent.{Extent as ExtentRecord};
 ghost use Rattle.flat_reading.specs.declared.records.Spec.{Spec as SpecRecord};
 ghost use Rattle.flat_reading.specs.Events.{has_no_counts, has_no_flags, is_default};
-ghost use Rattle.flat_reading.specs.Meant.{align_meant, count_meant, fill_meant, hex_meant, is_set};
-ghost use Rattle.flat_reading.specs.Meant.{maybe_place, piece_meant};
-ghost use Rattle.flat_reading.specs.Meant.{place as place_meant, position_meant, sign_meant};
-ghost use Rattle.flat_reading.specs.Meant.{spec_at, spec_meant, text_at};
-ghost use Rattle.flat_reading.specs.Stand.{Adds, ArgumentStands, CountAt, PositionAt, SameAfter};
-ghost use Rattle.flat_reading.specs.Stand.{SpecAt};
+ghost use Rattle.flat_reading.specs.Meaning.{align_meant, count_meant, fill_meant, hex_meant};
+ghost use Rattle.flat_reading.specs.Meaning.{is_set};
+ghost use Rattle.flat_reading.specs.Meaning.{maybe_place, piece_meant};
+ghost use Rattle.flat_reading.specs.Meaning.{place as place_meant, position_meant, sign_meant};
+ghost use Rattle.flat_reading.specs.Meaning.{spec_at, spec_meant, text_at};
+ghost use Rattle.flat_reading.specs.Progress.{Adds, ArgumentStands, CountAt, PositionAt, SameAfter};
+ghost use Rattle.flat_reading.specs.Progress.{SpecAt};
 
 use crate::records::{
     ALIGN_CENTER, ALIGN_LEFT, ALIGN_RIGHT, ALIGN_UNKNOWN, COUNT_IMPLIED, COUNT_IS, COUNT_IS_NAME,
@@ -141,7 +142,7 @@ fn number_record(kind: u32, number: usize) -> CountRecord
 }
 
 /// Returns the record of a count. `name` is the byte range of its name in the input.
-#[tactic(auto, unfolding(crate::specs::Meant::count_meant))]
+#[tactic(auto, unfolding(crate::specs::Meaning::count_meant))]
 fn count(count: &Count<'_>, name: Extent) -> CountRecord
     ensures { (input : List ℕ) → CountAt (text_at input name) (seen_count count.now)
         → count_meant input result ≡ seen_count count.now }
@@ -161,7 +162,7 @@ fn count(count: &Count<'_>, name: Extent) -> CountRecord
 }
 
 /// Returns the record of a specification. `texts` has the byte ranges of its texts in the input.
-#[tactic(auto, unfolding(crate::specs::Meant::spec_meant))]
+#[tactic(auto, unfolding(crate::specs::Meaning::spec_meant))]
 #[inline(always)]
 fn spec_record(spec: &FormatSpec<'_>, texts: &Texts) -> Spec
     ensures { (input : List ℕ) → SpecAt input texts.now (seen_spec spec.now)
@@ -311,7 +312,7 @@ fn position(position: &Position<'_>) -> (u32, usize)
 
 /// Writes an argument into its step, and adds its specification unless that is the default one.
 /// `texts` has the byte ranges of its texts in the input.
-#[tactic(auto, unfolding(crate::specs::Meant::piece_meant))]
+#[tactic(auto, unfolding(crate::specs::Meaning::piece_meant))]
 #[inline(always)]
 pub fn put_argument(
     argument: &Argument<'_>,
@@ -359,7 +360,7 @@ pub fn put_bare_piece(kind: u32, text: Extent, step: &mut Step)
 
 /// Writes an argument with the default specification into its step. `text` is the byte range of its
 /// name in the input.
-#[tactic(auto, unfolding(crate::specs::Meant::piece_meant))]
+#[tactic(auto, unfolding(crate::specs::Meaning::piece_meant))]
 #[inline(always)]
 fn put_bare_argument(argument: &Argument<'_>, text: Extent, step: &mut Step)
     requires bare { is_default (seen_spec argument.now.format) ≡ true }

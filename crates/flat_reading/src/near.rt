@@ -1,10 +1,11 @@
 //! The byte ranges of the texts of a placeholder in a literal that may have escapes.
 
 ghost use Rattle.std.specs.Prelude.{◌≡◌, IfOk, IfSome, Some, chars, false, is_some};
-ghost use Rattle.rustc_parse_format.specs.Seen.{seen_argument, seen_mode, seen_position, seen_spec};
+ghost use Rattle.rustc_parse_format.specs.Views.{seen_argument, seen_mode, seen_position};
+ghost use Rattle.rustc_parse_format.specs.Views.{seen_spec};
 ghost use Rattle.rustc_parse_format.specs.Types.{NextArgument};
-ghost use Rattle.flat_reading.specs.Meant.{text_at};
-ghost use Rattle.flat_reading.specs.Stand.{IsListed, IsReadAt, PositionAt, SpecAt};
+ghost use Rattle.flat_reading.specs.Meaning.{text_at};
+ghost use Rattle.flat_reading.specs.Progress.{IsListed, IsReadAt, PositionAt, SpecAt};
 
 use crate::flat::NOWHERE;
 use crate::records::Extent;

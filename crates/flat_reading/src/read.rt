@@ -2,12 +2,12 @@
 
 ghost use Rattle.std.specs.Prelude.{◌≡◌, ◌≤◌, IfNone, IfOk, IfSome, None, OnErr, OnOk};
 ghost use Rattle.std.specs.Prelude.{Some, chars, drop, length, map, option_map, string_bytes, take};
-ghost use Rattle.rustc_parse_format.specs.Seen.{pair, seen_mode};
+ghost use Rattle.rustc_parse_format.specs.Views.{pair, seen_mode};
 ghost use Rattle.rustc_parse_format.specs.World.{hashes};
-ghost use Rattle.flat_reading.specs.Asked.{Fits, IsCounted, IsKept, IsDescribed, asked_state};
-ghost use Rattle.flat_reading.specs.Asked.{buffers, limit};
-ghost use Rattle.flat_reading.specs.Meant.{place};
-ghost use Rattle.flat_reading.specs.Stand.{IsPlain};
+ghost use Rattle.flat_reading.specs.Interface.{Fits, IsCounted, IsKept, IsDescribed, asked_state};
+ghost use Rattle.flat_reading.specs.Interface.{buffers, limit};
+ghost use Rattle.flat_reading.specs.Meaning.{place};
+ghost use Rattle.flat_reading.specs.Progress.{IsPlain};
 
 use crate::errors::put_errors;
 use crate::flat::{NO_EXTENT, SpecBuffer, flag};

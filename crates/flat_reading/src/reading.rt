@@ -3,8 +3,8 @@
 ghost use Rattle.std.specs.Prelude.{◌≡◌, ◌≤◌, IfNone, IfSome, IsFalse, None, Some, chars, length};
 ghost use Rattle.rustc_parse_format.specs.LiteralReading.{is_longer};
 ghost use Rattle.rustc_parse_format.specs.World.{hashes, quote_offset};
-ghost use Rattle.flat_reading.specs.Asked.{asked_state, limit};
-ghost use Rattle.flat_reading.specs.Stand.{IsPlain};
+ghost use Rattle.flat_reading.specs.Interface.{asked_state, limit};
+ghost use Rattle.flat_reading.specs.Progress.{IsPlain};
 
 use crate::task::Task;
 use rustc_parse_format::{ParseMode, Parser};

@@ -3,10 +3,11 @@
 ghost use Rattle.std.specs.Prelude.{◌≡◌, ◌≤◌, IfErr, IfOk, IfSome, Some, None, chars, is_some};
 ghost use Rattle.std.specs.Prelude.{length, option_map};
 ghost use Rattle.std.specs.Str.{is_utf8};
-ghost use Rattle.rustc_parse_format.specs.Seen.{seen_mode};
+ghost use Rattle.rustc_parse_format.specs.Views.{seen_mode};
 ghost use Rattle.rustc_parse_format.specs.World.{hashes};
-ghost use Rattle.flat_reading.specs.Asked.{limit, mode_meant, refusal, snippet_meant, style_meant};
-ghost use Rattle.flat_reading.specs.Meant.{is_set};
+ghost use Rattle.flat_reading.specs.Interface.{limit, mode_meant, refusal, snippet_meant};
+ghost use Rattle.flat_reading.specs.Interface.{style_meant};
+ghost use Rattle.flat_reading.specs.Meaning.{is_set};
 
 use crate::records::{
     MODE_DIAGNOSTIC, MODE_DIAGNOSTIC_NAMED, MODE_FORMAT, MODE_INLINE_ASM, NO_SUCH_MODE, NOT_TEXT,

@@ -2,15 +2,17 @@
 
 ghost use Rattle.std.specs.Prelude.{◌≡◌, ℕ, ◌-◌, IfOk, IsFalse, IsTrue, List, Some};
 ghost use Rattle.std.specs.Prelude.{chars, false, is_some, option_map};
-ghost use Rattle.rustc_parse_format.specs.Seen.{pair, seen_argument, seen_count, seen_mode};
-ghost use Rattle.rustc_parse_format.specs.Seen.{seen_position, seen_spec};
+ghost use Rattle.rustc_parse_format.specs.Views.{pair, seen_argument, seen_count, seen_mode};
+ghost use Rattle.rustc_parse_format.specs.Views.{seen_position, seen_spec};
 ghost use Rattle.rustc_parse_format.specs.Types.{Argument as ReadArgument, NextArgument};
 ghost use Rattle.rustc_parse_format.specs.World.{Place};
 ghost use Rattle.flat_reading.specs.declared.records.Extent.{Extent as ExtentRecord};
-ghost use Rattle.flat_reading.specs.Meant.{run_at, text_at, type_meant};
-ghost use Rattle.flat_reading.specs.Stand.{ArgumentStands, CountAt, CountStands, HasBytes, IsLast};
-ghost use Rattle.flat_reading.specs.Stand.{IsListed, IsReadAt, PositionAt, PositionStands, SpecAt};
-ghost use Rattle.flat_reading.specs.Stand.{StandsAt, StandsAfter, TypeStands, has_texts};
+ghost use Rattle.flat_reading.specs.Meaning.{run_at, text_at, type_meant};
+ghost use Rattle.flat_reading.specs.Progress.{ArgumentStands, CountAt, CountStands, HasBytes};
+ghost use Rattle.flat_reading.specs.Progress.{IsLast};
+ghost use Rattle.flat_reading.specs.Progress.{IsListed, IsReadAt, PositionAt, PositionStands};
+ghost use Rattle.flat_reading.specs.Progress.{SpecAt};
+ghost use Rattle.flat_reading.specs.Progress.{StandsAt, StandsAfter, TypeStands, has_texts};
 
 use crate::flat::NOWHERE;
 use crate::records::{Extent, TYPE_DEBUG, TYPE_LOWER_HEX, TYPE_NONE, TYPE_TEXT, TYPE_UPPER_HEX};

@@ -6,8 +6,8 @@ ghost use Rattle.std.specs.Prelude.{length, map, option_map, take};
 ghost use Rattle.rustc_parse_format.specs.Characters.{after_first};
 ghost use Rattle.rustc_parse_format.specs.Lines.{closed_in, place_list};
 ghost use Rattle.rustc_parse_format.specs.Marks.{Span};
-ghost use Rattle.rustc_parse_format.specs.Seen.{pair, seen_argument, seen_mode, seen_spec};
-ghost use Rattle.rustc_parse_format.specs.Seen.{seen_taken};
+ghost use Rattle.rustc_parse_format.specs.Views.{pair, seen_argument, seen_mode, seen_spec};
+ghost use Rattle.rustc_parse_format.specs.Views.{seen_taken};
 ghost use Rattle.rustc_parse_format.specs.State.{state_after, next_call};
 ghost use Rattle.rustc_parse_format.specs.Types.{NextArgument};
 ghost use Rattle.rustc_parse_format.specs.World.{Place};
@@ -17,9 +17,10 @@ ghost use Rattle.flat_reading.specs.Events.{end_of, event, events, finders_of, f
 ghost use Rattle.flat_reading.specs.Events.{given_piece, is_default, looked_for_place};
 ghost use Rattle.flat_reading.specs.Events.{place_of_first};
 ghost use Rattle.flat_reading.specs.Events.{position, spec_count, specs_in, states, step_meant};
-ghost use Rattle.flat_reading.specs.Meant.{maybe_place, piece_meant, spec_at};
-ghost use Rattle.flat_reading.specs.Stand.{Adds, IsAdded, IsOnItsWay, IsReadAt, IsUpTo, MakesCall};
-ghost use Rattle.flat_reading.specs.Stand.{PlaceholderStands, RunStands, SameAfter};
+ghost use Rattle.flat_reading.specs.Meaning.{maybe_place, piece_meant, spec_at};
+ghost use Rattle.flat_reading.specs.Progress.{Adds, IsAdded, IsOnItsWay, IsReadAt, IsUpTo};
+ghost use Rattle.flat_reading.specs.Progress.{MakesCall};
+ghost use Rattle.flat_reading.specs.Progress.{PlaceholderStands, RunStands, SameAfter};
 
 use crate::finders::Finders;
 use crate::flat::{
@@ -179,7 +180,7 @@ impl<'a> Walker<'a> {
 
     /// Writes the piece that a call returned. The call began at `start`, when the next implicit
     /// argument had the index `next`. Returns `Err` if an allocation fails.
-    #[tactic(auto, unfolding(crate::specs::Meant::piece_meant))]
+    #[tactic(auto, unfolding(crate::specs::Meaning::piece_meant))]
     #[inline(always)]
     fn put_piece(
         &self,

@@ -5,7 +5,7 @@ use Rattle.std.specs.Prelude.{◌||◌, IsTrue, not}
 use Rattle.std.specs.List.{list_any}
 use Rattle.rust_trees.specs.Leaves.{Leaf}
 use Rattle.format_calls.specs.Arguments.{IsTree}
-use Rattle.format_calls.specs.Counted.{AreTrees, AreUpTo, is_stop, is_uncounted}
+use Rattle.format_calls.specs.Extents.{AreTrees, AreUpTo, is_stop, is_uncounted}
 
 pub or-join : (a b c : Bool) → (a || (b || c)) ≡ ((a || b) || c)
 or-join true b c = refl

@@ -1,7 +1,11 @@
 pub mod CallSteps
+pub mod ClearGaps
 pub mod Counting
+pub mod GapForests
+pub mod KnownFronts
 pub mod Parting
 pub mod Places
 pub mod Searching
 pub mod StringArguments
 pub mod Walking
+pub mod Windows

@@ -14,7 +14,7 @@ use Rattle.std.proofs.lemmas.Option.{none-some, same_Some}
 use Rattle.rust_trees.specs.declared.sides.Delimiter.{Delimiter}
 use Rattle.rust_trees.specs.declared.sides.Side.TheVariants.{Closes, Neither}
 use Rattle.rust_tokens.proofs.Readings.{reads-once}
-use Rattle.rust_trees.specs.Leaves.{AreLeft, Leaf, Unread, leaves, side}
+use Rattle.rust_trees.specs.Leaves.{AreLeft, Leaf, Remainder, leaves, side}
 use Rattle.rust_trees.specs.Sides.{is_opening, is_punct, side_of_mark}
 use Rattle.rust_trees.specs.Forests.{IsPair, IsGroup}
 use Rattle.rust_trees.proofs.Groups.{pair-shift, pair-unshift, pair-less}
@@ -109,7 +109,7 @@ closing-no-word es x d h =
     ap (λ b. if b then rule_of es (word x) else None)
     (punct-no-word x.kind (closing-punct x d h))
 
-byte-is : (m : ℕ) (t : List ℕ) → is_byte m (slice_get t 0) ≡ true → slice_index t 0 ≡ m
+pub byte-is : (m : ℕ) (t : List ℕ) → is_byte m (slice_get t 0) ≡ true → slice_index t 0 ≡ m
 byte-is m [] h = absurd (false≢true h)
 byte-is m (c ∷ t) h = eqb-true c m h
 
@@ -264,7 +264,7 @@ pub record IsGap (es : List Entry) (gap : List Leaf) (w : Window) : Type 0 where
   pub before : (left : List Leaf) (c : Call) → IsCall es (gap ++ (window w.name w.bang ++ left)) c
       → length gap ≤ c.name
   pub fixed : (left : List Leaf)
-      → is_after (code "$") (gap ++ (window w.name w.bang ++ left)) (length gap) ≡ w.is_after
+      → is_after (code "$") (gap ++ (window w.name w.bang ++ left)) (length gap) ≡ w.is_after_dollar
   pub starts : w.name ≡ None → gap ≡ []
   pub follows : w.bang ≡ None → w.name ≡ None
 
@@ -326,12 +326,12 @@ pub gap-more : (es : List Entry) (gap : List Leaf) (w : Window) (t : Leaf)
     → IsGap es (gap_next gap w.name) (next_window w t)
     × ((left : List Leaf) → gap ++ (window w.name w.bang ++ t ∷ left)
     ≡ gap_next gap w.name ++ (window w.bang (Some t) ++ left))
-gap-more es gap w t f h = by_window w.is_after w.name w.bang f h
+gap-more es gap w t f h = by_window w.is_after_dollar w.name w.bang f h
   where
     by_window : (b : Bool) (n m : Option Leaf) → front_of_tokens es b n m t ≡ None
-        → IsGap es gap (record { is_after = b; name = n; bang = m })
+        → IsGap es gap (record { is_after_dollar = b; name = n; bang = m })
         → IsGap es (gap_next gap n)
-        (record { is_after = after_next b n; name = m; bang = Some t })
+        (record { is_after_dollar = after_next b n; name = m; bang = Some t })
         × ((left : List Leaf) → gap ++ (window n m ++ t ∷ left)
         ≡ gap_next gap n ++ (window m (Some t) ++ left))
     by_window b None None f h = (
@@ -412,7 +412,7 @@ part-long n m t part more e = let l = ap (λ v. length v) e in omega (arith, l)
 
 -- The first window, with nothing in front of it.
 pub gap-none : (es : List Entry)
-    → IsGap es [] (record { is_after = false; name = None; bang = None })
+    → IsGap es [] (record { is_after_dollar = false; name = None; bang = None })
 gap-none es = record {
   before = λ left c k. omega arith;
   fixed = λ left. refl;
@@ -421,7 +421,7 @@ gap-none es = record {
 }
 
 -- There is one list of the tokens that are left.
-pub left-once : (u : Unread) (xs ys : List Leaf) → AreLeft u xs → AreLeft u ys → xs ≡ ys
+pub left-once : (u : Remainder) (xs ys : List Leaf) → AreLeft u xs → AreLeft u ys → xs ≡ ys
 left-once u xs ys a b =
     a.2 ∙ (ap (λ t. leaves (length u.whole - length u.rest) t) (reads-once _ _ _ a.1 b.1)
     ∙ sym b.2)
@@ -432,10 +432,10 @@ pub gap-part : (es : List Entry) (gap part left f more : List Leaf) (w : Window)
     → (left ≡ []) ⊎ IsGroup part
     → (gap ++ (window w.name w.bang ++ t ∷ (more ++ left)) ≡ gap ++ (part ++ left))
     × IsPart es gap part left
-gap-part es gap part left f more w t s h e end = by_window w.is_after w.name w.bang s h
+gap-part es gap part left f more w t s h e end = by_window w.is_after_dollar w.name w.bang s h
   where
     by_window : (b : Bool) (n m : Option Leaf) → front_of_tokens es b n m t ≡ Some f
-        → IsGap es gap (record { is_after = b; name = n; bang = m })
+        → IsGap es gap (record { is_after_dollar = b; name = n; bang = m })
         → (gap ++ (window n m ++ t ∷ (more ++ left)) ≡ gap ++ (part ++ left))
         × IsPart es gap part left
     by_window true None None s h = absurd (none-some f s)
@@ -480,7 +480,7 @@ gap-end es gap w c h k =
     short (Some n) (Some m) = omega arith
 
 -- Nothing is left where no token is, or the part is a group.
-pub end-of : (u : Unread) (part left : List Leaf) → AreLeft u left → AreLeft u [] ⊎ IsGroup part
+pub end-of : (u : Remainder) (part left : List Leaf) → AreLeft u left → AreLeft u [] ⊎ IsGroup part
     → (left ≡ []) ⊎ IsGroup part
 end-of u part left l (inl e) = inl (left-once u left [] l e)
 end-of u part left l (inr g) = inr g

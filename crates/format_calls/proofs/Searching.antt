@@ -11,19 +11,19 @@ use Rattle.rust_trees.specs.Leaves.{Leaf}
 use Rattle.format_calls.specs.declared.part.Target.{Target}
 use Rattle.format_calls.specs.declared.split.Argument.{Argument}
 use Rattle.format_calls.specs.Arguments.{tokens_of}
-use Rattle.format_calls.specs.Searches.{AreLast, AreLastFrom, IsLast, is_wanted}
+use Rattle.format_calls.specs.Searches.{AreLast, AreLastFrom, IsLast, is_target}
 use Rattle.format_calls.proofs.Counting.{or-join, or-nothing}
 
 -- One more token.
 any-more : (w : Target) (ys : List Leaf) (n : ℕ) (x : Leaf) → slice_get ys n ≡ Some x
-    → list_any (is_wanted w) (take (suc n) ys)
-    ≡ (list_any (is_wanted w) (take n ys) || is_wanted w x)
+    → list_any (is_target w) (take (suc n) ys)
+    ≡ (list_any (is_target w) (take n ys) || is_target w x)
 any-more w [] n x e = absurd cc
 any-more w (y ∷ ys) zero x e =
-    let h : y ≡ x = cc in ap (λ v. is_wanted w v || false) h ∙ or-nothing (is_wanted w x)
+    let h : y ≡ x = cc in ap (λ v. is_target w v || false) h ∙ or-nothing (is_target w x)
 any-more w (y ∷ ys) (suc n) x e =
-    ap (λ b. is_wanted w y || b) (any-more w ys n x e)
-    ∙ or-join (is_wanted w y) (list_any (is_wanted w) (take n ys)) (is_wanted w x)
+    ap (λ b. is_target w y || b) (any-more w ys n x e)
+    ∙ or-join (is_target w y) (list_any (is_target w) (take n ys)) (is_target w x)
 
 get-dropped : (xs : List Leaf) (from n k : ℕ) → k ≡ from + n
     → slice_get (drop from xs) n ≡ slice_get xs k
@@ -33,8 +33,8 @@ get-dropped (y ∷ ys) (suc from) n zero e = absurd (omega (arith, e))
 get-dropped (y ∷ ys) (suc from) n (suc k) e = get-dropped ys from n k (omega (arith, e))
 
 any-none : (w : Target) (xs : List Leaf) (n from : ℕ) → n ≡ 0
-    → list_any (is_wanted w) (take n (drop from xs)) ≡ false
-any-none w xs n from e = ap (λ m. list_any (is_wanted w) (take m (drop from xs))) e
+    → list_any (is_target w) (take n (drop from xs)) ≡ false
+any-none w xs n from e = ap (λ m. list_any (is_target w) (take m (drop from xs))) e
 
 or-true : (a : Bool) → (a || true) ≡ true
 or-true true = refl
@@ -46,22 +46,22 @@ or-parts false b e = (refl, e)
 
 -- The number after a token that is wanted, and after one that is not.
 pub last-more : (w : Target) (xs : List Leaf) (to last n : ℕ) (x : Leaf) (b : Bool)
-    → slice_get xs to ≡ Some x → b ≡ is_wanted w x → IsLast w xs to last → last ≤ to
+    → slice_get xs to ≡ Some x → b ≡ is_target w x → IsLast w xs to last → last ≤ to
     → n ≡ (if b then to + 1 else last) → IsLast w xs (to + 1) n
 last-more w xs to last n x b e h l k m from = by_place (cases_lt from (to + 1)) b h m
   where
-    on : from ≤ to → list_any (is_wanted w) (take (to + 1 - from) (drop from xs))
-        ≡ (nat_lt from last || is_wanted w x)
+    on : from ≤ to → list_any (is_target w) (take (to + 1 - from) (drop from xs))
+        ≡ (nat_lt from last || is_target w x)
     on r =
         let i : to + 1 - from ≡ suc (to - from) = omega (arith, r) in
         let j : to ≡ from + (to - from) = omega (arith, r) in
-        ap (λ v. list_any (is_wanted w) (take v (drop from xs))) i
+        ap (λ v. list_any (is_target w) (take v (drop from xs))) i
         ∙ (any-more w (drop from xs) (to - from) x (get-dropped xs from (to - from) to j ∙ e)
-        ∙ ap (λ v. v || is_wanted w x) (l from))
+        ∙ ap (λ v. v || is_target w x) (l from))
 
-    by_place : (from < to + 1) ⊎ (to + 1 ≤ from) → (b : Bool) → b ≡ is_wanted w x
+    by_place : (from < to + 1) ⊎ (to + 1 ≤ from) → (b : Bool) → b ≡ is_target w x
         → n ≡ (if b then to + 1 else last)
-        → list_any (is_wanted w) (take (to + 1 - from) (drop from xs)) ≡ nat_lt from n
+        → list_any (is_target w) (take (to + 1 - from) (drop from xs)) ≡ nat_lt from n
     by_place (inl r) true f g =
         on (omega (arith, r)) ∙ (ap (λ v. nat_lt from last || v) (sym f)
         ∙ (or-true (nat_lt from last) ∙ sym (lt-ltb from n (omega (arith, r, g)))))
@@ -108,50 +108,50 @@ get-last w xs k n ns h e =
 -- tokens.
 pub found-in : (w : Target) (xs : List Leaf) (ns : List ℕ) (a : Argument) (k n : ℕ)
     → AreLast w xs ns → slice_get ns k ≡ Some n → k ≡ min a.end (length ns - 1)
-    → nat_lt a.start n ≡ list_any (is_wanted w) (tokens_of xs a)
+    → nat_lt a.start n ≡ list_any (is_target w) (tokens_of xs a)
 found-in w xs ns a k n last e m = by_case last.cases (cases_lt a.end (length xs))
   where
-    by_case : ((ns ≡ []) × (list_any (is_wanted w) xs ≡ false))
+    by_case : ((ns ≡ []) × (list_any (is_target w) xs ≡ false))
         ⊎ ((length ns ≡ length xs + 1) × AreLastFrom w xs 0 ns)
         → (a.end < length xs) ⊎ (length xs ≤ a.end)
-        → nat_lt a.start n ≡ list_any (is_wanted w) (tokens_of xs a)
+        → nat_lt a.start n ≡ list_any (is_target w) (tokens_of xs a)
     by_case (inl h) l = absurd (none-some n (ap (λ v. slice_get v k) (sym h.0) ∙ e))
     by_case (inr h) (inl l) =
         let i : k ≡ a.end = omega (arith, h.0, m, l) in
         sym (get-last w xs k n ns h.1 e a.start)
-        ∙ ap (λ v. list_any (is_wanted w) (take (v - a.start) (drop a.start xs))) i
+        ∙ ap (λ v. list_any (is_target w) (take (v - a.start) (drop a.start xs))) i
     by_case (inr h) (inr l) =
         let d = length-drop a.start xs in
         let i : k ≡ length xs = omega (arith, h.0, m, l) in
         sym (get-last w xs k n ns h.1 e a.start)
-        ∙ ap (list_any (is_wanted w))
+        ∙ ap (list_any (is_target w))
         (take_all (k - a.start) (drop a.start xs) (omega (arith, d, i))
         ∙ sym (take_all (a.end - a.start) (drop a.start xs) (omega (arith, d, l))))
 
-none-taken : (w : Target) (n : ℕ) (xs : List Leaf) → list_any (is_wanted w) xs ≡ false
-    → list_any (is_wanted w) (take n xs) ≡ false
+none-taken : (w : Target) (n : ℕ) (xs : List Leaf) → list_any (is_target w) xs ≡ false
+    → list_any (is_target w) (take n xs) ≡ false
 none-taken w zero xs e = refl
 none-taken w (suc n) [] e = refl
 none-taken w (suc n) (x ∷ xs) e =
-    let h = or-parts (is_wanted w x) (list_any (is_wanted w) xs) e in
-    ap (λ b. b || list_any (is_wanted w) (take n xs)) h.0 ∙ none-taken w n xs h.1
+    let h = or-parts (is_target w x) (list_any (is_target w) xs) e in
+    ap (λ b. b || list_any (is_target w) (take n xs)) h.0 ∙ none-taken w n xs h.1
 
-none-dropped : (w : Target) (n : ℕ) (xs : List Leaf) → list_any (is_wanted w) xs ≡ false
-    → list_any (is_wanted w) (drop n xs) ≡ false
+none-dropped : (w : Target) (n : ℕ) (xs : List Leaf) → list_any (is_target w) xs ≡ false
+    → list_any (is_target w) (drop n xs) ≡ false
 none-dropped w zero xs e = e
 none-dropped w (suc n) [] e = refl
 none-dropped w (suc n) (x ∷ xs) e =
-    none-dropped w n xs (or-parts (is_wanted w x) (list_any (is_wanted w) xs) e).1
+    none-dropped w n xs (or-parts (is_target w x) (list_any (is_target w) xs) e).1
 
 -- Nothing stands in an argument for whose end there is no number.
 pub found-nowhere : (w : Target) (xs : List Leaf) (ns : List ℕ) (a : Argument) (k : ℕ)
     → AreLast w xs ns → length ns ≤ k → k ≡ min a.end (length ns - 1)
-    → false ≡ list_any (is_wanted w) (tokens_of xs a)
+    → false ≡ list_any (is_target w) (tokens_of xs a)
 found-nowhere w xs ns a k last l m = by_case last.cases
   where
-    by_case : ((ns ≡ []) × (list_any (is_wanted w) xs ≡ false))
+    by_case : ((ns ≡ []) × (list_any (is_target w) xs ≡ false))
         ⊎ ((length ns ≡ length xs + 1) × AreLastFrom w xs 0 ns)
-        → false ≡ list_any (is_wanted w) (tokens_of xs a)
+        → false ≡ list_any (is_target w) (tokens_of xs a)
     by_case (inl h) =
         sym (none-taken w (a.end - a.start) (drop a.start xs) (none-dropped w a.start xs h.1))
     by_case (inr h) = absurd (omega (arith, h.0, l, m))

@@ -1,7 +1,9 @@
 pub mod Arguments
 pub mod Assembly
 pub mod Calls
-pub mod Counted
+pub mod Extents
+pub mod GapTexts
+pub mod Gaps
 pub mod Marks
 pub mod Modes
 pub mod Parts

@@ -19,14 +19,14 @@ opens_call es n m t = is_mark_of (code "!") (Some m)
 
 -- The last two tokens that were read of a file, and whether `$` stands before them.
 pub record Window : Type 0 where
-  pub is_after : Bool
+  pub is_after_dollar : Bool
   pub name : Option Leaf
   pub bang : Option Leaf
 
 -- These two tokens as a contract sees them.
 abbrev pub seen_window : DeclaredWindow → Window
 seen_window w = record {
-  is_after = w.is_after;
+  is_after_dollar = w.is_after_dollar;
   name = option_map leaf w.name;
   bang = option_map leaf w.bang;
 }
@@ -43,7 +43,7 @@ front_of_tokens es false (Some n) (Some m) t =
 front_of_tokens es b n m t = None
 
 abbrev pub front_of : List Entry → Window → Leaf → Option (List Leaf)
-front_of es w t = front_of_tokens es w.is_after w.name w.bang t
+front_of es w t = front_of_tokens es w.is_after_dollar w.name w.bang t
 
 -- Whether `$` stands before the tokens after the first of them.
 abbrev pub after_next : Bool → Option Leaf → Bool
@@ -53,7 +53,7 @@ after_next b (Some n) = is_mark_of (code "$") (Some n)
 -- The last two tokens with one more.
 abbrev pub next_window : Window → Leaf → Window
 next_window w t = record {
-  is_after = after_next w.is_after w.name;
+  is_after_dollar = after_next w.is_after_dollar w.name;
   name = w.bang;
   bang = Some t;
 }

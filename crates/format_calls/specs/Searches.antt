@@ -9,15 +9,15 @@ use Rattle.format_calls.specs.Marks.{is_variable}
 use Rattle.format_calls.specs.Modes.{is_text}
 
 -- Arguments are searched for the token.
-abbrev pub is_wanted : Target → Leaf → Bool
-is_wanted Variable x = is_variable x
-is_wanted Raw x = is_text x (codes "raw")
+abbrev pub is_target : Target → Leaf → Bool
+is_target Variable x = is_variable x
+is_target Raw x = is_text x (codes "raw")
 
 -- The first `last` tokens end with the last wanted one before the token `to`: one stands between a
 -- token and that one exactly if the token is one of these.
 abbrev pub IsLast : Target → List Leaf → ℕ → ℕ → Type 0
 IsLast w xs to last = (from : ℕ)
-    → list_any (is_wanted w) (take (to - from) (drop from xs)) ≡ nat_lt from last
+    → list_any (is_target w) (take (to - from) (drop from xs)) ≡ nat_lt from last
 
 -- These are such numbers for the tokens from one on, one after the other.
 abbrev pub AreLastFrom : Target → List Leaf → ℕ → List ℕ → Type 0
@@ -27,5 +27,5 @@ AreLastFrom w xs to (n ∷ ns) = IsLast w xs to n × AreLastFrom w xs (to + 1) n
 -- These are such numbers for each token and for the end, or there are none, since no token is
 -- wanted.
 pub record AreLast (w : Target) (xs : List Leaf) (ns : List ℕ) : Type 0 where
-  pub cases : ((ns ≡ []) × (list_any (is_wanted w) xs ≡ false))
+  pub cases : ((ns ≡ []) × (list_any (is_target w) xs ≡ false))
       ⊎ ((length ns ≡ length xs + 1) × AreLastFrom w xs 0 ns)

@@ -4,7 +4,7 @@ ghost use Rattle.std.specs.Prelude.{◌≡◌, ◌+◌, ◌<◌, ◌≤◌, ◌^
 ghost use Rattle.std.specs.List.{list_any};
 ghost use Rattle.rust_trees.specs.Forests.{IsPair};
 ghost use Rattle.rust_trees.specs.Leaves.{leaf};
-ghost use Rattle.format_calls.specs.Counted.{AreUpTo, is_stop, is_uncounted, opens_at};
+ghost use Rattle.format_calls.specs.Extents.{AreUpTo, is_stop, is_uncounted, opens_at};
 
 use crate::marks::{is_mark, token_at};
 use crate::split::{after_tree, is_named};

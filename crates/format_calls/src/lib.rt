@@ -3,6 +3,7 @@
 
 mod assembly;
 mod extents;
+mod gap_texts;
 mod listing;
 mod marks;
 mod modes;
@@ -14,6 +15,7 @@ mod table;
 
 pub use assembly::{AsmPart, asm_part, template_count};
 pub use extents::{Extent, extent_of};
+pub use gap_texts::{Gaps, next_known_part};
 pub use listing::{Call, calls};
 pub use marks::{is_mark, is_mark_of, is_word, token_at, word};
 pub use modes::{is_joint, is_text};

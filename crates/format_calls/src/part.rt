@@ -6,7 +6,7 @@ ghost use Rattle.rust_trees.specs.Leaves.{Leaf, leaf};
 ghost use Rattle.format_calls.specs.Arguments.{tokens_of};
 ghost use Rattle.format_calls.specs.Assembly.{has_raw};
 ghost use Rattle.format_calls.specs.Marks.{is_variable};
-ghost use Rattle.format_calls.specs.Searches.{AreLast, is_wanted};
+ghost use Rattle.format_calls.specs.Searches.{AreLast, is_target};
 ghost use Rattle.format_calls.specs.declared.part.Target.{Target};
 
 use crate::marks::is_mark_of;
@@ -26,8 +26,8 @@ pub enum Target {
 }
 
 /// Returns whether arguments are searched for this token.
-fn is_wanted(target: Target, token: &Token<'_>) -> bool
-    ensures { result ≡ is_wanted target (leaf token.now) }
+fn is_target(target: Target, token: &Token<'_>) -> bool
+    ensures { result ≡ is_target target (leaf token.now) }
 {
     match target {
         Target::Variable => is_mark_of(token, b'$') || is_mark_of(token, b'#'),
@@ -36,11 +36,11 @@ fn is_wanted(target: Target, token: &Token<'_>) -> bool
 }
 
 /// Returns whether one of these tokens is wanted.
-fn is_one_wanted(tokens: &[Token<'_>], target: Target) -> bool
-    ensures { result ≡ list_any (is_wanted target) (map leaf tokens.now) }
+fn has_target(tokens: &[Token<'_>], target: Target) -> bool
+    ensures { result ≡ list_any (is_target target) (map leaf tokens.now) }
 {
     for token in tokens {
-        if is_wanted(target, token) {
+        if is_target(target, token) {
             return true;
         }
     }
@@ -49,17 +49,21 @@ fn is_one_wanted(tokens: &[Token<'_>], target: Target) -> bool
 
 /// Returns for each number of tokens from the first one on how many of them end with the last one
 /// that is wanted, or nothing if none is. Returns `Err` if an allocation fails.
-fn last_ones(alloc: Global, tokens: &[Token<'_>], target: Target) -> Result<Vec<usize>, AllocError>
+fn last_targets(
+    alloc: Global,
+    tokens: &[Token<'_>],
+    target: Target,
+) -> Result<Vec<usize>, AllocError>
     ensures { IfOk result (λ v. AreLast target (map leaf tokens.now) v.items) }
 {
     let mut counts = Vec::new(alloc);
-    if !is_one_wanted(tokens, target) {
+    if !has_target(tokens, target) {
         return Ok(counts);
     }
     let mut last = 0;
     counts.push(last)?;
     for (index, token) in tokens.iter().enumerate() {
-        if is_wanted(target, token) {
+        if is_target(target, token) {
             last = index + 1;
         }
         counts.push(last)?;
@@ -67,14 +71,14 @@ fn last_ones(alloc: Global, tokens: &[Token<'_>], target: Target) -> Result<Vec<
     Ok(counts)
 }
 
-/// Returns whether one of the tokens of an argument is wanted, where `last_ones` are the numbers
+/// Returns whether one of the tokens of an argument is wanted, where `last_targets` are the numbers
 /// that are returned for them.
-fn is_one_in(last_ones: &[usize], argument: &Argument) -> bool
-    ensures { (target : Target) (xs : List Leaf) → AreLast target xs last_ones.now
-        → result ≡ list_any (is_wanted target) (tokens_of xs argument.now) }
+fn holds_target(last_targets: &[usize], argument: &Argument) -> bool
+    ensures { (target : Target) (xs : List Leaf) → AreLast target xs last_targets.now
+        → result ≡ list_any (is_target target) (tokens_of xs argument.now) }
 {
-    let count = last_ones.len().saturating_sub(1);
-    match last_ones.get(argument.end.min(count)) {
+    let count = last_targets.len().saturating_sub(1);
+    match last_targets.get(argument.end.min(count)) {
         Some(last) => argument.start < *last,
         None => false,
     }
@@ -108,8 +112,8 @@ impl<'a> Part<'a> {
     pub fn new(alloc: Global, source: Source<'a>) -> Result<Self, AllocError>
         ensures { IfOk result (λ p. p ≡ source.entry) }
     {
-        let variables = last_ones(alloc, source.tokens(), Target::Variable)?;
-        let raws = last_ones(alloc, source.tokens(), Target::Raw)?;
+        let variables = last_targets(alloc, source.tokens(), Target::Variable)?;
+        let raws = last_targets(alloc, source.tokens(), Target::Raw)?;
         Ok(Part {
             source,
             variables,
@@ -135,13 +139,13 @@ impl<'a> Part<'a> {
     pub fn has_variable(&self, argument: &Argument) -> bool
         ensures { result ≡ list_any is_variable (tokens_of self.now argument.now) }
     {
-        is_one_in(&self.variables, argument)
+        holds_target(&self.variables, argument)
     }
 
     /// Returns whether the word `raw` stands in an argument.
     pub fn has_raw(&self, argument: &Argument) -> bool
         ensures { result ≡ has_raw (tokens_of self.now argument.now) }
     {
-        is_one_in(&self.raws, argument)
+        holds_target(&self.raws, argument)
     }
 }

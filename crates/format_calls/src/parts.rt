@@ -5,7 +5,9 @@ ghost use Rattle.std.specs.Prelude.{OnOk, drop, option_map};
 ghost use Rattle.rust_trees.specs.Balances.{IsBalanced};
 ghost use Rattle.rust_trees.specs.Leaves.{AreLeft, Leaf, leaf};
 ghost use Rattle.format_calls.specs.Calls.{IsCall};
-ghost use Rattle.format_calls.specs.Parts.{IsPart, front_of, next_window, opens_call};
+ghost use Rattle.format_calls.specs.Gaps.{BeginsCall, IsClear, LacksFronts};
+ghost use Rattle.format_calls.specs.Parts.{IsPart, Window as LeafWindow, front_of, next_window};
+ghost use Rattle.format_calls.specs.Parts.{opens_call};
 ghost use Rattle.format_calls.specs.Parts.{seen_front, seen_window};
 ghost use Rattle.format_calls.specs.Rows.{entry};
 ghost use Rattle.format_calls.specs.declared.listing.Call.{Call};
@@ -16,7 +18,8 @@ use rust_trees::{Balance, Source, Token, Tokens, is_opening};
 use std::alloc::{AllocError, Global};
 
 /// Returns whether three tokens are a word of a table, `!` and an opening delimiter.
-fn opens_call(rows: &[Row<'_>], name: &Token<'_>, bang: &Token<'_>, opening: &Token<'_>) -> bool
+#[inline(always)]
+pub fn opens_call(rows: &[Row<'_>], name: &Token<'_>, bang: &Token<'_>, opening: &Token<'_>) -> bool
     ensures { result ≡ opens_call (map entry rows.now) (leaf name.now) (leaf bang.now)
         (leaf opening.now) }
 {
@@ -30,7 +33,7 @@ fn opens_call(rows: &[Row<'_>], name: &Token<'_>, bang: &Token<'_>, opening: &To
 #[derive(Clone, Copy)]
 pub struct Window<'a> {
     /// Whether `$` stands before the first one.
-    pub is_after: bool,
+    pub is_after_dollar: bool,
     /// The first one.
     pub name: Option<Token<'a>>,
     /// The second one.
@@ -51,7 +54,7 @@ fn front_of<'a>(rows: &[Row<'_>], last: Window<'a>, opening: Token<'a>) -> Optio
     ensures { option_map seen_front result
         ≡ front_of (map entry rows.now) (seen_window last.entry) (leaf opening.entry) }
 {
-    if last.is_after {
+    if last.is_after_dollar {
         return None;
     }
     let Some(name) = last.name else {
@@ -75,12 +78,12 @@ fn front_of<'a>(rows: &[Row<'_>], last: Window<'a>, opening: Token<'a>) -> Optio
 fn next_window<'a>(last: Window<'a>, token: Token<'a>) -> Window<'a>
     ensures { seen_window result ≡ next_window (seen_window last.entry) (leaf token.entry) }
 {
-    let is_after = match last.name {
+    let is_after_dollar = match last.name {
         Some(name) => is_mark_of(&name, b'$'),
-        None => last.is_after,
+        None => last.is_after_dollar,
     };
     Window {
-        is_after,
+        is_after_dollar,
         name: last.bang,
         bang: Some(token),
     }
@@ -116,13 +119,16 @@ pub fn next_part<'a>(
         → AreLeft rest.new left → AreLeft rest.old (gap ++ (s ++ left))
         × IsPart (map entry table.now.rows.items) gap s left)
         × ((w : List Leaf) → IsBalanced w balance.old
-        → IsBalanced (w ++ (gap ++ s)) balance.new))) }
+        → IsBalanced (w ++ (gap ++ s)) balance.new)
+        × IsClear (map entry table.now.rows.items) gap
+        × BeginsCall (map entry table.now.rows.items) s)) }
     ensures none { IfOk result (λ o. IsNone o → (left : List Leaf) × AreLeft rest.old left
         × ((c : Call) → IsCall (map entry table.now.rows.items) left c → ⊥)
-        × ((w : List Leaf) → IsBalanced w balance.old → IsBalanced (w ++ left) balance.new)) }
+        × ((w : List Leaf) → IsBalanced w balance.old → IsBalanced (w ++ left) balance.new)
+        × (w : LeafWindow) × LacksFronts (map entry table.now.rows.items) left w) }
 {
     let mut last = Window {
-        is_after: false,
+        is_after_dollar: false,
         name: None,
         bang: None,
     };

@@ -14,7 +14,7 @@ use Rattle.std.specs.Fmt.{digits, digits_onto, digit_glyph}
 use Rattle.std.specs.List.{list_all}
 use Rattle.std.specs.Prelude.{◌==◌, ◌||◌, codes, flat_map, if◌then◌else◌, nat_lt, not}
 use Rattle.rustc_parse_format.specs.Characters.{Text}
-use Rattle.rustc_parse_format.specs.Written.{plainly_written, written_character}
+use Rattle.rustc_parse_format.specs.Escaping.{plainly_written, written_character}
 use Rattle.rustc_parse_format.proofs.Grammar.Fronts.{list_all-weaker}
 use Rattle.piece_listing.specs.Listing.{quoted_text}
 use Rattle.drawn_lines.specs.Glyphs.{glyph_bytes, is_non_ascii_drawn_as_is, is_drawn_as_is}

@@ -24,7 +24,7 @@ use Rattle.format_lint.specs.declared.task.OutputKind.TheVariants.{Fix as ShowFi
 use Rattle.format_lint.specs.declared.task.OutputKind.TheVariants.{All as ShowAll}
 use Rattle.format_lint.specs.declared.task.OutputKind.TheVariants.{Tokens as ShowTokens}
 use Rattle.format_tokens.specs.Escapes.{Placed}
-use Rattle.format_tokens.specs.Placed.{tokens}
+use Rattle.format_tokens.specs.Spans.{tokens}
 use Rattle.format_lint.specs.Colours.{shown_tokens}
 use Rattle.format_lint.specs.Findings.{Finding, findings_from, first_error, mistake_count}
 use Rattle.format_lint.specs.Findings.{most_drawn}

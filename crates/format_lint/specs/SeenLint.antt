@@ -1,7 +1,7 @@
 -- A task, a source, faults that are shown and an output, as a contract sees them.
 use Rattle.std.specs.Prelude.{List, map, option_map, string_bytes}
-use Rattle.rustc_parse_format.specs.Seen.{seen_mode}
-use Rattle.rustc_parse_format.specs.SeenFaults.{seen_fault}
+use Rattle.rustc_parse_format.specs.Views.{seen_mode}
+use Rattle.rustc_parse_format.specs.FaultViews.{seen_fault}
 use Rattle.format_lint.specs.declared.task.Task.{Task as DeclaredTask}
 use Rattle.format_lint.specs.declared.faults.Source.{Source as DeclaredSource}
 use Rattle.format_lint.specs.declared.findings.Finding.{Finding as DeclaredFinding}

@@ -1,11 +1,11 @@
 //! A source, its tokens and its faults.
 
 ghost use Rattle.std.specs.Prelude.{◌≡◌, ◌≤◌, [], IfOk, chars, false, map};
-ghost use Rattle.rustc_parse_format.specs.Seen.{seen_mode};
+ghost use Rattle.rustc_parse_format.specs.Views.{seen_mode};
 ghost use Rattle.rustc_parse_format.specs.World.{hashes};
 ghost use Rattle.piece_listing.specs.Program.{limit};
-ghost use Rattle.format_tokens.specs.Midway.{sized_token};
-ghost use Rattle.format_tokens.specs.Seen.{seen_token};
+ghost use Rattle.format_tokens.specs.Labels.{sized_token};
+ghost use Rattle.format_tokens.specs.Views.{seen_token};
 ghost use Rattle.format_tokens.specs.Walk.{read_tokens};
 ghost use Rattle.format_lint.specs.Findings.{findings_from};
 ghost use Rattle.format_lint.specs.Lint.{findings, start, tokens_in};
@@ -109,8 +109,7 @@ pub fn faults_in<'a>(
     ensures { IfOk result (λ f. Keeps f (findings (seen_mode mode) (seen_source source.entry))) }
 {
     let mut parser = parser_of(alloc, mode, source)?;
-    let faults = faults_of(alloc, &mut parser)?;
-    Ok(faults)
+    faults_of(alloc, &mut parser)
 }
 
 /// The tokens of a source, and its faults.

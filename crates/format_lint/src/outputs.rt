@@ -4,8 +4,8 @@ ghost use Rattle.std.specs.Prelude.{◌≡◌, ◌≢◌, ◌≤◌, ◌++◌, L
 ghost use Rattle.std.specs.Prelude.{None, codes, flat_map, if◌then◌else◌, map, string_bytes};
 ghost use Rattle.rustc_parse_format.specs.FaultIds.{fault_id};
 ghost use Rattle.rustc_parse_format.specs.Faults.{message};
-ghost use Rattle.rustc_parse_format.specs.Seen.{seen_mode};
-ghost use Rattle.rustc_parse_format.specs.SeenFaults.{seen_fault};
+ghost use Rattle.rustc_parse_format.specs.Views.{seen_mode};
+ghost use Rattle.rustc_parse_format.specs.FaultViews.{seen_fault};
 ghost use Rattle.rustc_parse_format.specs.World.{hashes};
 ghost use Rattle.piece_listing.specs.declared.verdict.RunFault.TheVariants.{Memory, NotLiteral};
 ghost use Rattle.piece_listing.specs.Program.{IsShort, limit};

@@ -6,7 +6,7 @@ ghost use Rattle.std.specs.Prelude.{◌≡◌, ◌++◌, ℕ, IsTrue, List, Matc
 ghost use Rattle.std.specs.Prelude.{false, map, string_bytes, true};
 ghost use Rattle.drawn_lines.specs.Glyphs.{glyph_bytes, is_non_ascii_drawn_as_is, is_drawn_as_is};
 ghost use Rattle.drawn_lines.specs.Places.{front_within};
-ghost use Rattle.format_tokens.specs.Seen.{seen_token};
+ghost use Rattle.format_tokens.specs.Views.{seen_token};
 ghost use Rattle.piece_listing.specs.Listing.{quoted_text};
 ghost use Rattle.format_lint.specs.Colours.{rest_after, colour, in_colour, kind_name};
 ghost use Rattle.format_lint.specs.Colours.{shown_token, shown_tokens, stays_as_is};

@@ -5,11 +5,11 @@ use Rattle.std.proofs.lemmas.Str.{encodes-chars, len_utf8_bounds}
 use Rattle.rustc_parse_format.specs.Characters.{Text}
 use Rattle.rust_tokens.specs.declared.kinds.Kind.TheVariants.{RawStr}
 use Rattle.rust_tokens.specs.declared.kinds.Token.{Token}
-use Rattle.rust_tokens.specs.Placed.{byte_length, token_at}
+use Rattle.rust_tokens.specs.Spans.{byte_length, token_at}
 use Rattle.rust_tokens.specs.Tokens.{Begins, Lexeme}
 use Rattle.rust_tokens.proofs.Readings.{byte-length}
 use Rattle.rust_tokens.proofs.Suffixes.{begins-once}
-use Rattle.format_literal.specs.Written.{IsRawToken}
+use Rattle.format_literal.specs.Spelling.{IsRawToken}
 
 no-bytes : (t : Text) → byte_length t ≡ 0 → t ≡ []
 no-bytes [] e = refl

@@ -3,7 +3,7 @@ use Rattle.std.proofs.Common.{ℕ, Option, Some, None, subst}
 use Rattle.rustc_parse_format.specs.Characters.{Text}
 use Rattle.rustc_parse_format.specs.Literal.{IsLiteral}
 use Rattle.piece_listing.proofs.OneLiteral.{literal-only}
-use Rattle.format_literal.specs.Written.{IsWritten}
+use Rattle.format_literal.specs.Spelling.{IsWritten}
 
 pub literal-of : (style : Option ℕ) (l t : Text) → IsWritten style l t → IsLiteral style l t
 literal-of None l t h = h

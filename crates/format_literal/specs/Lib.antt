@@ -1,2 +1,2 @@
-pub mod Seen
-pub mod Written
+pub mod Views
+pub mod Spelling

@@ -3,7 +3,7 @@
 ghost use Rattle.std.specs.Prelude.{◌≡◌, ◌↔◌, IsTrue, chars};
 ghost use Rattle.std.specs.List.{list_all};
 ghost use Rattle.rustc_parse_format.specs.Literal.{IsLiteral};
-ghost use Rattle.format_literal.specs.Written.{IsRawToken, IsWritten, is_no_cr};
+ghost use Rattle.format_literal.specs.Spelling.{IsRawToken, IsWritten, is_no_cr};
 
 use rust_tokens::{Kind, first_token, split_first};
 

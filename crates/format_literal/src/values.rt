@@ -34,19 +34,19 @@ impl<'a> Literal<'a> {
     ghost use Rattle.std.specs.Prelude.{string_bytes};
     ghost use Rattle.rustc_parse_format.specs.Call.{pieces_of};
     ghost use Rattle.rustc_parse_format.specs.Characters.{Text};
-    ghost use Rattle.rustc_parse_format.specs.Seen.{seen_piece, seen_mode};
+    ghost use Rattle.rustc_parse_format.specs.Views.{seen_piece, seen_mode};
     ghost use Rattle.rustc_parse_format.specs.State.{after_all, calls};
     ghost use Rattle.rustc_parse_format.specs.World.{pieces_in};
     ghost use Rattle.placeholder_check.specs.Report.{IsReport};
-    ghost use Rattle.placeholder_check.specs.Seen.{seen_report, texts};
+    ghost use Rattle.placeholder_check.specs.Views.{seen_report, texts};
     ghost use Rattle.placeholder_check.specs.Uses.{uses};
-    ghost use Rattle.format_tokens.specs.Placed.{tokens};
-    ghost use Rattle.format_tokens.specs.Seen.{seen_token};
+    ghost use Rattle.format_tokens.specs.Spans.{tokens};
+    ghost use Rattle.format_tokens.specs.Views.{seen_token};
     ghost use Rattle.fault_fixes.specs.Fixing.{FixedLiteral as FixedValue};
     ghost use Rattle.fault_fixes.specs.Rounds.{IsFixed};
     ghost use Rattle.fault_fixes.specs.SeenEdits.{seen_fixed};
-    ghost use Rattle.format_literal.specs.Seen.{EndsLine, IsRead, snippet_of, start, text_of};
-    ghost use Rattle.format_literal.specs.Written.{IsWritten};
+    ghost use Rattle.format_literal.specs.Views.{EndsLine, IsRead, snippet_of, start, text_of};
+    ghost use Rattle.format_literal.specs.Spelling.{IsWritten};
 
     /// Reads a string literal by the rules of the Rust Reference, `"..."` or `r#"..."#` with any
     /// number of hashes. Its lines end with LF. Returns `None` if the source is no such literal:

@@ -26,7 +26,7 @@ use Rattle.rustc_parse_format.proofs.Readers.Recoveries.{recovery_rest}
 use Rattle.format_tokens.specs.declared.kinds.Kind.TheVariants.{Text as TextKind, EscapedBrace}
 use Rattle.format_tokens.specs.declared.kinds.Kind.TheVariants.{CloseBrace}
 use Rattle.format_tokens.specs.declared.kinds.Label.{Label as Sized}
-use Rattle.format_tokens.specs.Midway.{Took}
+use Rattle.format_tokens.specs.Labels.{Adds}
 use Rattle.format_tokens.specs.Tokens.{opened_tokens, token}
 use Rattle.format_tokens.specs.Walk.{call_tokens, placeholder_tokens, skipped_tokens, up_to_rest}
 use Rattle.format_tokens.proofs.Skipping.{Skips}
@@ -52,7 +52,7 @@ cut_first c (d ∷ t) h = ap (λ x. x ∷ t) (eqb-true d c h)
 tail-closed : (e f g : List ℕ) (x y z : List Sized) (b m left : ℕ) (r : Text) → chars e ≡ r
     → b ≡ from_bool (begins_with 125 (chars e)) → begins_with 125 r ≡ true
     → Takes CloseBrace b e x y f → m ≡ byte_length (chars f) - left → Skips m f y z g
-    → left ≡ byte_length (after_first r) → Took (token CloseBrace (codes "}")) (after_first r) x z g
+    → left ≡ byte_length (after_first r) → Adds (token CloseBrace (codes "}")) (after_first r) x z g
 tail-closed e f g x y z b m left r s i q close j takes k =
     let whole = cut_first 125 r q in
     let first = close (codes "}") (after_first r) (s ∙ whole)
@@ -63,7 +63,7 @@ tail-closed e f g x y z b m left r s i q close j takes k =
 tail-open : (e f g : List ℕ) (x y z : List Sized) (b m left : ℕ) (r s : Text) → chars e ≡ r
     → b ≡ from_bool (begins_with 125 (chars e)) → begins_with 125 r ≡ false
     → Takes CloseBrace b e x y f → m ≡ byte_length (chars f) - left → Skips m f y z g
-    → IsRest r s → left ≡ byte_length s → Took (skipped_tokens (up_to_rest r s)) s x z g
+    → IsRest r s → left ≡ byte_length s → Adds (skipped_tokens (up_to_rest r s)) s x z g
 tail-open e f g x y z b m left r s h i q close j takes within k =
     let whole = take-rest r s within in
     let first = close [] r h (i ∙ (ap from_bool (ap (begins_with 125) h ∙ q) ∙ width-nil)) in
@@ -74,19 +74,19 @@ tail-open e f g x y z b m left r s h i q close j takes within k =
 -- A placeholder, from what is read before its closing brace.
 pub ended : (mode : Mode) (n : ℕ) (o t : Text) (e f g : List ℕ) (w x y z : List Sized)
     (b m left : ℕ)
-    → Took (opened_tokens (cut mode t).field (front is_whitespace (cut mode t).rest))
+    → Adds (opened_tokens (cut mode t).field (front is_whitespace (cut mode t).rest))
     (after_white (cut mode t).rest) w x e
     → b ≡ from_bool (begins_with 125 (chars e)) → Takes CloseBrace b e x y f
     → m ≡ byte_length (chars f) - left → Skips m f y z g
     → left ≡ byte_length (placeholder mode n o t).rest
-    → Took (placeholder_tokens mode t (placeholder mode n o t).rest)
+    → Adds (placeholder_tokens mode t (placeholder mode n o t).rest)
     (placeholder mode n o t).rest w z g
 unfolding placeholder placeholder_tokens
 ended mode n o t e f g w x y z b m left h i close j takes k =
     by_brace (begins_with 125 (after_white (cut mode t).rest)) refl
   where
     by_brace : (v : Bool) → begins_with 125 (after_white (cut mode t).rest) ≡ v
-        → Took (placeholder_tokens mode t (placeholder mode n o t).rest)
+        → Adds (placeholder_tokens mode t (placeholder mode n o t).rest)
         (placeholder mode n o t).rest w z g
     by_brace true q = let few = rw q at k in
         rw q (then h (tail-closed e f g x y z b m left _ h.leaves i q close j takes few))
@@ -108,7 +108,7 @@ brace-width b h = elim (or_cases _ _ h) [
 text-took : (p u r : Text) (t d g : List ℕ) (x y z : List Sized) (b m left : ℕ)
     → chars t ≡ p ++ (u ++ r) → b ≡ byte_length p → Takes EscapedBrace b t x y d
     → m ≡ byte_length (chars d) - left → Takes TextKind m d y z g → left ≡ byte_length r
-    → Took (token EscapedBrace p ++ token TextKind u) r x z g
+    → Adds (token EscapedBrace p ++ token TextKind u) r x z g
 text-took p u r t d g x y z b m left h i escape j takes k =
     let first = escape p (u ++ r) h i in
     then first (takes u r first.leaves
@@ -134,14 +134,14 @@ pub literal-took : (mode : Mode) (n : ℕ) (t : Text) (l : Text) (s d g : List �
     → b ≡ cond (first_passes is_brace t) 2 0 → Takes EscapedBrace b s x y d
     → m ≡ byte_length (chars d) - left → Takes TextKind m d y z g
     → left ≡ byte_length (call mode n t).rest
-    → Took (call_tokens mode t (call mode n t).rest) (call mode n t).rest x z g
+    → Adds (call_tokens mode t (call mode n t).rest) (call mode n t).rest x z g
 unfolding call call_tokens
 literal-took mode n [] l s d g x y z b m left h given i escape j takes k = absurd (cc given)
 literal-took mode n (c ∷ t) l s d g x y z b m left h given i escape j takes k =
     by_brace (is_brace c) refl
   where
     by_double : (v : Bool) → is_brace c ≡ true → begins_with c t ≡ v
-        → Took (call_tokens mode (c ∷ t) (call mode n (c ∷ t)).rest) (call mode n (c ∷ t)).rest x z
+        → Adds (call_tokens mode (c ∷ t) (call mode n (c ∷ t)).rest) (call mode n (c ∷ t)).rest x z
         g
     by_double true e q =
         let few = rw (e, q) at k in
@@ -154,7 +154,7 @@ literal-took mode n (c ∷ t) l s d g x y z b m left h given i escape j takes k 
         absurd (brace-no_text mode n (c ∷ t) t l (c == 123) (rw (e, q) at given))
 
     by_brace : (v : Bool) → is_brace c ≡ v
-        → Took (call_tokens mode (c ∷ t) (call mode n (c ∷ t)).rest) (call mode n (c ∷ t)).rest x z
+        → Adds (call_tokens mode (c ∷ t) (call mode n (c ∷ t)).rest) (call mode n (c ∷ t)).rest x z
         g
     by_brace true e = by_double (begins_with c t) e refl
     by_brace false e =
@@ -204,13 +204,13 @@ argument-opens mode n (c ∷ t) a h = by_brace (is_brace c) refl
 pub none-took : (mode : Mode) (n : ℕ) (t : Text) (s g : List ℕ) (x y : List Sized) (m left : ℕ)
     → chars s ≡ t → (call mode n t).piece ≡ None → m ≡ byte_length t - left
     → Takes CloseBrace m s x y g → left ≡ byte_length (call mode n t).rest
-    → Took (call_tokens mode t (call mode n t).rest) (call mode n t).rest x y g
+    → Adds (call_tokens mode t (call mode n t).rest) (call mode n t).rest x y g
 unfolding call call_tokens
 none-took mode n [] s g x y m left h none j takes k = takes [] [] h (j ∙ omega arith)
 none-took mode n (c ∷ t) s g x y m left h none j takes k = by_brace (is_brace c) refl
   where
     by_sign : (v : Bool) → is_brace c ≡ true → begins_with c t ≡ false → (c == 123) ≡ v
-        → Took (call_tokens mode (c ∷ t) (call mode n (c ∷ t)).rest) (call mode n (c ∷ t)).rest x y
+        → Adds (call_tokens mode (c ∷ t) (call mode n (c ∷ t)).rest) (call mode n (c ∷ t)).rest x y
         g
     by_sign true e q o = absurd (let p = rw (e, q, o) at none in
         let a = placeholder-piece mode n (c ∷ t) t in cc (p, a))
@@ -220,13 +220,13 @@ none-took mode n (c ∷ t) s g x y m left h none j takes k = by_brace (is_brace 
         (j ∙ (ap (λ i. byte_length (c ∷ t) - i) few ∙ front-width (c ∷ t) (c ∷ []) t refl)))
 
     by_double : (v : Bool) → is_brace c ≡ true → begins_with c t ≡ v
-        → Took (call_tokens mode (c ∷ t) (call mode n (c ∷ t)).rest) (call mode n (c ∷ t)).rest x y
+        → Adds (call_tokens mode (c ∷ t) (call mode n (c ∷ t)).rest) (call mode n (c ∷ t)).rest x y
         g
     by_double true e q = absurd (let p = rw (e, q) at none in cc p)
     by_double false e q = by_sign (c == 123) e q refl
 
     by_brace : (v : Bool) → is_brace c ≡ v
-        → Took (call_tokens mode (c ∷ t) (call mode n (c ∷ t)).rest) (call mode n (c ∷ t)).rest x y
+        → Adds (call_tokens mode (c ∷ t) (call mode n (c ∷ t)).rest) (call mode n (c ∷ t)).rest x y
         g
     by_brace true e = by_double (begins_with c t) e refl
     by_brace false e = absurd (let p = rw e at none in cc p)

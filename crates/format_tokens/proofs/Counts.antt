@@ -18,7 +18,7 @@ use Rattle.rustc_parse_format.proofs.Grammar.PartLaws.{row-two, two-split}
 use Rattle.format_tokens.specs.declared.kinds.Kind.TheVariants.{Asterisk, DollarSign, Dot}
 use Rattle.format_tokens.specs.declared.kinds.Kind.TheVariants.{Identifier, Zero}
 use Rattle.format_tokens.specs.declared.kinds.Label.{Label as Sized}
-use Rattle.format_tokens.specs.Midway.{Took}
+use Rattle.format_tokens.specs.Labels.{Adds}
 use Rattle.format_tokens.specs.Tokens.{count_tokens, integer_kind, precision_tokens, token}
 use Rattle.format_tokens.specs.Tokens.{width_tokens, word_kind}
 use Rattle.format_tokens.proofs.Taking.{Takes, as_kind, moved, then, width-nil}
@@ -38,7 +38,7 @@ pub count-is : (t left : List ℕ) (x y : List Sized) (n w : ℕ)
     → n ≡ byte_length (front is_ascii_digit (chars t))
     → Takes (integer_kind (front is_ascii_digit (chars t))) n t x y left
     → (k : CountText) (r : Text) → IsPart (chars t) (count_part k) r → Is w ≡ count_value k
-    → Took (count_tokens k) r x y left
+    → Adds (count_tokens k) r x y left
 count-is t left x y n w e takes (NumberCount ds) r h v =
     let s = two-split (chars t) (integer ds) (absent_part (begins_with 36)) r h in
     as_kind ds (integer-kind (chars t) ds s.seam s.first)
@@ -53,7 +53,7 @@ pub count-param : (t d left : List ℕ) (x y z : List Sized) (n w : ℕ)
     → Takes (integer_kind (front is_ascii_digit (chars t))) n t x y d
     → Takes DollarSign 1 d y z left
     → (k : CountText) (r : Text) → IsPart (chars t) (count_part k) r → Param w ≡ count_value k
-    → Took (count_tokens k) r x z left
+    → Adds (count_tokens k) r x z left
 count-param t d left x y z n w e takes dollar (IndexCount ds) r h v =
     let s = two-split (chars t) (integer ds) (fixed_part (codes "$")) r h in
     let first = as_kind ds (integer-kind (chars t) ds s.seam s.first)
@@ -66,7 +66,7 @@ count-param t d left x y z n w e takes dollar NoCount r h v = absurd (cc v)
 pub count-name : (t d left : List ℕ) (x y z : List Sized) (w : Text) (n : ℕ)
     → n ≡ byte_length w → Takes (word_kind Identifier w) n t x y d → Takes DollarSign 1 d y z left
     → (k : CountText) (r : Text) → IsPart (chars t) (count_part k) r → Name w tt ≡ count_value k
-    → Took (count_tokens k) r x z left
+    → Adds (count_tokens k) r x z left
 count-name t d left x y z w n e takes dollar (NameCount v) r h i =
     let s = two-split (chars t) (name_part v) (fixed_part (codes "$")) r h in
     let same : w ≡ v = cc i in
@@ -80,7 +80,7 @@ count-name t d left x y z w n e takes dollar NoCount r h v = absurd (cc v)
 -- What `count` says of a count there that means v.
 abbrev pub CountsFrom : Count (Unit {0}) → List ℕ → List Sized → List Sized → List ℕ → Type 0
 CountsFrom v t x y left = (k : CountText) (r : Text) → IsPart (chars t) (count_part k) r
-    → v ≡ count_value k → Took (count_tokens k) r x y left
+    → v ≡ count_value k → Adds (count_tokens k) r x y left
 
 -- The argument 0 that `0$` means is written as an index.
 zero-index : (t r : Text) → IsPart t (fixed_part (codes "0$")) r
@@ -92,7 +92,7 @@ zero-index t r h = row-two t (codes "$" ++ r) (integer (codes "0")) (fixed_part 
 pub width-takes : (t b left : List ℕ) (x y z : List Sized) (n : ℕ) (p : Bool) (v : Count (Unit {0}))
     → n ≡ from_bool p → Takes Zero n t x y b → CountsFrom v b y z left
     → (k : WidthText) (r : Text) → IsPart (chars t) (width_part k) r → p ≡ is_padded k
-    → v ≡ width_value k → Took (width_tokens k) r x z left
+    → v ≡ width_value k → Adds (width_tokens k) r x z left
 width-takes t b left x y z n p v e zero counts (PaddedWidth k) r h f i =
     let s = two-split (chars t) (part_unless (codes "0") (begins_with 36)) (count_part k) r h in
     let first = zero (codes "0") s.seam s.first.whole (e ∙ ap from_bool f) in
@@ -109,10 +109,10 @@ width-takes t b left x y z n p v e zero counts (PlainWidth k) r h f i =
 pub precision-takes : (t b left : List ℕ) (x y z : List Sized) (n : ℕ) (v : Count (Unit {0}))
     → n ≡ from_bool (begins_with 46 (chars t)) → Takes Dot n t x y b → CountsFrom v b y z left
     → ((m : ℕ) (r : Text) → chars b ≡ codes "*" ++ r → v ≡ Star m
-    → Took (token Asterisk (codes "*")) r y z left)
-    → (v ≡ Implied → Took [] (chars b) y z left)
+    → Adds (token Asterisk (codes "*")) r y z left)
+    → (v ≡ Implied → Adds [] (chars b) y z left)
     → (k : PrecisionText) (m : ℕ) (r : Text) → IsPart (chars t) (precision_part k) r
-    → v ≡ precision_value m k → Took (precision_tokens k) r x z left
+    → v ≡ precision_value m k → Adds (precision_tokens k) r x z left
 precision-takes t b left x y z n v e dot counts star none NoPrecision m r h i =
     let undotted : begins_with 46 (chars t) ≡ false = ap (begins_with 46) h.whole
     ∙ not-true (begins_with 46 r) h.ends in

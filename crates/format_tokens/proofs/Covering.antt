@@ -23,7 +23,7 @@ use Rattle.format_tokens.specs.Covers.{IsCover, ranges_of}
 use Rattle.format_tokens.specs.declared.kinds.Kind.{Kind}
 use Rattle.format_tokens.specs.declared.kinds.Kind.TheVariants.{Quote}
 use Rattle.format_tokens.specs.Escapes.{Placed}
-use Rattle.format_tokens.specs.Placed.{placed_tokens, input_tokens, whole_tokens, first_tokens}
+use Rattle.format_tokens.specs.Spans.{placed_tokens, input_tokens, whole_tokens, first_tokens}
 use Rattle.format_tokens.specs.Tokens.{Label, joined_text, token}
 use Rattle.format_tokens.specs.Walk.{tokens_of}
 use Rattle.format_tokens.proofs.Joining.{shown-joined}

@@ -18,7 +18,7 @@ use Rattle.format_tokens.specs.declared.kinds.Kind.{Kind}
 use Rattle.format_tokens.specs.Covers.{IsCover, ranges_of}
 use Rattle.format_tokens.specs.Escapes.{Placed, cut, escape_at, front_within, is_apart, parts}
 use Rattle.format_tokens.specs.Escapes.{parts_within, rest_within, run}
-use Rattle.format_tokens.specs.Placed.{cut_in, tokens, whole_tokens}
+use Rattle.format_tokens.specs.Spans.{cut_in, tokens, whole_tokens}
 use Rattle.format_tokens.proofs.Covering.{whole-cover}
 use Rattle.format_tokens.proofs.InText.{some-width}
 

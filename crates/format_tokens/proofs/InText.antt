@@ -17,8 +17,8 @@ use Rattle.rustc_parse_format.proofs.Sources.PlainPlaces.{place_end, place_insid
 use Rattle.rustc_parse_format.proofs.Spans.TextBytes.{text-bytes}
 use Rattle.format_tokens.specs.Covers.{IsCover, encoded_tokens, ranges_of, slices}
 use Rattle.format_tokens.specs.Escapes.{Placed}
-use Rattle.format_tokens.specs.Placed.{tokens_in_text, placed_tokens, input_tokens, tokens}
-use Rattle.format_tokens.specs.Placed.{whole_tokens}
+use Rattle.format_tokens.specs.Spans.{tokens_in_text, placed_tokens, input_tokens, tokens}
+use Rattle.format_tokens.specs.Spans.{whole_tokens}
 use Rattle.format_tokens.specs.Tokens.{Label, joined_text}
 use Rattle.format_tokens.specs.Walk.{tokens_of}
 use Rattle.format_tokens.proofs.Covering.{AreSome, within-some}

@@ -32,7 +32,7 @@ use Rattle.rustc_parse_format.proofs.Walking.Progress.{call-lt}
 use Rattle.format_tokens.specs.declared.kinds.Kind.{Kind}
 use Rattle.format_tokens.specs.declared.kinds.Kind.TheVariants.{CloseBrace, Colon}
 use Rattle.format_tokens.specs.Culprits.{marked_tokens}
-use Rattle.format_tokens.specs.Placed.{input_tokens, first_tokens}
+use Rattle.format_tokens.specs.Spans.{input_tokens, first_tokens}
 use Rattle.format_tokens.specs.Tokens.{Label, count_tokens, field_tokens, format_tokens}
 use Rattle.format_tokens.specs.Tokens.{joined_text}
 use Rattle.format_tokens.specs.Tokens.{opened_tokens, position_tokens, precision_tokens}

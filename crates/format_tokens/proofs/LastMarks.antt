@@ -26,7 +26,7 @@ use Rattle.format_tokens.specs.declared.kinds.Kind.TheVariants.{OpenBrace as Ope
 use Rattle.format_tokens.specs.declared.kinds.Kind.TheVariants.{Text as TextKind, Whitespace}
 use Rattle.format_tokens.specs.Culprits.{closes, closes_or, fits, has_argument, inside_after}
 use Rattle.format_tokens.specs.Culprits.{marked_tokens, role_of}
-use Rattle.format_tokens.specs.Placed.{input_tokens, first_tokens}
+use Rattle.format_tokens.specs.Spans.{input_tokens, first_tokens}
 use Rattle.format_tokens.specs.Sections.{HasAppended, faults_of, has_fault, has_mark, is_mark}
 use Rattle.format_tokens.specs.Tokens.{Label, field_tokens, joined_text, opened_tokens, token}
 use Rattle.format_tokens.specs.Walk.{call_tokens, is_closed, placeholder_tokens, read_tokens}

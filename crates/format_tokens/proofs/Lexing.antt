@@ -21,11 +21,11 @@ use Rattle.rustc_parse_format.proofs.Spans.Worlds.{known}
 use Rattle.format_tokens.specs.declared.kinds.Kind.{Kind}
 use Rattle.format_tokens.specs.declared.kinds.Kind.TheVariants.{Quote}
 use Rattle.format_tokens.specs.declared.kinds.Token.{Token}
-use Rattle.format_tokens.specs.Seen.{seen_token}
-use Rattle.format_tokens.specs.Midway.{sized_token}
+use Rattle.format_tokens.specs.Views.{seen_token}
+use Rattle.format_tokens.specs.Labels.{sized_token}
 use Rattle.format_tokens.specs.Escapes.{Placed}
-use Rattle.format_tokens.specs.Placed.{placed_tokens, input_tokens, tokens, whole_tokens}
-use Rattle.format_tokens.specs.Placed.{first_tokens}
+use Rattle.format_tokens.specs.Spans.{placed_tokens, input_tokens, tokens, whole_tokens}
+use Rattle.format_tokens.specs.Spans.{first_tokens}
 use Rattle.format_tokens.specs.Starts.{pairs, placed_sizes, starts_of}
 use Rattle.format_tokens.specs.Tokens.{Label, token}
 use Rattle.format_tokens.specs.Walk.{read_tokens, tokens_of}

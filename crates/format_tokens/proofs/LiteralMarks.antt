@@ -22,8 +22,8 @@ use Rattle.rustc_parse_format.proofs.Spans.Worlds.{known, unit_world}
 use Rattle.format_tokens.specs.declared.kinds.Kind.TheVariants.{Quote}
 use Rattle.format_tokens.specs.Covers.{AreParts}
 use Rattle.format_tokens.specs.Escapes.{Placed}
-use Rattle.format_tokens.specs.Placed.{cut_in, tokens_in_text, placed_tokens, input_tokens, tokens}
-use Rattle.format_tokens.specs.Placed.{whole_tokens}
+use Rattle.format_tokens.specs.Spans.{cut_in, tokens_in_text, placed_tokens, input_tokens, tokens}
+use Rattle.format_tokens.specs.Spans.{whole_tokens}
 use Rattle.format_tokens.specs.Sections.{HasAppended, faults_of, has_fault, has_mark, is_mark}
 use Rattle.format_tokens.specs.Tokens.{Label, joined_text}
 use Rattle.format_tokens.specs.Walk.{tokens_of}

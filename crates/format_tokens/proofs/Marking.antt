@@ -8,7 +8,7 @@ use Rattle.format_tokens.specs.declared.culprits.Role.TheVariants.{Number, Messa
 use Rattle.format_tokens.specs.declared.kinds.Kind.TheVariants.{Unexpected}
 use Rattle.format_tokens.specs.Culprits.{closes, closes_or, fits, has_argument, marked_tokens}
 use Rattle.format_tokens.specs.Culprits.{role_of}
-use Rattle.format_tokens.specs.Midway.{sized_token}
+use Rattle.format_tokens.specs.Labels.{sized_token}
 use Rattle.format_tokens.specs.Starts.{Pair, pairs}
 use Rattle.format_tokens.specs.Tokens.{Label}
 

@@ -15,7 +15,7 @@ use Rattle.rustc_parse_format.specs.Values.{position_of}
 use Rattle.rustc_parse_format.proofs.Grammar.PartLaws.{absent-same, two-split}
 use Rattle.format_tokens.specs.declared.kinds.Kind.TheVariants.{Identifier, RawPrefix}
 use Rattle.format_tokens.specs.declared.kinds.Label.{Label as Sized}
-use Rattle.format_tokens.specs.Midway.{Took, names_raw}
+use Rattle.format_tokens.specs.Labels.{Adds, names_raw}
 use Rattle.format_tokens.specs.Tokens.{integer_kind, position_tokens, word_kind}
 use Rattle.format_tokens.proofs.Counts.{integer-kind, integer-width}
 use Rattle.format_tokens.proofs.Taking.{Takes, as_kind, then, width-nil}
@@ -24,7 +24,7 @@ pub position-is : (t left : List ℕ) (x y : List Sized) (n w : ℕ)
     → n ≡ byte_length (front is_ascii_digit (chars t))
     → Takes (integer_kind (front is_ascii_digit (chars t))) n t x y left
     → (p : PositionText) (c : ℕ) (r : Text) → IsPart (chars t) (position_part p) r
-    → Index w ≡ position_of c p → Took (position_tokens p) r x y left
+    → Index w ≡ position_of c p → Adds (position_tokens p) r x y left
 position-is t left x y n w e takes (Digits ds) c r h v =
     as_kind ds (integer-kind (chars t) ds r h)
     (takes ds r h.whole (e ∙ integer-width (chars t) ds r h))
@@ -58,7 +58,7 @@ pub position-named : (t d left : List ℕ) (x y z : List Sized) (w : Text) (m n 
     → m ≡ prefix_width (names_raw (chars t) w) → n ≡ byte_length w
     → Takes RawPrefix m t x y d → Takes (word_kind Identifier w) n d y z left
     → (p : PositionText) (c : ℕ) (r : Text) → IsPart (chars t) (position_part p) r
-    → Named w ≡ position_of c p → Took (position_tokens p) r x z left
+    → Named w ≡ position_of c p → Adds (position_tokens p) r x z left
 position-named t d left x y z w m n e f prefix takes (Word v) c r h i =
     let s = two-split (chars t) (absent_part begins_raw) (identifier v) r h in
     let same : w ≡ v = cc i in

@@ -17,7 +17,7 @@ use Rattle.rustc_parse_format.proofs.Grammar.Rests.{IsRest}
 use Rattle.rustc_parse_format.proofs.Walking.ParserLaws.{call_rest}
 use Rattle.rustc_parse_format.proofs.Walking.Progress.{call-lt}
 use Rattle.format_tokens.specs.declared.kinds.Label.{Label as Sized}
-use Rattle.format_tokens.specs.Midway.{Took, sized_token}
+use Rattle.format_tokens.specs.Labels.{Adds, sized_token}
 use Rattle.format_tokens.specs.Walk.{call_tokens, read_tokens, tokens_within}
 
 pub IsRest-width : {t r : Text} → IsRest t r → byte_length r ≤ byte_length t
@@ -92,7 +92,7 @@ joins x y a b w e f = ap (λ z. z ++ b) e ∙ (append_assoc x a b ∙ f)
 pub so_far-next : (mode : Mode) (input : Text) (x y : List Sized) (rest : Text) (t : List ℕ)
     (s new : State) → IsSoFar mode input x rest s → new ≡ forgotten (state_after s (next_call s))
     → rest ≢ []
-    → Took (call_tokens mode rest (call mode s.next rest).rest) (call mode s.next rest).rest x y t
+    → Adds (call_tokens mode rest (call mode s.next rest).rest) (call mode s.next rest).rest x y t
     → IsSoFar mode input y (chars t) new
 so_far-next mode input x y rest t s new h e some took =
     let k = call mode s.next rest in

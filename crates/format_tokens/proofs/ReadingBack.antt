@@ -21,7 +21,7 @@ use Rattle.rustc_parse_format.proofs.Spans.Worlds.{known}
 use Rattle.format_tokens.specs.Covers.{AreParts, IsCover, in_quotes, read_back, ranges_of}
 use Rattle.format_tokens.specs.declared.kinds.Kind.TheVariants.{Quote}
 use Rattle.format_tokens.specs.Escapes.{Placed}
-use Rattle.format_tokens.specs.Placed.{cut_in, placed_tokens, input_tokens, tokens, whole_tokens}
+use Rattle.format_tokens.specs.Spans.{cut_in, placed_tokens, input_tokens, tokens, whole_tokens}
 use Rattle.format_tokens.specs.Tokens.{Label, joined_text}
 use Rattle.format_tokens.proofs.Covering.{source-length, source-tokens, start-end}
 use Rattle.format_tokens.proofs.CutCovering.{source-cut, tokens-cover}

@@ -12,7 +12,7 @@ use Rattle.std.proofs.lemmas.List.Sums.{sum_by-append}
 use Rattle.rustc_parse_format.specs.Characters.{Text, byte_length}
 use Rattle.format_tokens.specs.declared.kinds.Kind.TheVariants.{CloseBrace, Unexpected}
 use Rattle.format_tokens.specs.declared.kinds.Label.{Label as Sized}
-use Rattle.format_tokens.specs.Midway.{Took}
+use Rattle.format_tokens.specs.Labels.{Adds}
 use Rattle.format_tokens.specs.Tokens.{Label}
 use Rattle.format_tokens.specs.Walk.{is_closed, skipped_tokens}
 use Rattle.format_tokens.proofs.Taking.{Takes, then, width-nil}
@@ -20,7 +20,7 @@ use Rattle.format_tokens.proofs.Taking.{Takes, then, width-nil}
 -- The contract of `skipped`.
 abbrev pub Skips : ℕ → List ℕ → List Sized → List Sized → List ℕ → Type 0
 Skips n t x y left = (u r : Text) → chars t ≡ u ++ r → n ≡ byte_length u
-    → Took (skipped_tokens u) r x y left
+    → Adds (skipped_tokens u) r x y left
 
 pub closed-last : (v : Text) → is_closed (v ++ 125 ∷ []) ≡ true
 closed-last [] = refl
@@ -51,8 +51,8 @@ closed-found u text (Some t) b e h some =
     some ∙ sym (ap is_closed (sym (h ∙ e)) ∙ closed-last (chars t.now))
 
 -- Nothing is taken after a token.
-also_none : {a : List Label} {s r : Text} {x y z : List Sized} {t u : List ℕ} → Took a s x y t
-    → Took [] r y z u → Took a r x z u
+also_none : {a : List Label} {s r : Text} {x y z : List Sized} {t u : List ℕ} → Adds a s x y t
+    → Adds [] r y z u → Adds a r x z u
 also_none h k = record { adds = k.adds ∙ (append-nil _ ∙ h.adds); leaves = k.leaves }
 
 pub skips : (t s left : List ℕ) (x y z : List Sized) (n a b : ℕ)
@@ -60,7 +60,7 @@ pub skips : (t s left : List ℕ) (x y z : List Sized) (n a b : ℕ)
     → a ≡ n - b → Takes Unexpected a t x y s → Takes CloseBrace b s y z left → Skips n t x z left
 skips t s left x y z n a b closed e skip close u r h w = by_end (is_closed u) refl
   where
-    by_end : (v : Bool) → is_closed u ≡ v → Took (skipped_tokens u) r x z left
+    by_end : (v : Bool) → is_closed u ≡ v → Adds (skipped_tokens u) r x z left
     by_end true q =
         let shape = closed-shape u q in
         let one : b ≡ 1 = closed u r h w ∙ ap from_bool q in

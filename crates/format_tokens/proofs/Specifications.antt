@@ -16,7 +16,7 @@ use Rattle.format_tokens.specs.declared.kinds.Kind.TheVariants.{Colon}
 use Rattle.format_tokens.specs.declared.kinds.Kind.TheVariants.{Modifier as ModifierKind}
 use Rattle.format_tokens.specs.declared.kinds.Kind.TheVariants.{DiagnosticText as DiagnosticKind}
 use Rattle.format_tokens.specs.declared.kinds.Label.{Label as Sized}
-use Rattle.format_tokens.specs.Midway.{Took}
+use Rattle.format_tokens.specs.Labels.{Adds}
 use Rattle.format_tokens.specs.Tokens.{format_tokens, spec_tokens, word_kind}
 use Rattle.format_tokens.proofs.Taking.{Takes, as_kind, then}
 
@@ -33,9 +33,9 @@ default_starts mode t r e h = absurd (false≢true (sym (not-true (begins_with 5
 pub format-rest_after : (t b left : List ℕ) (x y z : List Sized) (f : Spec (Unit {0}))
     → begins_with 58 (chars t) ≡ true → Takes Colon 1 t x y b
     → ((p : FormatText) (n : ℕ) (r : Text) → IsPart (chars b) (format_part p) r
-    → f ≡ format_value n p → Took (format_tokens p) r y z left)
+    → f ≡ format_value n p → Adds (format_tokens p) r y z left)
     → (k : SpecText) (n : ℕ) (r : Text) → IsPart (chars t) (spec_part Format k) r
-    → f ≡ spec_value n k → Took (spec_tokens k) r x z left
+    → f ≡ spec_value n k → Adds (spec_tokens k) r x z left
 format-rest_after t b left x y z f e colon format Default n r h v =
     default_starts Format (chars t) r e h
 format-rest_after t b left x y z f e colon format (Formatting p) n r h v =
@@ -51,7 +51,7 @@ pub modifier-rest_after : (t b left : List ℕ) (x y z : List Sized) (f : Spec (
     → begins_with 58 (chars t) ≡ true → Takes Colon 1 t x y b → m ≡ byte_length f.ty
     → Takes (word_kind ModifierKind f.ty) m b y z left
     → (k : SpecText) (n : ℕ) (r : Text) → IsPart (chars t) (spec_part InlineAsm k) r
-    → f ≡ spec_value n k → Took (spec_tokens k) r x z left
+    → f ≡ spec_value n k → Adds (spec_tokens k) r x z left
 modifier-rest_after t b left x y z f m e colon i takes Default n r h v =
     default_starts InlineAsm (chars t) r e h
 modifier-rest_after t b left x y z f m e colon i takes (Modifier w) n r h v =
@@ -79,7 +79,7 @@ IsDiagnostic DiagnosticNamed = Unit {0}
 diagnostic : (t b left : List ℕ) (x y z : List Sized) (f : Spec (Unit {0})) (m : ℕ)
     → Takes Colon 1 t x y b → m ≡ byte_length f.ty → Takes DiagnosticKind m b y z left
     → (u : Text) (r : Text) → IsPart (chars t) (spec_part Diagnostic (DiagnosticText u)) r
-    → f.ty ≡ u → Took (spec_tokens (DiagnosticText u)) r x z left
+    → f.ty ≡ u → Adds (spec_tokens (DiagnosticText u)) r x z left
 diagnostic t b left x y z f m colon i takes u r h v =
     let s = two-split (chars t) (fixed_part (codes ":")) (run is_no_brace u) r h in
     let first = colon (codes ":") s.seam s.first.whole refl in
@@ -90,7 +90,7 @@ pub diagnostic-rest_after : (mode : Mode) (t b left : List ℕ) (x y z : List Si
     → m ≡ byte_length f.ty → Takes DiagnosticKind m b y z left
     → IsDiagnostic mode
     → (k : SpecText) (n : ℕ) (r : Text) → IsPart (chars t) (spec_part mode k) r
-    → f ≡ spec_value n k → Took (spec_tokens k) r x z left
+    → f ≡ spec_value n k → Adds (spec_tokens k) r x z left
 diagnostic-rest_after mode t b left x y z f m e colon i takes d Default n r h v =
     default_starts mode (chars t) r e h
 diagnostic-rest_after Diagnostic t b left x y z f m e colon i takes d (DiagnosticText u) n r h v =

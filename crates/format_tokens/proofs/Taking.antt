@@ -15,12 +15,12 @@ use Rattle.rustc_parse_format.specs.Characters.{Text, byte_length}
 use Rattle.rustc_parse_format.proofs.Sources.PlainPlaces.{width_encodes}
 use Rattle.format_tokens.specs.declared.kinds.Kind.{Kind}
 use Rattle.format_tokens.specs.declared.kinds.Label.{Label as Sized}
-use Rattle.format_tokens.specs.Midway.{Took, sized_token}
+use Rattle.format_tokens.specs.Labels.{Adds, sized_token}
 use Rattle.format_tokens.specs.Tokens.{Label, token}
 
 -- Tokens that are taken after others.
-pub then : {a b : List Label} {s r : Text} {x y z : List Sized} {t u : List ℕ} → Took a s x y t
-    → Took b r y z u → Took (a ++ b) r x z u
+pub then : {a b : List Label} {s r : Text} {x y z : List Sized} {t u : List ℕ} → Adds a s x y t
+    → Adds b r y z u → Adds (a ++ b) r x z u
 then {a = a} {b = b} {x = x} h k = record {
   adds = k.adds ∙ (ap (λ l. l ++ map sized_token b) h.adds
       ∙ (append_assoc x (map sized_token a) (map sized_token b)
@@ -29,16 +29,16 @@ then {a = a} {b = b} {x = x} h k = record {
 }
 
 -- Nothing is taken.
-pub nothing : {x : List Sized} {t : List ℕ} {r : Text} → chars t ≡ r → Took [] r x x t
+pub nothing : {x : List Sized} {t : List ℕ} {r : Text} → chars t ≡ r → Adds [] r x x t
 nothing {x = x} e = record { adds = sym (append-nil x); leaves = e }
 
 pub moved : {a : List Label} {s r : Text} {x y : List Sized} {t : List ℕ} → s ≡ r
-    → Took a s x y t → Took a r x y t
+    → Adds a s x y t → Adds a r x y t
 moved e h = record { adds = h.adds; leaves = h.leaves ∙ e }
 
 -- A token is taken of a kind by another name.
 pub as_kind : {k l : Kind} (u : Text) {r : Text} {x y : List Sized} {t : List ℕ} → k ≡ l
-    → Took (token k u) r x y t → Took (token l u) r x y t
+    → Adds (token k u) r x y t → Adds (token l u) r x y t
 as_kind u e h = rw e at h
 
 -- A text of no bytes is empty.
@@ -52,7 +52,7 @@ width-nil = refl
 
 -- So no token is taken of no bytes.
 pub take-none : (k : Kind) (u r : Text) (x : List Sized) (t : List ℕ) (n : ℕ) → n ≡ 0
-    → chars t ≡ u ++ r → n ≡ byte_length u → Took (token k u) r x x t
+    → chars t ≡ u ++ r → n ≡ byte_length u → Adds (token k u) r x x t
 take-none k u r x t n z e w =
     let none : u ≡ [] = none_from_width u (sym z ∙ w) in
     rw none (nothing (e ∙ ap (λ v. v ++ r) none))
@@ -108,7 +108,7 @@ label_of k m = record { kind = k; width = m }
 -- A token of some bytes.
 pub take-some : (k : Kind) (u r : Text) (x y : List Sized) (t front left : List ℕ) (n m : ℕ)
     → n ≢ 0 → IsUtf8 t → chars t ≡ u ++ r → n ≡ byte_length u → front ≡ take n t → left ≡ drop n t
-    → m ≡ length (chars front) → y ≡ x ++ label_of k m ∷ [] → Took (token k u) r x y left
+    → m ≡ length (chars front) → y ≡ x ++ label_of k m ∷ [] → Adds (token k u) r x y left
 take-some k [] r x y t front left n m z v e w f l i added = absurd (z w)
 take-some k (c ∷ u) r x y t front left n m z v e w f l i added =
     let h = halves t (c ∷ u) r v e in
@@ -130,4 +130,4 @@ take-some k (c ∷ u) r x y t front left n m z v e w f l i added =
 -- What `take` says of a token of n bytes at the front of t.
 abbrev pub Takes : Kind → ℕ → List ℕ → List Sized → List Sized → List ℕ → Type 0
 Takes k n t x y left = (u r : Text) → chars t ≡ u ++ r → n ≡ byte_length u
-    → Took (token k u) r x y left
+    → Adds (token k u) r x y left

@@ -1,9 +1,9 @@
 pub mod Covers
 pub mod Culprits
 pub mod Escapes
-pub mod Midway
-pub mod Placed
-pub mod Seen
+pub mod Labels
+pub mod Spans
+pub mod Views
 pub mod Sections
 pub mod Sequences
 pub mod Starts

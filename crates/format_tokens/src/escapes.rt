@@ -4,12 +4,12 @@ ghost use Rattle.std.specs.Prelude.{◌≡◌, ◌++◌, ◌∷◌, ℕ, [], IfO
 ghost use Rattle.std.specs.Prelude.{option_map};
 ghost use Rattle.std.specs.List.{list_all};
 ghost use Rattle.rustc_parse_format.specs.LiteralUnits.{at_most_one};
-ghost use Rattle.rustc_parse_format.specs.Seen.{pair};
+ghost use Rattle.rustc_parse_format.specs.Views.{pair};
 ghost use Rattle.format_tokens.specs.declared.kinds.Kind.TheVariants.{EscapeSequence};
 ghost use Rattle.format_tokens.specs.Covers.{IsCover, ranges_of};
 ghost use Rattle.format_tokens.specs.Escapes.{cut, escape_at, front_within, is_apart, is_other};
 ghost use Rattle.format_tokens.specs.Escapes.{is_text, parts, rest_within, run};
-ghost use Rattle.format_tokens.specs.Seen.{seen_token};
+ghost use Rattle.format_tokens.specs.Views.{seen_token};
 
 use crate::kinds::{Kind, Token};
 use crate::parts::{after_first, begins, width_of};

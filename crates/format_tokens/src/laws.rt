@@ -9,7 +9,7 @@ ghost use Rattle.rustc_parse_format.specs.Syntax.{PieceText};
 ghost use Rattle.rustc_parse_format.specs.Types.{Mode, Piece, wants_names};
 ghost use Rattle.format_tokens.specs.Culprits.{marked_tokens};
 ghost use Rattle.format_tokens.specs.Escapes.{Placed, parts};
-ghost use Rattle.format_tokens.specs.Placed.{input_tokens, tokens};
+ghost use Rattle.format_tokens.specs.Spans.{input_tokens, tokens};
 ghost use Rattle.format_tokens.specs.Sections.{HasAppended, Section, faults_of, has_fault};
 ghost use Rattle.format_tokens.specs.Sections.{has_mark, sections};
 ghost use Rattle.format_tokens.specs.Sequences.{apart_escapes, is_sequence, sequence, sequences};

@@ -4,16 +4,16 @@ ghost use Rattle.std.specs.Prelude.{◌≡◌, ◌+◌, ◌<◌, ◌^◌, None, 
 ghost use Rattle.std.specs.Prelude.{List, length, map};
 ghost use Rattle.rustc_parse_format.specs.Characters.{Text, byte_length};
 ghost use Rattle.rustc_parse_format.specs.Literal.{IsSource};
-ghost use Rattle.rustc_parse_format.specs.Seen.{seen_mode, seen_snippet};
+ghost use Rattle.rustc_parse_format.specs.Views.{seen_mode, seen_snippet};
 ghost use Rattle.rustc_parse_format.specs.Source.{HasSource, unappended_input};
 ghost use Rattle.rustc_parse_format.specs.Types.{Mode, wants_names};
 ghost use Rattle.rustc_parse_format.specs.World.{hashes, world};
 ghost use Rattle.format_tokens.specs.Covers.{AreParts, IsCover, encoded_tokens, in_quotes};
 ghost use Rattle.format_tokens.specs.Covers.{ranges_of, read_back, slices};
-ghost use Rattle.format_tokens.specs.Midway.{sized_token};
-ghost use Rattle.format_tokens.specs.Placed.{cut_in, input_tokens, tokens, whole_tokens};
+ghost use Rattle.format_tokens.specs.Labels.{sized_token};
+ghost use Rattle.format_tokens.specs.Spans.{cut_in, input_tokens, tokens, whole_tokens};
 ghost use Rattle.format_tokens.specs.Escapes.{Placed};
-ghost use Rattle.format_tokens.specs.Seen.{seen_text, seen_token};
+ghost use Rattle.format_tokens.specs.Views.{seen_text, seen_token};
 ghost use Rattle.format_tokens.specs.Starts.{starts_of};
 ghost use Rattle.format_tokens.specs.Walk.{read_tokens};
 
@@ -75,8 +75,7 @@ fn literal_starts(
         None => ordinary_starts(alloc, literal, appended_newline),
         Some(hashes) => {
             let end = width_of(literal).saturating_sub(hashes + 1);
-            let starts = plain_starts(alloc, hashes + 2, input, end)?;
-            Ok(starts)
+            plain_starts(alloc, hashes + 2, input, end)
         }
     }
 }
@@ -153,10 +152,7 @@ pub fn place_labels(
     )?;
     match style {
         Some(_) => Ok(tokens),
-        None => {
-            let parts = cut_escapes(alloc, literal, tokens)?;
-            Ok(parts)
-        }
+        None => cut_escapes(alloc, literal, tokens),
     }
 }
 
@@ -222,6 +218,5 @@ pub fn tokens(
         Some(literal) => Some(literal.as_str()),
     };
     let labels = labels(alloc, input, mode)?;
-    let tokens = place_labels(alloc, input, style, text, appended_newline, mode, &labels)?;
-    Ok(tokens)
+    place_labels(alloc, input, style, text, appended_newline, mode, &labels)
 }

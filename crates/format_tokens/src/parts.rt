@@ -7,8 +7,8 @@ ghost use Rattle.std.specs.Prelude.{◌+◌, ◌*◌, ◌≤◌, IsTrue, min};
 ghost use Rattle.rustc_parse_format.specs.Characters.{Text, begins_with, after_first, byte_length};
 ghost use Rattle.rustc_parse_format.specs.Characters.{first, front, is_over};
 ghost use Rattle.std.specs.Char.{digit_value, is_ascii_digit};
-ghost use Rattle.rustc_parse_format.specs.Seen.{seen_alignment, seen_count, seen_debug_hex};
-ghost use Rattle.rustc_parse_format.specs.Seen.{seen_mode, seen_position, seen_sign, seen_spec};
+ghost use Rattle.rustc_parse_format.specs.Views.{seen_alignment, seen_count, seen_debug_hex};
+ghost use Rattle.rustc_parse_format.specs.Views.{seen_mode, seen_position, seen_sign, seen_spec};
 ghost use Rattle.rustc_parse_format.specs.Spelling.{IsPart};
 ghost use Rattle.rustc_parse_format.specs.Syntax.{CountText, FormatText, PositionText};
 ghost use Rattle.rustc_parse_format.specs.Syntax.{PrecisionText, SpecText, TypeText, WidthText};
@@ -19,7 +19,7 @@ ghost use Rattle.rustc_parse_format.specs.Types.{Implied, Star, bare_count, bare
 ghost use Rattle.rustc_parse_format.specs.Values.{count_value, debug_hex_of, format_value};
 ghost use Rattle.rustc_parse_format.specs.Values.{is_padded, position_of, precision_value};
 ghost use Rattle.rustc_parse_format.specs.Values.{spec_value, type_of, width_value};
-ghost use Rattle.format_tokens.specs.Midway.{Took, names_raw, passes};
+ghost use Rattle.format_tokens.specs.Labels.{Adds, names_raw, passes};
 ghost use Rattle.format_tokens.specs.Tokens.{count_tokens, format_tokens, position_tokens};
 ghost use Rattle.format_tokens.specs.Tokens.{integer_kind, precision_tokens, spec_tokens, token};
 ghost use Rattle.format_tokens.specs.Tokens.{width_tokens, word_kind};
@@ -44,7 +44,7 @@ pub fn take<'a>(
     text: &'a str,
 ) -> Result<&'a str, AllocError>
     ensures { IfOk result (λ rest. (u r : Text) → chars text.now ≡ u ++ r → bytes ≡ byte_length u
-        → Took (token kind u) r labels.old.items labels.new.items rest.now) }
+        → Adds (token kind u) r labels.old.items labels.new.items rest.now) }
 {
     if bytes == 0 {
         return Ok(text);
@@ -196,25 +196,21 @@ pub fn position<'a>(
     ensures { IfOk result (λ rest. (p : PositionText) (n : ℕ) (r : Text)
         → IsPart (chars text.now) (position_part p) r
         → seen_position position.now ≡ position_of n p
-        → Took (position_tokens p) r labels.old.items labels.new.items rest.now) }
+        → Adds (position_tokens p) r labels.old.items labels.new.items rest.now) }
 {
     match position {
         Position::ArgumentImplicitlyIs(_) => Ok(text),
-        Position::ArgumentIs(_) => {
-            let rest = take(
-                labels,
-                integer_kind(text),
-                run_width(text, Run::Digits),
-                text,
-            )?;
-            Ok(rest)
-        }
+        Position::ArgumentIs(_) => take(
+            labels,
+            integer_kind(text),
+            run_width(text, Run::Digits),
+            text,
+        ),
         Position::ArgumentNamed(name) => {
             let prefix = if is_raw(text, name) { 2 } else { 0 };
             let word = take(labels, Kind::RawPrefix, prefix, text)?;
             let kind = word_kind(Kind::Identifier, name);
-            let rest = take(labels, kind, width_of(name), word)?;
-            Ok(rest)
+            take(labels, kind, width_of(name), word)
         }
     }
 }
@@ -228,23 +224,20 @@ fn count<'a>(
     ensures count { IfOk result (λ rest. (k : CountText) (r : Text)
         → IsPart (chars text.now) (count_part k) r
         → bare_count (seen_count count.now) ≡ count_value k
-        → Took (count_tokens k) r labels.old.items labels.new.items rest.now) }
+        → Adds (count_tokens k) r labels.old.items labels.new.items rest.now) }
     ensures star { IfOk result (λ rest. (n : ℕ) (r : Text) → chars text.now ≡ codes "*" ++ r
         → bare_count (seen_count count.now) ≡ Star n
-        → Took (token Kind.Asterisk (codes "*")) r labels.old.items labels.new.items rest.now) }
+        → Adds (token Kind.Asterisk (codes "*")) r labels.old.items labels.new.items rest.now) }
     ensures none { IfOk result (λ rest. bare_count (seen_count count.now) ≡ Implied
-        → Took [] (chars text.now) labels.old.items labels.new.items rest.now) }
+        → Adds [] (chars text.now) labels.old.items labels.new.items rest.now) }
 {
     match count {
-        Count::CountIs(_) => {
-            let rest = take(
-                labels,
-                integer_kind(text),
-                run_width(text, Run::Digits),
-                text,
-            )?;
-            Ok(rest)
-        }
+        Count::CountIs(_) => take(
+            labels,
+            integer_kind(text),
+            run_width(text, Run::Digits),
+            text,
+        ),
         Count::CountIsParam(_) => {
             let dollar = take(
                 labels,
@@ -252,19 +245,14 @@ fn count<'a>(
                 run_width(text, Run::Digits),
                 text,
             )?;
-            let rest = take(labels, Kind::DollarSign, 1, dollar)?;
-            Ok(rest)
+            take(labels, Kind::DollarSign, 1, dollar)
         }
         Count::CountIsName(name, _) => {
             let kind = word_kind(Kind::Identifier, name);
             let dollar = take(labels, kind, width_of(name), text)?;
-            let rest = take(labels, Kind::DollarSign, 1, dollar)?;
-            Ok(rest)
+            take(labels, Kind::DollarSign, 1, dollar)
         }
-        Count::CountIsStar(_) => {
-            let rest = take(labels, Kind::Asterisk, 1, text)?;
-            Ok(rest)
-        }
+        Count::CountIsStar(_) => take(labels, Kind::Asterisk, 1, text),
         Count::CountImplied => Ok(text),
     }
 }
@@ -279,11 +267,10 @@ fn width<'a>(
     ensures { IfOk result (λ rest. (k : WidthText) (r : Text)
         → IsPart (chars text.now) (width_part k) r
         → zero_pad ≡ is_padded k → bare_count (seen_count width.now) ≡ width_value k
-        → Took (width_tokens k) r labels.old.items labels.new.items rest.now) }
+        → Adds (width_tokens k) r labels.old.items labels.new.items rest.now) }
 {
     let rest_after = take(labels, Kind::Zero, usize::from(zero_pad), text)?;
-    let rest = count(labels, width, rest_after)?;
-    Ok(rest)
+    count(labels, width, rest_after)
 }
 
 /// Adds the tokens of a precision, with the dot before it.
@@ -295,11 +282,10 @@ fn precision<'a>(
     ensures { IfOk result (λ rest. (k : PrecisionText) (n : ℕ) (r : Text)
         → IsPart (chars text.now) (precision_part k) r
         → bare_count (seen_count precision.now) ≡ precision_value n k
-        → Took (precision_tokens k) r labels.old.items labels.new.items rest.now) }
+        → Adds (precision_tokens k) r labels.old.items labels.new.items rest.now) }
 {
     let rest_after = take(labels, Kind::Dot, usize::from(begins(text, '.')), text)?;
-    let rest = count(labels, precision, rest_after)?;
-    Ok(rest)
+    count(labels, precision, rest_after)
 }
 
 /// Returns the byte length of a fill.
@@ -352,7 +338,7 @@ fn format<'a>(
     ensures { IfOk result (λ rest. (p : FormatText) (n : ℕ) (r : Text)
         → IsPart (chars text.now) (format_part p) r
         → bare_spec (seen_spec format.now) ≡ format_value n p
-        → Took (format_tokens p) r labels.old.items labels.new.items rest.now) }
+        → Adds (format_tokens p) r labels.old.items labels.new.items rest.now) }
 {
     let align = take(labels, Kind::Fill, fill_width(format.fill), text)?;
     let sign = take(labels, Kind::Alignment, align_width(format.align), align)?;
@@ -365,13 +351,12 @@ fn format<'a>(
     )?;
     let dot = width(labels, format.zero_pad, &format.width, number)?;
     let ty = precision(labels, &format.precision, dot)?;
-    let rest = take(
+    take(
         labels,
         word_kind(Kind::Type, format.ty),
         type_width(format.debug_hex, format.ty),
         ty,
-    )?;
-    Ok(rest)
+    )
 }
 
 /// Adds the tokens of a specification, with the colon before it.
@@ -384,25 +369,23 @@ pub fn specification<'a>(
     ensures { IfOk result (λ rest. (k : SpecText) (n : ℕ) (r : Text)
         → IsPart (chars text.now) (spec_part (seen_mode mode) k) r
         → bare_spec (seen_spec spec.now) ≡ spec_value n k
-        → Took (spec_tokens k) r labels.old.items labels.new.items rest.now) }
+        → Adds (spec_tokens k) r labels.old.items labels.new.items rest.now) }
 {
     if !begins(text, ':') {
         return Ok(text);
     }
     let rest_after = take(labels, Kind::Colon, 1, text)?;
     match mode {
-        ParseMode::Format => {
-            let rest = format(labels, spec, rest_after)?;
-            Ok(rest)
-        }
+        ParseMode::Format => format(labels, spec, rest_after),
         ParseMode::InlineAsm => {
             let kind = word_kind(Kind::Modifier, spec.ty);
-            let rest = take(labels, kind, width_of(spec.ty), rest_after)?;
-            Ok(rest)
+            take(labels, kind, width_of(spec.ty), rest_after)
         }
-        ParseMode::Diagnostic | ParseMode::DiagnosticNamed => {
-            let rest = take(labels, Kind::DiagnosticText, width_of(spec.ty), rest_after)?;
-            Ok(rest)
-        }
+        ParseMode::Diagnostic | ParseMode::DiagnosticNamed => take(
+            labels,
+            Kind::DiagnosticText,
+            width_of(spec.ty),
+            rest_after,
+        ),
     }
 }

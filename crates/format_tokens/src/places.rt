@@ -8,7 +8,7 @@ ghost use Rattle.rustc_parse_format.specs.Characters.{Text};
 ghost use Rattle.rustc_parse_format.specs.Literal.{IsSource};
 ghost use Rattle.rustc_parse_format.specs.World.{World, plain_world, world};
 ghost use Rattle.format_tokens.specs.Culprits.{marked_tokens};
-ghost use Rattle.format_tokens.specs.Seen.{seen_token};
+ghost use Rattle.format_tokens.specs.Views.{seen_token};
 ghost use Rattle.format_tokens.specs.Starts.{pairs, placed_sizes, starts_of};
 
 use crate::culprits::{fits, inside_after, marked_kind, role_of};

@@ -6,12 +6,12 @@ ghost use Rattle.std.specs.Prelude.{option_map};
 ghost use Rattle.rustc_parse_format.specs.Call.{call, placeholder};
 ghost use Rattle.rustc_parse_format.specs.Characters.{Text, byte_length, first_passes, is_brace};
 ghost use Rattle.rustc_parse_format.specs.Placeholder.{cut};
-ghost use Rattle.rustc_parse_format.specs.Seen.{seen_argument, seen_mode, seen_taken};
+ghost use Rattle.rustc_parse_format.specs.Views.{seen_argument, seen_mode, seen_taken};
 ghost use Rattle.rustc_parse_format.specs.State.{first_state};
 ghost use Rattle.rustc_parse_format.specs.Types.{Lit as LitPiece, Mode, bare_argument};
 ghost use Rattle.rustc_parse_format.specs.Values.{argument_value};
 ghost use Rattle.rustc_parse_format.specs.World.{World, piece_in};
-ghost use Rattle.format_tokens.specs.Midway.{Took, sized_token};
+ghost use Rattle.format_tokens.specs.Labels.{Adds, sized_token};
 ghost use Rattle.format_tokens.specs.Walk.{call_tokens, is_closed, placeholder_tokens};
 ghost use Rattle.format_tokens.specs.Walk.{read_tokens, skipped_tokens};
 
@@ -44,12 +44,11 @@ fn is_closed(bytes: usize, text: &str) -> bool
 /// brace, and returns the rest of the text.
 fn skip<'a>(labels: &mut Vec<Label>, bytes: usize, text: &'a str) -> Result<&'a str, AllocError>
     ensures { IfOk result (λ rest. (u r : Text) → chars text.now ≡ u ++ r → bytes ≡ byte_length u
-        → Took (skipped_tokens u) r labels.old.items labels.new.items rest.now) }
+        → Adds (skipped_tokens u) r labels.old.items labels.new.items rest.now) }
 {
     let brace = usize::from(is_closed(bytes, text));
     let close = take(labels, Kind::Unexpected, bytes.saturating_sub(brace), text)?;
-    let rest = take(labels, Kind::CloseBrace, brace, close)?;
-    Ok(rest)
+    take(labels, Kind::CloseBrace, brace, close)
 }
 
 /// Adds the tokens of a placeholder at the start of a text, and returns the rest of the text after
@@ -66,7 +65,7 @@ fn placeholder<'a>(
         ≡ argument_value n (cut (seen_mode mode) t).field
         → (let k = placeholder (seen_mode mode) n (chars text.now) t in
         rest_len ≡ byte_length k.rest
-        → Took (placeholder_tokens (seen_mode mode) t k.rest) k.rest
+        → Adds (placeholder_tokens (seen_mode mode) t k.rest) k.rest
         labels.old.items labels.new.items rest_after.now)) }
 {
     let field = take(labels, Kind::OpenBrace, 1, text)?;
@@ -85,8 +84,7 @@ fn placeholder<'a>(
         last,
     )?;
     let rest = take(labels, Kind::CloseBrace, usize::from(begins(end, '}')), end)?;
-    let rest_after = skip(labels, width_of(rest).saturating_sub(rest_len), rest)?;
-    Ok(rest_after)
+    skip(labels, width_of(rest).saturating_sub(rest_len), rest)
 }
 
 /// Returns the byte length of the doubled brace at the start of a piece of literal text, or 0 if it
@@ -111,17 +109,16 @@ fn literal<'a>(
     ensures { IfOk result (λ rest_after. (mode : Mode) (n : ℕ) (l : Text) →
         (let k = call mode n (chars text.now) in
         k.piece ≡ Some (LitPiece l) → rest_len ≡ byte_length k.rest
-        → Took (call_tokens mode (chars text.now) k.rest) k.rest
+        → Adds (call_tokens mode (chars text.now) k.rest) k.rest
         labels.old.items labels.new.items rest_after.now)) }
 {
     let rest = take(labels, Kind::EscapedBrace, escape_width(text), text)?;
-    let rest_after = take(
+    take(
         labels,
         Kind::Text,
         width_of(rest).saturating_sub(rest_len),
         rest,
-    )?;
-    Ok(rest_after)
+    )
 }
 
 /// Adds the labels of a call at the start of a text, and returns the rest of the text after it:
@@ -140,27 +137,20 @@ pub fn label<'a>(
         (let k = call (seen_mode mode) n (chars text.now) in
         option_map (seen_taken argument.now) piece.entry ≡ option_map (piece_in w) k.piece
         → rest_len ≡ byte_length k.rest
-        → Took (call_tokens (seen_mode mode) (chars text.now) k.rest) k.rest
+        → Adds (call_tokens (seen_mode mode) (chars text.now) k.rest) k.rest
         labels.old.items labels.new.items rest_after.now)) }
 {
     let Some(piece) = piece else {
-        let rest_after = take(
+        return take(
             labels,
             Kind::CloseBrace,
             width_of(text).saturating_sub(rest_len),
             text,
-        )?;
-        return Ok(rest_after);
+        );
     };
     match piece {
-        PieceKind::Lit(_) => {
-            let rest_after = literal(labels, rest_len, text)?;
-            Ok(rest_after)
-        }
-        PieceKind::NextArgument => {
-            let rest_after = placeholder(labels, mode, argument, rest_len, text)?;
-            Ok(rest_after)
-        }
+        PieceKind::Lit(_) => literal(labels, rest_len, text),
+        PieceKind::NextArgument => placeholder(labels, mode, argument, rest_len, text),
     }
 }
 

@@ -11,7 +11,7 @@ use Rattle.rustc_parse_format.specs.Types.{Lit, NextArgument, bare_piece, bare_c
 use Rattle.rustc_parse_format.specs.World.{Place, World, pieces_in}
 use Rattle.rustc_parse_format.proofs.Grammar.BarePieces.{bare-pieces_in}
 use Rattle.rustc_parse_format.proofs.Walking.FaultlessStates.{reads_walk}
-use Rattle.placeholder_check.specs.Seen.{text}
+use Rattle.placeholder_check.specs.Views.{text}
 use Rattle.placeholder_check.specs.Uses.{position_use}
 use Rattle.call_faults.specs.Arguments.{FormatArgument}
 use Rattle.call_faults.specs.Clean.{IsClean}

@@ -13,7 +13,7 @@ use Rattle.std.proofs.lemmas.Slice.Eq.{bytes_eq-Decides}
 use Rattle.std.proofs.lemmas.Str.{chars_from_encodes, encodes-chars}
 use Rattle.rustc_parse_format.specs.Characters.{Text}
 use Rattle.inlined_arguments.specs.declared.slots.Value.{Value as DeclaredValue}
-use Rattle.inlined_arguments.specs.Seen.{found_in, seen_value}
+use Rattle.inlined_arguments.specs.Views.{found_in, seen_value}
 
 -- Texts are the same exactly if their bytes are.
 same_text : (t : Text) (bs : List ℕ) → IsUtf8 bs → bytes_eq bs (encode_utf8_all t)

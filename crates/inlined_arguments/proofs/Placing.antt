@@ -8,7 +8,7 @@ use Rattle.rustc_parse_format.specs.Types.{Piece}
 use Rattle.rustc_parse_format.specs.World.{Place}
 use Rattle.inlined_arguments.specs.declared.call.Edit.{Edit as DeclaredEdit}
 use Rattle.inlined_arguments.specs.Edits.{AreAt, AreAtReferences, Edit, reference_places}
-use Rattle.inlined_arguments.specs.Seen.{seen_edit}
+use Rattle.inlined_arguments.specs.Views.{seen_edit}
 
 -- Edits stay where they are if there are more places.
 pub at-left : (places more : List Place) (es : List Edit) → AreAt places es

@@ -5,4 +5,4 @@ pub mod Meaning
 pub mod Edits
 pub mod Conditions
 pub mod Inlining
-pub mod Seen
+pub mod Views

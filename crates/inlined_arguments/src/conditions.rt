@@ -2,7 +2,7 @@
 
 ghost use Rattle.std.specs.Prelude.{◌≡◌, chars, map, not};
 ghost use Rattle.std.specs.List.{list_any};
-ghost use Rattle.inlined_arguments.specs.Seen.{seen_argument, seen_call};
+ghost use Rattle.inlined_arguments.specs.Views.{seen_argument, seen_call};
 ghost use Rattle.inlined_arguments.specs.Conditions.{condition, goes_with_comment, is_bare};
 ghost use Rattle.inlined_arguments.specs.Conditions.{list_condition, string_condition};
 ghost use Rattle.inlined_arguments.specs.Variables.{is_variable};

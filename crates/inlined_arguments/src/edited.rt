@@ -2,7 +2,7 @@
 
 ghost use Rattle.std.specs.Prelude.{◌≡◌, IfOk, IfSome, IsNone, length, map, string_bytes};
 ghost use Rattle.inlined_arguments.specs.Edits.{AreApart, MakeNoText, edited_text};
-ghost use Rattle.inlined_arguments.specs.Seen.{seen_edit};
+ghost use Rattle.inlined_arguments.specs.Views.{seen_edit};
 
 use crate::call::Edit;
 use std::alloc::{AllocError, Global};

@@ -2,10 +2,10 @@
 
 ghost use Rattle.std.specs.Prelude.{◌++◌, ◌∷◌, [], IfOk, List, OnOk, map, option_map};
 ghost use Rattle.std.specs.Option.{option_to_list};
-ghost use Rattle.rustc_parse_format.specs.Seen.{pair, seen_piece};
+ghost use Rattle.rustc_parse_format.specs.Views.{pair, seen_piece};
 ghost use Rattle.rustc_parse_format.specs.World.{Place};
 ghost use Rattle.inlined_arguments.specs.Edits.{AreAt, AreAtReferences, reference_places};
-ghost use Rattle.inlined_arguments.specs.Seen.{seen_edit};
+ghost use Rattle.inlined_arguments.specs.Views.{seen_edit};
 
 use crate::call::Edit;
 use crate::meaning::CallMeaning;

@@ -3,13 +3,13 @@
 ghost use Rattle.std.specs.Prelude.{◌≡◌, ◌+◌, ◌<◌, ◌≤◌, ◌^◌, ◌++◌, Bool, IfErr, IfOk, IsTrue};
 ghost use Rattle.std.specs.Prelude.{None, OnOk, chars, length, map, string_bytes};
 ghost use Rattle.rustc_parse_format.specs.Literal.{newline};
-ghost use Rattle.rustc_parse_format.specs.Seen.{seen_piece};
+ghost use Rattle.rustc_parse_format.specs.Views.{seen_piece};
 ghost use Rattle.rustc_parse_format.specs.World.{hashes};
-ghost use Rattle.call_faults.specs.Seen.{seen_given};
+ghost use Rattle.call_faults.specs.Views.{seen_given};
 ghost use Rattle.inlined_arguments.specs.Conditions.{condition};
 ghost use Rattle.inlined_arguments.specs.Inlining.{IsCleanAs, IsInlined, IsUnchanged, MeansSame};
-ghost use Rattle.inlined_arguments.specs.Seen.{Knows, seen_argument, seen_call, seen_inlined};
-ghost use Rattle.inlined_arguments.specs.Seen.{seen_slot, seen_slots};
+ghost use Rattle.inlined_arguments.specs.Views.{Knows, seen_argument, seen_call, seen_inlined};
+ghost use Rattle.inlined_arguments.specs.Views.{seen_slot, seen_slots};
 ghost use Rattle.inlined_arguments.specs.Values.{slot_argument, slots as slots_of};
 
 use crate::call::{Call, InlinedCall, Obstacle};

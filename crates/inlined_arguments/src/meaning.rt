@@ -1,11 +1,11 @@
 //! The comparison of the meanings of two calls.
 
 ghost use Rattle.std.specs.Prelude.{◌≡◌, IsTrue, map, option_map};
-ghost use Rattle.rustc_parse_format.specs.Seen.{seen_piece, seen_argument, seen_debug_hex};
-ghost use Rattle.rustc_parse_format.specs.Seen.{seen_sign};
-ghost use Rattle.rustc_parse_format.specs.Seen.{seen_spec};
+ghost use Rattle.rustc_parse_format.specs.Views.{seen_piece, seen_argument, seen_debug_hex};
+ghost use Rattle.rustc_parse_format.specs.Views.{seen_sign};
+ghost use Rattle.rustc_parse_format.specs.Views.{seen_spec};
 ghost use Rattle.inlined_arguments.specs.Meaning.{flags, meaning, part, use_part};
-ghost use Rattle.inlined_arguments.specs.Seen.{Knows, seen_amount, seen_slots, seen_value};
+ghost use Rattle.inlined_arguments.specs.Views.{Knows, seen_amount, seen_slots, seen_value};
 
 use crate::slots::Value;
 use crate::values::{Amount, Values, amount_of, position_value};

@@ -3,13 +3,13 @@
 ghost use Rattle.std.specs.Prelude.{◌≡◌, ◌+◌, ◌<◌, ◌^◌, IfOk, MatchOption, chars, length, map};
 ghost use Rattle.std.specs.List.{list_all};
 ghost use Rattle.rustc_parse_format.specs.Call.{pieces_of};
-ghost use Rattle.rustc_parse_format.specs.Seen.{seen_piece};
+ghost use Rattle.rustc_parse_format.specs.Views.{seen_piece};
 ghost use Rattle.rustc_parse_format.specs.State.{calls};
 ghost use Rattle.rustc_parse_format.specs.Types.{bare_piece};
 ghost use Rattle.rustc_parse_format.specs.World.{hashes, pieces_in};
 ghost use Rattle.call_faults.specs.CallFaults.{is_warning};
 ghost use Rattle.call_faults.specs.Clean.{IsClean};
-ghost use Rattle.call_faults.specs.Seen.{seen_fault, seen_given, start};
+ghost use Rattle.call_faults.specs.Views.{seen_fault, seen_given, start};
 ghost use Rattle.inlined_arguments.specs.Inlining.{ReadsClean};
 
 use call_faults::{CallFault, FormatArgument, FormatString, call_faults};

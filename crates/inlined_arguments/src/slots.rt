@@ -1,8 +1,8 @@
 //! Arguments as places for values.
 
 ghost use Rattle.std.specs.Prelude.{◌≡◌, IfOk, map};
-ghost use Rattle.call_faults.specs.Seen.{seen_given};
-ghost use Rattle.inlined_arguments.specs.Seen.{seen_argument, seen_slot, seen_value};
+ghost use Rattle.call_faults.specs.Views.{seen_given};
+ghost use Rattle.inlined_arguments.specs.Views.{seen_argument, seen_slot, seen_value};
 ghost use Rattle.inlined_arguments.specs.Values.{slot_argument, is_expression, kept_slots};
 ghost use Rattle.inlined_arguments.specs.Values.{slot_value};
 ghost use Rattle.inlined_arguments.specs.Values.{slots};

@@ -3,10 +3,10 @@
 ghost use Rattle.std.specs.Prelude.{◌≡◌, IfOk, OnOk, Some, chars, if◌then◌else◌, map, option_map};
 ghost use Rattle.std.specs.Str.{bytes_eq};
 ghost use Rattle.rustc_parse_format.specs.Characters.{Text};
-ghost use Rattle.rustc_parse_format.specs.Seen.{seen_count, seen_position};
+ghost use Rattle.rustc_parse_format.specs.Views.{seen_count, seen_position};
 ghost use Rattle.placeholder_check.specs.Uses.{position_use};
-ghost use Rattle.inlined_arguments.specs.Seen.{Knows, found_in, seen_amount, seen_slot};
-ghost use Rattle.inlined_arguments.specs.Seen.{seen_slots, seen_value};
+ghost use Rattle.inlined_arguments.specs.Views.{Knows, found_in, seen_amount, seen_slot};
+ghost use Rattle.inlined_arguments.specs.Views.{seen_slots, seen_value};
 ghost use Rattle.inlined_arguments.specs.Values.{amount_of, value_at, value_named, value_of};
 
 use crate::slots::{Slot, Value};

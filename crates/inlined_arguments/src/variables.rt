@@ -3,8 +3,8 @@
 ghost use Rattle.std.specs.Prelude.{◌≡◌, ◌<◌, ◌∷◌, [], IfOk, IfSome, MatchOption, chars, length};
 ghost use Rattle.std.specs.Prelude.{map, not, option_map};
 ghost use Rattle.std.specs.List.{list_any};
-ghost use Rattle.placeholder_check.specs.Seen.{text as seen_text};
-ghost use Rattle.inlined_arguments.specs.Seen.{seen_argument};
+ghost use Rattle.placeholder_check.specs.Views.{text as seen_text};
+ghost use Rattle.inlined_arguments.specs.Views.{seen_argument};
 ghost use Rattle.inlined_arguments.specs.Variables.{gone_from, has_comment};
 ghost use Rattle.inlined_arguments.specs.Variables.{is_late_character, is_slash};
 ghost use Rattle.inlined_arguments.specs.Variables.{is_variable, named_in, raw_name, variable};

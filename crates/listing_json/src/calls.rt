@@ -4,8 +4,8 @@
 ghost use Rattle.std.specs.Prelude.{◌≡◌, ◌≤◌, ◌∷◌, [], IfOk, List, OnOk, is_some, map, option_map};
 ghost use Rattle.json.specs.Json.{Json, max_depth};
 ghost use Rattle.json.specs.Tree.{depth, json_tokens};
-ghost use Rattle.rustc_parse_format.specs.Seen.{seen_taken};
-ghost use Rattle.rustc_parse_format.specs.SeenFaults.{seen_fault};
+ghost use Rattle.rustc_parse_format.specs.Views.{seen_taken};
+ghost use Rattle.rustc_parse_format.specs.FaultViews.{seen_fault};
 ghost use Rattle.rustc_parse_format.specs.State.{state_after, calls, next_call};
 ghost use Rattle.rustc_parse_format.specs.World.{faults_in};
 ghost use Rattle.listing_json.specs.Lines.{Adds, call_values, calls_values, given_values};

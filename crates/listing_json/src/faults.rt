@@ -4,8 +4,8 @@
 ghost use Rattle.std.specs.Prelude.{◌≡◌, ◌++◌, OnOk, option_map, string_bytes};
 ghost use Rattle.json.specs.Json.{no_members, string};
 ghost use Rattle.json.specs.Tree.{json_tokens};
-ghost use Rattle.rustc_parse_format.specs.Seen.{pair, seen_error, seen_suggestion};
-ghost use Rattle.rustc_parse_format.specs.SeenFaults.{seen_fault};
+ghost use Rattle.rustc_parse_format.specs.Views.{pair, seen_error, seen_suggestion};
+ghost use Rattle.rustc_parse_format.specs.FaultViews.{seen_fault};
 ghost use Rattle.listing_json.specs.Values.{error_value, fault_value, label_value, maybe_value};
 ghost use Rattle.listing_json.specs.Values.{mend_value, object_of_kind, suggestion_value};
 ghost use Rattle.rustc_parse_format.specs.Faults.{ReorderFormatParameter};

@@ -6,7 +6,7 @@ ghost use Rattle.std.specs.Prelude.{string_bytes};
 ghost use Rattle.json.specs.Json.{string};
 ghost use Rattle.json.specs.Token.{begin_object, key, number};
 ghost use Rattle.json.specs.Tree.{json_tokens};
-ghost use Rattle.rustc_parse_format.specs.Seen.{pair};
+ghost use Rattle.rustc_parse_format.specs.Views.{pair};
 ghost use Rattle.listing_json.specs.Values.{index_value, maybe_value, name_value, span_value};
 ghost use Rattle.listing_json.specs.Values.{text_value};
 

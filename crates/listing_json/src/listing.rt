@@ -4,11 +4,11 @@ ghost use Rattle.std.specs.Prelude.{◌≡◌, ◌≢◌, ◌<◌, ◌+◌, ◌^
 ghost use Rattle.std.specs.Prelude.{IsErrOf, IsSome, None, Some, chars, length, map, option_map};
 ghost use Rattle.std.specs.Prelude.{string_bytes};
 ghost use Rattle.std.specs.Str.{IsUtf8};
-ghost use Rattle.rustc_parse_format.specs.Seen.{seen_mode, seen_snippet};
+ghost use Rattle.rustc_parse_format.specs.Views.{seen_mode, seen_snippet};
 ghost use Rattle.rustc_parse_format.specs.State.{calls};
 ghost use Rattle.rustc_parse_format.specs.World.{hashes};
-ghost use Rattle.placeholder_check.specs.Noted.{Holds};
-ghost use Rattle.placeholder_check.specs.Seen.{seen_report};
+ghost use Rattle.placeholder_check.specs.Collection.{Holds};
+ghost use Rattle.placeholder_check.specs.Views.{seen_report};
 ghost use Rattle.placeholder_check.specs.Uses.{uses};
 ghost use Rattle.piece_listing.specs.declared.verdict.RunFault.TheVariants.{NotLiteral, NotText};
 ghost use Rattle.piece_listing.specs.declared.verdict.RunFault.TheVariants.{TooLong, Words};
@@ -71,8 +71,7 @@ fn uses_in<'a>(
         return Ok(Uses::new(alloc));
     }
     let Reading { pieces, parser: _ } = read_all(alloc, text, style, snippet, false, task.mode)?;
-    let uses = uses_of(alloc, pieces.as_slice())?;
-    Ok(uses)
+    uses_of(alloc, pieces.as_slice())
 }
 
 /// Returns the report on the arguments that are missing or unused in a text. Returns `Err` if an

@@ -5,9 +5,9 @@ ghost use Rattle.std.specs.Prelude.{◌≡◌, ◌++◌, ◌∷◌, OnOk, chars,
 ghost use Rattle.json.specs.Json.{boolean};
 ghost use Rattle.json.specs.Token.{key};
 ghost use Rattle.json.specs.Tree.{json_tokens};
-ghost use Rattle.rustc_parse_format.specs.Seen.{pair, seen_alignment, seen_argument, seen_count};
-ghost use Rattle.rustc_parse_format.specs.Seen.{seen_debug_hex, seen_position, seen_sign};
-ghost use Rattle.rustc_parse_format.specs.Seen.{seen_spec, seen_taken};
+ghost use Rattle.rustc_parse_format.specs.Views.{pair, seen_alignment, seen_argument, seen_count};
+ghost use Rattle.rustc_parse_format.specs.Views.{seen_debug_hex, seen_position, seen_sign};
+ghost use Rattle.rustc_parse_format.specs.Views.{seen_spec, seen_taken};
 ghost use Rattle.listing_json.specs.Values.{align_value, count_value, fill_value, format_value};
 ghost use Rattle.listing_json.specs.Values.{hex_value, maybe_value, piece_value, placeholder_value};
 ghost use Rattle.listing_json.specs.Values.{position_value, run_value, sign_value, text_value};

@@ -3,7 +3,7 @@
 //! none.
 
 ghost use Rattle.std.specs.Prelude.{◌≡◌, ◌∷◌, [], OnOk, chars, map};
-ghost use Rattle.placeholder_check.specs.Seen.{seen_report, texts};
+ghost use Rattle.placeholder_check.specs.Views.{seen_report, texts};
 ghost use Rattle.listing_json.specs.Lines.{Adds};
 ghost use Rattle.listing_json.specs.Values.{index_value, name_value, report_values};
 

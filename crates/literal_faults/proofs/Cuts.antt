@@ -10,7 +10,7 @@ use Rattle.std.proofs.lemmas.Str.{scalars-chars}
 use Rattle.rustc_parse_format.specs.Characters.{Text, byte_length}
 use Rattle.rustc_parse_format.proofs.Sources.PlainPlaces.{width_chars}
 use Rattle.rust_tokens.specs.declared.kinds.Token.{Token}
-use Rattle.rust_tokens.specs.Placed.{byte_length as token_length, token_at}
+use Rattle.rust_tokens.specs.Spans.{byte_length as token_length, token_at}
 use Rattle.rust_tokens.specs.Tokens.{Begins, Lexeme}
 use Rattle.rust_tokens.proofs.Readings.{byte-length}
 use Rattle.literal_faults.specs.declared.fault.FaultKind.{FaultKind}

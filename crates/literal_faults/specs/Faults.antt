@@ -7,7 +7,7 @@ use Rattle.rustc_parse_format.specs.Characters.{is_nil}
 use Rattle.rustc_parse_format.specs.Literal.{IsLiteral, IsOrdinaryLiteral}
 use Rattle.rust_tokens.specs.declared.kinds.Kind.{Kind}
 use Rattle.rust_tokens.specs.declared.kinds.Kind.TheVariants.{RawStr}
-use Rattle.rust_tokens.specs.Placed.{byte_length as token_length}
+use Rattle.rust_tokens.specs.Spans.{byte_length as token_length}
 use Rattle.rust_tokens.specs.Tokens.{Begins, Lexeme}
 use Rattle.literal_faults.specs.declared.fault.FaultKind.{FaultKind}
 use Rattle.literal_faults.specs.declared.fault.FaultKind.TheVariants.{NoLiteral, NotString, Suffix}

@@ -17,12 +17,12 @@ use Rattle.rustc_parse_format.specs.State.{State}
 use Rattle.rustc_parse_format.specs.Types.{Piece, Lit, NextArgument}
 use Rattle.rustc_parse_format.specs.Types.{Position, Implicit, Index, Named}
 use Rattle.rustc_parse_format.specs.World.{Place}
-use Rattle.placeholder_check.specs.Noted.{has_text}
+use Rattle.placeholder_check.specs.Collection.{has_text}
 use Rattle.text_faults.specs.declared.spots.Spot.{Spot}
 use Rattle.message_faults.specs.Messages.{MessageFault, MissingParameter, faults_of, faults_or}
 use Rattle.message_faults.specs.Messages.{is_parameter, piece_faults, pieces, position_faults}
 use Rattle.message_faults.specs.Messages.{specifier_faults, spot_of}
-use Rattle.message_faults.specs.Seen.{HasParameters, known_names}
+use Rattle.message_faults.specs.Views.{HasParameters, known_names}
 
 -- texts are the same exactly if their bytes are
 same_text : (t : Text) (bs : List ℕ) → IsUtf8 bs → bytes_eq bs (encode_utf8_all t)

@@ -1,3 +1,3 @@
 pub mod Messages
 pub mod Words
-pub mod Seen
+pub mod Views

@@ -4,16 +4,16 @@ ghost use Rattle.std.specs.Prelude.{◌≡◌, ◌+◌, ◌<◌, ◌^◌, ◌++�
 ghost use Rattle.std.specs.Prelude.{Option, chars, codes, encode_utf8_all, length, map, option_map};
 ghost use Rattle.std.specs.Str.{bytes_eq};
 ghost use Rattle.rustc_parse_format.specs.Characters.{Text};
-ghost use Rattle.rustc_parse_format.specs.Seen.{pair, seen_piece, seen_argument, seen_snippet};
-ghost use Rattle.rustc_parse_format.specs.SeenFaults.{seen_fault as seen_text_fault};
-ghost use Rattle.placeholder_check.specs.Noted.{has_text};
-ghost use Rattle.placeholder_check.specs.Seen.{text as seen_text};
+ghost use Rattle.rustc_parse_format.specs.Views.{pair, seen_piece, seen_argument, seen_snippet};
+ghost use Rattle.rustc_parse_format.specs.FaultViews.{seen_fault as seen_text_fault};
+ghost use Rattle.placeholder_check.specs.Collection.{has_text};
+ghost use Rattle.placeholder_check.specs.Views.{text as seen_text};
 ghost use Rattle.text_faults.specs.Texts.{text_fault};
 ghost use Rattle.message_faults.specs.Messages.{faults_of, faults_or, message_faults, name_faults};
 ghost use Rattle.message_faults.specs.Messages.{piece_faults, placeholder_faults};
 ghost use Rattle.message_faults.specs.Messages.{specifier_faults, spot_of};
-ghost use Rattle.message_faults.specs.Seen.{HasNames, HasParameters, known_names, seen_fault};
-ghost use Rattle.message_faults.specs.Seen.{start};
+ghost use Rattle.message_faults.specs.Views.{HasNames, HasParameters, known_names, seen_fault};
+ghost use Rattle.message_faults.specs.Views.{start};
 
 use crate::faults::MessageFault;
 use rustc_parse_format::{Argument, Fault, ParseMode, Parser, Piece, Position, Reading, read_all};
@@ -64,8 +64,7 @@ fn fault_of<'a>(
         false,
         ParseMode::Diagnostic,
     )?;
-    let fault = text_fault(alloc, &mut parser)?;
-    Ok(fault)
+    text_fault(alloc, &mut parser)
 }
 
 /// Puts a name into a set. Returns `Err` if an allocation fails.
@@ -262,6 +261,5 @@ pub fn message_faults<'a>(
         → HasParameters ps message.entry.parameters
         → map seen_fault v.items ≡ message_faults ps (start message.entry)) }
 {
-    let faults = faults_of(alloc, message)?;
-    Ok(faults)
+    faults_of(alloc, message)
 }

@@ -3,8 +3,8 @@
 
 ghost use Rattle.std.specs.Prelude.{◌≡◌, ◌++◌, ◌∷◌, [], OnOk, chars, map, string_bytes};
 ghost use Rattle.rustc_parse_format.specs.Faults.{message};
-ghost use Rattle.rustc_parse_format.specs.SeenFaults.{seen_fault as seen_text_fault};
-ghost use Rattle.text_faults.specs.Seen.{seen_label};
+ghost use Rattle.rustc_parse_format.specs.FaultViews.{seen_fault as seen_text_fault};
+ghost use Rattle.text_faults.specs.Views.{seen_label};
 ghost use Rattle.text_faults.specs.Spots.{primary, secondary};
 ghost use Rattle.text_faults.specs.Words.{quoted_name};
 ghost use Rattle.message_faults.specs.Words.{parameter_title, text_labels};
@@ -98,8 +98,8 @@ fn push_text(
 impl<'a> MessageFault<'a> {
     ghost use Rattle.std.specs.Prelude.{◌≡◌, ◌++◌, IfOk, OnOk, chars, map, option_map};
     ghost use Rattle.std.specs.Prelude.{string_bytes};
-    ghost use Rattle.text_faults.specs.Seen.{seen_label};
-    ghost use Rattle.message_faults.specs.Seen.{seen_fault};
+    ghost use Rattle.text_faults.specs.Views.{seen_label};
+    ghost use Rattle.message_faults.specs.Views.{seen_fault};
     ghost use Rattle.message_faults.specs.Words.{help, labels, message_id, title};
 
     /// Returns the id of the fault in kebab case, as `missing-parameter`: the same for all faults

@@ -12,7 +12,7 @@ use Rattle.rustc_parse_format.specs.Call.{call, walk}
 use Rattle.rustc_parse_format.specs.Faults.{Message}
 use Rattle.rustc_parse_format.specs.State.{after_all, calls, fresh_state}
 use Rattle.rustc_parse_format.specs.World.{Place, World}
-use Rattle.rustc_parse_format.specs.Seen.{seen_mode}
+use Rattle.rustc_parse_format.specs.Views.{seen_mode}
 use Rattle.piece_listing.specs.declared.arguments.GivenArguments.{GivenArguments as ArgumentsValue}
 use Rattle.piece_listing.specs.declared.input.Listing.{Listing}
 use Rattle.piece_listing.specs.declared.literal.LiteralText.{LiteralText}

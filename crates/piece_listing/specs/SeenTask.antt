@@ -4,7 +4,7 @@ use denote.Ref.{Bor}
 use Rattle.piece_listing.specs.declared.arguments.GivenArguments.{GivenArguments as ArgumentsValue}
 use Rattle.piece_listing.specs.declared.task.Task.{Task as DeclaredTask}
 use Rattle.rustc_parse_format.specs.Characters.{Text}
-use Rattle.rustc_parse_format.specs.Seen.{seen_mode}
+use Rattle.rustc_parse_format.specs.Views.{seen_mode}
 use Rattle.piece_listing.specs.GivenArguments.{GivenArguments, parts}
 use Rattle.piece_listing.specs.Program.{Task}
 

@@ -4,7 +4,7 @@ ghost use Rattle.std.specs.Prelude.{◌≡◌, ◌<◌, [], ◌∷◌, None, Som
 ghost use Rattle.std.specs.Prelude.{chars, if◌then◌else◌, length, map, option_map};
 ghost use Rattle.std.specs.List.{list_all};
 ghost use Rattle.std.specs.Str.Parse.{digits_value};
-ghost use Rattle.placeholder_check.specs.Seen.{texts};
+ghost use Rattle.placeholder_check.specs.Views.{texts};
 ghost use Rattle.piece_listing.specs.GivenArguments.{given_arguments, is_name, is_number, parts};
 ghost use Rattle.piece_listing.specs.SeenTask.{seen_given, seen_names};
 

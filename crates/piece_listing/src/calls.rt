@@ -4,11 +4,11 @@
 ghost use Rattle.std.specs.Prelude.{◌≡◌, ◌++◌, [], false, IfOk, IsOk, IsTrue, List, OnErr, OnOk};
 ghost use Rattle.std.specs.Prelude.{flat_map, option_map, string_bytes};
 ghost use Rattle.rustc_parse_format.specs.Call.{pieces_of};
-ghost use Rattle.rustc_parse_format.specs.Seen.{seen_taken};
+ghost use Rattle.rustc_parse_format.specs.Views.{seen_taken};
 ghost use Rattle.rustc_parse_format.specs.State.{AddsNothing, state_after, after_all, calls};
 ghost use Rattle.rustc_parse_format.specs.State.{next_call};
 ghost use Rattle.rustc_parse_format.specs.World.{piece_in, pieces_in};
-ghost use Rattle.placeholder_check.specs.Noted.{Holds};
+ghost use Rattle.placeholder_check.specs.Collection.{Holds};
 ghost use Rattle.placeholder_check.specs.Uses.{Use, piece_uses, uses};
 ghost use Rattle.piece_listing.specs.Listing.{piece_line};
 

@@ -5,12 +5,12 @@ ghost use Rattle.std.specs.Prelude.{◌++◌, IfErr, OnOk, flat_map, map};
 ghost use Rattle.std.specs.Prelude.{IsErrOf, IsOk, false, length, nat_lt, option_map, chars};
 ghost use Rattle.std.specs.Prelude.{string_bytes, true};
 ghost use Rattle.rustc_parse_format.specs.Call.{pieces_of};
-ghost use Rattle.rustc_parse_format.specs.Seen.{seen_error, seen_snippet};
+ghost use Rattle.rustc_parse_format.specs.Views.{seen_error, seen_snippet};
 ghost use Rattle.rustc_parse_format.specs.Source.{HasSource};
 ghost use Rattle.rustc_parse_format.specs.State.{after_all, calls};
 ghost use Rattle.rustc_parse_format.specs.World.{hashes, pieces_in};
 ghost use Rattle.placeholder_check.specs.Report.{Report as ReportValue};
-ghost use Rattle.placeholder_check.specs.Seen.{seen_report};
+ghost use Rattle.placeholder_check.specs.Views.{seen_report};
 ghost use Rattle.piece_listing.specs.declared.verdict.RunFault.TheVariants.{Words, TooLong};
 ghost use Rattle.piece_listing.specs.declared.verdict.RunFault.TheVariants.{NotText, NotLiteral};
 ghost use Rattle.piece_listing.specs.Source.{IsInLiteral, IsSourceOf, Source, bare_source};
@@ -103,8 +103,7 @@ fn list_source(
         → task.entry.arguments ≡ None → IsOk result }
 {
     let mut parser = Parser::new(alloc, text, style, snippet, false, task.mode)?;
-    let listing = list_calls(alloc, &mut parser, task.arguments)?;
-    Ok(listing)
+    list_calls(alloc, &mut parser, task.arguments)
 }
 
 /// Returns the listing of the text that a literal stands for. Returns `Err` if an allocation fails.

@@ -3,10 +3,10 @@
 
 ghost use Rattle.std.specs.Prelude.{◌≡◌, ◌++◌, [], IsOk, OnOk, map, chars, codes};
 ghost use Rattle.std.specs.Prelude.{encode_utf8_all, flat_map, option_map, string_bytes};
-ghost use Rattle.rustc_parse_format.specs.Written.{written_character};
-ghost use Rattle.rustc_parse_format.specs.Seen.{pair, seen_piece, seen_alignment, seen_count};
-ghost use Rattle.rustc_parse_format.specs.Seen.{seen_debug_hex, seen_error, seen_position};
-ghost use Rattle.rustc_parse_format.specs.Seen.{seen_sign, seen_spec};
+ghost use Rattle.rustc_parse_format.specs.Escaping.{written_character};
+ghost use Rattle.rustc_parse_format.specs.Views.{pair, seen_piece, seen_alignment, seen_count};
+ghost use Rattle.rustc_parse_format.specs.Views.{seen_debug_hex, seen_error, seen_position};
+ghost use Rattle.rustc_parse_format.specs.Views.{seen_sign, seen_spec};
 ghost use Rattle.piece_listing.specs.Listing.{align_entry, at_entry, count_entry, count_text};
 ghost use Rattle.piece_listing.specs.Listing.{fault_line, fill_entry, flag_entry, flag_entries};
 ghost use Rattle.piece_listing.specs.Listing.{hex_entry};

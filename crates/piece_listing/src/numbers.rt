@@ -3,7 +3,7 @@
 
 ghost use Rattle.std.specs.Prelude.{◌≡◌, ◌<◌, ◌++◌, ◌∷◌, IsAscii, OnErr, OnOk, decimal, drop};
 ghost use Rattle.std.specs.Prelude.{string_bytes};
-ghost use Rattle.rustc_parse_format.specs.Seen.{pair};
+ghost use Rattle.rustc_parse_format.specs.Views.{pair};
 ghost use Rattle.piece_listing.specs.Listing.{span_text};
 
 use itoa::{Buffer, write_digits};

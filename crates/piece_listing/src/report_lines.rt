@@ -4,8 +4,8 @@ ghost use Rattle.std.specs.Prelude.{◌≡◌, ◌++◌, [], None, IfOk, IsOk, O
 ghost use Rattle.std.specs.Prelude.{IsSome, List, option_map, string_bytes};
 ghost use Rattle.rustc_parse_format.specs.Types.{Piece};
 ghost use Rattle.rustc_parse_format.specs.World.{Place};
-ghost use Rattle.placeholder_check.specs.Noted.{Holds};
-ghost use Rattle.placeholder_check.specs.Seen.{seen_report, texts};
+ghost use Rattle.placeholder_check.specs.Collection.{Holds};
+ghost use Rattle.placeholder_check.specs.Views.{seen_report, texts};
 ghost use Rattle.placeholder_check.specs.Uses.{uses};
 ghost use Rattle.piece_listing.specs.Listing.{index_line, name_line, report_lines};
 ghost use Rattle.piece_listing.specs.Program.{IsReportFor, has_entries, no_entries};

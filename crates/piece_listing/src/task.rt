@@ -1,7 +1,7 @@
 //! The command-line arguments of the program, parsed.
 
 ghost use Rattle.std.specs.Prelude.{◌≡◌, map, option_map, string_bytes};
-ghost use Rattle.rustc_parse_format.specs.Seen.{seen_mode};
+ghost use Rattle.rustc_parse_format.specs.Views.{seen_mode};
 ghost use Rattle.piece_listing.specs.GivenArguments.{given_arguments};
 ghost use Rattle.piece_listing.specs.Program.{task_of, mode_named, task, task_with};
 ghost use Rattle.piece_listing.specs.SeenTask.{seen_given, seen_task};

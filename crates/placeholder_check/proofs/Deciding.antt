@@ -18,7 +18,7 @@ use Rattle.rustc_parse_format.specs.Characters.{Text}
 use Rattle.placeholder_check.specs.Uses.{Use, ByIndex, ByName, used_names}
 use Rattle.placeholder_check.specs.Entries.{AreFirsts, IsFirst, Lists}
 use Rattle.placeholder_check.specs.Report.{IsReport, Report}
-use Rattle.placeholder_check.specs.Noted.{has_index}
+use Rattle.placeholder_check.specs.Collection.{has_index}
 use Rattle.placeholder_check.proofs.Noting.{has_index-Decides}
 use Rattle.placeholder_check.proofs.Numbers.{Lists-nothing, Lists-push, Lists-same, Lists-skip}
 

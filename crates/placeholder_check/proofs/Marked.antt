@@ -11,7 +11,7 @@ use Rattle.std.proofs.lemmas.List.Elements.{Contains-append_left, Contains-appen
 use Rattle.std.proofs.lemmas.List.Elements.{Contains-append_cases, Contains-get_or}
 use Rattle.placeholder_check.specs.declared.indices.Indices.{Indices}
 use Rattle.placeholder_check.specs.Entries.{Lists}
-use Rattle.placeholder_check.specs.Noted.{is_noted}
+use Rattle.placeholder_check.specs.Collection.{is_noted}
 use Rattle.placeholder_check.proofs.Numbers.{Lists-from, Lists-same}
 
 -- numbers below another and then numbers from there on

@@ -23,7 +23,7 @@ use Rattle.placeholder_check.specs.Uses.{uses}
 use Rattle.placeholder_check.specs.Entries.{Lists}
 use Rattle.placeholder_check.specs.Names.{IsByName, NamesAlone}
 use Rattle.placeholder_check.specs.Report.{IsReport, Report}
-use Rattle.placeholder_check.specs.Noted.{has_index}
+use Rattle.placeholder_check.specs.Collection.{has_index}
 use Rattle.placeholder_check.proofs.Noting.{has_index-Decides}
 
 -- A position that is a name is used by its name,

@@ -21,8 +21,8 @@ use Rattle.std.proofs.lemmas.Map.Text.{is_eq-slice_cmp}
 use Rattle.std.proofs.lemmas.Slice.Eq.{bytes_eq-Decides}
 use Rattle.std.proofs.lemmas.Str.{chars_from_encodes, encodes-chars}
 use Rattle.rustc_parse_format.specs.Characters.{Text}
-use Rattle.placeholder_check.specs.Noted.{Follows, has_text, is_known}
-use Rattle.placeholder_check.specs.Seen.{text, texts}
+use Rattle.placeholder_check.specs.Collection.{Follows, has_text, is_known}
+use Rattle.placeholder_check.specs.Views.{text, texts}
 
 -- texts are the same exactly if their bytes are
 same_text : (t : Text) (bs : List ℕ) → IsUtf8 bs → bytes_eq bs (encode_utf8_all t)

@@ -12,11 +12,11 @@ use Rattle.std.proofs.lemmas.List.{map-append, take_more}
 use Rattle.std.proofs.lemmas.List.Folds.{list_any-append}
 use Rattle.std.proofs.lemmas.List.Elements.{filter_map-append, Decides-contains}
 use Rattle.rustc_parse_format.specs.declared.types.Piece.{Piece}
-use Rattle.rustc_parse_format.specs.Seen.{seen_piece}
+use Rattle.rustc_parse_format.specs.Views.{seen_piece}
 use Rattle.placeholder_check.specs.declared.uses.Uses.{Uses}
 use Rattle.placeholder_check.specs.Uses.{Use, ByIndex, ByName, piece_uses, used_name, used_names}
 use Rattle.placeholder_check.specs.Uses.{uses}
-use Rattle.placeholder_check.specs.Noted.{Adds, Holds, is_index, has_index, is_noted}
+use Rattle.placeholder_check.specs.Collection.{Adds, Holds, is_index, has_index, is_noted}
 
 -- uses with others that are added
 pub Holds-append : (us vs : List Use) (a b : Uses) → Holds us a → Adds vs a b → Holds (us ++ vs) b

@@ -14,8 +14,8 @@ use Rattle.rustc_parse_format.specs.Types.{NextArgument, bare_piece, bare_count}
 use Rattle.placeholder_check.specs.Uses.{Use, ByIndex, count_uses, used_names, uses}
 use Rattle.placeholder_check.specs.Entries.{AreFirsts, Lists}
 use Rattle.placeholder_check.specs.Report.{IsReport}
-use Rattle.placeholder_check.specs.Noted.{Holds, is_among, is_known, is_noted}
-use Rattle.placeholder_check.specs.Seen.{texts}
+use Rattle.placeholder_check.specs.Collection.{Holds, is_among, is_known, is_noted}
+use Rattle.placeholder_check.specs.Views.{texts}
 use Rattle.placeholder_check.proofs.Numbers.{Lists-same}
 use Rattle.placeholder_check.proofs.Lacked.{AreFirsts-lacked}
 use Rattle.placeholder_check.proofs.Noting.{has_index-Decides}

@@ -3,5 +3,5 @@ pub mod Entries
 pub mod Report
 pub mod Names
 pub mod Reading
-pub mod Seen
-pub mod Noted
+pub mod Views
+pub mod Collection

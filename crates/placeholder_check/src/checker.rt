@@ -1,11 +1,11 @@
 //! The report on missing and unused arguments.
 
 ghost use Rattle.std.specs.Prelude.{◌≡◌, [], IfOk, IsOk, List, map};
-ghost use Rattle.rustc_parse_format.specs.Seen.{seen_piece};
-ghost use Rattle.placeholder_check.specs.Noted.{Holds, IsNew};
+ghost use Rattle.rustc_parse_format.specs.Views.{seen_piece};
+ghost use Rattle.placeholder_check.specs.Collection.{Holds, IsNew};
 ghost use Rattle.placeholder_check.specs.Uses.{Use, uses};
 ghost use Rattle.placeholder_check.specs.Report.{IsReport, Report as ReportOf};
-ghost use Rattle.placeholder_check.specs.Seen.{seen_report, texts};
+ghost use Rattle.placeholder_check.specs.Views.{seen_report, texts};
 
 use crate::indices::{members_from, missing_indices};
 use crate::names::{later_names, missing_names, unused_names};

@@ -7,7 +7,7 @@ ghost use Rattle.std.specs.Prelude.{false, true, length, min, get_or, [], IfOk, 
 ghost use Rattle.std.specs.BTreeSet.{IsOrdered};
 ghost use Rattle.std.specs.Ordering.{nat_cmp};
 ghost use Rattle.placeholder_check.specs.Entries.{Lists};
-ghost use Rattle.placeholder_check.specs.Noted.{is_noted};
+ghost use Rattle.placeholder_check.specs.Collection.{is_noted};
 
 use std::alloc::{AllocError, Global};
 use std::collections::BTreeSet;

@@ -7,8 +7,8 @@ ghost use Rattle.std.specs.List.{list_any};
 ghost use Rattle.std.specs.Str.{bytes_eq};
 ghost use Rattle.rustc_parse_format.specs.Characters.{Text};
 ghost use Rattle.placeholder_check.specs.Entries.{AreFirsts};
-ghost use Rattle.placeholder_check.specs.Noted.{Follows, has_text, is_among, is_known};
-ghost use Rattle.placeholder_check.specs.Seen.{texts};
+ghost use Rattle.placeholder_check.specs.Collection.{Follows, has_text, is_among, is_known};
+ghost use Rattle.placeholder_check.specs.Views.{texts};
 
 use std::alloc::{AllocError, Global};
 use std::collections::BTreeSet;

@@ -3,7 +3,7 @@
 ghost use Rattle.std.specs.Prelude.{◌≡◌, ◌+◌, ◌<◌, ◌^◌, ◌↔◌, [], IfOk, IsOk, chars, length, map};
 ghost use Rattle.rustc_parse_format.specs.Call.{pieces_of};
 ghost use Rattle.rustc_parse_format.specs.Grammar.{IsInGrammar};
-ghost use Rattle.rustc_parse_format.specs.Seen.{seen_piece, seen_mode, seen_snippet};
+ghost use Rattle.rustc_parse_format.specs.Views.{seen_piece, seen_mode, seen_snippet};
 ghost use Rattle.rustc_parse_format.specs.Source.{HasSource};
 ghost use Rattle.rustc_parse_format.specs.State.{after_all, calls, first_state};
 ghost use Rattle.rustc_parse_format.specs.Types.{DiagnosticNamed};
@@ -12,7 +12,7 @@ ghost use Rattle.placeholder_check.specs.Entries.{Lists};
 ghost use Rattle.placeholder_check.specs.Uses.{uses};
 ghost use Rattle.placeholder_check.specs.Report.{IsReport};
 ghost use Rattle.placeholder_check.specs.Reading.{IsReportOf};
-ghost use Rattle.placeholder_check.specs.Seen.{seen_report, texts};
+ghost use Rattle.placeholder_check.specs.Views.{seen_report, texts};
 
 use crate::checker::{Report, check};
 use rustc_parse_format::{ParseMode, Parser, Piece, Reading, read_all};

@@ -1,11 +1,11 @@
 //! The arguments that pieces use.
 
 ghost use Rattle.std.specs.Prelude.{[], ◌≡◌, ◌∷◌, IfOk, IsOk, OnOk, chars, map};
-ghost use Rattle.rustc_parse_format.specs.Seen.{seen_piece, seen_argument, seen_count};
-ghost use Rattle.rustc_parse_format.specs.Seen.{seen_position};
+ghost use Rattle.rustc_parse_format.specs.Views.{seen_piece, seen_argument, seen_count};
+ghost use Rattle.rustc_parse_format.specs.Views.{seen_position};
 ghost use Rattle.placeholder_check.specs.Uses.{ByIndex, ByName, argument_uses, count_uses};
 ghost use Rattle.placeholder_check.specs.Uses.{piece_uses, position_use, uses};
-ghost use Rattle.placeholder_check.specs.Noted.{Adds, Holds, IsNew};
+ghost use Rattle.placeholder_check.specs.Collection.{Adds, Holds, IsNew};
 
 use crate::indices::{Indices, insert_index, no_indices};
 use crate::names::{Names, insert_name, no_names};
@@ -23,9 +23,9 @@ pub struct Uses<'a> {
 
 impl<'a> Uses<'a> {
     ghost use Rattle.std.specs.Prelude.{◌++◌, [], List, OnOk};
-    ghost use Rattle.rustc_parse_format.specs.Seen.{seen_argument};
+    ghost use Rattle.rustc_parse_format.specs.Views.{seen_argument};
     ghost use Rattle.placeholder_check.specs.Uses.{Use, argument_uses};
-    ghost use Rattle.placeholder_check.specs.Noted.{Holds, IsNew};
+    ghost use Rattle.placeholder_check.specs.Collection.{Holds, IsNew};
 
     /// Returns an empty collection. Does not allocate.
     pub fn new(alloc: Global) -> Uses<'a>

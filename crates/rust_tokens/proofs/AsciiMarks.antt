@@ -5,6 +5,7 @@ use Rattle.std.proofs.Common.{inl, inr, length, chars, IsUtf8, IsCharBoundary, d
 use Rattle.std.proofs.Common.{Some, None, Option, refl, ap, sym, subst, ◌∙◌, arith, length-append}
 use Rattle.std.proofs.Common.{append_assoc, suc, zero, ◌/◌}
 use Rattle.std.specs.Prelude.{◌⊎◌, ◌&&◌, ◌==◌, flat_map, not, option_map, replicate}
+use Rattle.std.specs.Option.{option_or}
 use Rattle.std.proofs.Math.Utf8.{encode, encodes, next, scalar, scalars}
 use Rattle.std.proofs.Math.Seq.{drop-append_seam, get_or-append_seam}
 use Rattle.std.proofs.lemmas.Bool.{and_parts, cases_lt, cond_both, cond-false, cond-true, eqb-true}
@@ -14,7 +15,7 @@ use Rattle.std.proofs.lemmas.List.{drop_all}
 use Rattle.std.proofs.lemmas.Option.{same_Some}
 use Rattle.std.proofs.lemmas.Str.{chars-nil, IsCharBoundary-after_ascii, IsCharBoundary-end}
 use Rattle.std.proofs.lemmas.Str.{IsCharBoundary-before_ascii}
-use Rattle.rust_tokens.specs.Texts.{IsRest, Text, first_some}
+use Rattle.rust_tokens.specs.Texts.{IsRest, Text}
 use Rattle.rust_tokens.specs.Runs.{rest_after, is_in_line, stops}
 use Rattle.rust_tokens.specs.Strings.{after_string, spelling}
 use Rattle.rust_tokens.specs.Comments.{CommentTail, Close, Character, Nested, after_comment}
@@ -96,9 +97,9 @@ map-both true w x y z e f = e
 map-both false w x y z e f = f
 
 map-or : (w x y z : Option Text) → option_map chars w ≡ x → option_map chars y ≡ z
-    → option_map chars (first_some w y) ≡ first_some x z
-map-or None x y z e f = f ∙ ap (λ o. first_some o z) e
-map-or (Some r) x y z e f = ap (λ o. first_some o z) e
+    → option_map chars (option_or w y) ≡ option_or x z
+map-or None x y z e f = f ∙ ap (λ o. option_or o z) e
+map-or (Some r) x y z e f = ap (λ o. option_or o z) e
 
 -- A text is cut after an ASCII byte.
 cut : (s v r : List ℕ) (b : ℕ) → IsUtf8 s → b < 128 → s ≡ v ++ b ∷ r → IsRest s r

@@ -39,7 +39,7 @@ ascii-next s i u b l small =
     chars_past_char (drop i s) (drop (i + 1) s) (get_or s i 0) (IsUtf8-drop s i u b)
     (e ∙ ap (λ t. t ++ drop (i + 1) s) (sym (encode_ascii (get_or s i 0) small)))
 
-below : (b : ℕ) → nat_lt b 128 ≡ true → b < 128
+pub below : (b : ℕ) → nat_lt b 128 ≡ true → b < 128
 below b h = grind (arith, nat_tests)
 
 -- A run goes on over it,

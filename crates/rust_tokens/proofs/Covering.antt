@@ -8,7 +8,7 @@ use Rattle.rust_tokens.specs.declared.kinds.Token.{Token}
 use Rattle.rust_tokens.specs.Texts.{Text}
 use Rattle.rust_tokens.specs.Tokens.{Lexeme, ReadsTo}
 use Rattle.rust_tokens.specs.Files.{IsMarked, IsShebanged}
-use Rattle.rust_tokens.specs.Placed.{byte_length, end_of, end_of_all, placed_tokens}
+use Rattle.rust_tokens.specs.Spans.{byte_length, end_of, end_of_all, placed_tokens}
 use Rattle.rust_tokens.specs.Covers.{Covers}
 use Rattle.rust_tokens.proofs.Files.{Lexed}
 use Rattle.rust_tokens.proofs.NotEmpty.{body-bytes}

@@ -18,8 +18,8 @@ use Rattle.rust_tokens.specs.Tokens.{Lexeme, Begins, ReadsTo}
 use Rattle.rust_tokens.specs.Files.{is_gap, is_bracket, OpensAttribute, mark, shebang}
 use Rattle.rust_tokens.specs.Files.{IsMarked, IsShebanged}
 use Rattle.rust_tokens.specs.First.{Body, first_of}
-use Rattle.rust_tokens.specs.Placed.{byte_length, end_of, end_of_all, token_at, placed_tokens}
-use Rattle.rust_tokens.specs.Placed.{token_between}
+use Rattle.rust_tokens.specs.Spans.{byte_length, end_of, end_of_all, token_at, placed_tokens}
+use Rattle.rust_tokens.specs.Spans.{token_between}
 use Rattle.rust_tokens.proofs.Basics.{no_pass, front, front-rest_after, all-front, stops-rest_after}
 use Rattle.rust_tokens.proofs.Basics.{strip-reads}
 use Rattle.rust_tokens.proofs.Classes.{start_at}

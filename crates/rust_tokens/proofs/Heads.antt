@@ -6,7 +6,7 @@ use Rattle.std.specs.List.{list_all}
 use Rattle.std.proofs.lemmas.List.{append_assoc}
 use Rattle.rust_tokens.specs.Tokens.{Lexeme, Reads}
 use Rattle.rust_tokens.specs.Files.{is_head, IsMarked, IsShebanged, ReadsFile}
-use Rattle.rust_tokens.specs.Placed.{end_of_all}
+use Rattle.rust_tokens.specs.Spans.{end_of_all}
 use Rattle.rust_tokens.specs.Texts.{Text}
 use Rattle.rust_tokens.proofs.Files.{end-append}
 

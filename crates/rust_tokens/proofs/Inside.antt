@@ -4,8 +4,9 @@ use Rattle.std.proofs.Common.{Option, Some, None, refl, ap, sym, ◌∙◌, appe
 use Rattle.std.proofs.Common.{length-append, arith}
 use Rattle.std.specs.Prelude.{◌==◌, codes, flat_map, replicate, option_map}
 use Rattle.std.specs.List.{list_all}
+use Rattle.std.specs.Option.{option_or}
 use Rattle.std.proofs.lemmas.Bool.{eqb-true, false≢true, and_parts, cond_both}
-use Rattle.rust_tokens.specs.Texts.{Text, strip, first_some}
+use Rattle.rust_tokens.specs.Texts.{Text, strip}
 use Rattle.rust_tokens.specs.Runs.{rest_after, count, is_id_start, is_id_continue, is_hash}
 use Rattle.rust_tokens.specs.Strings.{spelling, after_string}
 use Rattle.rust_tokens.specs.RawStrings.{after_raw}
@@ -160,11 +161,11 @@ c-inside (c ∷ t) =
     (λ y. at (raw_opening RawCStr t) (codes "c") t c 114 y (raw-inside (codes "cr") RawCStr t))
     (λ n. tt))
 
-r-inside : (t : Text) → Inside (114 ∷ t) (first_some (raw_opening RawStr t) (word_opening t))
+r-inside : (t : Text) → Inside (114 ∷ t) (option_or (raw_opening RawStr t) (word_opening t))
 r-inside t = by_raw (raw_opening RawStr t) (raw-inside (codes "r") RawStr t)
   where
     by_raw : (o : Option (Opening × Text)) → Inside (114 ∷ t) o
-        → Inside (114 ∷ t) (first_some o (word_opening t))
+        → Inside (114 ∷ t) (option_or o (word_opening t))
     by_raw None f = word-inside t
     by_raw (Some x) f = f
 
@@ -177,9 +178,9 @@ inside (c ∷ t) =
     (λ y. at (byte_opening t) [] t c 98 y (byte-inside t))
     (λ n. cond_both (c == 99) (c_opening t) _ (λ o. Inside (c ∷ t) o)
     (λ y. at (c_opening t) [] t c 99 y (c-inside t))
-    (λ n. cond_both (c == 114) (first_some (raw_opening RawStr t) (word_opening t)) None
+    (λ n. cond_both (c == 114) (option_or (raw_opening RawStr t) (word_opening t)) None
     (λ o. Inside (c ∷ t) o)
-    (λ y. at (first_some (raw_opening RawStr t) (word_opening t)) [] t c 114 y (r-inside t))
+    (λ y. at (option_or (raw_opening RawStr t) (word_opening t)) [] t c 114 y (r-inside t))
     (λ n. tt))))
 
 -- A token that begins with a word goes on after it.

@@ -23,7 +23,7 @@ use Rattle.rust_tokens.specs.Comments.{IsBlock}
 use Rattle.rust_tokens.specs.Strings.{IsString}
 use Rattle.rust_tokens.specs.RawStrings.{IsRawString}
 use Rattle.rust_tokens.specs.Tokens.{Stands, Lexeme, Begins}
-use Rattle.rust_tokens.specs.Placed.{byte_length}
+use Rattle.rust_tokens.specs.Spans.{byte_length}
 
 abbrev has_first : Text → Bool
 has_first [] = false

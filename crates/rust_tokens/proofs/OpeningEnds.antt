@@ -2,13 +2,14 @@
 use Rattle.std.proofs.Common.{◌≡◌, ℕ, Bool, true, false, ◌&&◌, ◌++◌, cond, [], ◌∷◌, inl, inr}
 use Rattle.std.proofs.Common.{Option, Some, None, refl, ap, sym, ◌∙◌, append_assoc, subst}
 use Rattle.std.specs.Prelude.{◌==◌, codes, is_some, replicate, option_map}
+use Rattle.std.specs.Option.{option_or}
 use Rattle.std.proofs.lemmas.Bool.{eqb-true, false≢true, and_parts, cond_both, cond-true}
 use Rattle.rust_tokens.specs.declared.kinds.Kind.{Kind}
 use Rattle.rust_tokens.specs.declared.kinds.Kind.TheVariants.{Str, ByteStr, CStr, RawStr}
 use Rattle.rust_tokens.specs.declared.kinds.Kind.TheVariants.{RawByteStr, RawCStr}
 use Rattle.rust_tokens.specs.declared.openings.Opening.{Opening}
 use Rattle.rust_tokens.specs.declared.openings.Opening.TheVariants.{Quote, Raw, ByteQuote, RawWord}
-use Rattle.rust_tokens.specs.Texts.{Text, strip, first_some, HasNoFront}
+use Rattle.rust_tokens.specs.Texts.{Text, strip, HasNoFront}
 use Rattle.rust_tokens.specs.Runs.{rest_after, count, is_hash, is_id_start}
 use Rattle.rust_tokens.specs.Openings.{IsOpening, first_opening, raw_opening}
 use Rattle.rust_tokens.specs.Openings.{word_opening, byte_opening, c_opening}
@@ -42,7 +43,7 @@ found p r (inl (inr (inr (inl e)))) = ap (λ t. is_some (first_opening (t ++ r))
 found p r (inl (inr (inr (inr e)))) = ap (λ t. is_some (first_opening (t ++ r))) e
 found p r (inr (inl (n, inl e))) =
     ap (λ t. is_some (first_opening t)) (ap (λ t. t ++ r) e ∙ raw-there (codes "r") RawStr n r)
-    ∙ ap (λ o. is_some (first_some o (word_opening (replicate n 35 ++ 34 ∷ r)))) (raw-opens RawStr n
+    ∙ ap (λ o. is_some (option_or o (word_opening (replicate n 35 ++ 34 ∷ r)))) (raw-opens RawStr n
     r)
 found p r (inr (inl (n, inr (inl e)))) =
     ap (λ t. is_some (first_opening t)) (ap (λ t. t ++ r) e ∙ raw-there (codes "br") RawStr n r)
@@ -121,12 +122,12 @@ c-reads (c ∷ t) =
     (raw-reads (codes "cr") RawCStr (λ m q e. inr (inl (m, inr (inr e)))) t))
     (λ n. tt))
 
-r-reads : (t : Text) → Reads (114 ∷ t) (first_some (raw_opening RawStr t) (word_opening t))
+r-reads : (t : Text) → Reads (114 ∷ t) (option_or (raw_opening RawStr t) (word_opening t))
 r-reads t =
     by_raw (raw_opening RawStr t) (raw-reads (codes "r") RawStr (λ m q e. inr (inl (m, inl e))) t)
   where
     by_raw : (o : Option (Opening × Text)) → Reads (114 ∷ t) o
-        → Reads (114 ∷ t) (first_some o (word_opening t))
+        → Reads (114 ∷ t) (option_or o (word_opening t))
     by_raw None f = word-reads t
     by_raw (Some x) f = f
 
@@ -139,9 +140,9 @@ reads (c ∷ t) =
     (λ y. at (byte_opening t) [] t c 98 y (byte-reads t))
     (λ n. cond_both (c == 99) (c_opening t) _ (λ o. Reads (c ∷ t) o)
     (λ y. at (c_opening t) [] t c 99 y (c-reads t))
-    (λ n. cond_both (c == 114) (first_some (raw_opening RawStr t) (word_opening t)) None
+    (λ n. cond_both (c == 114) (option_or (raw_opening RawStr t) (word_opening t)) None
     (λ o. Reads (c ∷ t) o)
-    (λ y. at (first_some (raw_opening RawStr t) (word_opening t)) [] t c 114 y (r-reads t))
+    (λ y. at (option_or (raw_opening RawStr t) (word_opening t)) [] t c 114 y (r-reads t))
     (λ n. tt))))
 
 -- Where no opening begins, none is found, and the other way round.

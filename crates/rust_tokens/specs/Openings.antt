@@ -3,12 +3,13 @@
 use Prim.Native.Char.{code}
 use Rattle.std.specs.Prelude.{◌≡◌, ◌⊎◌, ◌++◌, ◌&&◌, ◌==◌, ℕ, if◌then◌else◌, IsTrue, [], ◌∷◌}
 use Rattle.std.specs.Prelude.{Option, Some, None, option_map, codes, replicate}
+use Rattle.std.specs.Option.{option_or}
 use Rattle.rust_tokens.specs.declared.kinds.Kind.{Kind}
 use Rattle.rust_tokens.specs.declared.kinds.Kind.TheVariants.{Str, ByteStr, CStr, RawStr}
 use Rattle.rust_tokens.specs.declared.kinds.Kind.TheVariants.{RawByteStr, RawCStr}
 use Rattle.rust_tokens.specs.declared.openings.Opening.{Opening}
 use Rattle.rust_tokens.specs.declared.openings.Opening.TheVariants.{Quote, Raw, ByteQuote, RawWord}
-use Rattle.rust_tokens.specs.Texts.{Text, strip, first_some}
+use Rattle.rust_tokens.specs.Texts.{Text, strip}
 use Rattle.rust_tokens.specs.Runs.{rest_after, count, is_hash, is_id_start}
 
 -- The letters of a literal and its quote: `"`, `b"`, `c"`, `b'`.
@@ -59,4 +60,4 @@ first_opening [] = None
 first_opening (c ∷ t) = if c == code "\"" then Some (Quote Str, t) else
     (if c == code "b" then byte_opening t else
     (if c == code "c" then c_opening t else
-    (if c == code "r" then first_some (raw_opening RawStr t) (word_opening t) else None)))
+    (if c == code "r" then option_or (raw_opening RawStr t) (word_opening t) else None)))

@@ -1,7 +1,7 @@
 //! A token without its suffix, and the rest after it.
 
 ghost use Rattle.std.specs.Prelude.{◌≡◌, chars, false, true};
-ghost use Rattle.rust_tokens.specs.Seen.{seen_body};
+ghost use Rattle.rust_tokens.specs.Views.{seen_body};
 
 use crate::kinds::Kind;
 

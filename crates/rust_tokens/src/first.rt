@@ -5,7 +5,7 @@ ghost use Rattle.std.specs.Prelude.{option_map, slice_index, true};
 ghost use Rattle.rust_tokens.specs.Bytes.{begins_word};
 ghost use Rattle.rust_tokens.specs.First.{after_suffix, closed_body, first_of};
 ghost use Rattle.rust_tokens.specs.First.{first_plain, first_quoted, first_slashed, by_opening};
-ghost use Rattle.rust_tokens.specs.Seen.{seen_body};
+ghost use Rattle.rust_tokens.specs.Views.{seen_body};
 ghost use Rattle.rust_tokens.specs.Texts.{Text};
 ghost use Rattle.rust_tokens.specs.Tokens.{is_literal};
 

@@ -1,9 +1,12 @@
 //! Laws of the tokens of texts and files: each is the contract of a function that does nothing.
 
-ghost use Rattle.std.specs.Prelude.{◌≡◌, ◌≤◌, ◌++◌, Bool, IsTrue, List, length};
+ghost use Rattle.std.specs.Prelude.{◌≡◌, ◌≤◌, ◌++◌, ◌∷◌, ℕ, Bool, IsTrue, List, length};
+ghost use Rattle.std.specs.List.{list_all};
 ghost use Rattle.rust_tokens.specs.Files.{ReadsFile};
+ghost use Rattle.rust_tokens.specs.Fronts.{EndsWithBarrier, ReadsBeforeWords};
+ghost use Rattle.rust_tokens.specs.Runs.{is_id_start};
 ghost use Rattle.rust_tokens.specs.Texts.{Text};
-ghost use Rattle.rust_tokens.specs.Tokens.{Begins, Lexeme, Reads, Stands, is_allowed};
+ghost use Rattle.rust_tokens.specs.Tokens.{Begins, Lexeme, Reads, ReadsTo, Stands, is_allowed};
 ghost use Rattle.rust_tokens.specs.declared.kinds.Kind.{Kind};
 
 /// A text, and a file, read as tokens in at most one way.
@@ -26,4 +29,12 @@ pub fn longest_token()
     ensures { (x : Lexeme) (whole r : Text) (k : Kind) (e : Bool) (b a s : Text)
         → Begins x whole r → Stands k e b a → whole ≡ b ++ s → IsTrue (is_allowed k b s)
         → length b ≤ length x.body }
+{}
+
+/// A front of a text that ends with a barrier, and reads as tokens that have their ends, up to a
+/// word, reads as these tokens before each word.
+pub fn front_before_words()
+    ensures { (u t : Text) (c : ℕ) (xs : List Lexeme) → EndsWithBarrier u → IsTrue (is_id_start c)
+        → IsTrue (list_all (λ x. x.is_ended) xs) → ReadsTo (u ++ c ∷ t) xs (c ∷ t)
+        → ReadsBeforeWords u xs }
 {}

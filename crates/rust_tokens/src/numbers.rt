@@ -5,7 +5,7 @@ ghost use Rattle.rust_tokens.specs.First.{after_fraction, exponent_or, first_dec
 ghost use Rattle.rust_tokens.specs.First.{first_number, first_zero, fraction_or};
 ghost use Rattle.rust_tokens.specs.Numbers.{after_digits, after_exponent, after_point};
 ghost use Rattle.rust_tokens.specs.Numbers.{after_sign};
-ghost use Rattle.rust_tokens.specs.Seen.{seen_body};
+ghost use Rattle.rust_tokens.specs.Views.{seen_body};
 
 use crate::bodies::{Body, ended_token};
 use crate::kinds::Kind;

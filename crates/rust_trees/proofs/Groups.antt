@@ -8,7 +8,7 @@ use Rattle.std.proofs.lemmas.List.{append_assoc}
 use Rattle.rust_trees.specs.declared.sides.Delimiter.{Delimiter}
 use Rattle.rust_trees.specs.declared.sides.Side.TheVariants.{Closes}
 use Rattle.rust_trees.specs.declared.matching.Matching.{Matching}
-use Rattle.rust_trees.specs.Leaves.{AreLeft, Leaf, Unread, side}
+use Rattle.rust_trees.specs.Leaves.{AreLeft, Leaf, Remainder, side}
 use Rattle.rust_trees.specs.Scans.{scan}
 use Rattle.rust_trees.specs.Forests.{IsGroup, IsPair}
 use Rattle.rust_trees.specs.Matching.{Alive, IsMatched, Sealed}
@@ -54,7 +54,7 @@ keeps-pairs w ys i j sealed p h =
         by_size v (e ∙ ap (λ x. p.before ++ x ∷ v) s) t (cases_lt (length p.inside) (length v))
 
 -- Tokens that were read, with one more.
-pub joins-more : (old cur new : Unread) (front xs : List Leaf) (x : Leaf)
+pub joins-more : (old cur new : Remainder) (front xs : List Leaf) (x : Leaf)
     → ((ls : List Leaf) → AreLeft new ls → AreLeft cur (x ∷ ls))
     → (more : List Leaf) × (xs ≡ front ++ more)
     × ((ls : List Leaf) → AreLeft cur ls → AreLeft old (more ++ ls))

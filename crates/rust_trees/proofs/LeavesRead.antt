@@ -19,7 +19,7 @@ use Rattle.rust_tokens.specs.Texts.{Text}
 use Rattle.rust_tokens.specs.Tokens.{Lexeme, Begins, Reads}
 use Rattle.rust_tokens.specs.Files.{is_head, ReadsFile}
 use Rattle.rust_tokens.specs.declared.kinds.Token.{Token}
-use Rattle.rust_tokens.specs.Placed.{byte_length, end_of, end_of_all, token_at}
+use Rattle.rust_tokens.specs.Spans.{byte_length, end_of, end_of_all, token_at}
 use Rattle.rust_tokens.proofs.Readings.{byte-length}
 use Rattle.rust_trees.specs.Leaves.{AreLeft, Leaf, leaf_at, leaves, is_leaf, is_some_text}
 

@@ -1,13 +1,14 @@
 pub mod Balancing
 pub mod Groups
 pub mod Growing
+pub mod KnownPlaces
 pub mod LeavesRead
 pub mod Lists
 pub mod Matches
 pub mod Nested
 pub mod Once
 pub mod Partners
+pub mod PassedFronts
 pub mod PlaceSteps
-pub mod KnownPlaces
 pub mod Scanning
 pub mod Stacks

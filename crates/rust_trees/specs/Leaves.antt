@@ -8,7 +8,7 @@ use Rattle.rust_tokens.specs.declared.kinds.Kind.TheVariants.{OuterBlockDoc, Inn
 use Rattle.rust_tokens.specs.declared.kinds.Kind.TheVariants.{Shebang, ByteOrderMark}
 use Rattle.rust_tokens.specs.Texts.{Text}
 use Rattle.rust_tokens.specs.Tokens.{Lexeme, Reads}
-use Rattle.rust_tokens.specs.Placed.{end_of}
+use Rattle.rust_tokens.specs.Spans.{end_of}
 use Rattle.rust_trees.specs.declared.sides.Side.{Side}
 use Rattle.rust_trees.specs.declared.leaves.Token.{Token}
 use Rattle.rust_trees.specs.Sides.{side_of}
@@ -70,11 +70,11 @@ leaves at (x ∷ xs) = if is_leaf x.kind x.is_ended then leaf_at at x ∷ leaves
     else leaves (end_of at x) xs
 
 -- A file that is read, and the rest of it, both in bytes.
-pub record Unread : Type 0 where
+pub record Remainder : Type 0 where
   pub whole : List ℕ
   pub rest : List ℕ
 
 -- These are the tokens of the rest of a file.
-abbrev pub AreLeft : Unread → List Leaf → Type 0
+abbrev pub AreLeft : Remainder → List Leaf → Type 0
 AreLeft u ls = (xs : List Lexeme) × Reads (chars u.rest) xs
     × (ls ≡ leaves (length u.whole - length u.rest) xs)

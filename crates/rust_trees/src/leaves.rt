@@ -1,13 +1,14 @@
 //! The tokens of a file without white space and comments.
 
-ghost use Rattle.std.specs.Prelude.{◌≡◌, ◌<◌, ◌∷◌, [], IfOk, IfSome, IsNone, List, ℕ, chars};
-ghost use Rattle.std.specs.Prelude.{◌≤◌, length, map};
+ghost use Rattle.std.specs.Prelude.{◌≡◌, ◌<◌, ◌≤◌, ◌-◌, ◌++◌, ◌∷◌, [], IfOk, IfSome, IsFalse};
+ghost use Rattle.std.specs.Prelude.{IsNone, IsTrue, List, ℕ, chars, length, map};
 ghost use Rattle.rust_tokens.specs.Files.{ReadsFile};
+ghost use Rattle.rust_tokens.specs.Fronts.{ReadsBeforeWords};
 ghost use Rattle.rust_tokens.specs.Tokens.{Lexeme};
 ghost use Rattle.rust_trees.specs.Leaves.{AreLeft, Leaf, is_leaf, leaf, leaves, side};
 
 use crate::sides::{Side, side_of};
-use rust_tokens::{Kind, skip_head, split_first_token};
+use rust_tokens::{Kind, begins_with_word, skip_head, split_first_token};
 use std::alloc::{AllocError, Global};
 use std::marker::Model;
 
@@ -89,9 +90,9 @@ pub struct Tokens<'a> {
 
 impl<'a> Model for Tokens<'a> {
     ghost use Rattle.std.specs.Prelude.{◌≤◌, length};
-    ghost use Rattle.rust_trees.specs.Leaves.{Unread};
+    ghost use Rattle.rust_trees.specs.Leaves.{Remainder};
 
-    ghost Value = { Unread };
+    ghost Value = { Remainder };
 
     ghost view = { λ t. record { whole = t.text.now; rest = t.rest.now } };
 
@@ -125,6 +126,33 @@ impl<'a> Tokens<'a> {
         };
         self.rest = rest;
         Some(token)
+    }
+
+    /// Returns the rest of the file.
+    pub fn rest(&self) -> &'a str
+        ensures { result.now ≡ self.now.rest }
+    {
+        self.rest
+    }
+
+    /// Passes a front of the rest, if it begins with that and goes on with a word, and returns
+    /// whether it does. The front is passed as the tokens that it reads as before each word.
+    pub fn skip(&mut self, front: &str) -> bool
+        ensures file { self.new.whole ≡ self.old.whole }
+        ensures fewer { length self.new.rest ≤ length self.old.rest }
+        ensures passed { IsTrue result → (xs : List Lexeme) → ReadsBeforeWords (chars front.now) xs
+            → (ls : List Leaf) → AreLeft self.new ls
+            → AreLeft self.old (leaves (length self.old.whole - length self.old.rest) xs ++ ls) }
+        ensures kept { IsFalse result → self.new ≡ self.old }
+    {
+        let Some(rest) = self.rest.strip_prefix(front) else {
+            return false;
+        };
+        if !begins_with_word(rest) {
+            return false;
+        }
+        self.rest = rest;
+        true
     }
 
     /// Returns the next token without reading it, or `None` if none is left.

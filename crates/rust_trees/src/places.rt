@@ -139,7 +139,7 @@ fn add_known(
 #[derive(Drop)]
 pub struct Places<'a> {
     text: &'a str,
-    known: Vec<KnownPlace>,
+    known_places: Vec<KnownPlace>,
 }
 
 impl<'a> Model for Places<'a> {
@@ -151,7 +151,7 @@ impl<'a> Model for Places<'a> {
 
     ghost view = { λ p. p.text.now };
 
-    ghost invariant = { λ p. All (IsKnown p.text.now) p.known.items };
+    ghost invariant = { λ p. All (IsKnown p.text.now) p.known_places.items };
 }
 
 impl<'a> Places<'a> {
@@ -159,11 +159,15 @@ impl<'a> Places<'a> {
     pub fn new(alloc: Global, text: &'a str) -> Result<Self, AllocError>
         ensures { IfOk result (λ p. p ≡ text.now) }
     {
-        let mut known = Vec::new(alloc);
+        let mut known_places = Vec::new(alloc);
         for step in 1..=text.len() / STEP {
-            add_known(&mut known, text, text.floor_char_boundary(step * STEP))?;
+            add_known(
+                &mut known_places,
+                text,
+                text.floor_char_boundary(step * STEP),
+            )?;
         }
-        Ok(Places { text, known })
+        Ok(Places { text, known_places })
     }
 
     /// Returns the place of a byte offset at which a character of the text starts, or at its end.
@@ -171,6 +175,6 @@ impl<'a> Places<'a> {
         requires { IsCharBoundary self.now offset }
         ensures { result ≡ place_of self.now offset }
     {
-        place_from(self.text, &self.known, offset)
+        place_from(self.text, &self.known_places, offset)
     }
 }

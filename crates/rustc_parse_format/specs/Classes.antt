@@ -7,8 +7,8 @@ use Rattle.rustc_parse_format.specs.declared.characters.Class.TheVariants.{Text,
 use Rattle.rustc_parse_format.specs.declared.characters.Class.TheVariants.{Plain, Unchanged}
 use Rattle.rustc_parse_format.specs.Characters.{is_id_continue, is_in_line, is_no_brace}
 use Rattle.rustc_parse_format.specs.LiteralUnits.{is_plain}
-use Rattle.rustc_parse_format.specs.SeenSource.{is_unescaped}
-use Rattle.rustc_parse_format.specs.Written.{is_unchanged}
+use Rattle.rustc_parse_format.specs.SourceViews.{is_unescaped}
+use Rattle.rustc_parse_format.specs.Escaping.{is_unchanged}
 
 -- The test that a class stands for.
 abbrev pub passes : Class → ℕ → Bool

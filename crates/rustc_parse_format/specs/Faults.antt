@@ -6,7 +6,7 @@ use Rattle.std.specs.Prelude.{◌≡◌, ℕ, Bool, true, false, ◌++◌, ◌==
 use Rattle.std.specs.Prelude.{Option, Some, None, option_map, codes, encode_utf8}
 use Rattle.std.specs.Prelude.{encode_utf8_all}
 use Rattle.rustc_parse_format.specs.Characters.{Text}
-use Rattle.rustc_parse_format.specs.Written.{written_character}
+use Rattle.rustc_parse_format.specs.Escaping.{written_character}
 
 pub data Fault (Span : Type 0) : Type 0 where
   -- A closing brace that closes nothing.

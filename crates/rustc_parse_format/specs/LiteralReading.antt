@@ -11,7 +11,7 @@ use Rattle.rustc_parse_format.specs.World.{foreign_end}
 use Rattle.rustc_parse_format.specs.LiteralUnits.{LiteralUnit, is_plain}
 use Rattle.rustc_parse_format.specs.Literal.{units, content_value, placed_characters, IsSource}
 use Rattle.rustc_parse_format.specs.Source.{HasSource}
-use Rattle.rustc_parse_format.specs.Seen.{pair}
+use Rattle.rustc_parse_format.specs.Views.{pair}
 
 -- Characters with their places, as a contract sees them.
 abbrev pub seen_characters : List ContentCharacter → List (Place × ℕ)

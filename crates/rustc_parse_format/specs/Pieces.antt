@@ -5,7 +5,7 @@ use Rattle.std.specs.declared.alloc.AllocError.{AllocError}
 use Rattle.std.specs.Borrow.{GName}
 use Rattle.rustc_parse_format.specs.declared.pieces.Pieces.{Pieces}
 use Rattle.rustc_parse_format.specs.declared.types.Piece.{Piece as DeclaredPiece}
-use Rattle.rustc_parse_format.specs.Seen.{seen_piece}
+use Rattle.rustc_parse_format.specs.Views.{seen_piece}
 use Rattle.rustc_parse_format.specs.State.{State, IsPutBack, NeedsNoMemory, state_after, next_call}
 use Rattle.rustc_parse_format.specs.Steps.{AreFew}
 use Rattle.rustc_parse_format.specs.World.{piece_in}
@@ -44,7 +44,7 @@ pub record GivesItem (old : Pieces) (item : Option (Result DeclaredPiece AllocEr
     (new : Pieces) : Type 0 where
   pub called : has_ended old ≡ false → IsCall (parser_of old) item (parser_of new)
   pub few : has_ended old ≡ false
-      → AreFew (parser_of new).input (parser_of new).rest (parser_of new).back
+      → AreFew (parser_of new).input (parser_of new).rest (parser_of new).rewinds
   pub ended : has_ended old ≡ true → (item ≡ None) × (parser_of new ≡ parser_of old)
   pub goes_on : has_ended new ≡ not (is_piece item)
   pub same_parser : lender_of new ≡ lender_of old

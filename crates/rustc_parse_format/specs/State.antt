@@ -2,7 +2,7 @@
 use Rattle.std.specs.Prelude.{◌≡◌, ◌++◌, ◌&&◌, ℕ, ◌-◌, Bool, false, if◌then◌else◌, List, [], ◌∷◌}
 use Rattle.std.specs.Prelude.{length, Option, Some, None, option_map}
 use Rattle.rustc_parse_format.specs.Characters.{Text, byte_length, is_nil}
-use Rattle.rustc_parse_format.specs.Back.{Back, nothing_back}
+use Rattle.rustc_parse_format.specs.Rewinds.{Rewinds, nothing_back}
 use Rattle.rustc_parse_format.specs.Tries.{back_after}
 use Rattle.rustc_parse_format.specs.Types.{Mode, Piece, bare_piece}
 use Rattle.rustc_parse_format.specs.Faults.{Message, add_errors}
@@ -29,7 +29,7 @@ pub record State : Type 0 where
   -- The rest of the input.
   pub rest : Text
   -- The characters that were given back, to be read again.
-  pub back : Back
+  pub rewinds : Rewinds
   -- The number of times that the cursor was put back after an allocation failure. The steps of such
   -- a call do not count.
   pub undo_count : ℕ
@@ -50,7 +50,7 @@ fresh_state mode w input start = record {
   world = w;
   input = input;
   rest = input;
-  back = nothing_back input;
+  rewinds = nothing_back input;
   undo_count = 0;
   next = 0;
   errors = [];
@@ -86,7 +86,7 @@ state_after s k =
     let lines = lines_in s.world s.line_start k.texts in
     record s {
       rest = k.rest;
-      back = back_after s.back k.tries;
+      rewinds = back_after s.rewinds k.tries;
       next = k.next;
       errors = add_errors s.errors (faults_in s.world k.faults);
       arg_places = s.arg_places ++ closed_places s.world k.closes;

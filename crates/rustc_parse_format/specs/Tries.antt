@@ -3,7 +3,7 @@
 use Rattle.std.specs.Prelude.{◌++◌, if◌then◌else◌, List, [], ◌∷◌}
 use Rattle.rustc_parse_format.specs.Characters.{Text, after_first, after_word, first_passes}
 use Rattle.rustc_parse_format.specs.Characters.{is_id_start}
-use Rattle.rustc_parse_format.specs.Back.{Back, given_back}
+use Rattle.rustc_parse_format.specs.Rewinds.{Rewinds, given_back}
 use Rattle.rustc_parse_format.specs.Syntax.{CountText, NoCount, WidthText, PaddedWidth}
 use Rattle.rustc_parse_format.specs.Syntax.{ZeroIndexWidth, PlainWidth, PrecisionText, NoPrecision}
 use Rattle.rustc_parse_format.specs.Syntax.{StarPrecision, DotPrecision, FormatText, SpecText}
@@ -11,7 +11,7 @@ use Rattle.rustc_parse_format.specs.Syntax.{Formatting}
 use Rattle.rustc_parse_format.specs.Meaning.{from_width, from_precision}
 
 -- The characters that have been given back after these words, one after the other.
-abbrev pub back_after : Back → List Text → Back
+abbrev pub back_after : Rewinds → List Text → Rewinds
 back_after b [] = b
 back_after b (t ∷ ts) = back_after (given_back (after_word t) t b) ts
 

@@ -16,10 +16,10 @@ impl<'input> Reader<'input> {
     ghost use Rattle.rustc_parse_format.specs.Faults.{brace_fill, no_brace};
     ghost use Rattle.rustc_parse_format.specs.Marks.{End, Span, over_first, up_to};
     ghost use Rattle.rustc_parse_format.specs.Reads.{Reaches};
-    ghost use Rattle.rustc_parse_format.specs.Seen.{pair, seen_piece, seen_argument, seen_mode};
-    ghost use Rattle.rustc_parse_format.specs.Seen.{seen_position, seen_spec, seen_taken};
-    ghost use Rattle.rustc_parse_format.specs.Midway.{FindsNothing, after_closing};
-    ghost use Rattle.rustc_parse_format.specs.Midway.{opens_placeholder, read_call};
+    ghost use Rattle.rustc_parse_format.specs.Views.{pair, seen_piece, seen_argument, seen_mode};
+    ghost use Rattle.rustc_parse_format.specs.Views.{seen_position, seen_spec, seen_taken};
+    ghost use Rattle.rustc_parse_format.specs.CallStates.{FindsNothing, after_closing};
+    ghost use Rattle.rustc_parse_format.specs.CallStates.{opens_placeholder, read_call};
     ghost use Rattle.rustc_parse_format.specs.Types.{Argument as ArgumentValue, Implicit, Lit};
     ghost use Rattle.rustc_parse_format.specs.Types.{Mode, NextArgument, default_spec};
     ghost use Rattle.rustc_parse_format.specs.Types.{map_argument};

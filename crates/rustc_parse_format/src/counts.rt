@@ -18,12 +18,12 @@ impl<'input> Reader<'input> {
     ghost use Rattle.rustc_parse_format.specs.PartFaults.{argument_faults, number_faults};
     ghost use Rattle.rustc_parse_format.specs.PartFaults.{precision_faults, width_faults};
     ghost use Rattle.rustc_parse_format.specs.PartFaults.{word_faults};
-    ghost use Rattle.rustc_parse_format.specs.Seen.{pair, seen_count, seen_spec};
+    ghost use Rattle.rustc_parse_format.specs.Views.{pair, seen_count, seen_spec};
     ghost use Rattle.rustc_parse_format.specs.Reads.{ReadsTo};
     ghost use Rattle.rustc_parse_format.specs.Tries.{count_tries, precision_tries, width_tries};
     ghost use Rattle.rustc_parse_format.specs.Types.{Implied, map_count};
     ghost use Rattle.rustc_parse_format.specs.Values.{is_padded, number_after_precision};
-    ghost use Rattle.rustc_parse_format.specs.Back.{IsFurthest};
+    ghost use Rattle.rustc_parse_format.specs.Rewinds.{IsFurthest};
     ghost use Rattle.rustc_parse_format.specs.World.{place_of};
 
     /// Reads the ASCII digits at the cursor, if any, and returns their value modulo 65536. A value
@@ -65,7 +65,7 @@ impl<'input> Reader<'input> {
     #[inline(always)]
     fn named_count(&mut self, slot: &mut Count<'input>) -> Result<(), AllocError>
         requires blank { seen_count slot.old ≡ Implied }
-        requires furthest { IsFurthest self.old.rest self.old.back }
+        requires furthest { IsFurthest self.old.rest self.old.rewinds }
         requires word { first_passes is_id_start self.old.rest ≡ true }
         ensures value { (let t = self.old.rest in let k = after_name t (word t) (after_word t) in
             OnOk result (seen_count slot.new
@@ -93,7 +93,7 @@ impl<'input> Reader<'input> {
     #[inline(always)]
     pub fn count(&mut self, slot: &mut Count<'input>) -> Result<(), AllocError>
         requires blank { seen_count slot.old ≡ Implied }
-        requires furthest { IsFurthest self.old.rest self.old.back }
+        requires furthest { IsFurthest self.old.rest self.old.rewinds }
         ensures value { (let k = count self.old.rest in OnOk result (seen_count slot.new
             ≡ map_count (place_of self.old.world) (count_of self.old.rest k.0 k.1))) }
         ensures reads { (let k = count self.old.rest in
@@ -122,7 +122,7 @@ impl<'input> Reader<'input> {
     fn width_count(&mut self, format: &mut FormatSpec<'input>) -> Result<(), AllocError>
         requires width { seen_count format.old.width ≡ Implied }
         requires span { option_map pair format.old.width_span ≡ None }
-        requires furthest { IsFurthest self.old.rest self.old.back }
+        requires furthest { IsFurthest self.old.rest self.old.rewinds }
         ensures value { (let t = self.old.rest in let k = count t in
             OnOk result (seen_spec format.new ≡ record (seen_spec format.old) {
               width = map_count (place_of self.old.world) (count_of t k.0 k.1);
@@ -152,7 +152,7 @@ impl<'input> Reader<'input> {
         requires zero_pad { format.old.zero_pad ≡ false }
         requires width { seen_count format.old.width ≡ Implied }
         requires span { option_map pair format.old.width_span ≡ None }
-        requires furthest { IsFurthest self.old.rest self.old.back }
+        requires furthest { IsFurthest self.old.rest self.old.rewinds }
         ensures value { (let t = self.old.rest in let w = width t in
             OnOk result (seen_spec format.new ≡ record (seen_spec format.old) {
               zero_pad = is_padded w.0;

@@ -17,11 +17,11 @@ pub struct Cursor<'input> {
 }
 
 impl<'input> Model for Cursor<'input> {
-    ghost use Rattle.rustc_parse_format.specs.Midway.{IsCounted, Unread, back_at, unread_at};
-    ghost use Rattle.rustc_parse_format.specs.SeenSource.{IsAnchored};
+    ghost use Rattle.rustc_parse_format.specs.CallStates.{IsCounted, Remainder, back_at, unread_at};
+    ghost use Rattle.rustc_parse_format.specs.SourceViews.{IsAnchored};
     ghost use Rattle.std.specs.Prelude.{chars};
 
-    ghost Value = { Unread };
+    ghost Value = { Remainder };
 
     // The view shows the number of characters passed plus that of those left, less the length of
     // the input. So a move that is not counted changes the view.
@@ -43,13 +43,13 @@ impl<'input> Cursor<'input> {
     ghost use Rattle.rustc_parse_format.specs.Characters.{is_id_start, first_passes};
     ghost use Rattle.std.specs.Char.{is_ascii_digit};
     ghost use Rattle.rustc_parse_format.specs.Marks.{Start, End};
-    ghost use Rattle.rustc_parse_format.specs.Seen.{pair};
-    ghost use Rattle.rustc_parse_format.specs.Midway.{IsCounted, IsPastIndent, back_at};
-    ghost use Rattle.rustc_parse_format.specs.Midway.{opens_placeholder, unread_at};
-    ghost use Rattle.rustc_parse_format.specs.SeenSource.{IsKept, IsAnchored};
+    ghost use Rattle.rustc_parse_format.specs.Views.{pair};
+    ghost use Rattle.rustc_parse_format.specs.CallStates.{IsCounted, IsPastIndent, back_at};
+    ghost use Rattle.rustc_parse_format.specs.CallStates.{opens_placeholder, unread_at};
+    ghost use Rattle.rustc_parse_format.specs.SourceViews.{IsKept, IsAnchored};
     ghost use Rattle.rustc_parse_format.specs.State.{first_of};
-    ghost use Rattle.rustc_parse_format.specs.Back.{IsFurthest, after_part, given_back};
-    ghost use Rattle.rustc_parse_format.specs.Back.{nothing_back};
+    ghost use Rattle.rustc_parse_format.specs.Rewinds.{IsFurthest, after_part, given_back};
+    ghost use Rattle.rustc_parse_format.specs.Rewinds.{nothing_back};
     ghost use Rattle.rustc_parse_format.specs.Steps.{AreFew};
     ghost use Rattle.rustc_parse_format.specs.World.{number_of, place_at};
 
@@ -91,8 +91,8 @@ impl<'input> Cursor<'input> {
     /// Proves that the cursor has made few steps, at most two for each character of the input. Does
     /// nothing when the program runs.
     pub fn steps_are_few(&self)
-        ensures few { AreFew self.now.input self.now.rest self.now.back }
-        ensures word { after_part self.now.rest ≤ self.now.back.left }
+        ensures few { AreFew self.now.input self.now.rest self.now.rewinds }
+        ensures word { after_part self.now.rest ≤ self.now.rewinds.left }
     {
         let _rest = self.lookahead.next();
     }
@@ -144,11 +144,11 @@ impl<'input> Cursor<'input> {
     /// which counts as new steps.
     pub fn rewind(&mut self, checkpoint: Checkpoint<'input>)
         requires anchored { IsAnchored self.old.source checkpoint.rest.text.now checkpoint.anchor }
-        requires furthest { IsFurthest (chars checkpoint.rest.text.now) self.old.back }
+        requires furthest { IsFurthest (chars checkpoint.rest.text.now) self.old.rewinds }
         requires earlier { length self.old.rest ≤ length (chars checkpoint.rest.text.now) }
         requires word { after_part (chars checkpoint.rest.text.now) ≤ length self.old.rest }
         ensures { self.new ≡ unread_at self.old.source checkpoint.entry.rest.text.now
-            (given_back self.old.rest (chars checkpoint.entry.rest.text.now) self.old.back)
+            (given_back self.old.rest (chars checkpoint.entry.rest.text.now) self.old.rewinds)
             self.old.undo_count }
     {
         self.anchor = checkpoint.anchor;

@@ -3,8 +3,8 @@
 ghost use Rattle.std.specs.Prelude.{◌≡◌, ◌+◌, ◌≤◌, ◌++◌, ◌∷◌, [], None, OnErr, OnOk};
 ghost use Rattle.std.specs.Prelude.{drop, length, map, take};
 ghost use Rattle.rustc_parse_format.specs.Faults.{error, message};
-ghost use Rattle.rustc_parse_format.specs.Seen.{seen_error};
-ghost use Rattle.rustc_parse_format.specs.SeenFaults.{seen_fault};
+ghost use Rattle.rustc_parse_format.specs.Views.{seen_error};
+ghost use Rattle.rustc_parse_format.specs.FaultViews.{seen_fault};
 
 use crate::faults::Fault;
 use crate::messages::set_error;
@@ -25,7 +25,7 @@ pub struct ErrorList {
 impl Model for ErrorList {
     ghost use Rattle.std.specs.Prelude.{◌≤◌, [], List, drop, length, map, option_map, unwrap_or};
     ghost use Rattle.rustc_parse_format.specs.Faults.{Message};
-    ghost use Rattle.rustc_parse_format.specs.Seen.{seen_error};
+    ghost use Rattle.rustc_parse_format.specs.Views.{seen_error};
     ghost use Rattle.rustc_parse_format.specs.World.{Place};
 
     ghost Value = { List (Message Place) };
@@ -54,8 +54,8 @@ pub fn empty_error(alloc: Global) -> ParseError
 impl Fault<'_> {
     ghost use Rattle.std.specs.Prelude.{◌≡◌, IfOk};
     ghost use Rattle.rustc_parse_format.specs.Faults.{message};
-    ghost use Rattle.rustc_parse_format.specs.Seen.{seen_error};
-    ghost use Rattle.rustc_parse_format.specs.SeenFaults.{seen_fault};
+    ghost use Rattle.rustc_parse_format.specs.Views.{seen_error};
+    ghost use Rattle.rustc_parse_format.specs.FaultViews.{seen_fault};
 
     /// Returns the error of the fault, as a parser has it in its list. Returns `Err` if an
     /// allocation fails.

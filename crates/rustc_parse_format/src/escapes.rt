@@ -2,8 +2,8 @@
 
 ghost use Rattle.std.specs.Prelude.{◌≡◌, ◌≤◌, ◌++◌, OnErr, OnOk, chars, flat_map, length};
 ghost use Rattle.std.specs.Prelude.{option_map, string_bytes};
-ghost use Rattle.rustc_parse_format.specs.Written.{plainly_written, short_escape};
-ghost use Rattle.rustc_parse_format.specs.Written.{written_character};
+ghost use Rattle.rustc_parse_format.specs.Escaping.{plainly_written, short_escape};
+ghost use Rattle.rustc_parse_format.specs.Escaping.{written_character};
 
 use crate::characters::Class;
 use crate::literal::Rest;
@@ -44,7 +44,7 @@ fn put_plainly_written(out: &mut String, c: char) -> Result<(), AllocError>
 
 /// Appends a character, escaped if it has an escape or is an ASCII control character. Returns `Err`
 /// if an allocation fails, and `out` is then unchanged.
-#[tactic(auto, unfolding(crate::specs::Written::written_character))]
+#[tactic(auto, unfolding(crate::specs::Escaping::written_character))]
 pub fn put_written(out: &mut String, c: char) -> Result<(), AllocError>
     ensures ok { OnOk result (string_bytes out.new ≡ string_bytes out.old ++ written_character c) }
     ensures err { OnErr result (string_bytes out.new ≡ string_bytes out.old) }

@@ -2,7 +2,7 @@
 
 ghost use Rattle.std.specs.Prelude.{◌≡◌};
 ghost use Rattle.rustc_parse_format.specs.FaultIds.{fault_id};
-ghost use Rattle.rustc_parse_format.specs.SeenFaults.{seen_fault};
+ghost use Rattle.rustc_parse_format.specs.FaultViews.{seen_fault};
 
 use crate::faults::Fault;
 
@@ -36,7 +36,7 @@ impl Fault<'_> {
     ghost use Rattle.std.specs.Prelude.{◌≡◌};
     ghost use Rattle.rustc_parse_format.specs.FaultIds.{fault_id, kind};
     ghost use Rattle.rustc_parse_format.specs.Faults.{Fault as FaultValue};
-    ghost use Rattle.rustc_parse_format.specs.SeenFaults.{seen_fault};
+    ghost use Rattle.rustc_parse_format.specs.FaultViews.{seen_fault};
     ghost use Rattle.rustc_parse_format.specs.World.{Place};
 
     /// Returns the id of the fault in kebab case, such as `missing-closing-brace`: the same for all

@@ -3,7 +3,7 @@
 ghost use Rattle.std.specs.Prelude.{◌≡◌, ◌↔◌, ◌<◌, ◌^◌, ◌++◌, ◌∷◌, [], IsOk, IsTrue, MatchOption};
 ghost use Rattle.std.specs.Prelude.{◌+◌, OnErr, OnOk, drop, length, map, take};
 ghost use Rattle.rustc_parse_format.specs.Faults.{is_front};
-ghost use Rattle.rustc_parse_format.specs.SeenFaults.{seen_fault};
+ghost use Rattle.rustc_parse_format.specs.FaultViews.{seen_fault};
 
 use std::alloc::{AllocError, Global};
 use std::marker::Model;
@@ -93,7 +93,7 @@ pub struct Faults<'input> {
 impl<'input> Model for Faults<'input> {
     ghost use Rattle.std.specs.Prelude.{◌≡◌, [], IsNone, List};
     ghost use Rattle.rustc_parse_format.specs.Faults.{Fault};
-    ghost use Rattle.rustc_parse_format.specs.SeenFaults.{seen_faults};
+    ghost use Rattle.rustc_parse_format.specs.FaultViews.{seen_faults};
     ghost use Rattle.rustc_parse_format.specs.World.{Place};
 
     ghost Value = { List (Fault Place) };

@@ -15,10 +15,10 @@ ghost use Rattle.rustc_parse_format.specs.KnownTexts.{IsTextInArgument, IsTextIn
 ghost use Rattle.rustc_parse_format.specs.KnownTexts.{IsTextInPiece, IsTextInPosition};
 ghost use Rattle.rustc_parse_format.specs.KnownTexts.{IsTextInSpec};
 ghost use Rattle.rustc_parse_format.specs.Types.{Implied, Unknown, default_spec};
-ghost use Rattle.rustc_parse_format.specs.Seen.{seen_piece, seen_alignment, seen_argument};
-ghost use Rattle.rustc_parse_format.specs.Seen.{seen_count};
-ghost use Rattle.rustc_parse_format.specs.Seen.{seen_debug_hex, seen_mode, seen_position};
-ghost use Rattle.rustc_parse_format.specs.Seen.{seen_sign, seen_spec};
+ghost use Rattle.rustc_parse_format.specs.Views.{seen_piece, seen_alignment, seen_argument};
+ghost use Rattle.rustc_parse_format.specs.Views.{seen_count};
+ghost use Rattle.rustc_parse_format.specs.Views.{seen_debug_hex, seen_mode, seen_position};
+ghost use Rattle.rustc_parse_format.specs.Views.{seen_sign, seen_spec};
 
 use crate::types::{
     Alignment, Argument, Count, DebugHex, FormatSpec, ParseMode, Piece, PieceKind, Position, Sign,

@@ -6,9 +6,9 @@ ghost use Rattle.std.specs.Prelude.{length, map, option_map, take};
 ghost use Rattle.std.specs.List.{filter};
 ghost use Rattle.rustc_parse_format.specs.Faults.{add_errors, is_front};
 ghost use Rattle.rustc_parse_format.specs.Lines.{ends_with, place_list};
-ghost use Rattle.rustc_parse_format.specs.Midway.{HasFoundNothing};
-ghost use Rattle.rustc_parse_format.specs.Seen.{pair};
-ghost use Rattle.rustc_parse_format.specs.SeenFaults.{seen_fault};
+ghost use Rattle.rustc_parse_format.specs.CallStates.{HasFoundNothing};
+ghost use Rattle.rustc_parse_format.specs.Views.{pair};
+ghost use Rattle.rustc_parse_format.specs.FaultViews.{seen_fault};
 
 use crate::error_list::ErrorList;
 use crate::faults::{Fault, Faults};

@@ -8,8 +8,8 @@ ghost use Rattle.std.specs.Prelude.{chars, codes, encode_utf8_all, string_bytes}
 ghost use Rattle.rustc_parse_format.specs.Faults.{align_after, debug_after, error, expected_brace};
 ghost use Rattle.rustc_parse_format.specs.Faults.{local_variable, message, out_of_range};
 ghost use Rattle.rustc_parse_format.specs.Faults.{UsePositional, with_suggestion};
-ghost use Rattle.rustc_parse_format.specs.Seen.{pair, seen_error};
-ghost use Rattle.rustc_parse_format.specs.SeenFaults.{seen_fault};
+ghost use Rattle.rustc_parse_format.specs.Views.{pair, seen_error};
+ghost use Rattle.rustc_parse_format.specs.FaultViews.{seen_fault};
 
 use crate::escapes::put_written;
 use crate::faults::Fault;
@@ -174,8 +174,8 @@ fn set_field_error(
 impl Fault<'_> {
     ghost use Rattle.std.specs.Prelude.{◌≡◌, IfOk};
     ghost use Rattle.rustc_parse_format.specs.Faults.{message};
-    ghost use Rattle.rustc_parse_format.specs.Seen.{seen_suggestion};
-    ghost use Rattle.rustc_parse_format.specs.SeenFaults.{seen_fault};
+    ghost use Rattle.rustc_parse_format.specs.Views.{seen_suggestion};
+    ghost use Rattle.rustc_parse_format.specs.FaultViews.{seen_fault};
 
     /// Returns the suggestion of the fault's error, and makes none of the error's other texts.
     /// Returns `Err` if an allocation fails.

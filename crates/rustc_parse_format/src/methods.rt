@@ -2,7 +2,7 @@
 //! argument, and whether it is an identifier.
 
 ghost use Rattle.std.specs.Prelude.{◌≡◌};
-ghost use Rattle.rustc_parse_format.specs.Seen.{index_of, pair, seen_position, seen_spec};
+ghost use Rattle.rustc_parse_format.specs.Views.{index_of, pair, seen_position, seen_spec};
 ghost use Rattle.rustc_parse_format.specs.Types.{Implicit, default_spec};
 
 use crate::laws::{clone_of_argument, default_of_spec, specs_are_equal};
@@ -11,7 +11,7 @@ use std::alloc::{AllocError, Global};
 
 impl<'input> Piece<'input> {
     ghost use Rattle.std.specs.Prelude.{IfOk, IsOk};
-    ghost use Rattle.rustc_parse_format.specs.Seen.{seen_piece};
+    ghost use Rattle.rustc_parse_format.specs.Views.{seen_piece};
     ghost use Rattle.rustc_parse_format.specs.Types.{IsText};
 
     /// Returns a clone of the piece, with all its spans. Only a placeholder allocates, with
@@ -45,7 +45,7 @@ impl Position<'_> {
 impl Argument<'_> {
     ghost use Rattle.std.specs.Prelude.{◌↔◌, IsTrue};
     ghost use Rattle.rustc_parse_format.specs.Identifiers.{IsIdentifier};
-    ghost use Rattle.rustc_parse_format.specs.Seen.{seen_argument};
+    ghost use Rattle.rustc_parse_format.specs.Views.{seen_argument};
 
     /// Returns whether the argument is a name and nothing else: its format is the default, without
     /// any span.

@@ -29,9 +29,9 @@ pub struct Parser<'input> {
 
 impl<'input> Model for Parser<'input> {
     ghost use Rattle.std.specs.Prelude.{◌+◌, ◌<◌, ◌^◌, length};
-    ghost use Rattle.rustc_parse_format.specs.Midway.{HasFoundNothing};
+    ghost use Rattle.rustc_parse_format.specs.CallStates.{HasFoundNothing};
     ghost use Rattle.rustc_parse_format.specs.State.{State};
-    ghost use Rattle.rustc_parse_format.specs.Seen.{seen_mode};
+    ghost use Rattle.rustc_parse_format.specs.Views.{seen_mode};
 
     ghost Value = { State };
 
@@ -40,7 +40,7 @@ impl<'input> Model for Parser<'input> {
       world = p.reader.world;
       input = p.reader.input;
       rest = p.reader.rest;
-      back = p.reader.back;
+      rewinds = p.reader.rewinds;
       undo_count = p.reader.undo_count;
       next = p.reader.next;
       errors = p.lists.errors;
@@ -68,8 +68,8 @@ impl<'input> Parser<'input> {
     ghost use Rattle.rustc_parse_format.specs.Grammar.{Begins};
     ghost use Rattle.rustc_parse_format.specs.Meaning.{argument};
     ghost use Rattle.rustc_parse_format.specs.Types.{NextArgument, Piece as BarePiece, bare_piece};
-    ghost use Rattle.rustc_parse_format.specs.Seen.{pair, seen_piece, seen_error, seen_mode};
-    ghost use Rattle.rustc_parse_format.specs.Seen.{seen_snippet, seen_taken};
+    ghost use Rattle.rustc_parse_format.specs.Views.{pair, seen_piece, seen_error, seen_mode};
+    ghost use Rattle.rustc_parse_format.specs.Views.{seen_snippet, seen_taken};
     ghost use Rattle.rustc_parse_format.specs.Literal.{IsSource};
     ghost use Rattle.rustc_parse_format.specs.Source.{HasSource};
     ghost use Rattle.rustc_parse_format.specs.State.{AddsNothing, ComesFrom, GivesPiece, IsPutBack};
@@ -139,7 +139,7 @@ impl<'input> Parser<'input> {
     /// its position and its furthest position add up to, and so at most two for each character of
     /// the input. Changes nothing.
     pub(super) fn steps_are_few(&self)
-        ensures { AreFew self.now.input self.now.rest self.now.back }
+        ensures { AreFew self.now.input self.now.rest self.now.rewinds }
     {
         self.reader.cursor.steps_are_few();
     }
@@ -235,7 +235,7 @@ impl<'input> Parser<'input> {
         ensures short { length self.new.rest ≤ length self.old.rest }
 
         // After any calls the parser took few steps: at most two for each character of the input.
-        ensures few { AreFew self.new.input self.new.rest self.new.back }
+        ensures few { AreFew self.new.input self.new.rest self.new.rewinds }
     {
         self.reads_its_input();
         self.step()
@@ -260,7 +260,7 @@ impl<'input> Parser<'input> {
         ensures state { OnOk result (self.new ≡ state_after self.old (next_call self.old)) }
         ensures err { OnErr result (IsPutBack self.old self.new) }
         ensures spare { AddsNothing self.old (next_call self.old) → IsOk result }
-        ensures few { AreFew self.new.input self.new.rest self.new.back }
+        ensures few { AreFew self.new.input self.new.rest self.new.rewinds }
     {
         self.steps_are_few();
         if self.reader.is_at_end() {

@@ -23,7 +23,7 @@ impl<'input> Parser<'input> {
     ghost use Rattle.rustc_parse_format.specs.declared.types.Piece.{Piece as DeclaredPiece};
     ghost use Rattle.rustc_parse_format.specs.Call.{pieces_of};
     ghost use Rattle.rustc_parse_format.specs.Pieces.{GivesItem, has_ended, lender_of, parser_of};
-    ghost use Rattle.rustc_parse_format.specs.Seen.{seen_piece};
+    ghost use Rattle.rustc_parse_format.specs.Views.{seen_piece};
     ghost use Rattle.rustc_parse_format.specs.State.{after_all, calls};
     ghost use Rattle.rustc_parse_format.specs.World.{pieces_in};
 

@@ -1,7 +1,7 @@
 //! Reads a placeholder after its opening brace: its position and its specification.
 
 ghost use Rattle.std.specs.Prelude.{◌≡◌};
-ghost use Rattle.rustc_parse_format.specs.Seen.{seen_position, seen_spec};
+ghost use Rattle.rustc_parse_format.specs.Views.{seen_position, seen_spec};
 ghost use Rattle.rustc_parse_format.specs.Types.{Implicit, default_spec};
 
 use crate::faults::Fault;
@@ -20,10 +20,10 @@ impl<'input> Reader<'input> {
     ghost use Rattle.rustc_parse_format.specs.Marks.{up_to};
     ghost use Rattle.rustc_parse_format.specs.PartFaults.{cut_faults, name_faults, position_faults};
     ghost use Rattle.rustc_parse_format.specs.Placeholder.{cut, position};
-    ghost use Rattle.rustc_parse_format.specs.Seen.{pair, seen_argument, seen_mode, seen_position};
-    ghost use Rattle.rustc_parse_format.specs.Seen.{seen_spec};
-    ghost use Rattle.rustc_parse_format.specs.Midway.{FindsNothing, read_texts, read_to};
-    ghost use Rattle.rustc_parse_format.specs.Midway.{read_tries};
+    ghost use Rattle.rustc_parse_format.specs.Views.{pair, seen_argument, seen_mode, seen_position};
+    ghost use Rattle.rustc_parse_format.specs.Views.{seen_spec};
+    ghost use Rattle.rustc_parse_format.specs.CallStates.{FindsNothing, read_texts, read_to};
+    ghost use Rattle.rustc_parse_format.specs.CallStates.{read_tries};
     ghost use Rattle.rustc_parse_format.specs.Reads.{Reaches, ReadsTo};
     ghost use Rattle.rustc_parse_format.specs.Syntax.{NoPosition, PositionText};
     ghost use Rattle.rustc_parse_format.specs.Tries.{spec_tries};

@@ -2,7 +2,7 @@
 
 ghost use Rattle.std.specs.Prelude.{◌≡◌, ◌↔◌, ◌++◌, ◌∷◌, [], IfOk, IsTrue, OnErr, OnOk};
 ghost use Rattle.std.specs.Prelude.{length, map, take};
-ghost use Rattle.rustc_parse_format.specs.Seen.{pair};
+ghost use Rattle.rustc_parse_format.specs.Views.{pair};
 
 use std::alloc::{AllocError, Global};
 use std::marker::Model;
@@ -21,7 +21,7 @@ pub struct RangeList {
 
 impl Model for RangeList {
     ghost use Rattle.std.specs.Prelude.{◌≡◌, ◌≢◌, ◌≤◌, ◌++◌, [], List, length, map, take};
-    ghost use Rattle.rustc_parse_format.specs.Seen.{pair};
+    ghost use Rattle.rustc_parse_format.specs.Views.{pair};
     ghost use Rattle.rustc_parse_format.specs.World.{Place};
 
     ghost Value = { List Place };

@@ -6,14 +6,15 @@ ghost use Rattle.std.specs.Prelude.{IfOk, IsOk, IsTrue, None, OnErr, OnOk, Some,
 ghost use Rattle.std.specs.Prelude.{map, option_map, take};
 ghost use Rattle.rustc_parse_format.specs.Characters.{rest_after, after_first, first, front};
 ghost use Rattle.rustc_parse_format.specs.Characters.{is_in_line, is_no_brace, with_first};
-ghost use Rattle.rustc_parse_format.specs.Midway.{HasFoundNothing, IsCounted, IsInOneLine};
-ghost use Rattle.rustc_parse_format.specs.Midway.{IsPastIndent, back_at, midway, passed_next};
-ghost use Rattle.rustc_parse_format.specs.Midway.{read_run, unread_at};
+ghost use Rattle.rustc_parse_format.specs.CallStates.{HasFoundNothing, IsCounted, IsInOneLine};
+ghost use Rattle.rustc_parse_format.specs.CallStates.{IsPastIndent, back_at, call_state};
+ghost use Rattle.rustc_parse_format.specs.CallStates.{passed_next};
+ghost use Rattle.rustc_parse_format.specs.CallStates.{read_run, unread_at};
 ghost use Rattle.rustc_parse_format.specs.Marks.{Start};
 ghost use Rattle.rustc_parse_format.specs.Reads.{Reaches};
-ghost use Rattle.rustc_parse_format.specs.Seen.{pair};
-ghost use Rattle.rustc_parse_format.specs.SeenFaults.{seen_fault};
-ghost use Rattle.rustc_parse_format.specs.SeenSource.{IsAnchored};
+ghost use Rattle.rustc_parse_format.specs.Views.{pair};
+ghost use Rattle.rustc_parse_format.specs.FaultViews.{seen_fault};
+ghost use Rattle.rustc_parse_format.specs.SourceViews.{IsAnchored};
 ghost use Rattle.rustc_parse_format.specs.World.{number_of};
 
 use crate::characters::Class;
@@ -43,12 +44,12 @@ pub struct Reader<'input> {
 
 impl<'input> Model for Reader<'input> {
     ghost use Rattle.std.specs.Prelude.{map, option_map};
-    ghost use Rattle.rustc_parse_format.specs.Midway.{Midway, midway};
-    ghost use Rattle.rustc_parse_format.specs.Seen.{pair};
+    ghost use Rattle.rustc_parse_format.specs.CallStates.{CallState, call_state};
+    ghost use Rattle.rustc_parse_format.specs.Views.{pair};
 
-    ghost Value = { Midway };
+    ghost Value = { CallState };
 
-    ghost view = { λ r. record (midway r.cursor r.curarg r.line_start) {
+    ghost view = { λ r. record (call_state r.cursor r.curarg r.line_start) {
       faults = r.faults;
       lines = map pair r.lines.items;
       closed_place = option_map pair r.closed_place;
@@ -67,7 +68,7 @@ impl<'input> Reader<'input> {
     /// Returns a reader at `cursor`, whose next implicit argument has the index 0 and whose current
     /// line starts at the byte offset `line_start`. Does not allocate.
     pub fn new(alloc: Global, cursor: Cursor<'input>, line_start: usize) -> Reader<'input>
-        ensures { result ≡ midway cursor.entry 0 line_start }
+        ensures { result ≡ call_state cursor.entry 0 line_start }
     {
         Reader {
             cursor,
@@ -82,7 +83,7 @@ impl<'input> Reader<'input> {
     /// Returns the state before a call, for `rewind`.
     pub fn call_start(&self) -> CallStart<'input>
         requires { HasFoundNothing self.now }
-        ensures at { self.now ≡ midway (unread_at self.now.source result.at.rest.text.now
+        ensures at { self.now ≡ call_state (unread_at self.now.source result.at.rest.text.now
             (back_at (chars self.now.source.input.now) (chars result.at.rest.text.now)
             result.at.tally) self.now.undo_count) result.curarg result.line_start }
         ensures counted { IsCounted (chars self.now.source.input.now)
@@ -102,7 +103,7 @@ impl<'input> Reader<'input> {
         requires anchored { IsAnchored self.old.source start.at.rest.text.now start.at.anchor }
         requires counted { IsCounted (chars self.old.source.input.now)
             (chars start.at.rest.text.now) start.at.tally }
-        ensures { self.new ≡ midway (unread_at self.old.source start.entry.at.rest.text.now
+        ensures { self.new ≡ call_state (unread_at self.old.source start.entry.at.rest.text.now
             (back_at (chars self.old.source.input.now)
             (chars start.entry.at.rest.text.now) start.entry.at.tally) (self.old.undo_count + 1))
             start.entry.curarg start.entry.line_start }

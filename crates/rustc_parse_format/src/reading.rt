@@ -5,7 +5,7 @@ ghost use Rattle.std.specs.Prelude.{IsOk, IsTrue, chars, length, map};
 ghost use Rattle.rustc_parse_format.specs.Characters.{Text};
 ghost use Rattle.rustc_parse_format.specs.Grammar.{IsInGrammar, IsSpelled, Reads, StopsInside};
 ghost use Rattle.rustc_parse_format.specs.Types.{Mode, Piece as BarePiece, bare_piece};
-ghost use Rattle.rustc_parse_format.specs.Seen.{seen_piece, seen_mode, seen_snippet};
+ghost use Rattle.rustc_parse_format.specs.Views.{seen_piece, seen_mode, seen_snippet};
 ghost use Rattle.rustc_parse_format.specs.Source.{HasSource};
 ghost use Rattle.rustc_parse_format.specs.State.{AreLines, Walks, after_all, calls, closed_of};
 ghost use Rattle.rustc_parse_format.specs.State.{first_state};
@@ -50,7 +50,7 @@ fn read_pieces<'input>(
     ensures pieces { IfOk result (λ ps. map seen_piece ps.items
         ≡ pieces_in parser.old.world (pieces_of (calls parser.old))) }
     ensures state { IfOk result (λ ps. parser.new ≡ after_all parser.old (calls parser.old)) }
-    ensures few { IfOk result (λ ps. AreFew parser.new.input parser.new.rest parser.new.back) }
+    ensures few { IfOk result (λ ps. AreFew parser.new.input parser.new.rest parser.new.rewinds) }
     ensures empty { parser.old.rest ≡ [] → parser.old.world.has_source ≡ false → IsOk result }
 {
     let mut pieces = Vec::new(alloc);
@@ -106,7 +106,7 @@ pub fn read_all<'input>(
 
     // Few steps are taken, those of the last call included: at most two for each character of the
     // input.
-    ensures few { IfOk result (λ x. AreFew x.parser.input x.parser.rest x.parser.back) }
+    ensures few { IfOk result (λ x. AreFew x.parser.input x.parser.rest x.parser.rewinds) }
 
     ensures source { IfOk result (λ x. IsTrue x.parser.world.has_source
         ↔ HasSource (chars input.now) style (seen_snippet snippet) appended_newline) }

@@ -3,8 +3,8 @@
 ghost use Rattle.std.specs.Prelude.{◌&&◌, ◌==◌, ◌≡◌, not, option_map};
 ghost use Rattle.rustc_parse_format.specs.Identifiers.{is_identifier};
 ghost use Rattle.rustc_parse_format.specs.Recovery.{sign_fault};
-ghost use Rattle.rustc_parse_format.specs.Seen.{pair, seen_argument};
-ghost use Rattle.rustc_parse_format.specs.SeenFaults.{seen_fault};
+ghost use Rattle.rustc_parse_format.specs.Views.{pair, seen_argument};
+ghost use Rattle.rustc_parse_format.specs.FaultViews.{seen_fault};
 
 use crate::faults::Fault;
 use crate::reader::Reader;
@@ -52,9 +52,9 @@ impl<'input> Reader<'input> {
     ghost use Rattle.std.specs.Prelude.{[], ◌+◌, ◌<◌, ◌^◌, ◌≡◌, ◌≢◌, length, OnErr, OnOk};
     ghost use Rattle.rustc_parse_format.specs.Characters.{Text};
     ghost use Rattle.rustc_parse_format.specs.Marks.{Mark, Span, over_first};
-    ghost use Rattle.rustc_parse_format.specs.Midway.{after_sign, recovered_state};
+    ghost use Rattle.rustc_parse_format.specs.CallStates.{after_sign, recovered_state};
     ghost use Rattle.rustc_parse_format.specs.Recovery.{field, late_debug, recovery, sign_fault};
-    ghost use Rattle.rustc_parse_format.specs.Seen.{pair, seen_argument, seen_mode};
+    ghost use Rattle.rustc_parse_format.specs.Views.{pair, seen_argument, seen_mode};
     ghost use Rattle.rustc_parse_format.specs.Types.{Argument as ArgumentValue, map_argument};
     ghost use Rattle.rustc_parse_format.specs.World.{number_of, place_of};
 

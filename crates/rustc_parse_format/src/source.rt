@@ -3,8 +3,8 @@
 ghost use Rattle.std.specs.Prelude.{◌≡◌, ◌+◌, ◌<◌, ◌^◌, chars, length, if◌then◌else◌, None};
 ghost use Rattle.rustc_parse_format.specs.Characters.{after_first};
 ghost use Rattle.rustc_parse_format.specs.LiteralReading.{IsFound, is_longer, plain_end};
-ghost use Rattle.rustc_parse_format.specs.Seen.{pair, seen_snippet};
-ghost use Rattle.rustc_parse_format.specs.SeenSource.{IsAnchorIn, IsKept, seen_world};
+ghost use Rattle.rustc_parse_format.specs.Views.{pair, seen_snippet};
+ghost use Rattle.rustc_parse_format.specs.SourceViews.{IsAnchorIn, IsKept, seen_world};
 ghost use Rattle.rustc_parse_format.specs.World.{hashes, place_at, quote_offset, world};
 
 mod anchor;
@@ -35,7 +35,7 @@ impl<'input> Source<'input> {
     ghost use Rattle.rustc_parse_format.specs.Bytes.{IsLeft};
     ghost use Rattle.rustc_parse_format.specs.Characters.{byte_length};
     ghost use Rattle.rustc_parse_format.specs.Marks.{End, Start};
-    ghost use Rattle.rustc_parse_format.specs.SeenSource.{IsAnchored, seen_world};
+    ghost use Rattle.rustc_parse_format.specs.SourceViews.{IsAnchored, seen_world};
     ghost use Rattle.rustc_parse_format.specs.State.{first_of};
     ghost use Rattle.rustc_parse_format.specs.World.{number_of};
 

@@ -18,18 +18,18 @@ impl<'input> Reader<'input> {
     ghost use Rattle.rustc_parse_format.specs.Marks.{up_to};
     ghost use Rattle.rustc_parse_format.specs.PartFaults.{flag_faults, format_faults, spec_faults};
     ghost use Rattle.rustc_parse_format.specs.PartFaults.{text_faults, type_faults, word_faults};
-    ghost use Rattle.rustc_parse_format.specs.Seen.{pair, seen_alignment, seen_debug_hex};
-    ghost use Rattle.rustc_parse_format.specs.Seen.{seen_mode, seen_sign, seen_spec};
+    ghost use Rattle.rustc_parse_format.specs.Views.{pair, seen_alignment, seen_debug_hex};
+    ghost use Rattle.rustc_parse_format.specs.Views.{seen_mode, seen_sign, seen_spec};
     ghost use Rattle.rustc_parse_format.specs.Specification.{align, alternate, fill, format_text};
     ghost use Rattle.rustc_parse_format.specs.Specification.{sign, specification, type};
-    ghost use Rattle.rustc_parse_format.specs.Midway.{FindsNothing, IsInOneLine, read_run};
-    ghost use Rattle.rustc_parse_format.specs.Midway.{read_texts, read_to, read_tries};
+    ghost use Rattle.rustc_parse_format.specs.CallStates.{FindsNothing, IsInOneLine, read_run};
+    ghost use Rattle.rustc_parse_format.specs.CallStates.{read_texts, read_to, read_tries};
     ghost use Rattle.rustc_parse_format.specs.Reads.{Reaches, ReadsTo};
     ghost use Rattle.rustc_parse_format.specs.Tries.{format_tries, spec_tries};
     ghost use Rattle.rustc_parse_format.specs.Types.{Unknown, default_spec, map_spec};
     ghost use Rattle.rustc_parse_format.specs.Values.{debug_hex_of, number_after_precision};
     ghost use Rattle.rustc_parse_format.specs.Values.{number_after_spec, type_of};
-    ghost use Rattle.rustc_parse_format.specs.Back.{IsFurthest};
+    ghost use Rattle.rustc_parse_format.specs.Rewinds.{IsFurthest};
     ghost use Rattle.rustc_parse_format.specs.World.{place_of};
 
     /// Reads the fill, a character with an alignment after it, into `format`, which has none yet.
@@ -181,7 +181,7 @@ impl<'input> Reader<'input> {
     fn format(&mut self, format: &mut FormatSpec<'input>) -> Result<(), AllocError>
         requires blank { seen_spec format.old ≡ default_spec }
         requires numbers { self.old.next + 1 < 2 ^ 64 }
-        requires furthest { IsFurthest self.old.rest self.old.back }
+        requires furthest { IsFurthest self.old.rest self.old.rewinds }
         ensures value { (let t = self.old.rest in let f = format_text t in
             OnOk result (seen_spec format.new
             ≡ map_spec (place_of self.old.world) (format_of self.old.next t f.0 f.1))) }

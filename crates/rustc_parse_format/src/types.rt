@@ -1,7 +1,7 @@
 //! The public types, with their derives.
 
 ghost use Rattle.std.specs.Prelude.{◌≡◌};
-ghost use Rattle.rustc_parse_format.specs.Seen.{seen_mode};
+ghost use Rattle.rustc_parse_format.specs.Views.{seen_mode};
 ghost use Rattle.rustc_parse_format.specs.Types.{wants_names};
 
 use std::ops::Range;

@@ -3,13 +3,13 @@ use Rattle.std.proofs.Common.{◌≡◌, ◌++◌, ℕ, Bool, List, ap, refl, �
 use Rattle.std.proofs.Common.{Option, Some}
 use Rattle.rustc_parse_format.specs.Characters.{Text}
 use Rattle.rustc_parse_format.specs.Literal.{newline}
-use Rattle.rustc_parse_format.specs.Seen.{seen_piece}
+use Rattle.rustc_parse_format.specs.Views.{seen_piece}
 use Rattle.rustc_parse_format.specs.State.{State, after_all, calls, first_state}
 use Rattle.rustc_parse_format.specs.Types.{Format}
 use Rattle.call_faults.specs.Arguments.{FormatArgument}
 use Rattle.call_faults.specs.Calls.{call_faults, kept_indices}
 use Rattle.call_faults.specs.Labels.{Call}
-use Rattle.call_faults.specs.Seen.{seen_call, seen_fault, seen_given}
+use Rattle.call_faults.specs.Views.{seen_call, seen_fault, seen_given}
 use Rattle.call_faults.specs.Spots.{counts_before}
 use Rattle.text_faults.specs.Texts.{text_fault}
 use Rattle.call_faults.specs.declared.checker.CallReport.{CallReport}

@@ -12,7 +12,7 @@ use denote.Ref.{Bor}
 use Rattle.std.proofs.Math.Bool.{or_assoc}
 use Rattle.std.proofs.lemmas.List.Folds.{list_any-append}
 use Rattle.std.proofs.lemmas.Map.Text.{is_eq-slice_cmp}
-use Rattle.rust_trees.specs.Leaves.{AreLeft, Leaf, Unread}
+use Rattle.rust_trees.specs.Leaves.{AreLeft, Leaf, Remainder}
 use Rattle.format_calls.specs.declared.listing.Call.{Call}
 use Rattle.format_calls.specs.declared.table.Rule.{Rule}
 use Rattle.source_report.specs.declared.report.CallReading.{CallReading}
@@ -68,12 +68,12 @@ pub defined-here : (w m : Option Leaf) (x : Leaf) → begins_definition w m ≡ 
 defined-here w m x e f = rw (e, f) refl
 
 -- The names that were found of a file, where the tokens of u are left, and two stand before them.
-abbrev pub Defines : Unread → Unread → List (List ℕ) → Option Leaf → Option Leaf → Type 0
+abbrev pub Defines : Remainder → Remainder → List (List ℕ) → Option Leaf → Option Leaf → Type 0
 Defines start u found w m = (left : List Leaf) → AreLeft u left → (all : List Leaf)
     × AreLeft start all
     × ((n : List ℕ) → has (macro_names all) n ≡ (has found n || has (names_after w m left) n))
 
-pub defines-none : (u : Unread) (found : List (List ℕ)) → found ≡ []
+pub defines-none : (u : Remainder) (found : List (List ℕ)) → found ≡ []
     → Defines u u found None None
 defines-none u found e = λ left l. (
   left,
@@ -81,7 +81,7 @@ defines-none u found e = λ left l. (
   λ n. ap (λ v. has v n || has (names_after None None left) n) (sym e),
 )
 
-pub defines-more : (start u next : Unread) (found more : List (List ℕ)) (w m : Option Leaf)
+pub defines-more : (start u next : Remainder) (found more : List (List ℕ)) (w m : Option Leaf)
     (x : Leaf) → Defines start u found w m
     → ((ls : List Leaf) → AreLeft next ls → AreLeft u (x ∷ ls))
     → ((n : List ℕ) → has more n ≡ (has found n || has (definition w m x) n))
@@ -102,7 +102,7 @@ or-none : (b : Bool) → (b || false) ≡ b
 or-none true = refl
 or-none false = refl
 
-pub defines-all : (start u : Unread) (found : List (List ℕ)) (w m : Option Leaf)
+pub defines-all : (start u : Remainder) (found : List (List ℕ)) (w m : Option Leaf)
     → Defines start u found w m → AreLeft u []
     → (all : List Leaf) × AreLeft start all
     × ((n : List ℕ) → has found n ≡ has (macro_names all) n)

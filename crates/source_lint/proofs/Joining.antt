@@ -3,12 +3,13 @@ use Rattle.std.proofs.Common.{◌≡◌, ◌++◌, List, [], ◌∷◌, refl, ap
 use Rattle.std.specs.Prelude.{◌↔◌, Contains}
 use Rattle.std.proofs.lemmas.List.{append_assoc, append-nil}
 use Rattle.rust_trees.specs.Balances.{IsBalanced}
-use Rattle.rust_trees.specs.Leaves.{AreLeft, Leaf, Unread}
+use Rattle.rust_trees.specs.Leaves.{AreLeft, Leaf, Remainder}
 use Rattle.rust_trees.specs.declared.balance.Balance.{Balance}
 use Rattle.format_calls.specs.Calls.{IsCall, Rises}
 use Rattle.format_calls.specs.Parts.{IsPart}
 use Rattle.format_calls.specs.Rows.{Entry}
 use Rattle.format_calls.specs.declared.listing.Call.{Call}
+use Rattle.format_calls.proofs.GapForests.{NoPart}
 use Rattle.source_lint.specs.CallLists.{Gives, OfCalls}
 use Rattle.source_lint.proofs.Merging.{Moves, OfParts, merged}
 
@@ -82,24 +83,24 @@ of-calls P es xs cs rs ss fs gs e o h = (
 )
 
 -- What came from the calls of a file so far, where the tokens of u are left. Those of the front
--- were read.
+-- were read, of which K is known.
 pub record FileGiving {R F : Type 0} (P : List Leaf → Call → R → List F → Type 0)
-    (es : List Entry) (start u : Unread) (rs : List R) (fs : List F) (old now : Balance)
+    (es : List Entry) (start u : Remainder) (rs : List R) (fs : List F) (K : List Leaf → Type 0)
     : Type 0 where
   pub front : List Leaf
   pub follows : (left : List Leaf) → AreLeft u left → AreLeft start (front ++ left)
-  pub balanced : (w : List Leaf) → IsBalanced w old → IsBalanced (w ++ front) now
+  pub known : K front
   pub goes_on : (left : List Leaf) (ps : List (List Leaf)) (more : List R) (others : List F)
       → AreLeft u left → OfParts P es left ps more others → (qs : List (List Leaf))
       × OfParts P es (front ++ left) qs (rs ++ more) (fs ++ others)
 
 pub file-none : {R F : Type 0} (P : List Leaf → Call → R → List F → Type 0) (es : List Entry)
-    (u : Unread) (rs : List R) (fs : List F) (b : Balance) → rs ≡ [] → fs ≡ []
-    → FileGiving P es u u rs fs b b
-file-none P es u rs fs b e f = record {
+    (u : Remainder) (rs : List R) (fs : List F) (K : List Leaf → Type 0) → rs ≡ [] → fs ≡ [] → K []
+    → FileGiving P es u u rs fs K
+file-none P es u rs fs K e f k = record {
   front = [];
   follows = λ left l. l;
-  balanced = λ w h. subst (λ v. IsBalanced v b) (sym (append-nil w)) h;
+  known = k;
   goes_on = λ left ps more others l h. (
     ps,
     subst (λ v. OfParts P es left ps v (fs ++ others)) (sym (ap (λ v. v ++ more) e))
@@ -108,23 +109,21 @@ file-none P es u rs fs b e f = record {
 }
 
 -- A part that was read after them, with the gap before it.
-abbrev pub NextPart : List Entry → Unread → Unread → List Leaf → Balance → Balance → Type 0
-NextPart es u next part old now = (gap : List Leaf) × ((left : List Leaf) → AreLeft next left
+abbrev pub NextPart : List Entry → Remainder → Remainder → List Leaf → Type 0
+NextPart es u next part = (gap : List Leaf) × ((left : List Leaf) → AreLeft next left
     → AreLeft u (gap ++ (part ++ left)) × IsPart es gap part left)
-    × ((w : List Leaf) → IsBalanced w old → IsBalanced (w ++ (gap ++ part)) now)
 
 pub file-more : {R F : Type 0} (P : List Leaf → Call → R → List F → Type 0) (es : List Entry)
-    (start u next : Unread) (part : List Leaf) (rs ss : List R) (fs gs : List F)
-    (old now after : Balance) → FileGiving P es start u rs fs old now
-    → NextPart es u next part now after
+    (start u next : Remainder) (part : List Leaf) (rs ss : List R) (fs gs : List F)
+    (K L : List Leaf → Type 0) (w : FileGiving P es start u rs fs K) (p : NextPart es u next part)
+    → L (w.front ++ (p.0 ++ part))
     → (us : List R) × (zs : List F) × (ss ≡ rs ++ us) × (gs ≡ fs ++ zs) × OfCalls P es part us zs
-    → FileGiving P es start next ss gs old after
-file-more P es start u next part rs ss fs gs old now after w p r = record {
+    → FileGiving P es start next ss gs L
+file-more P es start u next part rs ss fs gs K L w p k r = record {
   front = w.front ++ (p.0 ++ part);
   follows = λ left l. subst (λ v. AreLeft start v) (sym (joined left))
       (w.follows (p.0 ++ (part ++ left)) (p.1 left l).0);
-  balanced = λ v h. subst (λ t. IsBalanced t after) (append_assoc v w.front (p.0 ++ part))
-      (p.2 (v ++ w.front) (w.balanced v h));
+  known = k;
   goes_on = λ left ps more others l h.
       let k = p.1 left l in
       let z = w.goes_on (p.0 ++ (part ++ left)) (part ∷ ps) (r.0 ++ more) (r.1 ++ others) k.0
@@ -144,23 +143,28 @@ file-more P es start u next part rs ss fs gs old now after w p r = record {
     joined left = append_assoc w.front (p.0 ++ part) left
         ∙ ap (λ v. w.front ++ v) (append_assoc p.0 part left)
 
--- The end of a file, where no call is left.
-abbrev pub NoPart : List Entry → Unread → Balance → Balance → Type 0
-NoPart es u old now = (left : List Leaf) × AreLeft u left × ((c : Call) → IsCall es left c → ⊥)
-    × ((w : List Leaf) → IsBalanced w old → IsBalanced (w ++ left) now)
-
 pub file-all : {R F : Type 0} (P : List Leaf → Call → R → List F → Type 0) (es : List Entry)
-    (start u : Unread) (rs : List R) (fs : List F) (old now after : Balance) → Moves P
-    → FileGiving P es start u rs fs old now → NoPart es u now after
-    → (all : List Leaf) × AreLeft start all × OfCalls P es all rs fs
-    × ((w : List Leaf) → IsBalanced w old → IsBalanced (w ++ all) after)
-file-all P es start u rs fs old now after m w n =
+    (start u : Remainder) (rs : List R) (fs : List F) (K L : List Leaf → Type 0) → Moves P
+    → (w : FileGiving P es start u rs fs K) (n : NoPart es u) → L (w.front ++ n.0)
+    → (all : List Leaf) × AreLeft start all × OfCalls P es all rs fs × L all
+file-all P es start u rs fs K L m w n k =
     let z = w.goes_on n.0 [] [] [] n.1 (n.2, refl, refl) in (
       w.front ++ n.0,
       w.follows n.0 n.1,
       merged P es (w.front ++ n.0) z.0 rs fs m
           (subst (λ v. OfParts P es (w.front ++ n.0) z.0 v fs) (append-nil rs)
           (subst (λ v. OfParts P es (w.front ++ n.0) z.0 (rs ++ []) v) (append-nil fs) z.1)),
-      λ v h. subst (λ t. IsBalanced t after) (append_assoc v w.front n.0)
-          (n.3 (v ++ w.front) (w.balanced v h)),
+      k,
     )
+
+-- The tokens were added to what is known of those before them.
+abbrev pub Balanced : Balance → Balance → List Leaf → Type 0
+Balanced old now xs = (w : List Leaf) → IsBalanced w old → IsBalanced (w ++ xs) now
+
+pub balanced-none : (b : Balance) → Balanced b b []
+balanced-none b w h = subst (λ v. IsBalanced v b) (sym (append-nil w)) h
+
+pub balanced-more : (old now after : Balance) (ys : List Leaf) → Balanced now after ys
+    → (xs : List Leaf) → Balanced old now xs → Balanced old after (xs ++ ys)
+balanced-more old now after ys h xs k w b =
+    subst (λ v. IsBalanced v after) (append_assoc w xs ys) (h (w ++ xs) (k w b))

@@ -8,7 +8,7 @@ use Rattle.rust_trees.specs.Leaves.{Leaf}
 use Rattle.rust_trees.specs.Forests.{IsPair}
 use Rattle.rust_trees.proofs.Growing.{pair-within}
 use Rattle.format_calls.specs.Arguments.{AreArguments, tokens_of}
-use Rattle.format_calls.specs.Counted.{AreUpTo}
+use Rattle.format_calls.specs.Extents.{AreUpTo}
 use Rattle.format_calls.specs.Parts.{moved_call}
 use Rattle.format_calls.specs.Strings.{format_string}
 use Rattle.format_calls.specs.declared.listing.Call.{Call}

@@ -11,7 +11,7 @@ use Rattle.std.proofs.lemmas.List.{append-nil}
 use Rattle.std.proofs.lemmas.Slice.Eq.{bytes_eq-Decides}
 use Rattle.std.proofs.lemmas.Str.{encodes-append, encodes-chars}
 use Rattle.rust_tokens.specs.Files.{IsMarked, IsShebanged, ReadsFile}
-use Rattle.rust_tokens.specs.Placed.{end_of}
+use Rattle.rust_tokens.specs.Spans.{end_of}
 use Rattle.rust_tokens.specs.Texts.{Text}
 use Rattle.rust_tokens.specs.Tokens.{Lexeme, ReadsTo}
 use Rattle.rust_tokens.proofs.Basics.{neither}

@@ -12,7 +12,7 @@ use Rattle.rustc_parse_format.specs.Types.{Format, Piece}
 use Rattle.rustc_parse_format.specs.World.{Place, pieces_in}
 use Rattle.rust_trees.specs.Leaves.{Leaf}
 use Rattle.format_calls.specs.Arguments.{AreArguments, tokens_of}
-use Rattle.format_calls.specs.Counted.{AreUpTo, is_uncounted}
+use Rattle.format_calls.specs.Extents.{AreUpTo, is_uncounted}
 use Rattle.format_calls.specs.Marks.{word}
 use Rattle.format_calls.specs.Rows.{rule_of}
 use Rattle.format_calls.specs.Standard.{with_crate_macros}

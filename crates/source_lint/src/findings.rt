@@ -3,7 +3,7 @@
 ghost use Rattle.std.specs.Prelude.{◌≡◌, ◌++◌, ◌∷◌, [], List, IfOk, OnOk, map, option_map};
 ghost use Rattle.std.specs.List.{All};
 ghost use Rattle.call_faults.specs.CallFaults.{is_warning};
-ghost use Rattle.call_faults.specs.Seen.{seen_call, seen_edit, seen_fault, seen_help};
+ghost use Rattle.call_faults.specs.Views.{seen_call, seen_edit, seen_fault, seen_help};
 ghost use Rattle.source_lint.specs.Findings.{AreFindings, TellAll, Tells};
 ghost use Rattle.asm_lint.specs.Spans.{HasSpans};
 ghost use Rattle.source_lint.specs.Findings.{copies, counted_faults, counted_help, is_text_fault};

@@ -40,7 +40,7 @@ fn form_id(form: Form<'_>) -> &'static str
 
 /// Adds a token that rustc found, in its words. Returns `Err` if an allocation fails.
 #[tactic(auto, using(crate::proofs::Texts::assoc), unfolding(crate::specs::FormWords::found_text))]
-fn put_found(out: &mut String, operator: Operator<'_>) -> Result<(), AllocError>
+fn put_operator(out: &mut String, operator: Operator<'_>) -> Result<(), AllocError>
     ensures { OnOk result (string_bytes out.new
         ≡ string_bytes out.old ++ found_text (seen_operator operator.entry)) }
 {
@@ -100,11 +100,11 @@ fn put_title(out: &mut String, form: Form<'_>) -> Result<(), AllocError>
         Form::NoLiteral { .. } => out.push_str("format argument must be a string literal")?,
         Form::NoComma { expected, operator } => {
             out.push_str(expected_words(expected))?;
-            put_found(out, operator)?;
+            put_operator(out, operator)?;
         }
         Form::NoOperand(operator) => {
             out.push_str(missing_words())?;
-            put_found(out, operator)?;
+            put_operator(out, operator)?;
         }
         Form::NoExpression { is_last, .. } => out.push_str(end_words(is_last))?,
     }
@@ -273,7 +273,7 @@ fn form_labels(
 }
 
 /// Adds this many placeholders, each after a space. Returns `Err` if an allocation fails.
-fn put_more(out: &mut String, count: usize) -> Result<(), AllocError>
+fn put_placeholders(out: &mut String, count: usize) -> Result<(), AllocError>
     ensures { OnOk result (string_bytes out.new ≡ string_bytes out.old ++ more_placeholders count) }
 {
     let mut countdown = count;
@@ -290,7 +290,7 @@ fn literal_for(alloc: Global, other_count: usize) -> Result<String, AllocError>
     ensures { IfOk result (λ s. string_bytes s ≡ literal_for other_count) }
 {
     let mut text = String::from_str(alloc, "\"{}")?;
-    put_more(&mut text, other_count)?;
+    put_placeholders(&mut text, other_count)?;
     text.push_str("\", ")?;
     Ok(text)
 }

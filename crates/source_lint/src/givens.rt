@@ -1,9 +1,9 @@
 //! The arguments of a call, as its placeholders refer to them.
 
 ghost use Rattle.std.specs.Prelude.{◌≡◌, IfOk, map, option_map};
-ghost use Rattle.placeholder_check.specs.Seen.{text};
+ghost use Rattle.placeholder_check.specs.Views.{text};
 ghost use Rattle.rust_trees.specs.Leaves.{leaf};
-ghost use Rattle.call_faults.specs.Seen.{seen_given};
+ghost use Rattle.call_faults.specs.Views.{seen_given};
 ghost use Rattle.source_lint.specs.Givens.{given_argument, is_keyword, variable, variable_of};
 ghost use Rattle.asm_lint.specs.Names.{name_of};
 ghost use Rattle.asm_lint.specs.Names.{without_raw};

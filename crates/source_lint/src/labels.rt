@@ -3,7 +3,7 @@
 ghost use Rattle.std.specs.Prelude.{◌≡◌, ◌++◌, ℕ, List, IfOk, IfSome, OnOk, length, map};
 ghost use Rattle.std.specs.Prelude.{option_map, string_bytes};
 ghost use Rattle.std.specs.List.{All};
-ghost use Rattle.call_faults.specs.Seen.{seen_edit, seen_help, seen_note};
+ghost use Rattle.call_faults.specs.Views.{seen_edit, seen_help, seen_note};
 ghost use Rattle.source_lint.specs.Findings.{Copies, HasText, TellEdits, TellsHelp};
 ghost use Rattle.asm_lint.specs.Spans.{IsSpan};
 
@@ -55,7 +55,7 @@ pub fn notes(
 }
 
 /// Appends the source of a place of a call, if there is one. Returns `Err` if an allocation fails.
-fn put_copied(out: &mut String, site: Site<'_, '_>, spot: Option<Spot>) -> Result<(), AllocError>
+fn put_source(out: &mut String, site: Site<'_, '_>, spot: Option<Spot>) -> Result<(), AllocError>
     ensures { OnOk result ((s : List ℕ) × (string_bytes out.new ≡ string_bytes out.old ++ s)
         × Copies spot s) }
 {
@@ -72,7 +72,7 @@ fn edit_text(site: Site<'_, '_>, edit: CallEdit) -> Result<String, AllocError>
     ensures { IfOk result (λ t. HasText (seen_edit edit) (string_bytes t)) }
 {
     let mut text = edit.text;
-    put_copied(&mut text, site, edit.copied_spot)?;
+    put_source(&mut text, site, edit.copied_spot)?;
     text.push_str(edit.rest)?;
     Ok(text)
 }

@@ -1,6 +1,7 @@
 //! The faults of the format strings of a Rust source file, from its text ([`file_faults`]).
 #![tactic(auto)]
 
+mod changed;
 mod findings;
 mod form_words;
 mod givens;
@@ -9,6 +10,7 @@ mod lint;
 mod macros;
 mod readings;
 
+pub use changed::changed_file_faults;
 pub use lint::{Readings, file_faults, read_calls, report_on};
 pub use macros::{File, macro_names, name_at, other_macro};
 pub use readings::{argument_at, arguments_before, captures_variables, ends_early, index_or};

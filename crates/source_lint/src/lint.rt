@@ -2,7 +2,7 @@
 
 ghost use Rattle.std.specs.Prelude.{◌≡◌, ◌++◌, ◌+◌, Bool, List, Contains, IfOk, OnOk, map};
 ghost use Rattle.std.specs.List.{All};
-ghost use Rattle.rust_trees.specs.Balances.{IsBalanced};
+ghost use Rattle.rust_trees.specs.Balances.{BreaksAt, IsBalanced};
 ghost use Rattle.rust_trees.specs.Forests.{IsPair};
 ghost use Rattle.rust_trees.specs.Leaves.{Leaf};
 ghost use Rattle.format_calls.specs.Rows.{Entry, entry};
@@ -20,7 +20,7 @@ use crate::macros::{File, macro_names};
 use crate::readings::read_call;
 use asm_lint::read_attributes;
 use format_calls::{Call, Part, Table, calls, next_part};
-use rust_trees::{Balance, Source, Tokens};
+use rust_trees::{Balance, FileBreak, Source, Tokens};
 use source_report::{CallReading, Finding, Options, Report};
 use std::alloc::{AllocError, Global};
 
@@ -104,9 +104,33 @@ fn put_attributes(alloc: Global, findings: &mut Vec<Finding>, text: &str) -> Res
     Ok(())
 }
 
+/// Returns the report on a file whose calls have these readings, and that breaks there or not: the
+/// findings in its attributes follow those in its calls. Returns `Err` if an allocation fails.
+pub(crate) fn report_with(
+    alloc: Global,
+    text: &str,
+    readings: Readings,
+    first_break: Option<FileBreak>,
+) -> Result<Report, AllocError>
+    ensures report { IfOk result (λ r. (es : List Entry) (is_new : Bool) (ls : List Leaf)
+        → AreLeaves text.now ls
+        → ReadsCalls es (record { text = text.now; defined = macro_names ls }) is_new ls
+        readings.calls.items readings.findings.items → BreaksAt ls first_break
+        → IsReport es is_new text.now r) }
+    ensures spans { IfOk result (λ r. All (HasSpans text.now) readings.findings.items
+        → All (HasSpans text.now) r.findings.items) }
+{
+    let mut all_readings = readings;
+    put_attributes(alloc, &mut all_readings.findings, text)?;
+    Ok(Report {
+        calls: all_readings.calls,
+        findings: all_readings.findings,
+        first_break,
+    })
+}
+
 /// Returns the report on a file whose calls have these readings, and whose tokens were all added to
-/// `balance`: the findings in its attributes follow those in its calls. Returns `Err` if an
-/// allocation fails.
+/// `balance`. Returns `Err` if an allocation fails.
 pub fn report_on(
     alloc: Global,
     text: &str,
@@ -121,13 +145,8 @@ pub fn report_on(
     ensures spans { IfOk result (λ r. All (HasSpans text.now) readings.findings.items
         → All (HasSpans text.now) r.findings.items) }
 {
-    let mut all_readings = readings;
-    put_attributes(alloc, &mut all_readings.findings, text)?;
-    Ok(Report {
-        calls: all_readings.calls,
-        findings: all_readings.findings,
-        first_break: balance.first_break(),
-    })
+    let first_break = balance.first_break();
+    report_with(alloc, text, readings, first_break)
 }
 
 /// Reads a source file, and returns the faults of its calls of macros that take a format string or
@@ -147,6 +166,5 @@ pub fn file_faults(alloc: Global, text: &str, options: &Options<'_>) -> Result<R
     };
     let mut balance = Balance::new(alloc);
     let readings = read_file(alloc, file, &options.table, &mut balance)?;
-    let report = report_on(alloc, text, readings, balance)?;
-    Ok(report)
+    report_on(alloc, text, readings, balance)
 }

@@ -9,7 +9,7 @@ ghost use Rattle.rust_trees.specs.Leaves.{leaf};
 ghost use Rattle.format_calls.specs.Arguments.{AreArguments, tokens_of};
 ghost use Rattle.format_calls.specs.Strings.{is_string_by};
 ghost use Rattle.format_calls.specs.declared.split.Argument.{Argument as ArgumentValue};
-ghost use Rattle.call_faults.specs.Seen.{seen_given, start};
+ghost use Rattle.call_faults.specs.Views.{seen_given, start};
 ghost use Rattle.source_lint.specs.Findings.{AreFindings};
 ghost use Rattle.asm_lint.specs.Spans.{HasSpans};
 ghost use Rattle.source_lint.specs.Givens.{given_argument};
@@ -199,15 +199,14 @@ fn read_with(
     let name = name_at(tokens, call.name);
     let appended_newline = appends_newline(name);
     let captures_variables = captures_variables(call.rule, name, file.is_from_2021);
-    let reading = read_string(
+    read_string(
         alloc,
         findings,
         site,
         appended_newline,
         captures_variables,
         is_counted,
-    )?;
-    Ok(reading)
+    )
 }
 
 /// Reads a call whose format string begins the argument of this index, and adds its findings.
@@ -247,13 +246,12 @@ fn read_at(
     let is_counted = extent.is_counted;
     let others = &arguments[index + 1..];
     if extent.end == call.close {
-        let reading = read_with(
+        return read_with(
             alloc, findings, file, part, call, literal, others, is_counted,
-        )?;
-        return Ok(reading);
+        );
     }
     let kept_arguments = arguments_before(alloc, others, extent.end)?;
-    let reading = read_with(
+    read_with(
         alloc,
         findings,
         file,
@@ -262,8 +260,7 @@ fn read_at(
         literal,
         &kept_arguments,
         is_counted,
-    )?;
-    Ok(reading)
+    )
 }
 
 /// Reads a call whose format string is the argument of this index, or whose templates begin with
@@ -400,10 +397,7 @@ pub fn read_call<'a>(
     };
     let list = arguments.as_slice();
     match index_or(file, part, call, list) {
-        Ok(index) => {
-            let reading = read_one(alloc, findings, file, part, call, list, index)?;
-            Ok(reading)
-        }
+        Ok(index) => read_one(alloc, findings, file, part, call, list, index),
         Err(reading) => {
             let form = form_here(part, name, call.rule, file.is_from_2021, list, call.close);
             put_form(findings, file.text, tokens, call, list, form)?;

@@ -1,2 +1,2 @@
-pub mod SeenEdited
+pub mod EditViews
 pub mod Suggestions

@@ -6,7 +6,7 @@ use Rattle.std.specs.Prelude.{◌∷◌, Option, Some, None, codes, map, nat_le,
 use Rattle.std.specs.Prelude.{string_bytes}
 use Rattle.std.specs.List.{filter_map}
 use Rattle.std.specs.Str.{bytes_eq}
-use Rattle.rustc_parse_format.specs.Seen.{pair}
+use Rattle.rustc_parse_format.specs.Views.{pair}
 use Rattle.fault_fixes.specs.Edits.{Edit, is_empty}
 use Rattle.source_report.specs.declared.report.Edit.{Edit as DeclaredEdit}
 use Rattle.source_report.specs.declared.report.Finding.{Finding}

@@ -4,7 +4,7 @@ ghost use Rattle.std.specs.Prelude.{◌≡◌, ◌++◌, ◌∷◌, IfOk, List, 
 ghost use Rattle.fault_fixes.specs.Edits.{Edit as EditValue, edited_bytes};
 ghost use Rattle.fault_fixes.specs.SeenEdits.{seen_edit};
 ghost use Rattle.source_report.specs.Suggestions.{all_edits, end_after, mended_faults};
-ghost use Rattle.source_report.specs.SeenEdited.{with_edits, with_faults, with_ids};
+ghost use Rattle.source_report.specs.EditViews.{with_edits, with_faults, with_ids};
 ghost use Rattle.source_report.specs.declared.report.Finding.{Finding as FindingValue};
 
 use crate::report::Finding;

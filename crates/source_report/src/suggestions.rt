@@ -5,7 +5,7 @@ ghost use Rattle.std.specs.List.{filter_map};
 ghost use Rattle.fault_fixes.specs.SeenEdits.{seen_edit};
 ghost use Rattle.source_report.specs.Suggestions.{are_after, edits_of, help_edits, is_applicable};
 ghost use Rattle.source_report.specs.Suggestions.{label_edit, suggestion_of};
-ghost use Rattle.source_report.specs.SeenEdited.{seen_suggestion};
+ghost use Rattle.source_report.specs.EditViews.{seen_suggestion};
 
 use crate::report::{Finding, Help, Label};
 use fault_fixes::Edit;

@@ -19,8 +19,7 @@ fn report(alloc: Global, text: &str, is_from_2021: bool) -> Result<Report, Alloc
         table,
         is_from_2021,
     };
-    let report = file_faults(alloc, text, &options)?;
-    Ok(report)
+    file_faults(alloc, text, &options)
 }
 
 /// Returns a line for each finding of a file: its first byte, its id and its title.

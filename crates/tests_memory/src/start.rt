@@ -96,7 +96,10 @@ pub fn check_row(
     put_number(out, parser)?;
     put_taken_errors(rt, parser, out)?;
     put_kept(out, parser)?;
-    let (front, back) = row.lines.split_once(taken_errors.text()).unwrap_or(("", ""));
+    let (front, back) = row
+        .lines
+        .split_once(taken_errors.text())
+        .unwrap_or(("", ""));
     assert_eq!(rt; out.text().strip_prefix(front), Some(back));
     Ok(())
 }

@@ -1,4 +1,4 @@
 pub mod Texts
 pub mod Spots
 pub mod Words
-pub mod Seen
+pub mod Views

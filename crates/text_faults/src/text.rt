@@ -2,7 +2,7 @@
 
 ghost use Rattle.std.specs.Prelude.{◌≡◌, [], IfOk, List, ◌++◌, ◌∷◌, map, option_map};
 ghost use Rattle.rustc_parse_format.specs.Faults.{Fault as FaultValue};
-ghost use Rattle.rustc_parse_format.specs.SeenFaults.{seen_fault};
+ghost use Rattle.rustc_parse_format.specs.FaultViews.{seen_fault};
 ghost use Rattle.rustc_parse_format.specs.State.{calls};
 ghost use Rattle.rustc_parse_format.specs.World.{Place, faults_in};
 ghost use Rattle.text_faults.specs.Texts.{first_faults, shown_fault as fault_shown, text_fault};

@@ -9,8 +9,8 @@ use Rattle.std.proofs.lemmas.Grind.{flat_map-append}
 use Rattle.std.proofs.lemmas.Str.{encodes-chars}
 use Rattle.std.proofs.Math.Utf8.{encodes}
 use Rattle.rustc_parse_format.specs.Characters.{Text, rest_after, front}
-use Rattle.rustc_parse_format.specs.Written.{is_unchanged, plainly_written, short_escape}
-use Rattle.rustc_parse_format.specs.Written.{written_character}
+use Rattle.rustc_parse_format.specs.Escaping.{is_unchanged, plainly_written, short_escape}
+use Rattle.rustc_parse_format.specs.Escaping.{written_character}
 use Rattle.rustc_parse_format.proofs.Grammar.Fronts.{front-rest_after, list_all-front}
 
 no_escape : (c : ℕ) → is_unchanged c ≡ true → short_escape c ≡ None

@@ -4,8 +4,8 @@ use Rattle.std.proofs.Common.{◌≡◌, ◌↔◌, IsTrue, refl, ap, rules}
 use Rattle.std.specs.Prelude.{chars}
 use Rattle.rustc_parse_format.specs.KnownTexts.{IsTextInCount, IsTextInPosition}
 use Rattle.rustc_parse_format.specs.Types.{Count, Implicit, Index, Named, Is, Name, Param, Star}
-use Rattle.rustc_parse_format.specs.Seen.{pair, seen_alignment, seen_sign, seen_debug_hex}
-use Rattle.rustc_parse_format.specs.Seen.{seen_position, seen_count}
+use Rattle.rustc_parse_format.specs.Views.{pair, seen_alignment, seen_sign, seen_debug_hex}
+use Rattle.rustc_parse_format.specs.Views.{seen_position, seen_count}
 use Rattle.rustc_parse_format.specs.declared.types.Count.{Count as DeclaredCount}
 use Rattle.rustc_parse_format.specs.declared.types.Count.TheVariants.{CountIs, CountIsName}
 use Rattle.rustc_parse_format.specs.declared.types.Count.TheVariants.{CountIsParam, CountIsStar}

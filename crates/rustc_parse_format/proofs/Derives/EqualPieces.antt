@@ -4,9 +4,9 @@ use Rattle.std.proofs.Common.{◌≡◌, ◌↔◌, IsTrue, ap}
 use Rattle.std.specs.Prelude.{chars, option_map}
 use Rattle.rustc_parse_format.specs.KnownTexts.{IsTextInArgument, IsTextInPiece, IsTextInSpec}
 use Rattle.rustc_parse_format.specs.Types.{Argument, Lit, NextArgument, Piece, Spec}
-use Rattle.rustc_parse_format.specs.Seen.{pair, seen_piece, seen_alignment, seen_argument}
-use Rattle.rustc_parse_format.specs.Seen.{seen_count}
-use Rattle.rustc_parse_format.specs.Seen.{seen_debug_hex, seen_sign, seen_spec}
+use Rattle.rustc_parse_format.specs.Views.{pair, seen_piece, seen_alignment, seen_argument}
+use Rattle.rustc_parse_format.specs.Views.{seen_count}
+use Rattle.rustc_parse_format.specs.Views.{seen_debug_hex, seen_sign, seen_spec}
 use Rattle.rustc_parse_format.specs.World.{Place}
 use Rattle.rustc_parse_format.specs.declared.types.Argument.{Argument as DeclaredArgument}
 use Rattle.rustc_parse_format.specs.declared.types.FormatSpec.{FormatSpec}

@@ -10,7 +10,7 @@ use Rattle.std.specs.Prelude.{IsUtf8, chars, option_map}
 use Rattle.std.specs.contracts.prelude.BoolPartialEq.TheImpl as bool_eq
 use Rattle.std.specs.declared.ops.Range.{Range}
 use Rattle.rustc_parse_format.specs.Equivalence.{AreSame, IsEquivalence}
-use Rattle.rustc_parse_format.specs.Seen.{pair}
+use Rattle.rustc_parse_format.specs.Views.{pair}
 use Rattle.rustc_parse_format.specs.World.{Place}
 
 pub both : {P Q : Type 0} → P → Q → P × Q

@@ -11,7 +11,7 @@ use Rattle.std.proofs.lemmas.Bool.{cond-true, and_parts, and_from, not-true, ne_
 use Rattle.rustc_parse_format.specs.Characters.{Text}
 use Rattle.rustc_parse_format.specs.World.{World, Place, place_at}
 use Rattle.rustc_parse_format.specs.Marks.{run_texts}
-use Rattle.rustc_parse_format.specs.Midway.{Midway, read_texts}
+use Rattle.rustc_parse_format.specs.CallStates.{CallState, read_texts}
 use Rattle.rustc_parse_format.specs.Lines.{PlacedCharacter, texts_in, is_newline, is_indent}
 use Rattle.rustc_parse_format.specs.Lines.{indented_start, IsLines}
 use Rattle.rustc_parse_format.specs.Lines.{read_lines, lines_in}
@@ -82,12 +82,12 @@ lines_in-source w start cs e = cond-true w.has_source (read_lines start (texts_i
     (start, []) e
 
 -- and in the middle of a call
-pub read_texts-append : (s : Midway) (cs ds : List (ℕ × ℕ))
+pub read_texts-append : (s : CallState) (cs ds : List (ℕ × ℕ))
     → read_texts s (cs ++ ds) ≡ read_texts (read_texts s cs) ds
 read_texts-append s cs ds =
     let r : Reading = lines_in s.world s.line_start cs in
     let q : Reading = lines_in s.world r.0 ds in
-    let read : Reading → Midway = λ x. record s { line_start = x.0; lines = s.lines ++ x.1 } in
+    let read : Reading → CallState = λ x. record s { line_start = x.0; lines = s.lines ++ x.1 } in
     ap read (lines_in-append s.world s.line_start cs ds)
     ∙ ap (λ (ls : List Place). record s { line_start = q.0; lines = ls })
     (sym (append_assoc s.lines r.1 q.1))

@@ -3,7 +3,7 @@ use Rattle.std.proofs.Common.{◌≡◌, ◌≢◌, ◌++◌, ◌∷◌, [], Lis
 use Rattle.std.proofs.Common.{◌≤◌, ◌<◌, ap, arith, length-append, refl, sym}
 use Rattle.std.proofs.lemmas.List.{append-nil, length-map, length-take-le, take-map}
 use Rattle.std.specs.declared.ops.Range.{Range}
-use Rattle.rustc_parse_format.specs.Seen.{pair}
+use Rattle.rustc_parse_format.specs.Views.{pair}
 
 pub take_all : {A : Type 0} (n : ℕ) (xs : List A) → length xs ≤ n → take n xs ≡ xs
 take_all zero [] h = refl

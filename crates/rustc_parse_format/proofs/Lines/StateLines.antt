@@ -10,8 +10,8 @@ use Rattle.rustc_parse_format.specs.Characters.{Text}
 use Rattle.rustc_parse_format.specs.Call.{Call, call}
 use Rattle.rustc_parse_format.specs.Lines.{lines_in, closed_in, place_list, ends_with, with_last}
 use Rattle.rustc_parse_format.specs.World.{World, Place, place_at}
-use Rattle.rustc_parse_format.specs.Midway.{FindsNothing, HasFoundNothing, Midway}
-use Rattle.rustc_parse_format.specs.Midway.{read_call}
+use Rattle.rustc_parse_format.specs.CallStates.{FindsNothing, HasFoundNothing, CallState}
+use Rattle.rustc_parse_format.specs.CallStates.{read_call}
 use Rattle.rustc_parse_format.proofs.Sources.PlainPlaces.{place_end}
 use Rattle.rustc_parse_format.specs.State.{State, AddsNothing, state_after, last_lines, next_call}
 
@@ -102,14 +102,14 @@ none_listed None e = refl
 none_listed (Some p) e = cc
 
 -- finds nothing on its way,
-pub finds_nothing : (s : State) (old : Midway) (k : Call) → s.rest ≢ [] → old.world ≡ s.world
+pub finds_nothing : (s : State) (old : CallState) (k : Call) → s.rest ≢ [] → old.world ≡ s.world
     → old.line_start ≡ s.line_start →
     AddsNothing s k → FindsNothing old k.faults k.texts
 finds_nothing s old k some world start n =
     (n.0, rw (world, start, no_line s k some n) (append-nil old.lines))
 
 -- and has found nothing at its end
-pub nothing_found : (s : State) (old : Midway) (k : Call) → s.rest ≢ [] → HasFoundNothing old
+pub nothing_found : (s : State) (old : CallState) (k : Call) → s.rest ≢ [] → HasFoundNothing old
     → old.world ≡ s.world → old.line_start ≡ s.line_start →
     AddsNothing s k → HasFoundNothing (read_call old k)
 nothing_found s old k some none world start n =

@@ -12,7 +12,7 @@ use Rattle.rustc_parse_format.specs.Literal.{IsContent, IsNoContent, IsOnlyConte
 use Rattle.rustc_parse_format.specs.Literal.{more_units}
 use Rattle.rustc_parse_format.specs.Literal.{units, placed_characters}
 use Rattle.rustc_parse_format.specs.LiteralReading.{seen_characters, content_characters}
-use Rattle.rustc_parse_format.specs.Seen.{pair}
+use Rattle.rustc_parse_format.specs.Views.{pair}
 use Rattle.rustc_parse_format.proofs.Literals.Widths.{width-append}
 use Rattle.rustc_parse_format.proofs.Literals.UnitLaws.{unit_at-front}
 use Rattle.rustc_parse_format.proofs.Literals.Contents.{units-nil, units-some, units-none}

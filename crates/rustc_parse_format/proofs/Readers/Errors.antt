@@ -17,7 +17,7 @@ use Rattle.std.specs.Slice.{IsItemAt}
 use denote.Ref.{Bor}
 use Rattle.rustc_parse_format.specs.declared.faults.Fault.{Fault as DeclaredFault}
 use Rattle.rustc_parse_format.specs.Faults.{Fault, Message, message, is_front, add_errors, Keeps}
-use Rattle.rustc_parse_format.specs.SeenFaults.{seen_fault, seen_faults}
+use Rattle.rustc_parse_format.specs.FaultViews.{seen_fault, seen_faults}
 
 -- an error at the back, and errors from one place to another
 pub ruleset list_ends = (map-append, set-append_seam)

@@ -15,20 +15,20 @@ use Rattle.rustc_parse_format.specs.Values.{number_after_position, number_after_
 use Rattle.rustc_parse_format.specs.PartFaults.{position_faults, name_faults, cut_faults}
 use Rattle.rustc_parse_format.specs.PartFaults.{spec_faults}
 use Rattle.rustc_parse_format.specs.Meaning.{spec_texts}
-use Rattle.rustc_parse_format.specs.Back.{Back, given_back}
-use Rattle.rustc_parse_format.specs.Midway.{Midway, read_texts, read_to, read_tries}
+use Rattle.rustc_parse_format.specs.Rewinds.{Rewinds, given_back}
+use Rattle.rustc_parse_format.specs.CallStates.{CallState, read_texts, read_to, read_tries}
 use Rattle.rustc_parse_format.specs.Tries.{spec_tries, back_after}
 use Rattle.rustc_parse_format.specs.World.{World, Place, faults_in, place_of}
 
 -- where nothing is read
-pub read_nothing : (s : Midway) (r : Text) (fs : List (Fault Span)) → r ≡ s.rest → fs ≡ []
+pub read_nothing : (s : CallState) (r : Text) (fs : List (Fault Span)) → r ≡ s.rest → fs ≡ []
     → s ≡ read_to s r s.next fs
 read_nothing s r fs e f =
     rw (e, f) (ap (λ (gs : List (Fault Place)). record s { faults = gs })
     (sym (append-nil s.faults)))
 
 -- two parts, one after the other
-pub read_on : (s : Midway) (r q : Text) (n m : ℕ) (fs gs : List (Fault Span))
+pub read_on : (s : CallState) (r q : Text) (n m : ℕ) (fs gs : List (Fault Span))
     → read_to (read_to s r n fs) q m gs ≡ read_to s q m (fs ++ gs)
 read_on s r q n m fs gs =
     ap (λ (hs : List (Fault Place)). record s { rest = q; next = m; faults = hs })
@@ -36,29 +36,31 @@ read_on s r q n m fs gs =
     ∙ ap (λ hs. s.faults ++ hs) (sym (map-append (map_fault (place_of s.world)) fs gs)))
 
 -- three parts
-pub read_three : (s : Midway) (r q o : Text) (n m k : ℕ) (fs gs hs : List (Fault Span)) →
+pub read_three : (s : CallState) (r q o : Text) (n m k : ℕ) (fs gs hs : List (Fault Span)) →
     read_to (read_to (read_to s r n fs) q m gs) o k hs ≡ read_to s o k (fs ++ gs ++ hs)
-read_three s r q o n m k fs gs hs = ap (λ (x : Midway). read_to x o k hs) (read_on s r q n m fs gs)
+read_three s r q o n m k fs gs hs =
+    ap (λ (x : CallState). read_to x o k hs) (read_on s r q n m fs gs)
     ∙ read_on s q o m k (fs ++ gs) hs
 
 -- words tried, and then others
-pub tried-append : (b : Back) (ts us : List Text) → back_after (back_after b ts) us
+pub tried-append : (b : Rewinds) (ts us : List Text) → back_after (back_after b ts) us
     ≡ back_after b (ts ++ us)
 tried-append b [] us = refl
 tried-append b (t ∷ ts) us = tried-append (given_back (after_word t) t b) ts us
 
 -- three parts, of which the first two try words
-pub read_three_tries : (s : Midway) (r q o : Text) (n m k : ℕ) (fs gs hs : List (Fault Span))
+pub read_three_tries : (s : CallState) (r q o : Text) (n m k : ℕ) (fs gs hs : List (Fault Span))
     (ts us : List Text) →
     read_to (read_tries (read_to (read_tries (read_to s r n fs) ts) q m gs) us) o k hs
     ≡ read_tries (read_to s o k (fs ++ gs ++ hs)) (ts ++ us)
 read_three_tries s r q o n m k fs gs hs ts us =
-    ap (λ (b : Back). record (read_to (read_to (read_to s r n fs) q m gs) o k hs) { back = b })
-    (tried-append s.back ts us)
-    ∙ ap (λ (x : Midway). read_tries x (ts ++ us)) (read_three s r q o n m k fs gs hs)
+    ap (λ (b : Rewinds).
+    record (read_to (read_to (read_to s r n fs) q m gs) o k hs) { rewinds = b })
+    (tried-append s.rewinds ts us)
+    ∙ ap (λ (x : CallState). read_tries x (ts ++ us)) (read_three s r q o n m k fs gs hs)
 
 -- after a position and white space, and the fault of one that is no name
-abbrev pub after_position : Mode → Midway → Midway
+abbrev pub after_position : Mode → CallState → CallState
 after_position mode s =
     let p = position s.rest in
     let t = after_white p.1 in
@@ -68,7 +70,7 @@ after_position mode s =
     }
 
 -- after a specification, with the next number after the position
-abbrev pub after_specification : Mode → PositionText → Midway → Midway
+abbrev pub after_specification : Mode → PositionText → CallState → CallState
 after_specification mode position s =
     let p = specification mode s.rest in
     let n = number_after_spec s.next p.0 in
@@ -97,7 +99,7 @@ faults_on w old fs b s gs =
     ∙ ap (λ hs. old ++ hs) (sym (map-append (map_fault (place_of w)) (fs ++ ns) gs))
 
 -- an argument: its position, white space and its specification
-pub argument_read : (s : Midway) (mode : Mode) →
+pub argument_read : (s : CallState) (mode : Mode) →
     after_specification mode (position s.rest).0 (after_position mode s)
     ≡ (let a = cut mode s.rest in
     read_texts

@@ -19,10 +19,10 @@ use Rattle.rustc_parse_format.specs.PartFaults.{cut_faults}
 use Rattle.rustc_parse_format.specs.Recovery.{recovery}
 use Rattle.rustc_parse_format.specs.Call.{Call, GivesNoArgument, GivesAtMostText, call, placeholder}
 use Rattle.rustc_parse_format.specs.Call.{unclosed_call, unclosed_fault}
-use Rattle.rustc_parse_format.specs.Back.{Back}
-use Rattle.rustc_parse_format.specs.Midway.{FindsNothing, Midway, after_closing, closed_then}
-use Rattle.rustc_parse_format.specs.Midway.{opens_placeholder, read_call, read_texts, read_to}
-use Rattle.rustc_parse_format.specs.Midway.{read_tries, recovered_state}
+use Rattle.rustc_parse_format.specs.Rewinds.{Rewinds}
+use Rattle.rustc_parse_format.specs.CallStates.{FindsNothing, CallState, after_closing, closed_then}
+use Rattle.rustc_parse_format.specs.CallStates.{opens_placeholder, read_call, read_texts, read_to}
+use Rattle.rustc_parse_format.specs.CallStates.{read_tries, recovered_state}
 use Rattle.rustc_parse_format.specs.Lines.{closed_in}
 use Rattle.rustc_parse_format.specs.Tries.{spec_tries}
 use Rattle.rustc_parse_format.proofs.Grammar.Numbers.{number_after_field-le}
@@ -64,7 +64,7 @@ placeholder-faultless mode c o t =
     no_faults e = cc
 
 -- and where it finds nothing, so does its argument.
-pub argument-finds : (s : Midway) (mode : Mode) (o t : Text) →
+pub argument-finds : (s : CallState) (mode : Mode) (o t : Text) →
     FindsNothing s (placeholder mode s.next o t).faults (placeholder mode s.next o t).texts →
     FindsNothing s (cut_faults mode (cut mode t))
     (spec_texts (cut mode t).field.spec (cut mode t).rest)
@@ -109,7 +109,7 @@ closed_where true old s w p e f = rw (e, f) refl
 closed_where false old s w p e f = rw e refl
 
 -- after the argument of a placeholder and white space
-abbrev pub after_argument : Midway → Mode → Text → Midway
+abbrev pub after_argument : CallState → Mode → Text → CallState
 after_argument s mode t =
     read_texts
     (read_tries (read_to s (ending mode t) (number_after_field s.next (cut mode t).field)
@@ -118,7 +118,7 @@ after_argument s mode t =
     (spec_texts (cut mode t).field.spec (cut mode t).rest)
 
 -- Where the closing brace stands, it is taken,
-pub brace-closes : (s new : Midway) (mode : Mode) (opening : Place)
+pub brace-closes : (s new : CallState) (mode : Mode) (opening : Place)
     → begins_with 125 s.rest ≡ true →
     new ≡ record s {
       rest = after_first s.rest;
@@ -140,7 +140,7 @@ brace-closes s new mode opening b e o a f =
     ∙ sym (cond-true (begins_with 125 s.rest) _ _ b))
 
 -- and where it is missing, its fault is noted, and the recovery is read.
-pub missing-closes : (s x new : Midway) (mode : Mode) (opening : Place) (seen : Argument Place)
+pub missing-closes : (s x new : CallState) (mode : Mode) (opening : Place) (seen : Argument Place)
     → begins_with 125 s.rest ≡ false →
     x ≡ record s {
       faults = s.faults ++ no_brace (brace_fill seen.format.fill seen.format.fill_span)
@@ -159,12 +159,12 @@ missing-closes s x new mode opening seen b e h o a f g =
     (place_of s.world (up_to s.rest s.rest)) p) f ∙ sym fault)
     ∙ sym (cond-false (begins_with 125 s.rest) _ _ b))
 
-read_either : (s : Midway) (b : Bool) (x y : Midway) (k j : Call) → x ≡ read_call s k
+read_either : (s : CallState) (b : Bool) (x y : CallState) (k j : Call) → x ≡ read_call s k
     → y ≡ read_call s j → cond b x y ≡ read_call s (cond b k j)
 read_either s true x y k j e f = e
 read_either s false x y k j e f = f
 
-unclosed_read : (s : Midway) (mode : Mode) (o t : Text) →
+unclosed_read : (s : CallState) (mode : Mode) (o t : Text) →
     (let f = unclosed_fault o (argument s.next (cut mode t)).format (ending mode t) in
     let c = number_after_field s.next (cut mode t).field in
     recovered_state (read_to (after_argument s mode t) (ending mode t) c (f ∷ []))
@@ -179,22 +179,24 @@ unclosed_read s mode o t =
     let ts = spec_texts a.field.spec a.rest in
     let us = spec_tries a.field.spec a.rest in
     rw (closed_in-none s.world)
-    (ap (λ (x : Midway). read_texts (read_texts (read_tries (read_tries x us) k.tries) ts) k.texts)
+    (ap (λ (x : CallState).
+    read_texts (read_texts (read_tries (read_tries x us) k.tries) ts) k.texts)
     (read_three s r r k.rest c c k.next (cut_faults mode a) (f ∷ []) k.faults)
     ∙ (ap (λ fs. read_texts
     (read_texts (read_tries (read_tries (read_to s k.rest k.next fs) us) k.tries) ts) k.texts)
     (append_assoc (cut_faults mode a) (f ∷ []) k.faults)
-    ∙ (ap (λ (b : Back). read_texts
-    (read_texts (record (read_to s k.rest k.next (cut_faults mode a ++ f ∷ k.faults)) { back = b })
+    ∙ (ap (λ (b : Rewinds). read_texts
+    (read_texts
+    (record (read_to s k.rest k.next (cut_faults mode a ++ f ∷ k.faults)) { rewinds = b })
     ts) k.texts)
-    (tried-append s.back us k.tries)
+    (tried-append s.rewinds us k.tries)
     ∙ sym (read_texts-append
     (read_tries (read_to s k.rest k.next (cut_faults mode a ++ f ∷ k.faults)) (us ++ k.tries)) ts
     k.texts))))
 
 -- A placeholder is read part by part: its argument, white space, and the closing brace, or its
 -- fault and the recovery.
-pub placeholder_read : (s : Midway) (mode : Mode) (o t : Text) →
+pub placeholder_read : (s : CallState) (mode : Mode) (o t : Text) →
     after_closing mode o (argument s.next (cut mode t)) (after_argument s mode t)
     ≡ read_call s (placeholder mode s.next o t)
 unfolding placeholder
@@ -202,7 +204,7 @@ placeholder_read s mode o t = read_either s (begins_with 125 (ending mode t)) _ 
     (unclosed_read s mode o t)
 
 -- the same of a reader that stands at x after the argument
-pub placeholder_closed : (s x new : Midway) (mode : Mode) (o t : Text) (opening : Place)
+pub placeholder_closed : (s x new : CallState) (mode : Mode) (o t : Text) (opening : Place)
     (seen : Argument Place) →
     x ≡ (let a = cut mode t in
     read_texts

@@ -16,8 +16,8 @@ use Rattle.rustc_parse_format.specs.Identifiers.{is_identifier}
 use Rattle.rustc_parse_format.specs.Recovery.{Recovery, finds, sign_fault, sign, late_debug, field}
 use Rattle.rustc_parse_format.specs.Recovery.{recovery}
 use Rattle.rustc_parse_format.specs.World.{Place, number_of, place_of}
-use Rattle.rustc_parse_format.specs.Midway.{Midway, after_sign, read_texts, read_to}
-use Rattle.rustc_parse_format.specs.Midway.{recovered_state}
+use Rattle.rustc_parse_format.specs.CallStates.{CallState, after_sign, read_texts, read_to}
+use Rattle.rustc_parse_format.specs.CallStates.{recovered_state}
 use Rattle.rustc_parse_format.proofs.Grammar.Identifiers.{identifier-map}
 use Rattle.rustc_parse_format.proofs.Grammar.Rests.{IsRest, IsRest-self, IsRest-trans, IsRest-le}
 use Rattle.rustc_parse_format.proofs.Grammar.Rests.{after_first_rest, after_word_rest, cut_rest}
@@ -25,11 +25,11 @@ use Rattle.rustc_parse_format.proofs.Grammar.Numbers.{number_after_field-le}
 use Rattle.rustc_parse_format.proofs.Lines.StateLines.{lines_in-nil}
 
 -- How it is read. Where nothing is read as text, there are no lines.
-pub read_no_texts : (s : Midway) → read_texts s [] ≡ s
+pub read_no_texts : (s : CallState) → read_texts s [] ≡ s
 read_no_texts s = rw (lines_in-nil s.world s.line_start, append-nil s.lines) refl
 
 -- where nothing is found and nothing is read
-recovered-nothing : (s : Midway) → recovered_state s (finds s.next [] s.rest) ≡ s
+recovered-nothing : (s : CallState) → recovered_state s (finds s.next [] s.rest) ≡ s
 recovered-nothing s = read_no_texts (read_to s s.rest s.next [])
     ∙ ap (λ (fs : List (Fault Place)). record s { faults = fs }) (append-nil s.faults)
 
@@ -49,7 +49,7 @@ sign_fault-map g x y s o =
     (map-if m (x == 61 && y == 125) _ _ _ _ refl
     (map-if m (x == 63 && y == 125) _ _ _ _ refl refl))))
 
-sign-read : (s : Midway) (o : Option (Fault Span))
+sign-read : (s : CallState) (o : Option (Fault Span))
     → after_sign s (option_map (map_fault (place_of s.world)) o)
     ≡ recovered_state s (sign s.next o s.rest)
 sign-read s None = sym (recovered-nothing s)
@@ -64,7 +64,7 @@ field_decided g x b s a e f =
     ∙ ap (λ v. x == 46 && v) (identifier-map g a)))
 
 -- a sign that is read with its fault, where the placeholder opens at o
-pub sign-taken : (s : Midway) (x y : ℕ) (o : Text) (opening : Place)
+pub sign-taken : (s : CallState) (x y : ℕ) (o : Text) (opening : Place)
     → opening ≡ place_of s.world (over_first o) →
     after_sign s (sign_fault x y (place_of s.world (over_first s.rest)) opening)
     ≡ recovered_state s (sign s.next (sign_fault x y (over_first s.rest) (over_first o)) s.rest)
@@ -75,7 +75,7 @@ sign-taken s x y o opening e =
     ∙ sign-read s (sign_fault x y (over_first s.rest) (over_first o)))
 
 -- With fewer than two characters left nothing is read.
-pub recovery-short : (s : Midway) (mode : Mode) (o t : Text) (a : Argument Span) → t ≡ s.rest
+pub recovery-short : (s : CallState) (mode : Mode) (o t : Text) (a : Argument Span) → t ≡ s.rest
     → first (after_first t) ≡ None →
     s ≡ recovered_state s (recovery mode s.next o a s.rest)
 unfolding recovery
@@ -121,17 +121,17 @@ nothing_left [] e = refl
 nothing_left (c ∷ t) e = absurd cc
 
 -- Each reader reads as the recovery says, of any placeholder and any argument that are seen so.
-abbrev pub Recovers : Midway → Mode → Place → Argument Place → Midway → Type 0
+abbrev pub Recovers : CallState → Mode → Place → Argument Place → CallState → Type 0
 Recovers s mode opening seen new = (o : Text) (a : Argument Span)
     → opening ≡ place_of s.world (over_first o) →
     seen ≡ map_argument (place_of s.world) a
     → new ≡ recovered_state s (recovery mode s.next o a s.rest)
 
-pub short-recovers : (s : Midway) (mode : Mode) (opening : Place) (seen : Argument Place)
+pub short-recovers : (s : CallState) (mode : Mode) (opening : Place) (seen : Argument Place)
     → first (after_first s.rest) ≡ None → Recovers s mode opening seen s
 short-recovers s mode opening seen e o a f g = recovery-short s mode o s.rest a refl e
 
-pub field-recovers : (s new : Midway) (mode : Mode) (opening : Place) (seen : Argument Place)
+pub field-recovers : (s new : CallState) (mode : Mode) (opening : Place) (seen : Argument Place)
     (x y : ℕ) → first s.rest ≡ Some x →
     first (after_first s.rest) ≡ Some y → true ≡ (x == 46 && is_identifier seen) →
     ((m : Mark) → seen.position_span.0 ≡ number_of s.world m → new
@@ -142,8 +142,8 @@ field-recovers s new mode opening seen x y e f b k o a g h =
     (sym (recovery-field mode s.next o s.rest a x y e f
     (field_decided (place_of s.world) x true seen a b h)))
 
-pub late_debug-recovers : (s new : Midway) (mode : Mode) (opening : Place) (seen : Argument Place)
-    (x y : ℕ) → first s.rest ≡ Some x →
+pub late_debug-recovers : (s new : CallState) (mode : Mode) (opening : Place)
+    (seen : Argument Place) (x y : ℕ) → first s.rest ≡ Some x →
     first (after_first s.rest) ≡ Some y → false ≡ (x == 46 && is_identifier seen)
     → true ≡ (x == 63 && not (y == 125)) →
     new ≡ recovered_state s (late_debug s.next s.rest) → Recovers s mode opening seen new
@@ -152,7 +152,7 @@ late_debug-recovers s new mode opening seen x y e f b d k o a g h =
     (sym (recovery-late_debug mode s.next o s.rest a x y e f
     (field_decided (place_of s.world) x false seen a b h) (sym d)))
 
-pub sign-recovers : (s new : Midway) (mode : Mode) (opening : Place) (seen : Argument Place)
+pub sign-recovers : (s new : CallState) (mode : Mode) (opening : Place) (seen : Argument Place)
     (x y : ℕ) → first s.rest ≡ Some x →
     first (after_first s.rest) ≡ Some y → false ≡ (x == 46 && is_identifier seen)
     → false ≡ (x == 63 && not (y == 125)) →

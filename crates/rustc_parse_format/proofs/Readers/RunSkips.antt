@@ -12,7 +12,8 @@ use Rattle.rustc_parse_format.specs.Characters.{is_in_line, first}
 use Rattle.rustc_parse_format.specs.World.{World, StartAfter, place_at}
 use Rattle.rustc_parse_format.specs.Marks.{run_texts}
 use Rattle.rustc_parse_format.specs.Lines.{texts_in}
-use Rattle.rustc_parse_format.specs.Midway.{Midway, read_texts, read_run, IsInOneLine, IsPastIndent}
+use Rattle.rustc_parse_format.specs.CallStates.{CallState, read_texts, read_run, IsInOneLine}
+use Rattle.rustc_parse_format.specs.CallStates.{IsPastIndent}
 use Rattle.rustc_parse_format.proofs.Grammar.Fronts.{
   front-rest_after,
   list_all-front,
@@ -79,7 +80,7 @@ past-no_indent w start c t (d ∷ u) r e past split =
     none : (w : World) (start k : ℕ) → (place_at w k).0 ≡ start → start < (place_at w k).0 → ⊥
     none w start k same more = omega arith
 
-read_nothing : (s : Midway) (u r : Text) → s.world.has_source ≡ true → no_newline u ≡ true →
+read_nothing : (s : CallState) (u r : Text) → s.world.has_source ≡ true → no_newline u ≡ true →
     has_no_indent s.line_start (texts_in s.world (run_texts u r)) ≡ true
     → read_texts s (run_texts u r) ≡ s
 read_nothing s u r source none past =
@@ -89,7 +90,7 @@ read_nothing s u r source none past =
     (noted-no_newline s.world u r none) past)
     ∙ ap (λ ls. record s { lines = ls }) (append-nil s.lines)
 
-pub run-skip : (s : Midway) (c : ℕ) → s.world.has_source ≡ true → first s.rest ≡ Some c
+pub run-skip : (s : CallState) (c : ℕ) → s.world.has_source ≡ true → first s.rest ≡ Some c
     → IsPastIndent c s.line_start s.world s.rest →
     read_run (record s { rest = rest_after is_in_line s.rest }) ≡ read_run s
 run-skip s c source e past =
@@ -108,14 +109,14 @@ run-skip s c source e past =
     ∙ (ap (λ (x : Text). read_up_to s (run_texts x r) r)
     (front-inside is_no_brace is_in_line t in_line-no_brace)
     ∙ (ap (λ cs. read_up_to s cs r) (marked-append u v r)
-    ∙ (ap (λ (m : Midway). record m { rest = r })
+    ∙ (ap (λ (m : CallState). record m { rest = r })
     (read_texts-append s (run_texts u (v ++ r)) (run_texts v r))
-    ∙ ap (λ (m : Midway). read_up_to m (run_texts v r) r) none))))
+    ∙ ap (λ (m : CallState). read_up_to m (run_texts v r) r) none))))
 
-pub one_line-skip : (s : Midway) (c : ℕ) → s.world.has_source ≡ true → first s.rest ≡ Some c
+pub one_line-skip : (s : CallState) (c : ℕ) → s.world.has_source ≡ true → first s.rest ≡ Some c
     → IsPastIndent c s.line_start s.world s.rest →
     IsInOneLine s → IsInOneLine (record s { rest = rest_after is_in_line s.rest })
-one_line-skip s c source e past one = ap (λ (m : Midway). m.lines) (run-skip s c source e past)
+one_line-skip s c source e past one = ap (λ (m : CallState). m.lines) (run-skip s c source e past)
     ∙ one
 
 -- Such a run that is not empty leaves less.

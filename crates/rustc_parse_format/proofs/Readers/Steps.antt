@@ -9,8 +9,8 @@ use Rattle.std.proofs.lemmas.Bool.{eqb-true}
 use Rattle.rustc_parse_format.specs.Characters.{Text, is_id_start, is_id_continue, rest_after}
 use Rattle.rustc_parse_format.specs.Characters.{after_digits, after_first, after_word}
 use Rattle.rustc_parse_format.specs.Characters.{begins_with}
-use Rattle.rustc_parse_format.specs.Back.{is_word_part, after_part}
-use Rattle.rustc_parse_format.specs.Midway.{IsCounted, Passed}
+use Rattle.rustc_parse_format.specs.Rewinds.{is_word_part, after_part}
+use Rattle.rustc_parse_format.specs.CallStates.{IsCounted, StepCounts}
 
 pub rest_after-le : (p : ℕ → Bool) (t : Text) → length (rest_after p t) ≤ length t
 rest_after-le p [] = omega arith
@@ -100,28 +100,29 @@ unfolding after_digits
 after_digits-part t = rest_after-part is_ascii_digit t
 
 -- forward from t to u
-pub counted_on : (n t u : Text) (p q : Passed) → q.pass_count + length u ≡ p.pass_count + length t
+pub counted_on : (n t u : Text) (p q : StepCounts)
+    → q.pass_count + length u ≡ p.pass_count + length t
     → q.left_count ≡ p.left_count → after_part u ≤ after_part t → IsCounted n t p → IsCounted n u q
 counted_on n t u p q made left le h = record {
   made = omega (arith, h.made, made);
   paid = record {
-    again = omega (arith, h.paid.again, made, left);
+    count = omega (arith, h.paid.count, made, left);
     word = omega (arith, h.paid.word, le, left);
   };
 }
 
 -- and back, over a word
-pub counted_back : (n u t : Text) (p : Passed) → length t ≤ p.left_count → length u ≤ length t
+pub counted_back : (n u t : Text) (p : StepCounts) → length t ≤ p.left_count → length u ≤ length t
     → after_part t ≤ length u
     → IsCounted n u p → IsCounted n t (record { pass_count = p.pass_count; left_count = length u })
 counted_back n u t p far earlier word h = record {
   made = omega (arith, h.made, earlier);
-  paid = record { again = omega (arith, h.made, h.paid.again, far, earlier); word = word };
+  paid = record { count = omega (arith, h.made, h.paid.count, far, earlier); word = word };
 }
 
 -- where nothing was passed
 pub counted_first : (n : Text) → IsCounted n n (record { pass_count = 0; left_count = length n })
 counted_first n = record {
   made = omega arith;
-  paid = record { again = omega arith; word = part_le n };
+  paid = record { count = omega arith; word = part_le n };
 }

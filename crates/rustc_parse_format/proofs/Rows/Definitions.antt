@@ -10,7 +10,7 @@ use Rattle.rustc_parse_format.specs.Specification.{format_text}
 use Rattle.rustc_parse_format.specs.Placeholder.{cut}
 use Rattle.rustc_parse_format.specs.Values.{number_after_field}
 use Rattle.rustc_parse_format.specs.Meaning.{format_of, argument}
-use Rattle.rustc_parse_format.specs.Written.{written_character}
+use Rattle.rustc_parse_format.specs.Escaping.{written_character}
 use Rattle.rustc_parse_format.specs.Faults.{Fault, message}
 use Rattle.rustc_parse_format.specs.PartFaults.{argument_faults, format_faults, cut_faults}
 use Rattle.rustc_parse_format.specs.Tries.{format_tries}

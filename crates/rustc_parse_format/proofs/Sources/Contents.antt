@@ -15,9 +15,9 @@ use Rattle.rustc_parse_format.specs.LiteralUnits.{spelling, meaning, escaped_cha
 use Rattle.rustc_parse_format.specs.LiteralUnits.{is_skipped}
 use Rattle.rustc_parse_format.specs.LiteralUnits.{is_unit, may_precede, unit_at}
 use Rattle.rustc_parse_format.specs.Literal.{IsContent}
-use Rattle.rustc_parse_format.specs.SeenSource.{after_continuations, begins_continuation}
-use Rattle.rustc_parse_format.specs.SeenSource.{character_width, unit_width, closed_by_quote, gap}
-use Rattle.rustc_parse_format.specs.SeenSource.{gap_to, spelled_units}
+use Rattle.rustc_parse_format.specs.SourceViews.{after_continuations, begins_continuation}
+use Rattle.rustc_parse_format.specs.SourceViews.{character_width, unit_width, closed_by_quote, gap}
+use Rattle.rustc_parse_format.specs.SourceViews.{gap_to, spelled_units}
 use Rattle.rustc_parse_format.proofs.Literals.Widths.{width-cons, width-append}
 use Rattle.rustc_parse_format.proofs.Literals.Plain.{ascii-first}
 use Rattle.rustc_parse_format.proofs.Literals.UnitLaws.{unit_at-complete}

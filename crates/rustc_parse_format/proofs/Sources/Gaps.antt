@@ -14,9 +14,9 @@ use Rattle.rustc_parse_format.specs.World.{newline_places}
 use Rattle.rustc_parse_format.specs.declared.source.anchor.Anchor.{Anchor}
 use Rattle.rustc_parse_format.specs.declared.source.Source.{Source}
 use Rattle.rustc_parse_format.specs.Source.{units_between}
-use Rattle.rustc_parse_format.specs.SeenSource.{IsAnchor, IsAnchorIn, IsHere, IsKept, IsOrdinary}
-use Rattle.rustc_parse_format.specs.SeenSource.{is_appended}
-use Rattle.rustc_parse_format.specs.SeenSource.{seen_world, world_with, closed_by_quote, gap}
+use Rattle.rustc_parse_format.specs.SourceViews.{IsAnchor, IsAnchorIn, IsHere, IsKept, IsOrdinary}
+use Rattle.rustc_parse_format.specs.SourceViews.{is_appended}
+use Rattle.rustc_parse_format.specs.SourceViews.{seen_world, world_with, closed_by_quote, gap}
 use Rattle.rustc_parse_format.proofs.Sources.Ends.{frame-units}
 use Rattle.rustc_parse_format.proofs.Sources.Steps.{IsCutAt, IsReached, cut_at, settle}
 

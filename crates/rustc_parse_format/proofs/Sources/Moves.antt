@@ -14,8 +14,8 @@ use Rattle.rustc_parse_format.specs.Bytes.{IsLeft}
 use Rattle.rustc_parse_format.specs.World.{World}
 use Rattle.rustc_parse_format.specs.LiteralUnits.{LiteralUnit, Plain, is_plain, meaning}
 use Rattle.rustc_parse_format.specs.Literal.{IsContent}
-use Rattle.rustc_parse_format.specs.SeenSource.{IsHere, begins_continuation, character_width}
-use Rattle.rustc_parse_format.specs.SeenSource.{closed_by_quote, gap}
+use Rattle.rustc_parse_format.specs.SourceViews.{IsHere, begins_continuation, character_width}
+use Rattle.rustc_parse_format.specs.SourceViews.{closed_by_quote, gap}
 use Rattle.rustc_parse_format.proofs.Literals.UnitLaws.{unit_at-complete}
 use Rattle.rustc_parse_format.proofs.Sources.Contents.{gap-none, plain-no_continuation, width-read}
 use Rattle.rustc_parse_format.proofs.Sources.Steps.{after_character, cut_from}

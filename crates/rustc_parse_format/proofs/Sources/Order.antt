@@ -15,10 +15,10 @@ use Rattle.rustc_parse_format.specs.LiteralUnits.{LiteralUnit}
 use Rattle.rustc_parse_format.specs.Literal.{units, content_value, newline}
 use Rattle.rustc_parse_format.specs.Source.{text_between}
 use Rattle.rustc_parse_format.specs.Bytes.{IsLeft}
-use Rattle.rustc_parse_format.specs.SeenSource.{IsAnchorIn, IsAnchored, IsHere, is_appended}
-use Rattle.rustc_parse_format.specs.SeenSource.{seen_world}
-use Rattle.rustc_parse_format.specs.SeenSource.{world_with}
-use Rattle.rustc_parse_format.specs.Midway.{IsPastIndent}
+use Rattle.rustc_parse_format.specs.SourceViews.{IsAnchorIn, IsAnchored, IsHere, is_appended}
+use Rattle.rustc_parse_format.specs.SourceViews.{seen_world}
+use Rattle.rustc_parse_format.specs.SourceViews.{world_with}
+use Rattle.rustc_parse_format.specs.CallStates.{IsPastIndent}
 use Rattle.rustc_parse_format.specs.World.{World, place_at, content_places, newline_places}
 use Rattle.rustc_parse_format.proofs.Sources.PlainPlaces.{left, length-plain_places}
 use Rattle.rustc_parse_format.proofs.Spans.PlaceOrder.{InOrder, plain-in_order, ordinary-in_order}

@@ -14,8 +14,8 @@ use Rattle.rustc_parse_format.proofs.Sources.Ends.{frame-units}
 use Rattle.rustc_parse_format.specs.World.{Place, ordinary_end, World, place_at}
 use Rattle.std.specs.Str.{is_utf8}
 use Rattle.rustc_parse_format.specs.Bytes.{IsLeft}
-use Rattle.rustc_parse_format.specs.SeenSource.{IsAnchor, IsAnchorIn, IsAnchored, IsKept, IsKeptIn}
-use Rattle.rustc_parse_format.specs.SeenSource.{seen_world, world_with}
+use Rattle.rustc_parse_format.specs.SourceViews.{IsAnchor, IsAnchorIn, IsAnchored, IsKept, IsKeptIn}
+use Rattle.rustc_parse_format.specs.SourceViews.{seen_world, world_with}
 use Rattle.rustc_parse_format.proofs.Sources.PlainPlaces.{place_end, start_left, stop_left}
 
 anchor_by : (o : Option (String Global)) (w : World) (a : Anchor) (snippet : String Global)

@@ -15,8 +15,8 @@ use Rattle.std.proofs.lemmas.List.Sums.{sum_by-cons}
 use Rattle.rustc_parse_format.specs.Characters.{Text, after_first, byte_length}
 use Rattle.rustc_parse_format.specs.LiteralUnits.{LiteralUnit, spelling}
 use Rattle.rustc_parse_format.specs.Literal.{IsContent, content_value, newline}
-use Rattle.rustc_parse_format.specs.SeenSource.{IsHere, after_continuations, character_width}
-use Rattle.rustc_parse_format.specs.SeenSource.{closed_by_quote, gap, gap_to, spelled_units}
+use Rattle.rustc_parse_format.specs.SourceViews.{IsHere, after_continuations, character_width}
+use Rattle.rustc_parse_format.specs.SourceViews.{closed_by_quote, gap, gap_to, spelled_units}
 use Rattle.rustc_parse_format.specs.World.{World, Place, place_at, content_places, last_stop}
 use Rattle.rustc_parse_format.specs.World.{newline_places}
 use Rattle.rustc_parse_format.proofs.Literals.Widths.{width-append}

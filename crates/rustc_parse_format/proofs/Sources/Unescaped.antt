@@ -25,8 +25,8 @@ use Rattle.rustc_parse_format.specs.Literal.{IsContent, content_value, newline}
 use Rattle.rustc_parse_format.specs.LiteralUnits.{LiteralUnit, Plain, SimpleEscape, ByteEscape}
 use Rattle.rustc_parse_format.specs.LiteralUnits.{UnicodeEscape, Continuation}
 use Rattle.rustc_parse_format.specs.LiteralUnits.{is_plain}
-use Rattle.rustc_parse_format.specs.SeenSource.{IsAnchor, IsHere, IsUnescaped, begins_continuation}
-use Rattle.rustc_parse_format.specs.SeenSource.{character_width, closed_by_quote, is_unescaped}
+use Rattle.rustc_parse_format.specs.SourceViews.{IsAnchor, IsHere, IsUnescaped, begins_continuation}
+use Rattle.rustc_parse_format.specs.SourceViews.{character_width, closed_by_quote, is_unescaped}
 use Rattle.rustc_parse_format.specs.World.{World, place_at}
 use Rattle.rustc_parse_format.proofs.Literals.Widths.{width-append, width-cons}
 use Rattle.rustc_parse_format.proofs.Sources.PlainPlaces.{begun, after_width, left, width_chars}

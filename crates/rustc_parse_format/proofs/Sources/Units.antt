@@ -13,9 +13,9 @@ use Rattle.rustc_parse_format.specs.LiteralUnits.{spelling, value, meaning, esca
 use Rattle.rustc_parse_format.specs.LiteralUnits.{at_most_one}
 use Rattle.rustc_parse_format.specs.LiteralUnits.{unit_at, byte_value, unicode_value}
 use Rattle.rustc_parse_format.specs.Literal.{IsContent, content_value, placed_characters}
-use Rattle.rustc_parse_format.specs.SeenSource.{IsAhead, after_continuations, character_width}
-use Rattle.rustc_parse_format.specs.SeenSource.{closed_by_quote, spelled_units, unit_width}
-use Rattle.rustc_parse_format.specs.SeenSource.{width_before}
+use Rattle.rustc_parse_format.specs.SourceViews.{IsAhead, after_continuations, character_width}
+use Rattle.rustc_parse_format.specs.SourceViews.{closed_by_quote, spelled_units, unit_width}
+use Rattle.rustc_parse_format.specs.SourceViews.{width_before}
 use Rattle.rustc_parse_format.specs.World.{Place, content_places}
 use Rattle.rustc_parse_format.proofs.Literals.Widths.{width-append}
 use Rattle.rustc_parse_format.proofs.Literals.UnitLaws.{unit_at-front}

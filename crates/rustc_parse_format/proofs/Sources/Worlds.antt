@@ -11,12 +11,12 @@ use Rattle.rustc_parse_format.specs.declared.source.Source.{Source}
 use Rattle.rustc_parse_format.specs.Characters.{Text, byte_length}
 use Rattle.rustc_parse_format.specs.Literal.{content_value, ordinary_frame, newline}
 use Rattle.rustc_parse_format.specs.Source.{is_source, HasSource}
-use Rattle.rustc_parse_format.specs.Seen.{seen_snippet}
+use Rattle.rustc_parse_format.specs.Views.{seen_snippet}
 use Rattle.rustc_parse_format.specs.World.{World, world, literal_world, plain_world, ordinary_world}
 use Rattle.rustc_parse_format.specs.World.{ordinary_end, quote_offset, foreign_end}
 use Rattle.rustc_parse_format.specs.LiteralReading.{IsFound, IsSourceTo, is_longer, plain_end}
 use Rattle.rustc_parse_format.specs.Source.{units_between}
-use Rattle.rustc_parse_format.specs.SeenSource.{IsOrdinary, IsKeptIn, is_appended, world_with}
+use Rattle.rustc_parse_format.specs.SourceViews.{IsOrdinary, IsKeptIn, is_appended, world_with}
 use Rattle.rustc_parse_format.proofs.Literals.Widths.{width-append, width-cons}
 use Rattle.rustc_parse_format.proofs.Sources.Decided.{has_source}
 use Rattle.rustc_parse_format.proofs.Sources.Ends.{frame-units}

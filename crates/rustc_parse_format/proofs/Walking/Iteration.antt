@@ -7,7 +7,7 @@ use Rattle.rustc_parse_format.specs.declared.pieces.Pieces.{Pieces}
 use Rattle.rustc_parse_format.specs.declared.types.Piece.{Piece as DeclaredPiece}
 use Rattle.rustc_parse_format.specs.Call.{pieces_of}
 use Rattle.rustc_parse_format.specs.Pieces.{GivesItem, has_ended, parser_of}
-use Rattle.rustc_parse_format.specs.Seen.{seen_piece}
+use Rattle.rustc_parse_format.specs.Views.{seen_piece}
 use Rattle.rustc_parse_format.specs.State.{State, after_all, calls}
 use Rattle.rustc_parse_format.specs.World.{World, pieces_in}
 use Rattle.rustc_parse_format.proofs.Walking.ReadPieces.{pieces_more, state_more}

@@ -9,8 +9,8 @@ ghost use Rattle.rustc_parse_format.specs.Characters.{first, byte_length, front}
 ghost use Rattle.rustc_parse_format.specs.Literal.{IsContent};
 ghost use Rattle.rustc_parse_format.specs.LiteralReading.{SharePlain};
 ghost use Rattle.rustc_parse_format.specs.LiteralUnits.{LiteralUnit, is_plain, is_skipped};
-ghost use Rattle.rustc_parse_format.specs.SeenSource.{after_continuations, begins_continuation};
-ghost use Rattle.rustc_parse_format.specs.SeenSource.{closed_by_quote, spelled_units};
+ghost use Rattle.rustc_parse_format.specs.SourceViews.{after_continuations, begins_continuation};
+ghost use Rattle.rustc_parse_format.specs.SourceViews.{closed_by_quote, spelled_units};
 
 use crate::blocks::plain_front;
 use crate::characters::{Class, after_first, first, split_run};

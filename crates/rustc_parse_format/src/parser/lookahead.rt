@@ -3,8 +3,8 @@
 
 ghost use Rattle.std.specs.Prelude.{◌≡◌, chars};
 ghost use Rattle.rustc_parse_format.specs.Marks.{span_through, up_to};
-ghost use Rattle.rustc_parse_format.specs.Seen.{pair};
-ghost use Rattle.rustc_parse_format.specs.SeenSource.{IsAnchored, seen_world};
+ghost use Rattle.rustc_parse_format.specs.Views.{pair};
+ghost use Rattle.rustc_parse_format.specs.SourceViews.{IsAnchored, seen_world};
 ghost use Rattle.rustc_parse_format.specs.World.{place_of};
 
 use super::steps::{Steps, Tally, count_before, count_next};
@@ -45,8 +45,8 @@ impl<'input> Spot<'input> {
     ghost use Rattle.rustc_parse_format.specs.Characters.{begins_with, byte_length, first};
     ghost use Rattle.rustc_parse_format.specs.Characters.{first_passes, is_id_start};
     ghost use Rattle.rustc_parse_format.specs.Marks.{End, Start};
-    ghost use Rattle.rustc_parse_format.specs.Seen.{pair};
-    ghost use Rattle.rustc_parse_format.specs.SeenSource.{IsAnchored, seen_world};
+    ghost use Rattle.rustc_parse_format.specs.Views.{pair};
+    ghost use Rattle.rustc_parse_format.specs.SourceViews.{IsAnchored, seen_world};
     ghost use Rattle.rustc_parse_format.specs.State.{first_of};
     ghost use Rattle.rustc_parse_format.specs.World.{number_of};
 
@@ -198,8 +198,8 @@ impl<'input> Lookahead<'input> {
     ghost use Rattle.rustc_parse_format.specs.Characters.{rest_after, word};
     ghost use Rattle.rustc_parse_format.specs.Classes.{passes};
     ghost use Rattle.rustc_parse_format.specs.Marks.{span_through, up_to};
-    ghost use Rattle.rustc_parse_format.specs.Seen.{pair};
-    ghost use Rattle.rustc_parse_format.specs.SeenSource.{IsAnchored, seen_world};
+    ghost use Rattle.rustc_parse_format.specs.Views.{pair};
+    ghost use Rattle.rustc_parse_format.specs.SourceViews.{IsAnchored, seen_world};
     ghost use Rattle.rustc_parse_format.specs.World.{Place, place_at, place_of};
 
     /// Returns the whole of a text, over which no step was made. Only a parser can make one.

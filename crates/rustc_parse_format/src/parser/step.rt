@@ -10,8 +10,8 @@ impl<'input> Parser<'input> {
     ghost use Rattle.std.specs.Prelude.{chars, length, option_map};
     ghost use Rattle.std.specs.List.{filter};
     ghost use Rattle.rustc_parse_format.specs.Faults.{is_front};
-    ghost use Rattle.rustc_parse_format.specs.Midway.{opens_placeholder};
-    ghost use Rattle.rustc_parse_format.specs.Seen.{seen_piece, seen_argument, seen_spec};
+    ghost use Rattle.rustc_parse_format.specs.CallStates.{opens_placeholder};
+    ghost use Rattle.rustc_parse_format.specs.Views.{seen_piece, seen_argument, seen_spec};
     ghost use Rattle.rustc_parse_format.specs.State.{AddsNothing, IsPutBack, NeedsNoMemory};
     ghost use Rattle.rustc_parse_format.specs.State.{state_after, last_lines, next_call};
     ghost use Rattle.rustc_parse_format.specs.Steps.{AreFew};
@@ -26,7 +26,7 @@ impl<'input> Parser<'input> {
         ensures state { OnOk result (self.new ≡ state_after self.old (next_call self.old)) }
         ensures err { OnErr result (IsPutBack self.old self.new) }
         ensures spare { NeedsNoMemory self.old (next_call self.old) → IsOk result }
-        ensures few { AreFew self.new.input self.new.rest self.new.back }
+        ensures few { AreFew self.new.input self.new.rest self.new.rewinds }
     {
         self.steps_are_few();
         if self.reader.is_at_end() {

@@ -44,9 +44,9 @@ pub struct Tally {
 }
 
 impl Model for Tally {
-    ghost use Rattle.rustc_parse_format.specs.Midway.{Passed};
+    ghost use Rattle.rustc_parse_format.specs.CallStates.{StepCounts};
 
-    ghost Value = { Passed };
+    ghost Value = { StepCounts };
 
     ghost view = { λ t. record {
       pass_count = t.pass_count.number;

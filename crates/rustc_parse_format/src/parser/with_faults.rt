@@ -7,8 +7,8 @@ use std::alloc::AllocError;
 
 impl<'input> Parser<'input> {
     ghost use Rattle.std.specs.Prelude.{◌≡◌, ◌++◌, IfOk, IsOk, OnErr, OnOk, map, option_map};
-    ghost use Rattle.rustc_parse_format.specs.Seen.{seen_taken};
-    ghost use Rattle.rustc_parse_format.specs.SeenFaults.{seen_fault};
+    ghost use Rattle.rustc_parse_format.specs.Views.{seen_taken};
+    ghost use Rattle.rustc_parse_format.specs.FaultViews.{seen_fault};
     ghost use Rattle.rustc_parse_format.specs.State.{AddsNothing, IsPutBack, state_after};
     ghost use Rattle.rustc_parse_format.specs.State.{next_call};
     ghost use Rattle.rustc_parse_format.specs.Steps.{AreFew};
@@ -37,7 +37,7 @@ impl<'input> Parser<'input> {
         ensures err { OnErr result (IsPutBack self.old self.new) }
         ensures kept { OnErr result (faults.new.items ≡ faults.old.items) }
         ensures spare { AddsNothing self.old (next_call self.old) → IsOk result }
-        ensures few { AreFew self.new.input self.new.rest self.new.back }
+        ensures few { AreFew self.new.input self.new.rest self.new.rewinds }
     {
         self.steps_are_few();
         if self.reader.is_at_end() {

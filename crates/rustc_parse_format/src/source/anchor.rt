@@ -20,9 +20,9 @@ ghost use Rattle.rustc_parse_format.specs.Bytes.{IsLeft};
 ghost use Rattle.rustc_parse_format.specs.Characters.{Text, after_first};
 ghost use Rattle.rustc_parse_format.specs.Literal.{IsContent};
 ghost use Rattle.rustc_parse_format.specs.LiteralUnits.{LiteralUnit};
-ghost use Rattle.rustc_parse_format.specs.Seen.{pair};
-ghost use Rattle.rustc_parse_format.specs.SeenSource.{IsAnchor, IsHere, IsUnescaped, Leads};
-ghost use Rattle.rustc_parse_format.specs.SeenSource.{character_width, closed_by_quote, gap};
+ghost use Rattle.rustc_parse_format.specs.Views.{pair};
+ghost use Rattle.rustc_parse_format.specs.SourceViews.{IsAnchor, IsHere, IsUnescaped, Leads};
+ghost use Rattle.rustc_parse_format.specs.SourceViews.{character_width, closed_by_quote, gap};
 ghost use Rattle.rustc_parse_format.specs.World.{World, place_at};
 
 use crate::characters::{Class, after_first, first, run_width};
@@ -42,7 +42,7 @@ pub struct Anchor<'input> {
 
 /// Returns the length in bytes of the first unit of `text`, or 0 if that does not stand for a
 /// character or if `text` begins with none.
-#[tactic(auto, unfolding(crate::specs::SeenSource::character_width, crate::specs::LiteralUnits::unit_at))]
+#[tactic(auto, unfolding(crate::specs::SourceViews::character_width, crate::specs::LiteralUnits::unit_at))]
 #[inline(always)]
 fn character_width(text: &str) -> usize
     ensures { result ≡ character_width (chars text.now) }

@@ -42,8 +42,7 @@ fn fault_of<'a>(template: Template<'a>) -> Result<Option<Fault<'a>>, AllocError>
         false,
         ParseMode::InlineAsm,
     )?;
-    let fault = text_fault(&mut parser)?;
-    Ok(fault)
+    text_fault(&mut parser)
 }
 
 /// Adds the lookups for the placeholders of a template.

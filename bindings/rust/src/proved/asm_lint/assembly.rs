@@ -220,13 +220,12 @@ pub fn read_asm<'a>(
         call.close,
     );
     let is_whole = are_known(operands.is_unknown, extent.is_counted);
-    let reading = read_literals(
+    read_literals(
         findings,
         text,
         tokens,
         &arguments[..count],
         &operands,
         is_whole,
-    )?;
-    Ok(reading)
+    )
 }

@@ -67,8 +67,7 @@ fn fault_of<'a>(string: FormatString<'a>) -> Result<Option<Fault<'a>>, AllocErro
         string.appended_newline,
         ParseMode::Format,
     )?;
-    let fault = text_fault(&mut parser)?;
-    Ok(fault)
+    text_fault(&mut parser)
 }
 
 /// Returns the faults of a call whose format string has these pieces, and puts the indices of

@@ -152,8 +152,7 @@ fn inline_site(
         is_format_alone: is_format_alone(rule, name, is_from_2021),
         has_const_form: has_const_form(rule),
     };
-    let inlined_call = inline_format_call(site, call, allows_mixed)?;
-    Ok(inlined_call)
+    inline_format_call(site, call, allows_mixed)
 }
 
 /// Returns what inlining makes of a call whose format string begins the argument of this index.
@@ -188,15 +187,14 @@ fn inline_at(
         literal,
         arguments: &kept_arguments,
     };
-    let inlined_call = inline_site(
+    inline_site(
         site,
         call.rule,
         name_at(tokens, call.name),
         extent.is_counted,
         file.is_from_2021,
         allows_mixed,
-    )?;
-    Ok(inlined_call)
+    )
 }
 
 /// Returns what inlining makes of a call whose format string is the argument of this index, or
@@ -249,10 +247,7 @@ fn inline_call<'a>(
     };
     let list = arguments.as_slice();
     match index_or(file, part, call, list) {
-        Ok(index) => {
-            let inlined_call = inline_one(file, part, call, list, index, allows_mixed)?;
-            Ok(inlined_call)
-        }
+        Ok(index) => inline_one(file, part, call, list, index, allows_mixed),
         Err(reading) => Ok(unchanged_call(CallInlining::Unread(reading))),
     }
 }

@@ -5,6 +5,7 @@
 
 pub(crate) mod assembly;
 pub(crate) mod extents;
+pub(crate) mod gap_texts;
 pub(crate) mod listing;
 pub(crate) mod marks;
 pub(crate) mod modes;
@@ -16,6 +17,7 @@ pub(crate) mod table;
 
 pub use assembly::{asm_part, template_count, AsmPart};
 pub use extents::extent_of;
+pub use gap_texts::{next_known_part, Gaps};
 pub use listing::{calls, Call};
 pub use marks::{is_mark, is_mark_of, is_word, token_at, word};
 pub use modes::{is_joint, is_text};

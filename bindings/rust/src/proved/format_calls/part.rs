@@ -21,7 +21,7 @@ pub enum Target {
 
 /// Returns whether arguments are searched for this token.
 #[inline]
-fn is_wanted(target: Target, token: &Token<'_>) -> bool {
+fn is_target(target: Target, token: &Token<'_>) -> bool {
     match target {
         Target::Variable => is_mark_of(token, b'$') || is_mark_of(token, b'#'),
         Target::Raw => is_text(token, "raw"),
@@ -30,9 +30,9 @@ fn is_wanted(target: Target, token: &Token<'_>) -> bool {
 
 /// Returns whether one of these tokens is wanted.
 #[inline]
-fn is_one_wanted(tokens: &[Token<'_>], target: Target) -> bool {
+fn has_target(tokens: &[Token<'_>], target: Target) -> bool {
     for token in tokens {
-        if is_wanted(target, token) {
+        if is_target(target, token) {
             return true;
         }
     }
@@ -42,15 +42,15 @@ fn is_one_wanted(tokens: &[Token<'_>], target: Target) -> bool {
 /// Returns for each number of tokens from the first one on how many of them end with the last one
 /// that is wanted, or nothing if none is.
 #[inline]
-fn last_ones(tokens: &[Token<'_>], target: Target) -> Result<Vec<usize>, AllocError> {
+fn last_targets(tokens: &[Token<'_>], target: Target) -> Result<Vec<usize>, AllocError> {
     let mut counts = Vec::new();
-    if !is_one_wanted(tokens, target) {
+    if !has_target(tokens, target) {
         return Ok(counts);
     }
     let mut last = 0;
     counts.try_push(last)?;
     for (index, token) in tokens.iter().enumerate() {
-        if is_wanted(target, token) {
+        if is_target(target, token) {
             last = index + 1;
         }
         counts.try_push(last)?;
@@ -58,12 +58,12 @@ fn last_ones(tokens: &[Token<'_>], target: Target) -> Result<Vec<usize>, AllocEr
     Ok(counts)
 }
 
-/// Returns whether one of the tokens of an argument is wanted, where `last_ones` are the numbers
+/// Returns whether one of the tokens of an argument is wanted, where `last_targets` are the numbers
 /// that are returned for them.
 #[inline]
-fn is_one_in(last_ones: &[usize], argument: &Argument) -> bool {
-    let count = last_ones.len().saturating_sub(1);
-    match last_ones.get(argument.end.min(count)) {
+fn holds_target(last_targets: &[usize], argument: &Argument) -> bool {
+    let count = last_targets.len().saturating_sub(1);
+    match last_targets.get(argument.end.min(count)) {
         Some(last) => argument.start < *last,
         None => false,
     }
@@ -81,8 +81,8 @@ impl<'a> Part<'a> {
     /// Reads the tokens of a part.
     #[inline]
     pub(crate) fn new(source: Source<'a>) -> Result<Self, AllocError> {
-        let variables = last_ones(source.tokens(), Target::Variable)?;
-        let raws = last_ones(source.tokens(), Target::Raw)?;
+        let variables = last_targets(source.tokens(), Target::Variable)?;
+        let raws = last_targets(source.tokens(), Target::Raw)?;
         Ok(Part {
             source,
             variables,
@@ -105,12 +105,12 @@ impl<'a> Part<'a> {
     /// Returns whether a variable of a macro stands in an argument.
     #[inline]
     pub fn has_variable(&self, argument: &Argument) -> bool {
-        is_one_in(&self.variables, argument)
+        holds_target(&self.variables, argument)
     }
 
     /// Returns whether the word `raw` stands in an argument.
     #[inline]
     pub fn has_raw(&self, argument: &Argument) -> bool {
-        is_one_in(&self.raws, argument)
+        holds_target(&self.raws, argument)
     }
 }

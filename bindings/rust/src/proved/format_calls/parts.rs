@@ -9,8 +9,13 @@ use crate::proved::rust_trees::{is_opening, Balance, Source, Token, Tokens};
 use crate::shim::alloc::AllocError;
 
 /// Returns whether three tokens are a word of a table, `!` and an opening delimiter.
-#[inline]
-fn opens_call(rows: &[Row<'_>], name: &Token<'_>, bang: &Token<'_>, opening: &Token<'_>) -> bool {
+#[inline(always)]
+pub fn opens_call(
+    rows: &[Row<'_>],
+    name: &Token<'_>,
+    bang: &Token<'_>,
+    opening: &Token<'_>,
+) -> bool {
     is_mark_of(bang, b'!')
         && is_opening(opening.side())
         && is_word(name)
@@ -21,7 +26,7 @@ fn opens_call(rows: &[Row<'_>], name: &Token<'_>, bang: &Token<'_>, opening: &To
 #[derive(Clone, Copy)]
 pub struct Window<'a> {
     /// Whether `$` stands before the first one.
-    pub is_after: bool,
+    pub is_after_dollar: bool,
     /// The first one.
     pub name: Option<Token<'a>>,
     /// The second one.
@@ -40,7 +45,7 @@ pub struct Front<'a> {
 /// these.
 #[inline]
 fn front_of<'a>(rows: &[Row<'_>], last: Window<'a>, opening: Token<'a>) -> Option<Front<'a>> {
-    if last.is_after {
+    if last.is_after_dollar {
         return None;
     }
     let Some(name) = last.name else {
@@ -63,12 +68,12 @@ fn front_of<'a>(rows: &[Row<'_>], last: Window<'a>, opening: Token<'a>) -> Optio
 /// Returns the last two tokens with one more.
 #[inline]
 fn next_window<'a>(last: Window<'a>, token: Token<'a>) -> Window<'a> {
-    let is_after = match last.name {
+    let is_after_dollar = match last.name {
         Some(name) => is_mark_of(&name, b'$'),
-        None => last.is_after,
+        None => last.is_after_dollar,
     };
     Window {
-        is_after,
+        is_after_dollar,
         name: last.bang,
         bang: Some(token),
     }
@@ -96,7 +101,7 @@ pub fn next_part<'a>(
     balance: &mut Balance,
 ) -> Result<Option<Source<'a>>, AllocError> {
     let mut last = Window {
-        is_after: false,
+        is_after_dollar: false,
         name: None,
         bang: None,
     };

@@ -82,8 +82,7 @@ fn parser_of<'a>(mode: ParseMode, source: Source<'a>) -> Result<Parser<'a>, Allo
 #[inline]
 pub fn faults_in<'a>(mode: ParseMode, source: Source<'a>) -> Result<Findings<'a>, AllocError> {
     let mut parser = parser_of(mode, source)?;
-    let faults = faults_of(&mut parser)?;
-    Ok(faults)
+    faults_of(&mut parser)
 }
 
 /// The tokens of a source, and its faults.

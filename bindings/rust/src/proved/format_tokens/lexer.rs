@@ -52,8 +52,7 @@ fn literal_starts(
         None => ordinary_starts(literal, appended_newline),
         Some(hashes) => {
             let end = width_of(literal).saturating_sub(hashes + 1);
-            let starts = plain_starts(hashes + 2, input, end)?;
-            Ok(starts)
+            plain_starts(hashes + 2, input, end)
         }
     }
 }
@@ -108,10 +107,7 @@ pub fn place_labels(
     let tokens = place_whole(input, style, literal, appended_newline, needs_names, labels)?;
     match style {
         Some(_) => Ok(tokens),
-        None => {
-            let parts = cut_escapes(literal, tokens)?;
-            Ok(parts)
-        }
+        None => cut_escapes(literal, tokens),
     }
 }
 
@@ -146,6 +142,5 @@ pub fn tokens(
         Some(literal) => Some(literal.as_str()),
     };
     let labels = labels(input, mode)?;
-    let tokens = place_labels(input, style, text, appended_newline, mode, &labels)?;
-    Ok(tokens)
+    place_labels(input, style, text, appended_newline, mode, &labels)
 }

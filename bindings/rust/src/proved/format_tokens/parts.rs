@@ -164,21 +164,17 @@ pub fn position<'a>(
 ) -> Result<&'a str, AllocError> {
     match position {
         Position::ArgumentImplicitlyIs(_) => Ok(text),
-        Position::ArgumentIs(_) => {
-            let rest = take(
-                labels,
-                integer_kind(text),
-                run_width(text, Run::Digits),
-                text,
-            )?;
-            Ok(rest)
-        }
+        Position::ArgumentIs(_) => take(
+            labels,
+            integer_kind(text),
+            run_width(text, Run::Digits),
+            text,
+        ),
         Position::ArgumentNamed(name) => {
             let prefix = if is_raw(text, name) { 2 } else { 0 };
             let word = take(labels, Kind::RawPrefix, prefix, text)?;
             let kind = word_kind(Kind::Identifier, name);
-            let rest = take(labels, kind, width_of(name), word)?;
-            Ok(rest)
+            take(labels, kind, width_of(name), word)
         }
     }
 }
@@ -191,15 +187,12 @@ fn count<'a>(
     text: &'a str,
 ) -> Result<&'a str, AllocError> {
     match count {
-        Count::CountIs(_) => {
-            let rest = take(
-                labels,
-                integer_kind(text),
-                run_width(text, Run::Digits),
-                text,
-            )?;
-            Ok(rest)
-        }
+        Count::CountIs(_) => take(
+            labels,
+            integer_kind(text),
+            run_width(text, Run::Digits),
+            text,
+        ),
         Count::CountIsParam(_) => {
             let dollar = take(
                 labels,
@@ -207,19 +200,14 @@ fn count<'a>(
                 run_width(text, Run::Digits),
                 text,
             )?;
-            let rest = take(labels, Kind::DollarSign, 1, dollar)?;
-            Ok(rest)
+            take(labels, Kind::DollarSign, 1, dollar)
         }
         Count::CountIsName(name, _) => {
             let kind = word_kind(Kind::Identifier, name);
             let dollar = take(labels, kind, width_of(name), text)?;
-            let rest = take(labels, Kind::DollarSign, 1, dollar)?;
-            Ok(rest)
+            take(labels, Kind::DollarSign, 1, dollar)
         }
-        Count::CountIsStar(_) => {
-            let rest = take(labels, Kind::Asterisk, 1, text)?;
-            Ok(rest)
-        }
+        Count::CountIsStar(_) => take(labels, Kind::Asterisk, 1, text),
         Count::CountImplied => Ok(text),
     }
 }
@@ -233,8 +221,7 @@ fn width<'a>(
     text: &'a str,
 ) -> Result<&'a str, AllocError> {
     let rest_after = take(labels, Kind::Zero, usize::from(zero_pad), text)?;
-    let rest = count(labels, width, rest_after)?;
-    Ok(rest)
+    count(labels, width, rest_after)
 }
 
 /// Adds the tokens of a precision, with the dot before it.
@@ -245,8 +232,7 @@ fn precision<'a>(
     text: &'a str,
 ) -> Result<&'a str, AllocError> {
     let rest_after = take(labels, Kind::Dot, usize::from(begins(text, '.')), text)?;
-    let rest = count(labels, precision, rest_after)?;
-    Ok(rest)
+    count(labels, precision, rest_after)
 }
 
 /// Returns the byte length of a fill.
@@ -303,13 +289,12 @@ fn format<'a>(
     )?;
     let dot = width(labels, format.zero_pad, &format.width, number)?;
     let ty = precision(labels, &format.precision, dot)?;
-    let rest = take(
+    take(
         labels,
         word_kind(Kind::Type, format.ty),
         type_width(format.debug_hex, format.ty),
         ty,
-    )?;
-    Ok(rest)
+    )
 }
 
 /// Adds the tokens of a specification, with the colon before it.
@@ -325,18 +310,13 @@ pub fn specification<'a>(
     }
     let rest_after = take(labels, Kind::Colon, 1, text)?;
     match mode {
-        ParseMode::Format => {
-            let rest = format(labels, spec, rest_after)?;
-            Ok(rest)
-        }
+        ParseMode::Format => format(labels, spec, rest_after),
         ParseMode::InlineAsm => {
             let kind = word_kind(Kind::Modifier, spec.ty);
-            let rest = take(labels, kind, width_of(spec.ty), rest_after)?;
-            Ok(rest)
+            take(labels, kind, width_of(spec.ty), rest_after)
         }
         ParseMode::Diagnostic | ParseMode::DiagnosticNamed => {
-            let rest = take(labels, Kind::DiagnosticText, width_of(spec.ty), rest_after)?;
-            Ok(rest)
+            take(labels, Kind::DiagnosticText, width_of(spec.ty), rest_after)
         }
     }
 }

@@ -33,8 +33,7 @@ fn is_closed(bytes: usize, text: &str) -> bool {
 fn skip<'a>(labels: &mut Vec<Label>, bytes: usize, text: &'a str) -> Result<&'a str, AllocError> {
     let brace = usize::from(is_closed(bytes, text));
     let close = take(labels, Kind::Unexpected, bytes.saturating_sub(brace), text)?;
-    let rest = take(labels, Kind::CloseBrace, brace, close)?;
-    Ok(rest)
+    take(labels, Kind::CloseBrace, brace, close)
 }
 
 /// Adds the tokens of a placeholder at the start of a text, and returns the rest of the text after
@@ -63,8 +62,7 @@ fn placeholder<'a>(
         last,
     )?;
     let rest = take(labels, Kind::CloseBrace, usize::from(begins(end, '}')), end)?;
-    let rest_after = skip(labels, width_of(rest).saturating_sub(rest_len), rest)?;
-    Ok(rest_after)
+    skip(labels, width_of(rest).saturating_sub(rest_len), rest)
 }
 
 /// Returns the byte length of the doubled brace at the start of a piece of literal text, or 0 if it
@@ -87,13 +85,12 @@ fn literal<'a>(
     text: &'a str,
 ) -> Result<&'a str, AllocError> {
     let rest = take(labels, Kind::EscapedBrace, escape_width(text), text)?;
-    let rest_after = take(
+    take(
         labels,
         Kind::Text,
         width_of(rest).saturating_sub(rest_len),
         rest,
-    )?;
-    Ok(rest_after)
+    )
 }
 
 /// Adds the labels of a call at the start of a text, and returns the rest of the text after it:
@@ -109,23 +106,16 @@ pub fn label<'a>(
     text: &'a str,
 ) -> Result<&'a str, AllocError> {
     let Some(piece) = piece else {
-        let rest_after = take(
+        return take(
             labels,
             Kind::CloseBrace,
             width_of(text).saturating_sub(rest_len),
             text,
-        )?;
-        return Ok(rest_after);
+        );
     };
     match piece {
-        PieceKind::Lit(_) => {
-            let rest_after = literal(labels, rest_len, text)?;
-            Ok(rest_after)
-        }
-        PieceKind::NextArgument => {
-            let rest_after = placeholder(labels, mode, argument, rest_len, text)?;
-            Ok(rest_after)
-        }
+        PieceKind::Lit(_) => literal(labels, rest_len, text),
+        PieceKind::NextArgument => placeholder(labels, mode, argument, rest_len, text),
     }
 }
 

@@ -45,8 +45,7 @@ fn uses_in<'a>(
         return Ok(Uses::new());
     }
     let Reading { pieces, parser: _ } = read_all(text, style, snippet, false, task.mode)?;
-    let uses = uses_of(pieces.as_slice())?;
-    Ok(uses)
+    uses_of(pieces.as_slice())
 }
 
 /// Returns the report on the arguments that are missing or unused in a text.

@@ -39,8 +39,7 @@ fn owned_string(text: Option<&str>) -> Result<Option<String>, AllocError> {
 fn fault_of<'a>(message: Message<'a, '_, '_>) -> Result<Option<Fault<'a>>, AllocError> {
     let snippet = owned_string(message.snippet)?;
     let mut parser = Parser::new(message.text, None, snippet, false, ParseMode::Diagnostic)?;
-    let fault = text_fault(&mut parser)?;
-    Ok(fault)
+    text_fault(&mut parser)
 }
 
 /// Puts a name into a set.
@@ -195,6 +194,5 @@ fn faults_of<'a>(message: Message<'a, '_, '_>) -> Result<Vec<MessageFault<'a>>, 
 pub fn message_faults<'a>(
     message: Message<'a, '_, '_>,
 ) -> Result<Vec<MessageFault<'a>>, AllocError> {
-    let faults = faults_of(message)?;
-    Ok(faults)
+    faults_of(message)
 }

@@ -61,8 +61,7 @@ fn list_source(
     task: Task<'_>,
 ) -> Result<Listing, AllocError> {
     let mut parser = Parser::new(text, style, snippet, false, task.mode)?;
-    let listing = list_calls(&mut parser, task.arguments)?;
-    Ok(listing)
+    list_calls(&mut parser, task.arguments)
 }
 
 /// Returns the listing of the text that a literal stands for.

@@ -13,6 +13,7 @@ pub(crate) mod bodies;
 pub(crate) mod bytes;
 pub(crate) mod ends;
 pub(crate) mod first;
+pub(crate) mod fronts;
 pub(crate) mod kinds;
 pub(crate) mod lexer;
 pub(crate) mod literals;
@@ -20,6 +21,7 @@ pub(crate) mod numbers;
 pub(crate) mod openings;
 pub(crate) mod texts;
 
+pub use fronts::{begins_with_word, ends_with_barrier};
 pub use kinds::{Kind, Token};
 pub use lexer::{first_token, skip_head, split_first_token, tokens};
 pub use texts::split_first;

@@ -3,7 +3,7 @@
 // Extracted from crates/rust_trees/src/leaves.rt by tools/extract: not to be edited.
 // That source has the contracts, and is proved. That this text means the same is only tested.
 
-use crate::proved::rust_tokens::{skip_head, split_first_token, Kind};
+use crate::proved::rust_tokens::{begins_with_word, skip_head, split_first_token, Kind};
 use crate::proved::rust_trees::sides::{side_of, Side};
 use crate::shim::alloc::AllocError;
 use crate::shim::prelude::*;
@@ -92,6 +92,26 @@ impl<'a> Tokens<'a> {
         };
         self.rest = rest;
         Some(token)
+    }
+
+    /// Returns the rest of the file.
+    #[inline]
+    pub fn rest(&self) -> &'a str {
+        self.rest
+    }
+
+    /// Passes a front of the rest, if it begins with that and goes on with a word, and returns
+    /// whether it does. The front is passed as the tokens that it reads as before each word.
+    #[inline]
+    pub fn skip(&mut self, front: &str) -> bool {
+        let Some(rest) = self.rest.strip_prefix(front) else {
+            return false;
+        };
+        if !begins_with_word(rest) {
+            return false;
+        }
+        self.rest = rest;
+        true
     }
 
     /// Returns the next token without reading it, or `None` if none is left.

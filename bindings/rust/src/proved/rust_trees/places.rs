@@ -116,23 +116,23 @@ fn add_known(
 /// A text in which a place is found in a time that does not grow with the text.
 pub struct Places<'a> {
     text: &'a str,
-    known: Vec<KnownPlace>,
+    known_places: Vec<KnownPlace>,
 }
 
 impl<'a> Places<'a> {
     /// Reads a text.
     #[inline]
     pub(crate) fn new(text: &'a str) -> Result<Self, AllocError> {
-        let mut known = Vec::new();
+        let mut known_places = Vec::new();
         for step in 1..=text.len() / STEP {
-            add_known(&mut known, text, text.boundary_at_most(step * STEP))?;
+            add_known(&mut known_places, text, text.boundary_at_most(step * STEP))?;
         }
-        Ok(Places { text, known })
+        Ok(Places { text, known_places })
     }
 
     /// Returns the place of a byte offset at which a character of the text starts, or at its end.
     #[inline]
     pub fn place_of(&self, offset: usize) -> Place {
-        place_from(self.text, &self.known, offset)
+        place_from(self.text, &self.known_places, offset)
     }
 }

@@ -25,7 +25,7 @@ fn form_id(form: Form<'_>) -> &'static str {
 
 /// Adds a token that rustc found, in its words.
 #[inline]
-fn put_found(out: &mut String, operator: Operator<'_>) -> Result<(), AllocError> {
+fn put_operator(out: &mut String, operator: Operator<'_>) -> Result<(), AllocError> {
     out.try_push_str(kind_word(operator.first.text))?;
     out.try_push_str("`")?;
     out.try_push_str(operator.first.text)?;
@@ -73,11 +73,11 @@ fn put_title(out: &mut String, form: Form<'_>) -> Result<(), AllocError> {
         Form::NoLiteral { .. } => out.try_push_str("format argument must be a string literal")?,
         Form::NoComma { expected, operator } => {
             out.try_push_str(expected_words(expected))?;
-            put_found(out, operator)?;
+            put_operator(out, operator)?;
         }
         Form::NoOperand(operator) => {
             out.try_push_str(missing_words())?;
-            put_found(out, operator)?;
+            put_operator(out, operator)?;
         }
         Form::NoExpression { is_last, .. } => out.try_push_str(end_words(is_last))?,
     }
@@ -237,7 +237,7 @@ fn form_labels(text: &str, span: &Range<usize>, form: Form<'_>) -> Result<Vec<La
 
 /// Adds this many placeholders, each after a space.
 #[inline]
-fn put_more(out: &mut String, count: usize) -> Result<(), AllocError> {
+fn put_placeholders(out: &mut String, count: usize) -> Result<(), AllocError> {
     let mut countdown = count;
     while countdown > 0 {
         out.try_push_str(" {}")?;
@@ -250,7 +250,7 @@ fn put_more(out: &mut String, count: usize) -> Result<(), AllocError> {
 #[inline]
 fn literal_for(other_count: usize) -> Result<String, AllocError> {
     let mut text = String::made_from("\"{}")?;
-    put_more(&mut text, other_count)?;
+    put_placeholders(&mut text, other_count)?;
     text.try_push_str("\", ")?;
     Ok(text)
 }

@@ -37,7 +37,7 @@ pub fn notes(site: Site<'_, '_>, notes: Vec<CallNote>) -> Result<Vec<Note>, Allo
 
 /// Appends the source of a place of a call, if there is one.
 #[inline]
-fn put_copied(out: &mut String, site: Site<'_, '_>, spot: Option<Spot>) -> Result<(), AllocError> {
+fn put_source(out: &mut String, site: Site<'_, '_>, spot: Option<Spot>) -> Result<(), AllocError> {
     if let Some(spot) = spot {
         let range = spot_range(site, spot);
         out.try_push_str(&site.text[range.start..range.end])?;
@@ -50,7 +50,7 @@ fn put_copied(out: &mut String, site: Site<'_, '_>, spot: Option<Spot>) -> Resul
 #[inline]
 fn edit_text(site: Site<'_, '_>, edit: CallEdit) -> Result<String, AllocError> {
     let mut text = edit.text;
-    put_copied(&mut text, site, edit.copied_spot)?;
+    put_source(&mut text, site, edit.copied_spot)?;
     text.try_push_str(edit.rest)?;
     Ok(text)
 }

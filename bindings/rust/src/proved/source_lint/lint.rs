@@ -5,7 +5,7 @@
 
 use crate::proved::asm_lint::read_attributes;
 use crate::proved::format_calls::{calls, next_part, Call, Part, Table};
-use crate::proved::rust_trees::{Balance, Source, Tokens};
+use crate::proved::rust_trees::{Balance, FileBreak, Source, Tokens};
 use crate::proved::source_lint::macros::{macro_names, File};
 use crate::proved::source_lint::readings::read_call;
 use crate::proved::source_report::{CallReading, Finding, Options, Report};
@@ -69,17 +69,29 @@ fn put_attributes(findings: &mut Vec<Finding>, text: &str) -> Result<(), AllocEr
     Ok(())
 }
 
-/// Returns the report on a file whose calls have these readings, and whose tokens were all added to
-/// `balance`: the findings in its attributes follow those in its calls.
+/// Returns the report on a file whose calls have these readings, and that breaks there or not: the
+/// findings in its attributes follow those in its calls.
 #[inline]
-pub fn report_on(text: &str, readings: Readings, balance: Balance) -> Result<Report, AllocError> {
+pub(crate) fn report_with(
+    text: &str,
+    readings: Readings,
+    first_break: Option<FileBreak>,
+) -> Result<Report, AllocError> {
     let mut all_readings = readings;
     put_attributes(&mut all_readings.findings, text)?;
     Ok(Report {
         calls: all_readings.calls,
         findings: all_readings.findings,
-        first_break: balance.first_break(),
+        first_break,
     })
+}
+
+/// Returns the report on a file whose calls have these readings, and whose tokens were all added to
+/// `balance`.
+#[inline]
+pub fn report_on(text: &str, readings: Readings, balance: Balance) -> Result<Report, AllocError> {
+    let first_break = balance.first_break();
+    report_with(text, readings, first_break)
 }
 
 /// Reads a source file, and returns the faults of its calls of macros that take a format string or
@@ -95,6 +107,5 @@ pub fn file_faults(text: &str, options: &Options<'_>) -> Result<Report, AllocErr
     };
     let mut balance = Balance::new();
     let readings = read_file(file, &options.table, &mut balance)?;
-    let report = report_on(text, readings, balance)?;
-    Ok(report)
+    report_on(text, readings, balance)
 }

@@ -3,6 +3,7 @@
 // Extracted from crates/source_lint/src/lib.rt by tools/extract: not to be edited.
 // That source has the contracts, and is proved. That this text means the same is only tested.
 
+pub(crate) mod changed;
 pub(crate) mod findings;
 pub(crate) mod form_words;
 pub(crate) mod givens;
@@ -11,6 +12,7 @@ pub(crate) mod lint;
 pub(crate) mod macros;
 pub(crate) mod readings;
 
+pub use changed::changed_file_faults;
 pub use lint::{file_faults, read_calls, report_on, Readings};
 pub use macros::{macro_names, name_at, other_macro, File};
 pub use readings::{argument_at, arguments_before, captures_variables, ends_early, index_or};

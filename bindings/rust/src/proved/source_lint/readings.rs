@@ -145,14 +145,13 @@ fn read_with(
     let name = name_at(tokens, call.name);
     let appended_newline = appends_newline(name);
     let captures_variables = captures_variables(call.rule, name, file.is_from_2021);
-    let reading = read_string(
+    read_string(
         findings,
         site,
         appended_newline,
         captures_variables,
         is_counted,
-    )?;
-    Ok(reading)
+    )
 }
 
 /// Reads a call whose format string begins the argument of this index, and adds its findings.
@@ -181,11 +180,10 @@ fn read_at(
     let is_counted = extent.is_counted;
     let others = &arguments[index + 1..];
     if extent.end == call.close {
-        let reading = read_with(findings, file, part, call, literal, others, is_counted)?;
-        return Ok(reading);
+        return read_with(findings, file, part, call, literal, others, is_counted);
     }
     let kept_arguments = arguments_before(others, extent.end)?;
-    let reading = read_with(
+    read_with(
         findings,
         file,
         part,
@@ -193,8 +191,7 @@ fn read_at(
         literal,
         &kept_arguments,
         is_counted,
-    )?;
-    Ok(reading)
+    )
 }
 
 /// Reads a call whose format string is the argument of this index, or whose templates begin with
@@ -303,10 +300,7 @@ pub fn read_call<'a>(
     };
     let list = arguments.as_slice();
     match index_or(file, part, call, list) {
-        Ok(index) => {
-            let reading = read_one(findings, file, part, call, list, index)?;
-            Ok(reading)
-        }
+        Ok(index) => read_one(findings, file, part, call, list, index),
         Err(reading) => {
             let form = form_here(part, name, call.rule, file.is_from_2021, list, call.close);
             put_form(findings, file.text, tokens, call, list, form)?;

@@ -1,7 +1,7 @@
 use Rattle.std.proofs.Common.{◌≡◌, ◌++◌, ◌∙◌, ℕ, Bool, List, ap, false, get_or, map}
 use Rattle.std.specs.List.{list_any}
-use Rattle.asm_faults.specs.Compared.{means, unused_faults, unused_from}
-use Rattle.asm_faults.specs.Seen.{seen_fault, seen_lookup, seen_operand}
+use Rattle.asm_faults.specs.Comparison.{means, unused_faults, unused_from}
+use Rattle.asm_faults.specs.Views.{seen_fault, seen_lookup, seen_operand}
 use Rattle.asm_faults.proofs.Marking.{unused-same}
 use Rattle.asm_faults.proofs.comparison.check_unused.Goals as goal
 

@@ -1,8 +1,8 @@
 use Rattle.std.proofs.Common.{◌≡◌, ◌++◌, List, drop, map}
 use Rattle.std.specs.List.{filter_map}
-use Rattle.asm_faults.specs.Compared.{fault_of}
+use Rattle.asm_faults.specs.Comparison.{fault_of}
 use Rattle.asm_faults.specs.Operands.{Operand, count_unnamed}
-use Rattle.asm_faults.specs.Seen.{Holds, seen_fault, seen_lookup}
+use Rattle.asm_faults.specs.Views.{Holds, seen_fault, seen_lookup}
 use Rattle.asm_faults.proofs.comparison.look_up.Given as goal
 
 -- The faults so far, and then those of the lookups that are left, are all.

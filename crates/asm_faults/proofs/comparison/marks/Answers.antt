@@ -3,7 +3,7 @@ use Rattle.std.proofs.Common.{length, eq-eqb, List}
 use Rattle.std.proofs.lemmas.List.{length-map}
 use Rattle.text_faults.proofs.Marks.{or-none, set-length, set-marks}
 use Rattle.asm_faults.specs.Operands.{Operand}
-use Rattle.asm_faults.specs.Seen.{seen_lookup, seen_operand}
+use Rattle.asm_faults.specs.Views.{seen_lookup, seen_operand}
 use Rattle.asm_faults.proofs.Marking.{marked-next, means-below}
 use Rattle.asm_faults.proofs.comparison.marks.Goals.{in-Some+then-index-len, in-Some+else-index-len}
 use Rattle.asm_faults.proofs.comparison.marks.Goals.{in_default}

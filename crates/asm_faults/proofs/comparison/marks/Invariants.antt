@@ -1,8 +1,8 @@
 use Rattle.std.proofs.Common.{◌≡◌, ℕ, List, false, get_or, map, length, take}
 use Rattle.std.specs.List.{list_any}
-use Rattle.asm_faults.specs.Compared.{means}
+use Rattle.asm_faults.specs.Comparison.{means}
 use Rattle.asm_faults.specs.Operands.{Operand}
-use Rattle.asm_faults.specs.Seen.{Holds, seen_lookup}
+use Rattle.asm_faults.specs.Views.{Holds, seen_lookup}
 use Rattle.asm_faults.proofs.comparison.marks.Given as goal
 
 -- The operands that the lookups so far mean are marked.

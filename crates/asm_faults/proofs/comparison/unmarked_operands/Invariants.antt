@@ -1,6 +1,6 @@
 use Rattle.std.proofs.Common.{◌≡◌, ◌++◌, drop, false, get_or, map}
-use Rattle.asm_faults.specs.Compared.{unused_from}
-use Rattle.asm_faults.specs.Seen.{seen_operand}
+use Rattle.asm_faults.specs.Comparison.{unused_from}
+use Rattle.asm_faults.specs.Views.{seen_operand}
 use Rattle.asm_faults.proofs.comparison.unmarked_operands.Given as goal
 
 -- What was found, and then what is found of the operands that are left, is all.

@@ -1,6 +1,6 @@
 use Rattle.std.proofs.Common.{◌≡◌, ◌++◌, length, map}
 use Rattle.asm_faults.specs.Labels.{kinds_at}
-use Rattle.asm_faults.specs.Seen.{seen_label, seen_operand}
+use Rattle.asm_faults.specs.Views.{seen_label, seen_operand}
 use Rattle.asm_faults.proofs.labels.push_kinds.Given as goal
 
 -- The labels so far, and then those of the rest, are all.

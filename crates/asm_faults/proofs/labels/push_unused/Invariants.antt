@@ -1,6 +1,6 @@
 use Rattle.std.proofs.Common.{◌≡◌, ◌++◌, length, map}
 use Rattle.asm_faults.specs.Labels.{unused_labels}
-use Rattle.asm_faults.specs.Seen.{seen_label, seen_operand}
+use Rattle.asm_faults.specs.Views.{seen_label, seen_operand}
 use Rattle.asm_faults.proofs.labels.push_unused.Given as goal
 
 -- What is added, and then the labels of what is left, is all.

@@ -1,7 +1,7 @@
 use Rattle.std.proofs.Common.{◌≡◌, ◌≤◌, ◌++◌, drop, length, map}
-use Rattle.rustc_parse_format.specs.Seen.{pair, seen_piece}
+use Rattle.rustc_parse_format.specs.Views.{pair, seen_piece}
 use Rattle.asm_faults.specs.Lookups.{next_after_pieces, piece_lookups}
-use Rattle.asm_faults.specs.Seen.{seen_lookup}
+use Rattle.asm_faults.specs.Views.{seen_lookup}
 use Rattle.asm_faults.proofs.lookups.push_pieces.Given as goal
 
 -- What is in the list, and then what is looked up for the pieces that are left, is all.

@@ -1,6 +1,6 @@
 use Rattle.std.proofs.Common.{◌≡◌, ◌++◌, length, map, string_bytes}
 use Rattle.asm_faults.specs.Notes.{placeholders}
-use Rattle.asm_faults.specs.Seen.{seen_operand}
+use Rattle.asm_faults.specs.Views.{seen_operand}
 use Rattle.asm_faults.proofs.notes.put_placeholders.Given as goal
 
 -- What is written, and then what is left, is all.

@@ -1,6 +1,6 @@
 use Rattle.std.proofs.Common.{◌≡◌, ◌≤◌, ◌+◌, drop, map}
 use Rattle.asm_faults.specs.Operands.{count_unnamed}
-use Rattle.asm_faults.specs.Seen.{seen_operand}
+use Rattle.asm_faults.specs.Views.{seen_operand}
 use Rattle.asm_faults.proofs.operands.count_unnamed.Given as goal
 
 -- The count so far, and that of what is left, is the count of all.

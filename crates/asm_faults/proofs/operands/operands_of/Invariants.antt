@@ -1,6 +1,6 @@
 use Rattle.std.proofs.Common.{◌≡◌, ◌++◌, [], map, drop, length}
 use Rattle.asm_faults.specs.Operands.{faults_from, slots_after}
-use Rattle.asm_faults.specs.Seen.{Holds, seen_fault, seen_operand}
+use Rattle.asm_faults.specs.Views.{Holds, seen_fault, seen_operand}
 use Rattle.asm_faults.proofs.operands.operands_of.Given as goal
 
 -- What was found, and then what is found of the operands that are left, is all; and so it is with

@@ -1,5 +1,5 @@
 use Rattle.std.proofs.Common.{◌≡◌, ◌≤◌, ◌++◌, drop, length, map}
-use Rattle.asm_faults.specs.Seen.{seen_lookup, seen_template}
+use Rattle.asm_faults.specs.Views.{seen_lookup, seen_template}
 use Rattle.asm_faults.specs.Templates.{lookups_from, template_fault}
 use Rattle.asm_faults.proofs.templates.push_templates.Given as goal
 

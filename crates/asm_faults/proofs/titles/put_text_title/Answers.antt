@@ -1,6 +1,6 @@
 use Rattle.std.proofs.Common.{◌≡◌, ◌++◌, ◌∙◌, ap, append_assoc, codes, string_bytes, List, ℕ}
 use Rattle.rustc_parse_format.specs.Faults.{Message, message}
-use Rattle.rustc_parse_format.specs.SeenFaults.{seen_fault}
+use Rattle.rustc_parse_format.specs.FaultViews.{seen_fault}
 use Rattle.rustc_parse_format.specs.World.{Place}
 use Rattle.asm_faults.proofs.titles.put_text_title.Goals as goal
 

@@ -1,5 +1,5 @@
 use Rattle.std.proofs.Common.{refl, string_bytes}
-use Rattle.asm_faults.specs.Seen.{seen_label}
+use Rattle.asm_faults.specs.Views.{seen_label}
 use Rattle.asm_lint.specs.Spans.{IsSpan}
 use Rattle.asm_lint.proofs.Elements.{all-more, mapped-more}
 use Rattle.asm_lint.proofs.asm_findings.labels.Goals as goal

@@ -1,6 +1,6 @@
 use Rattle.std.proofs.Common.{◌∙◌, ◌++◌, ◌∷◌, [], ap, map, subst, sym, take}
 use Rattle.std.proofs.lemmas.List.{take_all}
-use Rattle.asm_faults.specs.Seen.{seen_fault, seen_operand}
+use Rattle.asm_faults.specs.Views.{seen_fault, seen_operand}
 use Rattle.text_faults.proofs.Collecting.{map-next}
 use Rattle.asm_lint.proofs.AsmTelling.{Telling, telling-more, telling-none}
 use Rattle.asm_lint.proofs.asm_findings.put_findings.Goals as goal

@@ -1,6 +1,6 @@
 use Rattle.std.proofs.Common.{map, take}
 use Rattle.std.specs.List.{All}
-use Rattle.asm_faults.specs.Seen.{seen_fault, seen_operand}
+use Rattle.asm_faults.specs.Views.{seen_fault, seen_operand}
 use Rattle.asm_lint.specs.Spans.{HasSpans}
 use Rattle.asm_lint.proofs.AsmTelling.{Telling}
 use Rattle.asm_lint.proofs.asm_findings.put_findings.Given as goal

@@ -1,7 +1,7 @@
 use Rattle.std.proofs.Common.{◌≡◌, ◌<◌, ◌++◌, drop, length, map}
 use Rattle.std.specs.Prelude.{◌||◌}
 use Rattle.std.specs.List.{AllByRecursion}
-use Rattle.asm_faults.specs.Seen.{seen_operand}
+use Rattle.asm_faults.specs.Views.{seen_operand}
 use Rattle.asm_lint.specs.Assembly.{are_raw, is_unknown, operands}
 use Rattle.asm_lint.proofs.assembly.operands_of.Given as goal
 

@@ -1,5 +1,6 @@
 use Rattle.std.proofs.Common.{◌≡◌, ◌+◌, ◌-◌, ◌∙◌, ap, drop, length, map, take}
 use Rattle.std.specs.Prelude.{◌&&◌, not}
+use Rattle.std.proofs.lemmas.Result.{IfOk-weaker}
 use Rattle.rust_trees.specs.Leaves.{leaf}
 use Rattle.rust_trees.proofs.Growing.{pair-within}
 use Rattle.format_calls.specs.Assembly.{template_count}
@@ -40,10 +41,11 @@ returns-clause-read c =
     let others : take (length args - m) (drop m args) ≡ drop (template_count xs args) args =
     all-after args m ∙ ap (λ k. drop k args) n in
     let t = rw c.source.ensures at c.extent_of-extent.ensures.trees in
-    let r = rw tokens at c.in_ok-reading.ensures.read in
+    let made = rw tokens at c.read_literals.ensures.read in
     let list = c.in_ok-operands.ensures.list in
     let raw = c.in_ok-operands.ensures.raw in
-    let unknown = c.in_ok-operands.ensures.unknown in (
+    let unknown = c.in_ok-operands.ensures.unknown in
+    IfOk-weaker c.read_literals.result _ _ (λ _ r. (
       r.0,
       r.1,
       record {
@@ -58,4 +60,4 @@ returns-clause-read c =
             ∙ ap (λ b. not (is_unknown xs (drop (template_count xs args) args)) && b) t.2))
             (list ∙ ap (λ v. operands xs v) others) r.2;
       },
-    )
+    )) made

@@ -1,7 +1,7 @@
 use Rattle.std.proofs.Common.{◌≡◌, ◌∙◌, [], List, ap, inr, map, subst}
 use Rattle.asm_faults.specs.Calls.{asm_faults}
 use Rattle.asm_faults.specs.Operands.{Operand, slots_after}
-use Rattle.asm_faults.specs.Seen.{seen_operand, seen_template}
+use Rattle.asm_faults.specs.Views.{seen_operand, seen_template}
 use Rattle.asm_faults.specs.Templates.{Template}
 use Rattle.asm_lint.specs.AsmFindings.{TellAllAsm, counted_asm}
 use Rattle.asm_lint.specs.Assembly.{read_templates, seen_read}

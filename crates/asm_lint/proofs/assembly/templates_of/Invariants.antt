@@ -2,7 +2,7 @@ use Rattle.std.proofs.Common.{◌≡◌, ◌+◌, ◌<◌, ◌^◌, ◌++◌, dr
 use Rattle.std.specs.Prelude.{string_bytes}
 use Rattle.std.specs.List.{AllByRecursion}
 use Rattle.rustc_parse_format.specs.World.{hashes}
-use Rattle.asm_faults.specs.Seen.{seen_template}
+use Rattle.asm_faults.specs.Views.{seen_template}
 use Rattle.asm_lint.specs.Assembly.{seen_read}
 use Rattle.asm_lint.proofs.assembly.templates_of.Given as goal
 

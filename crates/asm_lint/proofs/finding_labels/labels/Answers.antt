@@ -1,5 +1,5 @@
 use Rattle.std.proofs.Common.{refl, string_bytes}
-use Rattle.text_faults.specs.Seen.{seen_label}
+use Rattle.text_faults.specs.Views.{seen_label}
 use Rattle.asm_lint.specs.Spans.{IsSpan}
 use Rattle.asm_lint.proofs.Elements.{all-more, mapped-more}
 use Rattle.asm_lint.proofs.finding_labels.labels.Goals as goal

@@ -1,7 +1,7 @@
 use Rattle.std.proofs.Common.{◌≡◌, map}
 use Rattle.std.specs.Prelude.{string_bytes}
 use Rattle.std.specs.List.{All}
-use Rattle.text_faults.specs.Seen.{seen_label}
+use Rattle.text_faults.specs.Views.{seen_label}
 use Rattle.asm_lint.specs.Spans.{IsSpan}
 use Rattle.asm_lint.proofs.finding_labels.labels.Given as goal
 

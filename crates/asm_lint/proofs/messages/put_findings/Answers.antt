@@ -1,6 +1,6 @@
 use Rattle.std.proofs.Common.{◌≡◌, ◌++◌, ◌∷◌, [], chars, map, refl, subst, sym}
 use Rattle.std.proofs.lemmas.List.{drop_all}
-use Rattle.message_faults.specs.Seen.{seen_fault}
+use Rattle.message_faults.specs.Views.{seen_fault}
 use Rattle.asm_lint.specs.Attributes.{TellMessages, TellsMessage}
 use Rattle.asm_lint.specs.Spans.{HasSpans}
 use Rattle.source_report.specs.declared.report.Finding.{Finding}

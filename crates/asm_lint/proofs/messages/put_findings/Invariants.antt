@@ -1,6 +1,6 @@
 use Rattle.std.proofs.Common.{chars, drop, map}
 use Rattle.std.specs.List.{All}
-use Rattle.message_faults.specs.Seen.{seen_fault}
+use Rattle.message_faults.specs.Views.{seen_fault}
 use Rattle.asm_lint.specs.Attributes.{TellMessages}
 use Rattle.asm_lint.specs.Spans.{HasSpans}
 use Rattle.asm_lint.proofs.Gathering.{Gathered}

@@ -3,7 +3,7 @@ use Rattle.std.proofs.lemmas.List.{append-nil}
 use Rattle.rustc_parse_format.specs.State.{first_state}
 use Rattle.rustc_parse_format.specs.Types.{Diagnostic}
 use Rattle.message_faults.specs.Messages.{message_faults}
-use Rattle.message_faults.specs.Seen.{seen_fault}
+use Rattle.message_faults.specs.Views.{seen_fault}
 use Rattle.asm_lint.specs.Attributes.{TellMessages, message_start}
 use Rattle.asm_lint.specs.Literals.{without_crs}
 use Rattle.asm_lint.proofs.messages.read_text.Goals as goal

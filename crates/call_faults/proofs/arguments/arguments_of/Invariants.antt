@@ -2,7 +2,7 @@ use Rattle.std.proofs.Common.{◌≡◌, ◌++◌, [], map, drop}
 use Rattle.std.specs.List.{list_any}
 use Rattle.call_faults.specs.Arguments.{kept_after, list_faults}
 use Rattle.call_faults.specs.Calls.{is_last}
-use Rattle.call_faults.specs.Seen.{Holds, seen_fault, seen_given, seen_entry}
+use Rattle.call_faults.specs.Views.{Holds, seen_fault, seen_given, seen_entry}
 use Rattle.call_faults.proofs.arguments.arguments_of.Given as goal
 
 -- What was found, and then what is found of the arguments that are left, is all; and so it is with

@@ -1,12 +1,12 @@
 use Rattle.std.proofs.Common.{◌≡◌, ◌==◌, ◌∙◌, [], ap, chars, map, refl, sym}
 use Rattle.std.specs.Prelude.{is_none}
 use Rattle.rustc_parse_format.specs.Call.{pieces_of}
-use Rattle.rustc_parse_format.specs.Seen.{seen_piece, seen_error}
+use Rattle.rustc_parse_format.specs.Views.{seen_piece, seen_error}
 use Rattle.rustc_parse_format.specs.State.{State, after_all, calls, first_state}
 use Rattle.rustc_parse_format.specs.Types.{Format}
 use Rattle.rustc_parse_format.specs.World.{pieces_in}
 use Rattle.call_faults.specs.Calls.{call_faults}
-use Rattle.call_faults.specs.Seen.{seen_fault, seen_given, start}
+use Rattle.call_faults.specs.Views.{seen_fault, seen_given, start}
 use Rattle.call_faults.specs.Spots.{counts_before}
 use Rattle.text_faults.specs.Texts.{text_fault}
 use Rattle.call_faults.proofs.Checking.{clean-is, map-nil}

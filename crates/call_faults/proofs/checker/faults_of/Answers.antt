@@ -2,13 +2,13 @@ use Rattle.std.proofs.Common.{◌≡◌, ◌++◌, ◌<◌, ◌∙◌, [], ap, a
 use Rattle.std.proofs.Common.{ℕ, ◌+◌}
 use Rattle.std.specs.List.{AllByRecursion, list_any}
 use Rattle.std.proofs.lemmas.List.{length-map}
-use Rattle.rustc_parse_format.specs.Seen.{seen_piece}
+use Rattle.rustc_parse_format.specs.Views.{seen_piece}
 use Rattle.call_faults.specs.Arguments.{kept_after, list_faults}
 use Rattle.call_faults.specs.Calls.{is_last}
 use Rattle.call_faults.specs.CallFaults.{CallFault}
 use Rattle.call_faults.specs.Comparison.{comparison_faults}
 use Rattle.call_faults.specs.Lookups.{lookups_from}
-use Rattle.call_faults.specs.Seen.{Holds, seen_fault, seen_given, seen_lookup, start}
+use Rattle.call_faults.specs.Views.{Holds, seen_fault, seen_given, seen_lookup, start}
 use Rattle.text_faults.specs.Texts.{text_fault}
 use Rattle.call_faults.proofs.Checking.{read-total}
 use Rattle.call_faults.proofs.Comparing.{kept-below}

@@ -3,7 +3,7 @@ use Rattle.std.specs.List.{filter_map}
 use Rattle.std.proofs.lemmas.List.{append-nil, length-map, map-append}
 use Rattle.call_faults.specs.Comparison.{invalid_reference, is_settled, lookup_faults}
 use Rattle.call_faults.specs.Comparison.{invalid_references, names, unused_arguments}
-use Rattle.call_faults.specs.Seen.{seen_fault, seen_entry, seen_lookup}
+use Rattle.call_faults.specs.Views.{seen_fault, seen_entry, seen_lookup}
 use Rattle.call_faults.proofs.Comparing.{compared-parts, holds-knows, joined, left-is}
 use Rattle.call_faults.proofs.comparison.compare.Goals as goal
 

@@ -1,7 +1,7 @@
 use Rattle.std.proofs.Common.{◌≡◌, ◌++◌, List, drop, map}
 use Rattle.rustc_parse_format.specs.Characters.{Text}
 use Rattle.call_faults.specs.Comparison.{lookup_faults}
-use Rattle.call_faults.specs.Seen.{KnowsNames, seen_fault, seen_lookup}
+use Rattle.call_faults.specs.Views.{KnowsNames, seen_fault, seen_lookup}
 use Rattle.call_faults.proofs.comparison.look_up.Given as goal
 
 -- What was found, and then what is found of the lookups that are left with the names that are known

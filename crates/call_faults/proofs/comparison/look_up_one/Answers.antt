@@ -7,7 +7,7 @@ use Rattle.call_faults.specs.declared.lookups.Lookup.TheVariants.{Refer as Decla
 use Rattle.call_faults.specs.declared.lookups.ArgRef.TheVariants.{Name}
 use Rattle.call_faults.specs.CallFaults.{CallFault}
 use Rattle.call_faults.specs.Comparison.{lookup_faults}
-use Rattle.call_faults.specs.Seen.{found_in, seen_fault, seen_lookup}
+use Rattle.call_faults.specs.Views.{found_in, seen_fault, seen_lookup}
 use Rattle.call_faults.proofs.Comparing.{now-known, outcome-name}
 use Rattle.call_faults.proofs.comparison.look_up_one.Goals as goal
 

@@ -3,7 +3,7 @@ use Rattle.std.proofs.Common.{sym, ap, true, set, length}
 use Rattle.std.proofs.Common.{ℕ, Option, Some, None, eq-eqb}
 use Rattle.std.specs.Option.{option_map_or}
 use Rattle.call_faults.specs.Comparison.{means}
-use Rattle.call_faults.specs.Seen.{seen_lookup}
+use Rattle.call_faults.specs.Views.{seen_lookup}
 use Rattle.call_faults.proofs.Comparing.{marked-next, means-below}
 use Rattle.text_faults.proofs.Marks.{or-none, set-length, set-marks}
 use Rattle.call_faults.proofs.comparison.marks.Goals.{in-Some+then-index-len}

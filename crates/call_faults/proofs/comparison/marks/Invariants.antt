@@ -2,7 +2,7 @@ use Rattle.std.proofs.Common.{◌≡◌, ℕ, ◌<◌, List, false, get_or, map,
 use Rattle.std.specs.List.{AllByRecursion, list_any}
 use Rattle.call_faults.specs.Arguments.{Entry}
 use Rattle.call_faults.specs.Comparison.{means}
-use Rattle.call_faults.specs.Seen.{Holds, seen_lookup}
+use Rattle.call_faults.specs.Views.{Holds, seen_lookup}
 use Rattle.call_faults.proofs.comparison.marks.Given as goal
 
 -- The arguments that the lookups so far mean are marked.

@@ -1,6 +1,6 @@
 use Rattle.std.proofs.Common.{refl, sym}
 use Rattle.call_faults.specs.Comparison.{is_missing_name}
-use Rattle.call_faults.specs.Seen.{seen_fault}
+use Rattle.call_faults.specs.Views.{seen_fault}
 use Rattle.text_faults.proofs.Collecting.{list_any-here}
 use Rattle.call_faults.proofs.comparison.misses_name.Goals as goal
 

@@ -1,7 +1,7 @@
 use Rattle.std.proofs.Common.{◌≡◌, false, map, take}
 use Rattle.std.specs.List.{list_any}
 use Rattle.call_faults.specs.Comparison.{is_missing_name}
-use Rattle.call_faults.specs.Seen.{seen_fault}
+use Rattle.call_faults.specs.Views.{seen_fault}
 use Rattle.call_faults.proofs.comparison.misses_name.Given as goal
 
 -- None of the faults so far is a missing name.

@@ -3,7 +3,7 @@ use Rattle.std.specs.List.{cons_option, filter_map}
 use Rattle.std.proofs.lemmas.List.{append-nil}
 use Rattle.call_faults.specs.CallFaults.{CallFault}
 use Rattle.call_faults.specs.Comparison.{by_index}
-use Rattle.call_faults.specs.Seen.{seen_fault, seen_entry, seen_lookup}
+use Rattle.call_faults.specs.Views.{seen_fault, seen_entry, seen_lookup}
 use Rattle.text_faults.proofs.Collecting.{gathered-rest_after}
 use Rattle.call_faults.proofs.comparison.push_index_faults.Goals.{in-Some+in_ok-push, in_default}
 use Rattle.call_faults.proofs.comparison.push_index_faults.Goals as goal

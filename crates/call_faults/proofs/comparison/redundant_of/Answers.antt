@@ -2,7 +2,7 @@ use Rattle.std.proofs.Common.{◌∙◌, map, sym}
 use Rattle.std.specs.Prelude.{is_some}
 use Rattle.std.proofs.lemmas.List.{append-nil}
 use Rattle.call_faults.specs.Comparison.{is_redundant}
-use Rattle.call_faults.specs.Seen.{found_in, seen_entry, seen_lookup}
+use Rattle.call_faults.specs.Views.{found_in, seen_entry, seen_lookup}
 use Rattle.call_faults.proofs.Comparing.{kept-next, redundant-is}
 use Rattle.call_faults.proofs.comparison.redundant_of.Goals.{then-is_redundant+in_ok-push}
 use Rattle.call_faults.proofs.comparison.redundant_of.Goals.{else-is_redundant}

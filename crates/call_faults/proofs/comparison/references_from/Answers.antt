@@ -1,6 +1,6 @@
 use Rattle.std.proofs.Common.{sym, ◌∙◌}
 use Rattle.call_faults.specs.Comparison.{invalid_reference}
-use Rattle.call_faults.specs.Seen.{seen_lookup}
+use Rattle.call_faults.specs.Views.{seen_lookup}
 use Rattle.text_faults.proofs.Collecting.{gathered}
 use Rattle.std.proofs.lemmas.List.{append-nil}
 use Rattle.call_faults.proofs.comparison.references_from.Goals.{in-Some+in_ok-push, in_default}

@@ -1,7 +1,7 @@
 use Rattle.std.proofs.Common.{◌≡◌, map, take}
 use Rattle.std.specs.List.{filter_map}
 use Rattle.call_faults.specs.Comparison.{invalid_reference}
-use Rattle.call_faults.specs.Seen.{seen_lookup}
+use Rattle.call_faults.specs.Views.{seen_lookup}
 use Rattle.call_faults.proofs.comparison.references_from.Given as goal
 
 abbrev pub invariant-loop-lookup : goal.invariant-loop-lookup

@@ -1,5 +1,5 @@
 use Rattle.std.proofs.Common.{◌≡◌, false, filter, get_or, map, not, take}
-use Rattle.call_faults.specs.Seen.{seen_entry}
+use Rattle.call_faults.specs.Views.{seen_entry}
 use Rattle.call_faults.proofs.comparison.unmarked_arguments.Given as goal
 
 abbrev pub invariant-loop-entry : goal.invariant-loop-entry

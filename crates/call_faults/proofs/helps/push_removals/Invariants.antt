@@ -1,6 +1,6 @@
 use Rattle.std.proofs.Common.{◌≡◌, ◌++◌, length, map}
 use Rattle.call_faults.specs.Notes.{removal}
-use Rattle.call_faults.specs.Seen.{seen_edit, seen_given}
+use Rattle.call_faults.specs.Views.{seen_edit, seen_given}
 use Rattle.call_faults.proofs.helps.push_removals.Given as goal
 
 -- What is added, and then the edits of what is left, is all.

@@ -1,6 +1,6 @@
 use Rattle.std.proofs.Common.{◌≡◌, ◌+◌, drop, map}
 use Rattle.call_faults.specs.Notes.{unnamed_count}
-use Rattle.call_faults.specs.Seen.{seen_given}
+use Rattle.call_faults.specs.Views.{seen_given}
 use Rattle.call_faults.proofs.helps.unnamed_count.Given as goal
 
 -- Those so far, and then those of what is left, are all.

@@ -1,6 +1,6 @@
 use Rattle.std.proofs.Common.{◌≡◌, drop, map}
 use Rattle.call_faults.specs.Labels.{have_names}
-use Rattle.call_faults.specs.Seen.{seen_given}
+use Rattle.call_faults.specs.Views.{seen_given}
 use Rattle.call_faults.proofs.labels.have_names.Given as goal
 
 -- The answer for what is left is the answer for all.

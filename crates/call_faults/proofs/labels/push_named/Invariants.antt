@@ -1,6 +1,6 @@
 use Rattle.std.proofs.Common.{◌≡◌, ◌++◌, length, map}
 use Rattle.call_faults.specs.Labels.{named_text}
-use Rattle.text_faults.specs.Seen.{seen_label}
+use Rattle.text_faults.specs.Views.{seen_label}
 use Rattle.text_faults.specs.Spots.{secondary}
 use Rattle.text_faults.specs.declared.spots.Spot.TheVariants.{Argument as WholeArgument}
 use Rattle.call_faults.proofs.labels.push_named.Given as goal

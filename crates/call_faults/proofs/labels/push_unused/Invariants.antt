@@ -1,7 +1,7 @@
 use Rattle.std.proofs.Common.{◌≡◌, ◌++◌, length, map}
 use Rattle.call_faults.specs.Labels.{unused_labels}
-use Rattle.call_faults.specs.Seen.{seen_given}
-use Rattle.text_faults.specs.Seen.{seen_label}
+use Rattle.call_faults.specs.Views.{seen_given}
+use Rattle.text_faults.specs.Views.{seen_label}
 use Rattle.call_faults.proofs.labels.push_unused.Given as goal
 
 -- What is added, and then the labels of what is left, is all.

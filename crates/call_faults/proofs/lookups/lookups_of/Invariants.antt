@@ -1,7 +1,7 @@
 use Rattle.std.proofs.Common.{◌≡◌, ◌++◌, map, drop}
-use Rattle.rustc_parse_format.specs.Seen.{seen_piece}
+use Rattle.rustc_parse_format.specs.Views.{seen_piece}
 use Rattle.call_faults.specs.Lookups.{lookups_from}
-use Rattle.call_faults.specs.Seen.{seen_lookup}
+use Rattle.call_faults.specs.Views.{seen_lookup}
 use Rattle.call_faults.proofs.lookups.lookups_of.Given as goal
 
 -- What is in the list, and then what is looked up for the pieces that are left, is all.

@@ -1,6 +1,6 @@
 use Rattle.std.proofs.Common.{◌≡◌, ◌++◌, [], length, map}
-use Rattle.rustc_parse_format.specs.Seen.{seen_piece}
-use Rattle.text_faults.specs.Seen.{seen_label}
+use Rattle.rustc_parse_format.specs.Views.{seen_piece}
+use Rattle.text_faults.specs.Views.{seen_label}
 use Rattle.text_faults.specs.Spots.{primary}
 use Rattle.call_faults.specs.Spots.{reference_spot}
 use Rattle.call_faults.proofs.missing_labels.push_missing.Given as goal

@@ -1,7 +1,7 @@
 use Rattle.std.proofs.Common.{◌≡◌, ◌++◌, drop, map}
-use Rattle.rustc_parse_format.specs.Seen.{pair, seen_piece}
+use Rattle.rustc_parse_format.specs.Views.{pair, seen_piece}
 use Rattle.call_faults.specs.Labels.{next_labels}
-use Rattle.text_faults.specs.Seen.{seen_label}
+use Rattle.text_faults.specs.Views.{seen_label}
 use Rattle.call_faults.proofs.missing_labels.push_nexts.Given as goal
 
 -- What is added, and then the labels of what is left, is all.

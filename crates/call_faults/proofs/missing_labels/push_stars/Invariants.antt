@@ -1,7 +1,7 @@
 use Rattle.std.proofs.Common.{◌≡◌, ◌++◌, drop, map}
-use Rattle.rustc_parse_format.specs.Seen.{seen_piece}
+use Rattle.rustc_parse_format.specs.Views.{seen_piece}
 use Rattle.call_faults.specs.Labels.{star_labels}
-use Rattle.text_faults.specs.Seen.{seen_label}
+use Rattle.text_faults.specs.Views.{seen_label}
 use Rattle.call_faults.proofs.missing_labels.push_stars.Given as goal
 
 -- What is added, and then the labels of what is left, is all.

@@ -1,5 +1,5 @@
 use Rattle.std.proofs.Common.{◌≡◌, ◌++◌, [], length, map}
-use Rattle.text_faults.specs.Seen.{seen_label}
+use Rattle.text_faults.specs.Views.{seen_label}
 use Rattle.text_faults.specs.Spots.{secondary}
 use Rattle.text_faults.specs.declared.spots.Spot.TheVariants.{Value}
 use Rattle.call_faults.proofs.missing_labels.push_values.Given as goal

@@ -1,7 +1,7 @@
 use Rattle.std.proofs.Common.{◌≡◌, ◌++◌, drop, is_some, map}
-use Rattle.rustc_parse_format.specs.Seen.{seen_piece}
+use Rattle.rustc_parse_format.specs.Views.{seen_piece}
 use Rattle.call_faults.specs.Notes.{named_positions}
-use Rattle.call_faults.specs.Seen.{found_in}
+use Rattle.call_faults.specs.Views.{found_in}
 use Rattle.call_faults.proofs.notes.named_positions.Given as goal
 
 -- What is added, and then the places of what is left, is all.

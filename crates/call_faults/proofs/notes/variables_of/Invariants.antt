@@ -2,7 +2,7 @@ use Rattle.std.proofs.Common.{◌≡◌, is_some, map, take}
 use Rattle.std.specs.List.{list_any}
 use Rattle.rustc_parse_format.specs.Characters.{Text}
 use Rattle.call_faults.specs.Notes.{is_variable}
-use Rattle.call_faults.specs.Seen.{found_in, seen_given}
+use Rattle.call_faults.specs.Views.{found_in, seen_given}
 use Rattle.call_faults.proofs.notes.variables_of.Given as goal
 
 -- The map has the variables of the arguments so far.

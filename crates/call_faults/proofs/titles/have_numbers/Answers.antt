@@ -1,6 +1,6 @@
 use Rattle.std.proofs.Common.{◌∙◌, ap, sym}
 use Rattle.rustc_parse_format.specs.declared.types.Piece.{Piece}
-use Rattle.rustc_parse_format.specs.Seen.{seen_piece}
+use Rattle.rustc_parse_format.specs.Views.{seen_piece}
 use Rattle.call_faults.specs.Words.{has_number}
 use Rattle.text_faults.proofs.Collecting.{list_any-here}
 use Rattle.call_faults.proofs.titles.have_numbers.Goals as goal

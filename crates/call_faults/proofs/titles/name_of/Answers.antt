@@ -1,7 +1,7 @@
 use Rattle.std.proofs.Common.{ap}
 use Rattle.std.specs.Prelude.{option_map}
-use Rattle.placeholder_check.specs.Seen.{text}
-use Rattle.call_faults.specs.Seen.{seen_given}
+use Rattle.placeholder_check.specs.Views.{text}
+use Rattle.call_faults.specs.Views.{seen_given}
 use Rattle.call_faults.proofs.ArgumentNames.{no-argument, no-name}
 use Rattle.call_faults.proofs.titles.name_of.Goals as goal
 

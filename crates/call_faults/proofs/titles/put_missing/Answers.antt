@@ -1,6 +1,6 @@
 use Rattle.std.proofs.Common.{◌≡◌, ◌∙◌, length, map, rules, sym, true}
 use Rattle.std.specs.List.{list_any}
-use Rattle.rustc_parse_format.specs.Seen.{seen_piece}
+use Rattle.rustc_parse_format.specs.Views.{seen_piece}
 use Rattle.call_faults.specs.Words.{has_number}
 use Rattle.call_faults.proofs.titles.put_missing.Goals as goal
 

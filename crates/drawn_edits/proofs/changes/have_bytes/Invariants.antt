@@ -1,5 +1,5 @@
 use Rattle.std.proofs.Common.{◌≡◌, drop, map}
-use Rattle.drawn_edits.specs.Edited.{seen_part}
+use Rattle.drawn_edits.specs.EditedLines.{seen_part}
 use Rattle.drawn_edits.specs.Helps.{have_bytes}
 use Rattle.drawn_edits.proofs.changes.have_bytes.Given as goal
 

@@ -1,9 +1,13 @@
 use Rattle.std.proofs.Common.{◌+◌, ◌++◌, ◌∙◌, ap, arith, drop, map, string_bytes, sym}
 use Rattle.std.specs.List.{list_any, slice_range}
-use Rattle.drawn_edits.specs.Edited.{is_added, seen_line, seen_part}
+use Rattle.drawn_edits.specs.EditedLines.{is_added, seen_line, seen_part}
 use Rattle.drawn_edits.specs.Helps.{changed_row, changed_rows, lone_addition, lone_sign}
 use Rattle.drawn_lines.specs.Frames.{seen_frame}
 use Rattle.drawn_edits.proofs.ChangedLines.{changed-kept, changed-new}
+use Rattle.drawn_edits.proofs.changes.put_changed_rows.Goals.{}
+use Rattle.drawn_edits.proofs.changes.put_changed_rows.Goals.{}
+use Rattle.drawn_edits.proofs.changes.put_changed_rows.Goals.{}
+use Rattle.drawn_edits.proofs.changes.put_changed_rows.Goals.{}
 use Rattle.drawn_edits.proofs.changes.put_changed_rows.Goals.{then-have_addition+in_ok-put_kept_lines+in_ok-put_changed_row}
 use Rattle.drawn_edits.proofs.changes.put_changed_rows.Goals.{else-have_addition}
 use Rattle.drawn_edits.proofs.changes.put_changed_rows.Goals as goal

@@ -1,6 +1,6 @@
 use Rattle.std.proofs.Common.{◌≡◌, ◌+◌, ◌++◌, ◌≤◌, [], drop, map, string_bytes}
 use Rattle.std.specs.List.{slice_range}
-use Rattle.drawn_edits.specs.Edited.{seen_line}
+use Rattle.drawn_edits.specs.EditedLines.{seen_line}
 use Rattle.drawn_edits.specs.Helps.{changed_rows}
 use Rattle.drawn_lines.specs.Frames.{seen_frame}
 use Rattle.drawn_edits.proofs.changes.put_changed_rows.Given as goal

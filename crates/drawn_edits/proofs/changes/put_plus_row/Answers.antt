@@ -1,6 +1,6 @@
 use Rattle.std.proofs.Common.{◌++◌, ◌∙◌, ap, append_assoc, codes, map, string_bytes}
 use Rattle.drawn_lines.specs.Lines.{blank_gutter}
-use Rattle.drawn_edits.specs.Edited.{seen_part}
+use Rattle.drawn_edits.specs.EditedLines.{seen_part}
 use Rattle.drawn_edits.specs.Helps.{plus_signs}
 use Rattle.drawn_edits.proofs.PlusLaws.{signs-add}
 use Rattle.drawn_edits.proofs.changes.put_plus_row.Goals as goal

@@ -1,5 +1,5 @@
 use Rattle.std.proofs.Common.{◌≡◌, ◌++◌, drop, map, string_bytes}
-use Rattle.drawn_edits.specs.Edited.{seen_part}
+use Rattle.drawn_edits.specs.EditedLines.{seen_part}
 use Rattle.drawn_edits.specs.Helps.{plus_signs}
 use Rattle.drawn_edits.proofs.changes.put_plus_signs.Given as goal
 

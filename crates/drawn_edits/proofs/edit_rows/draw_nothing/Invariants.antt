@@ -1,5 +1,5 @@
 use Rattle.std.proofs.Common.{◌≡◌, ◌==◌, drop, length, map}
-use Rattle.drawn_edits.specs.Edited.{seen_part}
+use Rattle.drawn_edits.specs.EditedLines.{seen_part}
 use Rattle.drawn_edits.specs.Helps.{drawn_pieces}
 use Rattle.drawn_lines.specs.Painting.{plain_text}
 use Rattle.drawn_edits.proofs.edit_rows.draw_nothing.Given as goal

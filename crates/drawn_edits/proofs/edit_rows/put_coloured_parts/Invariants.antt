@@ -1,5 +1,5 @@
 use Rattle.std.proofs.Common.{◌≡◌, ◌++◌, ◌∷◌, drop, map, string_bytes}
-use Rattle.drawn_edits.specs.Edited.{seen_part}
+use Rattle.drawn_edits.specs.EditedLines.{seen_part}
 use Rattle.drawn_edits.specs.Helps.{drawn_pieces}
 use Rattle.drawn_lines.specs.Painting.{piece, pieces_after}
 use Rattle.drawn_lines.specs.declared.paint.Style.TheVariants.{Plain}

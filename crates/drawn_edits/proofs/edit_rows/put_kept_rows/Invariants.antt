@@ -1,5 +1,5 @@
 use Rattle.std.proofs.Common.{◌≡◌, ◌+◌, ◌++◌, drop, map, string_bytes}
-use Rattle.drawn_edits.specs.Edited.{seen_line}
+use Rattle.drawn_edits.specs.EditedLines.{seen_line}
 use Rattle.drawn_edits.specs.Helps.{kept_rows}
 use Rattle.drawn_lines.specs.Frames.{seen_frame}
 use Rattle.drawn_edits.proofs.edit_rows.put_kept_rows.Given as goal

@@ -1,5 +1,5 @@
 use Rattle.std.proofs.Common.{◌≡◌, drop, map}
-use Rattle.drawn_edits.specs.Edited.{are_blank, seen_part}
+use Rattle.drawn_edits.specs.EditedLines.{are_blank, seen_part}
 use Rattle.drawn_edits.proofs.edited.are_blank.Given as goal
 
 -- The answer for the rest is the answer for all.

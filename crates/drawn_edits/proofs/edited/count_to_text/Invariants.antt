@@ -1,5 +1,5 @@
 use Rattle.std.proofs.Common.{◌≡◌, drop, map}
-use Rattle.drawn_edits.specs.Edited.{count_to_text, seen_line}
+use Rattle.drawn_edits.specs.EditedLines.{count_to_text, seen_line}
 use Rattle.drawn_edits.proofs.edited.count_to_text.Given as goal
 
 -- The answer for the rest is the answer for all.

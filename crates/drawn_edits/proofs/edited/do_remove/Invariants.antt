@@ -1,5 +1,5 @@
 use Rattle.std.proofs.Common.{◌≡◌, drop, map}
-use Rattle.drawn_edits.specs.Edited.{do_remove, seen_part}
+use Rattle.drawn_edits.specs.EditedLines.{do_remove, seen_part}
 use Rattle.drawn_edits.proofs.edited.do_remove.Given as goal
 
 -- The answer for the rest is the answer for all.

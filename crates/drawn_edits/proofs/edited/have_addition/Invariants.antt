@@ -1,6 +1,6 @@
 use Rattle.std.proofs.Common.{◌≡◌, drop, map}
 use Rattle.std.specs.List.{list_any}
-use Rattle.drawn_edits.specs.Edited.{is_added, seen_part}
+use Rattle.drawn_edits.specs.EditedLines.{is_added, seen_part}
 use Rattle.drawn_edits.proofs.edited.have_addition.Given as goal
 
 -- The answer for the rest is the answer for all.

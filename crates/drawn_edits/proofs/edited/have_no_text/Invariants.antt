@@ -1,5 +1,5 @@
 use Rattle.std.proofs.Common.{◌≡◌, drop, map}
-use Rattle.drawn_edits.specs.Edited.{have_no_text, seen_part}
+use Rattle.drawn_edits.specs.EditedLines.{have_no_text, seen_part}
 use Rattle.drawn_edits.proofs.edited.have_no_text.Given as goal
 
 -- The answer for the rest is the answer for all.

@@ -1,7 +1,7 @@
 use Rattle.std.proofs.Common.{◌≡◌, ◌∙◌, ap, map, sym, take}
 use Rattle.std.proofs.lemmas.List.{map-append, take-map}
-use Rattle.drawn_edits.specs.Edited.{all_lines, count_to_text, new_lines, new_page, seen_line}
-use Rattle.drawn_edits.specs.Edited.{seen_part}
+use Rattle.drawn_edits.specs.EditedLines.{all_lines, count_to_text, new_lines, new_page, seen_line}
+use Rattle.drawn_edits.specs.EditedLines.{seen_part}
 use Rattle.drawn_edits.proofs.edited.new_lines.Goals as goal
 
 pub returns : goal.returns

@@ -1,5 +1,5 @@
 use Rattle.std.proofs.Common.{◌≡◌, ◌++◌, drop, map}
-use Rattle.drawn_edits.specs.Edited.{parts, seen_part, seen_edit}
+use Rattle.drawn_edits.specs.EditedLines.{parts, seen_part, seen_edit}
 use denote.Text.{Utf8}
 use denote.Shadow.{shadow}
 use Rattle.drawn_edits.proofs.edited.parts_of.Given as goal

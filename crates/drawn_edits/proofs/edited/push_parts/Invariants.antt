@@ -1,5 +1,5 @@
 use Rattle.std.proofs.Common.{◌≡◌, drop, map}
-use Rattle.drawn_edits.specs.Edited.{seen_page, seen_part, with_parts}
+use Rattle.drawn_edits.specs.EditedLines.{seen_page, seen_part, with_parts}
 use Rattle.drawn_edits.proofs.edited.push_parts.Given as goal
 
 -- The rest, after the lines so far, is all after those at the start.

@@ -1,7 +1,7 @@
 use Rattle.std.proofs.Common.{◌∙◌, List, ap, map, rules, sym}
 use Rattle.std.proofs.lemmas.List.{map-append}
 use Rattle.std.specs.List.{slice_split}
-use Rattle.drawn_edits.specs.Edited.{seen_line, seen_page, seen_part, with_texts}
+use Rattle.drawn_edits.specs.EditedLines.{seen_line, seen_page, seen_part, with_texts}
 use Rattle.drawn_lines.specs.Painting.{Piece}
 use Rattle.drawn_lines.specs.Places.{is_line_feed}
 use Rattle.drawn_edits.proofs.EditLines.{lines-step}

@@ -1,6 +1,6 @@
 use Rattle.std.proofs.Common.{◌≡◌, length}
 use Rattle.std.specs.List.{slice_split}
-use Rattle.drawn_edits.specs.Edited.{seen_page, with_texts}
+use Rattle.drawn_edits.specs.EditedLines.{seen_page, with_texts}
 use Rattle.drawn_lines.specs.Places.{is_line_feed}
 use denote.Text.{Utf8}
 use denote.Shadow.{shadow}

@@ -1,5 +1,5 @@
 use Rattle.std.proofs.Common.{◌≡◌, ◌++◌, drop, map, string_bytes}
-use Rattle.drawn_edits.specs.Edited.{seen_part}
+use Rattle.drawn_edits.specs.EditedLines.{seen_part}
 use Rattle.drawn_lines.specs.Painting.{plain_text}
 use Rattle.drawn_edits.proofs.edited.put_text.Given as goal
 

@@ -1,5 +1,5 @@
 use Rattle.std.proofs.Common.{◌≡◌, ◌++◌, drop, map, string_bytes}
-use Rattle.drawn_edits.specs.Edited.{seen_line, text_of}
+use Rattle.drawn_edits.specs.EditedLines.{seen_line, text_of}
 use Rattle.drawn_edits.proofs.edited.text_of.Given as goal
 
 -- The text added, and then the rest of it, is all.

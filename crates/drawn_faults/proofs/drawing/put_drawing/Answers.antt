@@ -1,4 +1,4 @@
-use Rattle.rustc_parse_format.specs.Seen.{seen_error, seen_mode}
+use Rattle.rustc_parse_format.specs.Views.{seen_error, seen_mode}
 use Rattle.drawn_lines.specs.Places.{seen_picture}
 use Rattle.drawn_faults.proofs.HarmlessDrawings.{drawing-coloured}
 use Rattle.drawn_faults.proofs.drawing.put_drawing.Goals as goal

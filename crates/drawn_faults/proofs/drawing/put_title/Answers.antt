@@ -1,5 +1,5 @@
 use Rattle.std.proofs.Common.{◌++◌, ◌∙◌, ap, append_assoc, codes, string_bytes, sym}
-use Rattle.rustc_parse_format.specs.Seen.{seen_mode}
+use Rattle.rustc_parse_format.specs.Views.{seen_mode}
 use Rattle.drawn_lines.specs.Glyphs.{glyph_bytes}
 use Rattle.drawn_faults.specs.Labels.{text_name}
 use Rattle.drawn_lines.specs.Painting.{closing, opening, painted_text}

@@ -1,6 +1,6 @@
 use Rattle.std.proofs.Common.{◌≡◌, ◌++◌, drop, map}
 use Rattle.drawn_faults.specs.Diagnostics.{placed_edit}
-use Rattle.drawn_edits.specs.Edited.{seen_edit}
+use Rattle.drawn_edits.specs.EditedLines.{seen_edit}
 use Rattle.drawn_lines.specs.Places.{seen_picture}
 use Rattle.drawn_faults.specs.SeenDiagnostics.{seen_source_edit}
 use Rattle.drawn_faults.proofs.helps.placed_edits.Given as goal

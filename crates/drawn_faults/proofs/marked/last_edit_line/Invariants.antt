@@ -1,6 +1,6 @@
 use Rattle.std.proofs.Common.{◌≡◌, ◌<◌, ◌^◌, drop, map}
 use Rattle.drawn_faults.specs.Diagnostics.{last_edit_line}
-use Rattle.drawn_edits.specs.Edited.{seen_edit}
+use Rattle.drawn_edits.specs.EditedLines.{seen_edit}
 use Rattle.drawn_faults.proofs.marked.last_edit_line.Given as goal
 
 -- The answer for the rest is the answer for all.

@@ -1,5 +1,5 @@
 use Rattle.std.proofs.Common.{◌≡◌, ◌++◌, drop, map}
-use Rattle.rustc_parse_format.specs.Seen.{pair}
+use Rattle.rustc_parse_format.specs.Views.{pair}
 use Rattle.drawn_faults.specs.Diagnostics.{shown_label}
 use Rattle.drawn_labels.specs.Labels.{seen_label}
 use Rattle.drawn_lines.specs.Places.{seen_picture}

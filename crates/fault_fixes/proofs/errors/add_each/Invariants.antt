@@ -1,6 +1,6 @@
 use Rattle.std.proofs.Common.{◌≡◌, drop, map}
 use Rattle.rustc_parse_format.specs.Faults.{add_errors}
-use Rattle.rustc_parse_format.specs.SeenFaults.{seen_fault}
+use Rattle.rustc_parse_format.specs.FaultViews.{seen_fault}
 use Rattle.fault_fixes.specs.SeenEdits.{seen_errors}
 use Rattle.fault_fixes.proofs.errors.add_each.Given as goal
 

@@ -1,5 +1,5 @@
 use Rattle.std.proofs.Common.{◌≡◌, ◌∙◌, IfOk, ap, arith, false, map, subst, sym, true}
-use Rattle.rustc_parse_format.specs.Seen.{seen_error}
+use Rattle.rustc_parse_format.specs.Views.{seen_error}
 use Rattle.rustc_parse_format.specs.Characters.{is_nil}
 use Rattle.fault_fixes.specs.Fixing.{all_errors}
 use Rattle.fault_fixes.specs.SeenEdits.{seen_errors}

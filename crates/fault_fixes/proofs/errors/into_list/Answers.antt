@@ -1,6 +1,6 @@
 use Rattle.std.proofs.Common.{◌∙◌, ◌++◌, ap, map, reverse}
 use Rattle.std.proofs.lemmas.List.{map-append}
-use Rattle.rustc_parse_format.specs.Seen.{seen_error}
+use Rattle.rustc_parse_format.specs.Views.{seen_error}
 use Rattle.fault_fixes.proofs.ErrorLists.{map-reverse}
 use Rattle.fault_fixes.proofs.errors.into_list.Goals as goal
 

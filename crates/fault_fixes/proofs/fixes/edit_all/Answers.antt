@@ -1,6 +1,6 @@
 use Rattle.std.proofs.Common.{◌≡◌, ◌∙◌, ap, false, true}
 use Rattle.rustc_parse_format.specs.Characters.{is_nil}
-use Rattle.rustc_parse_format.specs.Seen.{seen_mode}
+use Rattle.rustc_parse_format.specs.Views.{seen_mode}
 use Rattle.rustc_parse_format.specs.State.{State}
 use Rattle.fault_fixes.specs.SeenEdits.{with_edits}
 use Rattle.fault_fixes.proofs.FixLaws.{edited-end, left_edits, left_edits-step, left-shorter}

@@ -1,5 +1,5 @@
 use Rattle.std.proofs.Common.{◌≡◌, [], length}
-use Rattle.rustc_parse_format.specs.Seen.{seen_mode}
+use Rattle.rustc_parse_format.specs.Views.{seen_mode}
 use Rattle.fault_fixes.specs.Edits.{joined_edits}
 use Rattle.fault_fixes.specs.SeenEdits.{with_edits}
 use Rattle.fault_fixes.proofs.FixLaws.{left_edits}

@@ -1,6 +1,6 @@
 use Rattle.std.proofs.Common.{◌≡◌, ◌∙◌, ap, subst, not, chars, string_bytes, false, true, IfSome}
 use Rattle.std.proofs.Common.{IfNone, IsUtf8}
-use Rattle.rustc_parse_format.specs.Seen.{seen_mode}
+use Rattle.rustc_parse_format.specs.Views.{seen_mode}
 use Rattle.fault_fixes.specs.Edits.{edited_bytes, is_empty}
 use Rattle.fault_fixes.proofs.EditLaws.{if_none, if_some, no-edits, some-edits}
 use Rattle.fault_fixes.proofs.FixLaws.{literal_edits-are}

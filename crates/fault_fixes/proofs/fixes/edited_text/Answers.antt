@@ -1,5 +1,5 @@
 use Rattle.std.proofs.Common.{◌≡◌, ◌∙◌, ap, subst, string_bytes, IfSome, IfNone, IsUtf8}
-use Rattle.rustc_parse_format.specs.Seen.{seen_mode}
+use Rattle.rustc_parse_format.specs.Views.{seen_mode}
 use Rattle.fault_fixes.specs.Edits.{edited_bytes, edits}
 use Rattle.fault_fixes.specs.Fixing.{all_errors}
 use Rattle.fault_fixes.proofs.fixes.edited_text.Goals as goal

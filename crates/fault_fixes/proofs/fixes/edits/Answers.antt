@@ -1,7 +1,7 @@
 use Rattle.std.specs.List.{filter_map}
 use Rattle.std.proofs.Common.{◌≡◌, ◌∷◌, ◌++◌, List, Some, map, reverse, subst, sym, arith, true}
 use Rattle.std.proofs.lemmas.Grind.{common_steps}
-use Rattle.rustc_parse_format.specs.Seen.{seen_error, seen_mode}
+use Rattle.rustc_parse_format.specs.Views.{seen_error, seen_mode}
 use Rattle.rustc_parse_format.specs.Faults.{Message}
 use Rattle.rustc_parse_format.specs.World.{Place}
 use Rattle.fault_fixes.specs.Edits.{AreInOrder, Edit, edits, edit_of, is_after, made_edits}

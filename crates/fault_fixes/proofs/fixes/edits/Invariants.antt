@@ -1,6 +1,6 @@
 use Rattle.std.proofs.Common.{◌≡◌, ◌++◌, map, reverse}
 use Rattle.std.specs.List.{filter_map}
-use Rattle.rustc_parse_format.specs.Seen.{seen_error, seen_mode}
+use Rattle.rustc_parse_format.specs.Views.{seen_error, seen_mode}
 use Rattle.fault_fixes.specs.Edits.{made_edits, edits, edit_of}
 use Rattle.fault_fixes.specs.SeenEdits.{seen_edit}
 use Rattle.fault_fixes.proofs.fixes.edits.Given as goal

@@ -1,8 +1,8 @@
 use Rattle.std.proofs.Common.{◌∙◌, ◌+◌, ◌++◌, drop, map, ap, sym}
 use Rattle.std.proofs.lemmas.List.{at_drop_more}
 use Rattle.std.specs.List.{cons_option}
-use Rattle.rustc_parse_format.specs.Seen.{seen_mode}
-use Rattle.rustc_parse_format.specs.SeenFaults.{seen_fault}
+use Rattle.rustc_parse_format.specs.Views.{seen_mode}
+use Rattle.rustc_parse_format.specs.FaultViews.{seen_fault}
 use Rattle.fault_fixes.specs.Edits.{offered_suggestion, suggested_edit}
 use Rattle.fault_fixes.specs.Fixing.{fault_edits}
 use Rattle.fault_fixes.specs.SeenEdits.{with_edits}

@@ -1,6 +1,6 @@
 use Rattle.std.proofs.Common.{◌≡◌, ◌++◌, List, drop, map}
-use Rattle.rustc_parse_format.specs.Seen.{seen_mode}
-use Rattle.rustc_parse_format.specs.SeenFaults.{seen_fault}
+use Rattle.rustc_parse_format.specs.Views.{seen_mode}
+use Rattle.rustc_parse_format.specs.FaultViews.{seen_fault}
 use Rattle.fault_fixes.specs.Edits.{Edit}
 use Rattle.fault_fixes.specs.Fixing.{fault_edits}
 use Rattle.fault_fixes.specs.SeenEdits.{with_edits}

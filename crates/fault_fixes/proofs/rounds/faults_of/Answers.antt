@@ -3,7 +3,7 @@ use Rattle.std.proofs.Common.{◌+◌, ◌<◌, ◌≤◌, map, false, true}
 use Rattle.std.proofs.lemmas.List.{length-map}
 use Rattle.rustc_parse_format.specs.Characters.{is_nil}
 use Rattle.rustc_parse_format.specs.FaultIds.{fault_id}
-use Rattle.rustc_parse_format.specs.SeenFaults.{seen_fault}
+use Rattle.rustc_parse_format.specs.FaultViews.{seen_fault}
 use Rattle.rustc_parse_format.specs.State.{next_call}
 use Rattle.rustc_parse_format.specs.World.{faults_in}
 use Rattle.fault_fixes.proofs.RoundLaws.{faulty-end, faulty-more, faulty-same, ids-end, ids-shorter}

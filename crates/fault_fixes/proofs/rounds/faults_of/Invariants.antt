@@ -1,6 +1,6 @@
 use Rattle.std.proofs.Common.{◌≡◌, ◌≤◌, ◌+◌, ◌++◌, length, map}
 use Rattle.rustc_parse_format.specs.FaultIds.{fault_id}
-use Rattle.rustc_parse_format.specs.SeenFaults.{seen_fault}
+use Rattle.rustc_parse_format.specs.FaultViews.{seen_fault}
 use Rattle.fault_fixes.proofs.RoundLaws.{left_faulty, left_ids}
 use Rattle.fault_fixes.proofs.rounds.faults_of.Given as goal
 

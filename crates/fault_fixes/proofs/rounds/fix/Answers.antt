@@ -1,5 +1,5 @@
 use Rattle.std.proofs.Common.{◌≡◌, ◌∙◌, ◌+◌, ◌≤◌, IfSome, Some, ap, arith, subst, sym}
-use Rattle.rustc_parse_format.specs.Seen.{seen_mode}
+use Rattle.rustc_parse_format.specs.Views.{seen_mode}
 use Rattle.fault_fixes.specs.Fixing.{FixedLiteral}
 use Rattle.fault_fixes.specs.Rounds.{Best, IsFixed, count_left, ids, best_with}
 use Rattle.fault_fixes.specs.SeenEdits.{seen_best, seen_fixed}

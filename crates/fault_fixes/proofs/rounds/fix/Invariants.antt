@@ -1,5 +1,5 @@
 use Rattle.std.proofs.Common.{◌≤◌, ◌-◌, suc, IfNone, IfSome}
-use Rattle.rustc_parse_format.specs.Seen.{seen_mode}
+use Rattle.rustc_parse_format.specs.Views.{seen_mode}
 use Rattle.fault_fixes.specs.Fixing.{FixedLiteral}
 use Rattle.fault_fixes.specs.Rounds.{AreRounds}
 use Rattle.fault_fixes.specs.SeenEdits.{seen_best, seen_fixed}

@@ -4,7 +4,7 @@ use Rattle.std.specs.Str.{bytes_eq}
 use Rattle.rustc_parse_format.specs.FaultIds.{fault_id}
 use Rattle.rustc_parse_format.specs.declared.faults.Fault.{Fault}
 use Rattle.rustc_parse_format.specs.declared.faults.Fault.TheVariants.{UnmatchedBrace}
-use Rattle.rustc_parse_format.specs.SeenFaults.{seen_fault}
+use Rattle.rustc_parse_format.specs.FaultViews.{seen_fault}
 use Rattle.fault_fixes.proofs.RoundLaws.{part-end, part-more}
 use Rattle.fault_fixes.proofs.rounds.is_part.Goals.{else-eq, then-eq}
 use Rattle.fault_fixes.proofs.rounds.is_part.Goals as goal

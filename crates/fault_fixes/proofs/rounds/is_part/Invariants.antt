@@ -1,6 +1,6 @@
 use Rattle.std.proofs.Common.{◌≡◌, ◌≤◌, drop, length, map}
 use Rattle.rustc_parse_format.specs.FaultIds.{fault_id}
-use Rattle.rustc_parse_format.specs.SeenFaults.{seen_fault}
+use Rattle.rustc_parse_format.specs.FaultViews.{seen_fault}
 use Rattle.fault_fixes.specs.Rounds.{is_part}
 use Rattle.fault_fixes.proofs.rounds.is_part.Given as goal
 

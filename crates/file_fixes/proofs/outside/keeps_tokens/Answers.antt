@@ -1,6 +1,6 @@
 use Rattle.std.proofs.Common.{◌≡◌, ◌∙◌, ap, map, sym}
 use Rattle.fault_fixes.specs.SeenEdits.{seen_edit}
-use Rattle.rust_tokens.specs.Placed.{placed_tokens}
+use Rattle.rust_tokens.specs.Spans.{placed_tokens}
 use Rattle.file_fixes.specs.Outside.{new_ranges, old_ranges, untouched_tokens}
 use Rattle.file_fixes.specs.Walk.{from_start, new_parts, old_parts, walk}
 use Rattle.file_fixes.proofs.WalkLaws.{walk-new, walk-old}

@@ -1,4 +1,5 @@
 use Rattle.std.proofs.Common.{◌≡◌, ◌∙◌, ◌+◌, ap, arith, map, sym}
+use Rattle.std.proofs.lemmas.Result.{IfOk-weaker}
 use Rattle.rust_trees.specs.Leaves.{leaf}
 use Rattle.source_lint.specs.Readings.{arguments_before}
 use Rattle.source_lint.proofs.Calling.{after-one, string-there}
@@ -27,7 +28,7 @@ returns c =
     let args = c.args.arguments.now in
     let tokens : map leaf c.tokens-tokens.result.now ≡ xs = c.tokens-tokens.ensures in
     let t = rw c.source.ensures at c.extent_of-extent.ensures.trees in
-    record {
+    IfOk-weaker c.inline_site.result _ _ (λ _ h. record {
       string = c.in-Some.string;
       is_string = sym c.in-Some.ensures;
       literal = leaf c.in-Some-token_at.literal;
@@ -38,5 +39,5 @@ returns c =
       inlines = inlines-by _ _ _ _ _ _ _ _ _ _ _ _ _ _ _ (rw tokens at c.name_at.ensures) tokens
           (c.deref.ensures.value ∙ (c.in_ok-kept_arguments.ensures
           ∙ ap (arguments_before c.extent_of-extent.result.end) (after-one args c.args.index)))
-          t.2 c.in_ok-inlined_call.ensures;
-    }
+          t.2 h;
+    }) c.inline_site.ensures

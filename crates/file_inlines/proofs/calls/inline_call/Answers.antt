@@ -1,6 +1,7 @@
 use Rattle.std.proofs.Common.{◌∙◌, ◌+◌, ap, map, refl, subst, sym}
 use Rattle.std.specs.Prelude.{slice_get}
-use Rattle.inlined_arguments.specs.Seen.{seen_edit}
+use Rattle.std.proofs.lemmas.Result.{IfOk-weaker}
+use Rattle.inlined_arguments.specs.Views.{seen_edit}
 use Rattle.source_lint.specs.Readings.{scope, skipped_reading}
 use Rattle.source_lint.proofs.Calling.{arguments-here}
 use Rattle.file_inlines.specs.CallInlines.{Inlines, InlinesUnless}
@@ -47,6 +48,7 @@ inline_one-requires-clause-split c =
 pub returns-in-Ok : goal.returns-in-Ok
 returns-in-Ok c =
     let a = rw (c.in-Some-2.is, c.source.ensures) at c.in_ok-arguments.ensures.some in
+    IfOk-weaker c.inline_one.result _ _ (λ _.
     inlines-here c.args.file.is_from_2021 c.args.allows_mixed c.args.file.text.now _
     c.args.part.now c.args.call.now c.as_slice-list.result.now _ _ _
     (sym c.in_default.is ∙ (c.other_macro.ensures
@@ -54,7 +56,7 @@ returns-in-Ok c =
     (slice_get v c.args.call.now.name)) c.tokens.ensures))
     (arguments-here c.args.part.now c.args.call.now c.in-Some-2.arguments.items
     c.as_slice-list.result.now a.0 c.as_slice-list.ensures.value c.requires.pair a.1 a.2)
-    c.in-Ok.ensures.value c.in_ok-inlined_call-in-Ok.ensures
+    c.in-Ok.ensures.value) c.inline_one.ensures
 
 pub returns : goal.returns
 returns c =

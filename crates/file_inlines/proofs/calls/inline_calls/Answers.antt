@@ -3,7 +3,7 @@ use Rattle.std.specs.Prelude.{Contains}
 use Rattle.std.proofs.lemmas.List.{map-append, nil_from_length}
 use Rattle.asm_lint.proofs.Elements.{after-here, here}
 use Rattle.source_lint.proofs.Joining.{giving-all, giving-more, giving-none}
-use Rattle.inlined_arguments.specs.Seen.{seen_edit}
+use Rattle.inlined_arguments.specs.Views.{seen_edit}
 use Rattle.file_inlines.proofs.UnreadCalls.{gives-first, gives-one}
 use Rattle.file_inlines.proofs.calls.inline_calls.Goals as goal
 

@@ -6,7 +6,7 @@ use Rattle.source_lint.specs.Readings.{Reads, scope}
 use Rattle.source_lint.specs.CallLists.{Gives}
 use Rattle.source_report.specs.declared.report.Finding.{Finding}
 use Rattle.source_lint.proofs.Joining.{Giving}
-use Rattle.inlined_arguments.specs.Seen.{seen_edit}
+use Rattle.inlined_arguments.specs.Views.{seen_edit}
 use Rattle.file_inlines.specs.CallInlines.{Inlines}
 use Rattle.file_inlines.proofs.calls.inline_calls.Given as goal
 

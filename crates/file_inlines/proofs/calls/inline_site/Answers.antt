@@ -1,10 +1,11 @@
 use Rattle.std.proofs.Common.{◌≡◌, ◌∙◌, ap, chars, inl, inr, map, subst, sym}
 use Rattle.std.specs.Prelude.{encode_utf8_all}
+use Rattle.std.proofs.lemmas.Result.{IfOk-weaker}
 use Rattle.std.proofs.lemmas.Str.{encodes-chars}
 use Rattle.rust_trees.specs.Leaves.{leaf}
 use Rattle.asm_lint.specs.Literals.{without_crs}
 use Rattle.inlined_arguments.specs.Conditions.{Call as FormatCall}
-use Rattle.inlined_arguments.specs.Seen.{seen_argument, seen_edit}
+use Rattle.inlined_arguments.specs.Views.{seen_argument, seen_edit}
 use Rattle.file_inlines.specs.CallInlines.{AreEdits, Makes}
 use Rattle.file_inlines.proofs.Calling.{call-same}
 use Rattle.file_inlines.proofs.calls.inline_site.Goals as goal
@@ -37,12 +38,11 @@ returns c =
     c.appends_newline-appended_newline.ensures c.captures_variables.ensures
     (ap (map seen_argument) c.as_slice-list.ensures.value ∙ c.in_ok-arguments.ensures)
     c.is_format_alone.ensures c.has_const_form.ensures in
-    inr (
+    IfOk-weaker c.inline_format_call.result _ _ (λ x h. inr (
       c.in-Some.literal.style,
       r.stands_for,
       r.is_literal,
       subst (λ (v : FormatCall). Makes c.args.allows_mixed v (AreEdits found.text.now xs
-          (leaf found.literal) found.arguments.now) c.in_ok-inlined_call.inlined_call.inlining
-          (map seen_edit c.in_ok-inlined_call.inlined_call.edits.items)) same
-          c.in_ok-inlined_call.ensures,
-    )
+          (leaf found.literal) found.arguments.now) x.inlining (map seen_edit x.edits.items))
+          same h,
+    )) c.inline_format_call.ensures

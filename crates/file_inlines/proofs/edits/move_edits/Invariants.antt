@@ -1,5 +1,5 @@
 use Rattle.std.proofs.Common.{◌≡◌, map, take}
-use Rattle.inlined_arguments.specs.Seen.{seen_edit}
+use Rattle.inlined_arguments.specs.Views.{seen_edit}
 use Rattle.file_inlines.specs.CallInlines.{moved_edit}
 use Rattle.file_inlines.proofs.edits.move_edits.Given as goal
 

@@ -2,7 +2,7 @@ use Rattle.std.proofs.Common.{◌≡◌, ◌++◌, drop, map}
 use Rattle.std.specs.Prelude.{option_map, slice_get}
 use Rattle.std.specs.List.{filter_map}
 use Rattle.rust_trees.specs.Leaves.{leaf}
-use Rattle.inlined_arguments.specs.Seen.{seen_edit}
+use Rattle.inlined_arguments.specs.Views.{seen_edit}
 use Rattle.file_inlines.specs.CallInlines.{removal}
 use Rattle.file_inlines.proofs.edits.push_removals.Given as goal
 

@@ -1,6 +1,6 @@
 use Rattle.std.proofs.Common.{◌≡◌, map, take}
 use Rattle.rust_trees.specs.Leaves.{leaf}
-use Rattle.inlined_arguments.specs.Seen.{seen_argument}
+use Rattle.inlined_arguments.specs.Views.{seen_argument}
 use Rattle.file_inlines.specs.Sources.{with_source}
 use Rattle.file_inlines.proofs.sources.with_sources.Given as goal
 

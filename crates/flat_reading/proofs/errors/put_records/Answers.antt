@@ -1,8 +1,8 @@
 use Rattle.std.proofs.lemmas.List.Sums.{sum_by-append}
-use Rattle.flat_reading.specs.Held.{message_len}
+use Rattle.flat_reading.specs.ErrorRecords.{message_len}
 use Rattle.std.proofs.Common.{◌≡◌, ◌++◌, [], ◌∷◌, get_or, length, map, take, sym, ap, ◌∙◌, arith}
 use Rattle.std.proofs.lemmas.List.{map-append, take_more, take_more_set, take_all}
-use Rattle.rustc_parse_format.specs.Seen.{seen_error}
+use Rattle.rustc_parse_format.specs.Views.{seen_error}
 use Rattle.flat_reading.proofs.Buffers.{Grows-trans, HoldsErrors-grow, HoldsErrors-more}
 use Rattle.flat_reading.proofs.Buffers.{Extends-all}
 use Rattle.flat_reading.proofs.Lists.{keep_more, keep_put}

@@ -1,7 +1,7 @@
 use Rattle.std.proofs.Common.{◌≡◌, ◌≤◌, length, map, min, take, drop}
-use Rattle.rustc_parse_format.specs.Seen.{seen_error}
+use Rattle.rustc_parse_format.specs.Views.{seen_error}
 use Rattle.flat_reading.specs.declared.records.Fault.{Fault}
-use Rattle.flat_reading.specs.Held.{Grows, HoldsErrors, texts_len}
+use Rattle.flat_reading.specs.ErrorRecords.{Grows, HoldsErrors, texts_len}
 use Rattle.flat_reading.proofs.errors.put_records.Given as goal
 
 abbrev pub invariant-loop-i : goal.invariant-loop-i

@@ -1,6 +1,6 @@
 use Rattle.std.proofs.Common.{◌∙◌}
 use Rattle.flat_reading.proofs.Specs.{default_is, spec_at-default}
-use Rattle.rustc_parse_format.specs.Seen.{seen_spec}
+use Rattle.rustc_parse_format.specs.Views.{seen_spec}
 use Rattle.flat_reading.proofs.flat.no_spec.Goals as goal
 
 pub returns-clause-described : goal.returns-clause-described

@@ -1,4 +1,4 @@
-use Rattle.rustc_parse_format.specs.Seen.{seen_argument, seen_mode}
+use Rattle.rustc_parse_format.specs.Views.{seen_argument, seen_mode}
 use Rattle.flat_reading.proofs.Escaped.{listed}
 use Rattle.flat_reading.proofs.near.texts_of.Goals as goal
 

@@ -1,6 +1,6 @@
 use Rattle.std.proofs.Common.{◌≡◌, ◌≤◌, length, map, take, drop}
-use Rattle.rustc_parse_format.specs.Seen.{pair}
-use Rattle.flat_reading.specs.Meant.{place}
+use Rattle.rustc_parse_format.specs.Views.{pair}
+use Rattle.flat_reading.specs.Meaning.{place}
 use Rattle.flat_reading.proofs.read.put_lines.Given as goal
 
 abbrev pub invariant-loop-i : goal.invariant-loop-i

@@ -1,6 +1,6 @@
 use Rattle.std.proofs.Common.{[], chars, length, sym, ap, ◌∙◌, arith}
 use Rattle.std.proofs.lemmas.List.{length-map}
-use Rattle.rustc_parse_format.specs.Seen.{seen_error}
+use Rattle.rustc_parse_format.specs.Views.{seen_error}
 use Rattle.rustc_parse_format.specs.State.{State}
 use Rattle.flat_reading.specs.Events.{calls}
 use Rattle.flat_reading.proofs.Walking.{length-finders}

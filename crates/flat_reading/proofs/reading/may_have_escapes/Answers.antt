@@ -1,5 +1,5 @@
 use Rattle.std.proofs.Common.{◌≡◌, None, chars, refl}
-use Rattle.rustc_parse_format.specs.Seen.{seen_mode}
+use Rattle.rustc_parse_format.specs.Views.{seen_mode}
 use Rattle.flat_reading.proofs.Worlds.{bare_plain, literal_plain, no_style, raw_plain}
 use Rattle.flat_reading.proofs.reading.may_have_escapes.Goals as goal
 

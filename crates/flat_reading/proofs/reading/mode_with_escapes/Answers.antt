@@ -1,5 +1,5 @@
 use Rattle.std.proofs.Common.{chars, sym, ap, ◌∙◌, refl}
-use Rattle.rustc_parse_format.specs.Seen.{seen_mode}
+use Rattle.rustc_parse_format.specs.Views.{seen_mode}
 use Rattle.rustc_parse_format.specs.State.{State}
 use Rattle.flat_reading.proofs.Worlds.{sourceless_plain}
 use Rattle.flat_reading.proofs.reading.mode_with_escapes.Goals as goal

@@ -1,4 +1,4 @@
-use Rattle.rustc_parse_format.specs.Seen.{seen_mode}
+use Rattle.rustc_parse_format.specs.Views.{seen_mode}
 use Rattle.flat_reading.proofs.Escaped.{found}
 use Rattle.flat_reading.proofs.texts.texts_at.Goals as goal
 

@@ -1,6 +1,6 @@
 use Rattle.std.proofs.Common.{◌≡◌, ◌∙◌, ap, arith, inl, inr, subst, sym}
 use Rattle.std.specs.Prelude.{◌||◌}
-use Rattle.format_calls.specs.Counted.{is_stop, is_uncounted}
+use Rattle.format_calls.specs.Extents.{is_stop, is_uncounted}
 use Rattle.format_calls.proofs.Counting.{Passed, passed-all, passed-more}
 use Rattle.format_calls.proofs.Walking.{tree-within}
 use Rattle.format_calls.proofs.extents.extent_of.Goals as goal

@@ -3,10 +3,12 @@ use Rattle.std.proofs.Common.{rules, subst, sym}
 use Rattle.std.proofs.lemmas.List.{append-nil}
 use Rattle.rust_trees.specs.Balances.{IsBalanced}
 use Rattle.rust_trees.specs.Leaves.{AreLeft, Leaf, leaf}
+use Rattle.format_calls.specs.Gaps.{LacksFronts}
 use Rattle.format_calls.specs.Parts.{front_of, next_window, seen_front, seen_window}
 use Rattle.format_calls.specs.Rows.{entry}
 use Rattle.format_calls.proofs.Parting.{IsGap, end-of, gap-end, gap-more, gap-none, gap-part}
 use Rattle.format_calls.proofs.Parting.{part-long, part-more, window, window-more}
+use Rattle.format_calls.proofs.Windows.{begins-front, clear-front, lacks-more, unplaced_window}
 use Rattle.format_calls.proofs.parts.next_part.Goals as goal
 
 pub loop-token-init : goal.loop-token-init
@@ -18,6 +20,7 @@ loop-token-init c = record {
     gap-none _,
     λ left l. l,
     λ before b. subst (λ v. IsBalanced v c.args.balance.now) (sym (append-nil before)) b,
+    refl,
   );
 }
 
@@ -41,7 +44,9 @@ loop-token-preserved c =
           × ((left : List Leaf) → AreLeft c.next.new.self left → AreLeft c.args.rest.now
           (gap ++ (window v.name v.bang ++ left)))
           × ((before : List Leaf) → IsBalanced before c.args.balance.now
-          → IsBalanced (before ++ (gap ++ window v.name v.bang)) c.add.new.self)) (sym w) (
+          → IsBalanced (before ++ (gap ++ window v.name v.bang)) c.add.new.self)
+          × LacksFronts (map entry c.args.table.now.rows.items) (gap ++ window v.name v.bang)
+          (unplaced_window v)) (sym w) (
             _,
             m.0,
             λ left l. subst (AreLeft c.args.rest.now) (m.1 left)
@@ -49,6 +54,8 @@ loop-token-preserved c =
             λ before b. subst (λ v. IsBalanced v c.add.new.self)
                 (window-more before _ _ _ _ _ (m.1 []))
                 (c.in_ok-add.ensures _ (g.3 before b)),
+            lacks-more _ _ _ (seen_window c.loop-token.last) (leaf c.in-Some.token) none
+                (sym (window-more [] _ _ _ _ _ (m.1 []))) g.4,
           );
     }
 
@@ -76,6 +83,8 @@ returns-in-Some-front_of-clause-some c =
           subst (λ v. IsBalanced v c.add_after_front.new.balance)
           (ap (λ v. front ++ v) (ap (λ v. drop 3 v) j.1) ∙ part-more before _ _ _ _ _ _ p.0)
           (c.in_ok-add_after_front.ensures front (c.in_ok-add.ensures _ (g.3 before b))),
+      clear-front _ g.0 _ (seen_window c.loop-token.last) _ front g.4,
+      begins-front _ _ _ j.0 (seen_window c.loop-token.last) _ front j.1,
     )
 
 pub returns-clause-none : goal.returns-clause-none
@@ -88,4 +97,9 @@ returns-clause-none c e =
           (ap (λ v. before ++ (g.0 ++ v))
           (sym (append-nil (window (seen_window c.loop-token.last).name
           (seen_window c.loop-token.last).bang)))) (g.3 before b),
+      unplaced_window (seen_window c.loop-token.last),
+      subst (λ v. LacksFronts (map entry c.args.table.now.rows.items) (g.0 ++ v)
+          (unplaced_window (seen_window c.loop-token.last)))
+          (sym (append-nil (window (seen_window c.loop-token.last).name
+          (seen_window c.loop-token.last).bang))) g.4,
     )

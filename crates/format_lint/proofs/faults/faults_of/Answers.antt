@@ -1,6 +1,6 @@
 use Rattle.std.proofs.Common.{◌≡◌, ◌∙◌, ◌++◌, ap, false, map, true}
 use Rattle.rustc_parse_format.specs.Characters.{is_nil}
-use Rattle.rustc_parse_format.specs.SeenFaults.{seen_fault}
+use Rattle.rustc_parse_format.specs.FaultViews.{seen_fault}
 use Rattle.rustc_parse_format.specs.State.{next_call}
 use Rattle.rustc_parse_format.specs.World.{faults_in}
 use Rattle.fault_fixes.proofs.FixLaws.{left-shorter}

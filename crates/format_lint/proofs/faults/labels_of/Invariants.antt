@@ -1,7 +1,7 @@
 use Rattle.std.proofs.Common.{◌≡◌, [], chars, false, length}
 use denote.Text.{Utf8}
 use denote.Shadow.{shadow}
-use Rattle.rustc_parse_format.specs.Seen.{seen_mode}
+use Rattle.rustc_parse_format.specs.Views.{seen_mode}
 use Rattle.format_tokens.proofs.Progress.{IsSoFar}
 use Rattle.format_lint.specs.Findings.{findings_from}
 use Rattle.format_lint.proofs.Firsts.{AreFound}

@@ -1,9 +1,9 @@
 use denote.Ref.{Bor}
 use Rattle.std.proofs.Common.{◌≡◌, ◌∙◌, ℕ, List, Option, Some, None, ap, chars, false, refl}
 use Rattle.std.specs.Prelude.{option_map}
-use Rattle.rustc_parse_format.specs.Seen.{seen_mode}
-use Rattle.format_tokens.specs.Placed.{tokens}
-use Rattle.format_tokens.specs.Seen.{seen_text}
+use Rattle.rustc_parse_format.specs.Views.{seen_mode}
+use Rattle.format_tokens.specs.Spans.{tokens}
+use Rattle.format_tokens.specs.Views.{seen_text}
 use Rattle.format_lint.proofs.faults.tokens_in.Goals as goal
 
 literal-seen : (literal : Option (Bor (List ℕ)))

@@ -1,5 +1,5 @@
 use Rattle.std.proofs.Common.{false, inl, inr, refl}
-use Rattle.rustc_parse_format.specs.Seen.{seen_mode}
+use Rattle.rustc_parse_format.specs.Views.{seen_mode}
 use Rattle.fault_fixes.specs.Rounds.{IsFixed}
 use Rattle.fault_fixes.specs.SeenEdits.{seen_fixed}
 use Rattle.format_lint.specs.Lint.{Source, lone_literal}

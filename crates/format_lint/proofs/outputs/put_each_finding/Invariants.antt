@@ -1,5 +1,5 @@
 use Rattle.std.proofs.Common.{◌≡◌, ◌++◌, drop, flat_map, map, string_bytes}
-use Rattle.rustc_parse_format.specs.Seen.{seen_mode}
+use Rattle.rustc_parse_format.specs.Views.{seen_mode}
 use Rattle.drawn_lines.specs.Places.{seen_picture}
 use Rattle.format_lint.specs.Lint.{drawn_finding}
 use Rattle.format_lint.specs.SeenLint.{seen_finding}

@@ -1,5 +1,5 @@
 use Rattle.std.proofs.Common.{◌≡◌, ◌++◌, OnOk, map, string_bytes, subst}
-use Rattle.rustc_parse_format.specs.Seen.{seen_mode}
+use Rattle.rustc_parse_format.specs.Views.{seen_mode}
 use Rattle.format_lint.specs.Lint.{picture, start}
 use Rattle.format_lint.specs.SeenLint.{seen_finding, seen_source, seen_task}
 use Rattle.format_lint.proofs.SomeFaults.{kept-drawn}

@@ -2,7 +2,7 @@ use Rattle.std.proofs.Common.{◌≡◌, chars, length}
 use Rattle.std.specs.List.{list_all}
 use denote.Text.{Utf8}
 use denote.Shadow.{shadow}
-use Rattle.format_literal.specs.Written.{is_no_cr}
+use Rattle.format_literal.specs.Spelling.{is_no_cr}
 use Rattle.format_literal.proofs.validity.has_no_cr.Given as goal
 
 -- The answer for what is left is the answer for all.

@@ -2,7 +2,7 @@ use Rattle.std.proofs.Common.{◌≡◌, ◌++◌, chars, drop, map}
 use denote.Text.{Utf8}
 use denote.Shadow.{shadow}
 use Rattle.format_tokens.specs.Escapes.{cut}
-use Rattle.format_tokens.specs.Seen.{seen_token}
+use Rattle.format_tokens.specs.Views.{seen_token}
 use Rattle.format_tokens.proofs.escapes.cut.Given as goal
 
 -- The tokens so far and those of what is left are all the tokens.

@@ -1,7 +1,7 @@
 use Rattle.std.proofs.Common.{map, chars, length}
 use denote.Text.{Utf8}
 use denote.Shadow.{shadow}
-use Rattle.format_tokens.specs.Seen.{seen_token}
+use Rattle.format_tokens.specs.Views.{seen_token}
 use Rattle.format_tokens.proofs.Cutting.{IsCutSoFar}
 use Rattle.format_tokens.proofs.escapes.put_parts.Given as goal
 

@@ -1,15 +1,16 @@
 use Rattle.std.proofs.Common.{◌≡◌, ◌++◌, ◌∙◌, ap, sym, chars, false, length, map, arith, refl, Some}
+use Rattle.std.proofs.lemmas.Result.{IfOk-weaker}
 use Rattle.rustc_parse_format.specs.Characters.{byte_length}
 use Rattle.rustc_parse_format.specs.Source.{unappended_input}
 use Rattle.rustc_parse_format.specs.World.{plain_world}
 use Rattle.rustc_parse_format.proofs.Sources.PlainPlaces.{length-plain_places}
-use Rattle.rustc_parse_format.specs.Seen.{seen_mode}
+use Rattle.rustc_parse_format.specs.Views.{seen_mode}
 use Rattle.format_tokens.specs.Culprits.{marked_tokens}
 use Rattle.format_tokens.specs.Escapes.{cut}
-use Rattle.format_tokens.specs.Placed.{cut_in, tokens, whole_tokens}
+use Rattle.format_tokens.specs.Spans.{cut_in, tokens, whole_tokens}
 use Rattle.format_tokens.proofs.Covering.{whole-cover}
 use Rattle.format_tokens.proofs.CutCovering.{source-cut}
-use Rattle.format_tokens.specs.Seen.{seen_text, seen_token}
+use Rattle.format_tokens.specs.Views.{seen_text, seen_token}
 use Rattle.format_tokens.specs.Starts.{pairs, placed_sizes, starts_of}
 use Rattle.format_tokens.proofs.Lexing.{kept-is, kept-small}
 use Rattle.format_tokens.proofs.Lexing.{plain-tokens}
@@ -56,18 +57,19 @@ returns-in-Some-style c labels =
     ∙ (sym (source-cut mode input c.args.style literal b source.1)
     ∙ ap (λ s. tokens mode input c.args.style s b) (sym source.0)))
 
-pub returns-in_ok-parts-in-None : goal.returns-in_ok-parts-in-None
-returns-in_ok-parts-in-None c labels =
+pub returns-in-None : goal.returns-in-None
+returns-in-None c =
     let mode = seen_mode c.args.mode in
     let input = chars c.args.input.now in
     let literal = chars c.in-Some.literal.now in
     let b = c.args.appended_newline in
     let source = c.in-Some.ensures in
     let ts = whole_tokens mode input c.args.style (Some literal) b in
+    IfOk-weaker c.cut_escapes.result _ _ (λ v h labels.
     let whole = c.in_ok-tokens-2.ensures mode labels c.wants_names-needs_names.ensures in
-    c.in_ok-parts-in-None.ensures 0 (byte_length literal)
-    (rw whole (whole-cover mode input c.args.style literal b source.1))
+    h 0 (byte_length literal) (rw whole (whole-cover mode input c.args.style literal b source.1))
     ∙ (ap (cut literal) whole
     ∙ (sym (ap (λ s. cut_in s literal ts) c.in-None.is)
     ∙ (sym (source-cut mode input c.args.style literal b source.1)
-    ∙ ap (λ s. tokens mode input c.args.style s b) (sym source.0))))
+    ∙ ap (λ s. tokens mode input c.args.style s b) (sym source.0)))))
+    c.cut_escapes.ensures

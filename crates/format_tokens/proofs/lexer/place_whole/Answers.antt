@@ -3,7 +3,7 @@ use Rattle.rustc_parse_format.specs.Source.{unappended_input}
 use Rattle.rustc_parse_format.specs.Types.{wants_names}
 use Rattle.rustc_parse_format.specs.World.{world}
 use Rattle.format_tokens.specs.Culprits.{marked_tokens}
-use Rattle.format_tokens.specs.Seen.{seen_token}
+use Rattle.format_tokens.specs.Views.{seen_token}
 use Rattle.format_tokens.specs.Starts.{pairs, placed_sizes}
 use Rattle.format_tokens.proofs.Lexing.{assembled, kept-is, kept-small, literal-places}
 use Rattle.format_tokens.proofs.Lexing.{quoted-tokens}

@@ -1,7 +1,8 @@
 use Rattle.std.proofs.Common.{◌≡◌, ◌∙◌, ap, chars, refl, Some}
-use Rattle.rustc_parse_format.specs.Seen.{seen_mode, seen_snippet}
-use Rattle.format_tokens.specs.Placed.{tokens}
-use Rattle.format_tokens.specs.Seen.{seen_text}
+use Rattle.std.proofs.lemmas.Result.{IfOk-weaker}
+use Rattle.rustc_parse_format.specs.Views.{seen_mode, seen_snippet}
+use Rattle.format_tokens.specs.Spans.{tokens}
+use Rattle.format_tokens.specs.Views.{seen_text}
 use Rattle.format_tokens.proofs.InText.{text-of}
 use Rattle.format_tokens.proofs.ReadingBack.{cover-of, reads_back-of}
 use Rattle.format_tokens.proofs.lexer.tokens.Goals as goal
@@ -15,18 +16,21 @@ returns-clause-tokens c =
       | in-Some v ↦ rw (v.text-is, v.in-Some.is)
           (ap (λ s. Some (chars s)) v.as_str.ensures.value)
     ] in
-    c.in_ok-tokens.ensures (c.deref.ensures.value ∙ c.in_ok-labels.ensures)
+    IfOk-weaker c.place_labels.result (λ _. _ → _) _
+    (λ v h. h (c.deref.ensures.value ∙ c.in_ok-labels.ensures)
     ∙ ap (λ s. tokens (seen_mode c.args.mode) (chars c.args.input.now) c.args.style s
-    c.args.appended_newline) same
+    c.args.appended_newline) same)
+    c.place_labels.ensures
 
 pub returns-clause-cover : goal.returns-clause-cover
 returns-clause-cover c =
-    cover-of _ _ _ _ _ _ (returns-clause-tokens c)
+    IfOk-weaker c.place_labels.result _ _ (λ v. cover-of _ _ _ _ _ _) (returns-clause-tokens c)
 
 pub returns-clause-reads_back : goal.returns-clause-reads_back
 returns-clause-reads_back c =
-    reads_back-of _ _ _ _ _ _ (returns-clause-tokens c)
+    IfOk-weaker c.place_labels.result _ _ (λ v. reads_back-of _ _ _ _ _ _) (returns-clause-tokens c)
 
 pub returns-clause-in_text : goal.returns-clause-in_text
 returns-clause-in_text c =
-    text-of _ _ _ _ _ _ c.utf8.input (returns-clause-tokens c)
+    IfOk-weaker c.place_labels.result _ _ (λ v. text-of _ _ _ _ _ _ c.utf8.input)
+    (returns-clause-tokens c)

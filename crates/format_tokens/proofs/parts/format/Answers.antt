@@ -1,5 +1,6 @@
 use Rattle.std.proofs.Common.{◌≡◌, ap, chars, [], ◌∷◌, ◌∙◌}
 use Rattle.std.specs.Int.{from_bool}
+use Rattle.std.proofs.lemmas.Result.{IfOk-weaker}
 use Rattle.rustc_parse_format.specs.Characters.{byte_length}
 use Rattle.rustc_parse_format.specs.Syntax.{align_part, alternate_part, fill_part, precision_part}
 use Rattle.rustc_parse_format.specs.Syntax.{sign_part, type_part, width_part}
@@ -13,7 +14,8 @@ use Rattle.format_tokens.proofs.Taking.{as_kind, then}
 use Rattle.format_tokens.proofs.parts.format.Goals as goal
 
 pub returns : goal.returns
-returns c p n r h v =
+returns c = IfOk-weaker c.take-5.result _ _
+    (λ rest taken p n r h v.
     let whole : IsRow (chars c.args.text.now) (fill_part p.fill ∷ align_part p.align
     ∷ sign_part p.sign ∷ alternate_part p.alternate ∷ width_part p.width
     ∷ precision_part p.precision ∷ type_part p.type ∷ []) r = record { part = h } in
@@ -45,7 +47,8 @@ returns c p n r h v =
     let kind : c.word_kind.result ≡ word_kind TypeKind (type_of p.type) =
     c.word_kind.ensures ∙ ap (λ (k : Spec (Unit {0})). word_kind TypeKind k.ty) v in
     let t7 = as_kind (type_part p.type).spelling kind
-    (c.in_ok-rest.ensures (type_part p.type).spelling r (t6.leaves ∙ y.whole)
+    (taken (type_part p.type).spelling r (t6.leaves ∙ y.whole)
     (c.type_width.ensures p.type (ap (λ (k : Spec (Unit {0})). k.debug_hex) v)
     (ap (λ (k : Spec (Unit {0})). k.ty) v))) in
-    then t1 (then t2 (then t3 (then t4 (then t5 (then t6 t7)))))
+    then t1 (then t2 (then t3 (then t4 (then t5 (then t6 t7))))))
+    c.take-5.ensures

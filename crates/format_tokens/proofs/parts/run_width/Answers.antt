@@ -1,5 +1,5 @@
 use Rattle.std.proofs.Common.{arith, ◌∙◌, sym}
-use Rattle.format_tokens.specs.Midway.{passes}
+use Rattle.format_tokens.specs.Labels.{passes}
 use Rattle.format_tokens.proofs.Widths.{at_end, at_other, more, within}
 use Rattle.format_tokens.proofs.parts.run_width.Goals as goal
 

@@ -1,4 +1,4 @@
-use Rattle.format_tokens.specs.Midway.{passes}
+use Rattle.format_tokens.specs.Labels.{passes}
 use Rattle.format_tokens.proofs.Widths.{Passed}
 use Rattle.format_tokens.proofs.parts.run_width.Given as goal
 

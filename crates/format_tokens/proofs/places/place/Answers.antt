@@ -1,7 +1,7 @@
 use Rattle.std.proofs.Common.{◌≡◌, ◌∙◌, ap, map, arith, if◌then◌else◌}
 use Rattle.std.proofs.lemmas.List.{map-append}
 use Rattle.format_tokens.specs.Culprits.{fits, inside_after, role_of}
-use Rattle.format_tokens.specs.Seen.{seen_token}
+use Rattle.format_tokens.specs.Views.{seen_token}
 use Rattle.format_tokens.specs.Starts.{pairs}
 use Rattle.format_tokens.specs.declared.kinds.Kind.TheVariants.{Unexpected}
 use Rattle.format_tokens.proofs.Starts.{place-none, place-some}

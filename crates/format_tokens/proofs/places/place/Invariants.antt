@@ -1,7 +1,7 @@
 use Rattle.std.proofs.Common.{◌≡◌, ◌-◌, ◌≤◌, ◌++◌, false, length, map}
 use Rattle.rustc_parse_format.specs.World.{World}
 use Rattle.format_tokens.specs.Culprits.{marked_tokens}
-use Rattle.format_tokens.specs.Seen.{seen_token}
+use Rattle.format_tokens.specs.Views.{seen_token}
 use Rattle.format_tokens.specs.Starts.{pairs, placed_sizes, starts_of}
 use Rattle.format_tokens.proofs.places.place.Given as goal
 

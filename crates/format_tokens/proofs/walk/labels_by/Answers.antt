@@ -1,7 +1,7 @@
 use Rattle.std.proofs.Common.{ap, ◌∙◌, sym, chars, rules}
 use Rattle.std.specs.Prelude.{option_map}
 use Rattle.rustc_parse_format.specs.Call.{Call}
-use Rattle.rustc_parse_format.specs.Seen.{seen_mode}
+use Rattle.rustc_parse_format.specs.Views.{seen_mode}
 use Rattle.rustc_parse_format.specs.State.{State}
 use Rattle.rustc_parse_format.specs.World.{piece_in}
 use Rattle.format_tokens.proofs.Progress.{left_after, piece_so_far, so_far-end, so_far-next}

@@ -1,7 +1,7 @@
 use Rattle.std.proofs.Common.{length, chars}
 use denote.Text.{Utf8}
 use denote.Shadow.{shadow}
-use Rattle.rustc_parse_format.specs.Seen.{seen_mode}
+use Rattle.rustc_parse_format.specs.Views.{seen_mode}
 use Rattle.format_tokens.proofs.Progress.{IsSoFar}
 use Rattle.format_tokens.proofs.walk.labels_by.Given as goal
 

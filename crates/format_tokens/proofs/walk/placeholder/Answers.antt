@@ -1,9 +1,10 @@
 use Rattle.std.proofs.Common.{◌-◌, ap, chars, [], ◌∷◌, ◌∙◌, codes, refl}
 use Rattle.std.specs.Char.{is_whitespace}
 use Rattle.std.specs.Int.{from_bool}
+use Rattle.std.proofs.lemmas.Result.{IfOk-weaker}
 use Rattle.rustc_parse_format.specs.Characters.{Text, after_white, byte_length, front}
 use Rattle.rustc_parse_format.specs.Placeholder.{cut}
-use Rattle.rustc_parse_format.specs.Seen.{seen_mode}
+use Rattle.rustc_parse_format.specs.Views.{seen_mode}
 use Rattle.rustc_parse_format.specs.Spelling.{run}
 use Rattle.rustc_parse_format.specs.Syntax.{position_part, spec_part}
 use Rattle.rustc_parse_format.specs.Types.{Argument}
@@ -16,7 +17,8 @@ use Rattle.format_tokens.proofs.Taking.{then}
 use Rattle.format_tokens.proofs.walk.placeholder.Goals as goal
 
 pub returns : goal.returns
-returns c n t e v i =
+returns c = IfOk-weaker c.skip.result _ _
+    (λ rest_after skipped n t e v i.
     let a = cut (seen_mode c.args.mode) t in
     let whole : IsRow t (position_part a.field.position ∷ run is_whitespace a.field.space
     ∷ spec_part (seen_mode c.args.mode) a.field.spec ∷ []) a.rest =
@@ -39,5 +41,5 @@ returns c n t e v i =
     (then t1 (then (then t2 (then t3 t4)) t5)) (c.from.ensures ∙ ap from_bool c.begins.ensures)
     c.in_ok-rest.ensures
     (c.saturating_sub.ensures ∙ ap (λ k. k - c.args.rest_len) c.width_of.ensures)
-    c.in_ok-rest_after.ensures
-    i
+    skipped i)
+    c.skip.ensures

@@ -1,7 +1,7 @@
 use Rattle.std.proofs.Common.{◌≡◌, drop, map}
 use Rattle.std.specs.List.{list_any}
 use Rattle.inlined_arguments.specs.Conditions.{goes_with_comment}
-use Rattle.inlined_arguments.specs.Seen.{seen_argument}
+use Rattle.inlined_arguments.specs.Views.{seen_argument}
 use Rattle.inlined_arguments.proofs.conditions.have_comment.Given as goal
 
 -- The answer for what is left is the answer for all.

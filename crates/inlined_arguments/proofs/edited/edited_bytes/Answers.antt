@@ -1,7 +1,7 @@
 use Rattle.std.proofs.Common.{◌+◌, ◌∙◌, ◌∷◌, ap, arith, drop, length, map, subst, sym}
 use Rattle.std.proofs.lemmas.List.{drop_more}
 use Rattle.inlined_arguments.specs.Edits.{AreApart}
-use Rattle.inlined_arguments.specs.Seen.{seen_edit}
+use Rattle.inlined_arguments.specs.Views.{seen_edit}
 use Rattle.inlined_arguments.proofs.Apart.{apart-within}
 use Rattle.inlined_arguments.proofs.edited.edited_bytes.Goals as goal
 

@@ -1,6 +1,6 @@
 use Rattle.std.proofs.Common.{◌≡◌, ◌++◌, ◌↔◌, ◌≤◌, drop, length, map}
 use Rattle.inlined_arguments.specs.Edits.{AreApart, edited_text}
-use Rattle.inlined_arguments.specs.Seen.{seen_edit}
+use Rattle.inlined_arguments.specs.Views.{seen_edit}
 use Rattle.inlined_arguments.proofs.edited.edited_bytes.Given as goal
 
 -- The edits that are left are apart exactly if all are. What is made, and then what is made of the

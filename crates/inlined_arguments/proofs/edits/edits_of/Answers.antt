@@ -1,9 +1,9 @@
 use Rattle.std.proofs.Common.{◌∙◌, ◌++◌, ◌∷◌, [], ap, map, subst, sym, take}
 use Rattle.std.proofs.lemmas.List.{take_all}
-use Rattle.rustc_parse_format.specs.Seen.{seen_piece}
+use Rattle.rustc_parse_format.specs.Views.{seen_piece}
 use Rattle.text_faults.proofs.Collecting.{map-next}
 use Rattle.inlined_arguments.specs.Edits.{AreAtReferences}
-use Rattle.inlined_arguments.specs.Seen.{seen_edit}
+use Rattle.inlined_arguments.specs.Views.{seen_edit}
 use Rattle.inlined_arguments.proofs.Placing.{at-next}
 use Rattle.inlined_arguments.proofs.edits.edits_of.Goals as goal
 

@@ -1,7 +1,7 @@
 use Rattle.std.proofs.Common.{map, take}
-use Rattle.rustc_parse_format.specs.Seen.{seen_piece}
+use Rattle.rustc_parse_format.specs.Views.{seen_piece}
 use Rattle.inlined_arguments.specs.Edits.{AreAtReferences}
-use Rattle.inlined_arguments.specs.Seen.{seen_edit}
+use Rattle.inlined_arguments.specs.Views.{seen_edit}
 use Rattle.inlined_arguments.proofs.edits.edits_of.Given as goal
 
 -- The edits so far are at references of the pieces so far.

@@ -1,11 +1,11 @@
 use Rattle.std.proofs.Common.{◌∙◌, List, ap, chars, map, string_bytes, subst}
 use Rattle.std.specs.Prelude.{option_map}
-use Rattle.rustc_parse_format.specs.Seen.{seen_piece}
+use Rattle.rustc_parse_format.specs.Views.{seen_piece}
 use Rattle.rustc_parse_format.specs.Types.{bare_piece}
 use Rattle.call_faults.specs.Arguments.{FormatArgument}
 use Rattle.inlined_arguments.specs.Edits.{AreAtReferences}
 use Rattle.inlined_arguments.specs.Inlining.{ReadsClean}
-use Rattle.inlined_arguments.specs.Seen.{seen_call, seen_edit}
+use Rattle.inlined_arguments.specs.Views.{seen_call, seen_edit}
 use Rattle.inlined_arguments.specs.Values.{slot_argument}
 use Rattle.inlined_arguments.proofs.CleanPieces.{bare-same, same-snippet}
 use Rattle.inlined_arguments.proofs.inlining.inline_with.Goals as goal

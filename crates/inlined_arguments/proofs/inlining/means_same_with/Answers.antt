@@ -1,7 +1,7 @@
 use Rattle.std.proofs.Common.{chars, map}
-use Rattle.rustc_parse_format.specs.Seen.{seen_piece}
-use Rattle.call_faults.specs.Seen.{seen_given}
-use Rattle.inlined_arguments.specs.Seen.{seen_slot, seen_slots}
+use Rattle.rustc_parse_format.specs.Views.{seen_piece}
+use Rattle.call_faults.specs.Views.{seen_given}
+use Rattle.inlined_arguments.specs.Views.{seen_slot, seen_slots}
 use Rattle.inlined_arguments.proofs.CleanPieces.{clean-as}
 use Rattle.inlined_arguments.proofs.inlining.means_same_with.Goals as goal
 

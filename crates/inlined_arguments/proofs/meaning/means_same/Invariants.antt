@@ -1,7 +1,7 @@
 use Rattle.std.proofs.Common.{◌≡◌, map, take}
-use Rattle.rustc_parse_format.specs.Seen.{seen_piece}
+use Rattle.rustc_parse_format.specs.Views.{seen_piece}
 use Rattle.inlined_arguments.specs.Meaning.{meaning}
-use Rattle.inlined_arguments.specs.Seen.{Knows, seen_slots}
+use Rattle.inlined_arguments.specs.Views.{Knows, seen_slots}
 use Rattle.inlined_arguments.proofs.meaning.means_same.Given as goal
 
 -- The pieces so far mean the same.

@@ -4,7 +4,7 @@ use Rattle.std.proofs.lemmas.Bool.{false≢true}
 use Rattle.std.proofs.lemmas.List.Sums.{AllPass-from_list_all, list_all-from_AllPass}
 use Rattle.rustc_parse_format.specs.World.{quote_offset}
 use Rattle.call_faults.specs.CallFaults.{is_warning}
-use Rattle.call_faults.specs.Seen.{seen_fault, seen_given, start}
+use Rattle.call_faults.specs.Views.{seen_fault, seen_given, start}
 use Rattle.inlined_arguments.proofs.CleanPieces.{clean-pieces}
 use Rattle.inlined_arguments.proofs.reading.read.Goals as goal
 

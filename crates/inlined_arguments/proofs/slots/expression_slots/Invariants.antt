@@ -1,5 +1,5 @@
 use Rattle.std.proofs.Common.{◌≡◌, map, take}
-use Rattle.inlined_arguments.specs.Seen.{seen_slot}
+use Rattle.inlined_arguments.specs.Views.{seen_slot}
 use Rattle.inlined_arguments.specs.Values.{kept_slots}
 use Rattle.inlined_arguments.proofs.slots.expression_slots.Given as goal
 

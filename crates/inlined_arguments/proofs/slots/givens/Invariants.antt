@@ -1,6 +1,6 @@
 use Rattle.std.proofs.Common.{◌≡◌, map, take}
-use Rattle.call_faults.specs.Seen.{seen_given}
-use Rattle.inlined_arguments.specs.Seen.{seen_slot}
+use Rattle.call_faults.specs.Views.{seen_given}
+use Rattle.inlined_arguments.specs.Views.{seen_slot}
 use Rattle.inlined_arguments.specs.Values.{slot_argument}
 use Rattle.inlined_arguments.proofs.slots.givens.Given as goal
 

@@ -1,5 +1,5 @@
 use Rattle.std.proofs.Common.{◌≡◌, ◌≤◌, ◌++◌, drop, map}
-use Rattle.inlined_arguments.specs.Seen.{seen_argument, seen_slot}
+use Rattle.inlined_arguments.specs.Views.{seen_argument, seen_slot}
 use Rattle.inlined_arguments.specs.Values.{slots_from}
 use Rattle.inlined_arguments.proofs.slots.slots.Given as goal
 

@@ -1,6 +1,6 @@
 use Rattle.std.proofs.Common.{◌≡◌, None, drop, map}
 use Rattle.rustc_parse_format.specs.Characters.{Text}
-use Rattle.inlined_arguments.specs.Seen.{found_in, seen_slot}
+use Rattle.inlined_arguments.specs.Views.{found_in, seen_slot}
 use Rattle.inlined_arguments.specs.Values.{value_after}
 use Rattle.inlined_arguments.proofs.values.values_of.Given as goal
 

@@ -1,5 +1,5 @@
 use Rattle.std.proofs.Common.{◌≡◌, ◌++◌, drop, map}
-use Rattle.inlined_arguments.specs.Seen.{seen_argument}
+use Rattle.inlined_arguments.specs.Views.{seen_argument}
 use Rattle.inlined_arguments.specs.Variables.{gone_from}
 use Rattle.inlined_arguments.proofs.variables.variable_indices.Given as goal
 

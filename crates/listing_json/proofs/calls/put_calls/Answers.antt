@@ -1,6 +1,6 @@
 use Rattle.std.proofs.Common.{◌≡◌, ◌∙◌, ◌==◌, ap, arith, length, not}
 use Rattle.rustc_parse_format.specs.State.{State, next_call}
-use Rattle.rustc_parse_format.specs.SeenFaults.{seen_fault}
+use Rattle.rustc_parse_format.specs.FaultViews.{seen_fault}
 use Rattle.rustc_parse_format.specs.Faults.{map_fault}
 use Rattle.rustc_parse_format.specs.World.{place_of}
 use Rattle.listing_json.proofs.Walking.{faults-next, owes-call, some-listed, turns-fewer}

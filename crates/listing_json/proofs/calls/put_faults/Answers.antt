@@ -1,6 +1,6 @@
 use Rattle.std.proofs.Common.{◌∷◌, [], map}
 use Rattle.std.proofs.lemmas.List.{at_drop_all, at_drop_more}
-use Rattle.rustc_parse_format.specs.SeenFaults.{seen_fault}
+use Rattle.rustc_parse_format.specs.FaultViews.{seen_fault}
 use Rattle.listing_json.specs.Values.{fault_value}
 use Rattle.listing_json.proofs.Adding.{owes-next, owes-none}
 use Rattle.listing_json.proofs.calls.put_faults.Goals as goal

@@ -1,5 +1,5 @@
 use Rattle.std.proofs.Common.{drop, map}
-use Rattle.rustc_parse_format.specs.SeenFaults.{seen_fault}
+use Rattle.rustc_parse_format.specs.FaultViews.{seen_fault}
 use Rattle.listing_json.specs.Values.{fault_value}
 use Rattle.listing_json.proofs.Adding.{Owes}
 use Rattle.listing_json.proofs.calls.put_faults.Given as goal

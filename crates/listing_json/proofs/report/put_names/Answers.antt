@@ -1,6 +1,6 @@
 use Rattle.std.proofs.Common.{◌∷◌, [], map}
 use Rattle.std.proofs.lemmas.List.{at_drop_all, at_drop_more}
-use Rattle.placeholder_check.specs.Seen.{texts}
+use Rattle.placeholder_check.specs.Views.{texts}
 use Rattle.listing_json.specs.Values.{name_value}
 use Rattle.listing_json.proofs.Adding.{owes-next, owes-none}
 use Rattle.listing_json.proofs.report.put_names.Goals as goal

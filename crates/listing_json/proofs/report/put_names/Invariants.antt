@@ -1,5 +1,5 @@
 use Rattle.std.proofs.Common.{drop, map}
-use Rattle.placeholder_check.specs.Seen.{texts}
+use Rattle.placeholder_check.specs.Views.{texts}
 use Rattle.listing_json.specs.Values.{name_value}
 use Rattle.listing_json.proofs.Adding.{Owes}
 use Rattle.listing_json.proofs.report.put_names.Given as goal

@@ -1,5 +1,5 @@
 use Rattle.std.proofs.Common.{map, take}
-use Rattle.message_faults.specs.Seen.{HasNames}
+use Rattle.message_faults.specs.Views.{HasNames}
 use Rattle.message_faults.proofs.checker.names_of.Given as goal
 
 -- The set has the names of the parameters so far.

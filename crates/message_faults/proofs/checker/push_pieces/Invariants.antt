@@ -1,7 +1,7 @@
 use Rattle.std.proofs.Common.{◌≡◌, ◌++◌, drop, map}
-use Rattle.rustc_parse_format.specs.Seen.{seen_piece}
+use Rattle.rustc_parse_format.specs.Views.{seen_piece}
 use Rattle.message_faults.specs.Messages.{faults_of}
-use Rattle.message_faults.specs.Seen.{known_names, seen_fault}
+use Rattle.message_faults.specs.Views.{known_names, seen_fault}
 use Rattle.message_faults.proofs.checker.push_pieces.Given as goal
 
 -- The faults so far, and then those of the pieces that are left, are all.

@@ -1,12 +1,12 @@
 use Rattle.std.proofs.Common.{◌≡◌, ◌++◌, ◌∙◌, None, ap, chars, false, map}
 use Rattle.rustc_parse_format.specs.Call.{pieces_of}
-use Rattle.rustc_parse_format.specs.Seen.{seen_piece}
+use Rattle.rustc_parse_format.specs.Views.{seen_piece}
 use Rattle.rustc_parse_format.specs.State.{State, after_all, calls, first_state}
 use Rattle.rustc_parse_format.specs.Types.{Diagnostic}
 use Rattle.rustc_parse_format.specs.World.{World, pieces_in}
 use Rattle.rustc_parse_format.proofs.Walking.StateWalks.{after_all-world}
 use Rattle.message_faults.specs.Messages.{faults_of, pieces}
-use Rattle.message_faults.specs.Seen.{known_names, seen_fault, start}
+use Rattle.message_faults.specs.Views.{known_names, seen_fault, start}
 use Rattle.message_faults.proofs.checker.push_placeholders.Goals as goal
 
 pub returns : goal.returns

@@ -1,7 +1,7 @@
 use Rattle.std.proofs.Common.{◌≡◌, ◌++◌, chars, length, map}
 use denote.Shadow.{shadow}
 use denote.Text.{Utf8}
-use Rattle.placeholder_check.specs.Seen.{texts}
+use Rattle.placeholder_check.specs.Views.{texts}
 use Rattle.piece_listing.specs.GivenArguments.{parts}
 use Rattle.piece_listing.proofs.arguments.between_commas.Given as goal
 

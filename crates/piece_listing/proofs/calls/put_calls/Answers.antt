@@ -4,7 +4,7 @@ use Rattle.std.proofs.Common.{List, Some, None, refl, subst, sym}
 use Rattle.std.specs.Prelude.{option_map, string_bytes}
 use Rattle.std.proofs.lemmas.Bool.{false≢true}
 use Rattle.std.proofs.lemmas.Grind.{flat_map-append}
-use Rattle.rustc_parse_format.specs.Seen.{seen_taken}
+use Rattle.rustc_parse_format.specs.Views.{seen_taken}
 use Rattle.rustc_parse_format.specs.State.{State, next_call}
 use Rattle.rustc_parse_format.specs.Types.{Piece}
 use Rattle.rustc_parse_format.specs.World.{Place, World, piece_in}
@@ -12,7 +12,7 @@ use Rattle.rustc_parse_format.proofs.Readers.Placeholders.{needs_adds}
 use Rattle.rustc_parse_format.proofs.Walking.Nexts.{next_ends, piece_moves}
 use Rattle.rustc_parse_format.proofs.Walking.ReadPieces.{at_end-spare, pieces_end, pieces_more}
 use Rattle.rustc_parse_format.proofs.Walking.ReadPieces.{state_end, state_more}
-use Rattle.placeholder_check.specs.Noted.{Holds}
+use Rattle.placeholder_check.specs.Collection.{Holds}
 use Rattle.placeholder_check.specs.Uses.{piece_uses, uses}
 use Rattle.piece_listing.specs.Listing.{piece_line}
 use Rattle.piece_listing.proofs.calls.put_calls.Goals as goal

@@ -3,7 +3,7 @@ use Rattle.rustc_parse_format.specs.Call.{pieces_of}
 use Rattle.rustc_parse_format.specs.State.{after_all, calls}
 use Rattle.rustc_parse_format.specs.Types.{Piece}
 use Rattle.rustc_parse_format.specs.World.{Place, pieces_in}
-use Rattle.placeholder_check.specs.Noted.{Holds}
+use Rattle.placeholder_check.specs.Collection.{Holds}
 use Rattle.placeholder_check.specs.Uses.{Use, uses}
 use Rattle.piece_listing.specs.Listing.{piece_line}
 use Rattle.piece_listing.proofs.calls.put_calls.Given as goal

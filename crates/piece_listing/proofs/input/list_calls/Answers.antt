@@ -1,10 +1,10 @@
 use Rattle.std.proofs.Common.{◌≡◌, ◌∙◌, ◌++◌, [], ap, flat_map, length, map, nat_lt, refl, rules}
 use Rattle.std.specs.Prelude.{◌||◌, IsSome, IsTrue, string_bytes}
 use Rattle.rustc_parse_format.specs.Call.{pieces_of}
-use Rattle.rustc_parse_format.specs.Seen.{seen_error}
+use Rattle.rustc_parse_format.specs.Views.{seen_error}
 use Rattle.rustc_parse_format.specs.State.{State, after_all, calls}
 use Rattle.rustc_parse_format.specs.World.{pieces_in}
-use Rattle.placeholder_check.specs.Seen.{seen_report}
+use Rattle.placeholder_check.specs.Views.{seen_report}
 use Rattle.piece_listing.specs.Listing.{fault_line, listing, piece_line, report_lines}
 use Rattle.piece_listing.specs.Program.{has_entries}
 use Rattle.piece_listing.proofs.input.list_calls.Goals as goal

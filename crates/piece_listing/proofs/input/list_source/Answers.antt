@@ -1,8 +1,6 @@
-use Rattle.std.proofs.Common.{◌∙◌, ap, chars, false, subst}
-use Rattle.std.specs.Prelude.{IsOk}
-use Rattle.std.proofs.lemmas.Bool.{false≢true}
+use Rattle.std.proofs.Common.{◌∙◌, ap, chars, false}
 use Rattle.rustc_parse_format.proofs.Walking.ReadPieces.{no_source}
-use Rattle.rustc_parse_format.specs.Seen.{seen_mode, seen_snippet}
+use Rattle.rustc_parse_format.specs.Views.{seen_mode, seen_snippet}
 use Rattle.rustc_parse_format.specs.State.{State, after_all, calls}
 use Rattle.rustc_parse_format.specs.World.{quote_offset, world}
 use Rattle.piece_listing.proofs.Empty.{chars-empty, no_faults}
@@ -11,10 +9,10 @@ use Rattle.piece_listing.proofs.input.list_source.Goals as goal
 
 pub returns-clause-lines : goal.returns-clause-lines
 unfolding pieces errors
-returns-clause-lines c = rw c.in_ok-parser.ensures.start at c.in_ok-listing.ensures.lines
+returns-clause-lines c = rw c.in_ok-parser.ensures.start at c.list_calls.ensures.lines
 
-pub returns-in_err-listing-clause-empty : goal.returns-in_err-listing-clause-empty
-returns-in_err-listing-clause-empty c e without bare =
+pub returns-clause-empty : goal.returns-clause-empty
+returns-clause-empty c e without bare =
     let mode = seen_mode c.args.task.mode in
     let text = chars c.args.text.now in
     let w = world text c.args.style (seen_snippet c.args.snippet) false in
@@ -23,5 +21,4 @@ returns-in_err-listing-clause-empty c e without bare =
     let source = no_source _ _ c.in_ok-parser.ensures.source without in
     let none = ap (λ (s : State). (after_all s (calls s)).errors) start
     ∙ no_faults mode w (quote_offset c.args.style) c.args.text.now e in
-    absurd (false≢true (subst IsOk c.in_err-listing.was
-    (c.list_calls.ensures.empty rest source none bare)))
+    c.list_calls.ensures.empty rest source none bare

@@ -1,5 +1,5 @@
 use Rattle.std.proofs.Common.{◌≡◌, ◌++◌, drop, flat_map, string_bytes}
-use Rattle.placeholder_check.specs.Seen.{texts}
+use Rattle.placeholder_check.specs.Views.{texts}
 use Rattle.piece_listing.specs.Listing.{name_line}
 use Rattle.piece_listing.proofs.report_lines.put_names.Given as goal
 

@@ -1,5 +1,5 @@
 use Rattle.std.proofs.Common.{map}
-use Rattle.rustc_parse_format.specs.Seen.{seen_piece}
+use Rattle.rustc_parse_format.specs.Views.{seen_piece}
 use Rattle.placeholder_check.specs.Uses.{uses}
 use Rattle.placeholder_check.proofs.Unique.{one-report}
 use Rattle.placeholder_check.proofs.checker.check.Goals as goal

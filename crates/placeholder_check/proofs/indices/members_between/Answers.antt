@@ -1,5 +1,5 @@
 use Rattle.std.proofs.Common.{◌≡◌, ◌<◌, ◌≤◌, ℕ, true, arith, sym, inl, inr}
-use Rattle.placeholder_check.specs.Noted.{is_noted}
+use Rattle.placeholder_check.specs.Collection.{is_noted}
 use Rattle.placeholder_check.proofs.Numbers.{Lists-push, Lists-same, Lists-skip}
 use Rattle.placeholder_check.proofs.indices.members_between.Goals as goal
 use Rattle.placeholder_check.proofs.indices.members_between.Goals.{else-has_index}

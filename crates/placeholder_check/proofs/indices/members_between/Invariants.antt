@@ -1,6 +1,6 @@
 use Rattle.std.proofs.Common.{◌≡◌, ◌<◌, ◌≤◌, ◌⊎◌, true}
 use Rattle.placeholder_check.specs.Entries.{Lists}
-use Rattle.placeholder_check.specs.Noted.{is_noted}
+use Rattle.placeholder_check.specs.Collection.{is_noted}
 use Rattle.placeholder_check.proofs.indices.members_between.Given as goal
 
 -- The list has the members below the counter, which does not pass the end.

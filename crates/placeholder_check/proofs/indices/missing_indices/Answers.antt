@@ -1,6 +1,6 @@
 use Rattle.std.proofs.Common.{◌≡◌, ◌<◌, ℕ, false, arith, subst, sym}
 use Rattle.placeholder_check.specs.Entries.{Lists}
-use Rattle.placeholder_check.specs.Noted.{is_noted}
+use Rattle.placeholder_check.specs.Collection.{is_noted}
 use Rattle.placeholder_check.proofs.Numbers.{Lists-push, Lists-skip}
 use Rattle.placeholder_check.proofs.indices.missing_indices.Goals as goal
 use Rattle.placeholder_check.proofs.indices.missing_indices.Goals.{else-not-has_index}

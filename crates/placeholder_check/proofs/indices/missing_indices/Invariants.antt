@@ -1,6 +1,6 @@
 use Rattle.std.proofs.Common.{◌≡◌, ◌<◌, false}
 use Rattle.placeholder_check.specs.Entries.{Lists}
-use Rattle.placeholder_check.specs.Noted.{is_noted}
+use Rattle.placeholder_check.specs.Collection.{is_noted}
 use Rattle.placeholder_check.proofs.indices.missing_indices.Given as goal
 
 -- The list has the missing numbers below the counter.

@@ -1,7 +1,11 @@
 use Rattle.std.proofs.Common.{◌≡◌, false, chars, sym, arith}
-use Rattle.placeholder_check.specs.Noted.{has_text, is_known}
+use Rattle.placeholder_check.specs.Collection.{has_text, is_known}
 use Rattle.placeholder_check.proofs.Naming.{Follows-had, Follows-new, known-early, known-late}
 use Rattle.placeholder_check.proofs.names.insert_name.Goals as goal
+use Rattle.placeholder_check.proofs.names.insert_name.Goals.{}
+use Rattle.placeholder_check.proofs.names.insert_name.Goals.{}
+use Rattle.placeholder_check.proofs.names.insert_name.Goals.{}
+use Rattle.placeholder_check.proofs.names.insert_name.Goals.{}
 use Rattle.placeholder_check.proofs.names.insert_name.Goals.{then-len-ge-SCAN_LIMIT+in_ok-insert_later}
 use Rattle.placeholder_check.proofs.names.insert_name.Goals.{else-len-ge-SCAN_LIMIT}
 

@@ -1,7 +1,7 @@
 use Rattle.std.proofs.Common.{◌≡◌, false, chars, take}
 use Rattle.std.specs.List.{list_any}
 use Rattle.std.specs.Str.{bytes_eq}
-use Rattle.placeholder_check.specs.Seen.{texts}
+use Rattle.placeholder_check.specs.Views.{texts}
 use Rattle.placeholder_check.proofs.names.is_early.Given as goal
 
 -- The names so far are others.

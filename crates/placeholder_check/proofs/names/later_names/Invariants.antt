@@ -2,8 +2,8 @@ use Rattle.std.proofs.Common.{◌≡◌, ◌≤◌, ◌||◌, take}
 use Rattle.std.specs.List.{list_any}
 use Rattle.std.specs.Str.{bytes_eq}
 use Rattle.rustc_parse_format.specs.Characters.{Text}
-use Rattle.placeholder_check.specs.Noted.{has_text}
-use Rattle.placeholder_check.specs.Seen.{texts}
+use Rattle.placeholder_check.specs.Collection.{has_text}
+use Rattle.placeholder_check.specs.Views.{texts}
 use Rattle.placeholder_check.proofs.names.later_names.Given as goal
 
 -- The set has the names so far but for the first 16.

@@ -1,6 +1,6 @@
 use Rattle.std.proofs.Common.{◌≡◌, filter, not, take}
-use Rattle.placeholder_check.specs.Noted.{is_among}
-use Rattle.placeholder_check.specs.Seen.{texts}
+use Rattle.placeholder_check.specs.Collection.{is_among}
+use Rattle.placeholder_check.specs.Views.{texts}
 use Rattle.placeholder_check.proofs.names.missing_names.Given as goal
 
 -- The list has those of the names so far that the others lack.

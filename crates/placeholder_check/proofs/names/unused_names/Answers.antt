@@ -1,7 +1,7 @@
 use Rattle.std.proofs.Common.{◌≡◌, true, false, chars, get_or, sym, take, ◌∙◌, arith}
 use Rattle.std.proofs.lemmas.List.{take_all}
-use Rattle.placeholder_check.specs.Noted.{Follows, is_known}
-use Rattle.placeholder_check.specs.Seen.{texts}
+use Rattle.placeholder_check.specs.Collection.{Follows, is_known}
+use Rattle.placeholder_check.specs.Views.{texts}
 use Rattle.placeholder_check.proofs.Naming.{Follows-skip, past, texts-next}
 use Rattle.placeholder_check.proofs.names.unused_names.Goals as goal
 use Rattle.placeholder_check.proofs.names.unused_names.Goals.{then-not-has_name+in_ok-insert_name}

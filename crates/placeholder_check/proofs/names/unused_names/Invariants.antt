@@ -2,8 +2,8 @@ use Rattle.std.proofs.Common.{◌≡◌, List, take}
 use Rattle.std.specs.List.{list_any}
 use Rattle.std.specs.Str.{bytes_eq}
 use Rattle.rustc_parse_format.specs.Characters.{Text}
-use Rattle.placeholder_check.specs.Noted.{Follows, is_known}
-use Rattle.placeholder_check.specs.Seen.{texts}
+use Rattle.placeholder_check.specs.Collection.{Follows, is_known}
+use Rattle.placeholder_check.specs.Views.{texts}
 use Rattle.placeholder_check.proofs.names.unused_names.Given as goal
 
 -- The set has those of the names so far that are not used.

@@ -1,9 +1,9 @@
 use Rattle.std.proofs.Common.{◌∙◌, chars, map}
-use Rattle.rustc_parse_format.specs.Seen.{seen_piece, seen_mode, seen_snippet}
+use Rattle.rustc_parse_format.specs.Views.{seen_piece, seen_mode, seen_snippet}
 use Rattle.rustc_parse_format.specs.Types.{bare_piece}
 use Rattle.rustc_parse_format.specs.World.{quote_offset, world}
 use Rattle.placeholder_check.specs.Report.{IsReport}
-use Rattle.placeholder_check.specs.Seen.{seen_report, texts}
+use Rattle.placeholder_check.specs.Views.{seen_report, texts}
 use Rattle.placeholder_check.specs.Uses.{uses}
 use Rattle.placeholder_check.proofs.Empty.{no_pieces}
 use Rattle.placeholder_check.proofs.NamedArguments.{named-alone}

@@ -1,5 +1,5 @@
 use Rattle.std.proofs.Common.{◌≡◌, Bool, true, false, ◌||◌, [], refl, sym}
-use Rattle.placeholder_check.specs.Noted.{is_noted}
+use Rattle.placeholder_check.specs.Collection.{is_noted}
 use Rattle.placeholder_check.proofs.uses.add_name.Goals as goal
 
 or-false : (b : Bool) → (b || false) ≡ b

@@ -1,7 +1,7 @@
 use Rattle.std.proofs.Common.{◌≡◌, [], map, take}
-use Rattle.rustc_parse_format.specs.Seen.{seen_piece}
+use Rattle.rustc_parse_format.specs.Views.{seen_piece}
 use Rattle.placeholder_check.specs.Uses.{uses}
-use Rattle.placeholder_check.specs.Noted.{Holds, IsNew}
+use Rattle.placeholder_check.specs.Collection.{Holds, IsNew}
 use Rattle.placeholder_check.proofs.uses.uses_of.Given as goal
 
 -- The uses of the pieces so far have been collected. Without pieces there are none.

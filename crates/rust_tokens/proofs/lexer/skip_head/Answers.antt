@@ -1,5 +1,5 @@
 use Rattle.rust_tokens.proofs.Heads.{heads}
-use Rattle.rust_tokens.specs.Placed.{end_of_all}
+use Rattle.rust_tokens.specs.Spans.{end_of_all}
 use Rattle.rust_tokens.proofs.lexer.skip_head.Goals as goal
 
 pub returns : goal.returns

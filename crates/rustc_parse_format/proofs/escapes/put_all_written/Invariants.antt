@@ -1,5 +1,5 @@
 use Rattle.std.proofs.Common.{◌≡◌, ◌++◌, chars, flat_map, length, string_bytes}
-use Rattle.rustc_parse_format.specs.Written.{written_character}
+use Rattle.rustc_parse_format.specs.Escaping.{written_character}
 use Rattle.rustc_parse_format.proofs.escapes.put_all_written.Given as goal
 
 -- The characters written and then the rest are all of the text.

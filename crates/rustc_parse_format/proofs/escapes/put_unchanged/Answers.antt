@@ -1,5 +1,5 @@
 use Rattle.std.proofs.Common.{◌++◌, ap, ◌∙◌, arith, flat_map, length, string_bytes}
-use Rattle.rustc_parse_format.specs.Written.{is_unchanged, written_character}
+use Rattle.rustc_parse_format.specs.Escaping.{is_unchanged, written_character}
 use Rattle.rustc_parse_format.proofs.Bytes.Unchanged.{unchanged-front}
 use Rattle.rustc_parse_format.proofs.Sources.Contents.{rest_after-shorter}
 use Rattle.rustc_parse_format.proofs.escapes.put_unchanged.Goals as goal

@@ -2,8 +2,8 @@ use Rattle.std.proofs.Common.{◌≡◌, ◌∙◌, [], None, ap, false, rules}
 use Rattle.std.proofs.lemmas.Str.{chars-nil}
 use Rattle.std.specs.Prelude.{chars, option_map}
 use Rattle.rustc_parse_format.specs.Types.{Implied, Unknown, default_spec}
-use Rattle.rustc_parse_format.specs.Seen.{pair, seen_alignment, seen_count, seen_debug_hex}
-use Rattle.rustc_parse_format.specs.Seen.{seen_sign, seen_spec}
+use Rattle.rustc_parse_format.specs.Views.{pair, seen_alignment, seen_count, seen_debug_hex}
+use Rattle.rustc_parse_format.specs.Views.{seen_sign, seen_spec}
 use Rattle.rustc_parse_format.specs.World.{Place}
 use Rattle.rustc_parse_format.specs.declared.types.FormatSpec.{FormatSpec}
 use Rattle.rustc_parse_format.specs.contracts.types.FormatSpecDefault.TheImpl as spec_default

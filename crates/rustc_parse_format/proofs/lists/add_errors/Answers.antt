@@ -1,7 +1,7 @@
 use Rattle.std.proofs.Common.{◌≡◌, ◌+◌, ◌∙◌, ap, arith, drop, length, sym}
 use Rattle.std.proofs.lemmas.List.{length-map}
-use Rattle.rustc_parse_format.specs.Seen.{seen_error}
-use Rattle.rustc_parse_format.specs.SeenFaults.{seen_fault}
+use Rattle.rustc_parse_format.specs.Views.{seen_error}
+use Rattle.rustc_parse_format.specs.FaultViews.{seen_fault}
 use Rattle.rustc_parse_format.proofs.Readers.Errors.{added-few, added-kept, added-more}
 use Rattle.rustc_parse_format.proofs.lists.add_errors.Goals as goal
 

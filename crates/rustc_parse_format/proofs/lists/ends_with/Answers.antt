@@ -1,6 +1,6 @@
 use Rattle.std.proofs.Common.{sym, ap, ◌∙◌, ◌&&◌, nat_eq}
 use Rattle.std.proofs.lemmas.Bool.{eq-eqb, ne_eqb}
-use Rattle.rustc_parse_format.specs.Seen.{pair}
+use Rattle.rustc_parse_format.specs.Views.{pair}
 use Rattle.rustc_parse_format.proofs.Lines.LastLines.{ends_with-found}
 use Rattle.rustc_parse_format.proofs.lists.ends_with.Goals as goal
 

@@ -2,7 +2,7 @@ use Rattle.std.proofs.Common.{◌≡◌, ◌∙◌, false, ap, chars, refl}
 use Rattle.std.proofs.lemmas.Bool.{false≢true}
 use Rattle.std.proofs.lemmas.Str.{chars-nil}
 use Rattle.rustc_parse_format.specs.Characters.{Text}
-use Rattle.rustc_parse_format.specs.Seen.{seen_mode, seen_snippet}
+use Rattle.rustc_parse_format.specs.Views.{seen_mode, seen_snippet}
 use Rattle.rustc_parse_format.specs.State.{State, first_state, calls}
 use Rattle.rustc_parse_format.proofs.Grammar.Readings.{Reads-unique, Reads-spelled}
 use Rattle.rustc_parse_format.proofs.Grammar.PartCuts.{cut-only}

@@ -1,5 +1,5 @@
 use Rattle.std.proofs.Common.{◌∙◌, ap, ◌&&◌, sym}
-use Rattle.rustc_parse_format.specs.Seen.{seen_argument}
+use Rattle.rustc_parse_format.specs.Views.{seen_argument}
 use Rattle.rustc_parse_format.specs.Identifiers.{is_identifier}
 use Rattle.std.proofs.lemmas.Bool.{eq-eqb}
 use Rattle.rustc_parse_format.proofs.Grammar.Identifiers.{identifier_decided}

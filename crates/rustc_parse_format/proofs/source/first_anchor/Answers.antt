@@ -1,6 +1,6 @@
 use Rattle.std.proofs.Common.{◌<◌, ◌^◌, ap, ◌∙◌, sym, subst, drop, length, arith, IsCharBoundary}
 use Rattle.std.proofs.Common.{Some}
-use Rattle.rustc_parse_format.specs.SeenSource.{world_with}
+use Rattle.rustc_parse_format.specs.SourceViews.{world_with}
 use Rattle.rustc_parse_format.proofs.Sources.Gaps.{Closes, first-boundary, first-found}
 use Rattle.rustc_parse_format.proofs.Sources.Gaps.{first-inside, first-anchor}
 use Rattle.rustc_parse_format.proofs.source.first_anchor.Goals as goal

@@ -1,8 +1,8 @@
 use Rattle.std.proofs.Common.{◌≡◌, ◌&&◌, ◌∙◌, ap, sym, subst, if◌then◌else◌, None, chars}
 use Rattle.std.specs.Prelude.{is_some, unwrap_or}
 use Rattle.rustc_parse_format.specs.declared.source.Source.{Source}
-use Rattle.rustc_parse_format.specs.Seen.{seen_snippet}
-use Rattle.rustc_parse_format.specs.SeenSource.{IsKeptIn, world_with}
+use Rattle.rustc_parse_format.specs.Views.{seen_snippet}
+use Rattle.rustc_parse_format.specs.SourceViews.{IsKeptIn, world_with}
 use Rattle.rustc_parse_format.specs.LiteralReading.{is_longer}
 use Rattle.rustc_parse_format.proofs.Sources.Worlds.{IsSourceWith, kept_of, source-world}
 use Rattle.rustc_parse_format.proofs.Sources.Worlds.{source-kept}

@@ -1,5 +1,5 @@
 use Rattle.std.proofs.Common.{◌≡◌, drop, map}
-use Rattle.call_faults.specs.Seen.{seen_edit}
+use Rattle.call_faults.specs.Views.{seen_edit}
 use Rattle.source_lint.specs.Findings.{copies}
 use Rattle.source_lint.proofs.findings.copies.Given as goal
 

@@ -1,6 +1,6 @@
 use Rattle.std.proofs.Common.{◌∙◌, ◌++◌, ◌∷◌, [], ap, map, subst, sym, take}
 use Rattle.std.proofs.lemmas.List.{take_all}
-use Rattle.call_faults.specs.Seen.{seen_call, seen_fault}
+use Rattle.call_faults.specs.Views.{seen_call, seen_fault}
 use Rattle.text_faults.proofs.Collecting.{map-next}
 use Rattle.source_lint.proofs.Telling.{Telling, telling-more, telling-none}
 use Rattle.source_lint.proofs.findings.put_findings.Goals as goal

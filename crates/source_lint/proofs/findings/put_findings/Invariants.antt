@@ -1,6 +1,6 @@
 use Rattle.std.proofs.Common.{map, take}
 use Rattle.std.specs.List.{All}
-use Rattle.call_faults.specs.Seen.{seen_call, seen_fault}
+use Rattle.call_faults.specs.Views.{seen_call, seen_fault}
 use Rattle.asm_lint.specs.Spans.{HasSpans}
 use Rattle.source_lint.proofs.Telling.{Telling}
 use Rattle.source_lint.proofs.findings.put_findings.Given as goal

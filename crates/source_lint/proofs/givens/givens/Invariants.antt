@@ -1,6 +1,6 @@
 use Rattle.std.proofs.Common.{◌≡◌, map, take}
 use Rattle.rust_trees.specs.Leaves.{leaf}
-use Rattle.call_faults.specs.Seen.{seen_given}
+use Rattle.call_faults.specs.Views.{seen_given}
 use Rattle.source_lint.specs.Givens.{given_argument}
 use Rattle.source_lint.proofs.givens.givens.Given as goal
 

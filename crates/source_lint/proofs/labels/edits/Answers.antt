@@ -1,6 +1,6 @@
 use Rattle.std.proofs.Common.{◌∷◌, ◌++◌, [], List, map, subst, sym}
 use Rattle.std.proofs.lemmas.List.{map-append}
-use Rattle.call_faults.specs.Seen.{seen_edit}
+use Rattle.call_faults.specs.Views.{seen_edit}
 use Rattle.call_faults.specs.Spots.{Edit}
 use Rattle.source_report.specs.declared.report.Edit.{Edit as FileEdit}
 use Rattle.asm_lint.specs.Spans.{IsSpan}

@@ -1,6 +1,6 @@
 use Rattle.std.proofs.Common.{map}
 use Rattle.std.specs.List.{All}
-use Rattle.call_faults.specs.Seen.{seen_edit}
+use Rattle.call_faults.specs.Views.{seen_edit}
 use Rattle.asm_lint.specs.Spans.{IsSpan}
 use Rattle.source_lint.specs.Findings.{TellEdits}
 use Rattle.source_lint.proofs.labels.edits.Given as goal

@@ -1,6 +1,6 @@
 use Rattle.std.proofs.Common.{◌∙◌, ap, length, refl, string_bytes}
 use Rattle.std.specs.List.{All}
-use Rattle.call_faults.specs.Seen.{seen_note}
+use Rattle.call_faults.specs.Views.{seen_note}
 use Rattle.asm_lint.specs.Spans.{IsSpan}
 use Rattle.asm_lint.proofs.Elements.{all-more, mapped-more}
 use Rattle.source_lint.proofs.labels.notes.Goals as goal

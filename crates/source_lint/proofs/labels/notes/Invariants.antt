@@ -1,7 +1,7 @@
 use Rattle.std.proofs.Common.{◌≡◌, length, map}
 use Rattle.std.specs.Prelude.{string_bytes}
 use Rattle.std.specs.List.{All}
-use Rattle.call_faults.specs.Seen.{seen_note}
+use Rattle.call_faults.specs.Views.{seen_note}
 use Rattle.asm_lint.specs.Spans.{IsSpan}
 use Rattle.source_lint.proofs.labels.notes.Given as goal
 

@@ -1,15 +1,6 @@
+use Rattle.std.proofs.lemmas.Result.{IfOk-weaker}
 use Rattle.source_lint.proofs.lint.report_on.Goals as goal
 
 pub returns-clause-report : goal.returns-clause-report
-returns-clause-report c = λ es is_new ls l r b.
-    let a = c.in_ok-put_attributes.ensures.read ls l in
-    record {
-      leaves = ls;
-      are_leaves = l;
-      of_calls = c.args.readings.findings.items;
-      of_attributes = a.0;
-      findings = a.1;
-      reads_attributes = a.2;
-      reads = r;
-      breaks = c.first_break.ensures ls b;
-    }
+returns-clause-report c = IfOk-weaker c.report_with.result _ _ (λ _ h es is_new ls l r b.
+    h es is_new ls l r (c.first_break-first_break.ensures ls b)) c.report_with.ensures.report

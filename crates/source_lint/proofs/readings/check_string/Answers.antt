@@ -1,5 +1,5 @@
 use Rattle.std.proofs.Common.{ap, map, subst}
-use Rattle.call_faults.specs.Seen.{seen_given, start}
+use Rattle.call_faults.specs.Views.{seen_given, start}
 use Rattle.source_lint.specs.Findings.{AreFindings}
 use Rattle.source_lint.proofs.CheckedCalls.{call-same}
 use Rattle.source_lint.proofs.readings.check_string.Goals as goal

@@ -1,4 +1,5 @@
 use Rattle.std.proofs.Common.{◌≡◌, ◌∙◌, ◌+◌, ap, arith, drop, map, refl, sym}
+use Rattle.std.proofs.lemmas.Result.{IfOk-weaker}
 use Rattle.rust_trees.specs.Leaves.{leaf}
 use Rattle.source_lint.specs.Givens.{given_argument}
 use Rattle.source_lint.specs.Readings.{arguments_before}
@@ -32,9 +33,9 @@ returns-then-extent-call-clause-read c =
     let to = c.args.call.now.close in
     let tokens : map leaf c.tokens.result.now ≡ xs = c.tokens.ensures in
     let t = rw c.source.ensures at c.extent_of-extent.ensures.trees in
-    let r = c.in_ok-reading.ensures.read in
     let all = before-all from to (drop n args)
-    (lies-drop from to n args (arguments-lie xs from to args c.requires.split)) in (
+    (lies-drop from to n args (arguments-lie xs from to args c.requires.split)) in
+    IfOk-weaker c.read_with.result _ _ (λ _ r. (
       r.0,
       r.1,
       record {
@@ -49,7 +50,7 @@ returns-then-extent-call-clause-read c =
             (ap (map (given_argument xs)) (after-one args c.args.index ∙ (sym all
             ∙ ap (λ v. arguments_before v (drop n args)) (sym c.if-extent-call.true)))) r.2;
       },
-    )
+    )) c.read_with.ensures.read
 
 pub returns-clause-read : goal.returns-clause-read
 returns-clause-read c =
@@ -57,7 +58,7 @@ returns-clause-read c =
     let args = c.args.arguments.now in
     let tokens : map leaf c.tokens.result.now ≡ xs = c.tokens.ensures in
     let t = rw c.source.ensures at c.extent_of-extent.ensures.trees in
-    let r = c.in_ok-reading-2.ensures.read in (
+    IfOk-weaker c.read_with-2.result _ _ (λ _ r. (
       r.0,
       r.1,
       record {
@@ -73,4 +74,4 @@ returns-clause-read c =
             ∙ ap (arguments_before c.extent_of-extent.result.end)
             (after-one args c.args.index)))) r.2;
       },
-    )
+    )) c.read_with-2.ensures.read

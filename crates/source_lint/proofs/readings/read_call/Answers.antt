@@ -1,6 +1,7 @@
 use Rattle.std.proofs.Common.{◌∙◌, ◌+◌, [], ap, map, refl, subst, sym}
 use Rattle.std.specs.Prelude.{slice_get}
 use Rattle.std.proofs.lemmas.List.{append-nil}
+use Rattle.std.proofs.lemmas.Result.{IfOk-weaker}
 use Rattle.format_calls.specs.Arguments.{tokens_of}
 use Rattle.source_lint.specs.FormWords.{TellsForms}
 use Rattle.call_forms.specs.Forms.{form_here}
@@ -34,8 +35,7 @@ read_one-requires-clause-split c =
 pub returns-in-Ok-clause-read : goal.returns-in-Ok-clause-read
 returns-in-Ok-clause-read c =
     let a = rw (c.in-Some-2.is, c.source.ensures) at c.in_ok-arguments.ensures.some in
-    let name = rw c.tokens-tokens.ensures at c.name_at-name.ensures in
-    let r = c.in_ok-reading-in-Ok.ensures.read in (
+    IfOk-weaker c.read_one.result _ _ (λ _ r. (
       r.0,
       r.1,
       reads-here c.args.file.is_from_2021 _ c.args.part.now c.args.call.now
@@ -46,7 +46,7 @@ returns-in-Ok-clause-read c =
           (arguments-here c.args.part.now c.args.call.now c.in-Some-2.arguments.items
           c.as_slice-list.result.now a.0 c.as_slice-list.ensures.value c.requires a.1 a.2)
           c.in-Ok.ensures.value r.2,
-    )
+    )) c.read_one.ensures.read
 
 pub returns-clause-read : goal.returns-clause-read
 returns-clause-read c =

@@ -2,7 +2,7 @@ use Rattle.std.proofs.Common.{◌≡◌, ◌∙◌, [], List, ap, chars, inl, in
 use Rattle.std.proofs.lemmas.List.{append-nil}
 use Rattle.rust_trees.specs.Leaves.{leaf}
 use Rattle.call_faults.specs.Arguments.{FormatArgument}
-use Rattle.call_faults.specs.Seen.{seen_given}
+use Rattle.call_faults.specs.Views.{seen_given}
 use Rattle.source_lint.specs.Findings.{AreFindings}
 use Rattle.source_lint.specs.Givens.{given_argument}
 use Rattle.asm_lint.specs.Literals.{without_crs}

@@ -1,4 +1,5 @@
 use Rattle.std.proofs.Common.{◌∙◌, ap, refl}
+use Rattle.std.proofs.lemmas.Result.{IfOk-weaker}
 use Rattle.asm_lint.specs.Literals.{appends_newline}
 use Rattle.source_lint.specs.Readings.{captures_variables}
 use Rattle.source_lint.proofs.Calling.{reads-by}
@@ -8,7 +9,8 @@ pub returns-clause-read : goal.returns-clause-read
 returns-clause-read c =
     let tokens = c.tokens-tokens.ensures in
     let name = rw tokens at c.name_at-name.ensures in
-    let r = rw tokens at c.in_ok-reading.ensures.read in (
+    let made = rw tokens at c.read_string.ensures.read in
+    IfOk-weaker c.read_string.result _ _ (λ _ r. (
       r.0,
       r.1,
       reads-by _ _ _ _ _ _ _ _ _ _ _
@@ -16,4 +18,4 @@ returns-clause-read c =
           (c.captures_variables-captures_variables.ensures
           ∙ ap (captures_variables c.args.file.is_from_2021 c.args.call.now.rule) name)
           refl refl r.2,
-    )
+    )) made

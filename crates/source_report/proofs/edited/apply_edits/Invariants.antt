@@ -1,7 +1,7 @@
 use Rattle.std.proofs.Common.{◌≡◌, ◌++◌, List, drop, map}
 use Rattle.fault_fixes.specs.Edits.{Edit}
 use Rattle.fault_fixes.specs.SeenEdits.{seen_edit}
-use Rattle.source_report.specs.SeenEdited.{with_edits}
+use Rattle.source_report.specs.EditViews.{with_edits}
 use Rattle.source_report.specs.Suggestions.{end_after}
 use Rattle.source_report.proofs.edited.apply_edits.Given as goal
 

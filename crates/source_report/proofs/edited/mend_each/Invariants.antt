@@ -1,6 +1,6 @@
 use Rattle.std.proofs.Common.{◌≡◌, drop, map}
 use Rattle.fault_fixes.specs.Edits.{edited_bytes}
-use Rattle.source_report.specs.SeenEdited.{with_faults, with_ids}
+use Rattle.source_report.specs.EditViews.{with_faults, with_ids}
 use Rattle.source_report.specs.Suggestions.{all_edits, mended_faults}
 use Rattle.source_report.proofs.edited.mend_each.Given as goal
 

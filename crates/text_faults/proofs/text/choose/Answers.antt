@@ -1,6 +1,6 @@
 use Rattle.std.proofs.Common.{◌∙◌, sym}
 use Rattle.std.specs.Prelude.{option_map}
-use Rattle.rustc_parse_format.specs.SeenFaults.{seen_fault}
+use Rattle.rustc_parse_format.specs.FaultViews.{seen_fault}
 use Rattle.text_faults.proofs.TextFaults.{shown-first, shown-front, shown-kept, some-map}
 use Rattle.text_faults.proofs.text.choose.Goals.{else-is_some-via-then-is_some+else-not-is_front}
 use Rattle.text_faults.proofs.text.choose.Goals.{else-is_some-via-else-is_some}

@@ -1,7 +1,7 @@
 use Rattle.std.proofs.Common.{◌≡◌, ◌<◌, ◌++◌, ◌∙◌, [], ap, arith, false, length, map, rules, true}
 use Rattle.std.proofs.lemmas.Grind.{common_steps}
 use Rattle.rustc_parse_format.specs.Characters.{is_nil}
-use Rattle.rustc_parse_format.specs.SeenFaults.{seen_fault}
+use Rattle.rustc_parse_format.specs.FaultViews.{seen_fault}
 use Rattle.text_faults.proofs.TextFaults.{first-found, first-last, first-preserved, first-shorter}
 use Rattle.text_faults.proofs.text.first_faults.Goals.{then-loop-parser-test+else-not-is_at_end}
 use Rattle.text_faults.proofs.text.first_faults.Goals.{else-loop-parser-test}

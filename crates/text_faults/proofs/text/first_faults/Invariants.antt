@@ -1,5 +1,5 @@
 use Rattle.std.proofs.Common.{◌≡◌, length, map}
-use Rattle.rustc_parse_format.specs.SeenFaults.{seen_fault}
+use Rattle.rustc_parse_format.specs.FaultViews.{seen_fault}
 use Rattle.rustc_parse_format.specs.State.{calls}
 use Rattle.rustc_parse_format.specs.World.{faults_in}
 use Rattle.text_faults.specs.Texts.{first_faults, or_else}

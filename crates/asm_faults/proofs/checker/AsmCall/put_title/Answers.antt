@@ -1,6 +1,6 @@
 use Rattle.std.proofs.Common.{◌++◌, ◌∙◌, ap, map, string_bytes, sym}
 use Rattle.asm_faults.specs.declared.faults.AsmFault.{AsmFault}
-use Rattle.asm_faults.specs.Seen.{seen_fault, seen_operand}
+use Rattle.asm_faults.specs.Views.{seen_fault, seen_operand}
 use Rattle.asm_faults.specs.Words.{title}
 use Rattle.asm_faults.proofs.checker.AsmCall.put_title.Goals as goal
 

@@ -1,6 +1,6 @@
 use Rattle.std.proofs.Common.{◌++◌, ◌∙◌, ap, string_bytes, sym}
 use Rattle.call_faults.specs.declared.faults.CallFault.{CallFault}
-use Rattle.call_faults.specs.Seen.{seen_fault, title_parts}
+use Rattle.call_faults.specs.Views.{seen_fault, title_parts}
 use Rattle.call_faults.specs.Words.{title}
 use Rattle.call_faults.proofs.checker.CallReport.put_title.Goals as goal
 

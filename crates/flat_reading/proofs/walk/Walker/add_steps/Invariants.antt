@@ -1,6 +1,6 @@
 use Rattle.std.proofs.Common.{◌≡◌, ◌+◌, ◌≤◌, length, drop}
 use Rattle.flat_reading.specs.Events.{position, states}
-use Rattle.flat_reading.specs.Stand.{Adds, IsOnItsWay, IsUpTo}
+use Rattle.flat_reading.specs.Progress.{Adds, IsOnItsWay, IsUpTo}
 use Rattle.flat_reading.proofs.walk.Walker.add_steps.Given as goal
 
 abbrev pub invariant-loop-offset : goal.invariant-loop-offset

@@ -1,5 +1,5 @@
 use Rattle.std.proofs.Common.{ap, ◌∙◌}
-use Rattle.flat_reading.specs.Meant.{maybe_place, spec_at}
+use Rattle.flat_reading.specs.Meaning.{maybe_place, spec_at}
 use Rattle.flat_reading.proofs.Walking.{no_piece, report_end}
 use Rattle.flat_reading.proofs.walk.Walker.put_end.Goals as goal
 

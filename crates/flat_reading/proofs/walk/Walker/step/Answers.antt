@@ -1,8 +1,8 @@
 use Rattle.std.proofs.Common.{◌≡◌, ◌+◌, ◌-◌, length, refl, sym, ap, ◌∙◌, arith}
 use Rattle.std.proofs.lemmas.List.{length-map}
-use Rattle.rustc_parse_format.specs.Seen.{pair, seen_error}
+use Rattle.rustc_parse_format.specs.Views.{pair, seen_error}
 use Rattle.rustc_parse_format.specs.State.{State, next_call}
-use Rattle.flat_reading.specs.Meant.{maybe_place}
+use Rattle.flat_reading.specs.Meaning.{maybe_place}
 use Rattle.flat_reading.proofs.Walking.{described}
 use Rattle.flat_reading.specs.Events.{fronts_in, position}
 use Rattle.flat_reading.proofs.Escaped.{read_at}

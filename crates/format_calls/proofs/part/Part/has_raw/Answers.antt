@@ -4,4 +4,4 @@ use Rattle.format_calls.proofs.part.Part.has_raw.Goals as goal
 pub returns : goal.returns
 returns c =
     rw (← c.self.view_is)
-    (c.is_one_in.ensures Raw c.self.inside.source (rw c.deref.ensures.value c.self.invariant.1))
+    (c.holds_target.ensures Raw c.self.inside.source (rw c.deref.ensures.value c.self.invariant.1))

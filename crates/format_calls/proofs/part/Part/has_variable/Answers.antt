@@ -4,5 +4,5 @@ use Rattle.format_calls.proofs.part.Part.has_variable.Goals as goal
 pub returns : goal.returns
 returns c =
     rw (← c.self.view_is)
-    (c.is_one_in.ensures Variable c.self.inside.source
+    (c.holds_target.ensures Variable c.self.inside.source
     (rw c.deref.ensures.value c.self.invariant.0))

@@ -1,7 +1,7 @@
 use Rattle.std.proofs.Common.{◌<◌, ◌^◌, ◌∙◌, arith, chars, length, string_bytes, subst}
 use Rattle.std.proofs.Common.{sym}
 use Rattle.std.proofs.lemmas.Bool.{false≢true}
-use Rattle.format_literal.specs.Written.{IsWritten}
+use Rattle.format_literal.specs.Spelling.{IsWritten}
 use Rattle.format_literal.proofs.Hashes.{fewer-hashes}
 use Rattle.format_literal.proofs.Reading.{literal-of, no-other}
 use Rattle.format_literal.proofs.values.Literal.read.Goals as goal

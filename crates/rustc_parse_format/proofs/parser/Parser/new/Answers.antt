@@ -1,6 +1,6 @@
 use Rattle.std.proofs.Common.{◌≤◌, ℕ, List, IsUtf8, arith, chars, length, refl}
 use Rattle.std.proofs.lemmas.Str.{encodes-chars, length-le-encodes}
-use Rattle.rustc_parse_format.specs.Seen.{seen_mode, seen_snippet}
+use Rattle.rustc_parse_format.specs.Views.{seen_mode, seen_snippet}
 use Rattle.rustc_parse_format.proofs.Lines.LinesInside.{fresh_lies_inside}
 use Rattle.rustc_parse_format.proofs.Spans.Worlds.{has_source-is}
 use Rattle.rustc_parse_format.proofs.Walking.ParserLaws.{world-end}

@@ -8,7 +8,7 @@ use Rattle.rustc_parse_format.proofs.Walking.ParserLaws.{call_lines, call_places
 use Rattle.rustc_parse_format.proofs.Walking.ParserLaws.{call_sourceless}
 use Rattle.rustc_parse_format.proofs.Walking.Agreement.{next_agrees}
 use Rattle.rustc_parse_format.specs.Agreement.{Agree}
-use Rattle.rustc_parse_format.specs.Seen.{seen_piece}
+use Rattle.rustc_parse_format.specs.Views.{seen_piece}
 use Rattle.rustc_parse_format.specs.ReadBack.{LiesInside}
 use Rattle.rustc_parse_format.proofs.Lines.LinesInside.{call_lies_inside}
 use Rattle.rustc_parse_format.proofs.Grammar.Rests.{IsRest}

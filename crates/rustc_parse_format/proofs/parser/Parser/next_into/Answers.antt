@@ -3,8 +3,8 @@ use Rattle.std.proofs.Common.{sym}
 use Rattle.std.specs.List.{filter}
 use Rattle.std.specs.Prelude.{None, option_map}
 use Rattle.rustc_parse_format.specs.Faults.{Fault, is_front}
-use Rattle.rustc_parse_format.specs.Midway.{Midway, FindsNothing, HasFoundNothing, read_call}
-use Rattle.rustc_parse_format.specs.Seen.{seen_mode}
+use Rattle.rustc_parse_format.specs.CallStates.{CallState, FindsNothing, HasFoundNothing, read_call}
+use Rattle.rustc_parse_format.specs.Views.{seen_mode}
 use Rattle.rustc_parse_format.specs.State.{State, next_call}
 use Rattle.rustc_parse_format.specs.World.{Place, faults_in, piece_in}
 use Rattle.rustc_parse_format.proofs.Walking.Progress.{call_next-le}
@@ -37,11 +37,11 @@ pub returns-in-Ok-take_over-clause-front_count : goal.returns-in-Ok-take_over-cl
 returns-in-Ok-take_over-clause-front_count c =
     let r = c.self.inside.reader in
     let s = c.args.self.now in
-    let read : ◌≡◌ {A = Midway} c.piece_into.new.self (read_call r (next_call s)) =
+    let read : ◌≡◌ {A = CallState} c.piece_into.new.self (read_call r (next_call s)) =
     c.in-Ok.ensures.reads.state
     ∙ ap (λ (x : State). read_call r (next_call x)) c.self.view_is in
     let found : c.piece_into.new.self.faults ≡ faults_in s.world (next_call s).faults =
-    ap (λ (m : Midway). m.faults) read
+    ap (λ (m : CallState). m.faults) read
     ∙ ap (λ (fs : List (Fault Place)). fs
     ++ faults_in r.world (next_call s).faults) c.self.invariant.1.0
     ∙ ap (λ (x : State). faults_in x.world (next_call s).faults) c.self.view_is in
@@ -58,7 +58,7 @@ returns-clause-spare c n =
     let start = ap (λ (x : State). x.line_start) c.self.view_is in
     elim c.match-piece_into.branch [
       | in-Ok+in_default-take_over w ↦
-          let read : ◌≡◌ {A = Midway} c.piece_into.new.self (read_call r (next_call s)) =
+          let read : ◌≡◌ {A = CallState} c.piece_into.new.self (read_call r (next_call s)) =
           w.in-Ok.ensures.reads.state
           ∙ ap (λ (x : State). read_call r (next_call x)) c.self.view_is in
           w.in_default-take_over.ensures.none
@@ -77,7 +77,7 @@ invariant_of-self c =
     call_next-le (seen_mode c.self.inside.mode) c.self.inside.reader.next
     c.self.inside.reader.rest in
     let fits = c.self.invariant.0 in
-    let taken : ◌≡◌ {A = Midway} c.take_over.new.reader
+    let taken : ◌≡◌ {A = CallState} c.take_over.new.reader
     (record c.piece_into.new.self { faults = []; lines = []; closed_place = None }) =
     search rules in
     rw (taken, c.in-Ok.ensures.reads.state)

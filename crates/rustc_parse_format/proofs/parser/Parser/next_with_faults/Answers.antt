@@ -3,8 +3,8 @@ use Rattle.std.proofs.Common.{rules, subst, sym, take}
 use Rattle.std.proofs.Math.Seq.{take-length}
 use Rattle.std.specs.Prelude.{None, option_map}
 use Rattle.rustc_parse_format.specs.Call.{call}
-use Rattle.rustc_parse_format.specs.Midway.{Midway, FindsNothing, HasFoundNothing, read_call}
-use Rattle.rustc_parse_format.specs.Seen.{seen_mode}
+use Rattle.rustc_parse_format.specs.CallStates.{CallState, FindsNothing, HasFoundNothing, read_call}
+use Rattle.rustc_parse_format.specs.Views.{seen_mode}
 use Rattle.rustc_parse_format.specs.State.{State, next_call}
 use Rattle.rustc_parse_format.specs.World.{piece_in}
 use Rattle.rustc_parse_format.proofs.Walking.Progress.{call_next-le}
@@ -12,7 +12,15 @@ use Rattle.rustc_parse_format.proofs.Lines.StateLines.{at_end, end_faults, finds
 use Rattle.rustc_parse_format.proofs.Lines.StateLines.{nothing_found}
 use Rattle.rustc_parse_format.proofs.parser.Parser.next_with_faults.Goals as goal
 use Rattle.rustc_parse_format.proofs.parser.Parser.next_with_faults.Goals.{in_default}
+use Rattle.rustc_parse_format.proofs.parser.Parser.next_with_faults.Goals.{}
+use Rattle.rustc_parse_format.proofs.parser.Parser.next_with_faults.Goals.{}
+use Rattle.rustc_parse_format.proofs.parser.Parser.next_with_faults.Goals.{}
+use Rattle.rustc_parse_format.proofs.parser.Parser.next_with_faults.Goals.{}
 use Rattle.rustc_parse_format.proofs.parser.Parser.next_with_faults.Goals.{in-Ok+in_default-move_faults}
+use Rattle.rustc_parse_format.proofs.parser.Parser.next_with_faults.Goals.{}
+use Rattle.rustc_parse_format.proofs.parser.Parser.next_with_faults.Goals.{}
+use Rattle.rustc_parse_format.proofs.parser.Parser.next_with_faults.Goals.{}
+use Rattle.rustc_parse_format.proofs.parser.Parser.next_with_faults.Goals.{}
 use Rattle.rustc_parse_format.proofs.parser.Parser.next_with_faults.Goals.{in-Ok+in-Ok-move_faults+in_default-take_over}
 
 pub returns-then-is_at_end-clause-piece : goal.returns-then-is_at_end-clause-piece
@@ -54,7 +62,7 @@ returns-clause-spare c n =
     let some : s.rest ≢ [] = subst (λ (x : State). x.rest ≢ []) c.self.view_is left in
     let same = ap (λ (x : State). x.world) c.self.view_is in
     let start = ap (λ (x : State). x.line_start) c.self.view_is in
-    let nothing = λ (read : ◌≡◌ {A = Midway} c.piece_into.new.self
+    let nothing = λ (read : ◌≡◌ {A = CallState} c.piece_into.new.self
     (read_call r (call (seen_mode c.self.inside.mode) r.next r.rest))).
     subst HasFoundNothing
     (sym (read ∙ ap (λ (x : State). read_call r (next_call x)) c.self.view_is))
@@ -79,7 +87,7 @@ invariant_of-self c =
     call_next-le (seen_mode c.self.inside.mode) c.self.inside.reader.next
     c.self.inside.reader.rest in
     let fits = c.self.invariant.0 in
-    let taken : ◌≡◌ {A = Midway} c.take_over.new.reader
+    let taken : ◌≡◌ {A = CallState} c.take_over.new.reader
     (record c.piece_into.new.self { faults = []; lines = []; closed_place = None }) =
     search rules in
     rw (taken, c.in-Ok.ensures.reads.state)

@@ -2,9 +2,9 @@ use Rattle.std.proofs.Common.{◌≡◌, ◌≢◌, ◌∙◌, [], ap, arith, re
 use Rattle.std.proofs.Common.{false, sym}
 use Rattle.std.specs.Prelude.{None, option_map}
 use Rattle.rustc_parse_format.specs.Call.{call}
-use Rattle.rustc_parse_format.specs.Midway.{Midway, FindsNothing, HasFoundNothing}
-use Rattle.rustc_parse_format.specs.Midway.{opens_placeholder, read_call}
-use Rattle.rustc_parse_format.specs.Seen.{seen_mode}
+use Rattle.rustc_parse_format.specs.CallStates.{CallState, FindsNothing, HasFoundNothing}
+use Rattle.rustc_parse_format.specs.CallStates.{opens_placeholder, read_call}
+use Rattle.rustc_parse_format.specs.Views.{seen_mode}
 use Rattle.rustc_parse_format.specs.State.{State, next_call}
 use Rattle.rustc_parse_format.specs.World.{piece_in}
 use Rattle.rustc_parse_format.proofs.Walking.Progress.{call_next-le}
@@ -35,7 +35,7 @@ returns-clause-spare c needs =
     let some : s.rest ≢ [] = subst (λ (x : State). x.rest ≢ []) c.self.view_is left in
     let same = ap (λ (x : State). x.world) c.self.view_is in
     let start = ap (λ (x : State). x.line_start) c.self.view_is in
-    let nothing = λ (read : ◌≡◌ {A = Midway} c.piece.new.self
+    let nothing = λ (read : ◌≡◌ {A = CallState} c.piece.new.self
     (read_call r (call (seen_mode c.self.inside.mode) r.next r.rest))).
     subst HasFoundNothing
     (sym (read ∙ ap (λ (x : State). read_call r (next_call x)) c.self.view_is))
@@ -61,7 +61,7 @@ invariant_of-self c =
     call_next-le (seen_mode c.self.inside.mode) c.self.inside.reader.next
     c.self.inside.reader.rest in
     let fits = c.self.invariant.0 in
-    let taken : ◌≡◌ {A = Midway} c.take_over.new.reader
+    let taken : ◌≡◌ {A = CallState} c.take_over.new.reader
     (record c.piece.new.self { faults = []; lines = []; closed_place = None }) = search rules in
     rw (taken, c.in-Ok.ensures.reads.state)
     (omega arith, (refl, refl, refl))

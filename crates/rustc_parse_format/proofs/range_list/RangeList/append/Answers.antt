@@ -2,7 +2,7 @@ use Rattle.std.proofs.Common.{◌≡◌, ◌++◌, ◌∷◌, [], ℕ, append_as
 use Rattle.std.proofs.lemmas.List.{append-nil, map_more}
 use Rattle.std.proofs.Math.Seq.{take-append_seam}
 use Rattle.std.specs.declared.ops.Range.{Range}
-use Rattle.rustc_parse_format.specs.Seen.{pair}
+use Rattle.rustc_parse_format.specs.Views.{pair}
 use Rattle.rustc_parse_format.proofs.Lines.RangeLists.{take_all}
 use Rattle.rustc_parse_format.proofs.range_list.RangeList.append.Goals as goal
 

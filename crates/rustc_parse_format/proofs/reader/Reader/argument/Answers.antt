@@ -2,8 +2,8 @@ use Rattle.std.proofs.Common.{◌∙◌, ap, arith, length, refl, rules}
 use Rattle.std.proofs.lemmas.Bool.{false≢true}
 use Rattle.rustc_parse_format.specs.Meaning.{argument}
 use Rattle.rustc_parse_format.specs.Placeholder.{cut, position}
-use Rattle.rustc_parse_format.specs.Seen.{seen_mode}
-use Rattle.rustc_parse_format.specs.Midway.{Midway}
+use Rattle.rustc_parse_format.specs.Views.{seen_mode}
+use Rattle.rustc_parse_format.specs.CallStates.{CallState}
 use Rattle.rustc_parse_format.specs.PartFaults.{cut_faults}
 use Rattle.rustc_parse_format.proofs.Grammar.CleanWords.{none_left, none_right}
 use Rattle.rustc_parse_format.specs.Characters.{after_white}
@@ -21,8 +21,8 @@ specification-requires-clause-numbers c =
       arith,
       IsRest-le (position_rest t),
       IsRest-le (after_white_rest (position t).1),
-      ap (λ (s : Midway). length s.rest) read,
-      ap (λ (s : Midway). s.next) read,
+      ap (λ (s : CallState). length s.rest) read,
+      ap (λ (s : CallState). s.next) read,
       c.requires.numbers,
     )
 
@@ -38,7 +38,7 @@ resolve-requires c =
       IsRest-le (after_white_rest (position t).1),
       specification_number (seen_mode c.args.mode) c.args.self.now.next
           (after_white (position t).1),
-      ap (λ (s : Midway). s.next) state,
+      ap (λ (s : CallState). s.next) state,
       c.requires.numbers,
     )
 

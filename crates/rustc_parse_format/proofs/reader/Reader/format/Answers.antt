@@ -5,12 +5,12 @@ use Rattle.rustc_parse_format.specs.Counts.{precision, width}
 use Rattle.rustc_parse_format.specs.Values.{number_after_precision}
 use Rattle.rustc_parse_format.specs.Meaning.{format_of}
 use Rattle.rustc_parse_format.specs.PartFaults.{precision_faults, type_faults, width_faults}
-use Rattle.rustc_parse_format.specs.Seen.{seen_spec}
+use Rattle.rustc_parse_format.specs.Views.{seen_spec}
 use Rattle.rustc_parse_format.specs.Specification.{format_text, precision_at, type, type_at}
 use Rattle.rustc_parse_format.specs.Specification.{width_at}
 use Rattle.rustc_parse_format.specs.Tries.{precision_tries, width_tries}
 use Rattle.rustc_parse_format.specs.Types.{Spec, Alignment, Sign, DebugHex, Count}
-use Rattle.rustc_parse_format.specs.Midway.{Midway}
+use Rattle.rustc_parse_format.specs.CallStates.{CallState}
 use Rattle.rustc_parse_format.specs.World.{Place}
 use Rattle.rustc_parse_format.proofs.Grammar.CleanWords.{none_left, none_right}
 use Rattle.rustc_parse_format.proofs.Walking.Nexts.{on_ok}
@@ -59,8 +59,8 @@ width-requires-clause-furthest c =
       arith,
       IsRest-le (align_at_rest t),
       IsRest-le (width_from_align t),
-      ap (λ (s : Midway). length s.rest) k,
-      ap (λ (s : Midway). s.back.left) k,
+      ap (λ (s : CallState). length s.rest) k,
+      ap (λ (s : CallState). s.rewinds.left) k,
       c.requires.furthest,
     )
 

@@ -1,6 +1,6 @@
 use Rattle.std.proofs.Common.{◌≡◌, true, ap, arith, length, rules}
 use Rattle.rustc_parse_format.specs.Characters.{begins_with, after_first}
-use Rattle.rustc_parse_format.specs.Midway.{Midway, Unread}
+use Rattle.rustc_parse_format.specs.CallStates.{CallState, Remainder}
 use Rattle.rustc_parse_format.proofs.Grammar.Rests.{IsRest-le, after_first_rest}
 use Rattle.rustc_parse_format.proofs.Readers.Steps.{at_dot}
 use Rattle.rustc_parse_format.proofs.reader.Reader.precision.Goals as goal
@@ -14,8 +14,8 @@ count-requires-clause-furthest c =
       at_dot t dot,
       c.steps_are_few.ensures.word,
       IsRest-le (after_first_rest t),
-      ap (λ (s : Midway). length (after_first s.rest)) c.self.view_is,
-      ap (λ (s : Midway). s.back.left) c.self.view_is,
-      ap (λ (u : Unread). length u.rest) c.skip_char.ensures.rest,
-      ap (λ (u : Unread). u.back.left) c.skip_char.ensures.rest,
+      ap (λ (s : CallState). length (after_first s.rest)) c.self.view_is,
+      ap (λ (s : CallState). s.rewinds.left) c.self.view_is,
+      ap (λ (u : Remainder). length u.rest) c.skip_char.ensures.rest,
+      ap (λ (u : Remainder). u.rewinds.left) c.skip_char.ensures.rest,
     )

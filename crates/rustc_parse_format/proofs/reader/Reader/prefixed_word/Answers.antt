@@ -1,7 +1,7 @@
 use Rattle.std.proofs.Common.{◌≡◌, ◌∙◌, [], ◌∷◌, Some, ap, chars, map, refl, sym}
 use Rattle.std.specs.Prelude.{option_map}
-use Rattle.rustc_parse_format.specs.Seen.{pair}
-use Rattle.rustc_parse_format.specs.Midway.{Midway, Unread, midway}
+use Rattle.rustc_parse_format.specs.Views.{pair}
+use Rattle.rustc_parse_format.specs.CallStates.{CallState, Remainder, call_state}
 use Rattle.rustc_parse_format.specs.Characters.{Text, after_first, first_passes, is_id_start}
 use Rattle.rustc_parse_format.specs.PartFaults.{position_faults}
 use Rattle.rustc_parse_format.specs.Placeholder.{position}
@@ -15,15 +15,15 @@ use Rattle.rustc_parse_format.proofs.reader.Reader.prefixed_word.Goals.{After-fr
 
 left : (c : After-front-1) → ◌≡◌ {A = Text} c.skip_char.new.self.rest
     (after_first c.args.self.now.rest)
-left c = ap (λ (u : Unread). u.rest) c.skip_char.ensures.rest ∙ ap
-    (λ (m : Midway). after_first m.rest) c.self.view_is
+left c = ap (λ (u : Remainder). u.rest) c.skip_char.ensures.rest ∙ ap
+    (λ (m : CallState). after_first m.rest) c.self.view_is
 
 -- The `r`, and the rest after it.
 whole : (c : After-front-1) → ◌≡◌ {A = Text} (chars c.checkpoint-front.result.rest.text.now)
     (114 ∷ c.skip_char.new.self.rest)
 whole c =
-    sym (ap (λ (u : Unread). u.rest) c.checkpoint-front.ensures.at)
-    ∙ (ap (λ (m : Midway). m.rest) c.self.view_is ∙
+    sym (ap (λ (u : Remainder). u.rest) c.checkpoint-front.ensures.at)
+    ∙ (ap (λ (m : CallState). m.rest) c.self.view_is ∙
     (r-whole c.args.self.now.rest c.requires ∙ ap (λ (u : Text). 114 ∷ u) (sym (left c))))
 
 -- the word is that
@@ -48,12 +48,12 @@ returns-then-not-is_word_ahead-clause-reads c =
     let s = c.args.self.now in
     let r = c.self.inside in
     let here = alone c.before.before in
-    let moved = ap (λ (u : Unread). record (midway u r.curarg r.line_start) {
+    let moved = ap (λ (u : Remainder). record (call_state u r.curarg r.line_start) {
       faults = r.faults;
       lines = map pair r.lines.items;
       closed_place = option_map pair r.closed_place;
     }) c.skip_char.ensures.rest ∙ ap
-    (λ (m : Midway). record m { rest = after_first m.rest }) c.self.view_is in
+    (λ (m : CallState). record m { rest = after_first m.rest }) c.self.view_is in
     record {
       state = moved ∙ read_nothing (record s { rest = after_first s.rest }) (position s.rest).1
           (position_faults s.rest (position s.rest).0)

@@ -1,7 +1,7 @@
 use Rattle.std.proofs.Common.{◌∙◌, ap, sym}
 use Rattle.rustc_parse_format.specs.Characters.{Text, first, after_first}
-use Rattle.rustc_parse_format.specs.Midway.{Midway}
-use Rattle.rustc_parse_format.specs.Seen.{pair, seen_argument, seen_mode}
+use Rattle.rustc_parse_format.specs.CallStates.{CallState}
+use Rattle.rustc_parse_format.specs.Views.{pair, seen_argument, seen_mode}
 use Rattle.rustc_parse_format.proofs.Walking.Nexts.{on_ok}
 use Rattle.rustc_parse_format.proofs.Readers.Recoveries.{nothing_left, short-recovers}
 use Rattle.rustc_parse_format.proofs.Readers.Recoveries.{field-recovers, late_debug-recovers}
@@ -10,14 +10,14 @@ use Rattle.rustc_parse_format.proofs.reader.Reader.recover.Goals as goal
 
 pub returns-in_default-clause-state : goal.returns-in_default-clause-state
 returns-in_default-clause-state c =
-    let at = ap (λ (x : Midway). x.rest) c.self.view_is in
+    let at = ap (λ (x : CallState). x.rest) c.self.view_is in
     short-recovers c.args.self.now (seen_mode c.args.mode) (pair c.args.opening)
     (seen_argument c.args.argument.now)
     (nothing_left c.args.self.now.rest (ap first (sym at) ∙ (sym c.peek.ensures ∙ c.in_default.is)))
 
 pub returns-in_default-peek_ahead-clause-state : goal.returns-in_default-peek_ahead-clause-state
 returns-in_default-peek_ahead-clause-state c =
-    let at = ap (λ (x : Midway). x.rest) c.self.view_is in
+    let at = ap (λ (x : CallState). x.rest) c.self.view_is in
     short-recovers c.args.self.now (seen_mode c.args.mode) (pair c.args.opening)
     (seen_argument c.args.argument.now)
     (ap (λ (t : Text). first (after_first t)) (sym at) ∙
@@ -25,7 +25,7 @@ returns-in_default-peek_ahead-clause-state c =
 
 pub returns-then-begins_field-clause-state : goal.returns-then-begins_field-clause-state
 returns-then-begins_field-clause-state c =
-    let at = ap (λ (x : Midway). x.rest) c.self.view_is in
+    let at = ap (λ (x : CallState). x.rest) c.self.view_is in
     on_ok c.suggest_positional_arg_instead_of_captured_arg.result
     c.suggest_positional_arg_instead_of_captured_arg.ensures.state
     (field-recovers c.args.self.now c.suggest_positional_arg_instead_of_captured_arg.new.self
@@ -38,7 +38,7 @@ returns-then-begins_field-clause-state c =
 
 pub returns-then-begins_late_debug-clause-state : goal.returns-then-begins_late_debug-clause-state
 returns-then-begins_late_debug-clause-state c =
-    let at = ap (λ (x : Midway). x.rest) c.self.view_is in
+    let at = ap (λ (x : CallState). x.rest) c.self.view_is in
     on_ok c.suggest_format_debug.result c.suggest_format_debug.ensures.state
     (late_debug-recovers c.args.self.now c.suggest_format_debug.new.self (seen_mode c.args.mode)
     (pair c.args.opening) (seen_argument c.args.argument.now)
@@ -51,7 +51,7 @@ returns-then-begins_late_debug-clause-state c =
 
 pub returns-clause-state : goal.returns-clause-state
 returns-clause-state c =
-    let at = ap (λ (x : Midway). x.rest) c.self.view_is in
+    let at = ap (λ (x : CallState). x.rest) c.self.view_is in
     on_ok c.suggest_sign.result c.suggest_sign.ensures.state
     (sign-recovers c.args.self.now c.suggest_sign.new.self (seen_mode c.args.mode)
     (pair c.args.opening) (seen_argument c.args.argument.now)

@@ -1,18 +1,19 @@
 use Rattle.std.proofs.Common.{rules, ◌≡◌, ap, subst, sym, ◌∙◌, length, arith, map, refl, Some, true}
 use Rattle.rustc_parse_format.specs.Characters.{rest_after, first, is_no_brace, is_in_line}
-use Rattle.rustc_parse_format.specs.Midway.{Midway, Unread, IsInOneLine, IsPastIndent, midway}
-use Rattle.rustc_parse_format.specs.Midway.{read_run}
+use Rattle.rustc_parse_format.specs.CallStates.{CallState, Remainder, IsInOneLine, IsPastIndent}
+use Rattle.rustc_parse_format.specs.CallStates.{call_state}
+use Rattle.rustc_parse_format.specs.CallStates.{read_run}
 use Rattle.std.specs.Prelude.{option_map}
-use Rattle.rustc_parse_format.specs.Seen.{pair}
+use Rattle.rustc_parse_format.specs.Views.{pair}
 use Rattle.rustc_parse_format.proofs.Readers.RunLines.{run-step, one_line-step, one_line-no_newline}
 use Rattle.rustc_parse_format.proofs.Readers.RunSkips.{run-skip, one_line-skip, rest_after-shorter}
 use Rattle.rustc_parse_format.proofs.reader.Reader.skip_lines.Goals as goal
 use Rattle.rustc_parse_format.proofs.reader.Reader.skip_lines.Goals.{After-skip_while}
 
-abbrev after : After-skip_while → Midway
+abbrev after : After-skip_while → CallState
 after c =
     let r = c.self-then-is_past_indent.inside in
-    record (midway c.skip_while.new.self r.curarg r.line_start) {
+    record (call_state c.skip_while.new.self r.curarg r.line_start) {
       faults = r.faults;
       lines = map pair r.lines.items;
       closed_place = option_map pair r.closed_place;
@@ -20,16 +21,16 @@ after c =
 
 -- The rest of the line is skipped.
 passed : (c : After-skip_while)
-    → ◌≡◌ {A = Midway} (after c)
+    → ◌≡◌ {A = CallState} (after c)
     (record c.loop-c.self { rest = rest_after is_in_line c.loop-c.self.rest })
 passed c =
     let r = c.self-then-is_past_indent.inside in
-    ap (λ (u : Unread). record (midway u r.curarg r.line_start) {
+    ap (λ (u : Remainder). record (call_state u r.curarg r.line_start) {
       faults = r.faults;
       lines = map pair r.lines.items;
       closed_place = option_map pair r.closed_place;
     }) c.skip_while.ensures.rest
-    ∙ ap (λ (m : Midway). record m { rest = rest_after is_in_line m.rest })
+    ∙ ap (λ (m : CallState). record m { rest = rest_after is_in_line m.rest })
     (c.self-then-is_past_indent.view_is ∙ c.is_past_indent.ensures.state)
 
 pub loop-c-smaller-then-is_past_indent : goal.loop-c-smaller-then-is_past_indent
@@ -39,7 +40,7 @@ loop-c-smaller-then-is_past_indent c =
     let skipped = passed c in
     omega (
       arith,
-      ap (λ (s : Midway). length s.rest) skipped,
+      ap (λ (s : CallState). length s.rest) skipped,
       rest_after-shorter is_in_line c.loop-c.self.rest c.in-Some.c next passes,
     )
 

@@ -1,6 +1,6 @@
 use Rattle.std.proofs.Common.{◌≡◌, true, ap, arith, length, rules}
 use Rattle.rustc_parse_format.specs.Characters.{begins_with}
-use Rattle.rustc_parse_format.specs.Midway.{Unread}
+use Rattle.rustc_parse_format.specs.CallStates.{Remainder}
 use Rattle.rustc_parse_format.proofs.Grammar.Rests.{IsRest-le, after_first_rest}
 use Rattle.rustc_parse_format.proofs.Readers.Steps.{at_colon}
 use Rattle.rustc_parse_format.proofs.reader.Reader.specification.Goals as goal
@@ -14,6 +14,6 @@ format-requires-clause-furthest c =
       at_colon t colon,
       c.steps_are_few.ensures.word,
       IsRest-le (after_first_rest t),
-      ap (λ (u : Unread). length u.rest) c.skip_char.ensures.rest,
-      ap (λ (u : Unread). u.back.left) c.skip_char.ensures.rest,
+      ap (λ (u : Remainder). length u.rest) c.skip_char.ensures.rest,
+      ap (λ (u : Remainder). u.rewinds.left) c.skip_char.ensures.rest,
     )

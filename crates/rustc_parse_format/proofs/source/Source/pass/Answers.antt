@@ -2,7 +2,7 @@ use Rattle.std.proofs.Common.{◌≡◌, ◌∙◌, ap, chars, length, rules, sy
 use Rattle.std.proofs.lemmas.Str.{chars-nil}
 use Rattle.std.proofs.lemmas.List.{nil_from_length}
 use Rattle.rustc_parse_format.specs.Characters.{after_first}
-use Rattle.rustc_parse_format.specs.SeenSource.{seen_world}
+use Rattle.rustc_parse_format.specs.SourceViews.{seen_world}
 use Rattle.rustc_parse_format.specs.World.{place_at}
 use Rattle.rustc_parse_format.proofs.Sources.Places.{anchor_in, place_by, place_gone, plain_start}
 use Rattle.rustc_parse_format.proofs.Sources.Places.{plain_stop}

@@ -1,5 +1,5 @@
 use Rattle.std.proofs.Common.{length, ◌≡◌, ap, sym, rules}
-use Rattle.rustc_parse_format.specs.SeenSource.{seen_world}
+use Rattle.rustc_parse_format.specs.SourceViews.{seen_world}
 use Rattle.rustc_parse_format.specs.World.{Place}
 use Rattle.rustc_parse_format.proofs.Sources.Places.{anchor_in, place_gone, plain_stop}
 use Rattle.rustc_parse_format.proofs.source.Source.stop.Goals as goal

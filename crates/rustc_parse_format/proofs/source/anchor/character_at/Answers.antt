@@ -1,7 +1,7 @@
 use Rattle.std.proofs.Common.{◌≤◌, length, drop, chars, ap, ◌∙◌, arith}
 use Rattle.std.proofs.lemmas.Str.{IsUtf8-from_is_utf8, IsCharBoundary-from_drop}
 use Rattle.std.proofs.lemmas.List.{drop-drop}
-use Rattle.rustc_parse_format.specs.SeenSource.{character_width}
+use Rattle.rustc_parse_format.specs.SourceViews.{character_width}
 use Rattle.rustc_parse_format.proofs.Sources.Steps.{after_character, after_end, through_character}
 use Rattle.rustc_parse_format.proofs.Sources.Steps.{through_newline, width_boundary, width_within}
 use Rattle.rustc_parse_format.proofs.source.anchor.character_at.Goals as goal

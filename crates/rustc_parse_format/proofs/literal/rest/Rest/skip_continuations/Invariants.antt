@@ -2,7 +2,7 @@ use Rattle.std.proofs.Common.{◌≡◌, ◌≤◌, List, length}
 use Rattle.rustc_parse_format.specs.Characters.{Text, byte_length}
 use Rattle.rustc_parse_format.specs.Literal.{IsContent}
 use Rattle.rustc_parse_format.specs.LiteralUnits.{LiteralUnit}
-use Rattle.rustc_parse_format.specs.SeenSource.{closed_by_quote}
+use Rattle.rustc_parse_format.specs.SourceViews.{closed_by_quote}
 use Rattle.rustc_parse_format.proofs.Sources.Contents.{IsRestOf}
 use Rattle.rustc_parse_format.proofs.literal.rest.Rest.skip_continuations.Given as goal
 

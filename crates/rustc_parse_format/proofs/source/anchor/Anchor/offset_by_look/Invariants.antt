@@ -1,6 +1,6 @@
 use Rattle.std.proofs.Common.{chars, length}
 use Rattle.rustc_parse_format.specs.Bytes.{IsLeft}
-use Rattle.rustc_parse_format.specs.SeenSource.{IsAnchor, IsHere}
+use Rattle.rustc_parse_format.specs.SourceViews.{IsAnchor, IsHere}
 use Rattle.rustc_parse_format.specs.World.{World}
 use Rattle.rustc_parse_format.proofs.source.anchor.Anchor.offset_by_look.Given as goal
 
