@@ -96,10 +96,10 @@ PLAIN_METHODS = set("""
 all as_bytes as_deref as_millis as_ref as_slice as_str capacity chars checked_add contains copied
 ends_with enumerate error_len get is_ascii is_ascii_alphanumeric is_ascii_digit is_ascii_hexdigit
 is_ascii_lowercase is_dir is_empty is_err is_file is_none is_ok is_some is_whitespace iter kind last
-len len_utf8 lines map map_or max min next ok or permissions pop read_to_end read_to_string readonly
-remove rev reverse rfind rsplit_once saturating_add saturating_mul saturating_sub shrink_to_fit
-split split_at split_inclusive split_once starts_with strip_prefix strip_suffix then_some to_digit
-trailing_zeros trim trim_end trim_start unwrap_or valid_up_to zip
+len len_utf8 lines map map_or max min next next_back ok or permissions pop read_to_end
+read_to_string readonly remove rev reverse rfind rsplit_once saturating_add saturating_mul
+saturating_sub shrink_to_fit split split_at split_inclusive split_once starts_with strip_prefix
+strip_suffix then_some to_digit trailing_zeros trim trim_end trim_start unwrap_or valid_up_to zip
 """.split())
 SHIM = Path(__file__).resolve().parent.parent.parent / "bindings/rust/src/shim"
 SHIM_METHODS = {name for file in SHIM.rglob("*.rs")

@@ -47,14 +47,15 @@ fn gap_before<'a>(rest: &'a str, offset: usize, part: &Source<'a>) -> Option<&'a
 pub struct Gaps<'a> {
     /// The text before each part.
     pub fronts: Vec<&'a str>,
-    /// The text after the last one.
+    /// The text after the last part.
     pub last: &'a str,
     /// Whether all these texts are known to read as the same tokens wherever they stand.
     pub are_known: bool,
 }
 
 impl<'a> Gaps<'a> {
-    /// Returns no texts, with this one after them. Does not allocate.
+    /// Returns the texts of a file of which no part is known yet: this text alone, as the one after
+    /// the last part. Does not allocate.
     pub fn new(alloc: Global, last: &'a str) -> Self
         ensures { (es : List Entry) → AreKnown es result [] }
     {
@@ -84,7 +85,7 @@ impl<'a> Gaps<'a> {
         Ok(())
     }
 
-    /// Says which text is after the last one.
+    /// Sets the text after the last part.
     pub fn set_last(&mut self, last: &'a str)
         ensures fronts { self.new.fronts ≡ self.old.fronts }
         ensures known { self.new.are_known ≡ self.old.are_known }

@@ -1,34 +1,33 @@
 //! Fronts of texts that read as the same tokens before each word.
 
-ghost use Rattle.std.specs.Prelude.{◌≡◌, IsTrue, chars};
-ghost use Rattle.rust_tokens.specs.Bytes.{is_ascii_in};
+ghost use Rattle.std.specs.Prelude.{◌≡◌, ◌↔◌, IsTrue, chars};
 ghost use Rattle.rust_tokens.specs.Fronts.{EndsWithBarrier, is_barrier};
 ghost use Rattle.rust_tokens.specs.Runs.{first_passes, is_id_start};
 
-use crate::bytes::is_word_byte;
-use crate::texts::{is_id_start, split_first};
+use crate::texts::{Class, is_id_start, split_first};
 
-/// Returns whether the byte is an ASCII character that stands in no word and no number, and opens
-/// no literal.
-fn is_barrier_byte(byte: u8) -> bool
-    ensures { result ≡ is_ascii_in is_barrier byte }
+/// Returns whether the character stands in no word and no number, and opens no literal.
+fn is_barrier(c: char) -> bool
+    ensures { result ≡ is_barrier c }
 {
-    byte < 128
-        && !(byte == b'#'
-            || byte == b'"'
-            || byte == b'\''
-            || byte == b'.'
-            || byte == b'+'
-            || byte == b'-'
-            || is_word_byte(byte))
+    !(c == '#'
+        || c == '"'
+        || c == '\''
+        || c == '.'
+        || c == '+'
+        || c == '-'
+        || Class::Continue.passes(c))
 }
 
-/// Returns whether the text ends with a barrier that is an ASCII character.
+/// Returns whether the text ends with a barrier: a character that stands in no word and no number,
+/// and opens no literal.
 pub fn ends_with_barrier(text: &str) -> bool
-    ensures { IsTrue result → EndsWithBarrier (chars text.now) }
+    ensures { IsTrue result ↔ EndsWithBarrier (chars text.now) }
 {
-    let bytes = text.as_bytes();
-    !bytes.is_empty() && is_barrier_byte(bytes[bytes.len() - 1])
+    match text.chars().next_back() {
+        Some(c) => is_barrier(c),
+        None => false,
+    }
 }
 
 /// Returns whether the text begins with a word.

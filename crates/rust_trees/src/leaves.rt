@@ -1,9 +1,10 @@
 //! The tokens of a file without white space and comments.
 
-ghost use Rattle.std.specs.Prelude.{◌≡◌, ◌<◌, ◌≤◌, ◌-◌, ◌++◌, ◌∷◌, [], IfOk, IfSome, IsFalse};
-ghost use Rattle.std.specs.Prelude.{IsNone, IsTrue, List, ℕ, chars, length, map};
+ghost use Rattle.std.specs.Prelude.{◌≡◌, ◌↔◌, ◌<◌, ◌≤◌, ◌-◌, ◌++◌, ◌∷◌, [], IfOk, IfSome};
+ghost use Rattle.std.specs.Prelude.{IsFalse, IsNone, IsTrue, List, ℕ, chars, length, map};
 ghost use Rattle.rust_tokens.specs.Files.{ReadsFile};
 ghost use Rattle.rust_tokens.specs.Fronts.{ReadsBeforeWords};
+ghost use Rattle.rust_tokens.specs.Runs.{first_passes, is_id_start};
 ghost use Rattle.rust_tokens.specs.Tokens.{Lexeme};
 ghost use Rattle.rust_trees.specs.Leaves.{AreLeft, Leaf, is_leaf, leaf, leaves, side};
 
@@ -143,6 +144,8 @@ impl<'a> Tokens<'a> {
         ensures passed { IsTrue result → (xs : List Lexeme) → ReadsBeforeWords (chars front.now) xs
             → (ls : List Leaf) → AreLeft self.new ls
             → AreLeft self.old (leaves (length self.old.whole - length self.old.rest) xs ++ ls) }
+        ensures skipped { IsTrue result ↔ (r : List ℕ) × (self.old.rest ≡ front.now ++ r)
+            × IsTrue (first_passes is_id_start (chars r)) }
         ensures kept { IsFalse result → self.new ≡ self.old }
     {
         let Some(rest) = self.rest.strip_prefix(front) else {

@@ -33,14 +33,15 @@ fn gap_before<'a>(rest: &'a str, offset: usize, part: &Source<'a>) -> Option<&'a
 pub struct Gaps<'a> {
     /// The text before each part.
     pub fronts: Vec<&'a str>,
-    /// The text after the last one.
+    /// The text after the last part.
     pub last: &'a str,
     /// Whether all these texts are known to read as the same tokens wherever they stand.
     pub are_known: bool,
 }
 
 impl<'a> Gaps<'a> {
-    /// Returns no texts, with this one after them. Does not allocate.
+    /// Returns the texts of a file of which no part is known yet: this text alone, as the one after
+    /// the last part. Does not allocate.
     #[inline]
     pub(crate) fn new(last: &'a str) -> Self {
         Gaps {
@@ -68,7 +69,7 @@ impl<'a> Gaps<'a> {
         Ok(())
     }
 
-    /// Says which text is after the last one.
+    /// Sets the text after the last part.
     #[inline]
     pub fn set_last(&mut self, last: &'a str) {
         self.last = last;

@@ -3,28 +3,28 @@
 // Extracted from crates/rust_tokens/src/fronts.rt by tools/extract: not to be edited.
 // That source has the contracts, and is proved. That this text means the same is only tested.
 
-use crate::proved::rust_tokens::bytes::is_word_byte;
-use crate::proved::rust_tokens::texts::{is_id_start, split_first};
+use crate::proved::rust_tokens::texts::{is_id_start, split_first, Class};
 
-/// Returns whether the byte is an ASCII character that stands in no word and no number, and opens
-/// no literal.
+/// Returns whether the character stands in no word and no number, and opens no literal.
 #[inline]
-fn is_barrier_byte(byte: u8) -> bool {
-    byte < 128
-        && !(byte == b'#'
-            || byte == b'"'
-            || byte == b'\''
-            || byte == b'.'
-            || byte == b'+'
-            || byte == b'-'
-            || is_word_byte(byte))
+fn is_barrier(c: char) -> bool {
+    !(c == '#'
+        || c == '"'
+        || c == '\''
+        || c == '.'
+        || c == '+'
+        || c == '-'
+        || Class::Continue.passes(c))
 }
 
-/// Returns whether the text ends with a barrier that is an ASCII character.
+/// Returns whether the text ends with a barrier: a character that stands in no word and no number,
+/// and opens no literal.
 #[inline]
 pub fn ends_with_barrier(text: &str) -> bool {
-    let bytes = text.as_bytes();
-    !bytes.is_empty() && is_barrier_byte(bytes[bytes.len() - 1])
+    match text.chars().next_back() {
+        Some(c) => is_barrier(c),
+        None => false,
+    }
 }
 
 /// Returns whether the text begins with a word.

@@ -39,4 +39,5 @@ returns-then-ends_with_barrier-clause-gap c es whole gap left o l k b e =
     let q = and_parts _ _ p.1 in
     known-text es whole rest g (drop n rest) gap b.name _ c.args.offset o u whole-is
     (subst (λ t. AreLeft (record { whole = whole; rest = rest }) (gap ++ (t ++ left))) b.joins l)
-    bytes (listed-word es b.name q.1) (c.ends_with_barrier.ensures c.if-ends_with_barrier.true) e k
+    bytes (listed-word es b.name q.1)
+    (c.ends_with_barrier.ensures.0 c.if-ends_with_barrier.true) e k

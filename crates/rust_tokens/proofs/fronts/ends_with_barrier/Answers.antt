@@ -1,39 +1,49 @@
-use Rattle.std.proofs.Common.{◌≡◌, ◌+◌, ◌++◌, ◌∙◌, [], ◌∷◌, ℕ, List, IsUtf8, ap, arith, chars, drop}
-use Rattle.std.proofs.Common.{◌-◌, false, get_or, length, subst, sym, take, true}
-use Rattle.std.specs.Prelude.{◌==◌}
-use Rattle.std.proofs.lemmas.Bool.{and_parts}
-use Rattle.std.proofs.lemmas.List.{drop_all, take-append-drop}
-use Rattle.std.proofs.lemmas.Str.{IsCharBoundary-before_ascii, IsUtf8-take, chars-append, chars-nil}
-use Rattle.rust_tokens.specs.Bytes.{is_ascii_in}
-use Rattle.rust_tokens.specs.Fronts.{EndsWithBarrier, is_barrier}
-use Rattle.rust_tokens.proofs.AsciiRuns.{ascii-next, below, not_empty}
+use Rattle.std.proofs.Common.{◌≡◌, ◌++◌, ◌∙◌, [], ◌∷◌, ℕ, List, IsTrue, IsUtf8, append-nil}
+use Rattle.std.proofs.Common.{ap, arith, chars, length, length-append, rules, subst, sym, take}
+use Rattle.std.specs.Prelude.{encode_utf8}
+use Rattle.std.specs.Char.{IsScalar}
+use Rattle.std.proofs.lemmas.List.{nil_from_length, same_from_push, take-append-le, take_all}
+use Rattle.std.proofs.lemmas.Str.{IsCharBoundary-at_seam, IsUtf8-encode, IsUtf8-take, chars-append}
+use Rattle.std.proofs.lemmas.Str.{chars-nil, chars_past_char}
+use Rattle.rust_tokens.specs.Fronts.{is_barrier}
 use Rattle.rust_tokens.proofs.fronts.ends_with_barrier.Goals as goal
 
--- A text whose last byte is a barrier of ASCII ends with that character.
-last-barrier : (s : List ℕ) (n : ℕ) → IsUtf8 s → n + 1 ≡ length s
-    → is_ascii_in is_barrier (get_or s n 0) ≡ true → EndsWithBarrier (chars s)
-last-barrier s n u e h =
-    let p = and_parts _ (is_barrier (get_or s n 0)) h in
-    let small = below (get_or s n 0) p.0 in
-    let b = IsCharBoundary-before_ascii s n (omega (arith, e)) small in
-    let last : chars (drop n s) ≡ get_or s n 0 ∷ [] =
-    ascii-next s n u b (omega (arith, e)) small
-    ∙ ap (λ t. get_or s n 0 ∷ t) (ap (λ t. chars t) (drop_all (n + 1) s (omega (arith, e)))
-    ∙ chars-nil) in (
-      chars (take n s),
-      get_or s n 0,
-      p.1,
-      ap (λ t. chars t) (sym (take-append-drop n s))
-          ∙ (chars-append (take n s) (drop n s) (IsUtf8-take s n u b)
-          ∙ ap (λ t. chars (take n s) ++ t) last),
+-- The characters of a text of which the last one is given.
+last-char : (s r : List ℕ) (c : ℕ) → IsUtf8 s → IsScalar c → s ≡ r ++ encode_utf8 c
+    → chars s ≡ chars r ++ c ∷ []
+last-char s r c u k e =
+    let one = IsUtf8-encode c k in
+    let n = length r in
+    let same : take n s ≡ r = ap (λ t. take n t) e
+    ∙ (take-append-le n r (encode_utf8 c) (omega arith) ∙ take_all n r (omega arith)) in
+    let cut = IsCharBoundary-at_seam s r (encode_utf8 c) e one in
+    let front : IsUtf8 r = subst (λ t. IsUtf8 t) same (IsUtf8-take s n u cut) in
+    ap (λ t. chars t) e ∙ (chars-append r (encode_utf8 c) front
+    ∙ ap (λ t. chars r ++ t) (chars_past_char (encode_utf8 c) [] c one
+    (sym (append-nil (encode_utf8 c))) ∙ ap (λ t. c ∷ t) chars-nil))
+
+pub returns-in-Some : goal.returns-in-Some
+returns-in-Some c =
+    let t = c.args.text.now in
+    let r = c.next_back.new.self.rest.now in
+    let d = c.in-Some.c in
+    let k : IsScalar d = search rules in
+    let e : chars t ≡ chars r ++ d ∷ [] =
+    last-char t r d c.utf8.text k (sym c.chars.ensures.rest ∙ c.in-Some.ensures.steps) in (
+      λ b. (chars r, d, subst (λ z. IsTrue z) c.is_barrier.ensures b, e),
+      λ b.
+          let same = same_from_push (chars r) b.0 d b.1 (sym e ∙ b.3) in
+          let passes = ap (λ x. is_barrier x) (sym same.1) ∙ sym c.is_barrier.ensures in
+          subst (λ z. IsTrue z) passes b.2,
     )
 
-pub returns-then-not-is_empty : goal.returns-then-not-is_empty
-returns-then-not-is_empty c h =
-    let bytes = c.as_bytes-bytes.result.now in
-    let some : (length bytes == 0) ≡ false = sym c.if-not-is_empty.ensures in
-    let n : length bytes - 1 + 1 ≡ length bytes =
-    let l = not_empty (length bytes) some in omega (arith, l) in
-    subst (λ s. EndsWithBarrier (chars s)) c.as_bytes-bytes.ensures.value
-    (last-barrier bytes (length bytes - 1) c.as_bytes-bytes.ensures.utf8 n
-    (sym c.is_barrier_byte.ensures ∙ h))
+pub returns-in-None : goal.returns-in-None
+returns-in-None c = (
+  λ b. absurd (search (b, rules)),
+  λ b.
+      let bytes = ap (λ t. length t) (sym c.chars.ensures.rest) ∙ c.in-None.ensures.steps.0 in
+      let empty : chars c.args.text.now ≡ [] =
+      ap (λ t. chars t) (nil_from_length c.args.text.now bytes) ∙ chars-nil in
+      let none = ap (λ t. length t) (sym b.3 ∙ empty) in
+      let size = length-append b.0 (b.1 ∷ []) in absurd (omega (arith, size, none)),
+)
