@@ -1,8 +1,11 @@
 //! The texts between the parts of a file that have calls, which read as the same tokens in another
 //! file.
 
-ghost use Rattle.std.specs.Prelude.{◌≡◌, ◌-◌, ◌++◌, ℕ, [], IfOk, IfSome, List, OnOk, length, map};
+ghost use Rattle.std.specs.Prelude.{◌≡◌, ◌↔◌, ◌+◌, ◌-◌, ◌++◌, ◌∷◌, ℕ, [], IfOk, IfSome, IsSome};
+ghost use Rattle.std.specs.Prelude.{IsTrue, List, OnErr, OnOk, chars, length, map};
 ghost use Rattle.std.specs.List.{list_all};
+ghost use Rattle.std.specs.Str.{IsUtf8};
+ghost use Rattle.rust_tokens.specs.Fronts.{EndsWithBarrier};
 ghost use Rattle.rust_tokens.specs.Tokens.{Lexeme};
 ghost use Rattle.rust_trees.specs.Balances.{AreEnded};
 ghost use Rattle.rust_trees.specs.Forests.{IsForest};
@@ -28,6 +31,9 @@ fn gap_before<'a>(rest: &'a str, offset: usize, part: &Source<'a>) -> Option<&'a
         → AreLeft (record { whole = whole; rest = rest.now }) (gap ++ (part.now ++ left))
         → IsClear es gap → BeginsCall es part.now → AreEnded gap
         → (xs : List Lexeme) × IsGapText es g.now xs × (leaves offset xs ≡ gap)) }
+    ensures known { (n : Leaf) (ls : List Leaf) (g r : List ℕ) → part.now ≡ n ∷ ls
+        → rest.now ≡ g ++ r → IsUtf8 g → n.start ≡ offset + length g
+        → IsSome result ↔ (IsForest part.now × EndsWithBarrier (chars g)) }
 {
     let Some(name) = part.tokens().first() else {
         return None;
@@ -57,7 +63,10 @@ impl<'a> Gaps<'a> {
     /// Returns the texts of a file of which no part is known yet: this text alone, as the one after
     /// the last part. Does not allocate.
     pub fn new(alloc: Global, last: &'a str) -> Self
-        ensures { (es : List Entry) → AreKnown es result [] }
+        ensures known { (es : List Entry) → AreKnown es result [] }
+        ensures are_known { IsTrue result.are_known }
+        ensures fronts { result.fronts.items ≡ [] }
+        ensures last { result.last.now ≡ last.now }
     {
         Gaps {
             fronts: Vec::new(alloc),
@@ -67,13 +76,21 @@ impl<'a> Gaps<'a> {
     }
 
     /// Adds the text before a part that begins in the rest of a file, which starts at this offset.
-    /// Returns `Err` if an allocation fails.
+    /// After a text that may read as other tokens, or a part that is no forest, the texts are no
+    /// longer known. Returns `Err` if an allocation fails; nothing is then added.
     pub fn add(&mut self, rest: &'a str, offset: usize, part: &Source<'a>) -> Result<(), AllocError>
-        ensures { OnOk result ((es : List Entry) (whole : List ℕ) (front gap left : List Leaf)
+        ensures known { OnOk result ((es : List Entry) (whole : List ℕ) (front gap left : List Leaf)
             → offset ≡ length whole - length rest.now
             → AreLeft (record { whole = whole; rest = rest.now }) (gap ++ (part.now ++ left))
             → IsClear es gap → BeginsCall es part.now → AreKnown es self.old front
             → AreKnown es self.new (front ++ (gap ++ part.now))) }
+        ensures are_known { OnOk result ((n : Leaf) (ls : List Leaf) (g r : List ℕ)
+            → part.now ≡ n ∷ ls → rest.now ≡ g ++ r → IsUtf8 g → n.start ≡ offset + length g
+            → IsTrue self.new.are_known
+            ↔ (IsTrue self.old.are_known × IsForest part.now × EndsWithBarrier (chars g))) }
+        ensures last { self.new.last ≡ self.old.last }
+        ensures err { OnErr result ((self.new.fronts.items ≡ self.old.fronts.items)
+            × (self.new.are_known ≡ self.old.are_known)) }
     {
         if !self.are_known {
             return Ok(());
@@ -109,7 +126,7 @@ fn are_ended(tokens: &[Token<'_>]) -> bool
 
 /// Reads a file up to the end of the next call as `next_part` does, where this text stands before
 /// that. Returns `None` if another text does, or the part is no forest or lacks an end. Returns
-/// `Err` if an allocation fails.
+/// `Err` if an allocation fails. How much of `rest` is left after `None` or `Err` is unspecified.
 pub fn next_known_part<'a>(
     alloc: Global,
     rest: &mut Tokens<'a>,

@@ -52,6 +52,8 @@ impl<'a> Gaps<'a> {
     }
 
     /// Adds the text before a part that begins in the rest of a file, which starts at this offset.
+    /// After a text that may read as other tokens, or a part that is no forest, the texts are no
+    /// longer known.
     #[inline]
     pub(crate) fn add(
         &mut self,
@@ -88,7 +90,8 @@ fn are_ended(tokens: &[Token<'_>]) -> bool {
 }
 
 /// Reads a file up to the end of the next call as `next_part` does, where this text stands before
-/// that. Returns `None` if another text does, or the part is no forest or lacks an end.
+/// that. Returns `None` if another text does, or the part is no forest or lacks an end. Returns
+/// `Err` if an allocation fails. How much of `rest` is left after `None` or `Err` is unspecified.
 #[inline]
 pub fn next_known_part<'a>(
     rest: &mut Tokens<'a>,
